@@ -1,0 +1,5 @@
+pub mod Values
+pub mod Members
+pub mod Requests
+pub mod Replies
+pub mod Reading

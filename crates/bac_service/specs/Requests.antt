@@ -1,0 +1,31 @@
+-- What spells a request: the members of its production, joined in their order (clause 21).
+use Rattle.std.specs.Prelude.{◌≡◌, ℕ, ◌^◌, ◌<◌}
+use Rattle.bac_value.specs.declared.tag.Class.TheVariants.{Context}
+use Rattle.bac_value.specs.Value.{IsNumber, IsObject}
+use Rattle.bac_service.specs.Values.{Reference, Request, choice_of}
+use Rattle.bac_service.specs.Values.Request.{ReadStream, ReadRecords, WriteStream, WriteRecords, ReadProperty, WriteProperty}
+use Rattle.bac_service.specs.Members.{Octets, ◌⨾◌, Optional, Enclosed, Tagged, IsPriority, ApplicationObject, ApplicationSigned, ApplicationUnsigned, ApplicationString, AreStrings, AreData}
+
+-- [0] ObjectIdentifier, [1] Enumerated property, [2] Unsigned index of an array, where one is given; an index has at most 4 octets (own rule of this profile)
+abbrev pub SpellsReference : Reference → Octets → Type 0
+SpellsReference r = Tagged Context 0 (IsObject r.object) ⨾ (Tagged Context 1 (IsNumber 4 r.property) ⨾ Optional (λ i. Tagged Context 2 (IsNumber 4 i)) r.index)
+
+-- a run of octet strings that are as many as the count in front of them says (own rule of this profile)
+pub record AreRecords (count : ℕ) (run bytes : Octets) : Type 0 where
+  pub counted : count < 2 ^ 64
+  pub strings : AreStrings count run
+  pub is : bytes ≡ run
+
+-- AtomicReadFile, AtomicWriteFile (clause 14), ReadProperty and WriteProperty (clause 15)
+abbrev pub SpellsMembers : Request → Octets → Type 0
+SpellsMembers (ReadStream file start count) = ApplicationObject file ⨾ Enclosed 0 (ApplicationSigned start ⨾ ApplicationUnsigned count)
+SpellsMembers (ReadRecords file start count) = ApplicationObject file ⨾ Enclosed 1 (ApplicationSigned start ⨾ ApplicationUnsigned count)
+SpellsMembers (WriteStream file start octets) = ApplicationObject file ⨾ Enclosed 0 (ApplicationSigned start ⨾ ApplicationString octets)
+SpellsMembers (WriteRecords file start count run) = ApplicationObject file ⨾ Enclosed 1 (ApplicationSigned start ⨾ (ApplicationUnsigned count ⨾ AreRecords count run))
+SpellsMembers (ReadProperty r) = SpellsReference r
+SpellsMembers (WriteProperty r values priority) = SpellsReference r ⨾ (Enclosed 3 (AreData values) ⨾ Optional (λ p. Tagged Context 4 (IsPriority p)) priority)
+
+-- the octets are the service data of this request, whose choice is this
+pub record SpellsRequest (choice : ℕ) (r : Request) (bytes : Octets) : Type 0 where
+  pub choice_is : choice ≡ choice_of r
+  pub members : SpellsMembers r bytes
