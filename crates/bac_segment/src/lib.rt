@@ -1,1 +1,2 @@
+//! Both sides of a transfer in segments.
 #![tactic(auto)]

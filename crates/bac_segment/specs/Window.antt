@@ -1,0 +1,96 @@
+-- The two sides of a transfer in pieces, and what each does (clauses 5.2 and 5.4). Each step that sets a window is
+-- given W, the greatest window of the node itself. Pieces have whole numbers here, segments have the wire's numbers.
+use Rattle.std.specs.Prelude.{ℕ, ◌+◌, ◌-◌, ◌%◌, ◌||◌, min, Bool, true, false, List, [], ◌∷◌, ◌++◌, length, take, drop, Option, Some, None, if◌then◌else◌, nat_eq, nat_lt, nat_le}
+use Rattle.bac_segment.specs.Limits.{RETRIES, DATA}
+use Rattle.bac_segment.specs.Numbers.{ahead}
+use Rattle.bac_segment.specs.Pieces.{join}
+
+-- The sender.
+
+pub record Outgoing : Type 0 where
+  pub pieces : List (List ℕ)
+  pub first : ℕ  -- the first unacknowledged piece
+  pub window : ℕ
+  pub retries : ℕ  -- how often the window may be sent again
+
+-- a sender that has sent nothing yet: the first window has one piece
+abbrev pub outgoing : List (List ℕ) → Outgoing
+outgoing pieces = record { pieces = pieces; first = 0; window = 1; retries = RETRIES }
+
+-- how many pieces are in the window
+abbrev pub in_window : Outgoing → ℕ
+in_window out = min out.window (length out.pieces - out.first)
+
+-- the pieces of the window, in their order; the first of them has the number out.first
+abbrev pub window_pieces : Outgoing → List (List ℕ)
+window_pieces out = take out.window (drop out.first out.pieces)
+
+-- whether every piece was acknowledged
+abbrev pub is_finished : Outgoing → Bool
+is_finished out = nat_le (length out.pieces) out.first
+
+-- after a SegmentACK of that number and actual window; None where it acknowledges no piece of the window
+-- (own rule of this profile: negative ones acknowledge too, and one that acknowledges nothing new is ignored)
+abbrev pub acknowledged : ℕ → Outgoing → ℕ → ℕ → Option Outgoing
+acknowledged W out number window =
+    if nat_lt (ahead number out.first) (in_window out)
+    then Some (record out { first = out.first + ahead number out.first + 1; window = min window W; retries = RETRIES })
+    else None
+
+-- after a timeout, where a retry is left
+abbrev pub again : Outgoing → Option Outgoing
+again out = if nat_eq out.retries 0 then None else Some (record out { retries = out.retries - 1 })
+
+-- the transfer begins anew
+abbrev pub restart : Outgoing → Outgoing
+restart out = outgoing out.pieces
+
+-- a transfer that had stopped goes on where it was
+abbrev pub resume : Outgoing → Outgoing
+resume out = record out { retries = RETRIES }
+
+-- The receiver.
+
+pub record Incoming : Type 0 where
+  pub parts : List (List ℕ)  -- what was taken, in order
+  pub unacknowledged : ℕ  -- segments that were taken since the last SegmentACK
+  pub window : ℕ  -- the actual window
+
+-- a receiver that has taken nothing yet, of a transfer whose segments propose that window
+abbrev pub incoming : ℕ → ℕ → Incoming
+incoming W proposed = record { parts = []; unacknowledged = 0; window = min proposed W }
+
+-- what a segment does: it is taken (with a SegmentACK or without one), it is taken and was the last, it is not
+-- the expected one and gets a negative SegmentACK, or the transfer has grown too long and nothing changes
+pub data Taking : Type 0 where
+  Taken : (ack : Bool) (next : Incoming) → Taking
+  Complete : (parts : List (List ℕ)) → Taking
+  Nak : (next : Incoming) → Taking
+  TooLong : Taking
+
+-- whether a segment's number is that of the next piece
+abbrev pub is_expected : Incoming → ℕ → Bool
+is_expected inc number = nat_eq number (length inc.parts % 256)
+
+-- whether the octets, or the segments, which may be empty, would pass their limit
+abbrev pub is_too_long : Incoming → List ℕ → Bool
+is_too_long inc octets = nat_lt DATA (length (join inc.parts) + length octets) || nat_lt DATA (length inc.parts + 1)
+
+-- whether the next piece is acknowledged: it is piece 0, or fills a window since the last SegmentACK of either kind
+abbrev pub is_acknowledged : Incoming → Bool
+is_acknowledged inc = nat_eq (length inc.parts) 0 || nat_le inc.window (inc.unacknowledged + 1)
+
+-- the expected segment is taken
+abbrev pub takes_expected : Incoming → Bool → List ℕ → Taking
+takes_expected inc false octets = Complete (inc.parts ++ octets ∷ [])
+takes_expected inc true octets =
+    if is_acknowledged inc
+    then Taken true (record inc { parts = inc.parts ++ octets ∷ []; unacknowledged = 0 })
+    else Taken false (record inc { parts = inc.parts ++ octets ∷ []; unacknowledged = inc.unacknowledged + 1 })
+
+-- a segment comes: its number, whether more follow, its octets
+abbrev pub takes : Incoming → ℕ → Bool → List ℕ → Taking
+takes inc number more octets =
+    if is_expected inc number
+    then (if is_too_long inc octets then TooLong else takes_expected inc more octets)
+    else Nak (record inc { unacknowledged = 0 })
