@@ -37,7 +37,7 @@ left_fits read Spells law bytes x fits e =
 pub both_exact : {A B : Type 0} (F G : Octets → Type 0) (first : Octets → Option (A × Octets)) (second : Octets → Option (B × Octets)) (P : A → Octets → Type 0) (Q : B → Octets → Type 0)
     → IsExact F first P → IsExact G second Q → ((b : B) (text rest : Octets) → Q b text → G rest → F (text ++ rest))
     → IsExact G (both_at first second) (λ y. P y.0 ⨾ Q y.1)
-both_exact F G first second P Q one two link = record {
+both_exact {A = A} {B = B} F G first second P Q one two link = record {
   takes = λ bytes x fits e.
     let a = bind_some (first bytes) (λ a. second a.1 >>= λ b. Some ((a.0, b.0), b.1)) x e in
     let b = bind_some (second a.0.1) (λ b. Some ((a.0.0, b.0), b.1)) x a.2 in
@@ -56,7 +56,7 @@ both_exact F G first second P Q one two link = record {
 pub made_exact : {A B : Type 0} (F : Octets → Type 0) (make : A → B) (read : Octets → Option (A × Octets)) (P : A → Octets → Type 0) (Spells : B → Octets → Type 0) → IsExact F read P
     → ((a : A) (text : Octets) → P a text → Spells (make a) text) → ((b : B) (text : Octets) → Spells b text → (a : A) × (make a ≡ b) × P a text)
     → IsExact F (made_at make read) Spells
-made_exact F make read P Spells law to back = record {
+made_exact {A = A} {B = B} F make read P Spells law to back = record {
   takes = λ bytes x fits e.
     let a = bind_some (read bytes) (λ a. Some (make a.0, a.1)) x e in
     let t = law.takes bytes a.0 fits a.1 in

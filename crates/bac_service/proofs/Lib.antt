@@ -1,1 +1,4 @@
 pub mod Exact
+pub mod Heads
+pub mod Pairs
+pub mod References

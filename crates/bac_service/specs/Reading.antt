@@ -10,8 +10,8 @@ use Rattle.bac_value.specs.Spelling.{Mark}
 use Rattle.bac_value.specs.Value.{ObjectId}
 use Rattle.bac_value.specs.Reading.{tag_at, kind_at, number_at, signed_at, object_at, data_of}
 use Rattle.bac_service.specs.Values.{Reference, Request, Complex, READ_FILE, WRITE_FILE, READ_PROPERTY, WRITE_PROPERTY}
-use Rattle.bac_service.specs.Values.Request.{ReadStream, ReadRecords, WriteStream, WriteRecords, ReadProperty, WriteProperty}
-use Rattle.bac_service.specs.Values.Complex.{StreamRead, StreamWritten, RecordsWritten, PropertyRead}
+use Rattle.bac_service.specs.Values.Request.{ReadProperty}
+use Rattle.bac_service.specs.Values.Complex.{FileRead, StreamWritten, RecordsWritten, PropertyRead}
 use Rattle.bac_service.specs.Members.{Octets}
 
 infixl 10 ◌>>=◌

@@ -2,8 +2,10 @@
 use Rattle.std.specs.Prelude.{◌≡◌, ℕ, ◌^◌, ◌<◌}
 use Rattle.bac_value.specs.declared.tag.Class.TheVariants.{Context}
 use Rattle.bac_value.specs.Value.{IsNumber, IsObject}
-use Rattle.bac_service.specs.Values.{Reference, Request, choice_of}
-use Rattle.bac_service.specs.Values.Request.{ReadStream, ReadRecords, WriteStream, WriteRecords, ReadProperty, WriteProperty}
+use Rattle.bac_service.specs.Values.{Reference, ReadAccess, WriteAccess, Request, choice_of}
+use Rattle.bac_service.specs.Values.ReadAccess.{ReadStream, ReadRecords}
+use Rattle.bac_service.specs.Values.WriteAccess.{WriteStream, WriteRecords}
+use Rattle.bac_service.specs.Values.Request.{ReadFile, WriteFile, ReadProperty, WriteProperty}
 use Rattle.bac_service.specs.Members.{Octets, ◌⨾◌, Optional, Enclosed, Tagged, IsPriority, ApplicationObject, ApplicationSigned, ApplicationUnsigned, ApplicationString, AreStrings, AreData}
 
 -- [0] ObjectIdentifier, [1] Enumerated property, [2] Unsigned index of an array, where one is given; an index has at most 4 octets (own rule of this profile)
@@ -16,12 +18,20 @@ pub record AreRecords (count : ℕ) (run bytes : Octets) : Type 0 where
   pub strings : AreStrings count run
   pub is : bytes ≡ run
 
+-- [0] for octets, [1] for records (clause 14.1)
+abbrev pub SpellsReadAccess : ReadAccess → Octets → Type 0
+SpellsReadAccess (ReadStream start count) = Enclosed 0 (ApplicationSigned start ⨾ ApplicationUnsigned count)
+SpellsReadAccess (ReadRecords start count) = Enclosed 1 (ApplicationSigned start ⨾ ApplicationUnsigned count)
+
+-- the same (clause 14.2)
+abbrev pub SpellsWriteAccess : WriteAccess → Octets → Type 0
+SpellsWriteAccess (WriteStream start octets) = Enclosed 0 (ApplicationSigned start ⨾ ApplicationString octets)
+SpellsWriteAccess (WriteRecords start count run) = Enclosed 1 (ApplicationSigned start ⨾ (ApplicationUnsigned count ⨾ AreRecords count run))
+
 -- AtomicReadFile, AtomicWriteFile (clause 14), ReadProperty and WriteProperty (clause 15)
 abbrev pub SpellsMembers : Request → Octets → Type 0
-SpellsMembers (ReadStream file start count) = ApplicationObject file ⨾ Enclosed 0 (ApplicationSigned start ⨾ ApplicationUnsigned count)
-SpellsMembers (ReadRecords file start count) = ApplicationObject file ⨾ Enclosed 1 (ApplicationSigned start ⨾ ApplicationUnsigned count)
-SpellsMembers (WriteStream file start octets) = ApplicationObject file ⨾ Enclosed 0 (ApplicationSigned start ⨾ ApplicationString octets)
-SpellsMembers (WriteRecords file start count run) = ApplicationObject file ⨾ Enclosed 1 (ApplicationSigned start ⨾ (ApplicationUnsigned count ⨾ AreRecords count run))
+SpellsMembers (ReadFile file access) = ApplicationObject file ⨾ SpellsReadAccess access
+SpellsMembers (WriteFile file access) = ApplicationObject file ⨾ SpellsWriteAccess access
 SpellsMembers (ReadProperty r) = SpellsReference r
 SpellsMembers (WriteProperty r values priority) = SpellsReference r ⨾ (Enclosed 3 (AreData values) ⨾ Optional (λ p. Tagged Context 4 (IsPriority p)) priority)
 

@@ -8,18 +8,26 @@ pub record Reference : Type 0 where
   pub property : ℕ
   pub index : Option ℕ
 
--- values are the octets of data; a run is octet strings, each spelled with its application tag, joined
+-- where a file is read: from an octet on, or from a record on, and how many of them
+pub data ReadAccess : Type 0 where
+  ReadStream : (start : ℤ) (count : ℕ) → ReadAccess
+  ReadRecords : (start : ℤ) (count : ℕ) → ReadAccess
+
+-- where a file is written, and what; a run is octet strings, each spelled with its application tag, joined
+pub data WriteAccess : Type 0 where
+  WriteStream : (start : ℤ) (octets : List ℕ) → WriteAccess
+  WriteRecords : (start : ℤ) (count : ℕ) (run : List ℕ) → WriteAccess
+
+-- values are the octets of data
 pub data Request : Type 0 where
-  ReadStream : (file : ObjectId) (start : ℤ) (count : ℕ) → Request
-  ReadRecords : (file : ObjectId) (start : ℤ) (count : ℕ) → Request
-  WriteStream : (file : ObjectId) (start : ℤ) (octets : List ℕ) → Request
-  WriteRecords : (file : ObjectId) (start : ℤ) (count : ℕ) (run : List ℕ) → Request
+  ReadFile : (file : ObjectId) (access : ReadAccess) → Request
+  WriteFile : (file : ObjectId) (access : WriteAccess) → Request
   ReadProperty : (reference : Reference) → Request
   WriteProperty : (reference : Reference) (values : List ℕ) (priority : Option ℕ) → Request
 
 -- what a ComplexACK answers
 pub data Complex : Type 0 where
-  StreamRead : (end_of_file : Bool) (start : ℤ) (octets : List ℕ) → Complex
+  FileRead : (end_of_file : Bool) (start : ℤ) (octets : List ℕ) → Complex
   StreamWritten : (start : ℤ) → Complex
   RecordsWritten : (start : ℤ) → Complex
   PropertyRead : (reference : Reference) (values : List ℕ) → Complex
@@ -44,15 +52,13 @@ abbrev pub WRITE_PROPERTY : ℕ
 WRITE_PROPERTY = 15
 
 abbrev pub choice_of : Request → ℕ
-choice_of (ReadStream file start count) = READ_FILE
-choice_of (ReadRecords file start count) = READ_FILE
-choice_of (WriteStream file start octets) = WRITE_FILE
-choice_of (WriteRecords file start count run) = WRITE_FILE
+choice_of (ReadFile file access) = READ_FILE
+choice_of (WriteFile file access) = WRITE_FILE
 choice_of (ReadProperty reference) = READ_PROPERTY
 choice_of (WriteProperty reference values priority) = WRITE_PROPERTY
 
 abbrev pub complex_choice_of : Complex → ℕ
-complex_choice_of (StreamRead end_of_file start octets) = READ_FILE
+complex_choice_of (FileRead end_of_file start octets) = READ_FILE
 complex_choice_of (StreamWritten start) = WRITE_FILE
 complex_choice_of (RecordsWritten start) = WRITE_FILE
 complex_choice_of (PropertyRead reference values) = READ_PROPERTY
