@@ -1,1 +1,3 @@
 pub mod Examples
+pub mod Steps
+pub mod Tags

@@ -7,11 +7,15 @@
 mod element;
 mod fault;
 mod memory;
+mod octets;
 mod tag;
+mod tag_reading;
 mod value;
 
 pub use element::Element;
 pub use fault::{Fault, FaultKind};
 pub use memory::NoMemory;
+pub use octets::Octets;
 pub use tag::{Class, Form, Tag};
+pub use tag_reading::{one_tag_spelling, read_tag, take_tag};
 pub use value::{BitString, CharacterString, ObjectIdentifier, OctetString, Value};
