@@ -66,9 +66,9 @@ pub refused : {Y : Type 0} (read : List ℕ → Result (Y × List ℕ) FaultKind
     → IsRefused read Spells bytes e
 refused read Spells law bytes e h = record {
   none = λ y k s.
-    let one = law.again y (take k bytes) (drop k bytes) s in
-    let two : read bytes ≡ Ok (y, drop k bytes) = ap read (sym (take-append-drop k bytes)) ∙ one in
-    cc;
+      let one = law.again y (take k bytes) (drop k bytes) s in
+      let two : read bytes ≡ Ok (y, drop k bytes) = ap read (sym (take-append-drop k bytes)) ∙ one in
+      cc;
   exact = h;
 }
 

@@ -254,6 +254,12 @@ class_takes Context zero lt e = absurd cc
 class_takes Context (suc zero) lt e = refl
 class_takes c (suc (suc k)) lt e = absurd (omega arith)
 
+pub tag_number-lt : (t : Mark) (text : List ℕ) → SpellsTag t text → t.number < 255
+tag_number-lt t text s = number_in t.number t.class t.form s.fits
+
+pub length_number-lt : (n k : ℕ) → IsTrue (tag_fits n Application (Length k)) → n < 13
+length_number-lt n k fits = ltb-true _ _ (and_parts (ltb n 13) (not (eqb n 1)) fits).0
+
 pub tag_again : (t : Mark) (text rest : List ℕ) → SpellsTag t text → tag_at (text ++ rest) ≡ Ok (t, rest)
 unfolding tag_at tag_spelling
 tag_again t text rest s =

@@ -169,10 +169,8 @@ pub fn take_tag<O: Octets>(octets: O) -> Result<(Tag, O), FaultKind>
 
 /// The tag at the front of any octets, and how many octets it has.
 pub(crate) fn tag_in<O: Octets>(octets: O) -> Result<(Tag, usize), FaultKind>
-    ensures {
-        MatchResult result (λ r. IsFound tag_at SpellsTag (O.octets octets) (mark r.0) r.1)
-        (λ e. IsRefused tag_at SpellsTag (O.octets octets) e)
-    }
+    ensures { MatchResult result (λ r. IsFound tag_at SpellsTag (O.octets octets) (mark r.0) r.1)
+        (λ e. IsRefused tag_at SpellsTag (O.octets octets) e) }
 {
     let all = octets.len();
     match take_tag(octets) {
@@ -183,17 +181,11 @@ pub(crate) fn tag_in<O: Octets>(octets: O) -> Result<(Tag, usize), FaultKind>
 
 /// The tag at the front, and how many octets it has. A fault is at 0.
 pub fn read_tag(octets: &[u8]) -> Result<(Tag, usize), Fault>
-    ensures found {
-        IfOk result (λ r. (r.1 ≤ length octets.now) × SpellsTag (mark r.0) (take r.1 octets.now))
-    }
-    ensures refused {
-        IfErr result (λ e. (t : Mark) (k : ℕ) → SpellsTag t (take k octets.now) → ⊥)
-    }
+    ensures found { IfOk result (λ r. (r.1 ≤ length octets.now) × SpellsTag (mark r.0) (take r.1 octets.now)) }
+    ensures refused { IfErr result (λ e. (t : Mark) (k : ℕ) → SpellsTag t (take k octets.now) → ⊥) }
     ensures place { IfErr result (λ e. e.at ≡ 0) }
-    ensures exact {
-        MatchResult result (λ r. tag_at octets.now ≡ Ok (mark r.0, drop r.1 octets.now))
-        (λ e. tag_at octets.now ≡ Err e.kind)
-    }
+    ensures exact { MatchResult result (λ r. tag_at octets.now ≡ Ok (mark r.0, drop r.1 octets.now))
+        (λ e. tag_at octets.now ≡ Err e.kind) }
 {
     match tag_in(octets) {
         Ok(found) => Ok(found),
@@ -203,7 +195,5 @@ pub fn read_tag(octets: &[u8]) -> Result<(Tag, usize), Fault>
 
 /// No tag has two spellings, and no spelling of one begins another's.
 pub fn one_tag_spelling()
-    ensures {
-        (t u : Mark) (a b c d : List ℕ) → SpellsTag t a → SpellsTag u b → a ++ c ≡ b ++ d → (t ≡ u) × (a ≡ b)
-    }
+    ensures { (t u : Mark) (a b c d : List ℕ) → SpellsTag t a → SpellsTag u b → a ++ c ≡ b ++ d → (t ≡ u) × (a ≡ b) }
 {}
