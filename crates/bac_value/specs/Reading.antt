@@ -1,6 +1,6 @@
 -- Reading from left to right, on lists alone: what a reader answers, and which fault it finds first.
 -- That these answers are exactly the spellings are laws beside the readers in code.
-use Rattle.std.specs.Prelude.{◌≡◌, ℕ, zero, suc, ◌/◌, ◌%◌, ◌+◌, ◌≤◌, ◌<◌, ◌^◌, ℤ, slice_index, List, [], ◌∷◌, length, take, drop, Option, Some, None, Result, Ok, Err, Bool, true, false, nat_lt, ◌==◌, ◌&&◌, ◌||◌, not, if◌then◌else◌}
+use Rattle.std.specs.Prelude.{◌≡◌, ℕ, zero, suc, ◌/◌, ◌%◌, ◌+◌, ◌≤◌, ◌<◌, ◌^◌, ℤ, slice_index, List, [], ◌∷◌, ◌++◌, length, take, drop, Option, Some, None, Result, Ok, Err, Bool, true, false, nat_lt, ◌==◌, ◌&&◌, ◌||◌, not, if◌then◌else◌}
 use Rattle.std.specs.Int.{Width, w16, w32, byte_len, from_be_bytes}
 use Rattle.bac_value.specs.declared.fault.FaultKind.{FaultKind}
 use Rattle.bac_value.specs.declared.fault.FaultKind.TheVariants.{Truncated, ReservedTag, LongForm, BadLength, NotShortest, Unbalanced, TooDeep, ReservedBits}
@@ -14,6 +14,7 @@ use Rattle.bac_value.specs.Spelling.{Mark}
 use Rattle.bac_value.specs.Number.{number_in, signed_in}
 use Rattle.bac_value.specs.Value.{ObjectId}
 use Rattle.bac_value.specs.Element.{Part}
+use Rattle.bac_value.specs.Data.{IsData, IsDataFront, Ends}
 
 infixl 10 ◌>>=◌
 abbrev pub ◌>>=◌ : {A B : Type 0} → Result A FaultKind → (A → Result B FaultKind) → Result B FaultKind
@@ -209,3 +210,16 @@ Steps rest new (Err e) r = r ≡ Err e
 abbrev pub ReadsData : {R : Type 0} → (R → List ℕ) → List ℕ → Result R Fault → Result (List ℕ) FaultKind → Type 0
 ReadsData rest bytes (Ok r) read = (length (rest r) ≤ length bytes) × (read ≡ Ok (rest r))
 ReadsData rest bytes (Err e) read = (e.at ≤ length bytes) × (read ≡ Err e.kind)
+
+-- data stand in front, up to the end or a closing tag
+pub record IsDataTaken (bytes text rest : List ℕ) : Type 0 where
+  pub parts : bytes ≡ text ++ rest
+  pub whole : IsData text
+  pub ends : Ends rest
+  pub exact : data_of bytes ≡ Ok rest
+
+-- no data stand in front, and reading gives a fault with a place among the octets
+pub record IsDataRefused (bytes : List ℕ) (e : Fault) : Type 0 where
+  pub none : (k : ℕ) → IsDataFront bytes k → ⊥
+  pub exact : data_of bytes ≡ Err e.kind
+  pub place : e.at ≤ length bytes
