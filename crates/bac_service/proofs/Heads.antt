@@ -10,13 +10,10 @@ use Rattle.bac_value.specs.Limits.{tag_fits}
 use Rattle.bac_value.specs.Octets.{IsBytes}
 use Rattle.bac_value.specs.Spelling.{Mark, tag_spelling, SpellsTag}
 use Rattle.bac_value.specs.Reading.{tag_at}
+use Rattle.bac_value.proofs.Tags.{tag_exact}
 use Rattle.bac_service.specs.Members.{Octets, mark_of, Tagged}
 use Rattle.bac_service.specs.Reading.{◌>>=◌, kept, same_class, length_of, announced, head_at, member_at}
 use Rattle.bac_service.proofs.Exact.{IsExact, Anything, bind_some, some_is, done, bytes_behind}
-
-pub record Law {A : Type 0} (read : Octets → Result (A × Octets) FaultKind) (Spells : A → Octets → Type 0) : Type 0 where
-  pub takes : (bytes : Octets) (x : A × Octets) → IsBytes bytes → read bytes ≡ Ok x → (text : Octets) × (bytes ≡ text ++ x.1) × Spells x.0 text
-  pub again : (y : A) (text rest : Octets) → Spells y text → read (text ++ rest) ≡ Ok (y, rest)
 
 pub kept_some : {A E : Type 0} (r : Result A E) (x : A) → kept r ≡ Some x → r ≡ Ok x
 kept_some (Ok y) x e = ap Ok (some_is y x e)
@@ -55,12 +52,12 @@ pub record TookHead (class : Class) (number : ℕ) (bytes : Octets) (k : ℕ) (r
   pub is : bytes ≡ tag_spelling (mark_of class number k) ++ rest
   pub spelled : SpellsTag (mark_of class number k) (tag_spelling (mark_of class number k))
 
-pub head_takes : Law tag_at SpellsTag → (class : Class) (number : ℕ) (bytes : Octets) (x : ℕ × Octets) → IsBytes bytes → head_at class number bytes ≡ Some x → TookHead class number bytes x.0 x.1
+pub head_takes : (class : Class) (number : ℕ) (bytes : Octets) (x : ℕ × Octets) → IsBytes bytes → head_at class number bytes ≡ Some x → TookHead class number bytes x.0 x.1
 unfolding head_at
-head_takes law class number bytes x fits e =
+head_takes class number bytes x fits e =
     let t = bind_some (kept (tag_at bytes)) (λ t. announced class number t.0 >>= λ k. Some (k, t.1)) x e in
     let k = bind_some (announced class number t.0.0) (λ k. Some (k, t.0.1)) x t.2 in
-    let took = law.takes bytes t.0 fits (kept_some (tag_at bytes) t.0 t.1) in
+    let took = tag_exact.takes bytes t.0 fits (kept_some (tag_at bytes) t.0 t.1) in
     let m = announced_is class number t.0.0 k.0 k.1 in
     let spelled : SpellsTag (mark_of class number k.0) took.0 = subst (λ (m : Mark). SpellsTag m took.0) m took.2 in
     let whole_is : bytes ≡ tag_spelling (mark_of class number k.0) ++ t.0.1 = took.1 ∙ ap (λ (s : Octets). s ++ t.0.1) spelled.is in
@@ -68,11 +65,11 @@ head_takes law class number bytes x fits e =
     let made : TookHead class number bytes k.0 t.0.1 = record { is = whole_is; spelled = alone } in
     subst (λ (y : ℕ × Octets). TookHead class number bytes y.0 y.1) (some_is (k.0, t.0.1) x k.2) made
 
-pub head_again : Law tag_at SpellsTag → (class : Class) (number k : ℕ) (rest : Octets) → IsTrue (tag_fits number class (Length k)) → k < 2 ^ 32 → head_at class number (tag_spelling (mark_of class number k) ++ rest) ≡ Some (k, rest)
+pub head_again : (class : Class) (number k : ℕ) (rest : Octets) → IsTrue (tag_fits number class (Length k)) → k < 2 ^ 32 → head_at class number (tag_spelling (mark_of class number k) ++ rest) ≡ Some (k, rest)
 unfolding head_at
-head_again law class number k rest fits short =
+head_again class number k rest fits short =
     let s : SpellsTag (mark_of class number k) (tag_spelling (mark_of class number k)) = record { fits = fits; length_in = short; is = refl } in
-    rw (law.again (mark_of class number k) (tag_spelling (mark_of class number k)) rest s, announced_again class number k) refl
+    rw (tag_exact.again (mark_of class number k) (tag_spelling (mark_of class number k)) rest s, announced_again class number k) refl
 
 -- contents that are read with their length
 pub record IsContentsLaw {A : Type 0} (read : ℕ → Octets → Result (A × Octets) FaultKind) (Is : A → Octets → Type 0) : Type 0 where
@@ -83,13 +80,13 @@ pub record IsContentsLaw {A : Type 0} (read : ℕ → Octets → Result (A × Oc
 abbrev pub Tags : Class → ℕ → Type 0
 Tags class number = (k : ℕ) → IsTrue (tag_fits number class (Length k))
 
-pub member_exact : {A : Type 0} → Law tag_at SpellsTag → (class : Class) (number : ℕ) (read : ℕ → Octets → Result (A × Octets) FaultKind) (Is : A → Octets → Type 0) → Tags class number → IsContentsLaw read Is
+pub member_exact : {A : Type 0} → (class : Class) (number : ℕ) (read : ℕ → Octets → Result (A × Octets) FaultKind) (Is : A → Octets → Type 0) → Tags class number → IsContentsLaw read Is
     → IsExact Anything (member_at class number read) (λ y. Tagged class number (Is y))
 unfolding member_at
-member_exact {A = A} tags class number read Is fit law = record {
+member_exact {A = A} class number read Is fit law = record {
   takes = λ bytes x fits e.
     let h = bind_some (head_at class number bytes) (λ h. kept (read h.0 h.1)) x e in
-    let took = head_takes tags class number bytes h.0 fits h.1 in
+    let took = head_takes class number bytes h.0 fits h.1 in
     let c = law.takes h.0.0 h.0.1 x (bytes_behind (tag_spelling (mark_of class number h.0.0)) h.0.1 (subst IsBytes took.is fits)) (kept_some (read h.0.0 h.0.1) x h.2) in
     let head = tag_spelling (mark_of class number h.0.0) in
     let is : bytes ≡ (head ++ c.0) ++ x.1 = took.is ∙ ap (λ (r : Octets). head ++ r) c.1 ∙ sym (append_assoc head c.0 x.1) in
@@ -99,5 +96,5 @@ member_exact {A = A} tags class number read Is fit law = record {
   again = λ y text rest s follows.
     let head = tag_spelling (mark_of class number (length s.contents)) in
     let parts : text ++ rest ≡ head ++ (s.contents ++ rest) = ap (λ (t : Octets). t ++ rest) s.is ∙ append_assoc head s.contents rest in
-    rw (parts, head_again tags class number (length s.contents) (s.contents ++ rest) (fit (length s.contents)) s.fits, law.again y s.contents rest s.are) refl;
+    rw (parts, head_again class number (length s.contents) (s.contents ++ rest) (fit (length s.contents)) s.fits, law.again y s.contents rest s.are) refl;
 }

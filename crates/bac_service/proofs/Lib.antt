@@ -1,4 +1,5 @@
 pub mod Exact
 pub mod Heads
+pub mod Contents
 pub mod Pairs
 pub mod References
