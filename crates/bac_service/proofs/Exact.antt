@@ -1,9 +1,9 @@
 -- Readings on lists that take exactly what is spelled, and how they follow each other.
-use Rattle.std.proofs.Common.{◌≡◌, ℕ, ◌+◌, ◌<◌, Bool, true, false, List, [], ◌∷◌, ◌++◌, length, Option, Some, None, refl, sym, ap, subst, ◌∙◌, append_assoc}
+use Rattle.std.proofs.Common.{◌≡◌, ℕ, ◌+◌, ◌<◌, Bool, true, false, List, [], ◌∷◌, ◌++◌, length, Option, Some, None, cond, ◌⊎◌, inl, inr, refl, sym, ap, subst, ◌∙◌, append_assoc}
 use Rattle.std.proofs.lemmas.List.{get_or-append-add, append-nil}
 use Rattle.bac_value.specs.Octets.{IsBytes}
 use Rattle.bac_service.specs.Members.{Octets, ◌⨾◌, Optional}
-use Rattle.bac_service.specs.Reading.{◌>>=◌, both_at, made_at, present, is_next, optional_at, ends, whole}
+use Rattle.bac_service.specs.Reading.{◌>>=◌, both_at, made_at, present, is_next, optional_at, that_at, chosen_at, either_at, ends, whole}
 
 -- what is read is spelled so; what is spelled so is read, where what follows it may follow
 pub record IsExact {A : Type 0} (Follows : Octets → Type 0) (read : Octets → Option (A × Octets)) (Spells : A → Octets → Type 0) : Type 0 where
@@ -53,17 +53,65 @@ both_exact {A = A} {B = B} F G first second P Q one two link = record {
 }
 
 -- a value made of what was read
-pub made_exact : {A B : Type 0} (F : Octets → Type 0) (make : A → B) (read : Octets → Option (A × Octets)) (P : A → Octets → Type 0) (Spells : B → Octets → Type 0) → IsExact F read P
-    → ((a : A) (text : Octets) → P a text → Spells (make a) text) → ((b : B) (text : Octets) → Spells b text → (a : A) × (make a ≡ b) × P a text)
-    → IsExact F (made_at make read) Spells
-made_exact {A = A} {B = B} F make read P Spells law to back = record {
+abbrev pub Made : {A B : Type 0} → (A → B) → (A → Octets → Type 0) → B → Octets → Type 0
+Made {A = A} make P b text = (a : A) × (make a ≡ b) × P a text
+
+pub made_exact : {A B : Type 0} (F : Octets → Type 0) (make : A → B) (read : Octets → Option (A × Octets)) (P : A → Octets → Type 0) → IsExact F read P → IsExact F (made_at make read) (Made make P)
+made_exact {A = A} {B = B} F make read P law = record {
   takes = λ bytes x fits e.
     let a = bind_some (read bytes) (λ a. Some (make a.0, a.1)) x e in
     let t = law.takes bytes a.0 fits a.1 in
-    subst (λ (y : B × Octets). (text : Octets) × (bytes ≡ text ++ y.1) × Spells y.0 text) (some_is (make a.0.0, a.0.1) x a.2) (t.0, t.1, to a.0.0 t.0 t.2);
-  again = λ y text rest s follows.
-    let a = back y text s in
-    rw (law.again a.0 text rest a.2 follows, a.1) refl;
+    subst (λ (y : B × Octets). (text : Octets) × (bytes ≡ text ++ y.1) × Made make P y.0 text) (some_is (make a.0.0, a.0.1) x a.2) (t.0, t.1, (a.0.0, refl, t.2));
+  again = λ y text rest s follows. rw (law.again s.0 text rest s.2 follows, s.1) refl;
+}
+
+-- the same reading, of what is spelled in other words
+pub same_exact : {A : Type 0} (F : Octets → Type 0) (read : Octets → Option (A × Octets)) (P Q : A → Octets → Type 0) → IsExact F read P → ((a : A) (text : Octets) → P a text → Q a text) → ((a : A) (text : Octets) → Q a text → P a text) → IsExact F read Q
+same_exact F read P Q law to back = record {
+  takes = λ bytes x fits e. let t = law.takes bytes x fits e in (t.0, t.1, to x.0 t.0 t.2);
+  again = λ y text rest s follows. law.again y text rest (back y text s) follows;
+}
+
+-- a value that a test takes
+abbrev pub That : {A : Type 0} → (A → Bool) → (A → Octets → Type 0) → A → Octets → Type 0
+That test P a text = (test a ≡ true) × P a text
+
+that_is : {A : Type 0} (b : Bool) (x y : A) → cond b (Some x) None ≡ Some y → (b ≡ true) × (x ≡ y)
+that_is true x y e = (refl, some_is x y e)
+that_is false x y e = absurd cc
+
+pub that_exact : {A : Type 0} (F : Octets → Type 0) (test : A → Bool) (read : Octets → Option (A × Octets)) (P : A → Octets → Type 0) → IsExact F read P → IsExact F (that_at test read) (That test P)
+unfolding that_at
+that_exact {A = A} F test read P law = record {
+  takes = λ bytes x fits e.
+    let a = bind_some (read bytes) (λ x. cond (test x.0) (Some x) None) x e in
+    let i = that_is (test a.0.0) a.0 x a.2 in
+    let t = law.takes bytes a.0 fits a.1 in
+    subst (λ (y : A × Octets). (text : Octets) × (bytes ≡ text ++ y.1) × That test P y.0 text) i.1 (t.0, t.1, (i.0, t.2));
+  again = λ y text rest s follows. rw (law.again y text rest s.1 follows, s.0) refl;
+}
+
+-- one of two, told apart by what comes next
+pub record IsOneOf {A : Type 0} (F : Octets → Type 0) (test : Octets → Option Bool) (G H : Octets → Type 0) (P Q Spells : A → Octets → Type 0) : Type 0 where
+  pub one : (a : A) (text : Octets) → P a text → Spells a text
+  pub other : (a : A) (text : Octets) → Q a text → Spells a text
+  pub told : (a : A) (text rest : Octets) → Spells a text → F rest → (P a text × (test (text ++ rest) ≡ Some true) × G rest) ⊎ (Q a text × (test (text ++ rest) ≡ Some false) × H rest)
+
+chosen_takes : {A : Type 0} (F G H : Octets → Type 0) (test : Octets → Option Bool) (one other : Octets → Option (A × Octets)) (P Q Spells : A → Octets → Type 0) → IsOneOf F test G H P Q Spells → IsExact G one P → IsExact H other Q
+    → (bytes : Octets) (x : A × Octets) → IsBytes bytes → (b : Bool) → chosen_at b one other bytes ≡ Some x → (text : Octets) × (bytes ≡ text ++ x.1) × Spells x.0 text
+chosen_takes F G H test one other P Q Spells is p q bytes x fits true e = let t = p.takes bytes x fits e in (t.0, t.1, is.one x.0 t.0 t.2)
+chosen_takes F G H test one other P Q Spells is p q bytes x fits false e = let t = q.takes bytes x fits e in (t.0, t.1, is.other x.0 t.0 t.2)
+
+pub either_exact : {A : Type 0} (F G H : Octets → Type 0) (test : Octets → Option Bool) (one other : Octets → Option (A × Octets)) (P Q Spells : A → Octets → Type 0) → IsOneOf F test G H P Q Spells → IsExact G one P → IsExact H other Q
+    → IsExact F (either_at test one other) Spells
+either_exact F G H test one other P Q Spells is p q = record {
+  takes = λ bytes x fits e.
+    let b = bind_some (test bytes) (λ b. chosen_at b one other bytes) x e in
+    chosen_takes F G H test one other P Q Spells is p q bytes x fits b.0 b.2;
+  again = λ y text rest s follows. elim (is.told y text rest s follows) [
+    | inl t ↦ rw (t.1, p.again y text rest t.0 t.2) refl
+    | inr t ↦ rw (t.1, q.again y text rest t.0 t.2) refl
+  ];
 }
 
 -- an optional member; behind an absent one the next tag is another

@@ -47,6 +47,11 @@ unfolding announced
 announced_again Application number k = rw (eq-eqb number number refl) refl
 announced_again Context number k = rw (eq-eqb number number refl) refl
 
+-- the tag of another number is not announced
+pub announced_other : (number n k : ℕ) → nat_eq number n ≡ false → announced Context number (mark_of Context n k) ≡ None
+unfolding announced
+announced_other number n k t = rw t refl
+
 -- a tag was taken, with so many octets of contents behind it
 pub record TookHead (class : Class) (number : ℕ) (bytes : Octets) (k : ℕ) (rest : Octets) : Type 0 where
   pub is : bytes ≡ tag_spelling (mark_of class number k) ++ rest

@@ -3,3 +3,5 @@ pub mod Heads
 pub mod Contents
 pub mod Pairs
 pub mod References
+pub mod Accesses
+pub mod Wholes

@@ -17,7 +17,7 @@ use Rattle.bac_value.proofs.Forests.{data_found, data_again}
 use Rattle.bac_service.specs.Members.{Octets, mark_of, Tagged, Enclosed, AreData}
 use Rattle.bac_service.specs.Reading.{◌>>=◌, kept, announced, is_next, is_opening, is_closing, tag_that, opening_at, closing_at, enclosed_at, values_at}
 use Rattle.bac_service.proofs.Exact.{IsExact, Anything, Differs, bind_some, some_is, left_fits, bytes_behind}
-use Rattle.bac_service.proofs.Heads.{kept_some, announced_again}
+use Rattle.bac_service.proofs.Heads.{kept_some, announced_again, announced_other}
 
 -- ---- what comes next
 
@@ -29,7 +29,15 @@ next_tagged number P text rest fits s =
     let parts : text ++ rest ≡ head ++ (s.contents ++ rest) = ap (λ (t : Octets). t ++ rest) s.is ∙ append_assoc head s.contents rest in
     ap (is_next number) parts ∙ rw (tag_exact.again (mark_of Context number (length s.contents)) head (s.contents ++ rest) tag, announced_again Context number (length s.contents)) refl
 
-abbrev pair_mark : Form → ℕ → Mark
+pub next_other : (number n : ℕ) (P : Octets → Type 0) (text rest : Octets) → IsTrue (tag_fits n Context (Length 0)) → nat_eq number n ≡ false → Tagged Context n P text → is_next number (text ++ rest) ≡ Some false
+unfolding is_next tag_spelling
+next_other number n P text rest fits other s =
+    let head = tag_spelling (mark_of Context n (length s.contents)) in
+    let tag : SpellsTag (mark_of Context n (length s.contents)) head = record { fits = fits; length_in = s.fits; is = refl } in
+    let parts : text ++ rest ≡ head ++ (s.contents ++ rest) = ap (λ (t : Octets). t ++ rest) s.is ∙ append_assoc head s.contents rest in
+    ap (is_next number) parts ∙ rw (tag_exact.again (mark_of Context n (length s.contents)) head (s.contents ++ rest) tag, announced_other number n (length s.contents) other) refl
+
+abbrev pub pair_mark : Form → ℕ → Mark
 pair_mark form number = record { number = number; class = Context; form = form }
 
 none_left : Bool → Option ℕ
@@ -52,6 +60,11 @@ unfolding is_next tag_spelling announced none_left
 next_closing number n rest lt =
     let tag : SpellsTag (pair_mark Closing n) (closing n) = record { fits = lt-ltb n 255 lt; length_in = tt; is = refl } in
     rw (tag_exact.again (pair_mark Closing n) (closing n) rest tag) (no_length (nat_eq number n))
+
+-- at the end none comes
+pub end_differs : (number : ℕ) → Differs number []
+unfolding is_next
+end_differs number = refl
 
 -- ---- a tag that a test takes
 
@@ -136,7 +149,7 @@ enclosed_exact {A = A} number lt F read Spells law link = record {
 
 -- ---- data
 
-front_is : (text rest : Octets) → take (length (text ++ rest) - length rest) (text ++ rest) ≡ text
+pub front_is : (text rest : Octets) → take (length (text ++ rest) - length rest) (text ++ rest) ≡ text
 front_is text rest = take_at text rest _ (omega (arith, length-append text rest))
 
 pub values_exact : IsExact Ends values_at AreData

@@ -9,8 +9,10 @@ use Rattle.bac_value.specs.declared.tag.Form.TheVariants.{Length, Boolean, Openi
 use Rattle.bac_value.specs.Spelling.{Mark}
 use Rattle.bac_value.specs.Value.{ObjectId}
 use Rattle.bac_value.specs.Reading.{tag_at, kind_at, number_at, signed_at, object_at, data_of}
-use Rattle.bac_service.specs.Values.{Reference, Request, Complex, READ_FILE, WRITE_FILE, READ_PROPERTY, WRITE_PROPERTY}
-use Rattle.bac_service.specs.Values.Request.{ReadProperty}
+use Rattle.bac_service.specs.Values.{Reference, ReadAccess, WriteAccess, Request, Complex, READ_FILE, WRITE_FILE, READ_PROPERTY, WRITE_PROPERTY}
+use Rattle.bac_service.specs.Values.ReadAccess.{ReadStream, ReadRecords}
+use Rattle.bac_service.specs.Values.WriteAccess.{WriteStream, WriteRecords}
+use Rattle.bac_service.specs.Values.Request.{ReadFile, WriteFile, ReadProperty, WriteProperty}
 use Rattle.bac_service.specs.Values.Complex.{FileRead, StreamWritten, RecordsWritten, PropertyRead}
 use Rattle.bac_service.specs.Members.{Octets}
 
@@ -54,6 +56,13 @@ length_of (Length k) = Some k
 length_of (Boolean b) = None
 length_of Opening = None
 length_of Closing = None
+
+-- only an application tag of number 1 has a value in place of a length
+abbrev pub boolean_of : Form → Option Bool
+boolean_of (Length k) = None
+boolean_of (Boolean b) = Some b
+boolean_of Opening = None
+boolean_of Closing = None
 
 -- the length that a tag announces, where it is the tag of that class and number
 unfoldable pub announced : Class → ℕ → Mark → Option ℕ
@@ -147,6 +156,12 @@ application_unsigned = member_at Application 2 (number_at 2)
 abbrev pub application_string : Octets → Option (Octets × Octets)
 application_string = member_at Application 6 (kind_at 6)
 
+-- a value that a test takes
+unfoldable pub that_at : {A : Type 0} → (A → Bool) → (Octets → Option (A × Octets)) → Octets → Option (A × Octets)
+that_at test read bytes = do
+  x ← read bytes
+  if test x.0 then Some x else None
+
 -- ---- ReadProperty and WriteProperty
 
 abbrev pub reference_of : ObjectId × (ℕ × Option ℕ) → Reference
@@ -155,6 +170,72 @@ reference_of t = record { object = t.0; property = t.1.0; index = t.1.1 }
 unfoldable pub reference_at : Octets → Option (Reference × Octets)
 reference_at =
     made_at reference_of (both_at (member_at Context 0 object_at) (both_at (member_at Context 1 (number_at 9)) (optional_at 2 (member_at Context 2 (number_at 9)))))
+
+abbrev pub is_priority : ℕ → Bool
+is_priority n = nat_lt 0 n && nat_le n 16
+
+unfoldable pub priority_at : Octets → Option (ℕ × Octets)
+priority_at = that_at is_priority (member_at Context 4 (number_at 2))
+
+abbrev pub write_property_of : Reference × (Octets × Option ℕ) → Request
+write_property_of t = WriteProperty t.0 t.1.0 t.1.1
+
+unfoldable pub write_property_at : Octets → Option (Request × Octets)
+write_property_at = made_at write_property_of (both_at reference_at (both_at (enclosed_at 3 values_at) (optional_at 4 priority_at)))
+
+-- ---- AtomicReadFile and AtomicWriteFile
+
+abbrev pub chosen_at : {A : Type 0} → Bool → (Octets → Option (A × Octets)) → (Octets → Option (A × Octets)) → Octets → Option (A × Octets)
+chosen_at true one other bytes = one bytes
+chosen_at false one other bytes = other bytes
+
+-- one where a test of what comes next takes it, otherwise the other
+abbrev pub either_at : {A : Type 0} → (Octets → Option Bool) → (Octets → Option (A × Octets)) → (Octets → Option (A × Octets)) → Octets → Option (A × Octets)
+either_at test one other bytes = do
+  b ← test bytes
+  chosen_at b one other bytes
+
+abbrev pub extent_at : Octets → Option ((ℤ × ℕ) × Octets)
+extent_at = both_at application_signed application_unsigned
+
+-- [1] where it comes next, [0] otherwise
+unfoldable pub read_access_at : Octets → Option (ReadAccess × Octets)
+read_access_at = either_at (is_opened 1) (made_at (λ t. ReadRecords t.0 t.1) (enclosed_at 1 extent_at)) (made_at (λ t. ReadStream t.0 t.1) (enclosed_at 0 extent_at))
+
+-- octet strings one behind the other, as long as they come next, at most so many: how many they are
+unfoldable pub strings_at : ℕ → Octets → Option (ℕ × Octets)
+strings_at zero bytes = None
+strings_at (suc most) bytes = do
+  t ← kept (tag_at bytes)
+  if is_some (announced Application 6 t.0) then (do
+    s ← application_string bytes
+    n ← strings_at most s.1
+    Some (n.0 + 1, n.1)) else Some (0, bytes)
+
+-- how many there are, and the octets of all of them
+unfoldable pub run_at : Octets → Option ((ℕ × Octets) × Octets)
+run_at bytes = do
+  n ← strings_at (suc (length bytes)) bytes
+  Some ((n.0, take (length bytes - length n.1) bytes), n.1)
+
+-- a count that is the number of strings behind it
+unfoldable pub counted_at : Octets → Option ((ℤ × (ℕ × (ℕ × Octets))) × Octets)
+counted_at = both_at application_signed (both_at application_unsigned run_at)
+
+abbrev pub are_counted : ℤ × (ℕ × (ℕ × Octets)) → Bool
+are_counted t = t.1.0 == t.1.1.0
+
+abbrev pub content_at : Octets → Option ((ℤ × Octets) × Octets)
+content_at = both_at application_signed application_string
+
+unfoldable pub write_access_at : Octets → Option (WriteAccess × Octets)
+write_access_at =
+    either_at (is_opened 1) (made_at (λ t. WriteRecords t.0 t.1.0 t.1.1.1) (that_at are_counted (enclosed_at 1 counted_at))) (made_at (λ t. WriteStream t.0 t.1) (enclosed_at 0 content_at))
+
+abbrev pub file_at : {A : Type 0} → (ObjectId → A → Request) → (Octets → Option (A × Octets)) → Octets → Option (Request × Octets)
+file_at make access = made_at (λ t. make t.0 t.1) (both_at application_object access)
+
+-- ---- a whole request
 
 -- nothing is left behind it
 abbrev pub ends : {A : Type 0} → A → Octets → Option A
@@ -165,3 +246,34 @@ abbrev pub whole : {A : Type 0} → (Octets → Option (A × Octets)) → Octets
 whole read bytes = do
   x ← read bytes
   ends x.0 x.1
+
+unfoldable pub request_at : ℕ → Octets → Option Request
+request_at choice bytes =
+    if choice == READ_FILE then whole (file_at ReadFile read_access_at) bytes else
+    (if choice == WRITE_FILE then whole (file_at WriteFile write_access_at) bytes else
+    (if choice == READ_PROPERTY then whole (made_at ReadProperty reference_at) bytes else
+    (if choice == WRITE_PROPERTY then whole write_property_at bytes else None)))
+
+-- ---- a whole answer
+
+unfoldable pub end_of_file_at : Octets → Option (Bool × Octets)
+end_of_file_at bytes = do
+  t ← kept (tag_at bytes)
+  b ← boolean_of t.0.form
+  Some (b, t.1)
+
+unfoldable pub file_read_at : Octets → Option (Complex × Octets)
+file_read_at = made_at (λ t. FileRead t.0 t.1.0 t.1.1) (both_at end_of_file_at (enclosed_at 0 content_at))
+
+-- [1] where it comes next, [0] otherwise
+unfoldable pub file_written_at : Octets → Option (Complex × Octets)
+file_written_at = either_at (is_next 1) (made_at RecordsWritten (member_at Context 1 signed_at)) (made_at StreamWritten (member_at Context 0 signed_at))
+
+unfoldable pub property_read_at : Octets → Option (Complex × Octets)
+property_read_at = made_at (λ t. PropertyRead t.0 t.1) (both_at reference_at (enclosed_at 3 values_at))
+
+unfoldable pub complex_at : ℕ → Octets → Option Complex
+complex_at choice bytes =
+    if choice == READ_FILE then whole file_read_at bytes else
+    (if choice == WRITE_FILE then whole file_written_at bytes else
+    (if choice == READ_PROPERTY then whole property_read_at bytes else None))

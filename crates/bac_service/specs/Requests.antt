@@ -1,5 +1,5 @@
 -- What spells a request: the members of its production, joined in their order (clause 21).
-use Rattle.std.specs.Prelude.{◌≡◌, ℕ, ◌^◌, ◌<◌}
+use Rattle.std.specs.Prelude.{◌≡◌, ℕ}
 use Rattle.bac_value.specs.declared.tag.Class.TheVariants.{Context}
 use Rattle.bac_value.specs.Value.{IsNumber, IsObject}
 use Rattle.bac_service.specs.Values.{Reference, ReadAccess, WriteAccess, Request, choice_of}
@@ -14,7 +14,6 @@ SpellsReference r = Tagged Context 0 (IsObject r.object) ⨾ (Tagged Context 1 (
 
 -- a run of octet strings that are as many as the count in front of them says (own rule of this profile)
 pub record AreRecords (count : ℕ) (run bytes : Octets) : Type 0 where
-  pub counted : count < 2 ^ 64
   pub strings : AreStrings count run
   pub is : bytes ≡ run
 
