@@ -1,3 +1,4 @@
 pub mod Steps
 pub mod Members
 pub mod Frames
+pub mod Datagrams

@@ -4,3 +4,4 @@ pub mod Datagram
 pub mod Addresses
 pub mod Views
 pub mod Reading
+pub mod Causes

@@ -14,3 +14,16 @@ pub enum FrameFault {
     /// A BVLL function other than Original-Unicast-NPDU.
     NotUnicast = 6,
 }
+
+/// Why a datagram means no peer and no APDU: the first of these that holds.
+#[derive(Clone, Copy, Debug, PartialEq, Eq)]
+pub enum Dropped {
+    /// It is no BVLL.
+    Bvll(FrameFault),
+    /// It is one, of octets that are no NPDU.
+    Npdu(FrameFault),
+    /// The NPDU is to be routed elsewhere: it has a destination.
+    Routed,
+    /// The NPDU is a network message.
+    NetworkMessage,
+}

@@ -1,15 +1,7 @@
-ghost use Rattle.std.specs.Prelude.{◌≡◌, ◌<◌, length, IfOk};
-ghost use Rattle.bac_npdu.specs.Reading.{Reads, IsBytes, octet_at, word_at, cut_at};
+ghost use Rattle.std.specs.Prelude.{◌≡◌};
+ghost use Rattle.bac_npdu.specs.Reading.{Reads, octet_at, word_at, cut_at};
 
 use crate::fault::FrameFault;
-
-/// How many there are.
-pub(crate) fn count_of(octets: &[u8]) -> usize
-    ensures count { result ≡ length octets.now }
-    ensures each { IsBytes octets.now }
-{
-    octets.len()
-}
 
 /// The first octet, and what is behind it.
 pub(crate) fn octet(octets: &[u8]) -> Result<(u8, &[u8]), FrameFault>
