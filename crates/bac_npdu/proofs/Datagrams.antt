@@ -1,19 +1,16 @@
 -- What datagrams mean.
-use Rattle.std.proofs.Common.{◌≡◌, ℕ, suc, ◌+◌, ◌<◌, ◌≤◌, ◌^◌, Bool, true, false, cond, ltb, eqb, List, [], ◌∷◌, ◌++◌, length, Result, Ok, Err, Option, Some, None, refl, sym, ap, subst, ◌∙◌, arith, IsTrue, Ordering, Less, Equal, Greater}
-use Rattle.std.specs.Int.{w16, to_be_bytes}
+use Rattle.std.proofs.Common.{◌≡◌, ℕ, ◌+◌, ◌<◌, ◌≤◌, Bool, List, [], ◌∷◌, length, Option, Some, None, refl, sym, ap, subst, ◌∙◌, arith, IsTrue, Ordering, Less, Equal, Greater}
 use Rattle.std.specs.Ordering.{nat_cmp, ordering_then}
 use Rattle.std.specs.Option.{option_cmp}
 use Rattle.std.specs.Cmp.Lexicographic.{slice_cmp}
 use Rattle.std.proofs.lemmas.Bool.Decides.{nat_tests}
 use Rattle.std.proofs.lemmas.List.{length-append}
-use Rattle.bac_npdu.specs.declared.fault.FrameFault.{FrameFault}
 use Rattle.bac_npdu.specs.declared.fault.Dropped.{Dropped}
 use Rattle.bac_npdu.specs.declared.fault.Dropped.TheVariants.{Bvll, Npdu, Routed, NetworkMessage}
 use Rattle.bac_npdu.specs.Peers.{RouteView, PeerView, route_fits, route_cmp, peer_cmp}
-use Rattle.bac_npdu.specs.Npdu.{NpduView, DestinationView, SpellsNpdu, SpellsBvll, NpduFits, all_of, destination_fits, npdu_spelling, members_spelling, bvll_spelling}
+use Rattle.bac_npdu.specs.Npdu.{NpduView, DestinationView, SpellsNpdu, SpellsBvll, all_of, destination_fits, npdu_spelling, members_spelling}
 use Rattle.bac_npdu.specs.Datagram.{IsFrameOf, Carries, towards, npdu_to, frame}
 use Rattle.bac_npdu.specs.Causes.{IsCause}
-use Rattle.bac_npdu.specs.Reading.{npdu_at, bvll_at}
 use Rattle.bac_npdu.proofs.Steps.{ok_is}
 use Rattle.bac_npdu.proofs.Frames.{npdu_again, bvll_again}
 

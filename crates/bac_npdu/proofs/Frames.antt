@@ -1,18 +1,17 @@
 -- The two laws of NPDU and BVLL: what is read is spelled so, and what is spelled so is read.
-use Rattle.std.proofs.Common.{◌≡◌, ℕ, suc, ◌+◌, ◌*◌, ◌/◌, ◌%◌, ◌<◌, ◌≤◌, ◌^◌, Bool, true, false, cond, ltb, eqb, List, [], ◌∷◌, ◌++◌, length, take, drop, get_or, Result, Ok, Err, Option, Some, None, refl, sym, ap, subst, ◌∙◌, append_assoc, arith, inl, inr, ◌⊎◌, IsTrue, ◌||◌}
+use Rattle.std.proofs.Common.{◌≡◌, ℕ, ◌+◌, ◌*◌, ◌/◌, ◌%◌, ◌<◌, Bool, true, false, cond, ltb, eqb, List, [], ◌∷◌, ◌++◌, length, Result, Ok, Err, Option, Some, None, refl, sym, ap, subst, ◌∙◌, arith, IsTrue, ◌||◌}
 use Rattle.std.specs.Prelude.{is_some}
 use Rattle.std.specs.Option.{option_map}
 use Rattle.std.specs.Int.{w16, from_be_bytes, to_be_bytes}
-use Rattle.std.proofs.lemmas.Bool.{cases_lt, ltb-false, ltb-true, le-ltb, lt-ltb, eqb-true, eqb-false, eq-eqb, ne_eqb, agree_below_at}
-use Rattle.std.proofs.lemmas.List.{length-append}
+use Rattle.std.proofs.lemmas.Bool.{le-ltb, eqb-true, eq-eqb, agree_below_at}
 use Rattle.std.proofs.lemmas.Nat.{be_bytes_2, from_be_bytes-to_be_bytes_2}
 use Rattle.bac_npdu.specs.declared.fault.FrameFault.{FrameFault}
 use Rattle.bac_npdu.specs.declared.fault.FrameFault.TheVariants.{Truncated, Version, ReservedBits, BadLength, NotUnicast}
 use Rattle.bac_npdu.specs.Peers.{RouteView, route_fits}
-use Rattle.bac_npdu.specs.Npdu.{DestinationView, MessageView, NpduView, optional, all_of, bit, control_octet, address_spelling, message_spelling, destination_fits, message_fits, members_spelling, npdu_spelling, NpduFits, SpellsNpdu, bvll_spelling, SpellsBvll}
-use Rattle.bac_npdu.specs.Reading.{◌>>=◌, IsBytes, octet_at, place_at, optional_at, hops_at, message_at, has_bit, members_at, control_at, npdu_at, bvll_at}
-use Rattle.bac_npdu.proofs.Steps.{IsBytes-rest, IsBytes-take, bind_ok, unless_ok, where_ok, done, ok_is, Takes}
-use Rattle.bac_npdu.proofs.Members.{octet_takes, place_takes_destination, place_takes_source, destination_again, source_again, optional_takes, optional_again, place_of, hops_takes, hops_again, message_takes, message_again}
+use Rattle.bac_npdu.specs.Npdu.{DestinationView, MessageView, NpduView, optional, all_of, bit, control_octet, address_spelling, message_spelling, destination_fits, message_fits, members_spelling, npdu_spelling, SpellsNpdu, bvll_spelling, SpellsBvll}
+use Rattle.bac_npdu.specs.Reading.{◌>>=◌, IsBytes, place_at, optional_at, hops_at, message_at, has_bit, members_at, control_at, npdu_at, bvll_at}
+use Rattle.bac_npdu.proofs.Steps.{IsBytes-rest, IsBytes-take, bind_ok, unless_ok, where_ok, ok_is}
+use Rattle.bac_npdu.proofs.Members.{place_takes_destination, place_takes_source, destination_again, source_again, optional_takes, optional_again, place_of, hops_takes, hops_again, message_takes, message_again}
 
 -- ---- the control octet
 
@@ -129,10 +128,10 @@ members_takes control bytes n fits e =
     let place-is = t-hops.1 in
     let octets-are : optional address_of to.0.0 ≡ optional (λ (d : DestinationView). address_spelling d.network d.address) hops.0.0 = ap (optional address_of) place-is ∙ same_octets hops.0.0 in
     let joined : bytes ≡ members_spelling (npdu control hops.0.0 from.0.0 message.0.0 message.0.1) =
-      t-to.0.parts ∙ ap (λ (x : List ℕ). x ++ to.0.1) octets-are
-      ∙ ap (λ (x : List ℕ). optional (λ (d : DestinationView). address_spelling d.network d.address) hops.0.0 ++ x)
-        (t-from.0.parts ∙ ap (λ (x : List ℕ). optional address_of from.0.0 ++ x)
-        (t-hops.0.parts ∙ ap (λ (x : List ℕ). optional (λ (d : DestinationView). d.hops ∷ []) hops.0.0 ++ x) t-message.0.parts)) in
+    t-to.0.parts ∙ ap (λ (x : List ℕ). x ++ to.0.1) octets-are
+    ∙ ap (λ (x : List ℕ). optional (λ (d : DestinationView). address_spelling d.network d.address) hops.0.0 ++ x)
+    (t-from.0.parts ∙ ap (λ (x : List ℕ). optional address_of from.0.0 ++ x)
+    (t-hops.0.parts ∙ ap (λ (x : List ℕ). optional (λ (d : DestinationView). d.hops ∷ []) hops.0.0 ++ x) t-message.0.parts)) in
     subst (IsMembers control bytes) (ok_is (npdu control hops.0.0 from.0.0 message.0.0 message.0.1) n message.2)
     record {
       is = joined;
@@ -150,8 +149,8 @@ control_takes : (control : ℕ) (bytes : List ℕ) (n : NpduView) → control < 
 unfolding npdu_spelling
 control_takes control bytes n lt clear m =
     let octet : control ≡ control_octet n =
-      sum_is control lt clear
-      ∙ rw (sym m.message, sym m.destination, sym m.source, sym m.expecting, sym m.priority) refl in
+    sum_is control lt clear
+    ∙ rw (sym m.message, sym m.destination, sym m.source, sym m.expecting, sym m.priority) refl in
     record {
       fits = record { destination = m.fits_destination; source = m.fits_source; message = m.fits_message; priority = omega (arith, m.priority) };
       is = ap (λ (c : ℕ). 1 ∷ c ∷ bytes) octet ∙ ap (λ (x : List ℕ). 1 ∷ control_octet n ∷ x) m.is;
@@ -163,8 +162,8 @@ npdu_takes [] n fits e = absurd cc
 npdu_takes (version ∷ []) n fits e =
     let g = where_ok (eqb version 1) Version (control_at []) n e in absurd (refused g.1)
   where
-  refused : control_at [] ≡ Ok n → ⊥
-  refused h = absurd cc
+    refused : control_at [] ≡ Ok n → ⊥
+    refused h = absurd cc
 npdu_takes (version ∷ control ∷ rest) n fits e =
     let g = where_ok (eqb version 1) Version (control_at (control ∷ rest)) n e in
     let h = unless_ok (has_bit control 64 || has_bit control 16) ReservedBits (members_at control rest) n g.1 in
@@ -181,7 +180,7 @@ npdu_again n bytes s =
     let tail-source = optional address_of n.source ++ tail-hops in
     let to = optional_again (place_at false) address_of destination_in destination_again (option_map place_of n.destination) tail-source (same_limits n.destination ∙ s.fits.destination) in
     let to-is : optional_at (place_at false) (is_some n.destination) (optional (λ (d : DestinationView). address_spelling d.network d.address) n.destination ++ tail-source) ≡ Ok (option_map place_of n.destination, tail-source) =
-      rw (same_presence n.destination, same_octets n.destination) at to in
+    rw (same_presence n.destination, same_octets n.destination) at to in
     let from = optional_again (place_at true) address_of route_fits source_again n.source tail-hops s.fits.source in
     let hops = hops_again n.destination tail-message in
     let message = optional_again message_at message_spelling (λ (m : MessageView). message_fits m.kind m.vendor) message_again n.message n.contents s.fits.message in
@@ -207,10 +206,10 @@ bvll_takes (a ∷ b ∷ c ∷ d ∷ rest) npdu fits e =
     let n-is : length rest + 4 ≡ n = omega (arith, eqb-true _ _ len.0) in
     let octets-are : to_be_bytes w16 n ≡ c ∷ d ∷ [] = be_bytes_2 (c ∷ d ∷ []) _ refl octets-fit refl in
     let is : bytes ≡ bvll_spelling rest =
-      ap (λ (x : ℕ). x ∷ b ∷ c ∷ d ∷ rest) (eqb-true _ _ version.0)
-      ∙ ap (λ (x : ℕ). 0x81 ∷ x ∷ c ∷ d ∷ rest) (eqb-true _ _ function.0)
-      ∙ ap (λ (x : List ℕ). 0x81 ∷ 0x0A ∷ (x ++ rest)) (sym octets-are)
-      ∙ ap (λ (x : ℕ). 0x81 ∷ 0x0A ∷ (to_be_bytes w16 x ++ rest)) (sym n-is) in
+    ap (λ (x : ℕ). x ∷ b ∷ c ∷ d ∷ rest) (eqb-true _ _ version.0)
+    ∙ ap (λ (x : ℕ). 0x81 ∷ x ∷ c ∷ d ∷ rest) (eqb-true _ _ function.0)
+    ∙ ap (λ (x : List ℕ). 0x81 ∷ 0x0A ∷ (x ++ rest)) (sym octets-are)
+    ∙ ap (λ (x : ℕ). 0x81 ∷ 0x0A ∷ (to_be_bytes w16 x ++ rest)) (sym n-is) in
     subst (λ (x : List ℕ). SpellsBvll x bytes) (ok_is rest npdu len.1)
     (record { fits = omega (arith, n-is, octets-fit 0, octets-fit 1); is = is })
 

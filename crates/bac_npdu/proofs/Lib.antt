@@ -2,3 +2,4 @@ pub mod Steps
 pub mod Members
 pub mod Frames
 pub mod Datagrams
+pub mod Writing

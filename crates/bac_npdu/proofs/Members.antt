@@ -1,9 +1,9 @@
 -- The two laws of each member of an NPDU: what is read is spelled so, and what is spelled so is read.
-use Rattle.std.proofs.Common.{◌≡◌, ℕ, suc, ◌+◌, ◌<◌, ◌≤◌, ◌^◌, Bool, true, false, cond, ltb, List, [], ◌∷◌, ◌++◌, length, take, drop, Result, Ok, Err, Option, Some, None, refl, sym, ap, subst, ◌∙◌, append_assoc, arith, inl, inr, ◌⊎◌, IsTrue}
+use Rattle.std.proofs.Common.{◌≡◌, ℕ, ◌<◌, ◌^◌, Bool, true, false, cond, ltb, List, [], ◌∷◌, ◌++◌, length, take, drop, Result, Ok, Err, Option, Some, None, refl, sym, ap, subst, ◌∙◌, append_assoc, arith, inl, inr, IsTrue}
 use Rattle.std.specs.Prelude.{is_some}
 use Rattle.std.specs.Option.{option_map}
 use Rattle.std.specs.Int.{w16, from_be_bytes, to_be_bytes}
-use Rattle.std.proofs.lemmas.Bool.{cases_lt, ltb-false, ltb-true, le-ltb, lt-ltb, and_parts, and_from, or_cases}
+use Rattle.std.proofs.lemmas.Bool.{ltb-false, ltb-true, le-ltb, lt-ltb, and_parts, and_from}
 use Rattle.std.proofs.lemmas.List.{take_at, drop_at, take-append-drop, length-append, length-take-le}
 use Rattle.std.proofs.lemmas.Nat.{be_bytes_2, from_be_bytes-to_be_bytes_2}
 use Rattle.std.proofs.lemmas.Bool.Decides.{nat_tests}
@@ -12,7 +12,7 @@ use Rattle.bac_npdu.specs.declared.fault.FrameFault.TheVariants.{Truncated, BadN
 use Rattle.bac_npdu.specs.Peers.{RouteView, route_fits}
 use Rattle.bac_npdu.specs.Npdu.{DestinationView, MessageView, optional, all_of, address_spelling, message_spelling, destination_fits, message_fits}
 use Rattle.bac_npdu.specs.Reading.{◌>>=◌, IsBytes, octet_at, word_at, cut_at, network_in, count_in, address_at, place_at, optional_at, hops_at, message_at}
-use Rattle.bac_npdu.proofs.Steps.{IsBytes-drop, IsBytes-take, IsBytes-rest, bind_ok, chosen, unless_ok, where_ok, done, ok_is, Takes, Takes-then}
+use Rattle.bac_npdu.proofs.Steps.{IsBytes-drop, IsBytes-take, IsBytes-rest, bind_ok, chosen, unless_ok, where_ok, ok_is, Takes, Takes-then}
 
 -- ---- octets
 

@@ -1,5 +1,5 @@
 -- Reading from left to right, on lists alone.
-use Rattle.std.specs.Prelude.{◌≡◌, ℕ, ◌/◌, ◌%◌, ◌+◌, ◌≤◌, ◌<◌, slice_index, List, [], ◌∷◌, length, take, drop, Result, Ok, Err, Option, Some, None, Bool, true, false, nat_lt, ◌==◌, ◌&&◌, ◌||◌, if◌then◌else◌}
+use Rattle.std.specs.Prelude.{◌≡◌, ℕ, ◌/◌, ◌%◌, ◌<◌, slice_index, List, [], ◌∷◌, length, take, drop, Result, Ok, Err, Option, Some, None, Bool, true, false, nat_lt, ◌==◌, ◌&&◌, ◌||◌, if◌then◌else◌}
 use Rattle.std.specs.Int.{w16, from_be_bytes}
 use Rattle.bac_npdu.specs.declared.fault.FrameFault.{FrameFault}
 use Rattle.bac_npdu.specs.declared.fault.FrameFault.TheVariants.{Truncated, Version, ReservedBits, BadNet, BadLength, NotUnicast}
@@ -90,9 +90,9 @@ unfoldable pub bvll_at : List ℕ → Result (List ℕ) FrameFault
 bvll_at bytes =
     if nat_lt (length bytes) 4 then Err Truncated else
     (if slice_index bytes 0 == 0x81 then
-      (if slice_index bytes 1 == 0x0A then
-        (if from_be_bytes w16 (take 2 (drop 2 bytes)) == length bytes then Ok (drop 4 bytes) else Err BadLength)
-      else Err NotUnicast)
+    (if slice_index bytes 1 == 0x0A then
+    (if from_be_bytes w16 (take 2 (drop 2 bytes)) == length bytes then Ok (drop 4 bytes) else Err BadLength)
+    else Err NotUnicast)
     else Err Version)
 
 -- what a reader answered, seen by view and rest, is what reading on lists gives

@@ -1,5 +1,4 @@
 -- The plain values of routes, peers and NPDUs.
-use Rattle.std.specs.Prelude.{ℕ, List, Option}
 use Rattle.std.specs.Option.{option_map}
 use Rattle.bac_npdu.specs.declared.route.Route.{Route}
 use Rattle.bac_npdu.specs.declared.peer.Peer.{Peer}

@@ -19,9 +19,12 @@ mod route_order;
 pub use address::Address;
 pub use bvll::read_bvll;
 pub use datagram_reading::read_datagram;
-//pub use datagram_writing::write_datagram;
+pub use datagram_writing::write_datagram;
 pub use fault::{Dropped, FrameFault};
-pub use laws::{frame_arrives, one_bvll_spelling, one_meaning, one_npdu_spelling, peers_in_order, routed_frame_means_nothing};
+pub use laws::{
+    frame_arrives, one_bvll_spelling, one_meaning, one_npdu_spelling, peers_in_order,
+    routed_frame_means_nothing,
+};
 pub use npdu::{Destination, Message, Npdu};
 pub use npdu_reading::read_npdu;
 pub use peer::Peer;

@@ -104,10 +104,7 @@ fn source(octets: &[u8], is_there: bool) -> Result<(Option<Route>, &[u8]), Frame
     ))
 }
 
-fn destination_place(
-    octets: &[u8],
-    is_there: bool,
-) -> Result<(Option<Place>, &[u8]), FrameFault>
+fn destination_place(octets: &[u8], is_there: bool) -> Result<(Option<Place>, &[u8]), FrameFault>
     ensures reads { Reads (option_map place_view) (λ r. r.now) octets.now result (optional_at (place_at false) is_there) }
     ensures fits { IfOk result (λ r. MatchOption r.0 (Unit {0}) (λ p. IsTrue (destination_fits p.network (length (address_view p.address))))) }
 {
@@ -140,10 +137,7 @@ fn destination(
     ))
 }
 
-fn optional_message(
-    octets: &[u8],
-    is_there: bool,
-) -> Result<(Option<Message>, &[u8]), FrameFault>
+fn optional_message(octets: &[u8], is_there: bool) -> Result<(Option<Message>, &[u8]), FrameFault>
     ensures { Reads (option_map message_view) (λ r. r.now) octets.now result (optional_at message_at is_there) }
 {
     if !is_there {

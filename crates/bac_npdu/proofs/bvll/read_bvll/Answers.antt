@@ -1,6 +1,3 @@
-use Rattle.std.proofs.Common.{◌≡◌, Ok, Err, sym, ◌∙◌}
-use Rattle.bac_npdu.specs.Npdu.{SpellsBvll}
-use Rattle.bac_npdu.specs.Reading.{bvll_at}
 use Rattle.bac_npdu.proofs.Steps.{ok_by, err_by}
 use Rattle.bac_npdu.proofs.Frames.{bvll_takes, bvll_again}
 use Rattle.bac_npdu.proofs.bvll.read_bvll.Goals as goal

@@ -1,5 +1,5 @@
 use Rattle.std.proofs.Common.{rules}
-use Rattle.bac_npdu.specs.declared.fault.Dropped.TheVariants.{Bvll, Npdu, Routed, NetworkMessage}
+use Rattle.bac_npdu.specs.declared.fault.Dropped.TheVariants.{Npdu, Routed, NetworkMessage}
 use Rattle.bac_npdu.proofs.Datagrams.{cause_none}
 use Rattle.bac_npdu.proofs.datagram_reading.read_datagram.Goals as goal
 

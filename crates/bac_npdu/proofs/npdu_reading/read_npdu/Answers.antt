@@ -1,6 +1,3 @@
-use Rattle.std.proofs.Common.{◌≡◌, Ok, Err, sym, ◌∙◌}
-use Rattle.bac_npdu.specs.Npdu.{SpellsNpdu}
-use Rattle.bac_npdu.specs.Reading.{npdu_at}
 use Rattle.bac_npdu.specs.Views.{npdu_view}
 use Rattle.bac_npdu.proofs.Steps.{ok_by, err_by}
 use Rattle.bac_npdu.proofs.Frames.{npdu_takes, npdu_again}
