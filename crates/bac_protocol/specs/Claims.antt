@@ -6,10 +6,9 @@ use Rattle.bac_segment.specs.Limits.{RETRIES}
 use Rattle.bac_segment.specs.Pieces.{piece_at}
 use Rattle.bac_segment.specs.Window.{Outgoing, Incoming}
 use Rattle.bac_protocol.specs.Times.{LIFE}
-use Rattle.bac_protocol.specs.Sizes.{Settings}
 use Rattle.bac_protocol.specs.Service.{Octets}
 use Rattle.bac_protocol.specs.Client.{Ask, Phase, Ticket}
-use Rattle.bac_protocol.specs.Client.Phase.{Sending, Awaiting, Collecting, Over}
+use Rattle.bac_protocol.specs.Client.Phase.{Sending, Awaiting, Collecting}
 use Rattle.bac_protocol.specs.Server.{Transfer, State, Entry, is_live}
 use Rattle.bac_protocol.specs.Server.State.{Receiving, Done, Giving, Dropped}
 use Rattle.bac_protocol.specs.Transaction.{Key, Rules, Copy}

@@ -8,9 +8,8 @@ use Rattle.bac_segment.specs.Window.{Outgoing, outgoing, in_window, is_finished,
 use Rattle.bac_segment.specs.Window.Taking.{Taken, Complete, Nak, TooLong}
 use Rattle.bac_protocol.specs.Times.{T_OUT, T_SEG, WAIT_SEG, DEADLINE, HOLD}
 use Rattle.bac_protocol.specs.Sizes.{Settings}
-use Rattle.bac_protocol.specs.Service.{Octets, Request, Reply, Reply as reply, Ending, Readable}
+use Rattle.bac_protocol.specs.Service.{Octets, Request, Reply as reply, Ending, Readable}
 use Rattle.bac_protocol.specs.Service.Ending.{Answered, Rejected, Aborted, TimedOut, Expired}
-
 use Rattle.bac_protocol.specs.Wire.{is_from_server, segment_of, pieces_from}
 
 -- an accepted ask: the moment of its first sending, its service choice, whether its service data go in one APDU, and their pieces

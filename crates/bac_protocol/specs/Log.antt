@@ -1,6 +1,6 @@
 -- What was asked, performed and ended, newest first, and which such logs are right with the servers' stores.
 -- Nothing here knows of segments, numbers modulo 256, windows, timers, tables or invoke IDs.
-use Rattle.std.specs.Prelude.{◌≡◌, ℕ, zero, suc, ◌≢◌, ◌⊎◌, Bool, List, [], ◌∷◌, if◌then◌else◌, nat_eq}
+use Rattle.std.specs.Prelude.{◌≡◌, ℕ, suc, ◌≢◌, ◌⊎◌, List, [], ◌∷◌, if◌then◌else◌, nat_eq}
 use Rattle.bac_protocol.specs.Service.{Octets, Request, Reply, Outcome, Ending}
 use Rattle.bac_protocol.specs.Service.Outcome.{Replies}
 use Rattle.bac_protocol.specs.Service.Ending.{Answered, Rejected, Aborted, TimedOut, Expired}

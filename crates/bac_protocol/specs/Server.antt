@@ -3,7 +3,6 @@ use Rattle.std.specs.Prelude.{ℕ, ◌+◌, ◌-◌, ◌%◌, Bool, true, false,
 use Rattle.std.specs.Str.{bytes_eq}
 use Rattle.bac_apdu.specs.Apdu.{Apdu, Apdu as apdu, Segment}
 use Rattle.bac_apdu.specs.Apdu.Apdu.{ConfirmedRequest, SimpleAck, ComplexAck, SegmentAck, Reject, Abort}
-
 use Rattle.bac_segment.specs.Pieces.{join, piece_at, pieces_of}
 use Rattle.bac_segment.specs.Window.{Outgoing, outgoing, in_window, is_finished, acknowledged, again, resume, Incoming, incoming, Taking, takes}
 use Rattle.bac_segment.specs.Window.Taking.{Taken, Complete, Nak, TooLong}

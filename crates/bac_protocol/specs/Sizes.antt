@@ -1,5 +1,5 @@
 -- What an end says of itself, and what fits into its APDUs (clauses 20.1.2.4, 20.1.2.5 and 5.2).
-use Rattle.std.specs.Prelude.{ℕ, ◌+◌, ◌^◌, min, Bool, true, ◌||◌, if◌then◌else◌, nat_eq, nat_le}
+use Rattle.std.specs.Prelude.{ℕ, ◌^◌, min, Bool, ◌||◌, if◌then◌else◌, nat_eq, nat_le}
 
 -- what a node is set to
 pub record Settings : Type 0 where
