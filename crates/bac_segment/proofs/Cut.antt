@@ -1,5 +1,5 @@
 -- The pieces that octets are cut into.
-use Rattle.std.proofs.Common.{◌≡◌, ℕ, zero, suc, ◌+◌, ◌-◌, ◌*◌, ◌<◌, ◌≤◌, min, List, [], ◌∷◌, ◌++◌, length, take, drop, map, refl, ap, sym, ◌∙◌, arith, length-drop}
+use Rattle.std.proofs.Common.{◌≡◌, ℕ, zero, suc, ◌+◌, ◌-◌, ◌*◌, ◌<◌, ◌≤◌, min, List, [], ◌++◌, length, take, drop, map, refl, ap, sym, ◌∙◌, arith, length-drop}
 use Rattle.std.proofs.Math.Nat.{mul-le-mul_right}
 use Rattle.std.proofs.Math.Seq.{take-add}
 use Rattle.std.proofs.lemmas.Grind.{common_steps, div_ceil_times}
@@ -45,7 +45,7 @@ map-piece_at pieces first window =
     let taken = length-take window (drop first pieces) in
     let left = length-drop first pieces in
     ext_get_or [] _ _ (omega arith) (λ i within.
-        let inside : i < min window (length pieces - first) = omega arith in
-        get_or-map-range_with_len (piece_at pieces) first _ i (first + i) [] inside refl
-        ∙ sym (get_or-drop first pieces i [])
-        ∙ sym (get_or-take window (drop first pieces) i [] (omega arith)))
+    let inside : i < min window (length pieces - first) = omega arith in
+    get_or-map-range_with_len (piece_at pieces) first _ i (first + i) [] inside refl
+    ∙ sym (get_or-drop first pieces i [])
+    ∙ sym (get_or-take window (drop first pieces) i [] (omega arith)))

@@ -1,6 +1,6 @@
 -- Parts that are taken one after another.
-use Rattle.std.proofs.Common.{◌≡◌, ℕ, ◌+◌, ◌≤◌, List, [], ◌∷◌, ◌++◌, length, map, refl, ap, sym, subst, ◌∙◌, arith, length-append, append_assoc}
-use Rattle.std.proofs.lemmas.List.{append-nil, map_push, length_push}
+use Rattle.std.proofs.Common.{◌≡◌, ℕ, ◌+◌, ◌≤◌, List, [], ◌∷◌, ◌++◌, length, ap, sym, ◌∙◌, arith, length-append, append_assoc}
+use Rattle.std.proofs.lemmas.List.{append-nil, length_push}
 use Rattle.bac_segment.specs.Kept.{CountsOctets}
 use Rattle.bac_segment.specs.Limits.{DATA}
 use Rattle.bac_segment.specs.Pieces.{join}
@@ -18,8 +18,8 @@ CountsOctets-push parts more octets total fresh counts is short few =
     let octets_are = ap (λ l. length (join l)) is ∙ length-join-push parts octets in
     let parts_are = ap length is ∙ length_push parts octets in
     record {
-        counted = omega (arith, octets_are, counts.counted);
-        short = omega (arith, counts.counted);
-        few = omega (arith, parts_are);
-        fresh = omega (arith, parts_are, counts.fresh);
+      counted = omega (arith, octets_are, counts.counted);
+      short = omega (arith, counts.counted);
+      few = omega (arith, parts_are);
+      fresh = omega (arith, parts_are, counts.fresh);
     }

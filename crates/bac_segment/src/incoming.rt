@@ -112,7 +112,12 @@ impl Incoming {
     }
 
     /// A segment comes: its number on the wire, whether more follow, and its octets.
-    pub fn on_segment(&mut self, number: u8, more: bool, octets: &[u8]) -> Result<Step, SegmentFault>
+    pub fn on_segment(
+        &mut self,
+        number: u8,
+        more: bool,
+        octets: &[u8],
+    ) -> Result<Step, SegmentFault>
         ensures { Takes (takes self.old number more octets.now) self.old result self.new }
     {
         let step = self.answer(number, more, octets)?;

@@ -6,7 +6,12 @@
 #![tactic(auto)]
 
 mod incoming;
+mod laws;
 mod outgoing;
 
 pub use incoming::{Incoming, SegmentFault, Step};
+pub use laws::numbers_in_reach_differ;
 pub use outgoing::{Outgoing, Position, Progress, Timeout};
+
+#[cfg(test)]
+mod tests;

@@ -1,7 +1,7 @@
 //! The sender of a transfer. It keeps the octets whole, and cuts where a piece is asked for.
 ghost use Rattle.std.specs.Prelude.{◌≡◌, ◌+◌, ◌-◌, ◌<◌, ◌≤◌, ◌↔◌, length, take, drop, map, IsTrue};
 ghost use Rattle.std.specs.List.{range_with_len};
-ghost use Rattle.bac_segment.specs.Pieces.{join, piece_at, pieces_of};
+ghost use Rattle.bac_segment.specs.Pieces.{ArePieces, join, piece_at, pieces_of};
 ghost use Rattle.bac_segment.specs.Window.{outgoing, in_window, window_pieces, is_finished, acknowledged, again, restart, resume};
 ghost use Rattle.bac_segment.specs.Answers.{Moves, TimesOut};
 
@@ -67,11 +67,21 @@ impl Outgoing {
     /// A sender of these octets in pieces of `size` octets, of which nothing was sent. Its first window is one piece.
     pub fn new(octets: Vec<u8>, size: usize) -> Outgoing
         requires { 1 ≤ size }
-        ensures { result ≡ outgoing (pieces_of size octets.items) }
+        ensures start { result ≡ outgoing (pieces_of size octets.items) }
+        ensures pieces { ArePieces size octets.items result.pieces }
     {
         let count = octets.len().div_ceil(size);
-        let at = Position { first: 0, window: 1, retries: RETRY_COUNT };
-        Outgoing { octets, size, count, at }
+        let at = Position {
+            first: 0,
+            window: 1,
+            retries: RETRY_COUNT,
+        };
+        Outgoing {
+            octets,
+            size,
+            count,
+            at,
+        }
     }
 
     /// The octets, whole.
@@ -140,7 +150,9 @@ impl Outgoing {
     /// Where its number is one of the window, the pieces up to that one are acknowledged, the window is the lesser
     /// of the two, and the retries are full.
     pub fn on_ack(&mut self, number: u8, window: u8, own: u8) -> Progress
-        ensures { Moves (acknowledged own self.old number window) self.old result self.new }
+        ensures moves { Moves (acknowledged own self.old number window) self.old result self.new }
+        ensures forward { self.old.first ≤ self.new.first }
+        ensures bounded { self.old.window ≤ own → self.new.window ≤ own }
     {
         let by = number.wrapping_sub((self.at.first % 256) as u8) as usize;
         if by >= self.in_window() {
@@ -151,7 +163,11 @@ impl Outgoing {
             window: window.min(own),
             retries: RETRY_COUNT,
         };
-        if self.is_finished() { Progress::Finished } else { Progress::Moved }
+        if self.is_finished() {
+            Progress::Finished
+        } else {
+            Progress::Moved
+        }
     }
 
     /// Whether a retry is left.
@@ -176,7 +192,11 @@ impl Outgoing {
     pub fn restart(&mut self)
         ensures { self.new ≡ restart self.old }
     {
-        self.at = Position { first: 0, window: 1, retries: RETRY_COUNT };
+        self.at = Position {
+            first: 0,
+            window: 1,
+            retries: RETRY_COUNT,
+        };
     }
 
     /// The transfer goes on where it stands, with full retries.

@@ -1,6 +1,5 @@
 -- The piece begins within the octets.
-use Rattle.std.proofs.Common.{◌*◌, ◌<◌, length, arith, ap, take, drop, ◌∙◌, sym}
-use Rattle.bac_segment.specs.Pieces.{count_of}
+use Rattle.std.proofs.Common.{◌*◌, length, arith, ap, take, drop}
 use Rattle.bac_segment.proofs.Cut.{length-pieces_of, begins_within, piece_at-cut}
 use Rattle.bac_segment.proofs.outgoing.Outgoing.piece.Goals as goal
 
