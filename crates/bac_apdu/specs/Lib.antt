@@ -1,1 +1,2 @@
 pub mod Apdu
+pub mod Spelling

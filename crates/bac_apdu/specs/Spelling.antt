@@ -1,0 +1,70 @@
+-- The one spelling of each APDU (clause 20.1).
+use Rattle.std.specs.Prelude.{◌≡◌, ℕ, ◌+◌, ◌*◌, ◌/◌, ◌%◌, ◌^◌, Bool, true, false, nat_lt, ◌&&◌, if◌then◌else◌, IsTrue, List, [], ◌∷◌, ◌++◌, Option, Some, None}
+use Rattle.std.specs.Int.{w16, w32, to_be_bytes}
+use Rattle.bac_apdu.specs.Apdu.{Segment, Apdu, ConfirmedRequest, UnconfirmedRequest, SimpleAck, ComplexAck, SegmentAck, Error, Reject, Abort}
+
+-- windows are 1 to 127 (clause 20.1.2.8)
+abbrev pub window_fits : ℕ → Bool
+window_fits window = nat_lt 0 window && nat_lt window 128
+
+abbrev pub segment_fits : Option Segment → Bool
+segment_fits None = true
+segment_fits (Some s) = window_fits s.window
+
+-- which APDUs have a spelling: the codes 0 to 7 and 0 to 5 of clause 20.1.2.4 and 20.1.2.5, windows, and class and code that are Enumerated of at most four octets (own limit of this profile)
+unfoldable pub apdu_fits : Apdu → Bool
+apdu_fits (ConfirmedRequest takes_segments max_segments max_apdu invoke segment choice service) = nat_lt max_segments 8 && nat_lt max_apdu 6 && segment_fits segment
+apdu_fits (UnconfirmedRequest choice service) = true
+apdu_fits (SimpleAck invoke choice) = true
+apdu_fits (ComplexAck invoke segment choice service) = segment_fits segment
+apdu_fits (SegmentAck nak server invoke number window) = window_fits window
+apdu_fits (Error invoke choice class code) = nat_lt class (2 ^ 32) && nat_lt code (2 ^ 32)
+apdu_fits (Reject invoke reason) = true
+apdu_fits (Abort server invoke reason) = true
+
+abbrev pub bit : Bool → ℕ → ℕ
+bit b weight = if b then weight else 0
+
+-- bit 3 says that the APDU is a segment, and bit 2 that more follow
+abbrev pub segment_bits : Option Segment → ℕ
+segment_bits None = 0
+segment_bits (Some s) = 8 + bit s.more 4
+
+abbrev pub segment_octets : Option Segment → List ℕ
+segment_octets None = []
+segment_octets (Some s) = s.number ∷ s.window ∷ []
+
+-- an application Enumerated: tag number 9 and the count of octets, then the number in the fewest octets (clause 20.2.11)
+abbrev pub enumerated_spelling : ℕ → List ℕ
+enumerated_spelling n =
+    if nat_lt n 256 then 0x91 ∷ n ∷ [] else
+    (if nat_lt n 65536 then 0x92 ∷ to_be_bytes w16 n else
+    (if nat_lt n 16777216 then 0x93 ∷ n / 65536 ∷ to_be_bytes w16 (n % 65536) else
+    0x94 ∷ to_be_bytes w32 n))
+
+-- the type stands in bits 7 to 4 of the first octet: 16 times the type is its weight
+unfoldable pub apdu_spelling : Apdu → List ℕ
+apdu_spelling (ConfirmedRequest takes_segments max_segments max_apdu invoke segment choice service) =
+    (segment_bits segment + bit takes_segments 2) ∷ (16 * max_segments + max_apdu) ∷ invoke ∷ (segment_octets segment ++ choice ∷ service)
+apdu_spelling (UnconfirmedRequest choice service) = 0x10 ∷ choice ∷ service
+apdu_spelling (SimpleAck invoke choice) = 0x20 ∷ invoke ∷ choice ∷ []
+apdu_spelling (ComplexAck invoke segment choice service) = (0x30 + segment_bits segment) ∷ invoke ∷ (segment_octets segment ++ choice ∷ service)
+apdu_spelling (SegmentAck nak server invoke number window) = (0x40 + bit nak 2 + bit server 1) ∷ invoke ∷ number ∷ window ∷ []
+apdu_spelling (Error invoke choice class code) = 0x50 ∷ invoke ∷ choice ∷ (enumerated_spelling class ++ enumerated_spelling code)
+apdu_spelling (Reject invoke reason) = 0x60 ∷ invoke ∷ reason ∷ []
+apdu_spelling (Abort server invoke reason) = (0x70 + bit server 1) ∷ invoke ∷ reason ∷ []
+
+pub record SpellsApdu (apdu : Apdu) (octets : List ℕ) : Type 0 where
+  pub fits : IsTrue (apdu_fits apdu)
+  pub is : octets ≡ apdu_spelling apdu
+
+-- of these alone a reply is expected
+abbrev pub is_confirmed_request : Apdu → Bool
+is_confirmed_request (ConfirmedRequest takes_segments max_segments max_apdu invoke segment choice service) = true
+is_confirmed_request (UnconfirmedRequest choice service) = false
+is_confirmed_request (SimpleAck invoke choice) = false
+is_confirmed_request (ComplexAck invoke segment choice service) = false
+is_confirmed_request (SegmentAck nak server invoke number window) = false
+is_confirmed_request (Error invoke choice class code) = false
+is_confirmed_request (Reject invoke reason) = false
+is_confirmed_request (Abort server invoke reason) = false

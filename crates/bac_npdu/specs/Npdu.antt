@@ -1,0 +1,92 @@
+-- BVLL and NPDU: the one spelling of each (clause J.2, clause 6.2).
+use Rattle.std.specs.Prelude.{◌≡◌, ℕ, ◌+◌, ◌<◌, ◌^◌, Bool, true, nat_lt, ◌==◌, ◌&&◌, ◌||◌, if◌then◌else◌, IsTrue, List, [], ◌∷◌, ◌++◌, length, Option, Some, None, is_some}
+use Rattle.std.specs.Int.{w16, to_be_bytes}
+use Rattle.bac_npdu.specs.Peers.{RouteView, route_fits}
+
+-- where an NPDU is to be routed to (clause 6.2.2); network 65,535 is the global broadcast, and no octets of address a broadcast on the network
+pub record DestinationView : Type 0 where
+  pub network : ℕ
+  pub address : List ℕ
+  pub hops : ℕ
+
+-- a network message: its type, and from type 128 on the vendor's identifier (clause 6.2.4)
+pub record MessageView : Type 0 where
+  pub kind : ℕ
+  pub vendor : Option ℕ
+
+-- the contents are the APDU, or the raw contents of the network message
+pub record NpduView : Type 0 where
+  pub destination : Option DestinationView
+  pub source : Option RouteView
+  pub expecting : Bool
+  pub priority : ℕ
+  pub message : Option MessageView
+  pub contents : List ℕ
+
+-- addresses have at most 8 octets, and none where the network is 65,535 (both own limits of this profile)
+abbrev pub destination_fits : ℕ → ℕ → Bool
+destination_fits network octets = nat_lt 0 network && nat_lt network 65536 && nat_lt octets 9 && (nat_lt network 65535 || octets == 0)
+
+abbrev pub message_fits : ℕ → Option ℕ → Bool
+message_fits kind None = nat_lt kind 128
+message_fits kind (Some vendor) = nat_lt 127 kind && nat_lt vendor 65536
+
+abbrev pub all_of : {A : Type 0} → (A → Bool) → Option A → Bool
+all_of test None = true
+all_of test (Some x) = test x
+
+-- which NPDUs have a spelling
+unfoldable pub npdu_fits : NpduView → Bool
+npdu_fits n =
+    all_of (λ d. destination_fits d.network (length d.address)) n.destination
+    && all_of route_fits n.source
+    && all_of (λ m. message_fits m.kind m.vendor) n.message
+    && nat_lt n.priority 4
+
+abbrev pub bit : Bool → ℕ → ℕ
+bit b weight = if b then weight else 0
+
+-- the control octet: bit 7 a network message, 5 a destination, 3 a source, 2 expecting reply, 1 and 0 the priority (clause 6.2.2)
+abbrev pub control_octet : NpduView → ℕ
+control_octet n = bit (is_some n.message) 128 + bit (is_some n.destination) 32 + bit (is_some n.source) 8 + bit n.expecting 4 + n.priority
+
+-- a network's number, the count of the address octets, and these
+abbrev pub address_spelling : ℕ → List ℕ → List ℕ
+address_spelling network address = to_be_bytes w16 network ++ length address ∷ address
+
+abbrev pub destination_spelling : Option DestinationView → List ℕ
+destination_spelling None = []
+destination_spelling (Some d) = address_spelling d.network d.address
+
+abbrev pub source_spelling : Option RouteView → List ℕ
+source_spelling None = []
+source_spelling (Some r) = address_spelling r.network r.address
+
+abbrev pub hops_spelling : Option DestinationView → List ℕ
+hops_spelling None = []
+hops_spelling (Some d) = d.hops ∷ []
+
+abbrev pub vendor_spelling : Option ℕ → List ℕ
+vendor_spelling None = []
+vendor_spelling (Some vendor) = to_be_bytes w16 vendor
+
+abbrev pub message_spelling : Option MessageView → List ℕ
+message_spelling None = []
+message_spelling (Some m) = m.kind ∷ vendor_spelling m.vendor
+
+-- version 1, the control octet, the members that it announces, and the contents
+unfoldable pub npdu_spelling : NpduView → List ℕ
+npdu_spelling n =
+    1 ∷ control_octet n ∷ (destination_spelling n.destination ++ (source_spelling n.source ++ (hops_spelling n.destination ++ (message_spelling n.message ++ n.contents))))
+
+pub record SpellsNpdu (n : NpduView) (octets : List ℕ) : Type 0 where
+  pub fits : IsTrue (npdu_fits n)
+  pub is : octets ≡ npdu_spelling n
+
+-- Original-Unicast-NPDU (clause J.2.11): the length counts the four octets in front of the NPDU too
+unfoldable pub bvll_spelling : List ℕ → List ℕ
+bvll_spelling npdu = 0x81 ∷ 0x0A ∷ (to_be_bytes w16 (length npdu + 4) ++ npdu)
+
+pub record SpellsBvll (npdu : List ℕ) (octets : List ℕ) : Type 0 where
+  pub fits : length npdu + 4 < 2 ^ 16
+  pub is : octets ≡ bvll_spelling npdu

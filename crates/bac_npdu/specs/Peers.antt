@@ -1,0 +1,28 @@
+-- Peers as plain values, and their order.
+use Rattle.std.specs.Prelude.{ℕ, List, Option, Bool, nat_lt, ◌&&◌, length}
+use Rattle.std.specs.Ordering.{nat_cmp, on, then_cmp}
+use Rattle.std.specs.declared.cmp.Ordering.{Ordering}
+use Rattle.std.specs.Option.{option_cmp}
+use Rattle.std.specs.Cmp.Lexicographic.{slice_cmp}
+
+-- a device on a network behind a router: the network's number, and the device's address there (clause 6.2.2)
+pub record RouteView : Type 0 where
+  pub network : ℕ
+  pub address : List ℕ
+
+-- the other end of a transaction: its BACnet/IP address (four octets of IPv4 and two of the UDP port, clause J.1.2), and the way on from there
+pub record PeerView : Type 0 where
+  pub link : List ℕ
+  pub route : Option RouteView
+
+-- networks are numbered 1 to 65,534, and addresses have 1 to 8 octets (8 is the own limit of this profile)
+abbrev pub route_fits : RouteView → Bool
+route_fits r = nat_lt 0 r.network && nat_lt r.network 65535 && nat_lt 0 (length r.address) && nat_lt (length r.address) 9
+
+-- by network number, then by the address octets as lists, a front first
+abbrev pub route_cmp : RouteView → RouteView → Ordering
+route_cmp = then_cmp (on (λ r. r.network) nat_cmp) (on (λ r. r.address) (slice_cmp nat_cmp))
+
+-- by link, then no route before a route, then by route
+abbrev pub peer_cmp : PeerView → PeerView → Ordering
+peer_cmp = then_cmp (on (λ p. p.link) (slice_cmp nat_cmp)) (on (λ p. p.route) (option_cmp route_cmp))
