@@ -1,0 +1,9 @@
+pub mod Octets
+pub mod Limits
+pub mod Spelling
+pub mod Number
+pub mod Value
+pub mod Element
+pub mod Data
+pub mod Reading
+pub mod Views

@@ -1,1 +1,34 @@
+//! Tags, values and data of BACnet (clause 20.2), read from and written as octets.
+//!
+//! Each tag, value and element has exactly one spelling. Readers accept exactly the spellings, name a [`FaultKind`] for all
+//! else, and take no memory. Writers append the one spelling, or answer [`NoMemory`] and change nothing.
 #![tactic(auto)]
+
+mod contents;
+mod data;
+mod data_reading;
+mod element;
+mod element_reading;
+mod fault;
+mod memory;
+mod octets;
+mod parts;
+mod parts_octets;
+mod parts_reading;
+mod tag;
+mod tag_reading;
+mod value;
+
+pub use contents::take_contents;
+pub use data::Data;
+pub use data_reading::{one_data_front, read_data, take_data};
+pub use element::Element;
+pub use element_reading::{one_element_spelling, read_element, take_element};
+pub use fault::{Fault, FaultKind};
+pub use memory::NoMemory;
+pub use octets::Octets;
+pub use parts::Parts;
+pub use parts_reading::{check_data_at, copy_out, read_tag_at};
+pub use tag::{Class, Form, Tag};
+pub use tag_reading::{one_tag_spelling, read_tag, take_tag};
+pub use value::{BitString, CharacterString, ObjectIdentifier, OctetString, Value};

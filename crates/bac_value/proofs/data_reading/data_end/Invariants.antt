@@ -1,0 +1,14 @@
+use Rattle.std.proofs.Common.{◌≡◌, ◌<◌, ◌≤◌, ◌-◌, ℕ, length, drop, reverse}
+use Rattle.bac_value.specs.Reading.{data_at, data_of}
+use Rattle.bac_value.proofs.data_reading.data_end.Given as goal
+
+abbrev pub invariant-loop-opened : goal.invariant-loop-opened
+invariant-loop-opened g l =
+    let octets = g.O.Octets.octets in
+    record {
+      fewer : length (octets l.rest) ≤ length (octets l.fn.octets);
+      same : (steps : ℕ) × (length (octets l.rest) < steps) × (data_at steps (reverse l.opened.items) (octets l.rest) ≡ data_of (octets l.fn.octets));
+    }
+
+abbrev pub decreases-loop-opened : goal.decreases-loop-opened
+decreases-loop-opened g l = length (g.O.Octets.octets l.rest)

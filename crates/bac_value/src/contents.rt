@@ -1,0 +1,155 @@
+ghost use Rattle.std.specs.Prelude.{◌≡◌, ◌<◌, ◌≤◌, ◌+◌, ◌-◌, ◌%◌, ◌^◌, ◌==◌, ◌&&◌, ◌∷◌, length, drop, take, slice_index, MatchOption};
+ghost use Rattle.bac_value.specs.Limits.{bits_fit};
+ghost use Rattle.bac_value.specs.Reading.{Reads, raw_at, kind_at, class_at, contents_at, length_in, flaw, is_longer_unsigned, is_longer_signed};
+ghost use Rattle.bac_value.specs.Views.{mark};
+
+use crate::fault::FaultKind;
+use crate::octets::Octets;
+use crate::tag::{Class, Form, Tag};
+
+fn is_length_in(kind: u8, len: usize) -> bool
+    ensures { result ≡ length_in kind len }
+{
+    match kind {
+        0 | 1 => len == 0,
+        2 | 3 => len > 0 && len < 9,
+        5 => len == 8,
+        6 => true,
+        7 | 8 => len > 0,
+        9 => len > 0 && len < 5,
+        _ => len == 4,
+    }
+}
+
+fn first_two<O: Octets>(octets: O) -> Option<(u8, u8)>
+    ensures { MatchOption result (length (O.octets octets) ≤ 1)
+        (λ r. (1 < length (O.octets octets)) × (slice_index (O.octets octets) 0 ≡ r.0) × (slice_index (O.octets octets) 1 ≡ r.1)) }
+{
+    let (first, rest) = octets.first()?;
+    let (second, _) = rest.first()?;
+    Some((first, second))
+}
+
+fn is_unsigned_longer<O: Octets>(contents: O) -> bool
+    ensures { result ≡ is_longer_unsigned (O.octets contents) }
+{
+    match first_two(contents) {
+        Some((first, _)) => first == 0,
+        None => false,
+    }
+}
+
+fn is_signed_longer<O: Octets>(contents: O) -> bool
+    ensures { result ≡ is_longer_signed (O.octets contents) }
+{
+    match first_two(contents) {
+        Some((first, second)) => (first == 0 && second < 128) || (first == 255 && second > 127),
+        None => false,
+    }
+}
+
+fn has_zeros_below(octet: u8, count: u8) -> bool
+    requires { count < 8 }
+    ensures { result ≡ (octet % 2 ^ count == 0) }
+{
+    octet % (1 << count) == 0
+}
+
+fn last_octet<O: Octets>(octets: O) -> u8
+    requires { 0 < length (O.octets octets) }
+    ensures { result ≡ slice_index (O.octets octets) (length (O.octets octets) - 1) }
+{
+    let (_, last) = octets.split(octets.len() - 1);
+    match last.first() {
+        Some((last, _)) => last,
+        None => unreachable!(),
+    }
+}
+
+/// Whether a bit string may have so many unused bits and these octets of bits (clause 20.2.10; own rule of this profile).
+pub(crate) fn are_bits_fit<O: Octets>(unused: u8, octets: O) -> bool
+    ensures { result ≡ bits_fit unused (O.octets octets) }
+{
+    if unused > 7 {
+        false
+    } else if octets.len() == 0 {
+        unused == 0
+    } else {
+        has_zeros_below(last_octet(octets), unused)
+    }
+}
+
+fn is_bit_string<O: Octets>(contents: O) -> bool
+    ensures { result ≡ bits_fit (slice_index (O.octets contents) 0) (drop 1 (O.octets contents)) }
+{
+    match contents.first() {
+        Some((unused, octets)) => are_bits_fit(unused, octets),
+        None => true,
+    }
+}
+
+fn flaw_in<O: Octets>(contents: O, kind: u8) -> Option<FaultKind>
+    ensures { result ≡ flaw kind (O.octets contents) }
+{
+    let flaw = match kind {
+        2 | 9 => is_unsigned_longer(contents).then_some(FaultKind::NotShortest),
+        3 => is_signed_longer(contents).then_some(FaultKind::NotShortest),
+        8 => (!is_bit_string(contents)).then_some(FaultKind::ReservedBits),
+        _ => None,
+    };
+    flaw
+}
+
+#[tactic(auto, unfolding(crate::specs::Reading::raw_at))]
+fn take_raw<O: Octets>(octets: O, len: usize) -> Result<(O, O), FaultKind>
+    ensures { Reads O.octets O.octets (O.octets octets) result (raw_at len) }
+{
+    if octets.len() < len {
+        return Err(FaultKind::Truncated);
+    }
+    Ok(octets.split(len))
+}
+
+/// `len` octets of contents of the kind of an application tag's number, and what is behind them.
+///
+/// This is how the contents of a context tag are read whose type is known. The length is tested first (`BadLength`), then that
+/// the octets are there (`Truncated`), then the octets themselves (`NotShortest`, `ReservedBits`).
+#[tactic(auto, unfolding(crate::specs::Reading::kind_at))]
+pub fn take_contents<O: Octets>(octets: O, kind: u8, len: usize) -> Result<(O, O), FaultKind>
+    ensures { Reads O.octets O.octets (O.octets octets) result (kind_at kind len) }
+{
+    if !is_length_in(kind, len) {
+        return Err(FaultKind::BadLength);
+    }
+    let (contents, rest) = take_raw(octets, len)?;
+    match flaw_in(contents, kind) {
+        Some(kind) => Err(kind),
+        None => Ok((contents, rest)),
+    }
+}
+
+#[tactic(auto, unfolding(crate::specs::Reading::class_at))]
+fn contents_of_class<O: Octets>(
+    octets: O,
+    class: Class,
+    number: u8,
+    len: usize,
+) -> Result<(O, O), FaultKind>
+    ensures { Reads O.octets O.octets (O.octets octets) result (class_at class number len) }
+{
+    match class {
+        Class::Application => take_contents(octets, number, len),
+        Class::Context => take_raw(octets, len),
+    }
+}
+
+/// What a tag has behind it, and what is behind that.
+#[tactic(auto, unfolding(crate::specs::Reading::contents_at))]
+pub(crate) fn contents_behind<O: Octets>(octets: O, tag: Tag) -> Result<(O, O), FaultKind>
+    ensures { Reads O.octets O.octets (O.octets octets) result (contents_at (mark tag) tag.form) }
+{
+    match tag.form {
+        Form::Length(len) => contents_of_class(octets, tag.class, tag.number, len as usize),
+        Form::Boolean(_) | Form::Opening | Form::Closing => Ok(octets.split(0)),
+    }
+}

@@ -1,0 +1,108 @@
+ghost use Rattle.std.specs.Prelude.{◌≡◌, ◌<◌, ◌≤◌, ◌+◌, ◌-◌, length, drop, take, reverse, IfOk, IfErr, IfSome, ℕ, List};
+ghost use Rattle.arrayvec.specs.ArrayVec.{array_vec_len};
+ghost use Rattle.bac_value.specs.Reading.{turn, Turns, ReadsData, Steps, step_at, data_of, IsDataTaken, IsDataRefused};
+ghost use Rattle.bac_value.specs.Data.{IsDataFront};
+
+use crate::data::Data;
+use crate::element_reading::take_element;
+use crate::fault::{Fault, FaultKind};
+use crate::octets::Octets;
+use crate::tag::Form;
+use arrayvec::ArrayVec;
+
+/// Opens or closes a tag; false where the data end before this tag.
+#[tactic(auto, unfolding(crate::specs::Reading::turn))]
+fn turn_at(opened: &mut ArrayVec<u8, 8>, form: Form, number: u8) -> Result<bool, FaultKind>
+    ensures { Turns (reverse opened.new.items) result (turn form number (reverse opened.old.items)) }
+{
+    match form {
+        Form::Length(_) | Form::Boolean(_) => Ok(true),
+        Form::Opening => {
+            if opened.is_full() {
+                return Err(FaultKind::TooDeep);
+            }
+            opened.push(number);
+            Ok(true)
+        }
+        Form::Closing => match opened.pop() {
+            None => Ok(false),
+            Some(last) => {
+                if last == number {
+                    Ok(true)
+                } else {
+                    Err(FaultKind::Unbalanced)
+                }
+            }
+        },
+    }
+}
+
+/// Goes over one element: what is behind it, or None where the data end before it.
+#[tactic(auto, unfolding(crate::specs::Reading::step_at))]
+fn step<O: Octets>(octets: O, opened: &mut ArrayVec<u8, 8>) -> Result<Option<O>, FaultKind>
+    ensures reads { Steps O.octets (reverse opened.new.items) result (step_at (reverse opened.old.items) (O.octets octets)) }
+    ensures onward { IfOk result (λ o. IfSome o (λ next. length (O.octets next) < length (O.octets octets))) }
+{
+    let (element, next) = take_element(octets)?;
+    let goes_on = turn_at(opened, element.tag.form, element.tag.number)?;
+    if goes_on { Ok(Some(next)) } else { Ok(None) }
+}
+
+/// What is behind the data at the front.
+fn data_end<O: Octets>(octets: O) -> Result<O, Fault>
+    ensures { ReadsData O.octets (O.octets octets) result (data_of (O.octets octets)) }
+{
+    let all = octets.len();
+    let mut opened: ArrayVec<u8, 8> = ArrayVec::new();
+    let mut rest = octets;
+    while rest.len() > 0 {
+        match step(rest, &mut opened) {
+            Ok(Some(next)) => rest = next,
+            Ok(None) => return Ok(rest),
+            Err(kind) => {
+                return Err(Fault {
+                    kind,
+                    at: all - rest.len(),
+                });
+            }
+        }
+    }
+    if opened.is_empty() {
+        Ok(rest)
+    } else {
+        Err(Fault {
+            kind: FaultKind::Truncated,
+            at: all,
+        })
+    }
+}
+
+/// The data at the front of any octets, up to their end or to a closing tag whose opening tag is not among them; and what is
+/// behind.
+///
+/// A fault's place is the offset of the faulty element; data that end inside an opened tag are `Truncated` at their end.
+pub fn take_data<O: Octets>(octets: O) -> Result<(O, O), Fault>
+    ensures found { IfOk result (λ r. IsDataTaken (O.octets octets) (O.octets r.0) (O.octets r.1)) }
+    ensures refused { IfErr result (λ e. IsDataRefused (O.octets octets) e) }
+{
+    let all = octets.len();
+    match data_end(octets) {
+        Ok(rest) => Ok((octets.split(all - rest.len()).0, rest)),
+        Err(fault) => Err(fault),
+    }
+}
+
+/// The data at the front, up to the end or to a closing tag whose opening tag is not among them; and how many octets they have.
+pub fn read_data(octets: &[u8]) -> Result<(Data<'_>, usize), Fault>
+    ensures found { IfOk result (λ r. (r.1 ≤ length octets.now) × IsDataFront octets.now r.1 × (r.0.octets.now ≡ take r.1 octets.now)) }
+    ensures refused { IfErr result (λ e. (k : ℕ) → IsDataFront octets.now k → ⊥) }
+    ensures place { IfErr result (λ e. e.at ≤ length octets.now) }
+{
+    let (data, _) = take_data(octets)?;
+    Ok((Data { octets: data }, data.len()))
+}
+
+/// No octets have two fronts that are data before an end.
+pub fn one_data_front()
+    ensures { (bytes : List ℕ) (j k : ℕ) → j ≤ length bytes → k ≤ length bytes → IsDataFront bytes j → IsDataFront bytes k → j ≡ k }
+{}

@@ -1,0 +1,73 @@
+ghost use Rattle.std.specs.Prelude.{◌≡◌, ◌<◌, ◌≤◌, ◌+◌, ◌++◌, ◌∷◌, ℕ, List, [], length, take, drop, MatchOption, OnOk, OnErr, IfOk};
+ghost use Rattle.bac_value.specs.Octets.{IsBytes};
+ghost use Rattle.bac_value.specs.Reading.{Reads, octet_at};
+
+use crate::fault::FaultKind;
+use crate::memory::NoMemory;
+
+/// Octets that are read from the front: a slice, or pieces seen as joined. A value is a place among them, and a copy keeps it.
+pub trait Octets: Copy {
+    ghost octets: { Self → List ℕ };
+
+    /// How many are left.
+    fn len(self) -> usize
+        ensures count { result ≡ length (octets self) }
+        ensures each { IsBytes (octets self) };
+
+    /// The first octet, and what is behind it.
+    fn first(self) -> Option<(u8, Self)>
+        ensures { MatchOption result (octets self ≡ []) (λ r. octets self ≡ r.0 ∷ octets r.1) };
+
+    /// The first `count` octets, and what is behind them.
+    fn split(self, count: usize) -> (Self, Self)
+        requires { count ≤ length (octets self) }
+        ensures front { octets result.0 ≡ take count (octets self) }
+        ensures behind { octets result.1 ≡ drop count (octets self) };
+
+    /// Appends them, or changes nothing.
+    fn append_to(self, out: &mut Vec<u8>) -> Result<(), NoMemory>
+        ensures ok { OnOk result (out.new.items ≡ out.old.items ++ octets self) }
+        ensures err { OnErr result (out.new.items ≡ out.old.items) };
+}
+
+impl Octets for &[u8] {
+    ghost octets = { λ s. s.now };
+
+    fn len(self) -> usize {
+        slice_len(self)
+    }
+
+    fn first(self) -> Option<(u8, Self)> {
+        match self.split_first() {
+            Some((first, rest)) => Some((*first, rest)),
+            None => None,
+        }
+    }
+
+    fn split(self, count: usize) -> (Self, Self) {
+        (&self[..count], &self[count..])
+    }
+
+    fn append_to(self, out: &mut Vec<u8>) -> Result<(), NoMemory> {
+        out.extend_from_slice(self)?;
+        Ok(())
+    }
+}
+
+pub(crate) fn slice_len(octets: &[u8]) -> usize
+    ensures count { result ≡ length octets.now }
+    ensures each { IsBytes octets.now }
+{
+    octets.len()
+}
+
+/// The first octet, and what is behind it.
+pub(crate) fn octet<O: Octets>(octets: O) -> Result<(u8, O), FaultKind>
+    ensures reads { Reads (λ x. x) O.octets (O.octets octets) result octet_at }
+    ensures onward { IfOk result (λ r. length (O.octets r.1) < length (O.octets octets)) }
+{
+    match octets.first() {
+        Some(read) => Ok(read),
+        None => Err(FaultKind::Truncated),
+    }
+}

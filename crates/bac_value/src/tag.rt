@@ -1,0 +1,56 @@
+ghost use Rattle.std.specs.Prelude.{◌≡◌, ◌↔◌, IsTrue, IsSome, IfSome, true};
+ghost use Rattle.bac_value.specs.Limits.{tag_fits};
+
+/// The class of a tag (clause 20.2.1.1).
+#[derive(Clone, Copy, Debug, PartialEq, Eq)]
+pub enum Class {
+    Application,
+    Context,
+}
+
+/// What a tag says beside its number and class (clause 20.2.1.3).
+#[derive(Clone, Copy, Debug, PartialEq, Eq)]
+pub enum Form {
+    /// So many octets of contents follow.
+    Length(u32),
+    /// The value of an application Boolean, which has no contents.
+    Boolean(bool),
+    /// Opens a pair of context tags around elements.
+    Opening,
+    /// Closes it.
+    Closing,
+}
+
+/// A tag that has a spelling: application tags have numbers 0 to 12, of which 1 is the Boolean; context tags 0 to 254.
+#[derive(Clone, Copy, Debug, PartialEq, Eq)]
+pub struct Tag {
+    pub number: u8,
+    pub class: Class,
+    pub form: Form,
+    pub ghost fits: { IsTrue (tag_fits number class form) },
+}
+
+impl Tag {
+    /// None exactly where such a tag has no spelling.
+    pub fn new(number: u8, class: Class, form: Form) -> Option<Tag>
+        ensures some { IsSome result ↔ IsTrue (tag_fits number class form) }
+        ensures same { IfSome result (λ t. (t.number ≡ number) × (t.class ≡ class) × (t.form ≡ form)) }
+    {
+        let fits = match (class, form) {
+            (Class::Application, Form::Length(_)) => number < 13 && number != 1,
+            (Class::Application, Form::Boolean(_)) => number == 1,
+            (Class::Application, _) => false,
+            (Class::Context, Form::Boolean(_)) => false,
+            (Class::Context, _) => number < 255,
+        };
+        if fits {
+            Some(Tag {
+                number,
+                class,
+                form,
+            })
+        } else {
+            None
+        }
+    }
+}

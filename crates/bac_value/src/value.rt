@@ -1,0 +1,55 @@
+ghost use Rattle.std.specs.Prelude.{◌≡◌, ◌<◌, ◌+◌, ◌^◌, ◌↔◌, ◌∷◌, IsSome, IfSome, IsTrue, true, length};
+ghost use Rattle.bac_value.specs.Limits.{bits_fit};
+
+/// At most `2^32 - 1` octets (clause 20.2.8).
+#[derive(Debug, Drop)]
+pub struct OctetString {
+    pub octets: Vec<u8>,
+    pub ghost fits: { length octets.items < 2 ^ 32 },
+}
+
+/// The octet of a character set (0 is UTF-8) and a text of at most `2^32 - 2` octets, which are not looked at (clause 20.2.9).
+#[derive(Debug, Drop)]
+pub struct CharacterString {
+    pub set: u8,
+    pub text: Vec<u8>,
+    pub ghost fits: { length text.items + 1 < 2 ^ 32 },
+}
+
+/// A number of unused bits, and at most `2^32 - 2` octets of bits, the first bit in bit 7 of the first octet (clause 20.2.10).
+///
+/// The unused bits are the lowest of the last octet. There are 0 to 7, all 0, and none where there are no octets.
+#[derive(Debug, Drop)]
+pub struct BitString {
+    pub unused: u8,
+    pub octets: Vec<u8>,
+    pub ghost fits: { length octets.items + 1 < 2 ^ 32 },
+    pub ghost unused_fits: { IsTrue (bits_fit unused octets.items) },
+}
+
+/// An object's type, 0 to 1,023, and its instance, 0 to 4,194,303 (clause 20.2.14).
+#[derive(Clone, Copy, Debug, PartialEq, Eq)]
+pub struct ObjectIdentifier {
+    pub kind: u16,
+    pub instance: u32,
+    pub ghost kind_fits: { kind < 1024 },
+    pub ghost instance_fits: { instance < 2 ^ 22 },
+}
+
+/// A value of one of the thirteen application kinds (clause 20.2.1.4). Real, Double, Date and Time are raw octets.
+#[derive(Debug, Drop)]
+pub enum Value {
+    Null,
+    Boolean(bool),
+    Unsigned(u64),
+    Signed(i64),
+    Real([u8; 4]),
+    Double([u8; 8]),
+    OctetString(OctetString),
+    CharacterString(CharacterString),
+    BitString(BitString),
+    Enumerated(u32),
+    Date([u8; 4]),
+    Time([u8; 4]),
+    ObjectIdentifier(ObjectIdentifier),
+}
