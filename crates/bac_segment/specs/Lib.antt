@@ -1,3 +1,5 @@
+pub mod Answers
+pub mod Kept
 pub mod Limits
 pub mod Numbers
 pub mod Pieces

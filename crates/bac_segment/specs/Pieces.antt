@@ -1,5 +1,6 @@
 -- The pieces that service data are sent in (clause 5.2).
-use Rattle.std.specs.Prelude.{◌≡◌, ℕ, zero, suc, ◌+◌, ◌/◌, ◌<◌, ◌≤◌, List, [], ◌∷◌, ◌++◌, length, take, drop, slice_index_or}
+use Rattle.std.specs.Prelude.{◌≡◌, ℕ, zero, suc, ◌+◌, ◌<◌, ◌≤◌, List, [], ◌∷◌, ◌++◌, length, take, drop, slice_index_or}
+use Rattle.std.specs.Int.{div_ceil}
 
 -- the pieces joined, in their order
 abbrev pub join : List (List ℕ) → List ℕ
@@ -20,8 +21,7 @@ pub record ArePieces (size : ℕ) (octets : List ℕ) (pieces : List (List ℕ))
 
 -- how many pieces of that size the octets have
 abbrev pub count_of : ℕ → List ℕ → ℕ
-count_of size [] = 0
-count_of size (octet ∷ octets) = length octets / size + 1
+count_of size octets = div_ceil (length octets) size
 
 -- the first count pieces of that size
 abbrev pub cut : ℕ → ℕ → List ℕ → List (List ℕ)

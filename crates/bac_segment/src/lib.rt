@@ -1,2 +1,17 @@
-//! Both sides of a transfer in segments.
+//! Both sides of a transfer in segments (clauses 5.2 and 5.4): what is cut into pieces on one end is taken in order on
+//! the other.
+//!
+//! Pieces have whole numbers from 0 on. The wire carries the remainder modulo 256, and only the calls that are handed
+//! a number of the wire know of it.
 #![tactic(auto)]
+
+mod incoming;
+mod laws;
+mod outgoing;
+
+pub use incoming::{Incoming, SegmentFault, Step};
+pub use laws::numbers_in_reach_differ;
+pub use outgoing::{Outgoing, Position, Progress, Timeout};
+
+#[cfg(test)]
+mod tests;

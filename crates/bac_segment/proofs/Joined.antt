@@ -1,0 +1,25 @@
+-- Parts that are taken one after another.
+use Rattle.std.proofs.Common.{◌≡◌, ℕ, ◌+◌, ◌≤◌, List, [], ◌∷◌, ◌++◌, length, ap, sym, ◌∙◌, arith, length-append, append_assoc}
+use Rattle.std.proofs.lemmas.List.{append-nil, length_push}
+use Rattle.bac_segment.specs.Kept.{CountsOctets}
+use Rattle.bac_segment.specs.Limits.{DATA}
+use Rattle.bac_segment.specs.Pieces.{join}
+
+pub join-push : (parts : List (List ℕ)) (octets : List ℕ) → join (parts ++ octets ∷ []) ≡ join parts ++ octets
+join-push [] octets = append-nil octets
+join-push (part ∷ parts) octets = ap (λ l. part ++ l) (join-push parts octets) ∙ sym (append_assoc part (join parts) octets)
+
+pub length-join-push : (parts : List (List ℕ)) (octets : List ℕ) → length (join (parts ++ octets ∷ [])) ≡ length (join parts) + length octets
+length-join-push parts octets = ap length (join-push parts octets) ∙ length-append (join parts) octets
+
+-- one more part is counted
+pub CountsOctets-push : (parts more : List (List ℕ)) (octets : List ℕ) (total fresh : ℕ) → CountsOctets total fresh parts → more ≡ parts ++ octets ∷ [] → length (join parts) + length octets ≤ DATA → length parts + 1 ≤ DATA → CountsOctets (total + length octets) fresh more
+CountsOctets-push parts more octets total fresh counts is short few =
+    let octets_are = ap (λ l. length (join l)) is ∙ length-join-push parts octets in
+    let parts_are = ap length is ∙ length_push parts octets in
+    record {
+      counted = omega (arith, octets_are, counts.counted);
+      short = omega (arith, counts.counted);
+      few = omega (arith, parts_are);
+      fresh = omega (arith, parts_are, counts.fresh);
+    }

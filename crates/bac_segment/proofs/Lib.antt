@@ -1,0 +1,4 @@
+pub mod Cut
+pub mod Joined
+pub mod Reach
+pub mod Unique

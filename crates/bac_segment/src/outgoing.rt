@@ -1,0 +1,225 @@
+//! The sender of a transfer. It keeps the octets whole, and cuts where a piece is asked for.
+ghost use Rattle.std.specs.Prelude.{◌≡◌, ◌+◌, ◌-◌, ◌<◌, ◌≤◌, ◌↔◌, length, take, drop, map, IsTrue};
+ghost use Rattle.std.specs.List.{range_with_len};
+ghost use Rattle.bac_segment.specs.Pieces.{ArePieces, join, piece_at, pieces_of};
+ghost use Rattle.bac_segment.specs.Window.{outgoing, in_window, window_pieces, is_finished, acknowledged, again, restart, resume};
+ghost use Rattle.bac_segment.specs.Answers.{Moves, TimesOut};
+
+use std::marker::Model;
+use std::ops::Range;
+
+const RETRY_COUNT: u8 = 3;
+
+/// What a SegmentACK did to the sender.
+#[derive(Clone, Copy, Debug, PartialEq, Eq)]
+pub enum Progress {
+    /// It acknowledged pieces of the window, and others are left: the next window is to be sent.
+    Moved,
+    /// It acknowledged the last piece.
+    Finished,
+    /// Its number is none of the window. Nothing changed.
+    Ignored,
+}
+
+/// What a timeout did to the sender.
+#[derive(Clone, Copy, Debug, PartialEq, Eq)]
+pub enum Timeout {
+    /// It took a retry: the window is to be sent again.
+    Again,
+    /// No retry is left. Nothing changed.
+    GivenUp,
+}
+
+/// Where a sender stands: all of it that changes.
+#[derive(Clone, Copy, Debug, PartialEq, Eq)]
+pub struct Position {
+    /// The first unacknowledged piece, from 0 on.
+    pub first: usize,
+    /// The window, in pieces.
+    pub window: u8,
+    /// How often the window may be sent again.
+    pub retries: u8,
+}
+
+/// The sender of a transfer.
+#[derive(Drop)]
+pub struct Outgoing {
+    octets: Vec<u8>,
+    size: usize,
+    count: usize,
+    at: Position,
+}
+
+impl Model for Outgoing {
+    ghost use Rattle.bac_segment.specs.Window as spec;
+
+    ghost Value = { spec.Outgoing };
+
+    ghost use Rattle.bac_segment.specs.Pieces.{pieces_of};
+    ghost use Rattle.bac_segment.specs.Kept.{CountsPieces};
+
+    ghost view = { λ o. record { pieces = pieces_of o.size o.octets.items; first = o.at.first; window = o.at.window; retries = o.at.retries } };
+
+    ghost invariant = { λ o. CountsPieces o.size o.count o.at.first o.octets.items };
+}
+
+impl Outgoing {
+    /// A sender of these octets in pieces of `size` octets, of which nothing was sent. Its first window is one piece.
+    pub fn new(octets: Vec<u8>, size: usize) -> Outgoing
+        requires { 1 ≤ size }
+        ensures start { result ≡ outgoing (pieces_of size octets.items) }
+        ensures pieces { ArePieces size octets.items result.pieces }
+    {
+        let count = octets.len().div_ceil(size);
+        let at = Position {
+            first: 0,
+            window: 1,
+            retries: RETRY_COUNT,
+        };
+        Outgoing {
+            octets,
+            size,
+            count,
+            at,
+        }
+    }
+
+    /// The octets, whole.
+    pub fn octets(&self) -> &[u8]
+        ensures { result.now ≡ join self.now.pieces }
+    {
+        self.octets.as_slice()
+    }
+
+    /// How many pieces there are.
+    pub fn count(&self) -> usize
+        ensures { result ≡ length self.now.pieces }
+    {
+        self.count
+    }
+
+    /// Where the sender stands.
+    pub fn position(&self) -> Position
+        ensures same { result ≡ record { first = self.now.first; window = self.now.window; retries = self.now.retries } }
+        ensures within { result.first ≤ length self.now.pieces }
+    {
+        let Outgoing { at, count, .. } = self;
+        let _ = count;
+        *at
+    }
+
+    /// The numbers of the pieces in the window, from the first unacknowledged one on.
+    pub fn window(&self) -> Range<usize>
+        ensures start { result.start ≡ self.now.first }
+        ensures end { result.end ≡ self.now.first + in_window self.now }
+        ensures within { result.end ≤ length self.now.pieces }
+        ensures pieces { map (piece_at self.now.pieces) (range_with_len result.start (in_window self.now)) ≡ window_pieces self.now }
+    {
+        let first = self.at.first;
+        let left = self.count - first;
+        first..first + left.min(self.at.window as usize)
+    }
+
+    /// How many pieces are in the window.
+    pub fn in_window(&self) -> usize
+        ensures number { result ≡ in_window self.now }
+        ensures few { result ≤ self.now.window }
+        ensures within { self.now.first + result ≤ length self.now.pieces }
+    {
+        let window = self.window();
+        window.end - window.start
+    }
+
+    /// Piece `n`.
+    pub fn piece(&self, n: usize) -> &[u8]
+        requires { n < length self.now.pieces }
+        ensures { result.now ≡ piece_at self.now.pieces n }
+    {
+        let octets = self.octets.as_slice();
+        part(octets, n * self.size, self.size)
+    }
+
+    /// Whether every piece was acknowledged.
+    pub fn is_finished(&self) -> bool
+        ensures { result ≡ is_finished self.now }
+    {
+        self.count <= self.at.first
+    }
+
+    /// A SegmentACK comes, of either kind: its number, its actual window, and the greatest window of the node itself.
+    /// Where its number is one of the window, the pieces up to that one are acknowledged, the window is the lesser
+    /// of the two, and the retries are full.
+    pub fn on_ack(&mut self, number: u8, window: u8, own: u8) -> Progress
+        ensures moves { Moves (acknowledged own self.old number window) self.old result self.new }
+        ensures forward { self.old.first ≤ self.new.first }
+        ensures bounded { self.old.window ≤ own → self.new.window ≤ own }
+    {
+        let by = number.wrapping_sub((self.at.first % 256) as u8) as usize;
+        if by >= self.in_window() {
+            return Progress::Ignored;
+        }
+        self.at = Position {
+            first: self.at.first + by + 1,
+            window: window.min(own),
+            retries: RETRY_COUNT,
+        };
+        if self.is_finished() {
+            Progress::Finished
+        } else {
+            Progress::Moved
+        }
+    }
+
+    /// Whether a retry is left.
+    pub fn has_retry(&self) -> bool
+        ensures { IsTrue result ↔ (1 ≤ self.now.retries) }
+    {
+        self.at.retries > 0
+    }
+
+    /// The time for a SegmentACK is over. It takes a retry, where one is left.
+    pub fn on_timeout(&mut self) -> Timeout
+        ensures { TimesOut (again self.old) self.old result self.new }
+    {
+        if self.at.retries == 0 {
+            return Timeout::GivenUp;
+        }
+        self.at.retries -= 1;
+        Timeout::Again
+    }
+
+    /// The transfer begins again with piece 0, a window of one piece and full retries.
+    pub fn restart(&mut self)
+        ensures { self.new ≡ restart self.old }
+    {
+        self.at = Position {
+            first: 0,
+            window: 1,
+            retries: RETRY_COUNT,
+        };
+    }
+
+    /// The transfer goes on where it stands, with full retries.
+    pub fn resume(&mut self)
+        ensures { self.new ≡ resume self.old }
+    {
+        self.at.retries = RETRY_COUNT;
+    }
+
+    /// The sender stands there again: this undoes a step that the caller could not finish.
+    pub fn go_back(&mut self, to: Position)
+        requires { to.first ≤ length self.old.pieces }
+        ensures { self.new ≡ record self.old { first = to.first; window = to.window; retries = to.retries } }
+    {
+        self.at = to;
+    }
+}
+
+/// The octets from that place on, at most so many of them.
+fn part(octets: &[u8], from: usize, most: usize) -> &[u8]
+    requires { from ≤ length octets.now }
+    ensures { result.now ≡ take most (drop from octets.now) }
+{
+    let rest = &octets[from..];
+    &rest[..most.min(rest.len())]
+}
