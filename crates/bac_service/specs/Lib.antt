@@ -3,3 +3,4 @@ pub mod Members
 pub mod Requests
 pub mod Replies
 pub mod Reading
+pub mod Views

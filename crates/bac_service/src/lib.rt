@@ -3,6 +3,11 @@
 
 mod member;
 mod reject;
+mod request;
 mod stop;
+mod typed;
+mod value;
 
 pub use reject::Reject;
+pub use request::{ReadAccess, Request, WriteAccess, WriteProperty};
+pub use value::{Content, Priority, PropertyReference, Records};
