@@ -1,5 +1,5 @@
 -- Contents that are read with their length are exactly those of their kind.
-use Rattle.std.proofs.Common.{◌≡◌, ℕ, ◌+◌, ◌*◌, ◌<◌, ◌/◌, ◌%◌, ◌^◌, List, lit<, ◌++◌, length, Ok, refl, sym, ap, subst, ◌∙◌, arith}
+use Rattle.std.proofs.Common.{◌≡◌, ℕ, ◌+◌, ◌*◌, ◌<◌, ◌/◌, ◌%◌, ◌^◌, List, [], ◌∷◌, lit<, ◌++◌, length, Ok, refl, sym, ap, subst, ◌∙◌, arith}
 use Rattle.std.specs.Int.{w32, from_be_bytes}
 use Rattle.std.proofs.lemmas.Bool.{eqb-true}
 use Rattle.bac_value.proofs.Tags.{wide32}
@@ -105,26 +105,42 @@ signed_law = record {
     rw (right_again 3 (length text) text rest refl (kind_again (signed y) text s), s.spelled.sum) refl;
 }
 
--- four octets are one object's only
-object_sum : (o : ObjectId) (xs : Octets) → IsObject o xs → record { kind = from_be_bytes w32 xs / 2 ^ 22; instance = from_be_bytes w32 xs % 2 ^ 22 } ≡ o
-object_sum o xs h =
+-- four octets as one number
+four_octets : (xs : Octets) → length xs ≡ 4 → number_in xs ≡ from_be_bytes w32 xs
+four_octets [] e = absurd (omega arith)
+four_octets (a ∷ []) e = absurd (omega arith)
+four_octets (a ∷ (b ∷ [])) e = absurd (omega arith)
+four_octets (a ∷ (b ∷ (c ∷ []))) e = absurd (omega arith)
+four_octets (a ∷ (b ∷ (c ∷ (d ∷ [])))) e = omega arith
+four_octets (a ∷ (b ∷ (c ∷ (d ∷ (x ∷ xs))))) e = absurd (omega arith)
+
+-- the object that four octets are
+abbrev object_in : Octets → ObjectId
+object_in xs = record { kind = number_in xs / 2 ^ 22; instance = number_in xs % 2 ^ 22 }
+
+object_front : (xs : Octets) → IsBytes xs → length xs ≡ 4 → IsObject (object_in xs) xs
+object_front xs fits four =
+    subst (λ (n : ℕ). IsObject (record { kind = n / 2 ^ 22; instance = n % 2 ^ 22 }) xs) (sym (four_octets xs four)) (object_of xs fits four)
+
+object_sum : (o : ObjectId) (xs : Octets) → IsObject o xs → length xs ≡ 4 → object_in xs ≡ o
+object_sum o xs h four =
     let lt : o.kind * 2 ^ 22 + o.instance < 2 ^ 32 = omega (arith, h.kind_fits, h.instance_fits) in
-    let n : from_be_bytes w32 xs ≡ o.kind * 2 ^ 22 + o.instance = ap (from_be_bytes w32) h.is ∙ wide32.again (o.kind * 2 ^ 22 + o.instance) lt in
-    let high : from_be_bytes w32 xs / 2 ^ 22 ≡ o.kind = omega (arith, n, h.instance_fits) in
-    let low : from_be_bytes w32 xs % 2 ^ 22 ≡ o.instance = omega (arith, n, h.instance_fits) in
+    let n : number_in xs ≡ o.kind * 2 ^ 22 + o.instance = four_octets xs four ∙ ap (from_be_bytes w32) h.is ∙ wide32.again (o.kind * 2 ^ 22 + o.instance) lt in
+    let high : number_in xs / 2 ^ 22 ≡ o.kind = omega (arith, n, h.instance_fits) in
+    let low : number_in xs % 2 ^ 22 ≡ o.instance = omega (arith, n, h.instance_fits) in
     rw (high, low) refl
 
 pub object_law : IsContentsLaw object_at IsObject
 unfolding object_at
 object_law = record {
   takes = λ k bytes x fits e.
-    let c = bind_ok (kind_at 12 k bytes) (λ c. Ok (record { kind = from_be_bytes w32 c.0 / 2 ^ 22; instance = from_be_bytes w32 c.0 % 2 ^ 22 }, c.1)) x e in
+    let c = bind_ok (kind_at 12 k bytes) (λ c. Ok (object_in c.0, c.1)) x e in
     let f = kind_front 12 k bytes c.0 fits c.1 in
-    let made : ObjectId = record { kind = from_be_bytes w32 c.0.0 / 2 ^ 22; instance = from_be_bytes w32 c.0.0 % 2 ^ 22 } in
-    let is = object_of c.0.0 f.raw.fits (eqb-true _ _ f.right.len) in
-    subst (λ (z : ObjectId × Octets). (text : Octets) × (bytes ≡ text ++ z.1) × (length text ≡ k) × IsObject z.0 text) (ok_is (made, c.0.1) x c.2) (c.0.0, f.raw.took.parts, f.raw.len, is);
+    subst (λ (z : ObjectId × Octets). (text : Octets) × (bytes ≡ text ++ z.1) × (length text ≡ k) × IsObject z.0 text) (ok_is (object_in c.0.0, c.0.1) x c.2)
+    (c.0.0, f.raw.took.parts, f.raw.len, object_front c.0.0 f.raw.fits (eqb-true _ _ f.right.len));
   again = λ y text rest s.
-    rw (right_again 12 (length text) text rest refl (kind_again (object y) text s), object_sum y text s) refl;
+    let right = kind_again (object y) text s in
+    rw (right_again 12 (length text) text rest refl right, object_sum y text s (eqb-true _ _ right.len)) refl;
 }
 
 pub string_law : IsContentsLaw (kind_at 6) IsString
