@@ -5,3 +5,4 @@ pub mod Pairs
 pub mod References
 pub mod Accesses
 pub mod Wholes
+pub mod Runs

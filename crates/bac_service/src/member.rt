@@ -1,5 +1,5 @@
 //! Members one by one: a tag that is looked at first, and then the contents behind it.
-ghost use Rattle.std.specs.Prelude.{◌≡◌, ◌≤◌, ◌==◌, ◌&&◌, ◌-◌, length, take, IfOk, MatchResult, Some, None, Ok};
+ghost use Rattle.std.specs.Prelude.{◌≡◌, ◌≤◌, ◌<◌, ◌==◌, ◌&&◌, ◌-◌, length, take, IfOk, MatchResult, Some, None, Ok};
 ghost use Rattle.bac_value.specs.Views.{mark, object_id};
 ghost use Rattle.bac_value.specs.Reading.{tag_at, number_at, signed_at, object_at, kind_at};
 ghost use Rattle.bac_service.specs.Reading.{Reads, kept, announced, head_at, member_at, is_next, is_opened, is_opening, is_closing, tag_that, opening_at, closing_at, values_at};
@@ -9,7 +9,8 @@ use bac_value::{Class, Form, Octets, Tag, take_data, take_tag};
 
 /// The next tag.
 pub(crate) fn tag<O: Octets>(octets: O) -> Result<(Tag, O), Stop>
-    ensures { Reads mark O.octets (O.octets octets) result (λ bytes. kept (tag_at bytes)) }
+    ensures reads { Reads mark O.octets (O.octets octets) result (λ bytes. kept (tag_at bytes)) }
+    ensures onward { IfOk result (λ r. length (O.octets r.1) < length (O.octets octets)) }
 {
     let left = octets.len();
     match take_tag(octets) {
@@ -26,7 +27,7 @@ pub(crate) fn tag<O: Octets>(octets: O) -> Result<(Tag, O), Stop>
 }
 
 #[tactic(auto, unfolding(crate::specs::Reading::announced))]
-fn announced_by(tag: Tag, class: Class, number: u8) -> Option<usize>
+pub(crate) fn announced_by(tag: Tag, class: Class, number: u8) -> Option<usize>
     ensures { result ≡ announced class number (mark tag) }
 {
     let is_same = match (class, tag.class) {
@@ -42,7 +43,8 @@ fn announced_by(tag: Tag, class: Class, number: u8) -> Option<usize>
 /// The tag of a class and number: how many octets of contents it announces.
 #[tactic(auto, unfolding(crate::specs::Reading::head_at))]
 pub(crate) fn head<O: Octets>(octets: O, class: Class, number: u8) -> Result<(usize, O), Stop>
-    ensures { Reads (λ k. k) O.octets (O.octets octets) result (head_at class number) }
+    ensures reads { Reads (λ k. k) O.octets (O.octets octets) result (head_at class number) }
+    ensures onward { IfOk result (λ r. length (O.octets r.1) < length (O.octets octets)) }
 {
     let left = octets.len();
     let (tag, rest) = tag(octets)?;

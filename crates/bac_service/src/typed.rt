@@ -1,5 +1,5 @@
 //! Members whose type is known: the tag first, then the contents.
-ghost use Rattle.std.specs.Prelude.{◌≡◌, ◌≤◌, length, MatchOption, true, false};
+ghost use Rattle.std.specs.Prelude.{◌≡◌, ◌≤◌, ◌<◌, IfOk, length, MatchOption, true, false};
 ghost use Rattle.bac_value.specs.Views.{object_id};
 ghost use Rattle.bac_value.specs.Reading.{number_at, signed_at, object_at, kind_at};
 ghost use Rattle.bac_service.specs.Reading.{Reads, member_at, optional_at, priority_at, reference_at, is_priority};
@@ -73,6 +73,7 @@ pub(crate) fn signed<O: Octets>(octets: O, class: Class, number: u8) -> Result<(
 #[tactic(auto, unfolding(crate::specs::Reading::member_at))]
 pub(crate) fn string<O: Octets>(octets: O) -> Result<(O, O), Stop>
     ensures reads { Reads O.octets O.octets (O.octets octets) result (member_at Class.Application 6 (kind_at 6)) }
+    ensures onward { IfOk result (λ r. length (O.octets r.1) < length (O.octets octets)) }
 {
     let left = octets.len();
     let (len, contents) = head(octets, Class::Application, 6)?;
