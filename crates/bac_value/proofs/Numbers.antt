@@ -3,11 +3,11 @@ use Rattle.std.proofs.Common.{◌≡◌, ℕ, zero, suc, ◌+◌, ◌-◌, ◌*�
 use Rattle.std.proofs.Math.Nat.{pow-suc, pow-succ', pow-le-pow_right, one-le-pow, mul_assoc, mul-le-mul_right, mul-le-mul_left, add-mul, add_assoc, mul-add-mod_self_right, div-add-mod', mod-eq_of_lt, mod-lt}
 use Rattle.std.proofs.lemmas.Nat.{pow-add, same_from_place, mul-add-lt, le-div, div_below}
 use Rattle.std.proofs.lemmas.Grind.{pow_more}
-use Rattle.std.proofs.lemmas.Bool.{cases_order}
+use Rattle.std.proofs.lemmas.Bool.{cases_lt, cases_order, lt-ltb, le-ltb}
 use Rattle.std.specs.Int.{byte_at, bytes_high_first}
 use Rattle.byteorder.specs.Endian.{big_bytes}
 use Rattle.bac_value.specs.Octets.{IsBytes}
-use Rattle.bac_value.specs.Number.{number_in, IsUnsigned}
+use Rattle.bac_value.specs.Number.{number_in, IsUnsigned, width_of, half_width_of}
 use Rattle.bac_value.proofs.Steps.{IsBytes-rest}
 
 pow_pos256 : (n : ℕ) → 0 < 256 ^ n
@@ -48,3 +48,66 @@ bits_power zero = refl
 bits_power (suc k) =
     let eight : 8 * suc k ≡ 8 * k + 8 = omega arith in
     rw (eight, pow-add 2 (8 * k) 8, bits_power k, pow-suc 256 k) refl
+
+-- ---- how many octets a number needs
+
+pub record IsWidth (n w : ℕ) : Type 0 where
+  pub some : 0 < w
+  pub most : w ≤ 8
+  pub fits : n < 256 ^ w
+  pub least : 1 < w → 256 ^ (w - 1) ≤ n
+
+pub width_is : (n : ℕ) → n < 2 ^ 64 → IsWidth n (width_of n)
+width_is n lt = elim (cases_lt n 0x100) [
+  | inl b ↦ rw (lt-ltb n 0x100 b) (record { some = omega arith; most = omega arith; fits = b; least = λ m. absurd (omega arith) })
+  | inr a0 ↦ rw (le-ltb n 0x100 a0) (elim (cases_lt n 0x1_0000) [
+    | inl b ↦ rw (lt-ltb n 0x1_0000 b) (record { some = omega arith; most = omega arith; fits = b; least = λ m. a0 })
+    | inr a1 ↦ rw (le-ltb n 0x1_0000 a1) (elim (cases_lt n 0x100_0000) [
+      | inl b ↦ rw (lt-ltb n 0x100_0000 b) (record { some = omega arith; most = omega arith; fits = b; least = λ m. a1 })
+      | inr a2 ↦ rw (le-ltb n 0x100_0000 a2) (elim (cases_lt n 0x1_0000_0000) [
+        | inl b ↦ rw (lt-ltb n 0x1_0000_0000 b) (record { some = omega arith; most = omega arith; fits = b; least = λ m. a2 })
+        | inr a3 ↦ rw (le-ltb n 0x1_0000_0000 a3) (elim (cases_lt n 0x100_0000_0000) [
+          | inl b ↦ rw (lt-ltb n 0x100_0000_0000 b) (record { some = omega arith; most = omega arith; fits = b; least = λ m. a3 })
+          | inr a4 ↦ rw (le-ltb n 0x100_0000_0000 a4) (elim (cases_lt n 0x1_0000_0000_0000) [
+            | inl b ↦ rw (lt-ltb n 0x1_0000_0000_0000 b) (record { some = omega arith; most = omega arith; fits = b; least = λ m. a4 })
+            | inr a5 ↦ rw (le-ltb n 0x1_0000_0000_0000 a5) (elim (cases_lt n 0x100_0000_0000_0000) [
+              | inl b ↦ rw (lt-ltb n 0x100_0000_0000_0000 b) (record { some = omega arith; most = omega arith; fits = b; least = λ m. a5 })
+              | inr a6 ↦ rw (le-ltb n 0x100_0000_0000_0000 a6) (record { some = omega arith; most = omega arith; fits = lt; least = λ m. a6 })
+            ])
+          ])
+        ])
+      ])
+    ])
+  ])
+]
+
+-- the same of a number that stands in the lower half of its range
+pub record IsHalfWidth (n w : ℕ) : Type 0 where
+  pub some : 0 < w
+  pub most : w ≤ 8
+  pub fits : n < 128 * 256 ^ (w - 1)
+  pub least : 1 < w → 128 * 256 ^ (w - 2) ≤ n
+
+pub half_width_is : (n : ℕ) → n < 2 ^ 63 → IsHalfWidth n (half_width_of n)
+half_width_is n lt = elim (cases_lt n 0x80) [
+  | inl b ↦ rw (lt-ltb n 0x80 b) (record { some = omega arith; most = omega arith; fits = b; least = λ m. absurd (omega arith) })
+  | inr a0 ↦ rw (le-ltb n 0x80 a0) (elim (cases_lt n 0x8000) [
+    | inl b ↦ rw (lt-ltb n 0x8000 b) (record { some = omega arith; most = omega arith; fits = b; least = λ m. a0 })
+    | inr a1 ↦ rw (le-ltb n 0x8000 a1) (elim (cases_lt n 0x80_0000) [
+      | inl b ↦ rw (lt-ltb n 0x80_0000 b) (record { some = omega arith; most = omega arith; fits = b; least = λ m. a1 })
+      | inr a2 ↦ rw (le-ltb n 0x80_0000 a2) (elim (cases_lt n 0x8000_0000) [
+        | inl b ↦ rw (lt-ltb n 0x8000_0000 b) (record { some = omega arith; most = omega arith; fits = b; least = λ m. a2 })
+        | inr a3 ↦ rw (le-ltb n 0x8000_0000 a3) (elim (cases_lt n 0x80_0000_0000) [
+          | inl b ↦ rw (lt-ltb n 0x80_0000_0000 b) (record { some = omega arith; most = omega arith; fits = b; least = λ m. a3 })
+          | inr a4 ↦ rw (le-ltb n 0x80_0000_0000 a4) (elim (cases_lt n 0x8000_0000_0000) [
+            | inl b ↦ rw (lt-ltb n 0x8000_0000_0000 b) (record { some = omega arith; most = omega arith; fits = b; least = λ m. a4 })
+            | inr a5 ↦ rw (le-ltb n 0x8000_0000_0000 a5) (elim (cases_lt n 0x80_0000_0000_0000) [
+              | inl b ↦ rw (lt-ltb n 0x80_0000_0000_0000 b) (record { some = omega arith; most = omega arith; fits = b; least = λ m. a5 })
+              | inr a6 ↦ rw (le-ltb n 0x80_0000_0000_0000 a6) (record { some = omega arith; most = omega arith; fits = lt; least = λ m. a6 })
+            ])
+          ])
+        ])
+      ])
+    ])
+  ])
+]
