@@ -57,12 +57,12 @@ positive_spelled m j h =
     let whole : m < 256 ^ suc j = rw (pow-suc 256 j) (omega (arith, fits)) in
     signed_big (pos m) j m whole (signed_in-big j m whole ∙ rw (lt-ltb m (128 * 256 ^ j) fits) refl)
     (λ i is.
-      let p = 256 ^ i in
-      let power : 256 ^ j ≡ p * 256 = ap (λ k. 256 ^ k) is ∙ pow-suc 256 i in
-      let less : suc j - 2 ≡ i = omega (arith, is) in
-      let least = rw less at (h.least (omega (arith, is))) in
-      let q = quotient_between m i 128 32768 least (omega (arith, fits, power)) in
-      below_half (m / 256 ^ i) q.0 q.1)
+    let p = 256 ^ i in
+    let power : 256 ^ j ≡ p * 256 = ap (λ k. 256 ^ k) is ∙ pow-suc 256 i in
+    let less : suc j - 2 ≡ i = omega (arith, is) in
+    let least = rw less at (h.least (omega (arith, is))) in
+    let q = quotient_between m i 128 32768 least (omega (arith, fits, power)) in
+    below_half (m / 256 ^ i) q.0 q.1)
 
 negative_spelled : (m j n : ℕ) → IsHalfWidth m (suc j) → n ≡ 256 ^ suc j - 1 - m → IsSigned (negsuc m) (big_bytes (suc j) n)
 negative_spelled m j n h is =
@@ -74,12 +74,12 @@ negative_spelled m j n h is =
     let less : pos n -ℤ pos (256 * 256 ^ j) ≡ negsuc m = omega (arith, ints, is, power, fits) in
     signed_big (negsuc m) j n whole (signed_in-big j n whole ∙ rw (le-ltb n (128 * 256 ^ j) high) less)
     (λ i at.
-      let p = 256 ^ i in
-      let inner : 256 ^ j ≡ p * 256 = ap (λ k. 256 ^ k) at ∙ pow-suc 256 i in
-      let two : suc j - 2 ≡ i = omega (arith, at) in
-      let least = rw two at (h.least (omega (arith, at))) in
-      let q = quotient_between n i 32768 65408 (omega (arith, high, inner)) (omega (arith, is, power, inner, least, fits)) in
-      above_half (n / 256 ^ i) q.0 q.1)
+    let p = 256 ^ i in
+    let inner : 256 ^ j ≡ p * 256 = ap (λ k. 256 ^ k) at ∙ pow-suc 256 i in
+    let two : suc j - 2 ≡ i = omega (arith, at) in
+    let least = rw two at (h.least (omega (arith, at))) in
+    let q = quotient_between n i 32768 65408 (omega (arith, high, inner)) (omega (arith, is, power, inner, least, fits)) in
+    above_half (n / 256 ^ i) q.0 q.1)
 
 half_spelled : (z : ℤ) (w : ℕ) → half_width_of (distance z) ≡ w → IsHalfWidth (distance z) w → IsSigned z (big_bytes w (complement z))
 half_spelled z zero same h = let some = h.some in absurd (omega arith)

@@ -7,6 +7,7 @@
 mod contents;
 mod data;
 mod data_reading;
+mod data_writing;
 mod element;
 mod element_reading;
 mod fault;
@@ -26,6 +27,7 @@ mod value_writing;
 pub use contents::take_contents;
 pub use data::Data;
 pub use data_reading::{one_data_front, read_data, take_data};
+pub use data_writing::write_data;
 pub use element::Element;
 pub use element_reading::{one_element_spelling, read_element, take_element};
 pub use fault::{Fault, FaultKind};

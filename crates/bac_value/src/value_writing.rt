@@ -4,8 +4,8 @@ ghost use Rattle.bac_value.specs.Octets.{Begins};
 ghost use Rattle.bac_value.specs.Limits.{length_tag_fits};
 ghost use Rattle.bac_value.specs.Spelling.{tag_spelling};
 ghost use Rattle.bac_value.specs.Number.{unsigned_octets, signed_octets};
-ghost use Rattle.bac_value.specs.Value.{boolean, mark_for};
-ghost use Rattle.bac_value.specs.Writing.{primitive, object_octets, value_spelling};
+ghost use Rattle.bac_value.specs.Value.{boolean, mark_for, IsValue};
+ghost use Rattle.bac_value.specs.Writing.{primitive, object_octets, value_spelling, AppendsValue};
 ghost use Rattle.bac_value.specs.Views.{datum, object_id};
 
 use crate::memory::NoMemory;
@@ -132,6 +132,7 @@ fn put_with_octet(kind: u8, octet: u8, octets: &[u8], out: &mut Vec<u8>) -> Resu
 pub fn put_value(value: &Value, out: &mut Vec<u8>) -> Result<(), NoMemory>
     ensures ok { OnOk result (out.new.items ≡ out.old.items ++ value_spelling (datum value.now)) }
     ensures kept { Begins out.old.items out.new.items }
+    ensures value { IsValue (datum value.now) }
 {
     let class = Class::Application;
     match value {
@@ -149,4 +150,17 @@ pub fn put_value(value: &Value, out: &mut Vec<u8>) -> Result<(), NoMemory>
         Value::Time(octets) => put_primitive(class, 11, octets, out),
         Value::ObjectIdentifier(id) => put_object_identifier(class, 12, *id, out),
     }
+}
+
+/// Appends the one spelling of a value, or changes nothing.
+pub fn write_value(value: &Value, out: &mut Vec<u8>) -> Result<(), NoMemory>
+    ensures ok { OnOk result (AppendsValue (datum value.now) out.old.items out.new.items) }
+    ensures err { OnErr result (out.new.items ≡ out.old.items) }
+{
+    let before = out.len();
+    let written = put_value(value, out);
+    if written.is_err() {
+        out.truncate(before);
+    }
+    written
 }
