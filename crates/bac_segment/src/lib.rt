@@ -14,4 +14,6 @@ pub use laws::numbers_in_reach_differ;
 pub use outgoing::{Outgoing, Position, Progress, Timeout};
 
 #[cfg(test)]
+mod examples;
+#[cfg(test)]
 mod tests;

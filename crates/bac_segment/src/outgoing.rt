@@ -103,9 +103,7 @@ impl Outgoing {
         ensures same { result ≡ record { first = self.now.first; window = self.now.window; retries = self.now.retries } }
         ensures within { result.first ≤ length self.now.pieces }
     {
-        let Outgoing { at, count, .. } = self;
-        let _ = count;
-        *at
+        self.at
     }
 
     /// The numbers of the pieces in the window, from the first unacknowledged one on.
