@@ -1,0 +1,10 @@
+pub mod Times
+pub mod Sizes
+pub mod Service
+pub mod Wire
+pub mod Client
+pub mod Server
+pub mod Log
+pub mod Transaction
+pub mod World
+pub mod Claims

@@ -5,3 +5,4 @@ pub mod RightContents
 pub mod Elements
 pub mod Turns
 pub mod Forests
+pub mod Joined

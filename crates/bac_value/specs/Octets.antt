@@ -1,5 +1,5 @@
 -- Lists of octets, and octets in pieces.
-use Rattle.std.specs.Prelude.{◌≡◌, ℕ, ◌<◌, slice_index, List, [], ◌∷◌, ◌++◌, length, take}
+use Rattle.std.specs.Prelude.{◌≡◌, ℕ, ◌<◌, Bool, true, nat_lt, slice_index, List, [], ◌∷◌, ◌++◌, length, take}
 use Rattle.std.specs.Global.{Vec}
 
 -- each number is an octet
@@ -14,3 +14,8 @@ joined (v ∷ vs) = v.items ++ joined vs
 -- new is old, or old with more behind it
 abbrev pub Begins : List ℕ → List ℕ → Type 0
 Begins old new = take (length old) new ≡ old
+
+-- so many octets are fewer than the first piece has, or there is no piece
+abbrev pub begins_in_first : List (Vec ℕ) → ℕ → Bool
+begins_in_first [] skip = true
+begins_in_first (v ∷ vs) skip = nat_lt skip (length v.items)

@@ -1,10 +1,12 @@
 -- What contracts see of the types in code.
-use Rattle.std.specs.Prelude.{ℕ, List}
+use Rattle.std.specs.Prelude.{ℕ, List, take, drop}
 use Rattle.bac_value.specs.declared.tag.Tag.{Tag}
 use Rattle.bac_value.specs.declared.value.Value.{Value}
 use Rattle.bac_value.specs.declared.value.Value.TheVariants as value
 use Rattle.bac_value.specs.declared.value.ObjectIdentifier.{ObjectIdentifier}
 use Rattle.bac_value.specs.declared.element.Element.{Element}
+use Rattle.bac_value.specs.declared.parts.Parts.{Parts}
+use Rattle.bac_value.specs.Octets.{joined}
 use Rattle.bac_value.specs.Spelling.{Mark}
 use Rattle.bac_value.specs.Element.{Part}
 use Rattle.bac_value.specs.Value.{Datum, ObjectId, null, boolean, unsigned, signed, real, double, octets, characters, bits, enumerated, date, time, object}
@@ -32,3 +34,7 @@ datum (value.Enumerated n) = enumerated n
 datum (value.Date a) = date a
 datum (value.Time a) = time a
 datum (value.ObjectIdentifier i) = object (object_id i)
+
+-- the octets that are left in pieces
+abbrev pub octets_in : Parts → List ℕ
+octets_in p = take p.len (drop p.skip (joined p.parts.now))

@@ -1,0 +1,196 @@
+-- What the log says, and how copies go on as others are sent.
+use Rattle.std.proofs.Common.{◌≡◌, ℕ, zero, suc, ◌+◌, ◌<◌, ◌≤◌, true, false, List, [], ◌∷◌, length, Some, None, slice_get, refl, ap, subst, inl, inr, arith, zero-add, suc-add, add-suc}
+use Rattle.bac_apdu.specs.Apdu.{Apdu, Segment}
+use Rattle.bac_apdu.specs.Apdu.Apdu.{ConfirmedRequest, UnconfirmedRequest, SimpleAck, ComplexAck, SegmentAck, Error, Reject, Abort}
+use Rattle.bac_protocol.specs.Service.{Octets, Reply as reply}
+use Rattle.bac_protocol.specs.Wire.{pieces_from}
+use Rattle.bac_protocol.specs.Client.{Ask, request_of}
+use Rattle.bac_protocol.specs.Log.{Fact, Has, IsUnperformed, IsUnended}
+use Rattle.bac_protocol.specs.Log.Fact.{Asked, Performed, Ended}
+use Rattle.bac_protocol.specs.Transaction.{Copy, sent}
+use Rattle.bac_protocol.specs.Claims.{EachCopy, IsPiece, IsAck}
+use Rattle.bac_protocol.proofs.Sound.{number_of, IsBelow, Up, Down, IsPieceUp, IsAckUp, IsPieceDown, IsAckDown, server_until, Says, Fits}
+use Rattle.bac_protocol.proofs.Sound.Up.{Reading, Read}
+use Rattle.bac_protocol.proofs.Sound.Down.{Unsent, Sent, Closed}
+
+-- The log.
+
+pub below_more : (a b : ℕ) (log : List Fact) → a ≤ b → IsBelow a log → IsBelow b log
+below_more a b [] le h = tt
+below_more a b (f ∷ log) le h = (omega (arith, h.0), below_more a b log le h.1)
+
+pub below_unperformed : (n : ℕ) (log : List Fact) → IsBelow n log → IsUnperformed n log
+below_unperformed n [] h = tt
+below_unperformed n (Asked m c s r ∷ log) h = below_unperformed n log h.1
+below_unperformed n (Performed m r p ∷ log) h = (omega (arith, h.0), below_unperformed n log h.1)
+below_unperformed n (Ended m how ∷ log) h = below_unperformed n log h.1
+
+pub below_unended : (n : ℕ) (log : List Fact) → IsBelow n log → IsUnended n log
+below_unended n [] h = tt
+below_unended n (Asked m c s r ∷ log) h = below_unended n log h.1
+below_unended n (Performed m r p ∷ log) h = below_unended n log h.1
+below_unended n (Ended m how ∷ log) h = (omega (arith, h.0), below_unended n log h.1)
+
+pub below_has : (n : ℕ) (f : Fact) (log : List Fact) → IsBelow n log → Has f log → number_of f < n
+below_has n f [] h k = absurd k
+below_has n f (g ∷ log) h (inl e) = subst (λ (x : Fact). number_of x < n) e h.0
+below_has n f (g ∷ log) h (inr k) = below_has n f log h.1 k
+
+-- The copies.
+
+abbrev pub AllSends : (Apdu → Type 0) → List Apdu → Type 0
+AllSends Q [] = Unit {0}
+AllSends Q (a ∷ more) = Q a × AllSends Q more
+
+pub all_map : (Q R : Apdu → Type 0) → ((a : Apdu) → Q a → R a) → (sends : List Apdu) → AllSends Q sends → AllSends R sends
+all_map Q R f [] h = tt
+all_map Q R f (a ∷ more) h = (f a h.0, all_map Q R f more h.1)
+
+-- one copy more, in front of those that were
+each_cons : (P : ℕ → Copy → Type 0) (n : ℕ) (c : Copy) (cs : List Copy) → ((k : ℕ) → P k c) → ((k : ℕ) (d : Copy) → slice_get cs k ≡ Some d → P (suc n + k) d) → (k : ℕ) (d : Copy) → slice_get (c ∷ cs) k ≡ Some d → P (n + k) d
+each_cons P n c cs here there zero d e = subst (λ (x : Copy). P (n + 0) x) (cc) (here (n + 0))
+each_cons P n c cs here there (suc k) d e = rw (add-suc, ← suc-add) (there k d e)
+
+pub each_sent : (P : ℕ → Copy → Type 0) (now : ℕ) (sends : List Apdu) (copies : List Copy)
+    → AllSends (λ a. (k : ℕ) → P k (record { moment = now; apdu = a })) sends
+    → ((k : ℕ) (c : Copy) → slice_get copies k ≡ Some c → P (length sends + k) c)
+    → EachCopy P (sent now sends copies)
+each_sent P now [] copies h old = λ k c e. rw zero-add at (old k c e)
+each_sent P now (a ∷ more) copies h old =
+    each_sent P now more (record { moment = now; apdu = a } ∷ copies) h.1 (each_cons P (length more) (record { moment = now; apdu = a }) copies h.0 old)
+
+-- How a transfer may go on while so many copies are sent.
+
+abbrev pub UpGoes : ℕ → Up → Up → Type 0
+UpGoes d (Reading t s) (Reading u r) = (t ≤ u) × (s ≤ r) × (r ≤ s + d)
+UpGoes d (Reading t s) Read = Unit {0}
+UpGoes d Read (Reading u r) = ⊥
+UpGoes d Read Read = Unit {0}
+
+abbrev pub DownGoes : ℕ → Down → Down → Type 0
+DownGoes d Unsent down = Unit {0}
+DownGoes d (Sent ps t s) Unsent = ⊥
+DownGoes d (Sent ps t s) (Sent qs u r) = (ps ≡ qs) × (t ≤ u) × (s ≤ r) × (r ≤ s + d)
+DownGoes d (Sent ps t s) Closed = Unit {0}
+DownGoes d Closed Unsent = ⊥
+DownGoes d Closed (Sent qs u r) = ⊥
+DownGoes d Closed Closed = Unit {0}
+
+pub up_same : (d : ℕ) (up : Up) → UpGoes d up up
+up_same d (Reading t s) = (omega arith, omega arith, omega arith)
+up_same d Read = tt
+
+pub up_read : (d : ℕ) (up : Up) → UpGoes d up Read
+up_read d (Reading t s) = tt
+up_read d Read = tt
+
+pub down_same : (d : ℕ) (down : Down) → DownGoes d down down
+down_same d Unsent = tt
+down_same d (Sent ps t s) = (refl, omega arith, omega arith, omega arith)
+down_same d Closed = tt
+
+-- no piece of the reply is taken any more
+abbrev pub closed : Down → Down
+closed Unsent = Unsent
+closed (Sent ps t s) = Closed
+closed Closed = Closed
+
+pub down_closed : (d : ℕ) (down : Down) → DownGoes d down (closed down)
+down_closed d Unsent = tt
+down_closed d (Sent ps t s) = tt
+down_closed d Closed = tt
+
+piece_goes : (W d s r k : ℕ) (ps : List Octets) (g : Segment) (o : Octets) → s ≤ r → r ≤ s + d → IsPiece W ps s k g o → IsPiece W ps r (d + k) g o
+piece_goes W d s r k ps g o le far h = record { piece = h.piece; number_is = h.number_is; more_is = h.more_is; octets_is = h.octets_is; below = omega (arith, h.below); near = omega (arith, h.near) }
+
+ack_goes : (W d t u s r k n : ℕ) → t ≤ u → r ≤ s + d → IsAck W t s k n → IsAck W u r (d + k) n
+ack_goes W d t u s r k n le far h = record { piece = h.piece; number_is = h.number_is; below = omega (arith, h.below); near = omega (arith, h.near) }
+
+piece_up_goes : (W d k : ℕ) (ask : Ask) (up up' : Up) (g : Segment) (o : Octets) → UpGoes d up up' → IsPieceUp W ask up k g o → IsPieceUp W ask up' (d + k) g o
+piece_up_goes W d k ask (Reading t s) (Reading u r) g o go h = piece_goes W d s r k ask.pieces g o go.1 go.2 h
+piece_up_goes W d k ask (Reading t s) Read g o go h = tt
+piece_up_goes W d k ask Read (Reading u r) g o go h = absurd go
+piece_up_goes W d k ask Read Read g o go h = tt
+
+ack_up_goes : (W d k n : ℕ) (up up' : Up) → UpGoes d up up' → IsAckUp W up k n → IsAckUp W up' (d + k) n
+ack_up_goes W d k n (Reading t s) (Reading u r) g h = ack_goes W d t u s r k n g.0 g.2 h
+ack_up_goes W d k n (Reading t s) Read g h = tt
+ack_up_goes W d k n Read (Reading u r) g h = absurd g
+ack_up_goes W d k n Read Read g h = tt
+
+piece_down_goes : (W d k : ℕ) (down down' : Down) (g : Segment) (o : Octets) → DownGoes d down down' → IsPieceDown W down k g o → IsPieceDown W down' (d + k) g o
+piece_down_goes W d k Unsent down' g o go h = absurd h
+piece_down_goes W d k (Sent ps t s) Unsent g o go h = absurd go
+piece_down_goes W d k (Sent ps t s) (Sent qs u r) g o go h = subst (λ (xs : List Octets). IsPiece W xs r (d + k) g o) go.0 (piece_goes W d s r k ps g o go.2 go.3 h)
+piece_down_goes W d k (Sent ps t s) Closed g o go h = tt
+piece_down_goes W d k Closed Unsent g o go h = absurd go
+piece_down_goes W d k Closed (Sent qs u r) g o go h = absurd go
+piece_down_goes W d k Closed Closed g o go h = tt
+
+ack_down_goes : (W d k n : ℕ) (down down' : Down) → DownGoes d down down' → IsAckDown W down k n → IsAckDown W down' (d + k) n
+ack_down_goes W d k n Unsent down' g h = absurd h
+ack_down_goes W d k n (Sent ps t s) Unsent g h = absurd g
+ack_down_goes W d k n (Sent ps t s) (Sent qs u r) g h = ack_goes W d t u s r k n g.1 g.3 h
+ack_down_goes W d k n (Sent ps t s) Closed g h = tt
+ack_down_goes W d k n Closed Unsent g h = absurd g
+ack_down_goes W d k n Closed (Sent qs u r) g h = absurd g
+ack_down_goes W d k n Closed Closed g h = tt
+
+-- the log grows
+abbrev pub Grows : List Fact → List Fact → Type 0
+Grows log log' = (f : Fact) → Has f log → Has f log'
+
+pub grows_same : (log : List Fact) → Grows log log
+grows_same log f h = h
+
+pub grows_more : (g : Fact) (log : List Fact) → Grows log (g ∷ log)
+grows_more g log f h = inr h
+
+pub says_goes : (W d m k number : ℕ) (ask : Ask) (log log' : List Fact) (up up' : Up) (down down' : Down) → Grows log log' → UpGoes d up up' → DownGoes d down down' → (a : Apdu) → Says W number ask log up down m k a → Says W number ask log' up' down' m (d + k) a
+says_goes W d m k number ask log log' up up' down down' grows gu gd (ConfirmedRequest sa ms ma id None choice o) h = h
+says_goes W d m k number ask log log' up up' down down' grows gu gd (ConfirmedRequest sa ms ma id (Some g) choice o) h = (h.0, h.1, h.2, piece_up_goes W d k ask up up' g o gu h.3)
+says_goes W d m k number ask log log' up up' down down' grows gu gd (UnconfirmedRequest choice o) h = h
+says_goes W d m k number ask log log' up up' down down' grows gu gd (SimpleAck id choice) h = (h.0, grows (Performed number (request_of ask) reply.Simple) h.1)
+says_goes W d m k number ask log log' up up' down down' grows gu gd (ComplexAck id None choice o) h = (h.0, grows (Performed number (request_of ask) (reply.Complex o)) h.1)
+says_goes W d m k number ask log log' up up' down down' grows gu gd (ComplexAck id (Some g) choice o) h = (h.0, piece_down_goes W d k down down' g o gd h.1)
+says_goes W d m k number ask log log' up up' down down' grows gu gd (SegmentAck nak true id n win) h = (h.0, ack_up_goes W d k n up up' gu h.1)
+says_goes W d m k number ask log log' up up' down down' grows gu gd (SegmentAck nak false id n win) h = (h.0, ack_down_goes W d k n down down' gd h.1)
+says_goes W d m k number ask log log' up up' down down' grows gu gd (Error id choice class code) h = (h.0, grows (Performed number (request_of ask) (reply.Error class code)) h.1)
+says_goes W d m k number ask log log' up up' down down' grows gu gd (Reject id r) h = h
+says_goes W d m k number ask log log' up up' down down' grows gu gd (Abort true id r) h = h
+says_goes W d m k number ask log log' up up' down down' grows gu gd (Abort false id r) h = h
+
+pub copies_go : (W now number : ℕ) (ask : Ask) (log log' : List Fact) (up up' : Up) (down down' : Down) (sends : List Apdu) (copies : List Copy)
+    → Grows log log' → UpGoes (length sends) up up' → DownGoes (length sends) down down' → ask.first ≤ now
+    → AllSends (λ a. (k : ℕ) → Says W number ask log' up' down' now k a) sends
+    → EachCopy (λ k c. Fits W now number ask log up down k c) copies
+    → EachCopy (λ k c. Fits W now number ask log' up' down' k c) (sent now sends copies)
+copies_go W now number ask log log' up up' down down' sends copies grows gu gd clock says old =
+    each_sent (λ k c. Fits W now number ask log' up' down' k c) now sends copies
+    (all_map (λ a. (k : ℕ) → Says W number ask log' up' down' now k a) (λ a. (k : ℕ) → Fits W now number ask log' up' down' k (record { moment = now; apdu = a })) (λ a f k young. (clock, f k)) sends says)
+    (λ k c e young. let h = old k c e young in (h.0, says_goes W (length sends) c.moment k number ask log log' up up' down down' grows gu gd c.apdu h.1))
+
+-- all copies of an ask are sent in time
+pub says_time : (W m k number : ℕ) (ask : Ask) (log : List Fact) (up : Up) (down : Down) (a : Apdu) → Says W number ask log up down m k a → m ≤ server_until ask
+says_time W m k number ask log up down (ConfirmedRequest sa ms ma id None choice o) h = omega (arith, h.0)
+says_time W m k number ask log up down (ConfirmedRequest sa ms ma id (Some g) choice o) h = omega (arith, h.0)
+says_time W m k number ask log up down (UnconfirmedRequest choice o) h = absurd h
+says_time W m k number ask log up down (SimpleAck id choice) h = h.0
+says_time W m k number ask log up down (ComplexAck id None choice o) h = h.0
+says_time W m k number ask log up down (ComplexAck id (Some g) choice o) h = h.0
+says_time W m k number ask log up down (SegmentAck nak true id n win) h = h.0
+says_time W m k number ask log up down (SegmentAck nak false id n win) h = omega (arith, h.0)
+says_time W m k number ask log up down (Error id choice class code) h = h.0
+says_time W m k number ask log up down (Reject id r) h = h
+says_time W m k number ask log up down (Abort true id r) h = h
+says_time W m k number ask log up down (Abort false id r) h = omega (arith, h)
+
+-- Pieces.
+
+pub pieces_all : (Q : Apdu → Type 0) (piece : ℕ → Apdu) (a count : ℕ) → ((p : ℕ) → a ≤ p → p < a + count → Q (piece p)) → AllSends Q (pieces_from piece a count)
+pieces_all Q piece a zero h = tt
+pieces_all Q piece a (suc count) h = (h a (omega arith) (omega arith), pieces_all Q piece (a + 1) count (λ p lo hi. h p (omega arith) (omega arith)))
+
+pub pieces_length : (piece : ℕ → Apdu) (a count : ℕ) → length (pieces_from piece a count) ≡ count
+pieces_length piece a zero = refl
+pieces_length piece a (suc count) = ap suc (pieces_length piece (a + 1) count)

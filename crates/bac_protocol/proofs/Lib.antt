@@ -1,0 +1,4 @@
+pub mod Sound
+pub mod Readings
+pub mod Facts
+pub mod Transfer

@@ -1,0 +1,254 @@
+-- What holds of one transaction at each moment. Whole numbers of pieces are kept beside the two machines, which see numbers modulo 256 alone.
+use Rattle.std.proofs.Common.{◌≡◌, ℕ, ◌+◌, ◌-◌, ◌<◌, ◌≤◌, ◌⊎◌, true, false, List, [], ◌∷◌, length, take, Option, Some, None}
+use Rattle.bac_apdu.specs.Apdu.{Apdu, Segment}
+use Rattle.bac_apdu.specs.Apdu.Apdu.{ConfirmedRequest, UnconfirmedRequest, SimpleAck, ComplexAck, SegmentAck, Error, Reject, Abort}
+use Rattle.bac_segment.specs.Limits.{RETRIES}
+use Rattle.bac_segment.specs.Pieces.{join}
+use Rattle.bac_segment.specs.Window.{Outgoing, Incoming}
+use Rattle.bac_protocol.specs.Times.{LIFE, DEADLINE, KEEP}
+use Rattle.bac_protocol.specs.Service.{Octets, Reply as reply}
+use Rattle.bac_protocol.specs.Client.{Ask, request_of, Phase, Ticket}
+use Rattle.bac_protocol.specs.Client.Phase.{Sending, Awaiting, Collecting, Over}
+use Rattle.bac_protocol.specs.Server.{State, Entry}
+use Rattle.bac_protocol.specs.Server.State.{Receiving, Done, Giving, Dropped}
+use Rattle.bac_protocol.specs.Log.{Fact, Has, asks_in, IsUnperformed, IsUnended, MayEnd}
+use Rattle.bac_protocol.specs.Log.Fact.{Asked, Performed, Ended}
+use Rattle.bac_protocol.specs.Transaction.{Key, Copy, Transaction}
+use Rattle.bac_protocol.specs.Claims.{EachCopy, IsPiece, IsAck}
+
+-- The log.
+
+abbrev pub number_of : Fact → ℕ
+number_of (Asked n c s r) = n
+number_of (Performed n r p) = n
+number_of (Ended n how) = n
+
+-- the asks of the log have numbers below that
+abbrev pub IsBelow : ℕ → List Fact → Type 0
+IsBelow asks [] = Unit {0}
+IsBelow asks (f ∷ log) = (number_of f < asks) × IsBelow asks log
+
+-- the log is right, where stores are not looked at
+abbrev pub IsOrderly : List Fact → Type 0
+IsOrderly [] = Unit {0}
+IsOrderly (Asked n c s r ∷ log) = (n ≡ asks_in log) × IsOrderly log
+IsOrderly (Performed n r p ∷ log) = ((c : ℕ) × (s : ℕ) × Has (Asked n c s r) log) × IsUnperformed n log × IsOrderly log
+IsOrderly (Ended n how ∷ log) = MayEnd n how log × IsUnended n log × IsOrderly log
+
+-- A transfer in pieces, in whole numbers.
+
+-- how far a pass over so many pieces has come: those below taken were taken in order, and those sent were all below sent
+pub record IsUnderway (W taken sent total : ℕ) : Type 0 where
+  pub behind : taken ≤ sent
+  pub near : sent ≤ taken + W
+  pub within : sent ≤ total
+  pub unfinished : taken < total
+
+-- where its sender stands
+pub record IsSender (W : ℕ) (out : Outgoing) (taken sent : ℕ) : Type 0 where
+  pub behind : out.first ≤ taken
+  pub near : sent ≤ out.first + W
+
+-- what was taken are the first pieces of these, at least one
+pub record IsFront (pieces : List Octets) (inc : Incoming) (taken : ℕ) : Type 0 where
+  pub taken_is : length inc.parts ≡ taken
+  pub some : 0 < taken
+  pub parts_are : inc.parts ≡ take taken pieces
+
+-- the pieces of the request: those of the first pass are being read (or the entry was dropped), or all were taken
+pub data Up : Type 0 where
+  Reading : (taken sent : ℕ) → Up
+  Read : Up
+
+-- the pieces of the reply: there are none, or they are being read, or none is taken any more
+pub data Down : Type 0 where
+  Unsent : Down
+  Sent : (pieces : List Octets) (taken sent : ℕ) → Down
+  Closed : Down
+
+abbrev pub IsPieceUp : ℕ → Ask → Up → ℕ → Segment → Octets → Type 0
+IsPieceUp W ask (Reading taken sent) k segment octets = IsPiece W ask.pieces sent k segment octets
+IsPieceUp W ask Read k segment octets = Unit {0}
+
+abbrev pub IsAckUp : ℕ → Up → ℕ → ℕ → Type 0
+IsAckUp W (Reading taken sent) k number = IsAck W taken sent k number
+IsAckUp W Read k number = Unit {0}
+
+abbrev pub IsPieceDown : ℕ → Down → ℕ → Segment → Octets → Type 0
+IsPieceDown W Unsent k segment octets = ⊥
+IsPieceDown W (Sent pieces taken sent) k segment octets = IsPiece W pieces sent k segment octets
+IsPieceDown W Closed k segment octets = Unit {0}
+
+abbrev pub IsAckDown : ℕ → Down → ℕ → ℕ → Type 0
+IsAckDown W Unsent k number = ⊥
+IsAckDown W (Sent pieces taken sent) k number = IsAck W taken sent k number
+IsAckDown W Closed k number = Unit {0}
+
+-- the last moments at which the two ends send for an ask
+abbrev pub client_until : Ask → ℕ
+client_until ask = ask.first + DEADLINE
+
+abbrev pub server_until : Ask → ℕ
+server_until ask = ask.first + DEADLINE + LIFE + KEEP
+
+-- the ask was performed with that reply
+abbrev pub WasPerformed : ℕ → Ask → reply → List Fact → Type 0
+WasPerformed number ask p log = Has (Performed number (request_of ask) p) log
+
+-- a copy with k later ones is of this ask, and was sent in time
+abbrev pub Says : ℕ → ℕ → Ask → List Fact → Up → Down → ℕ → ℕ → Apdu → Type 0
+Says W number ask log up down moment k (ConfirmedRequest sa ms ma id None choice octets) = (moment ≤ client_until ask) × (ask.whole ≡ true) × (choice ≡ ask.choice) × (octets ≡ join ask.pieces)
+Says W number ask log up down moment k (ConfirmedRequest sa ms ma id (Some segment) choice octets) = (moment ≤ client_until ask) × (ask.whole ≡ false) × (choice ≡ ask.choice) × IsPieceUp W ask up k segment octets
+Says W number ask log up down moment k (UnconfirmedRequest choice octets) = ⊥
+Says W number ask log up down moment k (SimpleAck id choice) = (moment ≤ server_until ask) × WasPerformed number ask reply.Simple log
+Says W number ask log up down moment k (ComplexAck id None choice octets) = (moment ≤ server_until ask) × WasPerformed number ask (reply.Complex octets) log
+Says W number ask log up down moment k (ComplexAck id (Some segment) choice octets) = (moment ≤ server_until ask) × IsPieceDown W down k segment octets
+Says W number ask log up down moment k (SegmentAck nak true id n window) = (moment ≤ server_until ask) × IsAckUp W up k n
+Says W number ask log up down moment k (SegmentAck nak false id n window) = (moment ≤ client_until ask) × IsAckDown W down k n
+Says W number ask log up down moment k (Error id choice class code) = (moment ≤ server_until ask) × WasPerformed number ask (reply.Error class code) log
+Says W number ask log up down moment k (Reject id reason) = moment ≤ server_until ask
+Says W number ask log up down moment k (Abort true id reason) = moment ≤ server_until ask
+Says W number ask log up down moment k (Abort false id reason) = moment ≤ client_until ask
+
+-- a copy that is young enough to arrive was sent since the ask was made, and is of it
+abbrev pub Fits : ℕ → ℕ → ℕ → Ask → List Fact → Up → Down → ℕ → Copy → Type 0
+Fits W now number ask log up down k c = now - c.moment ≤ LIFE → (ask.first ≤ c.moment) × Says W number ask log up down c.moment k c.apdu
+
+-- The client.
+
+abbrev pub SendsUp : ℕ → Outgoing → Up → Type 0
+SendsUp W out (Reading taken sent) = IsSender W out taken sent
+SendsUp W out Read = Unit {0}
+
+-- no piece of a reply was taken
+abbrev pub IsUntaken : Down → Type 0
+IsUntaken Unsent = Unit {0}
+IsUntaken (Sent pieces taken sent) = taken ≡ 0
+IsUntaken Closed = ⊥
+
+pub record IsSendingFor (W : ℕ) (ask : Ask) (out : Outgoing) (up : Up) (down : Down) : Type 0 where
+  pub in_pieces : ask.whole ≡ false
+  pub pieces : out.pieces ≡ ask.pieces
+  pub window : out.window ≤ W
+  pub sends : SendsUp W out up
+  pub untaken : IsUntaken down
+
+-- a request in pieces is waited for only when its first pass was read
+abbrev pub IsReadIfPieces : Ask → Up → Type 0
+IsReadIfPieces ask (Reading taken sent) = ask.whole ≡ true
+IsReadIfPieces ask Read = Unit {0}
+
+-- a later pass of a request in pieces begins only when its first pass was read
+abbrev pub IsReadIfRepeated : Ask → (repeats : ℕ) → Up → Type 0
+IsReadIfRepeated ask repeats (Reading taken sent) = (ask.whole ≡ true) ⊎ (repeats ≡ RETRIES)
+IsReadIfRepeated ask repeats Read = Unit {0}
+
+abbrev pub CollectsDown : Incoming → Down → Type 0
+CollectsDown inc Unsent = ⊥
+CollectsDown inc (Sent pieces taken sent) = IsFront pieces inc taken
+CollectsDown inc Closed = ⊥
+
+abbrev pub ClientFits : ℕ → Ask → Phase → Up → Down → Type 0
+ClientFits W ask (Sending out all_sent) up down = IsSendingFor W ask out up down
+ClientFits W ask Awaiting up down = IsReadIfPieces ask up × IsUntaken down
+ClientFits W ask (Collecting inc) up down = CollectsDown inc down
+ClientFits W ask Over up down = Unit {0}
+
+-- The server.
+
+-- what a server keeps for an ask fits the log
+abbrev pub IsKeptFor : ℕ → Ask → Apdu → List Fact → Type 0
+IsKeptFor number ask (SimpleAck id choice) log = WasPerformed number ask reply.Simple log
+IsKeptFor number ask (ComplexAck id None choice octets) log = WasPerformed number ask (reply.Complex octets) log
+IsKeptFor number ask (Error id choice class code) log = WasPerformed number ask (reply.Error class code) log
+IsKeptFor number ask (Reject id reason) log = IsUnperformed number log
+IsKeptFor number ask (Abort true id reason) log = IsUnperformed number log
+IsKeptFor number ask _ log = ⊥
+
+abbrev pub IsUnbegun : ℕ → Up → Down → List Fact → Type 0
+IsUnbegun number (Reading taken sent) Unsent log = (taken ≡ 0) × IsUnperformed number log
+IsUnbegun number _ _ log = ⊥
+
+pub record IsReceivingFor (number : ℕ) (ask : Ask) (inc : Incoming) (taken : ℕ) (log : List Fact) : Type 0 where
+  pub in_pieces : ask.whole ≡ false
+  pub front : IsFront ask.pieces inc taken
+  pub unperformed : IsUnperformed number log
+
+abbrev pub SendsDown : ℕ → Outgoing → Down → Type 0
+SendsDown W out Unsent = ⊥
+SendsDown W out (Sent pieces taken sent) = (out.pieces ≡ pieces) × IsSender W out taken sent
+SendsDown W out Closed = Unit {0}
+
+pub record IsGivingFor (W number : ℕ) (ask : Ask) (out : Outgoing) (down : Down) (log : List Fact) : Type 0 where
+  pub window : out.window ≤ W
+  pub performed : WasPerformed number ask (reply.Complex (join out.pieces)) log
+  pub sends : SendsDown W out down
+
+abbrev pub StateFits : ℕ → ℕ → Ask → State → Up → Down → List Fact → Type 0
+StateFits W number ask (Receiving inc since) (Reading taken sent) Unsent log = IsReceivingFor number ask inc taken log
+StateFits W number ask (Done kept) Read Unsent log = IsKeptFor number ask kept log
+StateFits W number ask (Giving out transfer since) Read down log = IsGivingFor W number ask out down log
+StateFits W number ask Dropped (Reading taken sent) Unsent log = IsUnperformed number log
+StateFits W number ask _ _ _ log = ⊥
+
+-- the entry was begun for the ask
+pub record IsBegunFor (W number : ℕ) (ask : Ask) (e : Entry) (up : Up) (down : Down) (log : List Fact) : Type 0 where
+  pub after : ask.first ≤ e.begin
+  pub before : e.begin ≤ ask.first + DEADLINE + LIFE
+  pub choice : e.terms.choice ≡ ask.choice
+  pub state : StateFits W number ask e.state up down log
+
+-- the entry was dead before the ask was made
+pub record IsPastFor (number : ℕ) (ask : Ask) (e : Entry) (up : Up) (down : Down) (log : List Fact) : Type 0 where
+  pub dead : e.begin + KEEP < ask.first
+  pub unbegun : IsUnbegun number up down log
+
+abbrev pub ServerFits : ℕ → ℕ → Ask → Option Entry → Up → Down → List Fact → Type 0
+ServerFits W number ask None up down log = IsUnbegun number up down log
+ServerFits W number ask (Some e) up down log = IsPastFor number ask e up down log ⊎ IsBegunFor W number ask e up down log
+
+-- All of it.
+
+abbrev pub UpFits : ℕ → Ask → Up → Type 0
+UpFits W ask (Reading taken sent) = IsUnderway W taken sent (length ask.pieces)
+UpFits W ask Read = Unit {0}
+
+abbrev pub DownFits : ℕ → Down → Type 0
+DownFits W Unsent = Unit {0}
+DownFits W (Sent pieces taken sent) = IsUnderway W taken sent (length pieces)
+DownFits W Closed = Unit {0}
+
+abbrev pub IsOpenIn : Phase → ℕ → List Fact → Type 0
+IsOpenIn (Sending out all_sent) n log = IsUnended n log
+IsOpenIn Awaiting n log = IsUnended n log
+IsOpenIn (Collecting inc) n log = IsUnended n log
+IsOpenIn Over n log = Unit {0}
+
+pub record Sound (W : ℕ) (key : Key) (now asks number : ℕ) (t : Ticket) (entry : Option Entry) (copies : List Copy) (log : List Fact) (up : Up) (down : Down) : Type 0 where
+  pub clock : t.ask.first ≤ now
+  pub numbers : IsBelow asks log
+  pub counted : asks ≡ asks_in log
+  pub orderly : IsOrderly log
+  pub asked : Has (Asked number key.client key.server (request_of t.ask)) log
+  pub unended : IsOpenIn t.phase number log
+  pub client : ClientFits W t.ask t.phase up down
+  pub passes : IsReadIfRepeated t.ask t.repeats up
+  pub server : ServerFits W number t.ask entry up down log
+  pub upload : UpFits W t.ask up
+  pub download : DownFits W down
+  pub arriving : EachCopy (λ k c. Fits W now number t.ask log up down k c) copies
+
+-- nothing was asked yet of this transaction
+pub record IsFresh (asks : ℕ) (entry : Option Entry) (copies : List Copy) (log : List Fact) : Type 0 where
+  pub no_entry : entry ≡ None
+  pub no_copies : copies ≡ []
+  pub numbers : IsBelow asks log
+  pub counted : asks ≡ asks_in log
+  pub orderly : IsOrderly log
+
+abbrev pub IsSoundAt : ℕ → Key → Option Ticket → Transaction → Type 0
+IsSoundAt W key None w = IsFresh w.asks w.entry w.copies w.log
+IsSoundAt W key (Some t) w = (up : Up) × (down : Down) × Sound W key w.now w.asks w.number t w.entry w.copies w.log up down
+
+abbrev pub IsSound : ℕ → Key → Transaction → Type 0
+IsSound W key w = IsSoundAt W key w.ticket w

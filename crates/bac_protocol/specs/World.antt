@@ -1,0 +1,176 @@
+-- All transactions of all nodes, with one list of copies, one log, and the servers' stores.
+use Rattle.std.specs.Prelude.{ℕ, zero, suc, ◌+◌, ◌-◌, Bool, false, ◌&&◌, List, [], ◌∷◌, ◌++◌, map, Option, Some, None, slice_get, if◌then◌else◌, nat_le, nat_eq}
+use Rattle.bac_apdu.specs.Apdu.{Apdu}
+use Rattle.bac_protocol.specs.Times.{LIFE}
+use Rattle.bac_protocol.specs.Service.{Octets}
+use Rattle.bac_protocol.specs.Wire.{is_from_client}
+use Rattle.bac_protocol.specs.Client.{Ask, request_of, Ticket, after, sends_of, ending_of, asked_ticket, asks, client_gets, client_ticks, is_held}
+use Rattle.bac_protocol.specs.Client as client
+use Rattle.bac_protocol.specs.Server.{Entry, Effect, Service, server_gets, server_ticks}
+use Rattle.bac_protocol.specs.Server as server
+use Rattle.bac_protocol.specs.Log.{Fact, Shop}
+use Rattle.bac_protocol.specs.Log.Fact.{Asked}
+use Rattle.bac_protocol.specs.Transaction.{Key, Rules, Copy, Transaction, ended, performed}
+
+abbrev pub same_key : Key → Key → Bool
+same_key a b = nat_eq a.client b.client && (nat_eq a.server b.server && nat_eq a.id b.id)
+
+-- a copy that was sent, with its transaction
+pub record Post : Type 0 where
+  pub key : Key
+  pub copy : Copy
+
+-- all but the stores
+pub record Net : Type 0 where
+  pub now : ℕ
+  pub asks : ℕ  -- how many asks there were
+  pub numbers : Key → ℕ  -- the number of each transaction's newest ask
+  pub tickets : Key → Option Ticket
+  pub entries : Key → Option Entry
+  pub posts : List Post  -- every copy that was sent, oldest first, numbered from 0
+  pub log : List Fact  -- newest first
+
+pub record World (S : Type 0) : Type 0 where
+  pub net : Net
+  pub stores : ℕ → S
+
+-- The copies.
+
+-- how many of these are the transaction's
+abbrev pub count_of : Key → List Post → ℕ
+count_of key [] = 0
+count_of key (p ∷ posts) = if same_key p.key key then suc (count_of key posts) else count_of key posts
+
+-- how many members of the list behind that one are the transaction's
+abbrev pub later : Key → ℕ → List Post → ℕ
+later key number [] = 0
+later key zero (p ∷ posts) = count_of key posts
+later key (suc number) (p ∷ posts) = later key number posts
+
+-- a copy is deliverable while it is young and not overtaken by too many of its transaction
+abbrev pub is_deliverable : Rules → (now number : ℕ) → List Post → Post → Bool
+is_deliverable x now number posts p = nat_le (now - p.copy.moment) LIFE && nat_le (later p.key number posts) x.overtake
+
+-- the copies of one transaction, newest first, in front of others
+abbrev pub copies_before : Key → List Post → List Copy → List Copy
+copies_before key [] copies = copies
+copies_before key (p ∷ posts) copies = copies_before key posts (if same_key p.key key then p.copy ∷ copies else copies)
+
+abbrev pub copies_of : Key → List Post → List Copy
+copies_of key posts = copies_before key posts []
+
+abbrev pub post_of : Key → ℕ → Apdu → Post
+post_of key now a = record { key = key; copy = record { moment = now; apdu = a } }
+
+-- what one transaction sees of it all
+abbrev pub one : Net → Key → Transaction
+one n key = record { now = n.now; asks = n.asks; number = n.numbers key; ticket = n.tickets key; entry = n.entries key; copies = copies_of key n.posts; log = n.log }
+
+-- What one end does.
+
+abbrev pub set_at : {A : Type 0} → (Key → A) → Key → A → Key → A
+set_at f key a k = if same_key key k then a else f k
+
+abbrev pub client_acts : Net → Key → Ticket → client.Reaction → Net
+client_acts n key t r =
+    record n {
+      tickets = set_at n.tickets key (Some (after n.now t r));
+      posts = n.posts ++ map (post_of key n.now) (sends_of r);
+      log = ended (n.numbers key) (ending_of r) n.log;
+    }
+
+abbrev pub server_acts : Net → Key → server.Reaction → Net
+server_acts n key v =
+    record n {
+      entries = set_at n.entries key v.entry;
+      posts = n.posts ++ map (post_of key n.now) v.sends;
+      log = performed (n.numbers key) v.effect n.log;
+    }
+
+-- an accepted ask
+abbrev pub asked_at : Rules → Net → Key → Ask → Net
+asked_at x n key ask =
+    let c = x.settings key.client in
+    record n {
+      asks = n.asks + 1;
+      numbers = set_at n.numbers key n.asks;
+      tickets = set_at n.tickets key (Some (asked_ticket c key.id n.now ask));
+      posts = n.posts ++ map (post_of key n.now) (sends_of (asks c key.id ask));
+      log = Asked n.asks key.client key.server (request_of ask) ∷ n.log;
+    }
+
+abbrev pub stored : (S : Type 0) → Shop S → (server : ℕ) → Option Effect → (ℕ → S) → ℕ → S
+stored S shop server None stores node = stores node
+stored S shop server (Some effect) stores node = if nat_eq node server then shop.after (stores server) effect.request else stores node
+
+abbrev pub reacts : (S : Type 0) → World S → Key → Ticket → client.Reaction → World S
+reacts S w key t r = record { net = client_acts w.net key t r; stores = w.stores }
+
+abbrev pub serves : (S : Type 0) → Shop S → World S → Key → server.Reaction → World S
+serves S shop w key v = record { net = server_acts w.net key v; stores = stored S shop key.server v.effect w.stores }
+
+-- Events.
+
+pub data Event : Type 0 where
+  MakeAsk : (key : Key) (choice : ℕ) (whole : Bool) (front : Octets) (rest : List Octets) → Event
+  Deliver : (number : ℕ) (free : Bool) → Event  -- free: whether a slot of the server's reply table has no live entry
+  Tick : (as_client as_server : List Key) → Event  -- a node's tickets, and then its entries, in order
+  Noise : Event  -- octets that are no datagram with an APDU
+  Advance : (by : ℕ) → Event
+
+abbrev pub is_key_held : ℕ → Option Ticket → Bool
+is_key_held now None = false
+is_key_held now (Some t) = is_held now t
+
+abbrev pub service_of : (S : Type 0) → Shop S → World S → Key → Service
+service_of S shop w key = shop.outcome (w.stores key.server)
+
+abbrev pub takes_at_client : (S : Type 0) → Rules → World S → Key → Apdu → Option Ticket → World S
+takes_at_client S x w key a None = w
+takes_at_client S x w key a (Some t) = reacts S w key t (client_gets (x.settings key.client) x.readable key.id w.net.now t a)
+
+abbrev pub takes_at_server : (S : Type 0) → Shop S → Rules → World S → Key → (free : Bool) → Apdu → World S
+takes_at_server S shop x w key free a = serves S shop w key (server_gets (x.settings key.server) key.id w.net.now (service_of S shop w key) (w.net.entries key) free a)
+
+-- a copy reaches the other end of its transaction
+abbrev pub arrives : (S : Type 0) → Shop S → Rules → World S → Key → (free : Bool) → Apdu → World S
+arrives S shop x w key free a = if is_from_client a then takes_at_server S shop x w key free a else takes_at_client S x w key a (w.net.tickets key)
+
+-- one that is not deliverable is lost
+abbrev pub delivered : (S : Type 0) → Shop S → Rules → World S → (number : ℕ) → (free : Bool) → Option Post → World S
+delivered S shop x w number free None = w
+delivered S shop x w number free (Some p) = if is_deliverable x w.net.now number w.net.posts p then arrives S shop x w p.key free p.copy.apdu else w
+
+abbrev pub ticks_ticket : (S : Type 0) → Rules → World S → Key → Option Ticket → World S
+ticks_ticket S x w key None = w
+ticks_ticket S x w key (Some t) = reacts S w key t (client_ticks (x.settings key.client) key.id w.net.now t)
+
+abbrev pub ticks_as_client : (S : Type 0) → Rules → List Key → World S → World S
+ticks_as_client S x [] w = w
+ticks_as_client S x (key ∷ keys) w = ticks_as_client S x keys (ticks_ticket S x w key (w.net.tickets key))
+
+abbrev pub ticks_as_server : (S : Type 0) → Shop S → Rules → List Key → World S → World S
+ticks_as_server S shop x [] w = w
+ticks_as_server S shop x (key ∷ keys) w = ticks_as_server S shop x keys (serves S shop w key (server_ticks (x.settings key.server) key.id w.net.now (w.net.entries key)))
+
+abbrev pub ask_made : (S : Type 0) → Rules → World S → Key → Ask → World S
+ask_made S x w key ask = record { net = asked_at x w.net key ask; stores = w.stores }
+
+abbrev pub happens : (S : Type 0) → Shop S → Rules → World S → Event → World S
+happens S shop x w (MakeAsk key choice whole front rest) =
+    if is_key_held w.net.now (w.net.tickets key) then w
+    else ask_made S x w key (record { first = w.net.now; choice = choice; whole = whole; pieces = front ∷ rest })
+happens S shop x w (Deliver number free) = delivered S shop x w number free (slice_get w.net.posts number)
+happens S shop x w (Tick as_client as_server) = ticks_as_server S shop x as_server (ticks_as_client S x as_client w)
+happens S shop x w Noise = w
+happens S shop x w (Advance by) = record { net = record w.net { now = w.net.now + by }; stores = w.stores }
+
+abbrev pub run : (S : Type 0) → Shop S → Rules → List Event → World S → World S
+run S shop x [] w = w
+run S shop x (e ∷ es) w = run S shop x es (happens S shop x w e)
+
+abbrev pub net_start : Net
+net_start = record { now = 0; asks = 0; numbers = λ key. 0; tickets = λ key. None; entries = λ key. None; posts = []; log = [] }
+
+abbrev pub start : (S : Type 0) → (opening : ℕ → S) → World S
+start S opening = record { net = net_start; stores = opening }

@@ -1,0 +1,10 @@
+use Rattle.std.proofs.Common.{arith, sym, ap, ◌∙◌, ◌≤◌, drop}
+use Rattle.std.proofs.lemmas.List.{length-take}
+use Rattle.bac_value.specs.Octets.{joined}
+use Rattle.bac_value.proofs.Joined.{behind_front}
+use Rattle.bac_value.proofs.parts_octets.PartsOctets.split.Goals as goal
+
+pub returns-clause-behind : goal.returns-clause-behind
+returns-clause-behind c =
+    let p = c.args.self in
+    rw (c.settled.ensures.count, c.settled.ensures.same) (sym (behind_front (joined p.parts.now) p.skip p.len c.args.count (omega (arith, c.requires, length-take p.len (drop p.skip (joined p.parts.now))))))

@@ -1,0 +1,97 @@
+ghost use Rattle.std.specs.Prelude.{◌≡◌, ◌<◌, ◌≤◌, ◌+◌, ◌-◌, ◌++◌, ◌^◌, length, take, drop, min, IfOk, OnOk, OnErr};
+ghost use Rattle.bac_value.specs.Octets.{IsBytes, joined, Begins};
+ghost use Rattle.bac_value.specs.Views.{octets_in};
+
+use crate::memory::NoMemory;
+use crate::octets::{Octets, slice_len};
+use crate::parts::{Parts, settled};
+
+impl<'a> Parts<'a> {
+    /// All octets of some pieces. A caller knows that there are fewer than `2^64`.
+    pub fn new(parts: &'a [Vec<u8>]) -> Parts<'a>
+        requires { length (joined parts.now) < 2 ^ 64 }
+        ensures { octets_in result ≡ joined parts.now }
+    {
+        let mut len = 0;
+        for part in parts {
+            len += slice_len(part);
+        }
+        settled(parts, 0, len)
+    }
+}
+
+/// Appends what a piece has of the octets that are left, and tells how many.
+fn append_piece(part: &[u8], skip: usize, left: usize, out: &mut Vec<u8>) -> Result<usize, NoMemory>
+    requires { skip ≤ length part.now }
+    ensures count { IfOk result (λ here. here ≡ min left (length part.now - skip)) }
+    ensures ok { IfOk result (λ here. out.new.items ≡ out.old.items ++ take here (drop skip part.now)) }
+    ensures err { OnErr result (out.new.items ≡ out.old.items) }
+{
+    let here = left.min(part.len() - skip);
+    out.extend_from_slice(&part[skip..skip + here])?;
+    Ok(here)
+}
+
+/// Appends so many octets behind some of the pieces' octets.
+fn append_pieces(
+    parts: &[Vec<u8>],
+    at: usize,
+    len: usize,
+    out: &mut Vec<u8>,
+) -> Result<(), NoMemory>
+    requires { at + len ≤ length (joined parts.now) }
+    ensures ok { OnOk result (out.new.items ≡ out.old.items ++ take len (drop at (joined parts.now))) }
+    ensures kept { Begins out.old.items out.new.items }
+{
+    out.reserve(len)?;
+    let mut skip = at;
+    let mut left = len;
+    for part in parts {
+        if left == 0 {
+            break;
+        }
+        let over = skip.min(part.len());
+        let here = append_piece(part, over, left, out)?;
+        left -= here;
+        skip -= over;
+    }
+    Ok(())
+}
+
+impl Octets for Parts<'_> {
+    ghost octets = { octets_in };
+
+    fn len(self) -> usize {
+        self.len
+    }
+
+    fn first(self) -> Option<(u8, Self)> {
+        if self.len == 0 {
+            return None;
+        }
+        let (part, _) = self.parts.split_first()?;
+        let first = part[self.skip];
+        Some((first, settled(self.parts, self.skip + 1, self.len - 1)))
+    }
+
+    fn split(self, count: usize) -> (Self, Self) {
+        let front = Parts {
+            parts: self.parts,
+            skip: self.skip,
+            len: count,
+        };
+        (
+            front,
+            settled(self.parts, self.skip + count, self.len - count),
+        )
+    }
+
+    fn append_to(self, out: &mut Vec<u8>) -> Result<(), NoMemory> {
+        let before = out.len();
+        let copied = append_pieces(self.parts, self.skip, self.len, out);
+        if copied.is_err() {
+            out.truncate(before);
+        }
+        copied
+    }
+}
