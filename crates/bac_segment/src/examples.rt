@@ -12,8 +12,7 @@ fn cuts()
     ensures none { pieces_of 5 [] ≡ [] }
     ensures joined { join ((1 ∷ 2 ∷ []) ∷ [] ∷ (3 ∷ []) ∷ []) ≡ 1 ∷ 2 ∷ 3 ∷ [] }
     ensures at { piece_at (pieces_of 2 (1 ∷ 2 ∷ 3 ∷ [])) 1 ≡ 3 ∷ [] }
-{
-}
+{}
 
 /// How far the wire's number is ahead.
 fn counts_ahead()
@@ -21,8 +20,7 @@ fn counts_ahead()
     ensures next { ahead 1 256 ≡ 1 }
     ensures behind { ahead 255 256 ≡ 255 }
     ensures round { ahead 4 510 ≡ 6 }
-{
-}
+{}
 
 /// A sender of three pieces: acknowledgements of piece 0, of pieces behind and ahead of the window, and of the last.
 fn sends()
@@ -34,8 +32,7 @@ fn sends()
     ensures last { acknowledged 32 (record { pieces = (1 ∷ []) ∷ (2 ∷ []) ∷ (3 ∷ []) ∷ []; first = 1; window = 32; retries = 0 }) 2 16 ≡ Some (record { pieces = (1 ∷ []) ∷ (2 ∷ []) ∷ (3 ∷ []) ∷ []; first = 3; window = 16; retries = 3 }) }
     ensures finished { is_finished (record { pieces = (1 ∷ []) ∷ (2 ∷ []) ∷ (3 ∷ []) ∷ []; first = 3; window = 16; retries = 3 }) ≡ true }
     ensures unfinished { is_finished (record { pieces = (1 ∷ []) ∷ (2 ∷ []) ∷ (3 ∷ []) ∷ []; first = 2; window = 16; retries = 3 }) ≡ false }
-{
-}
+{}
 
 /// Repeats, and what a transfer begins with again.
 fn repeats()
@@ -43,8 +40,7 @@ fn repeats()
     ensures no_more { again (record { pieces = (1 ∷ []) ∷ []; first = 0; window = 1; retries = 0 }) ≡ None }
     ensures restart { restart (record { pieces = (1 ∷ []) ∷ (2 ∷ []) ∷ []; first = 1; window = 9; retries = 0 }) ≡ record { pieces = (1 ∷ []) ∷ (2 ∷ []) ∷ []; first = 0; window = 1; retries = 3 } }
     ensures resume { resume (record { pieces = (1 ∷ []) ∷ (2 ∷ []) ∷ []; first = 1; window = 9; retries = 0 }) ≡ record { pieces = (1 ∷ []) ∷ (2 ∷ []) ∷ []; first = 1; window = 9; retries = 3 } }
-{
-}
+{}
 
 /// A receiver of window 2: piece 0 is acknowledged, piece 1 is not, piece 2 fills the window.
 fn receives()
@@ -55,5 +51,4 @@ fn receives()
     ensures two { takes (record { parts = (7 ∷ []) ∷ [] ∷ []; unacknowledged = 1; window = 2 }) 2 true (8 ∷ []) ≡ Taking.Taken true (record { parts = (7 ∷ []) ∷ [] ∷ (8 ∷ []) ∷ []; unacknowledged = 0; window = 2 }) }
     ensures last { takes (record { parts = (7 ∷ []) ∷ [] ∷ []; unacknowledged = 1; window = 2 }) 2 false (8 ∷ []) ≡ Taking.Complete ((7 ∷ []) ∷ [] ∷ (8 ∷ []) ∷ []) }
     ensures other { takes (record { parts = (7 ∷ []) ∷ [] ∷ []; unacknowledged = 1; window = 2 }) 1 true [] ≡ Taking.Nak (record { parts = (7 ∷ []) ∷ [] ∷ []; unacknowledged = 0; window = 2 }) }
-{
-}
+{}

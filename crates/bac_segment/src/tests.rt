@@ -19,7 +19,11 @@ fn sender(alloc: Global, len: usize, size: usize) -> Result<Outgoing, Fail>
 }
 
 /// Hands piece `n` to the receiver, as a segment. None where there is no such piece.
-fn offer(receiver: &mut Incoming, sender: &Outgoing, n: usize) -> Option<Result<Step, SegmentFault>> {
+fn offer(
+    receiver: &mut Incoming,
+    sender: &Outgoing,
+    n: usize,
+) -> Option<Result<Step, SegmentFault>> {
     if n >= sender.count() {
         return None;
     }
@@ -49,7 +53,11 @@ fn cuts_into_pieces(rt: HostRuntime) -> Result<(), Fail> {
             let piece = out.piece(n);
             let want = if n + 1 < count { size } else { last };
             assert_eq!(rt; piece.len(), want, "piece {n} of {len} octets");
-            assert_eq!(rt; piece.first().copied(), Some((from % 251) as u8), "piece {n} of {len} octets");
+            assert_eq!(rt;
+                piece.first().copied(),
+                Some((from % 251) as u8),
+                "piece {n} of {len} octets"
+            );
             assert!(rt; from < 1_000_000);
             from += piece.len();
         }
@@ -65,7 +73,10 @@ fn answers_other_segments_negatively(rt: HostRuntime) -> Result<(), Fail> {
     let mut out = sender(rt.alloc(), 111, 44)?;
     let mut inc = Incoming::new(rt.alloc(), 32, 32);
     assert_eq!(rt; out.in_window(), 1);
-    assert_eq!(rt; offer(&mut inc, &out, 0), Some(Ok(Step::Taken { ack: true })));
+    assert_eq!(rt;
+        offer(&mut inc, &out, 0),
+        Some(Ok(Step::Taken { ack: true }))
+    );
     assert_eq!(rt; out.on_ack(0, 32, 32), Progress::Moved);
     assert_eq!(rt; (out.window().start, out.window().end), (1, 3));
     let arrivals = [
@@ -111,7 +122,11 @@ fn takes_the_most_segments(rt: HostRuntime) {
     let mut inc = Incoming::new(rt.alloc(), 32, 32);
     for n in 0..65_535u32 {
         let ack = n % 32 == 0;
-        assert_eq!(rt; inc.on_segment((n % 256) as u8, true, &[]), Ok(Step::Taken { ack }), "segment {n}");
+        assert_eq!(rt;
+            inc.on_segment((n % 256) as u8, true, &[]),
+            Ok(Step::Taken { ack }),
+            "segment {n}"
+        );
     }
     assert_eq!(rt; inc.answer(255, true, &[]), Err(SegmentFault::TooLong));
     assert_eq!(rt; inc.on_segment(255, true, &[]), Err(SegmentFault::TooLong));
@@ -127,7 +142,10 @@ fn takes_the_most_octets(rt: HostRuntime) -> Result<(), Fail> {
     let more = vec![in alloc; 7u8; 65_536]?;
     let mut inc = Incoming::new(alloc, 32, 32);
     assert_eq!(rt; inc.on_segment(0, true, &more), Err(SegmentFault::TooLong));
-    assert_eq!(rt; inc.on_segment(0, true, &most), Ok(Step::Taken { ack: true }));
+    assert_eq!(rt;
+        inc.on_segment(0, true, &most),
+        Ok(Step::Taken { ack: true })
+    );
     assert_eq!(rt; inc.on_segment(1, true, &[7]), Err(SegmentFault::TooLong));
     assert_eq!(rt; (inc.taken(), inc.len()), (1, 65_535));
     assert_eq!(rt; inc.on_segment(1, false, &[]), Ok(Step::Whole));
@@ -141,7 +159,11 @@ fn stops_and_goes_on(rt: HostRuntime) -> Result<(), Fail> {
     let mut inc = Incoming::new(rt.alloc(), 32, 32);
     for n in 0..41 {
         let ack = n == 0 || n == 32;
-        assert_eq!(rt; offer(&mut inc, &out, n), Some(Ok(Step::Taken { ack })), "segment {n}");
+        assert_eq!(rt;
+            offer(&mut inc, &out, n),
+            Some(Ok(Step::Taken { ack })),
+            "segment {n}"
+        );
         if ack {
             assert_eq!(rt; out.on_ack((n % 256) as u8, 32, 32), Progress::Moved);
         }
@@ -150,7 +172,11 @@ fn stops_and_goes_on(rt: HostRuntime) -> Result<(), Fail> {
     assert_eq!(rt; out.on_ack(40, 32, 32), Progress::Moved);
     for again in [true, true, true, false] {
         assert_eq!(rt; out.has_retry(), again);
-        let want = if again { Timeout::Again } else { Timeout::GivenUp };
+        let want = if again {
+            Timeout::Again
+        } else {
+            Timeout::GivenUp
+        };
         assert_eq!(rt; out.on_timeout(), want);
         assert_eq!(rt; (out.window().start, out.window().end), (41, 73));
     }
@@ -164,6 +190,9 @@ fn stops_and_goes_on(rt: HostRuntime) -> Result<(), Fail> {
     out.go_back(there);
     assert_eq!(rt; (out.window().start, out.window().end), (41, 73));
     out.restart();
-    assert_eq!(rt; (out.window().start, out.window().end, out.position().retries), (0, 1, 3));
+    assert_eq!(rt;
+        (out.window().start, out.window().end, out.position().retries),
+        (0, 1, 3)
+    );
     Ok(())
 }

@@ -1,6 +1,7 @@
 //! Both sides against each other: in order, and over a network that loses, repeats and reorders.
 use super::{offer, sender};
 use crate::{Incoming, Outgoing, Progress, Step, Timeout};
+use bac_value::Octets;
 use std::alloc::{AllocError, Global};
 use std::test::Fail;
 
@@ -47,8 +48,12 @@ fn acknowledges_each_window_once(rt: HostRuntime) -> Result<(), Fail> {
         assert!(rt; size > 0);
         let mut out = sender(rt.alloc(), len, size)?;
         let mut inc = Incoming::new(rt.alloc(), own, other);
-        assert_eq!(rt; in_order(&mut out, &mut inc, own), Some((segments, acks)), "{len} octets, windows {own} and {other}");
-        assert_eq!(rt; inc.len(), len);
+        assert_eq!(rt;
+            in_order(&mut out, &mut inc, own),
+            Some((segments, acks)),
+            "{len} octets, windows {own} and {other}"
+        );
+        assert_eq!(rt; inc.parts().len(), len);
     }
     Ok(())
 }
@@ -76,7 +81,13 @@ struct Transfer {
 }
 
 impl Transfer {
-    fn new(alloc: Global, pieces: usize, own: u8, overtake: u16, random: u64) -> Result<Transfer, Fail> {
+    fn new(
+        alloc: Global,
+        pieces: usize,
+        own: u8,
+        overtake: u16,
+        random: u64,
+    ) -> Result<Transfer, Fail> {
         let mut transfer = Transfer {
             sender: sender(alloc, pieces, 1)?,
             receiver: Incoming::new(alloc, own, own),
@@ -102,7 +113,10 @@ impl Transfer {
 
     /// The next number of a sequence that is always the same.
     fn next(&mut self, below: u32) -> usize {
-        self.random = self.random.wrapping_mul(6_364_136_223_846_793_005).wrapping_add(1_442_695_040_888_963_407);
+        self.random = self
+            .random
+            .wrapping_mul(6_364_136_223_846_793_005)
+            .wrapping_add(1_442_695_040_888_963_407);
         ((self.random >> 33) % u64::from(below.max(1))) as usize
     }
 
@@ -174,7 +188,10 @@ impl Transfer {
     }
 
     fn ack(&mut self, n: usize) -> Result<(), Fail> {
-        match self.sender.on_ack((n % 256) as u8, self.receiver.window(), self.own) {
+        match self
+            .sender
+            .on_ack((n % 256) as u8, self.receiver.window(), self.own)
+        {
             Progress::Ignored => return Ok(()),
             Progress::Moved => self.send_window()?,
             Progress::Finished => self.finished = true,
@@ -187,7 +204,15 @@ impl Transfer {
 /// The greatest window and overtaking limit of each row keep V + 2W at most 255.
 #[test]
 fn no_number_is_misread_within_the_bound(rt: HostRuntime) -> Result<(), Fail> {
-    let table = [(32, 128), (64, 127), (64, 100), (1, 253), (16, 223), (3, 249), (1, 0)];
+    let table = [
+        (32, 128),
+        (64, 127),
+        (64, 100),
+        (1, 253),
+        (16, 223),
+        (3, 249),
+        (1, 0),
+    ];
     for (own, overtake) in table {
         for seed in 0..2 {
             let mut transfer = Transfer::new(rt.alloc(), 400, own, overtake, seed)?;
@@ -198,10 +223,22 @@ fn no_number_is_misread_within_the_bound(rt: HostRuntime) -> Result<(), Fail> {
                 transfer.event()?;
                 let first = transfer.sender.position().first;
                 let taken = transfer.receiver.taken();
-                assert!(rt; !transfer.misread, "window {own}, overtaking {overtake}, seed {seed}");
-                assert!(rt; first <= taken, "window {own}, overtaking {overtake}, seed {seed}");
+                assert!(rt;
+                    !transfer.misread,
+                    "window {own}, overtaking {overtake}, seed {seed}"
+                );
+                assert!(rt;
+                    first <= taken,
+                    "window {own}, overtaking {overtake}, seed {seed}"
+                );
             }
-            assert!(rt; transfer.finished && transfer.whole, "window {own}, overtaking {overtake}, seed {seed}");
+            assert!(rt;
+                transfer.finished && transfer.whole,
+                "window {own}, overtaking {overtake}, seed {seed}"
+            );
+            let mut joined = Vec::new(rt.alloc());
+            transfer.receiver.parts().append_to(&mut joined)?;
+            assert_eq!(rt; joined.as_slice(), transfer.sender.octets());
         }
     }
     Ok(())
