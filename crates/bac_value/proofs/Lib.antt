@@ -8,3 +8,4 @@ pub mod Forests
 pub mod Joined
 pub mod Numbers
 pub mod Signs
+pub mod Values
