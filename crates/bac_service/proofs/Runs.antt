@@ -5,7 +5,7 @@ use Rattle.bac_value.specs.Spelling.{Mark}
 use Rattle.bac_value.specs.Reading.{tag_at}
 use Rattle.bac_service.specs.Members.{Octets}
 use Rattle.bac_service.specs.Reading.{◌>>=◌, kept, announced, application_string, strings_at, run_at}
-use Rattle.bac_service.specs.Found.{string_step}
+use Rattle.bac_service.specs.Services.{string_step}
 
 abbrev pub plus : ℕ → Option (ℕ × Octets) → Option (ℕ × Octets)
 plus count None = None

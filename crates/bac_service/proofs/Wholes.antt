@@ -1,5 +1,5 @@
 -- What is read of whole service data is exactly what they spell.
-use Rattle.std.proofs.Common.{◌≡◌, ◌≢◌, ℕ, ◌<◌, ℤ, Bool, true, false, cond, nat_eq, List, [], ◌++◌, Option, Some, None, ◌⊎◌, inl, inr, refl, sym, ap, subst, ◌∙◌, append_assoc, lit<, IsTrue}
+use Rattle.std.proofs.Common.{◌≡◌, ◌≢◌, ℕ, ◌<◌, ℤ, Bool, true, false, cond, nat_eq, List, [], ◌++◌, Option, Some, None, ◌⊎◌, inl, inr, refl, sym, ap, subst, ◌∙◌, append_assoc, lit<, IsTrue, length, ◌^◌, Result, Ok, Err, MatchResult, IfOk, IfErr}
 use Rattle.std.proofs.lemmas.Bool.{eqb-true, lt-ltb}
 use Rattle.bac_value.specs.declared.tag.Class.{Class}
 use Rattle.bac_value.specs.declared.tag.Class.TheVariants.{Application, Context}
@@ -13,10 +13,11 @@ use Rattle.bac_value.specs.Reading.{tag_at, signed_at}
 use Rattle.bac_value.specs.Data.{opening, closing, Ends}
 use Rattle.bac_value.proofs.Tags.{tag_exact}
 use Rattle.bac_service.specs.Values.{Reference, ReadAccess, WriteAccess, Request, Complex, choice_of, complex_choice_of, READ_FILE, WRITE_FILE, READ_PROPERTY, WRITE_PROPERTY}
+use Rattle.bac_service.specs.Values.WriteAccess.{WriteStream, WriteRecords}
 use Rattle.bac_service.specs.Values.Request.{ReadFile, WriteFile, ReadProperty, WriteProperty}
 use Rattle.bac_service.specs.Values.Complex.{FileRead, StreamWritten, RecordsWritten, PropertyRead}
 use Rattle.bac_service.specs.Members.{Octets, ◌⨾◌, Optional, Enclosed, Tagged, mark_of, IsPriority, ApplicationObject, ApplicationBoolean, ApplicationSigned, ApplicationString, AreData}
-use Rattle.bac_service.specs.Requests.{SpellsReference, SpellsReadAccess, SpellsWriteAccess, SpellsMembers, SpellsRequest}
+use Rattle.bac_service.specs.Requests.{SpellsReference, SpellsReadAccess, SpellsWriteAccess, SpellsMembers, SpellsRequest, IsMade}
 use Rattle.bac_service.specs.Replies.{SpellsAnswer, SpellsComplex}
 use Rattle.bac_service.specs.Reading.{◌>>=◌, kept, both_at, made_at, member_at, is_next, optional_at, enclosed_at, values_at, priority_at, reference_at, write_property_of, write_property_at, application_object, content_at, either_at, read_access_at, write_access_at, file_at, whole, request_at, boolean_of, end_of_file_at, file_read_at, file_written_at, property_read_at, complex_at}
 use Rattle.bac_service.proofs.Exact.{IsExact, Anything, Differs, Made, IsOneOf, bind_some, some_is, both_exact, made_exact, optional_exact, either_exact, whole_takes, whole_again}
@@ -244,3 +245,27 @@ answer_again (PropertyRead r values) bytes s = whole_again Anything property_rea
 
 pub complex_again : (choice : ℕ) (bytes : Octets) (c : Complex) → SpellsComplex choice c bytes → complex_at choice bytes ≡ Some c
 complex_again choice bytes c s = subst (λ (n : ℕ). complex_at n bytes ≡ Some c) (sym s.choice_is) (answer_again c bytes s.members)
+
+-- ---- what a reader in code promises
+
+abbrev ReadAs : {X E : Type 0} → (X → Request) → ℕ → Octets → Result X E → Type 0
+ReadAs view choice bytes result = MatchResult result (λ f. request_at choice bytes ≡ Some (view f)) (λ e. request_at choice bytes ≡ None)
+
+pub request_found : {X E : Type 0} (view : X → Request) (choice : ℕ) (bytes : Octets) (result : Result X E) → IsBytes bytes → ReadAs view choice bytes result → IfOk result (λ f. SpellsRequest choice (view f) bytes)
+request_found view choice bytes (Ok f) fits e = request_takes choice bytes (view f) fits e
+request_found view choice bytes (Err d) fits e = tt
+
+made_of : (r : Request) (bytes : Octets) → SpellsMembers r bytes → IsMade r
+made_of (ReadFile file access) bytes s = tt
+made_of (WriteFile file (WriteStream start octets)) bytes s = let string = s.second.are.second in subst (λ (xs : Octets). length xs < 2 ^ 32) string.are string.fits
+made_of (WriteFile file (WriteRecords start count run)) bytes s = s.second.are.second.second.strings
+made_of (ReadProperty r) bytes s = tt
+made_of (WriteProperty r values priority) bytes s = s.second.first.are.spelled
+
+pub request_made : {X E : Type 0} (view : X → Request) (choice : ℕ) (bytes : Octets) (result : Result X E) → IsBytes bytes → ReadAs view choice bytes result → IfOk result (λ f. IsMade (view f))
+request_made view choice bytes (Ok f) fits e = made_of (view f) bytes (request_takes choice bytes (view f) fits e).members
+request_made view choice bytes (Err d) fits e = tt
+
+pub request_refused : {X E : Type 0} (view : X → Request) (choice : ℕ) (bytes : Octets) (result : Result X E) → ReadAs view choice bytes result → IfErr result (λ e. (r : Request) → SpellsRequest choice r bytes → ⊥)
+request_refused view choice bytes (Ok f) e = tt
+request_refused view choice bytes (Err d) e = λ r s. let again = request_again choice bytes r s in absurd cc

@@ -4,4 +4,4 @@ pub mod Requests
 pub mod Replies
 pub mod Reading
 pub mod Views
-pub mod Found
+pub mod Services

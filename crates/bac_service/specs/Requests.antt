@@ -1,8 +1,9 @@
 -- What spells a request: the members of its production, joined in their order (clause 21).
-use Rattle.std.specs.Prelude.{◌≡◌, ℕ}
+use Rattle.std.specs.Prelude.{◌≡◌, ◌≢◌, ℕ, ◌^◌, ◌<◌, length}
 use Rattle.bac_value.specs.declared.tag.Class.TheVariants.{Context}
 use Rattle.bac_value.specs.Value.{IsNumber, IsObject}
-use Rattle.bac_service.specs.Values.{Reference, ReadAccess, WriteAccess, Request, choice_of}
+use Rattle.bac_value.specs.Data.{IsData}
+use Rattle.bac_service.specs.Values.{Reference, ReadAccess, WriteAccess, Request, choice_of, READ_FILE, WRITE_FILE, READ_PROPERTY, WRITE_PROPERTY}
 use Rattle.bac_service.specs.Values.ReadAccess.{ReadStream, ReadRecords}
 use Rattle.bac_service.specs.Values.WriteAccess.{WriteStream, WriteRecords}
 use Rattle.bac_service.specs.Values.Request.{ReadFile, WriteFile, ReadProperty, WriteProperty}
@@ -38,3 +39,21 @@ SpellsMembers (WriteProperty r values priority) = SpellsReference r ⨾ (Enclose
 pub record SpellsRequest (choice : ℕ) (r : Request) (bytes : Octets) : Type 0 where
   pub choice_is : choice ≡ choice_of r
   pub members : SpellsMembers r bytes
+
+-- what a request's strings and data are, whatever else it says
+abbrev pub IsWritten : WriteAccess → Type 0
+IsWritten (WriteStream start octets) = length octets < 2 ^ 32
+IsWritten (WriteRecords start count run) = AreStrings count run
+
+abbrev pub IsMade : Request → Type 0
+IsMade (ReadFile file access) = Unit {0}
+IsMade (WriteFile file access) = IsWritten access
+IsMade (ReadProperty r) = Unit {0}
+IsMade (WriteProperty r values priority) = IsData values
+
+-- a choice of another service
+pub record IsUnknown (choice : ℕ) : Type 0 where
+  pub no_read_file : choice ≢ READ_FILE
+  pub no_write_file : choice ≢ WRITE_FILE
+  pub no_read_property : choice ≢ READ_PROPERTY
+  pub no_write_property : choice ≢ WRITE_PROPERTY

@@ -1,4 +1,4 @@
-//! Requests that borrow what they were read from.
+//! Requests of the four services, over whatever holds their octets.
 use crate::value::{Content, Priority, PropertyReference, Records};
 use bac_value::{Data, ObjectIdentifier};
 
@@ -9,36 +9,65 @@ pub enum ReadAccess {
     Records { start: i64, count: u64 },
 }
 
-/// Where a file is written, and what (clause 14.2); position or record -1 appends.
-#[derive(Clone, Copy, Debug)]
-pub enum WriteAccess<'a> {
-    Stream { start: i64, content: Content<'a> },
-    Records { start: i64, records: Records<'a> },
+/// Which file is read, and where (clause 14.1).
+#[derive(Clone, Copy, Debug, PartialEq, Eq)]
+pub struct ReadFile {
+    pub file: ObjectIdentifier,
+    pub access: ReadAccess,
 }
 
-/// What one property is to be (clause 15.9). The priority is for commandable properties.
+/// Octets of a file from a position on; position -1 appends.
 #[derive(Clone, Copy, Debug)]
-pub struct WriteProperty<'a> {
+pub struct WriteStream<C> {
+    pub start: i64,
+    pub content: C,
+}
+
+/// Records of a file from a record on; record -1 appends.
+#[derive(Clone, Copy, Debug)]
+pub struct WriteRecords<R> {
+    pub start: i64,
+    pub records: R,
+}
+
+/// Where a file is written, and what (clause 14.2).
+#[derive(Clone, Copy, Debug)]
+pub enum WriteAccess<C, R> {
+    Stream(WriteStream<C>),
+    Records(WriteRecords<R>),
+}
+
+/// Which file is written, where, and what (clause 14.2).
+#[derive(Clone, Copy, Debug)]
+pub struct WriteFile<C, R> {
+    pub file: ObjectIdentifier,
+    pub access: WriteAccess<C, R>,
+}
+
+/// What a property is to be (clause 15.9). The priority is for commandable properties.
+#[derive(Clone, Copy, Debug)]
+pub struct WriteProperty<D> {
     pub reference: PropertyReference,
-    pub values: Data<'a>,
+    pub values: D,
     pub priority: Option<Priority>,
 }
 
-/// A request of one of the four services.
+/// A request of one of the four services, over what each of them says.
 #[derive(Clone, Copy, Debug)]
-pub enum Request<'a> {
+pub enum AnyRequest<A, B, C, D> {
     /// AtomicReadFile, service choice 6.
-    ReadFile {
-        file: ObjectIdentifier,
-        access: ReadAccess,
-    },
+    ReadFile(A),
     /// AtomicWriteFile, service choice 7.
-    WriteFile {
-        file: ObjectIdentifier,
-        access: WriteAccess<'a>,
-    },
+    WriteFile(B),
     /// ReadProperty, service choice 12.
-    ReadProperty(PropertyReference),
+    ReadProperty(C),
     /// WriteProperty, service choice 15.
-    WriteProperty(WriteProperty<'a>),
+    WriteProperty(D),
 }
+
+/// A request whose octets are held by these types: data, the octets for a file, and records for one.
+pub type RequestOver<D, C, R> =
+    AnyRequest<ReadFile, WriteFile<C, R>, PropertyReference, WriteProperty<D>>;
+
+/// A request that borrows its octets.
+pub type Request<'a> = RequestOver<Data<'a>, Content<'a>, Records<'a>>;

@@ -1,17 +1,28 @@
 //! Reading requests, from slices and from octets in pieces alike.
-ghost use Rattle.std.specs.Prelude.{◌≡◌, ◌≤◌, ◌<◌, ◌+◌, ◌-◌, ◌%◌, length, take, suc, MatchResult, IfOk, IfSome, Some, None};
+ghost use Rattle.std.specs.Prelude.{◌≡◌, ◌≤◌, ◌<◌, ◌+◌, ◌-◌, ◌%◌, length, take, suc, MatchResult, IfOk, IfErr, IfSome, IsErrOf, ◌↔◌, Some, None};
 ghost use Rattle.bac_value.specs.Views.{object_id};
 ghost use Rattle.bac_service.specs.Reading.{Reads, read_access_at, write_access_at, extent_at, content_at, strings_at, run_at, counted_at, enclosed_at, file_at, write_property_at, made_at, reference_at, request_at, values_at, that_at};
-ghost use Rattle.bac_service.specs.Views.{read_access};
-ghost use Rattle.bac_service.specs.Found.{found, found_access, choice_number, members_of, StringStep};
+ghost use Rattle.bac_service.specs.Requests.{SpellsRequest, IsMade, IsWritten, IsUnknown};
+ghost use Rattle.bac_service.specs.Values as plain;
+ghost use Rattle.bac_service.specs.Views.{read_access, write_access, seen, lent, left, request};
+ghost use Rattle.bac_service.specs.Services.{choice_number, members_of, StringStep};
 ghost use Rattle.bac_service.specs.Values.Request.{ReadFile, WriteFile, ReadProperty};
 
-use crate::found::{Found, FoundAccess, Service};
 use crate::member::{announced_by, closing, opening, opens_next, tag, values};
-use crate::request::ReadAccess;
+use crate::reject::Reject;
+use crate::request::{
+    AnyRequest, ReadAccess, ReadFile, Request, RequestOver, WriteAccess, WriteFile, WriteProperty, WriteRecords,
+    WriteStream,
+};
+use crate::run::Run;
+use crate::service::{Service, service_of};
 use crate::stop::{Stop, Why};
 use crate::typed::{object, optional_priority, property_reference, signed, string, unsigned};
-use bac_value::{Class, Octets};
+use crate::value::{Content, Records};
+use bac_value::{Class, Data, Octets};
+
+/// A request whose strings and data are still the octets that it is read from.
+pub(crate) type Found<O> = RequestOver<O, O, Run<O>>;
 
 /// Where a file is read, and how much of it, between a pair of tags of that number.
 #[tactic(auto, unfolding(crate::specs::Reading::enclosed_at))]
@@ -103,17 +114,18 @@ fn counted<O: Octets>(octets: O) -> Result<((i64, u64, u64, O), O), Stop>
 }
 
 #[tactic(auto, unfolding(crate::specs::Reading::write_access_at, crate::specs::Reading::that_at))]
-fn write_access_in<O: Octets>(octets: O) -> Result<(FoundAccess<O>, O), Stop>
-    ensures { Reads (found_access O.octets) O.octets (O.octets octets) result write_access_at }
+fn write_access_in<O: Octets>(octets: O) -> Result<(WriteAccess<O, Run<O>>, O), Stop>
+    ensures { Reads (write_access (left O.octets)) O.octets (O.octets octets) result write_access_at }
 {
     if !opens_next(octets, 1)? {
         let ((start, content), rest) = content(octets)?;
-        return Ok((FoundAccess::Stream { start, content }, rest));
+        return Ok((WriteAccess::Stream(WriteStream { start, content }), rest));
     }
     let left = octets.len();
-    let ((start, count, number, run), rest) = counted(octets)?;
+    let ((start, count, number, octets), rest) = counted(octets)?;
     if count == number {
-        Ok((FoundAccess::Records { start, count, run }, rest))
+        let records = Run { octets, count };
+        Ok((WriteAccess::Records(WriteRecords { start, records }), rest))
     } else {
         Err(Stop {
             why: Why::Inconsistent,
@@ -135,36 +147,36 @@ pub(crate) fn enclosed_values<O: Octets>(octets: O) -> Result<(O, O), Stop>
 
 #[tactic(auto, unfolding(crate::specs::Reading::write_property_at))]
 fn write_property_in<O: Octets>(octets: O) -> Result<(Found<O>, O), Stop>
-    ensures { Reads (found O.octets) O.octets (O.octets octets) result write_property_at }
+    ensures { Reads (seen (left O.octets)) O.octets (O.octets octets) result write_property_at }
 {
     let (reference, rest) = property_reference(octets)?;
     let (values, rest) = enclosed_values(rest)?;
     let (priority, rest) = optional_priority(rest)?;
-    let found = Found::WriteProperty {
+    let write = WriteProperty {
         reference,
         values,
         priority,
     };
-    Ok((found, rest))
+    Ok((AnyRequest::WriteProperty(write), rest))
 }
 
 fn members_in<O: Octets>(service: Service, octets: O) -> Result<(Found<O>, O), Stop>
-    ensures { Reads (found O.octets) O.octets (O.octets octets) result (members_of service) }
+    ensures { Reads (seen (left O.octets)) O.octets (O.octets octets) result (members_of service) }
 {
     match service {
         Service::ReadFile => {
             let (file, rest) = object(octets, Class::Application, 12)?;
             let (access, rest) = read_access_in(rest)?;
-            Ok((Found::ReadFile { file, access }, rest))
+            Ok((AnyRequest::ReadFile(ReadFile { file, access }), rest))
         }
         Service::WriteFile => {
             let (file, rest) = object(octets, Class::Application, 12)?;
             let (access, rest) = write_access_in(rest)?;
-            Ok((Found::WriteFile { file, access }, rest))
+            Ok((AnyRequest::WriteFile(WriteFile { file, access }), rest))
         }
         Service::ReadProperty => {
             let (reference, rest) = property_reference(octets)?;
-            Ok((Found::ReadProperty(reference), rest))
+            Ok((AnyRequest::ReadProperty(reference), rest))
         }
         Service::WriteProperty => write_property_in(octets),
     }
@@ -172,8 +184,9 @@ fn members_in<O: Octets>(service: Service, octets: O) -> Result<(Found<O>, O), S
 
 /// The request of a service that all of the octets are.
 #[tactic(auto, unfolding(crate::specs::Reading::request_at))]
-pub(crate) fn request_in<O: Octets>(service: Service, octets: O) -> Result<Found<O>, Stop>
-    ensures { MatchResult result (λ f. request_at (choice_number service) (O.octets octets) ≡ Some (found O.octets f)) (λ e. request_at (choice_number service) (O.octets octets) ≡ None) }
+fn request_read<O: Octets>(service: Service, octets: O) -> Result<Found<O>, Stop>
+    ensures { MatchResult result (λ f. request_at (choice_number service) (O.octets octets) ≡ Some (seen (left O.octets) f))
+        (λ e. request_at (choice_number service) (O.octets octets) ≡ None) }
 {
     let (found, rest) = members_in(service, octets)?;
     match rest.len() {
@@ -182,5 +195,84 @@ pub(crate) fn request_in<O: Octets>(service: Service, octets: O) -> Result<Found
             why: Why::Surplus,
             left,
         }),
+    }
+}
+
+/// The request of a service that all of the octets spell.
+pub(crate) fn request_in<O: Octets>(service: Service, octets: O) -> Result<Found<O>, Stop>
+    ensures spelled { IfOk result (λ f. SpellsRequest (choice_number service) (seen (left O.octets) f) (O.octets octets)) }
+    ensures made { IfOk result (λ f. IsMade (seen (left O.octets) f)) }
+    ensures refused { IfErr result (λ e. (r : plain.Request) → SpellsRequest (choice_number service) r (O.octets octets) → ⊥) }
+{
+    // from here on each of them is known to be an octet
+    let _count = octets.len();
+    request_read(service, octets)
+}
+
+fn access_of<'a>(access: WriteAccess<&'a [u8], Run<&'a [u8]>>) -> WriteAccess<Content<'a>, Records<'a>>
+    requires { IsWritten (write_access (left (λ s. s.now)) access) }
+    ensures { write_access lent result ≡ write_access (left (λ s. s.now)) access.entry }
+{
+    match access {
+        WriteAccess::Stream(write) => {
+            let content = Content {
+                octets: write.content,
+            };
+            let start = write.start;
+            WriteAccess::Stream(WriteStream { start, content })
+        }
+        WriteAccess::Records(write) => {
+            let records = Records {
+                run: write.records.octets,
+                count: write.records.count,
+            };
+            let start = write.start;
+            WriteAccess::Records(WriteRecords { start, records })
+        }
+    }
+}
+
+fn request_of(found: Found<&[u8]>) -> Request<'_>
+    requires { IsMade (seen (left (λ s. s.now)) found) }
+    ensures { request result ≡ seen (left (λ s. s.now)) found.entry }
+{
+    match found {
+        AnyRequest::ReadFile(read) => AnyRequest::ReadFile(read),
+        AnyRequest::WriteFile(write) => {
+            let access = access_of(write.access);
+            let file = write.file;
+            AnyRequest::WriteFile(WriteFile { file, access })
+        }
+        AnyRequest::ReadProperty(reference) => AnyRequest::ReadProperty(reference),
+        AnyRequest::WriteProperty(write) => {
+            let values = Data {
+                octets: write.values,
+            };
+            AnyRequest::WriteProperty(WriteProperty {
+                reference: write.reference,
+                values,
+                priority: write.priority,
+            })
+        }
+    }
+}
+
+/// The request of a service choice that the whole of the octets spells (clause 21).
+///
+/// `UnrecognizedService` comes exactly where the choice is not 6, 7, 12 or 15. Otherwise the members are read from left to right:
+/// `MissingRequiredParameter` where the octets end too early, `InvalidTag` at a tag that is not the member's, is reserved or not
+/// balanced, `InvalidParameterDataType` at contents that the member's type has not, `ParameterOutOfRange` at a priority outside 1
+/// to 16, `InconsistentParameters` at a count that is not the number of octet strings, `TooManyArguments` at octets left over.
+pub fn read_request(choice: u8, octets: &[u8]) -> Result<Request<'_>, Reject>
+    ensures found { IfOk result (λ r. SpellsRequest choice (request r) octets.now) }
+    ensures refused { IfErr result (λ e. (r : plain.Request) → SpellsRequest choice r octets.now → ⊥) }
+    ensures unknown { IsErrOf result Reject.UnrecognizedService ↔ IsUnknown choice }
+{
+    let Some(service) = service_of(choice) else {
+        return Err(Reject::UnrecognizedService);
+    };
+    match request_in(service, octets) {
+        Ok(found) => Ok(request_of(found)),
+        Err(stop) => Err(stop.reject()),
     }
 }

@@ -1,29 +1,13 @@
--- What contracts see of a request while its octets may still be in pieces.
+-- The services, and single steps of reading them.
 use Rattle.std.specs.Prelude.{◌≡◌, ℕ, ◌==◌, Option, Some, None, is_some, Result, Ok, Err, if◌then◌else◌}
-use Rattle.bac_value.specs.Views.{object_id}
-use Rattle.bac_service.specs.declared.found.Found as code
-use Rattle.bac_service.specs.declared.found.Found.TheVariants as variant
-use Rattle.bac_service.specs.declared.found.FoundAccess as code_access
-use Rattle.bac_service.specs.declared.found.FoundAccess.TheVariants as access
-use Rattle.bac_service.specs.declared.found.Service.{Service}
-use Rattle.bac_service.specs.declared.found.Service.TheVariants as service
+use Rattle.bac_service.specs.declared.service.Service.{Service}
+use Rattle.bac_service.specs.declared.service.Service.TheVariants as service
 use Rattle.bac_service.specs.Members.{Octets}
 use Rattle.bac_service.specs.Values as plain
 use Rattle.bac_service.specs.Values.{READ_FILE, WRITE_FILE, READ_PROPERTY, WRITE_PROPERTY}
 use Rattle.bac_value.specs.declared.tag.Class.TheVariants.{Application}
 use Rattle.bac_value.specs.Reading.{tag_at}
 use Rattle.bac_service.specs.Reading.{◌>>=◌, kept, announced, application_string, made_at, file_at, read_access_at, write_access_at, reference_at, write_property_at}
-use Rattle.bac_service.specs.Views.{reference, number_of, read_access}
-
-abbrev pub found_access : {O : Type 0} → (O → Octets) → code_access.FoundAccess O → plain.WriteAccess
-found_access octets (access.Stream start content) = plain.WriteAccess.WriteStream start (octets content)
-found_access octets (access.Records start count run) = plain.WriteAccess.WriteRecords start count (octets run)
-
-abbrev pub found : {O : Type 0} → (O → Octets) → code.Found O → plain.Request
-found octets (variant.ReadFile file a) = plain.Request.ReadFile (object_id file) (read_access a)
-found octets (variant.WriteFile file a) = plain.Request.WriteFile (object_id file) (found_access octets a)
-found octets (variant.ReadProperty r) = plain.Request.ReadProperty (reference r)
-found octets (variant.WriteProperty r values priority) = plain.Request.WriteProperty (reference r) (octets values) (number_of priority)
 
 abbrev pub service_at : ℕ → Option Service
 service_at choice =
