@@ -18,7 +18,6 @@ pub record HasContents {Y : Type 0} (datum_of : Y → Datum) (k : ℕ) (y : Y) (
 
 -- ---- what is read
 
-
 unsigned_right_of : (xs : List ℕ) → IsBytes xs → IsRight 2 xs → IsNumber 8 (number_in xs) xs
 unsigned_right_of xs fits h = let k = between 0 9 (length xs) h.len in unsigned_of 8 xs fits k.0 (omega (arith, k.1)) (no_fault _ _ h.none)
 
@@ -63,13 +62,13 @@ exact_kind : {Y : Type 0} (n k : ℕ) (view : List ℕ → Y) (datum_of : Y → 
     → IsExact (λ bytes. kind_at n k bytes >>= λ c. Ok (view c.0, c.1)) (HasContents datum_of k)
 exact_kind {Y = Y} n k view datum_of kind right back = record {
   takes = λ bytes x fits e.
-    let a = bind_ok (kind_at n k bytes) (λ c. Ok (view c.0, c.1)) x e in
-    let f = kind_front n k bytes a.0 fits a.1 in
-    let P : Y × List ℕ → Type 0 = λ y. (text : List ℕ) × (bytes ≡ text ++ y.1) × HasContents datum_of k y.0 text in
-    subst P (ok_is (view a.0.0, a.0.1) x a.2) (a.0.0, f.raw.took.parts, record { are = right a.0.0 f.raw.fits f.right; len = f.raw.len });
+      let a = bind_ok (kind_at n k bytes) (λ c. Ok (view c.0, c.1)) x e in
+      let f = kind_front n k bytes a.0 fits a.1 in
+      let P : Y × List ℕ → Type 0 = λ y. (text : List ℕ) × (bytes ≡ text ++ y.1) × HasContents datum_of k y.0 text in
+      subst P (ok_is (view a.0.0, a.0.1) x a.2) (a.0.0, f.raw.took.parts, record { are = right a.0.0 f.raw.fits f.right; len = f.raw.len });
   again = λ y text rest h.
-    let r = subst (λ i. IsRight i text) (kind y) (kind_again (datum_of y) text h.are) in
-    rw (right_again n k text rest h.len r, back y text h.are) refl;
+      let r = subst (λ i. IsRight i text) (kind y) (kind_again (datum_of y) text h.are) in
+      rw (right_again n k text rest h.len r, back y text h.are) refl;
 }
 
 pub unsigned_exact : (k : ℕ) → IsExact (number_at 2 k) (HasContents unsigned k)

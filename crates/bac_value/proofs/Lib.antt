@@ -10,3 +10,4 @@ pub mod Numbers
 pub mod Signs
 pub mod Values
 pub mod ContentLaws
+pub mod ElementLists
