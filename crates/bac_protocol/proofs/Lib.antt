@@ -5,3 +5,8 @@ pub mod Transfer
 pub mod ClientKeeps
 pub mod Ways
 pub mod ServerKeeps
+pub mod Asks
+pub mod Keys
+pub mod Nets
+pub mod Served
+pub mod Headline
