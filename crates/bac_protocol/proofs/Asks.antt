@@ -1,10 +1,8 @@
 -- A new ask begins its transaction anew: nothing of the asks before it can arrive.
-use Rattle.std.proofs.Common.{◌≡◌, ℕ, zero, suc, ◌+◌, ◌-◌, ◌*◌, ◌<◌, ◌≤◌, Bool, true, false, ◌||◌, not, List, [], ◌∷◌, length, Option, Some, None, slice_get, if◌then◌else◌, nat_le, refl, sym, ap, subst, inl, inr, arith}
-use Rattle.std.proofs.lemmas.Bool.Decides.{nat_tests}
+use Rattle.std.proofs.Common.{◌≡◌, ℕ, ◌+◌, ◌-◌, ◌<◌, ◌≤◌, Bool, true, false, List, [], ◌∷◌, Option, Some, None, slice_get, refl, subst, inl, inr, arith}
 use Rattle.bac_apdu.specs.Apdu.{Apdu}
 use Rattle.bac_segment.specs.Window.{outgoing, in_window}
 use Rattle.bac_protocol.specs.Times.{LIFE, DEADLINE, KEEP, HOLD}
-use Rattle.bac_protocol.specs.Sizes.{Settings}
 use Rattle.bac_protocol.specs.Service.{Octets}
 use Rattle.bac_protocol.specs.Client as client
 use Rattle.bac_protocol.specs.Client.{Ask, request_of, Ticket}
@@ -13,7 +11,7 @@ use Rattle.bac_protocol.specs.Log.{Fact, asks_in, IsUnperformed}
 use Rattle.bac_protocol.specs.Log.Fact.{Asked}
 use Rattle.bac_protocol.specs.Transaction.{Key, Rules, Copy, Transaction, sent, asked_by}
 use Rattle.bac_protocol.specs.Claims.{EachCopy}
-use Rattle.bac_protocol.proofs.Sound.{IsBelow, IsOrderly, Up, Down, Says, Fits, ServerFits, IsSoundAt, IsSound}
+use Rattle.bac_protocol.proofs.Sound.{IsBelow, IsOrderly, Up, Down, Says, Fits, ServerFits, IsSound}
 use Rattle.bac_protocol.proofs.Sound.Up.{Reading}
 use Rattle.bac_protocol.proofs.Sound.Down.{Unsent}
 use Rattle.bac_protocol.proofs.Facts.{below_more, below_unperformed, below_unended, AllSends, all_map, each_sent, says_time, pieces_all}

@@ -1,27 +1,26 @@
 -- What the client does keeps what holds of its transaction.
-use Rattle.std.proofs.Common.{◌≡◌, ℕ, zero, suc, ◌+◌, ◌-◌, ◌*◌, ◌%◌, ◌<◌, ◌≤◌, ◌≢◌, ◌⊎◌, Bool, true, false, ◌&&◌, ◌||◌, not, List, [], ◌∷◌, ◌++◌, length, get_or, take, Option, Some, None, if◌then◌else◌, nat_lt, nat_le, nat_eq, refl, sym, ap, subst, inl, inr, ◌∙◌, arith}
+use Rattle.std.proofs.Common.{◌≡◌, ℕ, ◌+◌, ◌-◌, ◌*◌, ◌%◌, ◌<◌, ◌≤◌, ◌≢◌, Bool, true, false, ◌&&◌, ◌||◌, not, List, [], ◌∷◌, ◌++◌, length, get_or, take, Option, Some, None, if◌then◌else◌, nat_le, nat_eq, refl, sym, ap, subst, inl, inr, ◌∙◌, arith}
 use Rattle.std.proofs.lemmas.Bool.Decides.{nat_tests}
 use Rattle.bac_apdu.specs.Apdu.{Apdu, Segment}
-use Rattle.bac_apdu.specs.Apdu.Apdu.{ConfirmedRequest, UnconfirmedRequest, SimpleAck, ComplexAck, SegmentAck, Error, Reject, Abort}
-use Rattle.bac_segment.specs.Limits.{RETRIES}
+use Rattle.bac_apdu.specs.Apdu.Apdu.{SimpleAck, ComplexAck, SegmentAck, Error, Reject, Abort}
 use Rattle.bac_segment.specs.Numbers.{ahead}
-use Rattle.bac_segment.specs.Pieces.{join, piece_at}
+use Rattle.bac_segment.specs.Pieces.{join}
 use Rattle.bac_segment.specs.Window.{Outgoing, outgoing, in_window, is_finished, acknowledged, again, Incoming, incoming, takes}
 use Rattle.bac_segment.specs.Window.Taking.{Taken}
 use Rattle.bac_protocol.specs.Times.{T_OUT, T_SEG, WAIT_SEG}
 use Rattle.bac_protocol.specs.Sizes.{Settings}
 use Rattle.bac_protocol.specs.Service.{Octets, Ending, Readable, Reply as reply}
 use Rattle.bac_protocol.specs.Service.Ending.{Answered, Rejected, Aborted, TimedOut, Expired}
-use Rattle.bac_protocol.specs.Wire.{is_from_server, segment_of, pieces_from}
+use Rattle.bac_protocol.specs.Wire.{is_from_server, segment_of}
 use Rattle.bac_protocol.specs.Client as client
 use Rattle.bac_protocol.specs.Client.{Ask, request_of, Phase, Ticket, Reaction}
 use Rattle.bac_protocol.specs.Client.Phase.{Sending, Awaiting, Collecting, Over}
 use Rattle.bac_protocol.specs.Client.Reaction.{Stays, GoesOn, Repeats, Ends}
 use Rattle.bac_protocol.specs.Server.{State, Entry}
 use Rattle.bac_protocol.specs.Server.State.{Receiving, Done, Giving, Dropped}
-use Rattle.bac_protocol.specs.Log.{Fact, Has, IsUnended, MayEnd, WasAsked}
-use Rattle.bac_protocol.specs.Log.Fact.{Asked, Performed, Ended}
-use Rattle.bac_protocol.specs.Transaction.{Key, Copy, Transaction, sent, client_does}
+use Rattle.bac_protocol.specs.Log.{Fact, IsUnended, MayEnd, WasAsked}
+use Rattle.bac_protocol.specs.Log.Fact.{Asked, Ended}
+use Rattle.bac_protocol.specs.Transaction.{Key, Transaction, sent, client_does}
 use Rattle.bac_protocol.specs.Claims.{IsPiece, IsAck}
 use Rattle.bac_protocol.proofs.Sound.{IsUnderway, IsFront, Up, Down, IsAckUp, IsPieceDown, client_until, WasPerformed, Says, SendsUp, IsUntaken, IsSendingFor, IsReadIfPieces, IsReadIfRepeated, CollectsDown, ClientFits, IsKeptFor, IsUnbegun, SendsDown, StateFits, ServerFits, UpFits, DownFits, IsOpenIn, Sound, IsSound}
 use Rattle.bac_protocol.proofs.Sound.Up.{Reading, Read}

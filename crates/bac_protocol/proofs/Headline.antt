@@ -1,9 +1,8 @@
 -- After every run the log is right with the stores.
-use Rattle.std.proofs.Common.{◌≡◌, ℕ, suc, ◌+◌, ◌-◌, ◌*◌, ◌<◌, ◌≤◌, ◌≢◌, ◌⊎◌, Bool, true, false, ◌&&◌, List, [], ◌∷◌, ◌++◌, map, Option, Some, None, slice_get, if◌then◌else◌, nat_le, refl, sym, ap, subst, inl, inr, ◌∙◌, arith}
+use Rattle.std.proofs.Common.{◌≡◌, ℕ, ◌-◌, ◌<◌, ◌≤◌, Bool, true, false, ◌&&◌, List, [], ◌∷◌, ◌++◌, Option, Some, None, slice_get, if◌then◌else◌, nat_le, refl, sym, ap, subst, inl, inr, arith}
 use Rattle.std.proofs.lemmas.Bool.Decides.{nat_tests}
-use Rattle.bac_apdu.specs.Apdu.{Apdu}
 use Rattle.bac_protocol.specs.Times.{LIFE}
-use Rattle.bac_protocol.specs.Service.{Octets, Request, Reply, Ending}
+use Rattle.bac_protocol.specs.Service.{Octets, Request, Ending}
 use Rattle.bac_protocol.specs.Wire.{is_from_client}
 use Rattle.bac_protocol.specs.Client as client
 use Rattle.bac_protocol.specs.Client.{Ask, request_of, Ticket}
@@ -11,11 +10,11 @@ use Rattle.bac_protocol.specs.Server as server
 use Rattle.bac_protocol.specs.Server.{Entry, Effect}
 use Rattle.bac_protocol.specs.Log.{Fact, Has, asks_in, Shop, IsOnce}
 use Rattle.bac_protocol.specs.Log.Fact.{Asked, Performed, Ended}
-use Rattle.bac_protocol.specs.Transaction.{Key, Rules, Copy, Transaction, ended, client_does, server_does}
-use Rattle.bac_protocol.specs.World.{Net, World, Post, Event, one, later, copies_of, set_at, client_acts, server_acts, asked_at, is_deliverable, is_key_held, service_of, reacts, serves, ask_made, takes_at_client, takes_at_server, arrives, delivered, ticks_ticket, ticks_as_client, ticks_as_server, stored, happens, run, net_start, start}
+use Rattle.bac_protocol.specs.Transaction.{Key, Rules, Copy, ended}
+use Rattle.bac_protocol.specs.World.{Net, World, Post, Event, one, later, client_acts, server_acts, asked_at, is_key_held, service_of, reacts, serves, ask_made, takes_at_client, takes_at_server, arrives, delivered, ticks_ticket, ticks_as_client, ticks_as_server, stored, happens, run, start}
 use Rattle.bac_protocol.specs.World.Event.{MakeAsk, Deliver, Tick, Noise, Advance}
 use Rattle.bac_protocol.specs.Claims.{IsBounded}
-use Rattle.bac_protocol.proofs.Sound.{Says, IsSoundAt, IsSound, IsOrderly}
+use Rattle.bac_protocol.proofs.Sound.{IsOrderly}
 use Rattle.bac_protocol.proofs.ClientKeeps.{client_gets_kept, client_ticks_kept}
 use Rattle.bac_protocol.proofs.ServerKeeps.{server_gets_kept, server_ticks_kept}
 use Rattle.bac_protocol.proofs.Keys.{copy_at, set_nothing}

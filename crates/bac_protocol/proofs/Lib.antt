@@ -10,3 +10,4 @@ pub mod Keys
 pub mod Nets
 pub mod Served
 pub mod Headline
+pub mod Claimed

@@ -1,9 +1,9 @@
 -- What holds of one transaction holds of each of many.
-use Rattle.std.proofs.Common.{◌≡◌, ℕ, zero, suc, ◌+◌, ◌-◌, ◌*◌, ◌<◌, ◌≤◌, ◌≢◌, ◌⊎◌, Bool, true, false, ◌||◌, not, List, [], ◌∷◌, ◌++◌, map, Option, Some, None, slice_get, if◌then◌else◌, nat_le, refl, sym, ap, subst, inl, inr, ◌∙◌, arith, zero-add}
+use Rattle.std.proofs.Common.{◌≡◌, ℕ, ◌+◌, ◌-◌, ◌<◌, ◌≤◌, ◌≢◌, ◌⊎◌, Bool, true, false, ◌||◌, not, List, ◌∷◌, Option, Some, None, nat_le, refl, sym, ap, subst, inl, inr, ◌∙◌, arith, zero-add}
 use Rattle.std.proofs.lemmas.Bool.Decides.{nat_tests}
 use Rattle.bac_apdu.specs.Apdu.{Apdu}
 use Rattle.bac_apdu.specs.Apdu.Apdu.{SimpleAck, ComplexAck, Error, Reject, Abort}
-use Rattle.bac_protocol.specs.Times.{LIFE, HOLD}
+use Rattle.bac_protocol.specs.Times.{HOLD}
 use Rattle.bac_protocol.specs.Service.{Octets, Ending}
 use Rattle.bac_protocol.specs.Client as client
 use Rattle.bac_protocol.specs.Client.{Ask, request_of, Phase, Ticket}
@@ -13,14 +13,14 @@ use Rattle.bac_protocol.specs.Server.{State, Entry, Effect}
 use Rattle.bac_protocol.specs.Server.State.{Receiving, Done, Giving, Dropped}
 use Rattle.bac_protocol.specs.Log.{Fact, asks_in, IsUnperformed, IsUnended}
 use Rattle.bac_protocol.specs.Log.Fact.{Asked, Performed, Ended}
-use Rattle.bac_protocol.specs.Transaction.{Key, Rules, Copy, Transaction, sent, ended, performed, client_does, server_does, asked_by}
-use Rattle.bac_protocol.specs.World.{Net, one, set_at, post_of, client_acts, server_acts, asked_at, is_key_held, net_start}
+use Rattle.bac_protocol.specs.Transaction.{Key, Rules, Transaction, ended, performed, client_does, server_does, asked_by}
+use Rattle.bac_protocol.specs.World.{Net, one, set_at, client_acts, server_acts, asked_at, is_key_held, net_start}
 use Rattle.bac_protocol.proofs.Sound.{number_of, IsBelow, IsOrderly, Up, Down, IsKeptFor, IsUnbegun, StateFits, ServerFits, IsOpenIn, IsSoundAt, IsSound}
 use Rattle.bac_protocol.proofs.Sound.Up.{Reading, Read}
 use Rattle.bac_protocol.proofs.Sound.Down.{Unsent}
 use Rattle.bac_protocol.proofs.Facts.{below_has, says_goes, up_same, down_same, grows_more}
 use Rattle.bac_protocol.proofs.Asks.{IsSpent, spent_fresh, asked_sound, spent_of}
-use Rattle.bac_protocol.proofs.Keys.{decide_key, set_same, set_other, set_nothing, copies_posted, copies_other}
+use Rattle.bac_protocol.proofs.Keys.{decide_key, set_same, set_other, copies_posted, copies_other}
 
 -- What one transaction does is nothing to another.
 

@@ -1,19 +1,19 @@
 -- What the server does keeps what holds of its transaction.
-use Rattle.std.proofs.Common.{◌≡◌, ℕ, zero, suc, ◌+◌, ◌-◌, ◌*◌, ◌%◌, ◌<◌, ◌≤◌, ◌≢◌, Bool, true, false, ◌&&◌, not, List, [], ◌∷◌, ◌++◌, length, get_or, take, Option, Some, None, if◌then◌else◌, nat_lt, nat_le, nat_eq, refl, sym, ap, subst, inl, inr, ◌∙◌, arith}
+use Rattle.std.proofs.Common.{◌≡◌, ℕ, ◌+◌, ◌-◌, ◌*◌, ◌%◌, ◌<◌, ◌≤◌, ◌≢◌, Bool, true, false, not, List, [], ◌∷◌, ◌++◌, length, get_or, take, Option, Some, None, if◌then◌else◌, nat_le, nat_eq, refl, sym, ap, subst, inl, inr, ◌∙◌, arith}
 use Rattle.std.specs.Prelude.{is_some}
 use Rattle.std.proofs.lemmas.Bool.Decides.{nat_tests}
 use Rattle.bac_apdu.specs.Apdu.{Apdu, Segment}
-use Rattle.bac_apdu.specs.Apdu.Apdu.{ConfirmedRequest, UnconfirmedRequest, SimpleAck, ComplexAck, SegmentAck, Error, Reject, Abort}
+use Rattle.bac_apdu.specs.Apdu.Apdu.{ConfirmedRequest, SimpleAck, ComplexAck, SegmentAck, Error, Reject, Abort}
 use Rattle.bac_segment.specs.Limits.{RETRIES}
 use Rattle.bac_segment.specs.Numbers.{ahead}
 use Rattle.bac_segment.specs.Pieces.{join, piece_at}
-use Rattle.bac_segment.specs.Window.{Outgoing, outgoing, in_window, is_finished, acknowledged, again, resume, Incoming, incoming, takes}
+use Rattle.bac_segment.specs.Window.{Outgoing, outgoing, in_window, is_finished, again, resume, Incoming, incoming, takes}
 use Rattle.bac_segment.specs.Window.Taking.{Taken}
 use Rattle.bac_protocol.specs.Times.{T_SEG, WAIT_SEG, LIFE, DEADLINE, KEEP}
 use Rattle.bac_protocol.specs.Sizes.{Settings}
 use Rattle.bac_protocol.specs.Service.{Octets, Outcome, Reply as reply}
 use Rattle.bac_protocol.specs.Service.Outcome.{Replies, Rejects}
-use Rattle.bac_protocol.specs.Wire.{segment_of, pieces_from}
+use Rattle.bac_protocol.specs.Wire.{segment_of}
 use Rattle.bac_protocol.specs.Client.{Ask, request_of, Phase, Ticket}
 use Rattle.bac_protocol.specs.Client.Phase.{Sending, Awaiting, Collecting, Over}
 use Rattle.bac_protocol.specs.Server as server
@@ -23,14 +23,14 @@ use Rattle.bac_protocol.specs.Server.State.{Receiving, Done, Giving, Dropped}
 use Rattle.bac_protocol.specs.Server.Way.{AtOnce, InPieces, Unsendable}
 use Rattle.bac_protocol.specs.Log.{Fact, Has, IsUnperformed}
 use Rattle.bac_protocol.specs.Log.Fact.{Asked, Performed}
-use Rattle.bac_protocol.specs.Transaction.{Key, Copy, Transaction, server_does}
+use Rattle.bac_protocol.specs.Transaction.{Key, Transaction, server_does}
 use Rattle.bac_protocol.specs.Claims.{IsPiece, IsAck}
 use Rattle.bac_protocol.proofs.Sound.{IsUnderway, IsFront, Up, Down, IsAckDown, server_until, WasPerformed, Says, IsUntaken, ClientFits, IsReadIfRepeated, IsKeptFor, IsUnbegun, IsReceivingFor, SendsDown, IsGivingFor, StateFits, ServerFits, UpFits, DownFits, IsOpenIn, Sound, IsSound}
 use Rattle.bac_protocol.proofs.Sound.Up.{Reading, Read}
 use Rattle.bac_protocol.proofs.Sound.Down.{Unsent, Sent, Closed}
 use Rattle.bac_protocol.proofs.Facts.{below_has, AllSends, UpGoes, DownGoes, up_same, up_read, down_same, grows_same, grows_more, copies_go, pieces_all, pieces_length}
 use Rattle.bac_protocol.proofs.Transfer.{moved, acknowledged_cases, acknowledges_taken, moved_sender, sent_to, window_underway, window_sender, window_grows, window_piece, with_piece, takes_cases, takes_below, takes_left, takes_front, takes_all}
-use Rattle.bac_protocol.proofs.Ways.{IsCut, way_cut}
+use Rattle.bac_protocol.proofs.Ways.{way_cut}
 
 all_join : (Q : Apdu → Type 0) (xs ys : List Apdu) → AllSends Q xs → AllSends Q ys → AllSends Q (xs ++ ys)
 all_join Q [] ys h k = k

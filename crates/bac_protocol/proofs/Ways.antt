@@ -1,5 +1,5 @@
 -- A reply that is sent in pieces is the joining of its pieces, and has at least one.
-use Rattle.std.proofs.Common.{◌≡◌, ℕ, zero, suc, ◌+◌, ◌-◌, ◌*◌, ◌/◌, ◌%◌, ◌<◌, ◌≤◌, min, Bool, true, false, not, List, [], ◌∷◌, ◌++◌, length, take, drop, if◌then◌else◌, nat_eq, nat_le, refl, sym, ap, ◌∙◌, arith}
+use Rattle.std.proofs.Common.{◌≡◌, ℕ, zero, suc, ◌+◌, ◌-◌, ◌*◌, ◌<◌, ◌≤◌, Bool, true, false, not, List, [], ◌∷◌, ◌++◌, length, take, drop, if◌then◌else◌, nat_eq, nat_le, refl, sym, ap, ◌∙◌, arith}
 use Rattle.std.proofs.lemmas.Bool.Decides.{nat_tests}
 use Rattle.std.proofs.lemmas.List.{take-append-drop, length-drop}
 use Rattle.std.proofs.lemmas.Grind.{div_ceil_times}
@@ -7,7 +7,7 @@ use Rattle.bac_segment.specs.Pieces.{join, cut, count_of, pieces_of}
 use Rattle.bac_protocol.specs.Sizes.{Settings, apdu_size, allows_segments, transfer_size}
 use Rattle.bac_protocol.specs.Service.{Octets, Reply}
 use Rattle.bac_protocol.specs.Service.Reply.{Simple, Complex, Error}
-use Rattle.bac_protocol.specs.Server.{Terms, Way, way_in_pieces, way_of_data, way_of}
+use Rattle.bac_protocol.specs.Server.{Terms, way_in_pieces, way_of}
 use Rattle.bac_protocol.specs.Server.Way.{AtOnce, InPieces, Unsendable}
 
 join_cut : (count size : ℕ) (octets : Octets) → length octets ≤ count * size → join (cut count size octets) ≡ octets
