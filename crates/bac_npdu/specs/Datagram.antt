@@ -3,13 +3,17 @@ use Rattle.std.specs.Prelude.{◌≡◌, ℕ, Bool, List, Option, Some, None}
 use Rattle.bac_npdu.specs.Peers.{PeerView, RouteView}
 use Rattle.bac_npdu.specs.Npdu.{NpduView, DestinationView, npdu_spelling, bvll_spelling, SpellsNpdu, SpellsBvll}
 
--- octets that come from a link carry the octets of an APDU of a peer: they are a BVLL whose NPDU is to be routed nowhere and is no network message;
--- the peer is the link, with the NPDU's source as route; any priority, and expecting a reply or not
-pub record Carries (link octets : List ℕ) (peer : PeerView) (apdu : List ℕ) : Type 0 where
-  pub npdu : NpduView
+-- the octets are a BVLL, of octets that are an NPDU
+pub record IsFrameOf (npdu : NpduView) (octets : List ℕ) : Type 0 where
   pub npdu_octets : List ℕ
   pub framed : SpellsBvll npdu_octets octets
   pub spelled : SpellsNpdu npdu npdu_octets
+
+-- octets that come from a link carry the octets of an APDU of a peer: they are the frame of an NPDU that is to be routed nowhere and is no network message;
+-- the peer is the link, with the NPDU's source as route; any priority, and expecting a reply or not
+pub record Carries (link octets : List ℕ) (peer : PeerView) (apdu : List ℕ) : Type 0 where
+  pub npdu : NpduView
+  pub frame_of : IsFrameOf npdu octets
   pub stays : npdu.destination ≡ None
   pub no_message : npdu.message ≡ None
   pub sender : peer ≡ record { link = link; route = npdu.source }

@@ -36,12 +36,11 @@ all_of test None = true
 all_of test (Some x) = test x
 
 -- which NPDUs have a spelling
-unfoldable pub npdu_fits : NpduView → Bool
-npdu_fits n =
-    all_of (λ d. destination_fits d.network (length d.address)) n.destination
-    && all_of route_fits n.source
-    && all_of (λ m. message_fits m.kind m.vendor) n.message
-    && nat_lt n.priority 4
+pub record NpduFits (n : NpduView) : Type 0 where
+  pub destination : IsTrue (all_of (λ d. destination_fits d.network (length d.address)) n.destination)
+  pub source : IsTrue (all_of route_fits n.source)
+  pub message : IsTrue (all_of (λ m. message_fits m.kind m.vendor) n.message)
+  pub priority : n.priority < 4
 
 abbrev pub bit : Bool → ℕ → ℕ
 bit b weight = if b then weight else 0
@@ -54,33 +53,29 @@ control_octet n = bit (is_some n.message) 128 + bit (is_some n.destination) 32 +
 abbrev pub address_spelling : ℕ → List ℕ → List ℕ
 address_spelling network address = to_be_bytes w16 network ++ length address ∷ address
 
-abbrev pub destination_spelling : Option DestinationView → List ℕ
-destination_spelling None = []
-destination_spelling (Some d) = address_spelling d.network d.address
+-- a member that is left out where there is none
+abbrev pub optional : {A : Type 0} → (A → List ℕ) → Option A → List ℕ
+optional spelling None = []
+optional spelling (Some x) = spelling x
 
-abbrev pub source_spelling : Option RouteView → List ℕ
-source_spelling None = []
-source_spelling (Some r) = address_spelling r.network r.address
+abbrev pub message_spelling : MessageView → List ℕ
+message_spelling m = m.kind ∷ optional (to_be_bytes w16) m.vendor
 
-abbrev pub hops_spelling : Option DestinationView → List ℕ
-hops_spelling None = []
-hops_spelling (Some d) = d.hops ∷ []
+-- what stands behind the control octet: the members that it announces, and the contents
+unfoldable pub members_spelling : NpduView → List ℕ
+members_spelling n =
+    optional (λ d. address_spelling d.network d.address) n.destination
+    ++ (optional (λ r. address_spelling r.network r.address) n.source
+    ++ (optional (λ d. d.hops ∷ []) n.destination
+    ++ (optional message_spelling n.message
+    ++ n.contents)))
 
-abbrev pub vendor_spelling : Option ℕ → List ℕ
-vendor_spelling None = []
-vendor_spelling (Some vendor) = to_be_bytes w16 vendor
-
-abbrev pub message_spelling : Option MessageView → List ℕ
-message_spelling None = []
-message_spelling (Some m) = m.kind ∷ vendor_spelling m.vendor
-
--- version 1, the control octet, the members that it announces, and the contents
+-- version 1, the control octet, the members and the contents
 unfoldable pub npdu_spelling : NpduView → List ℕ
-npdu_spelling n =
-    1 ∷ control_octet n ∷ (destination_spelling n.destination ++ (source_spelling n.source ++ (hops_spelling n.destination ++ (message_spelling n.message ++ n.contents))))
+npdu_spelling n = 1 ∷ control_octet n ∷ members_spelling n
 
 pub record SpellsNpdu (n : NpduView) (octets : List ℕ) : Type 0 where
-  pub fits : IsTrue (npdu_fits n)
+  pub fits : NpduFits n
   pub is : octets ≡ npdu_spelling n
 
 -- Original-Unicast-NPDU (clause J.2.11): the length counts the four octets in front of the NPDU too

@@ -3,7 +3,8 @@ use Rattle.std.specs.Prelude.{ℕ, List, Option, Bool, nat_lt, ◌&&◌, length}
 use Rattle.std.specs.Ordering.{nat_cmp, on, then_cmp}
 use Rattle.std.specs.declared.cmp.Ordering.{Ordering}
 use Rattle.std.specs.Option.{option_cmp}
-use Rattle.std.specs.Cmp.Lexicographic.{slice_cmp}
+use Rattle.std.specs.Cmp.{IsTotalOrder, then_total, on_total, nat_cmp_total}
+use Rattle.std.specs.Cmp.Lexicographic.{slice_cmp, lists_total, options_total}
 
 -- a device on a network behind a router: the network's number, and the device's address there (clause 6.2.2)
 pub record RouteView : Type 0 where
@@ -26,3 +27,9 @@ route_cmp = then_cmp (on (λ r. r.network) nat_cmp) (on (λ r. r.address) (slice
 -- by link, then no route before a route, then by route
 abbrev pub peer_cmp : PeerView → PeerView → Ordering
 peer_cmp = then_cmp (on (λ p. p.link) (slice_cmp nat_cmp)) (on (λ p. p.route) (option_cmp route_cmp))
+
+pub route_cmp_total : IsTotalOrder route_cmp
+route_cmp_total = then_total (on_total (λ (r : RouteView). r.network) nat_cmp_total) (on_total (λ (r : RouteView). r.address) (lists_total nat_cmp_total))
+
+pub peer_cmp_total : IsTotalOrder peer_cmp
+peer_cmp_total = then_total (on_total (λ (p : PeerView). p.link) (lists_total nat_cmp_total)) (on_total (λ (p : PeerView). p.route) (options_total route_cmp_total))

@@ -1,10 +1,10 @@
 //! Octets of whole datagrams, computed from the definitions: each function's contract is an example.
-#![tactic(auto, unfolding(crate::specs::Datagram::frame, crate::specs::Npdu::npdu_spelling, crate::specs::Npdu::bvll_spelling, crate::specs::Npdu::npdu_fits))]
+#![tactic(auto, unfolding(crate::specs::Datagram::frame, crate::specs::Npdu::npdu_spelling, crate::specs::Npdu::bvll_spelling, crate::specs::Npdu::members_spelling))]
 
 ghost use Rattle.std.specs.Prelude.{◌≡◌, List, [], ◌∷◌, Some, None, true, false, IsTrue};
 ghost use Rattle.std.specs.declared.cmp.Ordering.TheVariants.{Less, Greater};
-ghost use Rattle.bac_npdu.specs.Peers.{PeerView, RouteView, peer_cmp};
-ghost use Rattle.bac_npdu.specs.Npdu.{NpduView, DestinationView, MessageView, npdu_fits, npdu_spelling, bvll_spelling};
+ghost use Rattle.bac_npdu.specs.Peers.{PeerView, RouteView, route_fits, peer_cmp};
+ghost use Rattle.bac_npdu.specs.Npdu.{NpduView, DestinationView, MessageView, destination_fits, message_fits, npdu_spelling, bvll_spelling};
 ghost use Rattle.bac_npdu.specs.Datagram.{frame};
 
 // A request on the own network: bit 2 of the control octet is set.
@@ -44,17 +44,17 @@ fn each_member_in_its_place()
 
 // A global broadcast has no address octets.
 fn no_address_on_all_networks()
-    ensures { npdu_fits (record { destination = Some (record { network = 65535; address = 0x01 ∷ []; hops = 9 }); source = None; expecting = true; priority = 0; message = None; contents = [] }) ≡ false }
+    ensures { destination_fits 65535 1 ≡ false }
 {}
 
 // No source on network 65,535.
 fn no_source_on_all_networks()
-    ensures { npdu_fits (record { destination = None; source = Some (record { network = 65535; address = 0x01 ∷ [] }); expecting = true; priority = 0; message = None; contents = [] }) ≡ false }
+    ensures { route_fits (record { network = 65535; address = 0x01 ∷ [] }) ≡ false }
 {}
 
 // A vendor's identifier stands behind types from 128 on alone.
 fn no_vendor_of_a_standard_message()
-    ensures { npdu_fits (record { destination = None; source = None; expecting = true; priority = 0; message = Some (record { kind = 127; vendor = Some 1 }); contents = [] }) ≡ false }
+    ensures { message_fits 127 (Some 1) ≡ false }
 {}
 
 fn link_before_route()

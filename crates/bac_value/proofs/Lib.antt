@@ -6,3 +6,7 @@ pub mod Elements
 pub mod Turns
 pub mod Forests
 pub mod Joined
+pub mod Numbers
+pub mod Signs
+pub mod Values
+pub mod ContentLaws

@@ -1,0 +1,5 @@
+pub mod Steps
+pub mod Members
+pub mod Frames
+pub mod Datagrams
+pub mod Writing

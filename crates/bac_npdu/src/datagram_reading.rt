@@ -1,0 +1,37 @@
+ghost use Rattle.std.specs.Prelude.{◌≡◌, ℕ, List, IfOk, IfErr};
+ghost use Rattle.bac_npdu.specs.Peers.{PeerView};
+ghost use Rattle.bac_npdu.specs.Datagram.{Carries};
+ghost use Rattle.bac_npdu.specs.Causes.{IsCause};
+ghost use Rattle.bac_npdu.specs.Views.{peer_view};
+
+use crate::bvll::read_bvll;
+use crate::fault::Dropped;
+use crate::npdu_reading::read_npdu;
+use crate::peer::Peer;
+
+/// The peer and the octets of the APDU that a datagram from a link means, or why it means none.
+pub fn read_datagram(link: [u8; 6], octets: &[u8]) -> Result<(Peer, &[u8]), Dropped>
+    ensures carried { IfOk result (λ r. Carries link octets.now (peer_view r.0) r.1.now) }
+    ensures none { IfErr result (λ e. (peer : PeerView) (apdu : List ℕ) → Carries link octets.now peer apdu → ⊥) }
+    ensures cause { IfErr result (IsCause octets.now) }
+{
+    let npdu = match read_bvll(octets) {
+        Ok(npdu) => npdu,
+        Err(fault) => return Err(Dropped::Bvll(fault)),
+    };
+    let npdu = match read_npdu(npdu) {
+        Ok(npdu) => npdu,
+        Err(fault) => return Err(Dropped::Npdu(fault)),
+    };
+    if npdu.destination.is_some() {
+        Err(Dropped::Routed)
+    } else if npdu.message.is_some() {
+        Err(Dropped::NetworkMessage)
+    } else {
+        let peer = Peer {
+            link,
+            route: npdu.source,
+        };
+        Ok((peer, npdu.contents))
+    }
+}

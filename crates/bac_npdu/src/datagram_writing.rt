@@ -1,0 +1,77 @@
+ghost use Rattle.std.specs.Prelude.{◌≡◌, ◌+◌, ◌≤◌, ◌<◌, ◌++◌, ◌∷◌, [], length, OnOk, OnErr, vec_len, vec_capacity, true};
+ghost use Rattle.bac_npdu.specs.Npdu.{address_spelling, npdu_spelling};
+ghost use Rattle.bac_npdu.specs.Datagram.{frame, npdu_to};
+ghost use Rattle.bac_npdu.specs.Views.{peer_view};
+ghost use Rattle.bac_npdu.specs.Addresses.{address_view};
+
+use crate::peer::Peer;
+use crate::route::Route;
+use std::alloc::AllocError;
+
+/// How many octets the NPDU to a peer has in front of its contents.
+#[tactic(auto, unfolding(crate::specs::Npdu::npdu_spelling, crate::specs::Npdu::members_spelling))]
+fn head_len(peer: &Peer) -> usize
+    ensures head { result ≡ length (npdu_spelling (npdu_to (peer_view peer.now) true [])) }
+    ensures most { result ≤ 14 }
+{
+    match peer.route {
+        None => 2,
+        Some(route) => 6 + route.address.octets().len(),
+    }
+}
+
+/// The network's number, the count of the address octets, and these.
+fn put_address(route: &Route, out: &mut Vec<u8>) -> Result<(), AllocError>
+    ensures ok { OnOk result (out.new.items ≡ out.old.items ++ address_spelling route.now.network (address_view route.now.address)) }
+    ensures len { OnOk result (vec_len out.new ≡ vec_len out.old + 3 + length (address_view route.now.address)) }
+    ensures full { OnErr result (vec_capacity out.old < vec_len out.old + 3 + length (address_view route.now.address)) }
+    ensures grows { vec_capacity out.old ≤ vec_capacity out.new }
+{
+    let address = route.address.octets();
+    out.extend_from_slice(&route.network.to_be_bytes())?;
+    out.push(address.len() as u8)?;
+    out.extend_from_slice(address)
+}
+
+/// What the NPDU to a peer has in front of its contents.
+#[tactic(auto, unfolding(crate::specs::Npdu::npdu_spelling, crate::specs::Npdu::members_spelling))]
+fn put_head(peer: &Peer, expecting: bool, out: &mut Vec<u8>) -> Result<(), AllocError>
+    ensures ok { OnOk result (out.new.items ≡ out.old.items ++ npdu_spelling (npdu_to (peer_view peer.now) expecting [])) }
+    ensures len { OnOk result (vec_len out.new ≡ vec_len out.old + length (npdu_spelling (npdu_to (peer_view peer.now) expecting []))) }
+    ensures full { OnErr result (vec_capacity out.old < vec_len out.old + length (npdu_spelling (npdu_to (peer_view peer.now) expecting []))) }
+    ensures grows { vec_capacity out.old ≤ vec_capacity out.new }
+{
+    let expecting = if expecting { 0x04 } else { 0 };
+    match &peer.route {
+        None => out.extend_from_slice(&[0x01, expecting]),
+        Some(route) => {
+            out.extend_from_slice(&[0x01, 0x20 + expecting])?;
+            put_address(route, out)?;
+            out.push(0xFF)?;
+            Ok(())
+        }
+    }
+}
+
+/// Appends the one frame that carries the octets of an APDU to a peer; `expecting` says that a reply is expected, as it is of Confirmed-Requests alone.
+/// Want of memory changes nothing.
+#[tactic(auto, using(crate::proofs::Writing::frame_length, crate::proofs::Writing::same_head, crate::proofs::Writing::frame_parts))]
+pub fn write_datagram(
+    peer: &Peer,
+    expecting: bool,
+    apdu: &[u8],
+    out: &mut Vec<u8>,
+) -> Result<(), AllocError>
+    requires { length apdu.now ≤ 1476 }
+    ensures ok { OnOk result (out.new.items ≡ out.old.items ++ frame (peer_view peer.now) expecting apdu.now) }
+    ensures err { OnErr result (out.new.items ≡ out.old.items) }
+    ensures full { OnErr result (vec_capacity out.old < vec_len out.old + length (frame (peer_view peer.now) expecting apdu.now)) }
+{
+    let len = 4 + head_len(peer) + apdu.len();
+    out.reserve(len)?;
+    out.extend_from_slice(&[0x81, 0x0A])?;
+    out.extend_from_slice(&(len as u16).to_be_bytes())?;
+    put_head(peer, expecting, out)?;
+    out.extend_from_slice(apdu)?;
+    Ok(())
+}

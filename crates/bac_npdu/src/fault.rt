@@ -1,0 +1,29 @@
+/// Why octets are no frame. `fault as u8` is the number by which it is printed.
+#[derive(Clone, Copy, Debug, PartialEq, Eq)]
+pub enum FrameFault {
+    /// The octets end too early.
+    Truncated = 1,
+    /// A BVLL that does not begin with 81, or an NPDU that does not begin with 01.
+    Version = 2,
+    /// Bit 6 or 4 of the control octet is set.
+    ReservedBits = 3,
+    /// A network number that no destination or no source has.
+    BadNet = 4,
+    /// The length of a BVLL is not that of the datagram, or an address has too many octets or too few.
+    BadLength = 5,
+    /// A BVLL function other than Original-Unicast-NPDU.
+    NotUnicast = 6,
+}
+
+/// Why a datagram means no peer and no APDU: the first of these that holds.
+#[derive(Clone, Copy, Debug, PartialEq, Eq)]
+pub enum Dropped {
+    /// It is no BVLL.
+    Bvll(FrameFault),
+    /// It is one, of octets that are no NPDU.
+    Npdu(FrameFault),
+    /// The NPDU is to be routed elsewhere: it has a destination.
+    Routed,
+    /// The NPDU is a network message.
+    NetworkMessage,
+}

@@ -1,0 +1,40 @@
+ghost use Rattle.std.specs.Prelude.{◌<◌, IsTrue, length};
+ghost use Rattle.bac_npdu.specs.Npdu.{destination_fits, message_fits};
+ghost use Rattle.bac_npdu.specs.Addresses.{address_view};
+
+use crate::address::Address;
+use crate::route::Route;
+
+/// Where an NPDU is to be routed to: network 65,535 is the global broadcast, and an address of no octets a broadcast on the network.
+#[derive(Clone, Copy)]
+pub struct Destination {
+    pub network: u16,
+    pub address: Address,
+    /// How many routers it may pass still.
+    pub hops: u8,
+    pub ghost fits: { IsTrue (destination_fits network (length (address_view address))) },
+}
+
+/// The type of a network message, with the vendor's identifier from type 128 on (clause 6.2.4).
+#[derive(Clone, Copy)]
+pub struct Message {
+    pub kind: u8,
+    pub vendor: Option<u16>,
+    pub ghost fits: { IsTrue (message_fits kind vendor) },
+}
+
+/// A message of the network layer (clause 6.2).
+#[derive(Clone, Copy)]
+pub struct Npdu<'a> {
+    pub destination: Option<Destination>,
+    pub source: Option<Route>,
+    /// Whether the sender expects a reply.
+    pub expecting: bool,
+    /// 0 normal, 1 urgent, 2 critical equipment, 3 life safety.
+    pub priority: u8,
+    /// None where the contents are an APDU.
+    pub message: Option<Message>,
+    /// The octets of the APDU, or the raw contents of the network message.
+    pub contents: &'a [u8],
+    pub ghost normal_to_safety: { priority < 4 },
+}

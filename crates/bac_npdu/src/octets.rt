@@ -1,0 +1,35 @@
+ghost use Rattle.std.specs.Prelude.{◌≡◌};
+ghost use Rattle.bac_npdu.specs.Reading.{Reads, octet_at, word_at, cut_at};
+
+use crate::fault::FrameFault;
+
+/// The first octet, and what is behind it.
+pub(crate) fn octet(octets: &[u8]) -> Result<(u8, &[u8]), FrameFault>
+    ensures { Reads (λ x. x) (λ r. r.now) octets.now result octet_at }
+{
+    match octets.split_first() {
+        Some((first, rest)) => Ok((*first, rest)),
+        None => Err(FrameFault::Truncated),
+    }
+}
+
+/// The number of two octets, and what is behind it.
+#[tactic(auto, unfolding(crate::specs::Reading::word_at))]
+pub(crate) fn word(octets: &[u8]) -> Result<(u16, &[u8]), FrameFault>
+    ensures { Reads (λ x. x) (λ r. r.now) octets.now result word_at }
+{
+    let (high, rest) = octet(octets)?;
+    let (low, rest) = octet(rest)?;
+    Ok((u16::from_be_bytes([high, low]), rest))
+}
+
+/// So many octets, and what is behind them.
+#[tactic(auto, unfolding(crate::specs::Reading::cut_at))]
+pub(crate) fn cut(octets: &[u8], count: usize) -> Result<(&[u8], &[u8]), FrameFault>
+    ensures { Reads (λ x. x.now) (λ r. r.now) octets.now result (cut_at count) }
+{
+    if octets.len() < count {
+        return Err(FrameFault::Truncated);
+    }
+    Ok((&octets[..count], &octets[count..]))
+}
