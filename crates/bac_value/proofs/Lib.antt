@@ -9,3 +9,5 @@ pub mod Joined
 pub mod Numbers
 pub mod Signs
 pub mod Values
+pub mod ContentLaws
+pub mod ElementLists

@@ -23,9 +23,11 @@ mod tag_reading;
 mod tag_writing;
 mod value;
 mod value_writing;
+mod walking;
+mod walking_on;
 
 pub use contents::take_contents;
-pub use data::Data;
+pub use data::{Data, DataBuf};
 pub use data_reading::{one_data_front, read_data, take_data};
 pub use data_writing::write_data;
 pub use element::Element;
@@ -43,3 +45,4 @@ pub use value::{BitString, CharacterString, ObjectIdentifier, OctetString, Value
 pub use value_writing::{
     put_boolean, put_object_identifier, put_primitive, put_signed, put_unsigned, put_value,
 };
+pub use walking::DataElements;
