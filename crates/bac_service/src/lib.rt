@@ -3,6 +3,8 @@
 
 mod member;
 mod reject;
+mod reply;
+mod reply_writing;
 mod request;
 mod request_reading;
 mod run;
@@ -12,6 +14,9 @@ mod typed;
 mod value;
 
 pub use reject::Reject;
+pub use reply::{
+    AnyComplex, AnyReply, Complex, ComplexOver, FileRead, FileWritten, PropertyRead, Reply,
+};
 pub use request::{
     AnyRequest, ReadAccess, ReadFile, Request, RequestOver, WriteAccess, WriteFile, WriteProperty, WriteRecords,
     WriteStream,
