@@ -53,7 +53,7 @@ write_exact =
     let priority = optional_exact 4 priority_at Priority priority_exact (λ y text rest s. next_tagged 4 (IsPriority y) text rest refl s) in
     let behind = both_exact Anything (Differs 4) (enclosed_at 3 values_at) (optional_at 4 priority_at) Enclosing (Optional Priority) enclosing_exact priority (λ b text rest q f. tt) in
     let all = both_exact (Differs 2) (Differs 4) reference_at (both_at (enclosed_at 3 values_at) (optional_at 4 priority_at)) SpellsReference (λ (t : Octets × Option ℕ). Enclosing t.0 ⨾ Optional Priority t.1) reference_exact behind
-      (λ b text rest q f. (ap (λ (t : Octets). is_next 2 (t ++ rest)) q.is ∙ ap (is_next 2) (append_assoc q.front q.back rest)) ∙ opened_differs 2 3 (AreData b.0) q.front (q.back ++ rest) (lit< tt) q.first) in
+    (λ b text rest q f. (ap (λ (t : Octets). is_next 2 (t ++ rest)) q.is ∙ ap (is_next 2) (append_assoc q.front q.back rest)) ∙ opened_differs 2 3 (AreData b.0) q.front (q.back ++ rest) (lit< tt) q.first) in
     made_exact (Differs 4) write_property_of (both_at reference_at (both_at (enclosed_at 3 values_at) (optional_at 4 priority_at))) Written all
 
 -- ---- files
@@ -147,14 +147,14 @@ end_of_file_exact : IsExact Anything end_of_file_at ApplicationBoolean
 unfolding end_of_file_at
 end_of_file_exact = record {
   takes = λ bytes x fits e.
-    let t = bind_some (kept (tag_at bytes)) (λ t. boolean_of t.0.form >>= λ b. Some (b, t.1)) x e in
-    let b = bind_some (boolean_of t.0.0.form) (λ b. Some (b, t.0.1)) x t.2 in
-    let took = tag_exact.takes bytes t.0 fits (kept_some (tag_at bytes) t.0 t.1) in
-    let m = boolean_fields t.0.0.number t.0.0.class t.0.0.form b.0 (boolean_is t.0.0.form b.0 b.1) took.2.fits in
-    subst (λ (y : Bool × Octets). (text : Octets) × (bytes ≡ text ++ y.1) × ApplicationBoolean y.0 text) (some_is (b.0, t.0.1) x b.2) (took.0, took.1, took.2.is ∙ ap tag_spelling m);
+      let t = bind_some (kept (tag_at bytes)) (λ t. boolean_of t.0.form >>= λ b. Some (b, t.1)) x e in
+      let b = bind_some (boolean_of t.0.0.form) (λ b. Some (b, t.0.1)) x t.2 in
+      let took = tag_exact.takes bytes t.0 fits (kept_some (tag_at bytes) t.0 t.1) in
+      let m = boolean_fields t.0.0.number t.0.0.class t.0.0.form b.0 (boolean_is t.0.0.form b.0 b.1) took.2.fits in
+      subst (λ (y : Bool × Octets). (text : Octets) × (bytes ≡ text ++ y.1) × ApplicationBoolean y.0 text) (some_is (b.0, t.0.1) x b.2) (took.0, took.1, took.2.is ∙ ap tag_spelling m);
   again = λ y text rest s follows.
-    let tag : SpellsTag (boolean_mark y) text = record { fits = refl; length_in = tt; is = s } in
-    rw (tag_exact.again (boolean_mark y) text rest tag) refl;
+      let tag : SpellsTag (boolean_mark y) text = record { fits = refl; length_in = tt; is = s } in
+      rw (tag_exact.again (boolean_mark y) text rest tag) refl;
 }
 
 abbrev FileReads : Bool × (ℤ × Octets) → Octets → Type 0

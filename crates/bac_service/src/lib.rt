@@ -17,9 +17,10 @@ pub use reject::Reject;
 pub use reply::{
     AnyComplex, AnyReply, Complex, ComplexOver, FileRead, FileWritten, PropertyRead, Reply,
 };
+pub use reply_writing::write_reply;
 pub use request::{
-    AnyRequest, ReadAccess, ReadFile, Request, RequestOver, WriteAccess, WriteFile, WriteProperty, WriteRecords,
-    WriteStream,
+    AnyRequest, ReadAccess, ReadFile, Request, RequestOver, WriteAccess, WriteFile, WriteProperty,
+    WriteRecords, WriteStream,
 };
 pub use request_reading::read_request;
 pub use value::{Content, Priority, PropertyReference, Records};
