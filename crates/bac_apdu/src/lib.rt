@@ -1,5 +1,16 @@
 //! The eight kinds of APDU (clause 20.1): reading, and the one spelling of each.
 #![tactic(auto)]
 
+mod apdu;
+mod fault;
+mod limits;
+mod member_reading;
+mod reading;
+
+pub use apdu::Apdu;
+pub use fault::ApduFault;
+pub use limits::{Codes, Segment, Window};
+//pub use reading::read;
+
 #[cfg(test)]
 mod examples;
