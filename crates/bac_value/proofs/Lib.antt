@@ -6,3 +6,5 @@ pub mod Elements
 pub mod Turns
 pub mod Forests
 pub mod Joined
+pub mod Numbers
+pub mod Signs

@@ -28,7 +28,7 @@ fault_unless : (b : Bool) (e : FaultKind) → cond b None (Some e) ≡ None → 
 fault_unless true e h = refl
 fault_unless false e h = absurd cc
 
-between : (low high k : ℕ) → IsTrue (ltb low k && ltb k high) → (low < k) × (k < high)
+pub between : (low high k : ℕ) → IsTrue (ltb low k && ltb k high) → (low < k) × (k < high)
 between low high k h = let p = and_parts (ltb low k) (ltb k high) h in (ltb-true _ _ p.0, ltb-true _ _ p.1)
 
 pub between_from : (low high k : ℕ) → low < k → k < high → ltb low k && ltb k high ≡ true

@@ -1,5 +1,5 @@
 -- Numbers in the fewest octets, the highest first.
-use Rattle.std.specs.Prelude.{◌≡◌, ℕ, ◌+◌, ◌-◌, ◌*◌, ◌^◌, ◌<◌, ◌≤◌, ℤ, pos, ◌-ℤ◌, nat_lt, if◌then◌else◌, List, [], ◌∷◌, length, slice_index}
+use Rattle.std.specs.Prelude.{◌≡◌, ℕ, ◌+◌, ◌-◌, ◌*◌, ◌^◌, ◌<◌, ◌≤◌, ℤ, pos, neg_ℤ, ◌-ℤ◌, ◌≤ℤ◌, ◌<ℤ◌, nat_lt, if◌then◌else◌, List, [], ◌∷◌, length, slice_index}
 use Rattle.bac_value.specs.Octets.{IsBytes}
 
 -- the sum of octets times powers of 256
@@ -26,3 +26,7 @@ pub record IsSigned (z : ℤ) (xs : List ℕ) : Type 0 where
   pub some : 0 < length xs
   pub zeros : 1 < length xs → slice_index xs 0 ≡ 0 → 128 ≤ slice_index xs 1
   pub ones : 1 < length xs → slice_index xs 0 ≡ 255 → slice_index xs 1 < 128
+
+-- the number stands in so many octets in two's complement
+abbrev pub InSigned : ℕ → ℤ → Type 0
+InSigned k z = (neg_ℤ (pos (2 ^ (8 * k - 1))) ≤ℤ z) × (z <ℤ pos (2 ^ (8 * k - 1)))

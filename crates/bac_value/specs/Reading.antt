@@ -155,7 +155,7 @@ signed_at k bytes = do
 unfoldable pub object_at : ℕ → List ℕ → Result (ObjectId × List ℕ) FaultKind
 object_at k bytes = do
   c ← kind_at 12 k bytes
-  Ok (record { kind = from_be_bytes w32 c.0 / 2 ^ 22; instance = from_be_bytes w32 c.0 % 2 ^ 22 }, c.1)
+  Ok (record { kind = number_in c.0 / 2 ^ 22; instance = number_in c.0 % 2 ^ 22 }, c.1)
 
 -- ---- data (clause 20.2.1.3.2)
 

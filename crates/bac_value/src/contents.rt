@@ -1,4 +1,4 @@
-ghost use Rattle.std.specs.Prelude.{◌≡◌, ◌<◌, ◌≤◌, ◌+◌, ◌-◌, ◌%◌, ◌^◌, ◌==◌, ◌&&◌, ◌∷◌, length, drop, take, slice_index, MatchOption};
+ghost use Rattle.std.specs.Prelude.{◌≡◌, ◌<◌, ◌≤◌, ◌+◌, ◌-◌, ◌%◌, ◌^◌, ◌==◌, ◌&&◌, ◌∷◌, length, drop, take, slice_index, MatchOption, IfOk, IsTrue, true};
 ghost use Rattle.bac_value.specs.Limits.{bits_fit};
 ghost use Rattle.bac_value.specs.Reading.{Reads, raw_at, kind_at, class_at, contents_at, length_in, flaw, is_longer_unsigned, is_longer_signed};
 ghost use Rattle.bac_value.specs.Views.{mark};
@@ -102,7 +102,8 @@ fn flaw_in<O: Octets>(contents: O, kind: u8) -> Option<FaultKind>
 
 #[tactic(auto, unfolding(crate::specs::Reading::raw_at))]
 fn take_raw<O: Octets>(octets: O, len: usize) -> Result<(O, O), FaultKind>
-    ensures { Reads O.octets O.octets (O.octets octets) result (raw_at len) }
+    ensures reads { Reads O.octets O.octets (O.octets octets) result (raw_at len) }
+    ensures sized { IfOk result (λ r. length (O.octets r.0) ≡ len) }
 {
     if octets.len() < len {
         return Err(FaultKind::Truncated);
@@ -116,7 +117,8 @@ fn take_raw<O: Octets>(octets: O, len: usize) -> Result<(O, O), FaultKind>
 /// the octets are there (`Truncated`), then the octets themselves (`NotShortest`, `ReservedBits`).
 #[tactic(auto, unfolding(crate::specs::Reading::kind_at))]
 pub fn take_contents<O: Octets>(octets: O, kind: u8, len: usize) -> Result<(O, O), FaultKind>
-    ensures { Reads O.octets O.octets (O.octets octets) result (kind_at kind len) }
+    ensures reads { Reads O.octets O.octets (O.octets octets) result (kind_at kind len) }
+    ensures sized { IfOk result (λ r. (length (O.octets r.0) ≡ len) × IsTrue (length_in kind len)) }
 {
     if !is_length_in(kind, len) {
         return Err(FaultKind::BadLength);

@@ -1,0 +1,120 @@
+ghost use Rattle.std.specs.Prelude.{◌≡◌, ◌<◌, ◌≤◌, ◌+◌, ◌-◌, ◌*◌, ◌/◌, ◌%◌, ◌^◌, length};
+ghost use Rattle.bac_value.specs.Number.{number_in, signed_in};
+ghost use Rattle.bac_value.specs.Reading.{Reads, number_at, signed_at, object_at};
+ghost use Rattle.bac_value.specs.Views.{object_id};
+
+use crate::contents::take_contents;
+use crate::fault::FaultKind;
+use crate::octets::Octets;
+use crate::value::ObjectIdentifier;
+
+/// A number with one octet more behind it.
+fn with_octet(number: u64, octet: u8) -> u64
+    requires { number < 2 ^ 56 }
+    ensures is { result ≡ number * 256 + octet }
+    ensures octet { octet < 256 }
+{
+    number * 256 + u64::from(octet)
+}
+
+/// The number in at most 8 octets, the highest first.
+pub(crate) fn number_of<O: Octets>(octets: O) -> u64
+    requires { length (O.octets octets) ≤ 8 }
+    ensures is { result ≡ number_in (O.octets octets) }
+    ensures small { result < 256 ^ length (O.octets octets) }
+{
+    let mut number: u64 = 0;
+    let mut rest = octets;
+    while let Some(read) = rest.first() {
+        number = with_octet(number, read.0);
+        rest = read.1;
+    }
+    number
+}
+
+/// The greatest number in so many octets.
+fn greatest_in(len: usize) -> u64
+    requires some { 0 < len }
+    requires most { len ≤ 8 }
+    ensures whole { result + 1 ≡ 2 ^ (8 * len) }
+    ensures half { result / 2 + 1 ≡ 2 ^ (8 * len - 1) }
+{
+    match len {
+        1 => 0xff,
+        2 => 0xffff,
+        3 => 0xff_ffff,
+        4 => 0xffff_ffff,
+        5 => 0xff_ffff_ffff,
+        6 => 0xffff_ffff_ffff,
+        7 => 0xff_ffff_ffff_ffff,
+        _ => 0xffff_ffff_ffff_ffff,
+    }
+}
+
+/// The number in 1 to 8 octets in two's complement.
+pub(crate) fn signed_of<O: Octets>(octets: O) -> i64
+    requires some { 0 < length (O.octets octets) }
+    requires most { length (O.octets octets) ≤ 8 }
+    ensures { result ≡ signed_in (O.octets octets) }
+{
+    let number = number_of(octets);
+    let greatest = greatest_in(octets.len());
+    if number <= greatest / 2 {
+        number as i64
+    } else {
+        -1 - (greatest - number) as i64
+    }
+}
+
+/// The number in `len` octets of contents of an Unsigned (clause 20.2.4), and what is behind them.
+#[tactic(auto, unfolding(crate::specs::Reading::number_at))]
+pub fn take_unsigned<O: Octets>(octets: O, len: usize) -> Result<(u64, O), FaultKind>
+    ensures { Reads (λ n. n) O.octets (O.octets octets) result (number_at 2 len) }
+{
+    let (contents, rest) = take_contents(octets, 2, len)?;
+    Ok((number_of(contents), rest))
+}
+
+/// The number in `len` octets of contents of an Enumerated (clause 20.2.11), and what is behind them.
+#[tactic(auto, unfolding(crate::specs::Reading::number_at))]
+pub fn take_enumerated<O: Octets>(octets: O, len: usize) -> Result<(u32, O), FaultKind>
+    ensures { Reads (λ n. n) O.octets (O.octets octets) result (number_at 9 len) }
+{
+    let (contents, rest) = take_contents(octets, 9, len)?;
+    let number = number_of(contents);
+    Ok((number as u32, rest))
+}
+
+/// The number in `len` octets of contents of a Signed (clause 20.2.5), and what is behind them.
+#[tactic(auto, unfolding(crate::specs::Reading::signed_at))]
+pub fn take_signed<O: Octets>(octets: O, len: usize) -> Result<(i64, O), FaultKind>
+    ensures { Reads (λ z. z) O.octets (O.octets octets) result (signed_at len) }
+{
+    let (contents, rest) = take_contents(octets, 3, len)?;
+    Ok((signed_of(contents), rest))
+}
+
+/// The object in 4 octets.
+pub(crate) fn object_of<O: Octets>(octets: O) -> ObjectIdentifier
+    requires { length (O.octets octets) ≡ 4 }
+    ensures kind { result.kind ≡ number_in (O.octets octets) / 2 ^ 22 }
+    ensures instance { result.instance ≡ number_in (O.octets octets) % 2 ^ 22 }
+{
+    let number = number_of(octets);
+    ObjectIdentifier {
+        kind: (number / 0x40_0000) as u16,
+        instance: (number % 0x40_0000) as u32,
+    }
+}
+
+/// The object in `len` octets of contents of an ObjectIdentifier (clause 20.2.14), and what is behind them.
+#[tactic(auto, unfolding(crate::specs::Reading::object_at))]
+pub fn take_object_identifier<O: Octets>(
+    octets: O,
+    len: usize,
+) -> Result<(ObjectIdentifier, O), FaultKind>
+    ensures { Reads object_id O.octets (O.octets octets) result (object_at len) }
+{
+    let (contents, rest) = take_contents(octets, 12, len)?;
+    Ok((object_of(contents), rest))
+}

@@ -1,0 +1,72 @@
+ghost use Rattle.std.specs.Prelude.{◌≡◌, ◌<◌, ◌≤◌, ◌+◌, ◌++◌, ◌^◌, OnOk, OnErr, length};
+ghost use Rattle.bac_value.specs.Octets.{Begins};
+ghost use Rattle.bac_value.specs.Spelling.{class_bit, form_bits, form_octets, length_octets, number_octets, number_bits, tag_spelling};
+ghost use Rattle.bac_value.specs.Views.{mark};
+
+use crate::memory::NoMemory;
+use crate::tag::{Class, Form, Tag};
+
+fn bits_of(form: Form) -> u8
+    ensures value { result ≡ form_bits form }
+    ensures small { result < 8 }
+{
+    match form {
+        Form::Length(len) => { if len < 5 { len as u8 } else { 5 } }
+        Form::Boolean(value) => u8::from(value),
+        Form::Opening => 6,
+        Form::Closing => 7,
+    }
+}
+
+fn put_length(len: u32, out: &mut Vec<u8>) -> Result<(), NoMemory>
+    ensures ok { OnOk result (out.new.items ≡ out.old.items ++ length_octets len) }
+    ensures kept { Begins out.old.items out.new.items }
+{
+    if len < 5 {
+        return Ok(());
+    }
+    if len < 254 {
+        out.push(len as u8)?;
+    } else if len < 65536 {
+        out.push(254)?;
+        out.extend_from_slice(&(len as u16).to_be_bytes())?;
+    } else {
+        out.push(255)?;
+        out.extend_from_slice(&len.to_be_bytes())?;
+    }
+    Ok(())
+}
+
+/// Appends the one spelling of a tag. After an `Err` the old octets are a front of what is there.
+#[tactic(auto, unfolding(crate::specs::Spelling::tag_spelling))]
+pub fn put_tag(tag: &Tag, out: &mut Vec<u8>) -> Result<(), NoMemory>
+    ensures ok { OnOk result (out.new.items ≡ out.old.items ++ tag_spelling (mark tag.now)) }
+    ensures kept { Begins out.old.items out.new.items }
+{
+    let number = if tag.number < 15 { tag.number } else { 15 };
+    let class = match tag.class {
+        Class::Application => 0,
+        Class::Context => 8,
+    };
+    out.push(16 * number + class + bits_of(tag.form))?;
+    if tag.number >= 15 {
+        out.push(tag.number)?;
+    }
+    if let Form::Length(length) = tag.form {
+        put_length(length, out)?;
+    }
+    Ok(())
+}
+
+/// Appends the one spelling of a tag, or changes nothing.
+pub fn write_tag(tag: &Tag, out: &mut Vec<u8>) -> Result<(), NoMemory>
+    ensures ok { OnOk result (out.new.items ≡ out.old.items ++ tag_spelling (mark tag.now)) }
+    ensures err { OnErr result (out.new.items ≡ out.old.items) }
+{
+    let before = out.len();
+    let written = put_tag(tag, out);
+    if written.is_err() {
+        out.truncate(before);
+    }
+    written
+}
