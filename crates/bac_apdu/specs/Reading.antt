@@ -1,12 +1,13 @@
 -- Reading from left to right, on lists alone.
-use Rattle.std.specs.Prelude.{◌≡◌, ℕ, ◌/◌, ◌%◌, ◌+◌, ◌<◌, slice_index, List, [], ◌∷◌, length, Result, Ok, Err, Option, Some, None, Bool, true, false, nat_lt, ◌==◌, ◌&&◌, not, if◌then◌else◌}
+use Rattle.std.specs.Prelude.{◌≡◌, ℕ, ◌/◌, ◌%◌, ◌+◌, ◌<◌, slice_index, List, [], ◌∷◌, length, Result, Ok, Err, Option, Some, None, Bool, true, false, nat_lt, ◌==◌, ◌&&◌, ◌||◌, not, if◌then◌else◌}
 use Rattle.bac_value.specs.declared.fault.FaultKind as value
 use Rattle.bac_value.specs.declared.fault.FaultKind.TheVariants as fault
 use Rattle.bac_value.specs.declared.tag.Class.{Class}
 use Rattle.bac_value.specs.declared.tag.Class.TheVariants.{Application, Context}
-use Rattle.bac_value.specs.Number.{number_in}
-use Rattle.bac_value.specs.Element.{Part}
-use Rattle.bac_value.specs.Reading.{element_at}
+use Rattle.bac_value.specs.declared.tag.Form.{Form}
+use Rattle.bac_value.specs.declared.tag.Form.TheVariants.{Length, Boolean, Opening, Closing}
+use Rattle.bac_value.specs.Spelling.{Mark}
+use Rattle.bac_value.specs.Reading.{tag_at, number_at, element_at}
 use Rattle.bac_apdu.specs.declared.fault.ApduFault.{ApduFault}
 use Rattle.bac_apdu.specs.declared.fault.ApduFault.TheVariants.{Truncated, ReservedBits, ReservedCode, BadWindow, BadType, Trailing, MorWithoutSeg, BadError}
 use Rattle.bac_apdu.specs.Apdu.{Segment, Apdu, ConfirmedRequest, UnconfirmedRequest, SimpleAck, ComplexAck, SegmentAck, Error, Reject, Abort}
@@ -91,21 +92,41 @@ segment_ack_at bits bytes = do
   window ← window_at number.1
   end_at window.1 (SegmentAck (has_bit bits 2) (has_bit bits 1) invoke.0 number.0 window.0)
 
--- an element that is an application Enumerated; only what ends too early is Truncated
+-- a fault of class or code: only what ends too early is Truncated
 abbrev pub element_fault : value.FaultKind → ApduFault
 element_fault fault.Truncated = Truncated
-element_fault _ = BadError
+element_fault fault.ReservedTag = BadError
+element_fault fault.LongForm = BadError
+element_fault fault.BadLength = BadError
+element_fault fault.NotShortest = BadError
+element_fault fault.Unbalanced = BadError
+element_fault fault.TooDeep = BadError
+element_fault fault.ReservedBits = BadError
+
+abbrev pub from_value : {A : Type 0} → Result A value.FaultKind → Result A ApduFault
+from_value (Ok x) = Ok x
+from_value (Err e) = Err (element_fault e)
+
+-- an element that is no application Enumerated
+unfoldable pub no_enumerated : List ℕ → Result (ℕ × List ℕ) ApduFault
+no_enumerated bytes = do
+  element ← from_value (element_at bytes)
+  Err BadError
 
 unfoldable pub is_enumerated : Class → ℕ → Bool
 is_enumerated Application number = number == 9
 is_enumerated Context number = false
 
-abbrev pub number_of : Result (Part × List ℕ) value.FaultKind → Result (ℕ × List ℕ) ApduFault
-number_of (Err e) = Err (element_fault e)
-number_of (Ok p) = if is_enumerated p.0.mark.class p.0.mark.number then Ok (number_in p.0.contents, p.1) else Err BadError
+unfoldable pub behind_tag : Mark → Form → List ℕ → List ℕ → Result (ℕ × List ℕ) ApduFault
+behind_tag tag (Length k) rest bytes = if is_enumerated tag.class tag.number then from_value (number_at 9 k rest) else no_enumerated bytes
+behind_tag tag (Boolean b) rest bytes = no_enumerated bytes
+behind_tag tag Opening rest bytes = no_enumerated bytes
+behind_tag tag Closing rest bytes = no_enumerated bytes
 
 unfoldable pub enumerated_at : List ℕ → Result (ℕ × List ℕ) ApduFault
-enumerated_at bytes = number_of (element_at bytes)
+enumerated_at bytes = do
+  tag ← from_value (tag_at bytes)
+  behind_tag tag.0 tag.0.form tag.1 bytes
 
 unfoldable pub error_at : List ℕ → Result Apdu ApduFault
 error_at bytes = do
@@ -127,25 +148,33 @@ abort_at bits bytes = do
   reason ← octet_at invoke.1
   end_at reason.1 (Abort (has_bit bits 1) invoke.0 reason.0)
 
--- the first octet holds the type in bits 7 to 4; of the others those that the type does not name are zero, and more segments follow a segment alone
-abbrev pub where_clear : Bool → Result Apdu ApduFault → Result Apdu ApduFault
-where_clear clear read = if clear then read else Err ReservedBits
+-- what is left in bits 3 to 0 of the first octet where the bits that a type names are taken out
+abbrev pub reserved_of : ℕ → ℕ → ℕ
+reserved_of kind bits =
+    if kind == 0 then bits % 2 else
+    (if kind == 3 then bits % 4 else
+    (if kind == 4 then bits / 4 else
+    (if kind == 7 then bits / 2 else bits)))
 
-abbrev pub where_segment : ℕ → Result Apdu ApduFault → Result Apdu ApduFault
-where_segment bits read = if has_bit bits 4 && not (has_bit bits 8) then Err MorWithoutSeg else read
+abbrev pub members_at : ℕ → ℕ → List ℕ → Result Apdu ApduFault
+members_at kind bits bytes =
+    if kind == 0 then confirmed_at bits bytes else
+    (if kind == 1 then unconfirmed_at bytes else
+    (if kind == 2 then simple_ack_at bytes else
+    (if kind == 3 then complex_ack_at bits bytes else
+    (if kind == 4 then segment_ack_at bits bytes else
+    (if kind == 5 then error_at bytes else
+    (if kind == 6 then reject_at bytes else abort_at bits bytes))))))
 
+-- more segments follow a segment alone
 unfoldable pub kind_at : ℕ → ℕ → List ℕ → Result Apdu ApduFault
 kind_at kind bits bytes =
-    if kind == 0 then where_clear (bits % 2 == 0) (where_segment bits (confirmed_at bits bytes)) else
-    (if kind == 1 then where_clear (bits == 0) (unconfirmed_at bytes) else
-    (if kind == 2 then where_clear (bits == 0) (simple_ack_at bytes) else
-    (if kind == 3 then where_clear (bits % 4 == 0) (where_segment bits (complex_ack_at bits bytes)) else
-    (if kind == 4 then where_clear (nat_lt bits 4) (segment_ack_at bits bytes) else
-    (if kind == 5 then where_clear (bits == 0) (error_at bytes) else
-    (if kind == 6 then where_clear (bits == 0) (reject_at bytes) else
-    (if kind == 7 then where_clear (nat_lt bits 2) (abort_at bits bytes) else
-    Err BadType)))))))
+    if nat_lt 7 kind then Err BadType else
+    (if reserved_of kind bits == 0 then
+      (if (kind == 0 || kind == 3) && has_bit bits 4 && not (has_bit bits 8) then Err MorWithoutSeg else members_at kind bits bytes)
+    else Err ReservedBits)
 
+-- the first octet holds the type in bits 7 to 4
 unfoldable pub apdu_at : List ℕ → Result Apdu ApduFault
 apdu_at bytes = do
   first ← octet_at bytes

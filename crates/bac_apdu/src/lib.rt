@@ -2,6 +2,7 @@
 #![tactic(auto)]
 
 mod apdu;
+mod error_reading;
 mod fault;
 mod limits;
 mod member_reading;
@@ -10,7 +11,7 @@ mod reading;
 pub use apdu::Apdu;
 pub use fault::ApduFault;
 pub use limits::{Codes, Segment, Window};
-//pub use reading::read;
+pub use reading::read;
 
 #[cfg(test)]
 mod examples;

@@ -1,8 +1,9 @@
 ghost use Rattle.std.specs.Prelude.{◌≡◌, ◌<◌, ◌%◌, ◌/◌, IfOk, true, false};
 ghost use Rattle.std.specs.Option.{option_map};
-ghost use Rattle.bac_apdu.specs.Views.{segment_view};
-ghost use Rattle.bac_apdu.specs.Reading.{Reads, octet_at, window_at, segment_at, codes_at, has_bit};
+ghost use Rattle.bac_apdu.specs.Views.{segment_view, apdu_view};
+ghost use Rattle.bac_apdu.specs.Reading.{Reads, ReadsAll, octet_at, end_at, window_at, segment_at, codes_at, has_bit};
 
+use crate::apdu::Apdu;
 use crate::fault::ApduFault;
 use crate::limits::{Codes, Segment, Window};
 
@@ -69,5 +70,16 @@ pub(crate) fn codes(octets: &[u8]) -> Result<(Codes, &[u8]), ApduFault>
     match Codes::new(codes / 16, codes % 16) {
         Some(codes) => Ok((codes, rest)),
         None => Err(ApduFault::ReservedCode),
+    }
+}
+
+/// The APDU where nothing is left behind it.
+pub(crate) fn ended<'a>(rest: &[u8], apdu: Apdu<'a>) -> Result<Apdu<'a>, ApduFault>
+    ensures { ReadsAll apdu_view result (end_at rest.now (apdu_view apdu.entry)) }
+{
+    if rest.is_empty() {
+        Ok(apdu)
+    } else {
+        Err(ApduFault::Trailing)
     }
 }
