@@ -4,12 +4,14 @@
 mod apdu;
 mod error_reading;
 mod fault;
+mod laws;
 mod limits;
 mod member_reading;
 mod reading;
 
 pub use apdu::Apdu;
 pub use fault::ApduFault;
+pub use laws::{error_members_are_values, one_apdu_spelling};
 pub use limits::{Codes, Segment, Window};
 pub use reading::read;
 
