@@ -1,17 +1,16 @@
 -- The two laws of APDUs: what is read is spelled so, and what is spelled so is read.
-use Rattle.std.proofs.Common.{◌≡◌, ℕ, zero, suc, ◌+◌, ◌*◌, ◌/◌, ◌%◌, ◌^◌, ◌<◌, ◌≤◌, Bool, true, false, cond, ltb, eqb, List, [], ◌∷◌, ◌++◌, length, Result, Ok, Err, Option, Some, None, refl, sym, ap, subst, ◌∙◌, append_assoc, arith, IsTrue, ◌&&◌, ◌||◌, not}
-use Rattle.std.specs.Prelude.{is_some}
-use Rattle.std.proofs.lemmas.Bool.{ltb-false, ltb-true, le-ltb, lt-ltb, and_parts, and_from, eqb-true, eqb-false, agree_below_at}
+use Rattle.std.proofs.Common.{◌≡◌, ℕ, zero, suc, ◌+◌, ◌*◌, ◌/◌, ◌%◌, ◌^◌, ◌<◌, Bool, true, false, cond, ltb, eqb, List, [], ◌∷◌, ◌++◌, Result, Ok, Err, Option, Some, None, refl, sym, ap, subst, ◌∙◌, arith, IsTrue, ◌&&◌, ◌||◌, not}
+use Rattle.std.proofs.lemmas.Bool.{ltb-true, lt-ltb, and_parts, and_from, eqb-true, agree_below_at}
 use Rattle.std.proofs.lemmas.List.{append-nil}
 use Rattle.bac_value.specs.Octets.{IsBytes}
 use Rattle.bac_value.proofs.Steps.{IsBytes-rest}
 use Rattle.bac_apdu.specs.declared.fault.ApduFault.{ApduFault}
-use Rattle.bac_apdu.specs.declared.fault.ApduFault.TheVariants.{ReservedBits, MorWithoutSeg, BadType}
+use Rattle.bac_apdu.specs.declared.fault.ApduFault.TheVariants.{ReservedBits, MorWithoutSeg}
 use Rattle.bac_apdu.specs.Apdu.{Segment, Apdu, ConfirmedRequest, UnconfirmedRequest, SimpleAck, ComplexAck, SegmentAck, Error, Reject, Abort}
 use Rattle.bac_apdu.specs.Spelling.{window_fits, codes_fit, segment_fits, apdu_fits, bit, segment_bits, segment_octets, enumerated_spelling, apdu_spelling, SpellsApdu}
-use Rattle.bac_apdu.specs.Reading.{◌>>=◌, octet_at, end_at, has_bit, window_at, segment_at, codes_at, enumerated_at, confirmed_at, unconfirmed_at, simple_ack_at, complex_ack_at, segment_ack_at, error_at, reject_at, abort_at, reserved_of, members_at, kind_at, apdu_at}
+use Rattle.bac_apdu.specs.Reading.{◌>>=◌, octet_at, end_at, has_bit, window_at, segment_at, codes_at, enumerated_at, confirmed_at, unconfirmed_at, simple_ack_at, complex_ack_at, segment_ack_at, error_at, reject_at, abort_at, kind_at, apdu_at}
 use Rattle.bac_apdu.proofs.Steps.{bind_ok, unless_ok, where_ok, ok_is, end_ok}
-use Rattle.bac_apdu.proofs.Members.{octet_takes, window_takes, more_of, segment_takes, segment_again, codes_takes, codes_again}
+use Rattle.bac_apdu.proofs.Members.{octet_takes, window_takes, segment_takes, codes_takes, codes_again}
 use Rattle.bac_apdu.proofs.Enumerated.{enumerated_takes, enumerated_again}
 
 -- ---- the bits of the first octet
@@ -83,7 +82,7 @@ confirmed_takes bits rest a lt clear more fits e =
     let th = octet_takes segment.0.1 choice.0 ts.0.rest_fits choice.1 in
     let first : bits ≡ segment_bits segment.0.0 + bit (has_bit bits 2) 2 = three_bits_are bits lt clear more ∙ ap (λ (n : ℕ). n + bit (has_bit bits 2) 2) (sym ts.2) in
     let behind : rest ≡ (16 * codes.0.0.0 + codes.0.0.1) ∷ invoke.0.0 ∷ (segment_octets segment.0.0 ++ choice.0.0 ∷ choice.0.1) =
-      tc.0.parts ∙ ap (λ (x : List ℕ). (16 * codes.0.0.0 + codes.0.0.1) ∷ x) (ti.0.parts ∙ ap (λ (x : List ℕ). invoke.0.0 ∷ x) (ts.0.parts ∙ ap (λ (x : List ℕ). segment_octets segment.0.0 ++ x) th.0.parts)) in
+    tc.0.parts ∙ ap (λ (x : List ℕ). (16 * codes.0.0.0 + codes.0.0.1) ∷ x) (ti.0.parts ∙ ap (λ (x : List ℕ). invoke.0.0 ∷ x) (ts.0.parts ∙ ap (λ (x : List ℕ). segment_octets segment.0.0 ++ x) th.0.parts)) in
     subst (Spelled bits rest) (ok_is (made codes.0.0 invoke.0.0 segment.0.0 choice.0) a choice.2)
     (record { fits = and_from (codes_fit codes.0.0.0 codes.0.0.1) (segment_fits segment.0.0) tc.1 ts.1; is = ap (λ (n : ℕ). n ∷ rest) first ∙ ap (λ (x : List ℕ). (segment_bits segment.0.0 + bit (has_bit bits 2) 2) ∷ x) behind })
 
@@ -133,7 +132,7 @@ complex_ack_takes bits rest a lt clear more fits e =
     let th = octet_takes segment.0.1 choice.0 ts.0.rest_fits choice.1 in
     let first : 48 + bits ≡ 48 + segment_bits segment.0.0 = ap (λ (n : ℕ). 48 + n) (two_bits_are bits lt clear more ∙ sym ts.2) in
     let behind : rest ≡ invoke.0.0 ∷ (segment_octets segment.0.0 ++ choice.0.0 ∷ choice.0.1) =
-      ti.0.parts ∙ ap (λ (x : List ℕ). invoke.0.0 ∷ x) (ts.0.parts ∙ ap (λ (x : List ℕ). segment_octets segment.0.0 ++ x) th.0.parts) in
+    ti.0.parts ∙ ap (λ (x : List ℕ). invoke.0.0 ∷ x) (ts.0.parts ∙ ap (λ (x : List ℕ). segment_octets segment.0.0 ++ x) th.0.parts) in
     subst (Spelled (48 + bits) rest) (ok_is (made invoke.0.0 segment.0.0 choice.0) a choice.2)
     (record { fits = ts.1; is = ap (λ (n : ℕ). n ∷ rest) first ∙ ap (λ (x : List ℕ). (48 + segment_bits segment.0.0) ∷ x) behind })
 
@@ -151,7 +150,7 @@ segment_ack_takes bits rest a lt clear fits e =
     let done = end_ok window.0.1 (made invoke.0.0 number.0.0 window.0.0) a window.2 in
     let first : 64 + bits ≡ 64 + bit (has_bit bits 2) 2 + bit (has_bit bits 1) 1 = omega (arith, low_bits_are bits lt clear) in
     let behind : rest ≡ invoke.0.0 ∷ number.0.0 ∷ window.0.0 ∷ [] =
-      ti.0.parts ∙ ap (λ (x : List ℕ). invoke.0.0 ∷ x) (tn.0.parts ∙ ap (λ (x : List ℕ). number.0.0 ∷ x) (tw.0.parts ∙ ap (λ (x : List ℕ). window.0.0 ∷ x) done.0)) in
+    ti.0.parts ∙ ap (λ (x : List ℕ). invoke.0.0 ∷ x) (tn.0.parts ∙ ap (λ (x : List ℕ). number.0.0 ∷ x) (tw.0.parts ∙ ap (λ (x : List ℕ). window.0.0 ∷ x) done.0)) in
     subst (Spelled (64 + bits) rest) done.1
     (record { fits = tw.1; is = ap (λ (n : ℕ). n ∷ rest) first ∙ ap (λ (x : List ℕ). (64 + bit (has_bit bits 2) 2 + bit (has_bit bits 1) 1) ∷ x) behind })
 
@@ -170,9 +169,9 @@ error_takes rest a fits e =
     let td = enumerated_takes class.0.1 code.0 tl.0.rest_fits code.1 in
     let done = end_ok code.0.1 (Error invoke.0.0 choice.0.0 class.0.0 code.0.0) a code.2 in
     let both : choice.0.1 ≡ enumerated_spelling class.0.0 ++ enumerated_spelling code.0.0 =
-      tl.0.parts ∙ ap (λ (x : List ℕ). enumerated_spelling class.0.0 ++ x) (td.0.parts ∙ ap (λ (x : List ℕ). enumerated_spelling code.0.0 ++ x) done.0 ∙ append-nil (enumerated_spelling code.0.0)) in
+    tl.0.parts ∙ ap (λ (x : List ℕ). enumerated_spelling class.0.0 ++ x) (td.0.parts ∙ ap (λ (x : List ℕ). enumerated_spelling code.0.0 ++ x) done.0 ∙ append-nil (enumerated_spelling code.0.0)) in
     let behind : rest ≡ invoke.0.0 ∷ choice.0.0 ∷ (enumerated_spelling class.0.0 ++ enumerated_spelling code.0.0) =
-      ti.0.parts ∙ ap (λ (x : List ℕ). invoke.0.0 ∷ x) (th.0.parts ∙ ap (λ (x : List ℕ). choice.0.0 ∷ x) both) in
+    ti.0.parts ∙ ap (λ (x : List ℕ). invoke.0.0 ∷ x) (th.0.parts ∙ ap (λ (x : List ℕ). choice.0.0 ∷ x) both) in
     subst (Spelled 80 rest) done.1
     (record { fits = and_from (ltb class.0.0 (2 ^ 32)) (ltb code.0.0 (2 ^ 32)) (lt-ltb class.0.0 (2 ^ 32) tl.1) (lt-ltb code.0.0 (2 ^ 32) td.1); is = ap (λ (x : List ℕ). 80 ∷ x) behind })
 

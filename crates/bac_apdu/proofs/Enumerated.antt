@@ -1,30 +1,28 @@
 -- The two laws of an application Enumerated.
-use Rattle.std.proofs.Common.{◌≡◌, ℕ, zero, suc, ◌+◌, ◌-◌, ◌*◌, ◌/◌, ◌%◌, ◌^◌, ◌<◌, ◌≤◌, Bool, true, false, cond, ltb, eqb, List, [], ◌∷◌, ◌++◌, length, get_or, Result, Ok, Err, refl, sym, ap, subst, ◌∙◌, arith, inl, inr, IsTrue}
+use Rattle.std.proofs.Common.{◌≡◌, ℕ, zero, suc, ◌+◌, ◌*◌, ◌/◌, ◌%◌, ◌^◌, ◌<◌, ◌≤◌, true, cond, ltb, List, [], ◌∷◌, ◌++◌, length, get_or, Ok, Err, refl, sym, ap, subst, ◌∙◌, arith, inl, inr}
 use Rattle.std.specs.Int.{w16, w32, from_be_bytes, to_be_bytes}
 use Rattle.std.proofs.lemmas.Nat.{be_bytes_4}
-use Rattle.std.proofs.lemmas.Bool.{cases_lt, ltb-false, ltb-true, le-ltb, lt-ltb, eqb-true}
-use Rattle.bac_value.specs.declared.fault.FaultKind.{FaultKind}
+use Rattle.std.proofs.lemmas.Bool.{cases_lt, le-ltb, lt-ltb, eqb-true}
 use Rattle.bac_value.specs.declared.tag.Class.{Class}
 use Rattle.bac_value.specs.declared.tag.Class.TheVariants.{Application, Context}
 use Rattle.bac_value.specs.declared.tag.Form.{Form}
 use Rattle.bac_value.specs.declared.tag.Form.TheVariants.{Length, Boolean, Opening, Closing}
 use Rattle.bac_value.specs.Octets.{IsBytes}
-use Rattle.bac_value.specs.Number.{number_in, IsUnsigned}
+use Rattle.bac_value.specs.Number.{number_in}
 use Rattle.bac_value.specs.Spelling.{Mark, tag_spelling, SpellsTag}
-use Rattle.bac_value.specs.Value.{Datum, kind_number, IsContents, IsNumber, SpellsValue, mark_for, null, boolean, unsigned, signed, real, double, octets, characters, bits, enumerated, date, time, object}
+use Rattle.bac_value.specs.Value.{IsNumber, SpellsValue, null, boolean, unsigned, signed, real, double, octets, characters, bits, enumerated, date, time, object}
 use Rattle.bac_value.specs.Element.{IsOfKind}
-use Rattle.bac_value.specs.Reading.{tag_at, kind_at, number_at, element_at} 
+use Rattle.bac_value.specs.Reading.{tag_at, kind_at, number_at, element_at}
 use Rattle.bac_value.proofs.Steps.{Takes, Takes-then}
 use Rattle.bac_value.proofs.Steps as value
 use Rattle.bac_value.proofs.Tags.{tag_takes, tag_again}
 use Rattle.bac_value.proofs.RightContents.{kind_again}
 use Rattle.bac_value.proofs.Numbers.{few_octets, number_in-lt}
 use Rattle.bac_value.proofs.Elements.{kind_front, kind_of, right_again}
-use Rattle.bac_apdu.specs.declared.fault.ApduFault.{ApduFault}
 use Rattle.bac_apdu.specs.declared.fault.ApduFault.TheVariants.{BadError}
 use Rattle.bac_apdu.specs.Spelling.{enumerated_spelling}
-use Rattle.bac_apdu.specs.Reading.{◌>>=◌, from_value, no_enumerated, is_enumerated, behind_tag, enumerated_at}
-use Rattle.bac_apdu.proofs.Steps.{bind_ok, ok_is, from_value_ok}
+use Rattle.bac_apdu.specs.Reading.{from_value, no_enumerated, is_enumerated, behind_tag, enumerated_at}
+use Rattle.bac_apdu.proofs.Steps.{bind_ok, from_value_ok}
 
 -- ---- a number in the fewest octets, at most four
 
@@ -105,12 +103,12 @@ number_is n lt =
       | inl a ↦ rw (lt-ltb n 256 a) (shorter n (n ∷ []) (one_octet n a) (omega arith) (omega arith) (omega arith) (λ h. absurd (omega arith)))
       | inr a ↦ elim (cases_lt n 65536) [
         | inl b ↦ rw (le-ltb n 256 a, lt-ltb n 65536 b)
-          (shorter n (to_be_bytes w16 n) (two_octets _ _ (omega arith) (omega arith)) (omega arith) (omega arith) (omega arith) (λ h. omega arith))
+            (shorter n (to_be_bytes w16 n) (two_octets _ _ (omega arith) (omega arith)) (omega arith) (omega arith) (omega arith) (λ h. omega arith))
         | inr b ↦ elim (cases_lt n 16777216) [
           | inl c ↦ rw (le-ltb n 256 a, le-ltb n 65536 b, lt-ltb n 16777216 c)
-            (shorter n (n / 65536 ∷ to_be_bytes w16 (n % 65536)) (three_octets _ _ _ (omega arith) (omega arith) (omega arith)) (omega arith) (omega arith) (omega arith) (λ h. omega arith))
+              (shorter n (n / 65536 ∷ to_be_bytes w16 (n % 65536)) (three_octets _ _ _ (omega arith) (omega arith) (omega arith)) (omega arith) (omega arith) (omega arith) (λ h. omega arith))
           | inr c ↦ rw (le-ltb n 256 a, le-ltb n 65536 b, le-ltb n 16777216 c)
-            (shorter n (to_be_bytes w32 n) (four_octets _ _ _ _ (omega arith) (omega arith) (omega arith) (omega arith)) (omega arith) (omega arith) (omega arith) (λ h. omega arith))
+              (shorter n (to_be_bytes w32 n) (four_octets _ _ _ _ (omega arith) (omega arith) (omega arith) (omega arith)) (omega arith) (omega arith) (omega arith) (λ h. omega arith))
         ]
       ]
     ]
@@ -132,7 +130,7 @@ enumerated_again n rest lt =
     let k = length xs in
     let tag : SpellsTag (tag_of k) (tag_spelling (tag_of k)) = record { fits = refl; length_in = omega (arith, h.few); is = refl } in
     let read_tag : tag_at ((144 + k) ∷ (xs ++ rest)) ≡ Ok (tag_of k, xs ++ rest) =
-      subst (λ (t : List ℕ). tag_at (t ++ (xs ++ rest)) ≡ Ok (tag_of k, xs ++ rest)) (few_bits k h.spelled.some h.few) (tag_again (tag_of k) (tag_spelling (tag_of k)) (xs ++ rest) tag) in
+    subst (λ (t : List ℕ). tag_at (t ++ (xs ++ rest)) ≡ Ok (tag_of k, xs ++ rest)) (few_bits k h.spelled.some h.few) (tag_again (tag_of k) (tag_spelling (tag_of k)) (xs ++ rest) tag) in
     let read_number : kind_at 9 k (xs ++ rest) ≡ Ok (xs, rest) = right_again 9 k xs rest refl (kind_again (enumerated n) xs h) in
     rw (tag_octet n) (rw (read_tag, read_number, h.spelled.sum) refl)
 
@@ -176,8 +174,8 @@ behind_takes n c (Length k) rest bytes x took e =
           let is = is_application c n h.0 in
           let mark : ℕ → Class → Mark = λ m d. record { number = m; class = d; form = Length k } in
           let tag : tag_spelling (mark n c) ≡ (144 + length xs) ∷ [] =
-            ap (λ (m : ℕ). tag_spelling (mark m c)) is.1 ∙ ap (λ (d : Class). tag_spelling (mark 9 d)) is.0
-            ∙ few_bits k (omega (arith, front.raw.len, number.spelled.some)) (omega (arith, front.raw.len, number.few)) ∙ ap (λ (m : ℕ). (144 + m) ∷ []) (sym front.raw.len) in
+          ap (λ (m : ℕ). tag_spelling (mark m c)) is.1 ∙ ap (λ (d : Class). tag_spelling (mark 9 d)) is.0
+          ∙ few_bits k (omega (arith, front.raw.len, number.spelled.some)) (omega (arith, front.raw.len, number.few)) ∙ ap (λ (m : ℕ). (144 + m) ∷ []) (sym front.raw.len) in
           let both = Takes-then bytes (tag_spelling (mark n c)) rest xs contents.0.1 took front.raw.took in
           let octets-are : tag_spelling (mark n c) ++ xs ≡ enumerated_spelling (number_in xs) = ap (λ (t : List ℕ). t ++ xs) tag ∙ sym (spelled_number (number_in xs) xs number) in
           subst (IsEnumerated bytes) (value.ok_is (number_in xs, contents.0.1) x contents.2)

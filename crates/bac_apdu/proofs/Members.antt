@@ -1,15 +1,15 @@
 -- The two laws of each member of an APDU: what is read is spelled so, and what is spelled so is read.
-use Rattle.std.proofs.Common.{◌≡◌, ℕ, suc, ◌+◌, ◌*◌, ◌/◌, ◌%◌, ◌<◌, ◌≤◌, Bool, true, false, cond, ltb, eqb, List, [], ◌∷◌, ◌++◌, length, Result, Ok, Err, Option, Some, None, refl, sym, ap, subst, ◌∙◌, arith, IsTrue, ◌&&◌, not}
+use Rattle.std.proofs.Common.{◌≡◌, ℕ, ◌+◌, ◌*◌, ◌/◌, ◌%◌, ◌<◌, Bool, true, false, cond, ltb, List, [], ◌∷◌, ◌++◌, Result, Ok, Err, Option, Some, None, refl, ap, subst, ◌∙◌, arith, IsTrue}
 use Rattle.std.specs.Prelude.{is_some}
-use Rattle.std.proofs.lemmas.Bool.{ltb-false, ltb-true, le-ltb, lt-ltb, and_parts, and_from}
+use Rattle.std.proofs.lemmas.Bool.{ltb-true, lt-ltb, and_parts, and_from}
 use Rattle.bac_value.specs.Octets.{IsBytes}
 use Rattle.bac_value.proofs.Steps.{IsBytes-rest, Takes, Takes-then}
 use Rattle.bac_apdu.specs.declared.fault.ApduFault.{ApduFault}
-use Rattle.bac_apdu.specs.declared.fault.ApduFault.TheVariants.{Truncated, ReservedBits, ReservedCode, BadWindow}
+use Rattle.bac_apdu.specs.declared.fault.ApduFault.TheVariants.{ReservedBits, ReservedCode, BadWindow}
 use Rattle.bac_apdu.specs.Apdu.{Segment}
 use Rattle.bac_apdu.specs.Spelling.{window_fits, codes_fit, segment_fits, bit, segment_bits, segment_octets}
 use Rattle.bac_apdu.specs.Reading.{◌>>=◌, octet_at, window_at, segment_at, codes_at}
-use Rattle.bac_apdu.proofs.Steps.{bind_ok, unless_ok, where_ok, ok_is}
+use Rattle.bac_apdu.proofs.Steps.{bind_ok, where_ok, ok_is}
 
 pub octet_takes : (bytes : List ℕ) (x : ℕ × List ℕ) → IsBytes bytes → octet_at bytes ≡ Ok x → Takes bytes (x.0 ∷ []) x.1 × (x.0 < 256)
 octet_takes [] x fits e = absurd cc

@@ -3,7 +3,6 @@ use Rattle.std.specs.Prelude.{IfOk, IfErr}
 use Rattle.std.proofs.Common.{◌≡◌, Bool, true, false, cond, List, [], ◌∷◌, Result, Ok, Err, refl, ap, ℕ}
 use Rattle.bac_value.specs.declared.fault.FaultKind.{FaultKind}
 use Rattle.bac_apdu.specs.declared.fault.ApduFault.{ApduFault}
-use Rattle.bac_apdu.specs.declared.fault.ApduFault.TheVariants.{Trailing}
 use Rattle.bac_apdu.specs.Apdu.{Apdu}
 use Rattle.bac_apdu.specs.Reading.{◌>>=◌, ReadsAll, from_value, end_at}
 

@@ -1,5 +1,5 @@
 -- Reading from left to right, on lists alone.
-use Rattle.std.specs.Prelude.{◌≡◌, ℕ, ◌/◌, ◌%◌, ◌+◌, ◌<◌, slice_index, List, [], ◌∷◌, length, Result, Ok, Err, Option, Some, None, Bool, true, false, nat_lt, ◌==◌, ◌&&◌, ◌||◌, not, if◌then◌else◌}
+use Rattle.std.specs.Prelude.{◌≡◌, ℕ, ◌/◌, ◌%◌, List, [], ◌∷◌, Result, Ok, Err, Option, Some, None, Bool, true, false, nat_lt, ◌==◌, ◌&&◌, ◌||◌, not, if◌then◌else◌}
 use Rattle.bac_value.specs.declared.fault.FaultKind as value
 use Rattle.bac_value.specs.declared.fault.FaultKind.TheVariants as fault
 use Rattle.bac_value.specs.declared.tag.Class.{Class}
@@ -171,7 +171,7 @@ unfoldable pub kind_at : ℕ → ℕ → List ℕ → Result Apdu ApduFault
 kind_at kind bits bytes =
     if nat_lt 7 kind then Err BadType else
     (if reserved_of kind bits == 0 then
-      (if (kind == 0 || kind == 3) && has_bit bits 4 && not (has_bit bits 8) then Err MorWithoutSeg else members_at kind bits bytes)
+    (if (kind == 0 || kind == 3) && has_bit bits 4 && not (has_bit bits 8) then Err MorWithoutSeg else members_at kind bits bytes)
     else Err ReservedBits)
 
 -- the first octet holds the type in bits 7 to 4

@@ -14,9 +14,15 @@ pub enum Apdu<'a> {
         service: &'a [u8],
     },
     /// A request without an answer (clause 20.1.3).
-    UnconfirmedRequest { choice: u8, service: &'a [u8] },
+    UnconfirmedRequest {
+        choice: u8,
+        service: &'a [u8],
+    },
     /// An answer without data (clause 20.1.4).
-    SimpleAck { invoke: u8, choice: u8 },
+    SimpleAck {
+        invoke: u8,
+        choice: u8,
+    },
     /// An answer with data (clause 20.1.5).
     ComplexAck {
         invoke: u8,
@@ -42,7 +48,10 @@ pub enum Apdu<'a> {
         code: u32,
     },
     /// The request was not understood (clause 20.1.8).
-    Reject { invoke: u8, reason: u8 },
+    Reject {
+        invoke: u8,
+        reason: u8,
+    },
     /// The transaction is given up (clause 20.1.9).
     Abort {
         /// Whether the sender is the server.
