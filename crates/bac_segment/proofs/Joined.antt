@@ -1,6 +1,8 @@
 -- Parts that are taken one after another.
-use Rattle.std.proofs.Common.{◌≡◌, ℕ, ◌+◌, ◌≤◌, List, [], ◌∷◌, ◌++◌, length, ap, sym, ◌∙◌, arith, length-append, append_assoc}
+use Rattle.std.proofs.Common.{◌≡◌, ℕ, ◌+◌, ◌≤◌, List, [], ◌∷◌, ◌++◌, length, map, refl, ap, sym, ◌∙◌, arith, length-append, append_assoc}
 use Rattle.std.proofs.lemmas.List.{append-nil, length_push}
+use Rattle.std.specs.Global.{Vec}
+use Rattle.bac_value.specs.Octets.{joined}
 use Rattle.bac_segment.specs.Kept.{CountsOctets}
 use Rattle.bac_segment.specs.Limits.{DATA}
 use Rattle.bac_segment.specs.Pieces.{join}
@@ -23,3 +25,8 @@ CountsOctets-push parts more octets total fresh counts is short few =
       few = omega (arith, parts_are);
       fresh = omega (arith, parts_are, counts.fresh);
     }
+
+-- the parts' octets, joined in the words of either crate
+pub joined_are-join : (parts : List (Vec ℕ)) → joined parts ≡ join (map (λ p. p.items) parts)
+joined_are-join [] = refl
+joined_are-join (part ∷ parts) = ap (λ l. part.items ++ l) (joined_are-join parts)

@@ -1,6 +1,6 @@
 -- The two sides of a transfer in pieces, and what each does (clauses 5.2 and 5.4). Each step that sets a window is
 -- given W, the greatest window of the node itself. Pieces have whole numbers here, segments have the wire's numbers.
-use Rattle.std.specs.Prelude.{ℕ, ◌+◌, ◌-◌, ◌%◌, ◌||◌, min, Bool, true, false, List, [], ◌∷◌, ◌++◌, length, take, drop, Option, Some, None, if◌then◌else◌, nat_eq, nat_lt, nat_le}
+use Rattle.std.specs.Prelude.{◌≡◌, ℕ, ◌+◌, ◌-◌, ◌%◌, ◌||◌, min, Bool, true, false, List, [], ◌∷◌, ◌++◌, length, take, drop, Option, Some, None, if◌then◌else◌, nat_eq, nat_lt, nat_le}
 use Rattle.bac_segment.specs.Limits.{RETRIES, DATA}
 use Rattle.bac_segment.specs.Numbers.{ahead}
 use Rattle.bac_segment.specs.Pieces.{join}
@@ -94,3 +94,14 @@ takes inc number more octets =
     if is_expected inc number
     then (if is_too_long inc octets then TooLong else takes_expected inc more octets)
     else Nak (record inc { unacknowledged = 0 })
+
+-- the parts that the receiver holds then
+abbrev pub parts_after : Incoming → Taking → List (List ℕ)
+parts_after inc (Taking.Taken ack next) = next.parts
+parts_after inc (Taking.Complete parts) = parts
+parts_after inc (Taking.Nak next) = next.parts
+parts_after inc Taking.TooLong = inc.parts
+
+-- these parts are the first pieces
+abbrev pub AreFirst : List (List ℕ) → List (List ℕ) → Type 0
+AreFirst pieces parts = parts ≡ take (length parts) pieces

@@ -1,15 +1,15 @@
 //! The receiver of a transfer. It keeps the octets of each segment in a vector of their own, and joins nothing.
 ghost use Rattle.std.specs.Prelude.{◌≡◌, ◌+◌, ◌≤◌, ◌∷◌, ◌++◌, [], length, OnOk, OnErr, IsOkUnless};
+ghost use Rattle.bac_value.specs.Views.{octets_in};
 ghost use Rattle.bac_segment.specs.Answers.{Takes, answer_of};
 ghost use Rattle.bac_segment.specs.Limits.{DATA};
 ghost use Rattle.bac_segment.specs.Pieces.{join};
 ghost use Rattle.bac_segment.specs.Window.{incoming, takes};
 
+use crate::limits::DATA_LIMIT;
+use bac_value::Parts;
 use std::alloc::Global;
 use std::marker::Model;
-
-/// The most octets of service data, and the most segments of one transfer (own rule of this profile).
-const MOST: usize = 65_535;
 
 /// What a segment did to the receiver.
 #[derive(Clone, Copy, Debug, PartialEq, Eq)]
@@ -85,6 +85,13 @@ impl Incoming {
         self.total
     }
 
+    /// The octets that were taken, as they came: nothing is copied. It goes over the segments once.
+    pub fn parts(&self) -> Parts<'_>
+        ensures { octets_in result ≡ join self.now.parts }
+    {
+        Parts::new(&self.parts)
+    }
+
     /// The actual window, in segments.
     pub fn window(&self) -> u8
         ensures { result ≡ self.now.window }
@@ -101,7 +108,7 @@ impl Incoming {
         if number as usize != taken % 256 {
             return Ok(Step::Nak);
         }
-        if octets.len() > MOST - self.total || taken >= MOST {
+        if octets.len() > DATA_LIMIT - self.total || taken >= DATA_LIMIT {
             return Err(SegmentFault::TooLong);
         }
         if !more {

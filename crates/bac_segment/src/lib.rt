@@ -7,11 +7,18 @@
 
 mod incoming;
 mod laws;
+mod limits;
 mod outgoing;
 
 pub use incoming::{Incoming, SegmentFault, Step};
-pub use laws::numbers_in_reach_differ;
+pub use laws::{
+    numbers_in_reach_differ, parts_are_the_first_pieces, pieces_are_unique,
+    segment_ack_is_of_the_window, segment_is_the_expected_one,
+};
+pub use limits::{DATA_LIMIT, RETRY_LIMIT};
 pub use outgoing::{Outgoing, Position, Progress, Timeout};
 
+#[cfg(test)]
+mod examples;
 #[cfg(test)]
 mod tests;

@@ -5,10 +5,9 @@ ghost use Rattle.bac_segment.specs.Pieces.{ArePieces, join, piece_at, pieces_of}
 ghost use Rattle.bac_segment.specs.Window.{outgoing, in_window, window_pieces, is_finished, acknowledged, again, restart, resume};
 ghost use Rattle.bac_segment.specs.Answers.{Moves, TimesOut};
 
+use crate::limits::RETRY_LIMIT;
 use std::marker::Model;
 use std::ops::Range;
-
-const RETRY_COUNT: u8 = 3;
 
 /// What a SegmentACK did to the sender.
 #[derive(Clone, Copy, Debug, PartialEq, Eq)]
@@ -41,6 +40,15 @@ pub struct Position {
     pub retries: u8,
 }
 
+impl Position {
+    /// Nothing was sent: the first window has one piece.
+    const START: Position = Position {
+        first: 0,
+        window: 1,
+        retries: RETRY_LIMIT,
+    };
+}
+
 /// The sender of a transfer.
 #[derive(Drop)]
 pub struct Outgoing {
@@ -71,16 +79,11 @@ impl Outgoing {
         ensures pieces { ArePieces size octets.items result.pieces }
     {
         let count = octets.len().div_ceil(size);
-        let at = Position {
-            first: 0,
-            window: 1,
-            retries: RETRY_COUNT,
-        };
         Outgoing {
             octets,
             size,
             count,
-            at,
+            at: Position::START,
         }
     }
 
@@ -88,7 +91,7 @@ impl Outgoing {
     pub fn octets(&self) -> &[u8]
         ensures { result.now ≡ join self.now.pieces }
     {
-        self.octets.as_slice()
+        &self.octets
     }
 
     /// How many pieces there are.
@@ -103,9 +106,7 @@ impl Outgoing {
         ensures same { result ≡ record { first = self.now.first; window = self.now.window; retries = self.now.retries } }
         ensures within { result.first ≤ length self.now.pieces }
     {
-        let Outgoing { at, count, .. } = self;
-        let _ = count;
-        *at
+        self.at
     }
 
     /// The numbers of the pieces in the window, from the first unacknowledged one on.
@@ -158,11 +159,9 @@ impl Outgoing {
         if by >= self.in_window() {
             return Progress::Ignored;
         }
-        self.at = Position {
-            first: self.at.first + by + 1,
-            window: window.min(own),
-            retries: RETRY_COUNT,
-        };
+        self.at.first += by + 1;
+        self.at.window = window.min(own);
+        self.resume();
         if self.is_finished() {
             Progress::Finished
         } else {
@@ -192,18 +191,14 @@ impl Outgoing {
     pub fn restart(&mut self)
         ensures { self.new ≡ restart self.old }
     {
-        self.at = Position {
-            first: 0,
-            window: 1,
-            retries: RETRY_COUNT,
-        };
+        self.at = Position::START;
     }
 
     /// The transfer goes on where it stands, with full retries.
     pub fn resume(&mut self)
         ensures { self.new ≡ resume self.old }
     {
-        self.at.retries = RETRY_COUNT;
+        self.at.retries = RETRY_LIMIT;
     }
 
     /// The sender stands there again: this undoes a step that the caller could not finish.

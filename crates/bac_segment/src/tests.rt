@@ -1,11 +1,13 @@
-//! Worked transfers, and transfers over a network that loses, repeats and reorders.
+//! Worked transfers: numbers that were worked out by hand.
 ghost use Rattle.std.specs.Prelude.{◌≤◌};
 
 use crate::{Incoming, Outgoing, Progress, SegmentFault, Step, Timeout};
 use std::alloc::Global;
-use std::process::Abort;
 use std::test::Fail;
 
+mod network;
+
+/// A sender of octets that tell their places.
 fn sender(alloc: Global, len: usize, size: usize) -> Result<Outgoing, Fail>
     requires { 1 ≤ size }
 {
@@ -14,6 +16,19 @@ fn sender(alloc: Global, len: usize, size: usize) -> Result<Outgoing, Fail>
         octets.push((n % 251) as u8)?;
     }
     Ok(Outgoing::new(octets, size))
+}
+
+/// Hands piece `n` to the receiver, as a segment. None where there is no such piece.
+fn offer(
+    receiver: &mut Incoming,
+    sender: &Outgoing,
+    n: usize,
+) -> Option<Result<Step, SegmentFault>> {
+    if n >= sender.count() {
+        return None;
+    }
+    let more = n + 1 < sender.count();
+    Some(receiver.on_segment((n % 256) as u8, more, sender.piece(n)))
 }
 
 #[test]
@@ -32,6 +47,7 @@ fn cuts_into_pieces(rt: HostRuntime) -> Result<(), Fail> {
         assert!(rt; size > 0);
         let out = sender(rt.alloc(), len, size)?;
         assert_eq!(rt; out.count(), count, "pieces of {len} octets");
+        assert_eq!(rt; out.octets().len(), len);
         let mut from = 0;
         for n in 0..out.count() {
             let piece = out.piece(n);
@@ -48,5 +64,135 @@ fn cuts_into_pieces(rt: HostRuntime) -> Result<(), Fail> {
         assert_eq!(rt; from, len);
         assert_eq!(rt; count.wrapping_sub(1) % 256, number, "last of {len} octets");
     }
+    Ok(())
+}
+
+/// 111 octets in segments of 44: after segment 0, segments 2, 2, 1, 1 arrive in this order.
+#[test]
+fn answers_other_segments_negatively(rt: HostRuntime) -> Result<(), Fail> {
+    let mut out = sender(rt.alloc(), 111, 44)?;
+    let mut inc = Incoming::new(rt.alloc(), 32, 32);
+    assert_eq!(rt; out.in_window(), 1);
+    assert_eq!(rt;
+        offer(&mut inc, &out, 0),
+        Some(Ok(Step::Taken { ack: true }))
+    );
+    assert_eq!(rt; out.on_ack(0, 32, 32), Progress::Moved);
+    assert_eq!(rt; (out.window().start, out.window().end), (1, 3));
+    let arrivals = [
+        (2, Step::Nak, 1),
+        (2, Step::Nak, 1),
+        (1, Step::Taken { ack: false }, 2),
+        (1, Step::Nak, 2),
+    ];
+    for (n, step, taken) in arrivals {
+        assert_eq!(rt; offer(&mut inc, &out, n), Some(Ok(step)), "segment {n}");
+        assert_eq!(rt; inc.taken(), taken, "segment {n}");
+    }
+    // the SegmentACKs of the three segments that were not the expected ones
+    assert_eq!(rt; out.on_ack(0, 32, 32), Progress::Ignored);
+    assert_eq!(rt; out.on_ack(0, 32, 32), Progress::Ignored);
+    assert_eq!(rt; out.on_ack(1, 32, 32), Progress::Moved);
+    assert_eq!(rt; (out.window().start, out.window().end), (2, 3));
+    assert!(rt; !out.is_finished());
+    assert_eq!(rt; offer(&mut inc, &out, 2), Some(Ok(Step::Whole)));
+    assert_eq!(rt; inc.len(), 111);
+    assert_eq!(rt; out.on_ack(2, 32, 32), Progress::Finished);
+    assert!(rt; out.is_finished());
+    Ok(())
+}
+
+/// Before the first SegmentACK only number 0 is in the window, and the actual window is never above the node's own.
+#[test]
+fn reads_only_numbers_of_the_window(rt: HostRuntime) -> Result<(), Fail> {
+    let mut out = sender(rt.alloc(), 111, 44)?;
+    assert_eq!(rt; out.on_ack(1, 32, 32), Progress::Ignored);
+    assert_eq!(rt; out.on_ack(255, 32, 32), Progress::Ignored);
+    assert_eq!(rt; out.on_ack(0, 127, 32), Progress::Moved);
+    let at = out.position();
+    assert_eq!(rt; (at.first, at.window, at.retries), (1, 32, 3));
+    assert_eq!(rt; out.in_window(), 2);
+    assert_eq!(rt; Incoming::new(rt.alloc(), 127, 32).window(), 32);
+    assert_eq!(rt; Incoming::new(rt.alloc(), 16, 32).window(), 16);
+    Ok(())
+}
+
+#[test]
+fn takes_the_most_segments(rt: HostRuntime) {
+    let mut inc = Incoming::new(rt.alloc(), 32, 32);
+    for n in 0..65_535u32 {
+        let ack = n % 32 == 0;
+        assert_eq!(rt;
+            inc.on_segment((n % 256) as u8, true, &[]),
+            Ok(Step::Taken { ack }),
+            "segment {n}"
+        );
+    }
+    assert_eq!(rt; inc.answer(255, true, &[]), Err(SegmentFault::TooLong));
+    assert_eq!(rt; inc.on_segment(255, true, &[]), Err(SegmentFault::TooLong));
+    assert_eq!(rt; inc.on_segment(255, false, &[]), Err(SegmentFault::TooLong));
+    assert_eq!(rt; (inc.taken(), inc.len()), (65_535, 0));
+    assert_eq!(rt; inc.on_segment(0, true, &[]), Ok(Step::Nak));
+}
+
+#[test]
+fn takes_the_most_octets(rt: HostRuntime) -> Result<(), Fail> {
+    let alloc = rt.alloc();
+    let most = vec![in alloc; 7u8; 65_535]?;
+    let more = vec![in alloc; 7u8; 65_536]?;
+    let mut inc = Incoming::new(alloc, 32, 32);
+    assert_eq!(rt; inc.on_segment(0, true, &more), Err(SegmentFault::TooLong));
+    assert_eq!(rt;
+        inc.on_segment(0, true, &most),
+        Ok(Step::Taken { ack: true })
+    );
+    assert_eq!(rt; inc.on_segment(1, true, &[7]), Err(SegmentFault::TooLong));
+    assert_eq!(rt; (inc.taken(), inc.len()), (1, 65_535));
+    assert_eq!(rt; inc.on_segment(1, false, &[]), Ok(Step::Whole));
+    Ok(())
+}
+
+/// A window is sent again three times; then the transfer stops, and goes on with the same window.
+#[test]
+fn stops_and_goes_on(rt: HostRuntime) -> Result<(), Fail> {
+    let mut out = sender(rt.alloc(), 4_013, 45)?;
+    let mut inc = Incoming::new(rt.alloc(), 32, 32);
+    for n in 0..41 {
+        let ack = n == 0 || n == 32;
+        assert_eq!(rt;
+            offer(&mut inc, &out, n),
+            Some(Ok(Step::Taken { ack })),
+            "segment {n}"
+        );
+        if ack {
+            assert_eq!(rt; out.on_ack((n % 256) as u8, 32, 32), Progress::Moved);
+        }
+    }
+    assert_eq!(rt; offer(&mut inc, &out, 42), Some(Ok(Step::Nak)));
+    assert_eq!(rt; out.on_ack(40, 32, 32), Progress::Moved);
+    for again in [true, true, true, false] {
+        assert_eq!(rt; out.has_retry(), again);
+        let want = if again {
+            Timeout::Again
+        } else {
+            Timeout::GivenUp
+        };
+        assert_eq!(rt; out.on_timeout(), want);
+        assert_eq!(rt; (out.window().start, out.window().end), (41, 73));
+    }
+    out.resume();
+    assert_eq!(rt; (out.window().start, out.window().end), (41, 73));
+    let there = out.position();
+    assert_eq!(rt; out.on_timeout(), Timeout::Again);
+    assert_eq!(rt; out.on_ack(41, 32, 32), Progress::Moved);
+    assert_eq!(rt; out.position().retries, 3);
+    assert!(rt; there.first <= out.count());
+    out.go_back(there);
+    assert_eq!(rt; (out.window().start, out.window().end), (41, 73));
+    out.restart();
+    assert_eq!(rt;
+        (out.window().start, out.window().end, out.position().retries),
+        (0, 1, 3)
+    );
     Ok(())
 }

@@ -20,7 +20,7 @@ empty [] e = refl
 empty (x ∷ xs) e = absurd (omega arith)
 
 -- a test that gives a fault where it holds
-no_fault : (b : Bool) (e : FaultKind) → cond b (Some e) None ≡ None → b ≡ false
+pub no_fault : (b : Bool) (e : FaultKind) → cond b (Some e) None ≡ None → b ≡ false
 no_fault true e h = absurd cc
 no_fault false e h = refl
 
@@ -39,7 +39,7 @@ between_from low high k p q = and_from (ltb low k) (ltb k high) (lt-ltb low k p)
 not_longer : (xs : List ℕ) → is_longer_unsigned xs ≡ false → 1 < length xs → 0 < get_or xs 0 0
 not_longer xs e more = grind (arith, nat_tests)
 
-unsigned_of : (most : ℕ) (xs : List ℕ) → IsBytes xs → 0 < length xs → length xs ≤ most → is_longer_unsigned xs ≡ false → IsNumber most (number_in xs) xs
+pub unsigned_of : (most : ℕ) (xs : List ℕ) → IsBytes xs → 0 < length xs → length xs ≤ most → is_longer_unsigned xs ≡ false → IsNumber most (number_in xs) xs
 unsigned_of most xs fits some few e = record { spelled = record { octets = fits; sum = refl; some = some; shortest = not_longer xs e }; few = few }
 
 not_longer_zeros : (xs : List ℕ) → is_longer_signed xs ≡ false → 1 < length xs → get_or xs 0 0 ≡ 0 → 128 ≤ get_or xs 1 0
@@ -48,7 +48,7 @@ not_longer_zeros xs e more z = grind (arith, nat_tests)
 not_longer_ones : (xs : List ℕ) → is_longer_signed xs ≡ false → 1 < length xs → get_or xs 0 0 ≡ 255 → get_or xs 1 0 < 128
 not_longer_ones xs e more z = grind (arith, nat_tests)
 
-signed_of : (xs : List ℕ) → IsBytes xs → 0 < length xs → length xs ≤ 8 → is_longer_signed xs ≡ false → IsInteger 8 (signed_in xs) xs
+pub signed_of : (xs : List ℕ) → IsBytes xs → 0 < length xs → length xs ≤ 8 → is_longer_signed xs ≡ false → IsInteger 8 (signed_in xs) xs
 signed_of xs fits some few e = record { spelled = record { octets = fits; sum = refl; some = some; zeros = not_longer_zeros xs e; ones = not_longer_ones xs e }; few = few }
 
 raw_of : (size : ℕ) (xs : List ℕ) → IsTrue (eqb (length xs) size) → IsRaw size xs xs

@@ -3,6 +3,7 @@ pub mod Limits
 pub mod Spelling
 pub mod Number
 pub mod Value
+pub mod Writing
 pub mod Element
 pub mod Data
 pub mod Reading
