@@ -2,3 +2,12 @@ pub mod Sound
 pub mod Readings
 pub mod Facts
 pub mod Transfer
+pub mod ClientKeeps
+pub mod Ways
+pub mod ServerKeeps
+pub mod Asks
+pub mod Keys
+pub mod Nets
+pub mod Served
+pub mod Headline
+pub mod Claimed

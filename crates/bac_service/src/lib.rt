@@ -1,1 +1,20 @@
+//! Requests and answers of the four services (clauses 14 and 15), read from and written as service data (clause 21).
 #![tactic(auto)]
+
+mod member;
+mod reject;
+mod request;
+mod request_reading;
+mod run;
+mod service;
+mod stop;
+mod typed;
+mod value;
+
+pub use reject::Reject;
+pub use request::{
+    AnyRequest, ReadAccess, ReadFile, Request, RequestOver, WriteAccess, WriteFile, WriteProperty, WriteRecords,
+    WriteStream,
+};
+pub use request_reading::read_request;
+pub use value::{Content, Priority, PropertyReference, Records};

@@ -8,3 +8,7 @@ pub mod Forests
 pub mod Joined
 pub mod Numbers
 pub mod Signs
+pub mod Values
+pub mod Meanings
+pub mod ContentLaws
+pub mod ElementLists

@@ -3,7 +3,9 @@ pub mod Limits
 pub mod Spelling
 pub mod Number
 pub mod Value
+pub mod Writing
 pub mod Element
+pub mod Meaning
 pub mod Data
 pub mod Reading
 pub mod Views

@@ -6,14 +6,17 @@ use Rattle.bac_value.specs.declared.tag.Form.{Form}
 use Rattle.bac_value.specs.declared.tag.Form.TheVariants.{Length, Boolean, Opening, Closing}
 
 -- clause 20.2.1: application tags have numbers 0 to 12, of which 1 has its value in place of a length; context tags 0 to 254
+abbrev pub length_tag_fits : ℕ → Class → Bool
+length_tag_fits n Application = nat_lt n 13 && not (n == 1)
+length_tag_fits n Context = nat_lt n 255
+
 abbrev pub tag_fits : ℕ → Class → Form → Bool
-tag_fits n Application (Length k) = nat_lt n 13 && not (n == 1)
+tag_fits n c (Length k) = length_tag_fits n c
 tag_fits n Application (Boolean b) = n == 1
-tag_fits n Application Opening = false
-tag_fits n Application Closing = false
-tag_fits n Context (Length k) = nat_lt n 255
 tag_fits n Context (Boolean b) = false
+tag_fits n Application Opening = false
 tag_fits n Context Opening = nat_lt n 255
+tag_fits n Application Closing = false
 tag_fits n Context Closing = nat_lt n 255
 
 -- clause 20.2.10: a number of unused bits from 0 to 7; own rule of this profile: the unused bits are zeros, and without bits none is unused

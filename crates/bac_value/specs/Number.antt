@@ -1,5 +1,6 @@
 -- Numbers in the fewest octets, the highest first.
-use Rattle.std.specs.Prelude.{◌≡◌, ℕ, ◌+◌, ◌-◌, ◌*◌, ◌^◌, ◌<◌, ◌≤◌, ℤ, pos, neg_ℤ, ◌-ℤ◌, ◌≤ℤ◌, ◌<ℤ◌, nat_lt, if◌then◌else◌, List, [], ◌∷◌, length, slice_index}
+use Rattle.std.specs.Prelude.{◌≡◌, ℕ, ◌+◌, ◌-◌, ◌*◌, ◌^◌, ◌<◌, ◌≤◌, ℤ, pos, negsuc, ◌-ℤ◌, nat_lt, if◌then◌else◌, List, [], ◌∷◌, length, slice_index}
+use Rattle.byteorder.specs.Endian.{big_bytes}
 use Rattle.bac_value.specs.Octets.{IsBytes}
 
 -- the sum of octets times powers of 256
@@ -27,6 +28,44 @@ pub record IsSigned (z : ℤ) (xs : List ℕ) : Type 0 where
   pub zeros : 1 < length xs → slice_index xs 0 ≡ 0 → 128 ≤ slice_index xs 1
   pub ones : 1 < length xs → slice_index xs 0 ≡ 255 → slice_index xs 1 < 128
 
--- the number stands in so many octets in two's complement
-abbrev pub InSigned : ℕ → ℤ → Type 0
-InSigned k z = (neg_ℤ (pos (2 ^ (8 * k - 1))) ≤ℤ z) × (z <ℤ pos (2 ^ (8 * k - 1)))
+-- ---- the same as functions of the number, for numbers of at most 64 bits
+
+-- how many octets a number needs
+abbrev pub width_of : ℕ → ℕ
+width_of n =
+    if nat_lt n 0x100 then 1 else
+    (if nat_lt n 0x1_0000 then 2 else
+    (if nat_lt n 0x100_0000 then 3 else
+    (if nat_lt n 0x1_0000_0000 then 4 else
+    (if nat_lt n 0x100_0000_0000 then 5 else
+    (if nat_lt n 0x1_0000_0000_0000 then 6 else
+    (if nat_lt n 0x100_0000_0000_0000 then 7 else 8))))))
+
+-- the octets of an unsigned number
+unfoldable pub unsigned_octets : ℕ → List ℕ
+unsigned_octets n = big_bytes (width_of n) n
+
+-- how far a number is from 0, or from -1 below 0
+abbrev pub distance : ℤ → ℕ
+distance (pos n) = n
+distance (negsuc n) = n
+
+-- how many octets a signed number needs, by that distance
+abbrev pub half_width_of : ℕ → ℕ
+half_width_of n =
+    if nat_lt n 0x80 then 1 else
+    (if nat_lt n 0x8000 then 2 else
+    (if nat_lt n 0x80_0000 then 3 else
+    (if nat_lt n 0x8000_0000 then 4 else
+    (if nat_lt n 0x80_0000_0000 then 5 else
+    (if nat_lt n 0x8000_0000_0000 then 6 else
+    (if nat_lt n 0x80_0000_0000_0000 then 7 else 8))))))
+
+-- the number whose octets a signed number has: below 0 the greatest of that width less the distance
+abbrev pub complement : ℤ → ℕ
+complement (pos n) = n
+complement (negsuc n) = 256 ^ half_width_of n - 1 - n
+
+-- the octets of a signed number
+unfoldable pub signed_octets : ℤ → List ℕ
+signed_octets z = big_bytes (half_width_of (distance z)) (complement z)

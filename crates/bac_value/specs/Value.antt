@@ -6,7 +6,7 @@ use Rattle.bac_value.specs.declared.tag.Form.{Form}
 use Rattle.bac_value.specs.declared.tag.Form.TheVariants as form
 use Rattle.bac_value.specs.Limits.{bits_fit}
 use Rattle.bac_value.specs.Spelling.{Mark, tag_spelling}
-use Rattle.bac_value.specs.Number.{IsUnsigned, IsSigned}
+use Rattle.bac_value.specs.Number.{IsUnsigned, IsSigned, distance}
 
 -- the type and the instance of an object
 pub record ObjectId : Type 0 where
@@ -101,3 +101,19 @@ pub record SpellsValue (d : Datum) (bytes : List ℕ) : Type 0 where
   pub are : IsContents d contents
   pub fits : length contents < 2 ^ 32
   pub is : bytes ≡ tag_spelling (mark_for d (length contents)) ++ contents
+
+-- the values that have a spelling (own rule of this profile: numbers of at most 64 bits, an Enumerated of at most 32)
+abbrev pub IsValue : Datum → Type 0
+IsValue null = Unit {0}
+IsValue (boolean b) = Unit {0}
+IsValue (unsigned n) = n < 2 ^ 64
+IsValue (signed z) = distance z < 2 ^ 63
+IsValue (real a) = length a ≡ 4
+IsValue (double a) = length a ≡ 8
+IsValue (octets a) = length a < 2 ^ 32
+IsValue (characters set text) = length text + 1 < 2 ^ 32
+IsValue (bits unused text) = IsTrue (bits_fit unused text) × (length text + 1 < 2 ^ 32)
+IsValue (enumerated n) = n < 2 ^ 32
+IsValue (date a) = length a ≡ 4
+IsValue (time a) = length a ≡ 4
+IsValue (object i) = (i.kind < 1024) × (i.instance < 2 ^ 22)

@@ -5,6 +5,7 @@ ghost use Rattle.bac_value.specs.Views.{object_id};
 
 use crate::contents::take_contents;
 use crate::fault::FaultKind;
+use crate::number_width::greatest_in;
 use crate::octets::Octets;
 use crate::value::ObjectIdentifier;
 
@@ -30,25 +31,6 @@ pub(crate) fn number_of<O: Octets>(octets: O) -> u64
         rest = read.1;
     }
     number
-}
-
-/// The greatest number in so many octets.
-fn greatest_in(len: usize) -> u64
-    requires some { 0 < len }
-    requires most { len ≤ 8 }
-    ensures whole { result + 1 ≡ 2 ^ (8 * len) }
-    ensures half { result / 2 + 1 ≡ 2 ^ (8 * len - 1) }
-{
-    match len {
-        1 => 0xff,
-        2 => 0xffff,
-        3 => 0xff_ffff,
-        4 => 0xffff_ffff,
-        5 => 0xff_ffff_ffff,
-        6 => 0xffff_ffff_ffff,
-        7 => 0xff_ffff_ffff_ffff,
-        _ => 0xffff_ffff_ffff_ffff,
-    }
 }
 
 /// The number in 1 to 8 octets in two's complement.

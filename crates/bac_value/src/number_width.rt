@@ -1,12 +1,9 @@
-ghost use Rattle.std.specs.Prelude.{◌≡◌, ◌<◌, ◌≤◌, ◌-◌, ◌^◌};
-ghost use Rattle.bac_value.specs.Number.{InSigned};
+ghost use Rattle.std.specs.Prelude.{◌≡◌, ◌<◌, ◌≤◌, ◌+◌, ◌-◌, ◌*◌, ◌/◌, ◌^◌};
+ghost use Rattle.bac_value.specs.Number.{width_of, half_width_of, distance, complement};
 
 /// How many octets a number needs, and at least one.
 pub(crate) fn octets_of(number: u64) -> usize
-    ensures some { 0 < result }
-    ensures most { result ≤ 8 }
-    ensures fits { number < 256 ^ result }
-    ensures least { 1 < result → 256 ^ (result - 1) ≤ number }
+    ensures { result ≡ width_of number }
 {
     if number < 0x100 {
         1
@@ -27,28 +24,70 @@ pub(crate) fn octets_of(number: u64) -> usize
     }
 }
 
-/// How many octets a number needs in two's complement, and at least one.
-pub(crate) fn signed_octets_of(number: i64) -> usize
-    ensures some { 0 < result }
-    ensures most { result ≤ 8 }
-    ensures fits { InSigned result number }
-    ensures least { 1 < result → InSigned (result - 1) number → ⊥ }
+/// How many octets a signed number needs, and at least one, by its distance from 0, or from -1 below 0.
+pub(crate) fn signed_octets_of(distance: u64) -> usize
+    ensures { result ≡ half_width_of distance }
 {
-    if number >= -0x80 && number < 0x80 {
+    if distance < 0x80 {
         1
-    } else if number >= -0x8000 && number < 0x8000 {
+    } else if distance < 0x8000 {
         2
-    } else if number >= -0x80_0000 && number < 0x80_0000 {
+    } else if distance < 0x80_0000 {
         3
-    } else if number >= -0x8000_0000 && number < 0x8000_0000 {
+    } else if distance < 0x8000_0000 {
         4
-    } else if number >= -0x80_0000_0000 && number < 0x80_0000_0000 {
+    } else if distance < 0x80_0000_0000 {
         5
-    } else if number >= -0x8000_0000_0000 && number < 0x8000_0000_0000 {
+    } else if distance < 0x8000_0000_0000 {
         6
-    } else if number >= -0x80_0000_0000_0000 && number < 0x80_0000_0000_0000 {
+    } else if distance < 0x80_0000_0000_0000 {
         7
     } else {
         8
+    }
+}
+
+/// How far a number is from 0, or from -1 below 0.
+pub(crate) fn distance_of(number: i64) -> u64
+    ensures is { result ≡ distance number }
+    ensures small { result < 2 ^ 63 }
+{
+    if number < 0 {
+        (-1 - number) as u64
+    } else {
+        number as u64
+    }
+}
+
+/// The greatest number in 1 to 8 octets.
+pub(crate) fn greatest_in(len: usize) -> u64
+    requires some { 0 < len }
+    requires most { len ≤ 8 }
+    ensures whole { result + 1 ≡ 256 ^ len }
+    ensures half { result / 2 + 1 ≡ 2 ^ (8 * len - 1) }
+{
+    match len {
+        1 => 0xff,
+        2 => 0xffff,
+        3 => 0xff_ffff,
+        4 => 0xffff_ffff,
+        5 => 0xff_ffff_ffff,
+        6 => 0xffff_ffff_ffff,
+        7 => 0xff_ffff_ffff_ffff,
+        _ => 0xffff_ffff_ffff_ffff,
+    }
+}
+
+/// The number whose octets a signed number has.
+pub(crate) fn complement_of(number: i64) -> u64
+    ensures is { result ≡ complement number }
+    ensures fits { result < 256 ^ half_width_of (distance number) }
+{
+    let distance = distance_of(number);
+    let greatest = greatest_in(signed_octets_of(distance));
+    if number < 0 {
+        greatest - distance
+    } else {
+        distance
     }
 }

@@ -1,0 +1,178 @@
+-- After every run the log is right with the stores.
+use Rattle.std.proofs.Common.{◌≡◌, ℕ, ◌-◌, ◌<◌, ◌≤◌, Bool, true, false, ◌&&◌, List, [], ◌∷◌, ◌++◌, Option, Some, None, slice_get, if◌then◌else◌, nat_le, refl, sym, ap, subst, inl, inr, arith}
+use Rattle.std.proofs.lemmas.Bool.Decides.{nat_tests}
+use Rattle.bac_protocol.specs.Times.{LIFE}
+use Rattle.bac_protocol.specs.Service.{Octets, Request, Ending}
+use Rattle.bac_protocol.specs.Wire.{is_from_client}
+use Rattle.bac_protocol.specs.Client as client
+use Rattle.bac_protocol.specs.Client.{Ask, request_of, Ticket}
+use Rattle.bac_protocol.specs.Server as server
+use Rattle.bac_protocol.specs.Server.{Entry, Effect}
+use Rattle.bac_protocol.specs.Log.{Fact, Has, asks_in, Shop, IsOnce}
+use Rattle.bac_protocol.specs.Log.Fact.{Asked, Performed, Ended}
+use Rattle.bac_protocol.specs.Transaction.{Key, Rules, Copy, ended}
+use Rattle.bac_protocol.specs.World.{Net, World, Post, Event, one, later, client_acts, server_acts, asked_at, is_key_held, service_of, reacts, serves, ask_made, takes_at_client, takes_at_server, arrives, delivered, ticks_ticket, ticks_as_client, ticks_as_server, stored, happens, run, start}
+use Rattle.bac_protocol.specs.World.Event.{MakeAsk, Deliver, Tick, Noise, Advance}
+use Rattle.bac_protocol.specs.Claims.{IsBounded}
+use Rattle.bac_protocol.proofs.Sound.{IsOrderly}
+use Rattle.bac_protocol.proofs.ClientKeeps.{client_gets_kept, client_ticks_kept}
+use Rattle.bac_protocol.proofs.ServerKeeps.{server_gets_kept, server_ticks_kept}
+use Rattle.bac_protocol.proofs.Keys.{copy_at, set_nothing}
+use Rattle.bac_protocol.proofs.Nets.{IsLogOf, log_of, NetSound, sound_at, net_client, net_server, net_asked, spent_at, net_later, net_starts}
+use Rattle.bac_protocol.proofs.Served.{IsServed, gets_served, ticks_quiet}
+
+-- An ask has one request.
+
+has_below : (n c s : ℕ) (r : Request) (log : List Fact) → IsOrderly log → Has (Asked n c s r) log → n < asks_in log
+has_below n c s r [] o h = absurd h
+has_below n c s r (Asked m a b q ∷ log) o (inl e) = let same : m ≡ n = cc in let is = o.0 in omega arith
+has_below n c s r (Asked m a b q ∷ log) o (inr h) = let lt = has_below n c s r log o.1 h in omega arith
+has_below n c s r (Performed m q p ∷ log) o (inl e) = absurd cc
+has_below n c s r (Performed m q p ∷ log) o (inr h) = has_below n c s r log o.2 h
+has_below n c s r (Ended m how ∷ log) o (inl e) = absurd cc
+has_below n c s r (Ended m how ∷ log) o (inr h) = has_below n c s r log o.2 h
+
+-- the two facts that a log has of one ask are one
+asked_once : (n c s d u : ℕ) (q r : Request) (log : List Fact) → IsOrderly log → Has (Asked n c s q) log → Has (Asked n d u r) log → q ≡ r
+asked_once n c s d u q r [] o h k = absurd h
+asked_once n c s d u q r (Asked m a b x ∷ log) o (inl e) (inl f) = cc
+asked_once n c s d u q r (Asked m a b x ∷ log) o (inl e) (inr k) = let same : m ≡ n = cc in let is = o.0 in let lt = has_below n d u r log o.1 k in absurd (omega arith)
+asked_once n c s d u q r (Asked m a b x ∷ log) o (inr h) (inl f) = let same : m ≡ n = cc in let is = o.0 in let lt = has_below n c s q log o.1 h in absurd (omega arith)
+asked_once n c s d u q r (Asked m a b x ∷ log) o (inr h) (inr k) = asked_once n c s d u q r log o.1 h k
+asked_once n c s d u q r (Performed m x p ∷ log) o (inl e) k = absurd cc
+asked_once n c s d u q r (Performed m x p ∷ log) o (inr h) (inl f) = absurd cc
+asked_once n c s d u q r (Performed m x p ∷ log) o (inr h) (inr k) = asked_once n c s d u q r log o.2 h k
+asked_once n c s d u q r (Ended m how ∷ log) o (inl e) k = absurd cc
+asked_once n c s d u q r (Ended m how ∷ log) o (inr h) (inl f) = absurd cc
+asked_once n c s d u q r (Ended m how ∷ log) o (inr h) (inr k) = asked_once n c s d u q r log o.2 h k
+
+pub net_log : (W : ℕ) (n : Net) → NetSound W n → IsLogOf n.asks n.log
+net_log W n s = let key : Key = record { client = 0; server = 0; id = 0 } in log_of W key (n.tickets key) (one n key) (s.each key)
+
+none_there : (k : ℕ) (c : Copy) → slice_get [] k ≡ Some c → ⊥
+none_there k c e = cc
+
+-- No event moves the log and the stores apart.
+module _ (S : Type 0) (shop : Shop S) (opening : ℕ → S) (W : ℕ) (x : Rules) (bound : IsBounded W x) where
+  pub record Kept (w : World S) : Type 0 where
+    pub net : NetSound W w.net
+    pub once : IsOnce S shop opening w.net.log w.stores
+
+  reacts_kept : (w : World S) → Kept w → (key : Key) (t : Ticket) (r : client.Reaction) → NetSound W (client_acts w.net key t r) → Kept (reacts S w key t r)
+  reacts_kept w s key t r sound = record { net = sound; once = go (client.ending_of r) ((net_log W (client_acts w.net key t r) sound).orderly) }
+    where
+      go : (o : Option Ending) → IsOrderly (ended (w.net.numbers key) o w.net.log) → IsOnce S shop opening (ended (w.net.numbers key) o w.net.log) w.stores
+      go None h = s.once
+      go (Some how) h = (w.stores, (h.0, h.1, λ node. refl), s.once)
+
+  -- a request was performed
+  effect_once : (w : World S) → Kept w → (key : Key) (t : Ticket) → w.net.tickets key ≡ Some t → (e : Effect) → IsServed (service_of S shop w key) (Some e) → IsOrderly (Performed (w.net.numbers key) e.request e.reply ∷ w.net.log)
+      → IsOnce S shop opening (Performed (w.net.numbers key) e.request e.reply ∷ w.net.log) (stored S shop key.server (Some e) w.stores)
+  effect_once w s key t at e is right =
+      let own = (sound_at W w.net key (Some t) at s.net).2 in
+      let n = w.net.numbers key in
+      let same : request_of t.ask ≡ e.request = asked_once n key.client key.server right.0.0 right.0.1 (request_of t.ask) e.request w.net.log right.2 own.asked right.0.2 in
+      (w.stores, (key.client, key.server, subst (λ r. Has (Asked n key.client key.server r) w.net.log) same own.asked, right.1, is, λ node. refl), s.once)
+
+  serves_kept : (w : World S) → Kept w → (key : Key) (t : Ticket) → w.net.tickets key ≡ Some t → (v : server.Reaction) → IsServed (service_of S shop w key) v.effect → NetSound W (server_acts w.net key v) → Kept (serves S shop w key v)
+  serves_kept w s key t at v is sound = go v.effect is sound
+    where
+      go : (o : Option Effect) → IsServed (service_of S shop w key) o → NetSound W (server_acts w.net key (record v { effect = o })) → Kept (serves S shop w key (record v { effect = o }))
+      go None is sound = record { net = sound; once = s.once }
+      go (Some e) is sound = record { net = sound; once = effect_once w s key t at e is (net_log W (server_acts w.net key (record v { effect = Some e })) sound).orderly }
+
+  asks_kept : (w : World S) → Kept w → (key : Key) (choice : ℕ) (whole : Bool) (front : Octets) (rest : List Octets) (b : Bool) → is_key_held w.net.now (w.net.tickets key) ≡ b
+      → Kept (if b then w else ask_made S x w key (record { first = w.net.now; choice = choice; whole = whole; pieces = front ∷ rest }))
+  asks_kept w s key choice whole front rest true e = s
+  asks_kept w s key choice whole front rest false e = record { net = sound; once = (w.stores, ((net_log W (asked_at x w.net key ask) sound).orderly.0, λ node. refl), s.once) }
+    where
+      ask : Ask
+      ask = record { first = w.net.now; choice = choice; whole = whole; pieces = front ∷ rest }
+
+      sound : NetSound W (asked_at x w.net key ask)
+      sound = net_asked W bound.some x w.net key s.net (spent_at W w.net key (w.net.tickets key) refl (s.net.each key) e) choice whole front rest
+
+  -- the copy whose number that is arrives
+  module _ (w : World S) (s : Kept w) (number : ℕ) (p : Post) (at_number : slice_get w.net.posts number ≡ Some p) where
+    k : ℕ
+    k = later p.key number w.net.posts
+
+    arrives_kept : (o : Option Ticket) → w.net.tickets p.key ≡ o → w.net.now - p.copy.moment ≤ LIFE → later p.key number w.net.posts ≤ x.overtake → (free up : Bool) → Kept (if up then takes_at_server S shop x w p.key free p.copy.apdu else takes_at_client S x w p.key p.copy.apdu o)
+    arrives_kept None at young few free up =
+        absurd (none_there (later p.key number w.net.posts) p.copy (subst (λ (cs : List Copy). slice_get cs (later p.key number w.net.posts) ≡ Some p.copy) (sound_at W w.net p.key None at s.net).no_copies (copy_at number w.net.posts p at_number)))
+    arrives_kept (Some t) at young few free true =
+        let f = sound_at W w.net p.key (Some t) at s.net in
+        let says = ((f.2).arriving (later p.key number w.net.posts) p.copy (copy_at number w.net.posts p at_number) young).1 in
+        let v = server.server_gets (x.settings p.key.server) p.key.id w.net.now (service_of S shop w p.key) (w.net.entries p.key) free p.copy.apdu in
+        serves_kept w s p.key t at v (gets_served (x.settings p.key.server) p.key.id w.net.now (service_of S shop w p.key) (w.net.entries p.key) free p.copy.apdu)
+        (net_server W w.net p.key t at s.net v
+        (server_gets_kept W x.overtake bound.some bound.room (x.settings p.key.server) (bound.windows p.key.server) (service_of S shop w p.key) p.key (one w.net p.key) t (w.net.entries p.key) f.0 f.1 f.2 free p.copy.moment (later p.key number w.net.posts) few young p.copy.apdu says))
+    arrives_kept (Some t) at young few free false =
+        let f = sound_at W w.net p.key (Some t) at s.net in
+        let says = ((f.2).arriving (later p.key number w.net.posts) p.copy (copy_at number w.net.posts p at_number) young).1 in
+        let r = client.client_gets (x.settings p.key.client) x.readable p.key.id w.net.now t p.copy.apdu in
+        reacts_kept w s p.key t r
+        (net_client W w.net p.key t at s.net r
+        (client_gets_kept W x.overtake bound.some bound.room (x.settings p.key.client) (bound.windows p.key.client) x.readable p.key (one w.net p.key) t f.0 f.1 f.2 p.copy.moment (later p.key number w.net.posts) few p.copy.apdu says))
+
+    by_test : (free a b : Bool) → nat_le (w.net.now - p.copy.moment) LIFE ≡ a → nat_le (later p.key number w.net.posts) x.overtake ≡ b → Kept (if a && b then arrives S shop x w p.key free p.copy.apdu else w)
+    by_test free true true young few = arrives_kept (w.net.tickets p.key) refl (grind (arith, nat_tests)) (grind (arith, nat_tests)) free (is_from_client p.copy.apdu)
+    by_test free true false young few = s
+    by_test free false b young few = s
+
+  delivered_kept : (w : World S) → Kept w → (number : ℕ) (free : Bool) (o : Option Post) → slice_get w.net.posts number ≡ o → Kept (delivered S shop x w number free o)
+  delivered_kept w s number free None e = s
+  delivered_kept w s number free (Some p) e = by_test w s number p e free (nat_le (w.net.now - p.copy.moment) LIFE) (nat_le (later p.key number w.net.posts) x.overtake) refl refl
+
+  -- a ticket's tick
+  ticket_kept : (w : World S) → Kept w → (key : Key) (o : Option Ticket) → w.net.tickets key ≡ o → Kept (ticks_ticket S x w key o)
+  ticket_kept w s key None at = s
+  ticket_kept w s key (Some t) at =
+      let f = sound_at W w.net key (Some t) at s.net in
+      let r = client.client_ticks (x.settings key.client) key.id w.net.now t in
+      reacts_kept w s key t r (net_client W w.net key t at s.net r (client_ticks_kept W x.overtake bound.some bound.room (x.settings key.client) (bound.windows key.client) x.readable key (one w.net key) t f.0 f.1 f.2))
+
+  clients_kept : (keys : List Key) (w : World S) → Kept w → Kept (ticks_as_client S x keys w)
+  clients_kept [] w s = s
+  clients_kept (key ∷ keys) w s = clients_kept keys (ticks_ticket S x w key (w.net.tickets key)) (ticket_kept w s key (w.net.tickets key) refl)
+
+  -- an entry's tick
+  quiet : (w : World S) (key : Key) (v : server.Reaction) → v.effect ≡ None → IsServed (service_of S shop w key) v.effect
+  quiet w key v e = subst (IsServed (service_of S shop w key)) (sym e) tt
+
+  entry_kept : (w : World S) → Kept w → (key : Key) (o : Option Ticket) → w.net.tickets key ≡ o → Kept (serves S shop w key (server.server_ticks (x.settings key.server) key.id w.net.now (w.net.entries key)))
+  entry_kept w s key (Some t) at =
+      let f = sound_at W w.net key (Some t) at s.net in
+      let v = server.server_ticks (x.settings key.server) key.id w.net.now (w.net.entries key) in
+      serves_kept w s key t at v (quiet w key v (ticks_quiet (x.settings key.server) key.id w.net.now (w.net.entries key)))
+      (net_server W w.net key t at s.net v (server_ticks_kept W x.overtake bound.some bound.room (x.settings key.server) (bound.windows key.server) (service_of S shop w key) key (one w.net key) t (w.net.entries key) f.0 f.1 f.2))
+  entry_kept w s key None at = go (w.net.entries key) refl (sound_at W w.net key None at s.net).no_entry
+    where
+      all_there : (posts : List Post) → posts ++ [] ≡ posts
+      all_there [] = refl
+      all_there (p ∷ posts) = ap (λ ps. p ∷ ps) (all_there posts)
+
+      go : (o : Option Entry) → w.net.entries key ≡ o → o ≡ None → Kept (serves S shop w key (server.server_ticks (x.settings key.server) key.id w.net.now o))
+      go (Some e) is nil = absurd cc
+      go None is nil = subst (λ (n : Net). Kept (record { net = n; stores = w.stores })) (λ i. record (w.net) { entries = sym (set_nothing w.net.entries key None is) i; posts = sym (all_there w.net.posts) i }) s
+
+  servers_kept : (keys : List Key) (w : World S) → Kept w → Kept (ticks_as_server S shop x keys w)
+  servers_kept [] w s = s
+  servers_kept (key ∷ keys) w s = servers_kept keys (serves S shop w key (server.server_ticks (x.settings key.server) key.id w.net.now (w.net.entries key))) (entry_kept w s key (w.net.tickets key) refl)
+
+  pub event_kept : (w : World S) → Kept w → (e : Event) → Kept (happens S shop x w e)
+  event_kept w s (MakeAsk key choice whole front rest) = asks_kept w s key choice whole front rest (is_key_held w.net.now (w.net.tickets key)) refl
+  event_kept w s (Deliver number free) = delivered_kept w s number free (slice_get w.net.posts number) refl
+  event_kept w s (Tick as_client as_server) = servers_kept as_server (ticks_as_client S x as_client w) (clients_kept as_client w s)
+  event_kept w s Noise = s
+  event_kept w s (Advance by) = record { net = net_later W by w.net s.net; once = s.once }
+
+  pub run_kept : (events : List Event) (w : World S) → Kept w → Kept (run S shop x events w)
+  run_kept [] w s = s
+  run_kept (e ∷ es) w s = run_kept es (happens S shop x w e) (event_kept w s e)
+
+  pub start_kept : Kept (start S opening)
+  start_kept = record { net = net_starts W; once = λ node. refl }
+
+  pub headline : (events : List Event) → IsOnce S shop opening (run S shop x events (start S opening)).net.log (run S shop x events (start S opening)).stores
+  headline events = (run_kept events (start S opening) start_kept).once

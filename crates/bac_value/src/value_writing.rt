@@ -1,0 +1,166 @@
+ghost use Rattle.std.specs.Prelude.{◌≡◌, ◌<◌, ◌≤◌, ◌+◌, ◌*◌, ◌++◌, ◌^◌, ◌∷◌, ℕ, [], length, IsTrue, OnOk, OnErr};
+ghost use Rattle.byteorder.specs.Endian.{big_bytes};
+ghost use Rattle.bac_value.specs.Octets.{Begins};
+ghost use Rattle.bac_value.specs.Limits.{length_tag_fits};
+ghost use Rattle.bac_value.specs.Spelling.{tag_spelling};
+ghost use Rattle.bac_value.specs.Number.{unsigned_octets, signed_octets};
+ghost use Rattle.bac_value.specs.Value.{boolean, mark_for, IsValue};
+ghost use Rattle.bac_value.specs.Writing.{primitive, object_octets, value_spelling, AppendsValue};
+ghost use Rattle.bac_value.specs.Views.{datum, object_id};
+
+use crate::memory::NoMemory;
+use crate::number_width::{complement_of, distance_of, octets_of, signed_octets_of};
+use crate::tag::{Class, Form, Tag};
+use crate::tag_writing::put_tag;
+use crate::value::{ObjectIdentifier, Value};
+use byteorder::{BigEndian, ByteOrder};
+
+// The functions `put_` append. After an `Err` of theirs the old octets are a front of what is there, so that a caller who appends
+// more than once cuts off what was written only once.
+
+/// Appends a tag with the length of some contents, and the contents.
+pub fn put_primitive(
+    class: Class,
+    number: u8,
+    contents: &[u8],
+    out: &mut Vec<u8>,
+) -> Result<(), NoMemory>
+    requires tag { IsTrue (length_tag_fits number class) }
+    requires fits { length contents.now < 2 ^ 32 }
+    ensures ok { OnOk result (out.new.items ≡ out.old.items ++ primitive class number contents.now) }
+    ensures kept { Begins out.old.items out.new.items }
+{
+    let form = Form::Length(contents.len() as u32);
+    let tag = Tag {
+        number,
+        class,
+        form,
+    };
+    put_tag(&tag, out)?;
+    out.extend_from_slice(contents)?;
+    Ok(())
+}
+
+/// Appends a tag, and a number in so many octets.
+fn put_number(
+    class: Class,
+    tag: u8,
+    count: usize,
+    number: u64,
+    out: &mut Vec<u8>,
+) -> Result<(), NoMemory>
+    requires tag { IsTrue (length_tag_fits tag class) }
+    requires some { 0 < count }
+    requires most { count ≤ 8 }
+    requires fits { number < 256 ^ count }
+    ensures ok { OnOk result (out.new.items ≡ out.old.items ++ primitive class tag (big_bytes count number)) }
+    ensures kept { Begins out.old.items out.new.items }
+{
+    let mut buffer = [0u8; 8];
+    BigEndian::write_uint(&mut buffer, number, count);
+    put_primitive(class, tag, &buffer[..count], out)
+}
+
+/// Appends a tag, and a number in the fewest octets (clause 20.2.4): an Unsigned or an Enumerated.
+#[tactic(auto, unfolding(crate::specs::Number::unsigned_octets))]
+pub fn put_unsigned(class: Class, tag: u8, number: u64, out: &mut Vec<u8>) -> Result<(), NoMemory>
+    requires { IsTrue (length_tag_fits tag class) }
+    ensures ok { OnOk result (out.new.items ≡ out.old.items ++ primitive class tag (unsigned_octets number)) }
+    ensures kept { Begins out.old.items out.new.items }
+{
+    put_number(class, tag, octets_of(number), number, out)
+}
+
+/// Appends a tag, and a number in the fewest octets of two's complement (clause 20.2.5).
+#[tactic(auto, unfolding(crate::specs::Number::signed_octets))]
+pub fn put_signed(class: Class, tag: u8, number: i64, out: &mut Vec<u8>) -> Result<(), NoMemory>
+    requires { IsTrue (length_tag_fits tag class) }
+    ensures ok { OnOk result (out.new.items ≡ out.old.items ++ primitive class tag (signed_octets number)) }
+    ensures kept { Begins out.old.items out.new.items }
+{
+    let count = signed_octets_of(distance_of(number));
+    put_number(class, tag, count, complement_of(number), out)
+}
+
+/// Appends a tag, and the octets of an object's type and instance (clause 20.2.14).
+pub fn put_object_identifier(
+    class: Class,
+    tag: u8,
+    id: ObjectIdentifier,
+    out: &mut Vec<u8>,
+) -> Result<(), NoMemory>
+    requires { IsTrue (length_tag_fits tag class) }
+    ensures ok { OnOk result (out.new.items ≡ out.old.items ++ primitive class tag (object_octets (object_id id))) }
+    ensures kept { Begins out.old.items out.new.items }
+{
+    let number = u32::from(id.kind) * 0x40_0000 + id.instance;
+    put_primitive(class, tag, &number.to_be_bytes(), out)
+}
+
+/// Appends an application Boolean, whose value stands in its tag (clause 20.2.3).
+pub fn put_boolean(value: bool, out: &mut Vec<u8>) -> Result<(), NoMemory>
+    ensures ok { OnOk result (out.new.items ≡ out.old.items ++ tag_spelling (mark_for (boolean value) 0)) }
+    ensures kept { Begins out.old.items out.new.items }
+{
+    let tag = Tag {
+        number: 1,
+        class: Class::Application,
+        form: Form::Boolean(value),
+    };
+    put_tag(&tag, out)
+}
+
+/// Appends an application tag, an octet and more octets: a character set and its text, or a number of unused bits and the bits.
+fn put_with_octet(kind: u8, octet: u8, octets: &[u8], out: &mut Vec<u8>) -> Result<(), NoMemory>
+    requires tag { IsTrue (length_tag_fits kind Class.Application) }
+    requires fits { length octets.now + 1 < 2 ^ 32 }
+    ensures ok { OnOk result (out.new.items ≡ out.old.items ++ primitive Class.Application kind (octet ∷ octets.now)) }
+    ensures kept { Begins out.old.items out.new.items }
+{
+    let tag = Tag {
+        number: kind,
+        class: Class::Application,
+        form: Form::Length(octets.len() as u32 + 1),
+    };
+    put_tag(&tag, out)?;
+    out.push(octet)?;
+    out.extend_from_slice(octets)?;
+    Ok(())
+}
+
+/// Appends the one spelling of a value.
+pub fn put_value(value: &Value, out: &mut Vec<u8>) -> Result<(), NoMemory>
+    ensures ok { OnOk result (out.new.items ≡ out.old.items ++ value_spelling (datum value.now)) }
+    ensures kept { Begins out.old.items out.new.items }
+    ensures value { IsValue (datum value.now) }
+{
+    let class = Class::Application;
+    match value {
+        Value::Null => put_primitive(class, 0, &[], out),
+        Value::Boolean(value) => put_boolean(*value, out),
+        Value::Unsigned(number) => put_unsigned(class, 2, *number, out),
+        Value::Signed(number) => put_signed(class, 3, *number, out),
+        Value::Real(octets) => put_primitive(class, 4, octets, out),
+        Value::Double(octets) => put_primitive(class, 5, octets, out),
+        Value::OctetString(string) => put_primitive(class, 6, &string.octets, out),
+        Value::CharacterString(string) => put_with_octet(7, string.set, &string.text, out),
+        Value::BitString(string) => put_with_octet(8, string.unused, &string.octets, out),
+        Value::Enumerated(number) => put_unsigned(class, 9, u64::from(*number), out),
+        Value::Date(octets) => put_primitive(class, 10, octets, out),
+        Value::Time(octets) => put_primitive(class, 11, octets, out),
+        Value::ObjectIdentifier(id) => put_object_identifier(class, 12, *id, out),
+    }
+}
+
+/// Appends the one spelling of a value, or changes nothing.
+pub fn write_value(value: &Value, out: &mut Vec<u8>) -> Result<(), NoMemory>
+    ensures ok { OnOk result (AppendsValue (datum value.now) out.old.items out.new.items) }
+    ensures err { OnErr result (out.new.items ≡ out.old.items) }
+{
+    let before = out.len();
+    let written = put_value(value, out);
+    if written.is_err() {
+        out.truncate(before);
+    }
+    written
+}
