@@ -1,6 +1,7 @@
 //! Requests and answers of the four services (clauses 14 and 15), read from and written as service data (clause 21).
 #![tactic(auto)]
 
+mod lengths;
 mod member;
 mod reject;
 mod reply;
@@ -8,12 +9,14 @@ mod reply_reading;
 mod reply_writing;
 mod request;
 mod request_reading;
+mod request_writing;
 mod run;
 mod service;
 mod stop;
 mod typed;
 mod value;
 
+pub use lengths::{reply_len, request_len};
 pub use reject::Reject;
 pub use reply::{
     AnyComplex, AnyReply, Complex, ComplexOver, FileRead, FileWritten, PropertyRead, Reply,
@@ -25,4 +28,5 @@ pub use request::{
     WriteRecords, WriteStream,
 };
 pub use request_reading::read_request;
+pub use request_writing::write_request;
 pub use value::{Content, Priority, PropertyReference, Records};
