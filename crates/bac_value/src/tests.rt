@@ -189,7 +189,10 @@ fn writes_values_and_reads_them_back(rt: HostRuntime) -> Result<(), Fail> {
         (Value::Signed(128), "320080"),
         (Value::Signed(i64::MIN), "35088000000000000000"),
         (Value::Real([0x43, 0x34, 0, 0]), "4443340000"),
-        (Value::Double([1, 2, 3, 4, 5, 6, 7, 8]), "55080102030405060708"),
+        (
+            Value::Double([1, 2, 3, 4, 5, 6, 7, 8]),
+            "55080102030405060708",
+        ),
         (Value::OctetString(text), "62ABCD"),
         (Value::CharacterString(name), "73004F4B"),
         (Value::BitString(bits), "820780"),
@@ -266,7 +269,7 @@ fn pieces_give_what_the_octets_give(rt: HostRuntime) -> Result<(), Fail> {
         let octets = octets_of(alloc, text)?;
         for size in 1..=octets.len() {
             let pieces = pieces_of(alloc, &octets, size)?;
-            let parts = Parts::new(&pieces);
+            let parts = Parts::try_new(&pieces).ok_or("few octets")?;
             let tag = match read_tag_at(&parts, 0) {
                 Ok((_, len)) => (0, len),
                 Err(fault) => outcome_of(fault),
