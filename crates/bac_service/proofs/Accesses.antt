@@ -177,15 +177,15 @@ run_exact : IsExact NoString run_at Run
 unfolding run_at StringsTaken
 run_exact = record {
   takes = λ bytes x fits e.
-    let n = bind_some (strings_at (suc (length bytes)) bytes) (λ n. Some ((n.0, take (length bytes - length n.1) bytes), n.1)) x e in
-    let t = strings_takes (suc (length bytes)) bytes n.0 fits n.1 in
-    let front : take (length bytes - length n.0.1) bytes ≡ t.0 = ap (λ (b : Octets). take (length b - length n.0.1) b) t.1.0 ∙ front_is t.0 n.0.1 in
-    subst (λ (y : (ℕ × Octets) × Octets). (text : Octets) × (bytes ≡ text ++ y.1) × Run y.0 text) (some_is ((n.0.0, take (length bytes - length n.0.1) bytes), n.0.1) x n.2)
-    (t.0, t.1.0, (subst (AreStrings n.0.0) (sym front) t.1.1, sym front));
+      let n = bind_some (strings_at (suc (length bytes)) bytes) (λ n. Some ((n.0, take (length bytes - length n.1) bytes), n.1)) x e in
+      let t = strings_takes (suc (length bytes)) bytes n.0 fits n.1 in
+      let front : take (length bytes - length n.0.1) bytes ≡ t.0 = ap (λ (b : Octets). take (length b - length n.0.1) b) t.1.0 ∙ front_is t.0 n.0.1 in
+      subst (λ (y : (ℕ × Octets) × Octets). (text : Octets) × (bytes ≡ text ++ y.1) × Run y.0 text) (some_is ((n.0.0, take (length bytes - length n.0.1) bytes), n.0.1) x n.2)
+      (t.0, t.1.0, (subst (AreStrings n.0.0) (sym front) t.1.1, sym front));
   again = λ y text rest s none.
-    let strings : AreStrings y.0 text = subst (AreStrings y.0) (sym s.1) s.0 in
-    let enough : y.0 < suc (length (text ++ rest)) = omega (arith, strings_len y.0 text strings, length-append text rest) in
-    rw (strings_again (suc (length (text ++ rest))) y.0 text rest enough strings none, front_is text rest, s.1) refl;
+      let strings : AreStrings y.0 text = subst (AreStrings y.0) (sym s.1) s.0 in
+      let enough : y.0 < suc (length (text ++ rest)) = omega (arith, strings_len y.0 text strings, length-append text rest) in
+      rw (strings_again (suc (length (text ++ rest))) y.0 text rest enough strings none, front_is text rest, s.1) refl;
 }
 
 abbrev Counted : ℤ × (ℕ × (ℕ × Octets)) → Octets → Type 0
@@ -222,7 +222,7 @@ write_told (WriteStream z octets) text rest s f = inr (((z, octets), refl, s), o
 write_told (WriteRecords z n run) text rest s f =
     let e = s.are in
     let counted : Enclosed 1 (Counted (z, (n, (n, run)))) text =
-      record { inside = s.inside; are = record { front = e.front; back = e.back; first = e.first; second = record { front = e.second.front; back = e.second.back; first = e.second.first; second = (e.second.second.strings, e.second.second.is); is = e.second.is }; is = e.is }; is = s.is } in
+    record { inside = s.inside; are = record { front = e.front; back = e.back; first = e.first; second = record { front = e.second.front; back = e.second.back; first = e.second.first; second = (e.second.second.strings, e.second.second.is); is = e.second.is }; is = e.is }; is = s.is } in
     inl (((z, (n, (n, run))), refl, (eq-eqb n n refl, counted)), opened_enclosed 1 1 (Counted (z, (n, (n, run)))) text rest (lit< tt) counted, tt)
 
 pub write_access_exact : IsExact Anything write_access_at SpellsWriteAccess

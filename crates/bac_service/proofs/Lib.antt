@@ -6,3 +6,4 @@ pub mod References
 pub mod Accesses
 pub mod Wholes
 pub mod Runs
+pub mod Spelled

@@ -5,3 +5,4 @@ pub mod Replies
 pub mod Reading
 pub mod Views
 pub mod Services
+pub mod Spellings
