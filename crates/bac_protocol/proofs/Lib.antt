@@ -11,3 +11,5 @@ pub mod Nets
 pub mod Served
 pub mod Headline
 pub mod Claimed
+pub mod Computed
+pub mod Beyond

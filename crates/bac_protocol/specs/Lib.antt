@@ -8,3 +8,5 @@ pub mod Log
 pub mod Transaction
 pub mod World
 pub mod Claims
+pub mod Examples
+pub mod Beyond

@@ -4,11 +4,14 @@
 //! a law as its contract. A run is any list of asks, deliveries, losses, repeats, reorderings, ticks, noise and clock steps among nodes.
 #![tactic(auto)]
 
+pub mod examples;
+
 ghost use Rattle.std.specs.Prelude.{◌≡◌, ℕ, ◌+◌, ◌*◌, ◌%◌, ◌<◌, ◌≤◌, List};
 ghost use Rattle.bac_segment.specs.Numbers.{ahead};
 ghost use Rattle.bac_protocol.specs.Log.{Shop, IsOnce};
 ghost use Rattle.bac_protocol.specs.Transaction.{Rules};
 ghost use Rattle.bac_protocol.specs.World.{Event, run, start};
+ghost use Rattle.bac_protocol.specs.Beyond.{Misread};
 ghost use Rattle.bac_protocol.specs.Claims.{IsBounded, AreOfNewest, RequestsAreInWindow, RepliesAreInWindow, LaterPassesFindDone};
 
 /// No number that can arrive is misread modulo 256, where windows are at most W, at most V later copies may overtake one, and V + 2W <= 255:
@@ -46,4 +49,11 @@ pub fn replies_in_window<S>()
 /// In every run, once the first pass of a request in segments is over, a segment of it that may still arrive finds its entry live and done.
 pub fn later_passes_find_done<S>()
     ensures { (shop : Shop S) (opening : ℕ → S) (W : ℕ) (rules : Rules) → IsBounded W rules → (events : List Event) → LaterPassesFindDone rules (run S shop rules events (start S opening)).net }
+{}
+
+/// Beyond the bound numbers are misread: where 300 later copies may overtake one, with windows of 64, there is a run in which an old copy of
+/// segment 1 is taken where segment 257 is expected, and the request performed is not the one asked.
+#[tactic(auto, using(crate::proofs::Beyond::misread))]
+pub fn misread_beyond_the_bound()
+    ensures { Misread }
 {}
