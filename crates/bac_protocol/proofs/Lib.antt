@@ -13,3 +13,6 @@ pub mod Headline
 pub mod Claimed
 pub mod Computed
 pub mod Beyond
+pub mod Queue
+pub mod Windows
+pub mod Carries

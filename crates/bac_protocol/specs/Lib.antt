@@ -10,3 +10,4 @@ pub mod World
 pub mod Claims
 pub mod Examples
 pub mod Beyond
+pub mod Straight
