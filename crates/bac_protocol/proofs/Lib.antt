@@ -16,3 +16,4 @@ pub mod Beyond
 pub mod Queue
 pub mod Windows
 pub mod Carries
+pub mod Requested
