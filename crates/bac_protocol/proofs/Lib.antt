@@ -17,3 +17,6 @@ pub mod Queue
 pub mod Windows
 pub mod Carries
 pub mod Requested
+pub mod Replied
+pub mod Dead
+pub mod Follow
