@@ -1,5 +1,5 @@
 -- An entry that is not live is as none: a table that keeps live entries alone shows the same.
-use Rattle.std.proofs.Common.{◌≡◌, ℕ, ◌-◌, Bool, true, false, not, List, [], ◌∷◌, Option, Some, None, if◌then◌else◌, nat_eq, nat_le, refl, sym, ap, ◌∙◌}
+use Rattle.std.proofs.Common.{◌≡◌, ℕ, Bool, true, false, not, [], ◌∷◌, Option, Some, None, if◌then◌else◌, nat_eq, refl, sym, ap, ◌∙◌}
 use Rattle.bac_apdu.specs.Apdu.{Apdu, Segment}
 use Rattle.bac_apdu.specs.Apdu.Apdu.{ConfirmedRequest}
 use Rattle.bac_segment.specs.Window.{incoming, takes}

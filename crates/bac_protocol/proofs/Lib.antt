@@ -20,3 +20,5 @@ pub mod Requested
 pub mod Replied
 pub mod Dead
 pub mod Follow
+pub mod StraightRuns
+pub mod Loops

@@ -1,8 +1,8 @@
 -- The reply of a straight run reaches the client whole, and ends its ticket.
-use Rattle.std.proofs.Common.{◌≡◌, ℕ, ◌+◌, ◌-◌, ◌*◌, ◌%◌, ◌<◌, ◌≤◌, min, Bool, true, false, ◌&&◌, not, List, [], ◌∷◌, ◌++◌, length, get_or, take, Option, Some, if◌then◌else◌, nat_lt, nat_le, nat_eq, append-nil, refl, sym, ap, ◌∙◌, subst, arith}
+use Rattle.std.proofs.Common.{◌≡◌, ℕ, ◌+◌, ◌-◌, ◌*◌, ◌%◌, ◌<◌, ◌≤◌, min, Bool, true, false, ◌&&◌, not, List, [], ◌∷◌, length, get_or, Option, Some, if◌then◌else◌, nat_lt, nat_le, nat_eq, append-nil, refl, sym, ap, ◌∙◌, subst, arith}
 use Rattle.std.proofs.lemmas.Bool.Decides.{nat_tests}
 use Rattle.bac_apdu.specs.Apdu.{Apdu}
-use Rattle.bac_apdu.specs.Apdu.Apdu.{SegmentAck, ComplexAck, Abort}
+use Rattle.bac_apdu.specs.Apdu.Apdu.{Abort}
 use Rattle.bac_segment.specs.Limits.{RETRIES}
 use Rattle.bac_segment.specs.Pieces.{join, pieces_of}
 use Rattle.bac_segment.specs.Window.{Outgoing, outgoing, in_window, is_finished, acknowledged, Incoming, incoming, Taking, takes}
@@ -25,7 +25,7 @@ use Rattle.bac_protocol.specs.Log.{Fact, Shop}
 use Rattle.bac_protocol.specs.Log.Fact.{Ended}
 use Rattle.bac_protocol.specs.Transaction.{Key, Rules}
 use Rattle.bac_protocol.specs.Straight.{KindFits, WayFits, way_count, terms_of}
-use Rattle.bac_protocol.proofs.Ways.{IsCut, way_cut}
+use Rattle.bac_protocol.proofs.Ways.{way_cut}
 use Rattle.bac_protocol.proofs.Queue.{Duo, Within, within_then, one_step, no_step, served, reacted, client_reaction, server_reaction}
 use Rattle.bac_protocol.proofs.Windows.{takes_one, takes_last, after_piece, taken_next, parts_next}
 use Rattle.bac_protocol.proofs.Carries.{Sender, moved, Carries, Fitting, IsTaken, all_but_last}

@@ -1,18 +1,18 @@
 -- The request of a straight run reaches the server whole, and is performed.
-use Rattle.std.proofs.Common.{◌≡◌, ℕ, ◌+◌, ◌-◌, ◌*◌, ◌%◌, ◌<◌, ◌≤◌, min, Bool, true, false, ◌||◌, not, List, [], ◌∷◌, ◌++◌, length, get_or, take, Option, Some, None, if◌then◌else◌, nat_lt, nat_le, nat_eq, append-nil, refl, sym, ap, ◌∙◌, arith}
+use Rattle.std.proofs.Common.{◌≡◌, ℕ, ◌+◌, ◌-◌, ◌*◌, ◌%◌, ◌<◌, ◌≤◌, min, Bool, true, false, ◌||◌, not, List, [], ◌∷◌, ◌++◌, length, get_or, Option, Some, None, if◌then◌else◌, nat_lt, nat_le, append-nil, refl, ap, ◌∙◌, arith}
 use Rattle.std.proofs.lemmas.Bool.Decides.{nat_tests}
 use Rattle.bac_apdu.specs.Apdu.{Apdu}
-use Rattle.bac_apdu.specs.Apdu.Apdu.{ConfirmedRequest, SegmentAck, Abort}
+use Rattle.bac_apdu.specs.Apdu.Apdu.{Abort}
 use Rattle.bac_segment.specs.Limits.{RETRIES}
 use Rattle.bac_segment.specs.Pieces.{join}
 use Rattle.bac_segment.specs.Window.{Outgoing, outgoing, in_window, is_finished, acknowledged, Incoming, incoming, Taking, takes}
 use Rattle.bac_segment.specs.Window.Taking.{Taken, Complete}
 use Rattle.bac_protocol.specs.Times.{KEEP, DEADLINE, WAIT_SEG}
 use Rattle.bac_protocol.specs.Sizes.{Settings}
-use Rattle.bac_protocol.specs.Service.{Octets, Request, Reply, Outcome}
+use Rattle.bac_protocol.specs.Service.{Octets, Reply, Outcome}
 use Rattle.bac_protocol.specs.Service.Outcome.{Replies}
 use Rattle.bac_protocol.specs.Service.Ending.{Expired}
-use Rattle.bac_protocol.specs.Wire.{is_from_client, is_from_server, segment_of, pieces_from}
+use Rattle.bac_protocol.specs.Wire.{is_from_client, is_from_server, pieces_from}
 use Rattle.bac_protocol.specs.Client as client
 use Rattle.bac_protocol.specs.Client.{Ask, request_of, Phase, Ticket}
 use Rattle.bac_protocol.specs.Client.Phase.{Sending, Awaiting, Over}

@@ -1,19 +1,19 @@
 -- The straight run: each copy that arises from an ask is delivered once, in the order of sending, at one moment, while the ticket is open.
-use Rattle.std.specs.Prelude.{◌≡◌, ℕ, zero, suc, ◌+◌, ◌*◌, ◌<◌, ◌≤◌, ◌⊎◌, Bool, true, false, List, [], ◌∷◌, length, Option, Some, None, if◌then◌else◌, nat_eq}
+use Rattle.std.specs.Prelude.{◌≡◌, ℕ, zero, suc, ◌+◌, ◌*◌, ◌<◌, ◌≤◌, ◌⊎◌, Bool, true, false, List, ◌∷◌, length, Option, Some, None, if◌then◌else◌, nat_eq}
 use Rattle.bac_segment.specs.Limits.{DATA}
 use Rattle.bac_segment.specs.Pieces.{join}
 use Rattle.bac_protocol.specs.Sizes.{Settings}
-use Rattle.bac_protocol.specs.Service.{Octets, Request, Reply, Outcome, Readable}
+use Rattle.bac_protocol.specs.Service.{Octets, Request, Reply, Readable}
 use Rattle.bac_protocol.specs.Service.Reply.{Simple, Complex, Error}
-use Rattle.bac_protocol.specs.Service.Outcome.{Replies, Rejects}
+use Rattle.bac_protocol.specs.Service.Outcome.{Replies}
 use Rattle.bac_protocol.specs.Service.Ending.{Answered}
 use Rattle.bac_protocol.specs.Client.{Ticket, is_over, answers_simply, answers_with_data}
 use Rattle.bac_protocol.specs.Server.{Terms, Entry, Way, way_of, is_live}
 use Rattle.bac_protocol.specs.Server.Way.{AtOnce, InPieces, Unsendable}
-use Rattle.bac_protocol.specs.Log.{Fact, Shop}
+use Rattle.bac_protocol.specs.Log.{Shop}
 use Rattle.bac_protocol.specs.Log.Fact.{Asked, Performed, Ended}
 use Rattle.bac_protocol.specs.Transaction.{Key, Rules}
-use Rattle.bac_protocol.specs.World.{World, Event, is_key_held, happens, run, start}
+use Rattle.bac_protocol.specs.World.{World, Event, is_key_held, happens}
 use Rattle.bac_protocol.specs.World.Event.{MakeAsk, Deliver}
 
 -- An entry that is not live is as none.

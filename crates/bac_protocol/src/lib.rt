@@ -5,6 +5,7 @@
 #![tactic(auto)]
 
 pub mod examples;
+pub mod straight;
 
 ghost use Rattle.std.specs.Prelude.{◌≡◌, ℕ, ◌+◌, ◌*◌, ◌%◌, ◌<◌, ◌≤◌, List};
 ghost use Rattle.bac_segment.specs.Numbers.{ahead};
