@@ -1,5 +1,6 @@
 -- A transfer in pieces between the two ends, whichever sends: all pieces but the last are delivered and acknowledged.
-use Rattle.std.proofs.Common.{◌≡◌, ℕ, zero, suc, ◌+◌, ◌-◌, ◌*◌, ◌%◌, ◌<◌, ◌≤◌, min, Bool, true, false, ◌||◌, List, [], ◌∷◌, length, get_or, take, Some, nat_lt, nat_le, nat_eq, refl, ap, subst, arith}
+use Rattle.std.proofs.Common.{◌≡◌, ℕ, zero, suc, ◌+◌, ◌-◌, ◌*◌, ◌%◌, ◌<◌, ◌≤◌, min, Bool, true, false, ◌||◌, List, [], ◌∷◌, length, get_or, take}
+use Rattle.std.proofs.Common.{Some, nat_lt, nat_le, nat_eq, refl, ap, subst, arith}
 use Rattle.std.proofs.lemmas.Bool.Decides.{nat_tests}
 use Rattle.bac_apdu.specs.Apdu.{Apdu}
 use Rattle.bac_segment.specs.Limits.{DATA}
@@ -27,9 +28,15 @@ pub record Carries (S : Type 0) (shop : Shop S) (x : Rules) (now number : ℕ) (
   pub ends : Sender → Incoming → List Apdu → Duo S
   pub piece : ℕ → Apdu
   pub ack : ℕ → Apdu
-  pub acks : (s : Sender) (inc inc' : Incoming) (t : ℕ) → inc.window ≡ actual → takes inc (t % 256) (nat_lt (t + 1) (length ps)) (get_or ps t []) ≡ Taken true inc' → Within S shop x now number key 1 (ends s inc (piece t ∷ [])) (ends s inc' (ack (t % 256) ∷ []))
-  pub keeps : (s : Sender) (inc inc' : Incoming) (t : ℕ) (xs : List Apdu) → length xs ≤ x.overtake → takes inc (t % 256) (nat_lt (t + 1) (length ps)) (get_or ps t []) ≡ Taken false inc' → Within S shop x now number key 1 (ends s inc (piece t ∷ xs)) (ends s inc' xs)
-  pub moves : (s : Sender) (inc : Incoming) (n : ℕ) (out : Outgoing) → out.pieces ≡ ps → acknowledged own s.out n actual ≡ Some out → is_finished out ≡ false → Within S shop x now number key 1 (ends s inc (ack n ∷ [])) (ends (moved s out) inc (pieces_from piece out.first (in_window out)))
+  pub acks : (s : Sender) (inc inc' : Incoming) (t : ℕ) → inc.window ≡ actual
+      → takes inc (t % 256) (nat_lt (t + 1) (length ps)) (get_or ps t []) ≡ Taken true inc'
+      → Within S shop x now number key 1 (ends s inc (piece t ∷ [])) (ends s inc' (ack (t % 256) ∷ []))
+  pub keeps : (s : Sender) (inc inc' : Incoming) (t : ℕ) (xs : List Apdu) → length xs ≤ x.overtake
+      → takes inc (t % 256) (nat_lt (t + 1) (length ps)) (get_or ps t []) ≡ Taken false inc'
+      → Within S shop x now number key 1 (ends s inc (piece t ∷ xs)) (ends s inc' xs)
+  pub moves : (s : Sender) (inc : Incoming) (n : ℕ) (out : Outgoing) → out.pieces ≡ ps → acknowledged own s.out n actual ≡ Some out
+      → is_finished out ≡ false → Within S shop x now number key 1 (ends s inc (ack n ∷ []))
+      (ends (moved s out) inc (pieces_from piece out.first (in_window out)))
 
 -- how the numbers and the pieces fit
 pub record Fitting (overtake actual own : ℕ) (ps : List Octets) : Type 0 where
@@ -63,7 +70,8 @@ pub record IsBefore (actual : ℕ) (ps : List Octets) (s : Sender) (inc : Incomi
   pub unacknowledged : inc.unacknowledged + s.out.first ≡ p
   pub parts : inc.parts ≡ take p ps
 
-module _ (S : Type 0) (shop : Shop S) (x : Rules) (now number : ℕ) (key : Key) (actual own : ℕ) (ps : List Octets) (sizes : Fitting x.overtake actual own ps) (c : Carries S shop x now number key actual own ps) where
+module _ (S : Type 0) (shop : Shop S) (x : Rules) (now number : ℕ) (key : Key) (actual own : ℕ) (ps : List Octets)
+    (sizes : Fitting x.overtake actual own ps) (c : Carries S shop x now number key actual own ps) where
   -- of the window's pieces the last alone is left
   pub record LastOfWindow (from : Duo S) (most : ℕ) (s : Sender) (t u : ℕ) : Type 0 where
     pub inc : Incoming
@@ -73,7 +81,9 @@ module _ (S : Type 0) (shop : Shop S) (x : Rules) (now number : ℕ) (key : Key)
     pub parts : inc.parts ≡ take t ps
     pub reaches : Within S shop x now number key most from (c.ends s inc (c.piece t ∷ []))
 
-  window_but_last : (n t u last v : ℕ) (s : Sender) (inc : Incoming) → last ≡ t + n → v ≡ u + n → 0 < t → last < length ps → v < actual → inc.window ≡ actual → length inc.parts ≡ t → inc.unacknowledged ≡ u → inc.parts ≡ take t ps → LastOfWindow (c.ends s inc (pieces_from c.piece t (suc n))) n s last v
+  window_but_last : (n t u last v : ℕ) (s : Sender) (inc : Incoming) → last ≡ t + n → v ≡ u + n → 0 < t → last < length ps → v < actual
+      → inc.window ≡ actual → length inc.parts ≡ t → inc.unacknowledged ≡ u → inc.parts ≡ take t ps
+      → LastOfWindow (c.ends s inc (pieces_from c.piece t (suc n))) n s last v
   window_but_last zero t u last v s inc at_last at_v some lt small actual_is taken un parts =
       let e : t ≡ last = omega arith in
       record {
@@ -82,7 +92,8 @@ module _ (S : Type 0) (shop : Shop S) (x : Rules) (now number : ℕ) (key : Key)
         taken = omega arith;
         unacknowledged = omega arith;
         parts = subst (λ (i : ℕ). inc.parts ≡ take i ps) e parts;
-        reaches = no_step S shop x now number key (c.ends s inc (c.piece t ∷ [])) (c.ends s inc (c.piece last ∷ [])) (ap (λ (i : ℕ). c.ends s inc (c.piece i ∷ [])) e);
+        reaches = no_step S shop x now number key (c.ends s inc (c.piece t ∷ [])) (c.ends s inc (c.piece last ∷ []))
+            (ap (λ (i : ℕ). c.ends s inc (c.piece i ∷ [])) e);
       }
   window_but_last (suc n) t u last v s inc at_last at_v some lt small actual_is taken un parts =
       let inc' : Incoming = after_piece ps inc t (inc.unacknowledged + 1) in
@@ -92,14 +103,16 @@ module _ (S : Type 0) (shop : Shop S) (x : Rules) (now number : ℕ) (key : Key)
       let room = sizes.room in
       let len = pieces_length c.piece (t + 1) (suc n) in
       let one = c.keeps s inc inc' t xs (omega arith) e in
-      let ih = window_but_last n (t + 1) (u + 1) last v s inc' (omega arith) (omega arith) (omega arith) lt small actual_is (taken_next ps inc t (inc.unacknowledged + 1) taken) (omega arith) (parts_next ps inc t (inc.unacknowledged + 1) (omega arith) parts) in
+      let ih = window_but_last n (t + 1) (u + 1) last v s inc' (omega arith) (omega arith) (omega arith) lt small actual_is
+      (taken_next ps inc t (inc.unacknowledged + 1) taken) (omega arith) (parts_next ps inc t (inc.unacknowledged + 1) (omega arith) parts) in
       record {
         inc = ih.inc;
         actual_is = ih.actual_is;
         taken = ih.taken;
         unacknowledged = ih.unacknowledged;
         parts = ih.parts;
-        reaches = within_then S shop x now number key 1 n (suc n) (c.ends s inc (pieces_from c.piece t (suc (suc n)))) (c.ends s inc' xs) (c.ends s ih.inc (c.piece last ∷ [])) (omega arith) one ih.reaches;
+        reaches = within_then S shop x now number key 1 n (suc n) (c.ends s inc (pieces_from c.piece t (suc (suc n)))) (c.ends s inc' xs)
+            (c.ends s ih.inc (c.piece last ∷ [])) (omega arith) one ih.reaches;
       }
 
   -- of all pieces the last alone is left
@@ -123,24 +136,39 @@ module _ (S : Type 0) (shop : Shop S) (x : Rules) (now number : ℕ) (key : Key)
       let e = acknowledged_last actual own s.out p (omega arith) h.behind h.full in
       let first = c.moves s inc (p % 256) out' h.pieces e (not_finished out' (omega arith)) in
       let count : in_window out' ≡ suc n = omega arith in
-      let w = window_but_last n (p + 1) 0 (p + 1 + n) n (moved s out') inc refl (omega arith) (omega arith) (omega arith) (omega arith) h.actual_is h.taken h.acknowledged h.parts in
+      let w = window_but_last n (p + 1) 0 (p + 1 + n) n (moved s out') inc refl (omega arith) (omega arith) (omega arith)
+      (omega arith) h.actual_is h.taken h.acknowledged h.parts in
       record {
         inc = w.inc;
         actual_is = w.actual_is;
         taken = w.taken;
         unacknowledged = w.unacknowledged;
         parts = w.parts;
-        reaches = within_then S shop x now number key 1 n (n + 1) (c.ends s inc (c.ack (p % 256) ∷ [])) (c.ends (moved s out') inc (pieces_from c.piece (p + 1) (suc n))) (c.ends (moved s out') w.inc (c.piece (p + 1 + n) ∷ [])) (omega arith)
-            (subst (λ (k : ℕ). Within S shop x now number key 1 (c.ends s inc (c.ack (p % 256) ∷ [])) (c.ends (moved s out') inc (pieces_from c.piece (p + 1) k))) count first) w.reaches;
+        reaches = within_then S shop x now number key 1 n (n + 1) (c.ends s inc (c.ack (p % 256) ∷ []))
+            (c.ends (moved s out') inc (pieces_from c.piece (p + 1) (suc n))) (c.ends (moved s out') w.inc (c.piece (p + 1 + n) ∷ [])) (omega arith)
+            (subst (λ (k : ℕ). Within S shop x now number key 1 (c.ends s inc (c.ack (p % 256) ∷ []))
+            (c.ends (moved s out') inc (pieces_from c.piece (p + 1) k))) count first) w.reaches;
       }
 
-  before_last : (s : Sender) (inc : Incoming) (p n : ℕ) → IsTaken actual ps s inc p → min actual (length ps - (p + 1)) ≡ suc n → (w : LastOfWindow (c.ends s inc (c.ack (p % 256) ∷ [])) (n + 1) (moved s (next_window actual own s.out p)) (p + 1 + n) n)
+  before_last : (s : Sender) (inc : Incoming) (p n : ℕ) → IsTaken actual ps s inc p → min actual (length ps - (p + 1)) ≡ suc n
+      → (w : LastOfWindow (c.ends s inc (c.ack (p % 256) ∷ [])) (n + 1) (moved s (next_window actual own s.out p)) (p + 1 + n) n)
       → IsBefore actual ps (moved s (next_window actual own s.out p)) w.inc (p + 1 + n)
   before_last s inc p n h is w =
       let within = sizes.within in
       let len : length s.out.pieces ≡ length ps = ap length h.pieces in
       let un = w.unacknowledged in
-      record { pieces = h.pieces; window = omega arith; actual_is = w.actual_is; behind = omega arith; full = omega arith; some = omega arith; taken = w.taken; unacknowledged = omega arith; parts = w.parts }
+      record {
+        pieces = h.pieces;
+        window = omega arith;
+        actual_is = w.actual_is;
+        behind = omega arith;
+        full = omega arith;
+        some = omega arith;
+        taken =
+            w.taken;
+        unacknowledged = omega arith;
+        parts = w.parts;
+      }
 
   -- the window's last piece is delivered, and others follow
   pub record Acked (from : Duo S) (s : Sender) (p : ℕ) : Type 0 where
@@ -161,12 +189,23 @@ module _ (S : Type 0) (shop : Shop S) (x : Rules) (now number : ℕ) (key : Key)
       let e = takes_one ps inc p lt sizes.few sizes.short h.taken h.parts true fills in
       record {
         inc = after_piece ps inc p 0;
-        taken = record { pieces = h.pieces; window = omega arith; actual_is = h.actual_is; behind = h.behind; full = h.full; taken = taken_next ps inc p 0 h.taken; acknowledged = refl; parts = parts_next ps inc p 0 (omega arith) h.parts };
+        taken = record {
+          pieces = h.pieces;
+          window = omega arith;
+          actual_is = h.actual_is;
+          behind = h.behind;
+          full = h.full;
+          taken =
+              taken_next ps inc p 0 h.taken;
+          acknowledged = refl;
+          parts = parts_next ps inc p 0 (omega arith) h.parts;
+        };
         reaches = c.acks s inc (after_piece ps inc p 0) p h.actual_is e;
       }
 
   abbrev AllButLast : (fuel : ℕ) → Type 0
-  AllButLast fuel = (s : Sender) (inc : Incoming) (p most : ℕ) → IsTaken actual ps s inc p → p + 1 < length ps → length ps ≤ p + 1 + fuel → 2 * (length ps - (p + 1)) ≤ most + 1 → LastOfAll (c.ends s inc (c.ack (p % 256) ∷ [])) most
+  AllButLast fuel = (s : Sender) (inc : Incoming) (p most : ℕ) → IsTaken actual ps s inc p → p + 1 < length ps → length ps ≤ p + 1 + fuel
+      → 2 * (length ps - (p + 1)) ≤ most + 1 → LastOfAll (c.ends s inc (c.ack (p % 256) ∷ [])) most
 
   -- one window, and the rest by what is known of it
   window_then : (fuel : ℕ) → AllButLast fuel → AllButLast (suc fuel)
@@ -178,14 +217,18 @@ module _ (S : Type 0) (shop : Shop S) (x : Rules) (now number : ℕ) (key : Key)
       from : Duo S
       from = c.ends s inc (c.ack (p % 256) ∷ [])
 
-      split : (n : ℕ) → min actual (length ps - (p + 1)) ≡ suc n → LastOfWindow from (n + 1) (moved s out') (p + 1 + n) n → (b : Bool) → nat_lt (p + 1 + n + 1) (length ps) ≡ b → LastOfAll from most
+      split : (n : ℕ) → min actual (length ps - (p + 1)) ≡ suc n → LastOfWindow from (n + 1) (moved s out') (p + 1 + n) n → (b : Bool)
+          → nat_lt (p + 1 + n + 1) (length ps) ≡ b → LastOfAll from most
       split n is w false e = record {
         s = moved s out';
         inc = w.inc;
         p = p + 1 + n;
         last = grind (arith, nat_tests);
         before = before_last s inc p n h is w;
-        reaches = within_then S shop x now number key (n + 1) 0 most from (c.ends (moved s out') w.inc (c.piece (p + 1 + n) ∷ [])) (c.ends (moved s out') w.inc (c.piece (p + 1 + n) ∷ [])) (omega arith) w.reaches (no_step S shop x now number key (c.ends (moved s out') w.inc (c.piece (p + 1 + n) ∷ [])) (c.ends (moved s out') w.inc (c.piece (p + 1 + n) ∷ [])) refl);
+        reaches = within_then S shop x now number key (n + 1) 0 most from (c.ends (moved s out') w.inc (c.piece (p + 1 + n) ∷ []))
+            (c.ends (moved s out') w.inc (c.piece (p + 1 + n) ∷ [])) (omega arith) w.reaches
+            (no_step S shop x now number key (c.ends (moved s out') w.inc (c.piece (p + 1 + n) ∷ []))
+            (c.ends (moved s out') w.inc (c.piece (p + 1 + n) ∷ [])) refl);
       }
       split n is w true e =
           let more : p + 1 + n + 1 < length ps = grind (arith, nat_tests) in
@@ -200,7 +243,8 @@ module _ (S : Type 0) (shop : Shop S) (x : Rules) (now number : ℕ) (key : Key)
             p = z.p;
             last = z.last;
             before = z.before;
-            reaches = within_then S shop x now number key (n + 2) (2 * (length ps - (p + 1 + n + 1)) - 1) most from ack end (omega arith) (within_then S shop x now number key (n + 1) 1 (n + 2) from piece ack (omega arith) w.reaches a.reaches) z.reaches;
+            reaches = within_then S shop x now number key (n + 2) (2 * (length ps - (p + 1 + n + 1)) - 1) most from ack end (omega arith)
+                (within_then S shop x now number key (n + 1) 1 (n + 2) from piece ack (omega arith) w.reaches a.reaches) z.reaches;
           }
 
       go : (k : ℕ) → min actual (length ps - (p + 1)) ≡ k → LastOfAll from most

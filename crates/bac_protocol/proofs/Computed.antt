@@ -1,6 +1,8 @@
 -- The example runs are computed.
 use Rattle.std.proofs.Common.{refl}
-use Rattle.bac_protocol.specs.Examples.{FourCopies, LostAnswer, LastMoment, TooLate, NothingDelivered, HeldLong, NoSlot, OldCopy, OlderCopy, Unreadable, LostAck, OutOfOrder, InTime, OutOfTime, LaterPass, StoppedReply, Sizes, OddAcks, OtherAnswers, KeptReply, DroppedEntry}
+use Rattle.bac_protocol.specs.Examples.{FourCopies, LostAnswer, LastMoment, TooLate, NothingDelivered, HeldLong, NoSlot, OldCopy, OlderCopy}
+use Rattle.bac_protocol.specs.Examples.{Unreadable, LostAck, OutOfOrder, InTime, OutOfTime, LaterPass, StoppedReply, Sizes, OddAcks, OtherAnswers}
+use Rattle.bac_protocol.specs.Examples.{KeptReply, DroppedEntry}
 
 pub four_copies : FourCopies
 four_copies = refl

@@ -16,7 +16,12 @@ pub record IsSameReaction (now : ℕ) (v u : Reaction) : Type 0 where
   pub effect : v.effect ≡ u.effect
 
 pub same_of : (now : ℕ) (v u : Reaction) → v ≡ u → IsSameReaction now v u
-same_of now v u e = record { entry = ap (λ (x : Reaction). live_part now x.entry) e; sends = ap (λ (x : Reaction). x.sends) e; effect = ap (λ (x : Reaction). x.effect) e }
+same_of now v u e = record {
+  entry = ap (λ (x : Reaction). live_part now x.entry) e;
+  sends = ap (λ (x : Reaction). x.sends) e;
+  effect = ap
+      (λ (x : Reaction). x.effect) e;
+}
 
 pub same_then : (now : ℕ) (v u t : Reaction) → IsSameReaction now v u → IsSameReaction now u t → IsSameReaction now v t
 same_then now v u t a b = record { entry = a.entry ∙ b.entry; sends = a.sends ∙ b.sends; effect = a.effect ∙ b.effect }
@@ -28,24 +33,30 @@ module _ (c : Settings) (id now : ℕ) (service : Service) where
   dead_is : (e : Entry) → is_live now e ≡ false → live_part now (Some e) ≡ None
   dead_is e is = ap (λ b. if b then Some e else None) is
 
-  segment_same : (e : Entry) → is_live now e ≡ false → (free : Bool) (terms : Terms) (g : Segment) (octets : Octets) → IsSameReaction now (server.new_segment c id now service (Some e) free terms g octets) (server.new_segment c id now service None free terms g octets)
+  segment_same : (e : Entry) → is_live now e ≡ false → (free : Bool) (terms : Terms) (g : Segment) (octets : Octets)
+      → IsSameReaction now (server.new_segment c id now service (Some e) free terms g octets) (server.new_segment c id now service None free terms g octets)
   segment_same e is free terms g octets = go (nat_eq g.number 0) free
     where
       first : Reaction
-      first = server.receives c id now service (server.begins now terms None) g.number (incoming c.window g.window).window (takes (incoming c.window g.window) g.number g.more octets)
+      first = server.receives c id now service (server.begins now terms None) g.number (incoming c.window g.window).window
+          (takes (incoming c.window g.window) g.number g.more octets)
 
-      go : (b d : Bool) → IsSameReaction now (if not b then server.rests (Some e) [] else if d then first else server.rests (Some e) (server.abort_0 id ∷ [])) (if not b then server.rests None [] else if d then first else server.rests None (server.abort_0 id ∷ []))
+      go : (b d : Bool) → IsSameReaction now (if not b then server.rests (Some e) [] else if d then first else server.rests (Some e)
+          (server.abort_0 id ∷ [])) (if not b then server.rests None [] else if d then first else server.rests None (server.abort_0 id ∷ []))
       go true true = record { entry = refl; sends = refl; effect = refl }
       go true false = record { entry = dead_is e is; sends = refl; effect = refl }
       go false d = record { entry = dead_is e is; sends = refl; effect = refl }
 
-  new_same : (e : Entry) → is_live now e ≡ false → (free : Bool) (a : Apdu) → IsSameReaction now (server.new_gets c id now service (Some e) free a) (server.new_gets c id now service None free a)
+  new_same : (e : Entry) → is_live now e ≡ false → (free : Bool) (a : Apdu)
+      → IsSameReaction now (server.new_gets c id now service (Some e) free a) (server.new_gets c id now service None free a)
   new_same e is true (ConfirmedRequest sa ms ma i None choice octets) = record { entry = refl; sends = refl; effect = refl }
   new_same e is false (ConfirmedRequest sa ms ma i None choice octets) = record { entry = dead_is e is; sends = refl; effect = refl }
-  new_same e is free (ConfirmedRequest sa ms ma i (Some g) choice octets) = segment_same e is free (record { choice = choice; takes_segments = sa; max_segments = ms; max_apdu = ma }) g octets
+  new_same e is free (ConfirmedRequest sa ms ma i (Some g) choice octets) = segment_same e is free
+      (record { choice = choice; takes_segments = sa; max_segments = ms; max_apdu = ma }) g octets
   new_same e is free _ = record { entry = dead_is e is; sends = refl; effect = refl }
 
-  pub gets_same : (o : Option Entry) (free : Bool) (a : Apdu) → IsSameReaction now (server.server_gets c id now service o free a) (server.server_gets c id now service (live_part now o) free a)
+  pub gets_same : (o : Option Entry) (free : Bool) (a : Apdu)
+      → IsSameReaction now (server.server_gets c id now service o free a) (server.server_gets c id now service (live_part now o) free a)
   gets_same None free a = record { entry = refl; sends = refl; effect = refl }
   gets_same (Some e) free a = go (is_live now e) refl
     where

@@ -1,5 +1,6 @@
 -- The world follows the two ends: the copies that are not yet delivered are the newest of its list.
-use Rattle.std.proofs.Common.{◌≡◌, ℕ, zero, suc, ◌+◌, ◌-◌, ◌<◌, ◌≤◌, ◌⊎◌, Bool, true, false, ◌&&◌, List, [], ◌∷◌, ◌++◌, map, length, Option, Some, None, slice_get, if◌then◌else◌, nat_le, refl, sym, ap, subst, inl, inr, ◌∙◌, arith, append_assoc, length-append}
+use Rattle.std.proofs.Common.{◌≡◌, ℕ, zero, suc, ◌+◌, ◌-◌, ◌<◌, ◌≤◌, ◌⊎◌, Bool, true, false, ◌&&◌, List, [], ◌∷◌, ◌++◌, map, length, Option, Some}
+use Rattle.std.proofs.Common.{None, slice_get, if◌then◌else◌, nat_le, refl, sym, ap, subst, inl, inr, ◌∙◌, arith, append_assoc, length-append}
 use Rattle.std.proofs.lemmas.Bool.Decides.{nat_tests}
 use Rattle.bac_apdu.specs.Apdu.{Apdu}
 use Rattle.bac_protocol.specs.Times.{LIFE}
@@ -32,7 +33,8 @@ at_length (q ∷ old) p more = at_length old p more
 
 all_own : (key : Key) (now : ℕ) (xs : List Apdu) → count_of key (posts_of key now xs) ≡ length xs
 all_own key now [] = refl
-all_own key now (x ∷ xs) = ap (λ b. if b then suc (count_of key (posts_of key now xs)) else count_of key (posts_of key now xs)) (same_key_self key) ∙ ap suc (all_own key now xs)
+all_own key now (x ∷ xs) = ap (λ b. if b then suc (count_of key (posts_of key now xs)) else count_of key (posts_of key now xs)) (same_key_self key)
+    ∙ ap suc (all_own key now xs)
 
 later_own : (key : Key) (now : ℕ) (old : List Post) (p : Post) (xs : List Apdu) → later key (length old) (old ++ p ∷ posts_of key now xs) ≡ length xs
 later_own key now [] p xs = all_own key now xs
@@ -59,7 +61,19 @@ module _ (S : Type 0) (shop : Shop S) (x : Rules) (now number : ℕ) (key : Key)
     pub moment : w.net.now ≡ now
 
   pub like_shows : (u v : World S) (q : Duo S) (first : ℕ) → IsLike S key u v → Shows v q first → Shows u q first
-  like_shows u v q first e h = record { ticket = e.ticket ∙ h.ticket; entry = e.entry ∙ h.entry; number_is = e.number ∙ h.number_is; old = h.old; posts = e.posts ∙ h.posts; count = h.count; stores = e.stores ∙ h.stores; log = e.log ∙ h.log; moment = e.moment ∙ h.moment }
+  like_shows u v q first e h = record {
+    ticket = e.ticket ∙ h.ticket;
+    entry = e.entry ∙ h.entry;
+    number_is = e.number
+        ∙ h.number_is;
+    old = h.old;
+    posts = e.posts ∙ h.posts;
+    count = h.count;
+    stores = e.stores ∙ h.stores;
+    log = e.log ∙ h.log;
+    moment = e.moment
+        ∙ h.moment;
+  }
 
   -- the oldest copy that is left is p, and then xs
   module _ (w : World S) (q : Duo S) (first : ℕ) (h : Shows w q first) (xs : List Apdu) (a : Apdu) (is : q.pending ≡ a ∷ xs) where
@@ -122,12 +136,15 @@ module _ (S : Type 0) (shop : Shop S) (x : Rules) (now number : ℕ) (key : Key)
     room_same free (Some e) (inr live) = go (is_live now e) live
       where
         go : (b : Bool) → (if b then false else true) ≡ false
-            → (if b then server.live_gets (x.settings key.server) key.id now (shop.outcome (q.stores key.server)) e e.state a else server.new_gets (x.settings key.server) key.id now (shop.outcome (q.stores key.server)) (Some e) free a)
-            ≡ (if b then server.live_gets (x.settings key.server) key.id now (shop.outcome (q.stores key.server)) e e.state a else server.new_gets (x.settings key.server) key.id now (shop.outcome (q.stores key.server)) (Some e) true a)
+            → (if b then server.live_gets (x.settings key.server) key.id now (shop.outcome (q.stores key.server)) e e.state a else server.new_gets
+            (x.settings key.server) key.id now (shop.outcome (q.stores key.server)) (Some e) free a)
+            ≡ (if b then server.live_gets (x.settings key.server) key.id now (shop.outcome (q.stores key.server)) e e.state a else server.new_gets
+            (x.settings key.server) key.id now (shop.outcome (q.stores key.server)) (Some e) true a)
         go true h = refl
         go false h = absurd cc
 
-    service_same : (free : Bool) → IsRoom free q.entry → IsSameReaction now (serving w.net.now w.stores (w.net.entries key) free) (serving now q.stores q.entry true)
+    service_same : (free : Bool) → IsRoom free q.entry
+        → IsSameReaction now (serving w.net.now w.stores (w.net.entries key) free) (serving now q.stores q.entry true)
     service_same free room =
         let o = w.net.entries key in
         let by : Option Entry → server.Reaction = λ y. serving now q.stores y free in
@@ -138,8 +155,10 @@ module _ (S : Type 0) (shop : Shop S) (x : Rules) (now number : ℕ) (key : Key)
         let service = shop.outcome (q.stores key.server) in
         same_then now from (by o) to (same_of now from (by o) (λ i. serving (h.moment i) (h.stores i) o free))
         (same_then now (by o) (by (live_entry now o)) to (gets_same d key.id now service o free a)
-        (same_then now (by (live_entry now o)) (by (live_entry now q.entry)) to (same_of now (by (live_entry now o)) (by (live_entry now q.entry)) (ap by live))
-        (same_then now (by (live_entry now q.entry)) (by q.entry) to (same_back now (by q.entry) (by (live_entry now q.entry)) (gets_same d key.id now service q.entry free a))
+        (same_then now (by (live_entry now o)) (by (live_entry now q.entry)) to
+        (same_of now (by (live_entry now o)) (by (live_entry now q.entry)) (ap by live))
+        (same_then now (by (live_entry now q.entry)) (by q.entry) to
+        (same_back now (by q.entry) (by (live_entry now q.entry)) (gets_same d key.id now service q.entry free a))
         (same_of now (by q.entry) to (room_same free q.entry room)))))
 
     abbrev acts : Bool → Bool → World S
@@ -149,7 +168,8 @@ module _ (S : Type 0) (shop : Shop S) (x : Rules) (now number : ℕ) (key : Key)
     steps up = if up then served S shop x now number key q xs (serving now q.stores q.entry true) else reacted S shop x now number key q xs (reacting now)
 
     acts_shows : (free : Bool) → IsRoom free q.entry → (up : Bool) → Shows (acts free up) (steps up) (suc first)
-    acts_shows free room true = serves_shows (serving w.net.now w.stores (w.net.entries key) free) (serving now q.stores q.entry true) (service_same free room)
+    acts_shows free room true = serves_shows (serving w.net.now w.stores (w.net.entries key) free) (serving now q.stores q.entry true)
+        (service_same free room)
     acts_shows free room false =
         subst (λ (o : Option Ticket). Shows (takes_at_client S x w key a o) (reacted S shop x now number key q xs (reacting now)) (suc first)) (sym h.ticket)
         (reacts_shows (reacting w.net.now) (reacting now) (λ i. reacting (h.moment i)))
@@ -170,8 +190,10 @@ module _ (S : Type 0) (shop : Shop S) (x : Rules) (now number : ℕ) (key : Key)
         ∙ ap (λ b. if b && nat_le (length xs) x.overtake then acts free (is_from_client a) else w) young
         ∙ ap (λ b. if b then acts free (is_from_client a) else w) few
 
-    step_shows : (free : Bool) → length xs ≤ x.overtake → IsRoom free q.entry → Shows (delivers w first free) (step S shop x now number key q xs a) (suc first)
-    step_shows free le room = subst (λ (v : World S). Shows v (step S shop x now number key q xs a) (suc first)) (sym (delivers_is free le)) (acts_shows free room (is_from_client a))
+    step_shows : (free : Bool) → length xs ≤ x.overtake → IsRoom free q.entry
+        → Shows (delivers w first free) (step S shop x now number key q xs a) (suc first)
+    step_shows free le room = subst (λ (v : World S). Shows v (step S shop x now number key q xs a) (suc first)) (sym (delivers_is free le))
+        (acts_shows free room (is_from_client a))
 
     copy_left : first < length w.net.posts
     copy_left =
@@ -182,9 +204,12 @@ module _ (S : Type 0) (shop : Shop S) (x : Rules) (now number : ℕ) (key : Key)
   still_open : (w : World S) (q : Duo S) (first : ℕ) → Shows w q first → is_ended (w.net.tickets key) ≡ is_over q.ticket.phase
   still_open w q first h = ap is_ended h.ticket
 
-  not_stopped : (w u : World S) (q : Duo S) (first : ℕ) (xs : List Apdu) (a : Apdu) → Shows w q first → q.pending ≡ a ∷ xs → is_over q.ticket.phase ≡ false → w ≡ u → Stops S key (first + 0) u → ⊥
-  not_stopped w u q first xs a h is going same (inl e) = let f : is_ended (w.net.tickets key) ≡ true = ap (λ (v : World S). is_ended (v.net.tickets key)) same ∙ e in let g = still_open w q first h in cc
-  not_stopped w u q first xs a h is going same (inr le) = let f : length w.net.posts ≡ length u.net.posts = ap (λ (v : World S). length v.net.posts) same in let g = copy_left w q first h xs a is in omega arith
+  not_stopped : (w u : World S) (q : Duo S) (first : ℕ) (xs : List Apdu) (a : Apdu) → Shows w q first → q.pending ≡ a ∷ xs → is_over q.ticket.phase ≡ false
+      → w ≡ u → Stops S key (first + 0) u → ⊥
+  not_stopped w u q first xs a h is going same (inl e) = let f : is_ended (w.net.tickets key) ≡ true = ap
+      (λ (v : World S). is_ended (v.net.tickets key)) same ∙ e in let g = still_open w q first h in cc
+  not_stopped w u q first xs a h is going same (inr le) = let f : length w.net.posts ≡ length u.net.posts = ap
+      (λ (v : World S). length v.net.posts) same in let g = copy_left w q first h xs a is in omega arith
 
   -- so many deliveries were made, and then the world shows that
   pub record Ran (j count first : ℕ) (u : World S) (q : Duo S) : Type 0 where
@@ -201,21 +226,35 @@ module _ (S : Type 0) (shop : Shop S) (x : Rules) (now number : ℕ) (key : Key)
   stops_at a b u e h = subst (λ (n : ℕ). Stops S key n u) e h
 
   module _ (Step : Steps S) (machine : IsMachine S shop x key Step) where
-    went : (w u : World S) (q : Duo S) (first : ℕ) (xs : List Apdu) (a : Apdu) (free : Bool) → Step w (Deliver first free) u → Shows w q first → q.pending ≡ a ∷ xs → length xs ≤ x.overtake → ((free ≡ true) ⊎ (is_none_live now q.entry ≡ false)) → Shows u (step S shop x now number key q xs a) (suc first)
-    went w u q first xs a free goes h is le room = like_shows u (delivers w first free) (step S shop x now number key q xs a) (suc first) (machine w (Deliver first free) u goes) (step_shows w q first h xs a is free le room)
+    went : (w u : World S) (q : Duo S) (first : ℕ) (xs : List Apdu) (a : Apdu) (free : Bool) → Step w (Deliver first free) u → Shows w q first
+        → q.pending ≡ a ∷ xs → length xs ≤ x.overtake → ((free ≡ true) ⊎ (is_none_live now q.entry ≡ false))
+        → Shows u (step S shop x now number key q xs a) (suc first)
+    went w u q first xs a free goes h is le room = like_shows u (delivers w first free) (step S shop x now number key q xs a) (suc first)
+        (machine w (Deliver first free) u goes) (step_shows w q first h xs a is free le room)
 
     -- each straight run goes as the two ends do
-    run_follows : (count j first : ℕ) (w u : World S) (p q : Duo S) → Leads S shop x now number key count p q → is_over q.ticket.phase ≡ true → Shows w p first → Straight S Step key false j first w u → Stops S key (first + j) u → Ran j count first u q
-    run_follows zero zero first w u p q h over s run stops = record { counts = refl; shows = shows_at first (first + 0) u q (omega arith) (subst (λ (v : World S). Shows v q first) run (subst (λ (d : Duo S). Shows w d first) h s)) }
-    run_follows zero (suc j) first w u p q h over s run stops = let e : is_over p.ticket.phase ≡ true = ap (λ (d : Duo S). is_over d.ticket.phase) h ∙ over in let f = still_open w p first s in let g = run.2 in absurd cc
+    run_follows : (count j first : ℕ) (w u : World S) (p q : Duo S) → Leads S shop x now number key count p q → is_over q.ticket.phase ≡ true
+        → Shows w p first → Straight S Step key false j first w u → Stops S key (first + j) u → Ran j count first u q
+    run_follows zero zero first w u p q h over s run stops =
+        record {
+          counts = refl;
+          shows = shows_at first (first + 0) u q (omega arith)
+              (subst (λ (v : World S). Shows v q first) run (subst (λ (d : Duo S). Shows w d first) h s));
+        }
+    run_follows zero (suc j) first w u p q h over s run stops = let e : is_over p.ticket.phase ≡ true = ap (λ (d : Duo S). is_over d.ticket.phase) h
+        ∙ over in let f = still_open w p first s in let g = run.2 in absurd cc
     run_follows (suc count) zero first w u p q h over s run stops = absurd (not_stopped w u p first h.0 h.1 s h.2 h.4 run stops)
     run_follows (suc count) (suc j) first w u p q h over s run stops =
-        ran_suc j count first u q (run_follows count j (suc first) run.4 u (step S shop x now number key p h.0 h.1) q h.6 over (went w run.4 p first h.0 h.1 run.0 run.5 s h.2 h.3 (inr h.5)) run.6 (stops_at (first + suc j) (suc first + j) u (omega arith) stops))
+        ran_suc j count first u q (run_follows count j (suc first) run.4 u (step S shop x now number key p h.0 h.1) q h.6 over
+        (went w run.4 p first h.0 h.1 run.0 run.5 s h.2 h.3 (inr h.5)) run.6 (stops_at (first + suc j) (suc first + j) u (omega arith) stops))
 
-    pub start_follows : (most j first : ℕ) (w u : World S) (p q : Duo S) → (h : Starts S shop x now number key most p q) → is_over q.ticket.phase ≡ true → Shows w p first → Straight S Step key true j first w u → Stops S key (first + j) u → Ran j (suc h.count) first u q
+    pub start_follows : (most j first : ℕ) (w u : World S) (p q : Duo S) → (h : Starts S shop x now number key most p q) → is_over q.ticket.phase ≡ true
+        → Shows w p first → Straight S Step key true j first w u → Stops S key (first + j) u → Ran j (suc h.count) first u q
     start_follows most zero first w u p q h over s run stops = absurd (not_stopped w u p first h.xs h.a s h.is h.going run stops)
     start_follows most (suc j) first w u p q h over s run stops =
-        ran_suc j h.count first u q (run_follows h.count j (suc first) run.4 u (step S shop x now number key p h.xs h.a) q h.leads over (went w run.4 p first h.xs h.a run.0 run.5 s h.is h.few (inl (run.1 refl))) run.6 (stops_at (first + suc j) (suc first + j) u (omega arith) stops))
+        ran_suc j h.count first u q (run_follows h.count j (suc first) run.4 u (step S shop x now number key p h.xs h.a) q h.leads over
+        (went w run.4 p first h.xs h.a run.0 run.5 s h.is h.few (inl (run.1 refl))) run.6
+        (stops_at (first + suc j) (suc first + j) u (omega arith) stops))
 
   abbrev exact : Steps S
   exact w e v = v ≡ happens S shop x w e
@@ -227,14 +266,31 @@ module _ (S : Type 0) (shop : Shop S) (x : Rules) (now number : ℕ) (key : Key)
     pub shows : Shows new q (first + count)
 
   follows : (count first : ℕ) (w : World S) (p q : Duo S) → Leads S shop x now number key count p q → Shows w p first → Follows false count first w q
-  follows zero first w p q h s = record { new = w; run = refl; shows = shows_at first (first + 0) w q (omega arith) (subst (λ (d : Duo S). Shows w d first) h s) }
+  follows zero first w p q h s = record {
+    new = w;
+    run = refl;
+    shows = shows_at first (first + 0) w q (omega arith)
+        (subst (λ (d : Duo S). Shows w d first) h s);
+  }
   follows (suc count) first w p q h s =
       let u = delivers w first true in
       let f = follows count (suc first) u (step S shop x now number key p h.0 h.1) q h.6 (step_shows w p first s h.0 h.1 h.2 true h.3 (inl refl)) in
-      record { new = f.new; run = (true, λ e. refl, still_open w p first s ∙ h.4, copy_left w p first s h.0 h.1 h.2, u, refl, f.run); shows = shows_at (suc first + count) (first + suc count) f.new q (omega arith) f.shows }
+      record {
+        new = f.new;
+        run = (true, λ e. refl, still_open w p first s ∙ h.4, copy_left w p first s h.0 h.1 h.2, u, refl, f.run);
+        shows = shows_at
+            (suc first + count) (first + suc count) f.new q (omega arith) f.shows;
+      }
 
-  pub follows_start : (most first : ℕ) (w : World S) (p q : Duo S) → (h : Starts S shop x now number key most p q) → Shows w p first → Follows true (suc h.count) first w q
+  pub follows_start : (most first : ℕ) (w : World S) (p q : Duo S) → (h : Starts S shop x now number key most p q) → Shows w p first
+      → Follows true (suc h.count) first w q
   follows_start most first w p q h s =
       let u = delivers w first true in
-      let f = follows h.count (suc first) u (step S shop x now number key p h.xs h.a) q h.leads (step_shows w p first s h.xs h.a h.is true h.few (inl refl)) in
-      record { new = f.new; run = (true, λ e. refl, still_open w p first s ∙ h.going, copy_left w p first s h.xs h.a h.is, u, refl, f.run); shows = shows_at (suc first + h.count) (first + suc h.count) f.new q (omega arith) f.shows }
+      let f = follows h.count (suc first) u (step S shop x now number key p h.xs h.a) q h.leads
+      (step_shows w p first s h.xs h.a h.is true h.few (inl refl)) in
+      record {
+        new = f.new;
+        run = (true, λ e. refl, still_open w p first s ∙ h.going, copy_left w p first s h.xs h.a h.is, u, refl, f.run);
+        shows =
+            shows_at (suc first + h.count) (first + suc h.count) f.new q (omega arith) f.shows;
+      }

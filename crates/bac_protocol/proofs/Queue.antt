@@ -20,10 +20,24 @@ pub record Duo (S : Type 0) : Type 0 where
 
 module _ (S : Type 0) (shop : Shop S) (x : Rules) (now number : ℕ) (key : Key) where
   abbrev pub reacted : Duo S → List Apdu → client.Reaction → Duo S
-  reacted q xs r = record { ticket = client.after now q.ticket r; entry = q.entry; pending = xs ++ client.sends_of r; stores = q.stores; log = ended number (client.ending_of r) q.log }
+  reacted q xs r = record {
+    ticket = client.after now q.ticket r;
+    entry = q.entry;
+    pending = xs ++ client.sends_of r;
+    stores = q.stores;
+    log = ended number
+        (client.ending_of r) q.log;
+  }
 
   abbrev pub served : Duo S → List Apdu → server.Reaction → Duo S
-  served q xs v = record { ticket = q.ticket; entry = v.entry; pending = xs ++ v.sends; stores = stored S shop key.server v.effect q.stores; log = performed number v.effect q.log }
+  served q xs v = record {
+    ticket = q.ticket;
+    entry = v.entry;
+    pending = xs ++ v.sends;
+    stores = stored S shop key.server v.effect q.stores;
+    log =
+        performed number v.effect q.log;
+  }
 
   abbrev pub client_reaction : Ticket → Apdu → client.Reaction
   client_reaction t a = client.client_gets (x.settings key.client) x.readable key.id now t a
@@ -37,7 +51,8 @@ module _ (S : Type 0) (shop : Shop S) (x : Rules) (now number : ℕ) (key : Key)
 
   abbrev pub Leads : ℕ → Duo S → Duo S → Type 0
   Leads zero p q = p ≡ q
-  Leads (suc n) p q = (xs : List Apdu) × (a : Apdu) × (p.pending ≡ a ∷ xs) × (length xs ≤ x.overtake) × (is_over p.ticket.phase ≡ false) × (is_none_live now p.entry ≡ false) × Leads n (step p xs a) q
+  Leads (suc n) p q = (xs : List Apdu) × (a : Apdu) × (p.pending ≡ a ∷ xs) × (length xs ≤ x.overtake) × (is_over p.ticket.phase ≡ false)
+      × (is_none_live now p.entry ≡ false) × Leads n (step p xs a) q
 
   pub leads_then : (m n : ℕ) (p q r : Duo S) → Leads m p q → Leads n q r → Leads (m + n) p r
   leads_then zero n p q r h k = rw zero-add (subst (λ (d : Duo S). Leads n d r) (sym h) k)
@@ -50,9 +65,11 @@ module _ (S : Type 0) (shop : Shop S) (x : Rules) (now number : ℕ) (key : Key)
     pub leads : Leads count p q
 
   pub within_then : (a b c : ℕ) (p q r : Duo S) → a + b ≤ c → Within a p q → Within b q r → Within c p r
-  within_then a b c p q r le h k = let i = h.most_is in let j = k.most_is in record { count = h.count + k.count; most_is = omega arith; leads = leads_then h.count k.count p q r h.leads k.leads }
+  within_then a b c p q r le h k = let i = h.most_is in let j =
+      k.most_is in record { count = h.count + k.count; most_is = omega arith; leads = leads_then h.count k.count p q r h.leads k.leads }
 
-  pub one_step : (p q : Duo S) (xs : List Apdu) (a : Apdu) → p.pending ≡ a ∷ xs → length xs ≤ x.overtake → is_over p.ticket.phase ≡ false → is_none_live now p.entry ≡ false → step p xs a ≡ q → Within 1 p q
+  pub one_step : (p q : Duo S) (xs : List Apdu) (a : Apdu) → p.pending ≡ a ∷ xs → length xs ≤ x.overtake → is_over p.ticket.phase ≡ false
+      → is_none_live now p.entry ≡ false → step p xs a ≡ q → Within 1 p q
   one_step p q xs a e le going live is = record { count = 1; most_is = omega arith; leads = (xs, a, e, le, going, live, is) }
 
   pub no_step : (p q : Duo S) → p ≡ q → Within 0 p q
@@ -73,7 +90,18 @@ module _ (S : Type 0) (shop : Shop S) (x : Rules) (now number : ℕ) (key : Key)
   starts_then a b c p q r le h k =
       let i = h.most_is in
       let j = k.most_is in
-      record { xs = h.xs; a = h.a; is = h.is; few = h.few; going = h.going; count = h.count + k.count; most_is = omega arith; leads = leads_then h.count k.count (step p h.xs h.a) q r h.leads k.leads }
+      record {
+        xs = h.xs;
+        a = h.a;
+        is = h.is;
+        few = h.few;
+        going = h.going;
+        count = h.count + k.count;
+        most_is = omega arith;
+        leads =
+            leads_then h.count k.count (step p h.xs h.a) q r h.leads k.leads;
+      }
 
-  pub first_step : (p q : Duo S) (xs : List Apdu) (a : Apdu) → p.pending ≡ a ∷ xs → length xs ≤ x.overtake → is_over p.ticket.phase ≡ false → step p xs a ≡ q → Starts 1 p q
+  pub first_step : (p q : Duo S) (xs : List Apdu) (a : Apdu) → p.pending ≡ a ∷ xs → length xs ≤ x.overtake → is_over p.ticket.phase ≡ false
+      → step p xs a ≡ q → Starts 1 p q
   first_step p q xs a e le going is = record { xs = xs; a = a; is = e; few = le; going = going; count = 0; most_is = omega arith; leads = is }

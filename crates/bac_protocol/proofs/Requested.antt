@@ -1,5 +1,6 @@
 -- The request of a straight run reaches the server whole, and is performed.
-use Rattle.std.proofs.Common.{◌≡◌, ℕ, ◌+◌, ◌-◌, ◌*◌, ◌%◌, ◌<◌, ◌≤◌, min, Bool, true, false, ◌||◌, not, List, [], ◌∷◌, ◌++◌, length, get_or, Option, Some, None, if◌then◌else◌, nat_lt, nat_le, append-nil, refl, ap, ◌∙◌, arith}
+use Rattle.std.proofs.Common.{◌≡◌, ℕ, ◌+◌, ◌-◌, ◌*◌, ◌%◌, ◌<◌, ◌≤◌, min, Bool, true, false, ◌||◌, not, List, [], ◌∷◌, ◌++◌, length, get_or, Option}
+use Rattle.std.proofs.Common.{Some, None, if◌then◌else◌, nat_lt, nat_le, append-nil, refl, ap, ◌∙◌, arith}
 use Rattle.std.proofs.lemmas.Bool.Decides.{nat_tests}
 use Rattle.bac_apdu.specs.Apdu.{Apdu}
 use Rattle.bac_apdu.specs.Apdu.Apdu.{Abort}
@@ -69,19 +70,28 @@ module _ (d : Settings) (id now choice : ℕ) (p : Reply) where
   first_sent (Unsendable reason) = Abort true id reason
 
   abbrev pub gives_as : Entry → List Apdu → Octets → Way → server.Reaction
-  gives_as e acks octets way = record { entry = Some (record e { state = kept_state way }); sends = acks ++ first_sent way ∷ []; effect = server.effect_of e octets p }
+  gives_as e acks octets way = record {
+    entry = Some (record e { state = kept_state way });
+    sends = acks ++ first_sent way ∷ [];
+    effect =
+        server.effect_of e octets p;
+  }
 
-gives_is : (d : Settings) (id now : ℕ) (p : Reply) (e : Entry) (acks : List Apdu) (octets : Octets) (way : Way) → WayFits way → server.gives d id now e acks octets p way ≡ gives_as d id now e.terms.choice p e acks octets way
+gives_is : (d : Settings) (id now : ℕ) (p : Reply) (e : Entry) (acks : List Apdu) (octets : Octets) (way : Way) → WayFits way
+    → server.gives d id now e acks octets p way ≡ gives_as d id now e.terms.choice p e acks octets way
 gives_is d id now p e acks octets AtOnce h = refl
 gives_is d id now p e acks octets (InPieces ps) h = refl
 gives_is d id now p e acks octets (Unsendable reason) h = absurd h
 
 -- no entry is live
-pub server_new : (d : Settings) (id now : ℕ) (service : Service) (o : Option Entry) (a : Apdu) → is_none_live now o ≡ true → server.server_gets d id now service o true a ≡ server.new_gets d id now service o true a
+pub server_new : (d : Settings) (id now : ℕ) (service : Service) (o : Option Entry) (a : Apdu) → is_none_live now o ≡ true
+    → server.server_gets d id now service o true a ≡ server.new_gets d id now service o true a
 server_new d id now service None a h = refl
 server_new d id now service (Some e) a h = go (is_live now e) h
   where
-    go : (b : Bool) → (if b then false else true) ≡ true → (if b then server.live_gets d id now service e e.state a else server.new_gets d id now service (Some e) true a) ≡ server.new_gets d id now service (Some e) true a
+    go : (b : Bool) → (if b then false else true) ≡ true
+        → (if b then server.live_gets d id now service e e.state a else server.new_gets d id now service (Some e) true a) ≡ server.new_gets d id now
+        service (Some e) true a
     go true h = absurd cc
     go false h = refl
 
@@ -131,36 +141,47 @@ module _ (S : Type 0) (shop : Shop S) (x : Rules) (now number : ℕ) (key : Key)
   Leads1 p q = Within S shop x now number key 1 p q
 
   server_takes : (inc : Incoming) (t : ℕ) (y : Taking) → takes inc (t % 256) (nat_lt (t + 1) n) (get_or ask.pieces t []) ≡ y
-      → server.server_gets d key.id now service (Some (receiving inc)) true (piece t) ≡ server.receives d key.id now service (receiving inc) (t % 256) inc.window y
+      → server.server_gets d key.id now service (Some (receiving inc)) true (piece t) ≡ server.receives d key.id now service (receiving inc)
+      (t % 256) inc.window y
   server_takes inc t y is =
       let e = receiving inc in
-      ap (λ b. if b then server.live_gets d key.id now service e (Receiving inc now) (piece t) else server.new_gets d key.id now service (Some e) true (piece t)) (is_alive now)
-      ∙ ap (λ b. if b then server.becomes e Dropped (server.abort_0 key.id ∷ []) else server.receives d key.id now service e (t % 256) inc.window (takes inc (t % 256) (nat_lt (t + 1) n) (get_or ask.pieces t []))) (is_waiting now)
+      ap (λ b. if b then server.live_gets d key.id now service e (Receiving inc now) (piece t) else server.new_gets d key.id now service (Some e) true
+      (piece t)) (is_alive now)
+      ∙ ap (λ b. if b then server.becomes e Dropped (server.abort_0 key.id ∷ []) else server.receives d key.id now service e (t % 256) inc.window
+      (takes inc (t % 256) (nat_lt (t + 1) n) (get_or ask.pieces t []))) (is_waiting now)
       ∙ ap (λ (z : Taking). server.receives d key.id now service e (t % 256) inc.window z) is
 
-  request_acks : (s : Sender) (inc inc' : Incoming) (t : ℕ) → inc.window ≡ actual → takes inc (t % 256) (nat_lt (t + 1) n) (get_or ask.pieces t []) ≡ Taken true inc' → Leads1 (requesting s inc (piece t ∷ [])) (requesting s inc' (ack (t % 256) ∷ []))
+  request_acks : (s : Sender) (inc inc' : Incoming) (t : ℕ) → inc.window ≡ actual
+      → takes inc (t % 256) (nat_lt (t + 1) n) (get_or ask.pieces t []) ≡ Taken true inc'
+      → Leads1 (requesting s inc (piece t ∷ [])) (requesting s inc' (ack (t % 256) ∷ []))
   request_acks s inc inc' t is e =
       let from = requesting s inc (piece t ∷ []) in
       one_step S shop x now number key from (requesting s inc' (ack (t % 256) ∷ [])) [] (piece t) refl (omega arith) refl (is_begun now (receiving inc) refl)
       (ap (λ (v : server.Reaction). served S shop x now number key from [] v) (server_takes inc t (Taken true inc') e)
       ∙ ap (λ (i : ℕ). requesting s inc' (server.server_ack false key.id (t % 256) i ∷ [])) is)
 
-  request_keeps : (s : Sender) (inc inc' : Incoming) (t : ℕ) (xs : List Apdu) → length xs ≤ x.overtake → takes inc (t % 256) (nat_lt (t + 1) n) (get_or ask.pieces t []) ≡ Taken false inc' → Leads1 (requesting s inc (piece t ∷ xs)) (requesting s inc' xs)
+  request_keeps : (s : Sender) (inc inc' : Incoming) (t : ℕ) (xs : List Apdu) → length xs ≤ x.overtake
+      → takes inc (t % 256) (nat_lt (t + 1) n) (get_or ask.pieces t []) ≡ Taken false inc' → Leads1 (requesting s inc (piece t ∷ xs)) (requesting s inc' xs)
   request_keeps s inc inc' t xs le e =
       let from = requesting s inc (piece t ∷ xs) in
       one_step S shop x now number key from (requesting s inc' xs) xs (piece t) refl le refl (is_begun now (receiving inc) refl)
       (ap (λ (v : server.Reaction). served S shop x now number key from xs v) (server_takes inc t (Taken false inc') e)
       ∙ ap (λ (ys : List Apdu). requesting s inc' ys) (append-nil xs))
 
-  client_moves : (s : Sender) (i : ℕ) (y : Option Outgoing) → acknowledged c.window s.out i actual ≡ y → client.client_gets c x.readable key.id now (sending s) (ack i) ≡ client.moves c key.id ask.choice s.all_sent y
-  client_moves s i y is = client_open x key now (sending s) (ack i) first refl refl ∙ ap (λ (z : Option Outgoing). client.moves c key.id ask.choice s.all_sent z) is
+  client_moves : (s : Sender) (i : ℕ) (y : Option Outgoing) → acknowledged c.window s.out i actual ≡ y
+      → client.client_gets c x.readable key.id now (sending s) (ack i) ≡ client.moves c key.id ask.choice s.all_sent y
+  client_moves s i y is = client_open x key now (sending s) (ack i) first refl refl
+      ∙ ap (λ (z : Option Outgoing). client.moves c key.id ask.choice s.all_sent z) is
 
-  request_moves : (s : Sender) (inc : Incoming) (i : ℕ) (out : Outgoing) → out.pieces ≡ ask.pieces → acknowledged c.window s.out i actual ≡ Some out → is_finished out ≡ false
+  request_moves : (s : Sender) (inc : Incoming) (i : ℕ) (out : Outgoing) → out.pieces ≡ ask.pieces → acknowledged c.window s.out i actual ≡ Some out
+      → is_finished out ≡ false
       → Leads1 (requesting s inc (ack i ∷ [])) (requesting (moved s out) inc (pieces_from piece out.first (in_window out)))
   request_moves s inc i out same is going =
       let from = requesting s inc (ack i ∷ []) in
-      one_step S shop x now number key from (requesting (moved s out) inc (pieces_from piece out.first (in_window out))) [] (ack i) refl (omega arith) refl (is_begun now (receiving inc) refl)
-      (ap (λ (r : client.Reaction). reacted S shop x now number key from [] r) (client_moves s i (Some out) is ∙ ap (λ b. if b then GoesOn Awaiting [] else client.sends_window c key.id ask.choice out s.all_sent) going)
+      one_step S shop x now number key from (requesting (moved s out) inc (pieces_from piece out.first (in_window out))) [] (ack i) refl (omega arith) refl
+      (is_begun now (receiving inc) refl)
+      (ap (λ (r : client.Reaction). reacted S shop x now number key from [] r)
+      (client_moves s i (Some out) is ∙ ap (λ b. if b then GoesOn Awaiting [] else client.sends_window c key.id ask.choice out s.all_sent) going)
       ∙ ap (λ (ps : List Octets). requesting (moved s out) inc (pieces_from (client.request_piece c key.id ask.choice ps) out.first (in_window out))) same)
 
   carries_request : Carries S shop x now number key actual c.window ask.pieces
@@ -185,7 +206,14 @@ module _ (S : Type 0) (shop : Shop S) (x : Rules) (now number : ℕ) (key : Key)
 
     -- the request was performed, and these copies are left
     abbrev pub performed : Ticket → Option Octets → List Apdu → Duo S
-    performed t kept pending = record { ticket = t; entry = Some (begun kept (kept_state d key.id now ask.choice p way)); pending = pending; stores = stores_after; log = log_after }
+    performed t kept pending = record {
+      ticket = t;
+      entry = Some (begun kept (kept_state d key.id now ask.choice p way));
+      pending = pending;
+      stores =
+          stores_after;
+      log = log_after;
+    }
 
     abbrev awaiting : Ticket
     awaiting = in_phase Awaiting
@@ -194,7 +222,9 @@ module _ (S : Type 0) (shop : Shop S) (x : Rules) (now number : ℕ) (key : Key)
     abbrev pub asking : Phase → Option Entry → Apdu → Duo S
     asking phase o a = record { ticket = in_phase phase; entry = o; pending = a ∷ []; stores = stores; log = log }
 
-    performs_is : (kept : Option Octets) (state : State) (acks : List Apdu) → server.performs d key.id now service (begun kept state) acks (join ask.pieces) ≡ gives_as d key.id now ask.choice p (begun kept state) acks (join ask.pieces) way
+    performs_is : (kept : Option Octets) (state : State) (acks : List Apdu)
+        → server.performs d key.id now service (begun kept state) acks (join ask.pieces) ≡ gives_as d key.id now ask.choice p (begun kept state) acks
+        (join ask.pieces) way
     performs_is kept state acks =
         ap (λ (o : Outcome). server.performs_so d key.id now (begun kept state) acks (join ask.pieces) o) outcome_is
         ∙ gives_is d key.id now p (begun kept state) acks (join ask.pieces) way fits
@@ -205,22 +235,28 @@ module _ (S : Type 0) (shop : Shop S) (x : Rules) (now number : ℕ) (key : Key)
         → step S shop x now number key (asking phase o a) [] a ≡ performed (in_phase phase) kept (acks ++ sent_first ∷ [])
     performs_now phase o kept state a acks up is =
         let from : Duo S = asking phase o a in
-        ap (λ b. if b then served S shop x now number key from [] (server.server_gets d key.id now service o true a) else reacted S shop x now number key from [] (client.client_gets c x.readable key.id now (in_phase phase) a)) up
+        ap (λ b. if b then served S shop x now number key from [] (server.server_gets d key.id now service o true a)
+        else reacted S shop x now number key from [] (client.client_gets c x.readable key.id now (in_phase phase) a)) up
         ∙ ap (λ (v : server.Reaction). served S shop x now number key from [] v) (is ∙ performs_is kept state acks)
 
     -- the acknowledgement of the last piece is delivered
-    last_acked : (s : Sender) (i : ℕ) → 1 ≤ x.overtake → in_window s.out ≤ 256 → s.out.pieces ≡ ask.pieces → s.out.first ≤ i → i + 1 ≡ s.out.first + in_window s.out → i + 1 ≡ n
+    last_acked : (s : Sender) (i : ℕ) → 1 ≤ x.overtake → in_window s.out ≤ 256 → s.out.pieces ≡ ask.pieces → s.out.first ≤ i
+        → i + 1 ≡ s.out.first + in_window s.out → i + 1 ≡ n
         → Leads1 (performed (sending s) None (ack (i % 256) ∷ sent_first ∷ [])) (performed awaiting None (sent_first ∷ []))
     last_acked s i room small same le full last =
         let from = performed (sending s) None (ack (i % 256) ∷ sent_first ∷ []) in
         let e = acknowledged_last actual c.window s.out i small le full in
         let len : length s.out.pieces ≡ n = ap length same in
         let f = finished (next_window actual c.window s.out i) (omega arith) in
-        one_step S shop x now number key from (performed awaiting None (sent_first ∷ [])) (sent_first ∷ []) (ack (i % 256)) refl (omega arith) refl (is_begun now (begun None (kept_state d key.id now ask.choice p way)) refl)
-        (ap (λ (r : client.Reaction). reacted S shop x now number key from (sent_first ∷ []) r) (client_moves s (i % 256) (Some (next_window actual c.window s.out i)) e
+        one_step S shop x now number key from (performed awaiting None (sent_first ∷ [])) (sent_first ∷ []) (ack (i % 256)) refl (omega arith) refl
+        (is_begun now (begun None (kept_state d key.id now ask.choice p way)) refl)
+        (ap (λ (r : client.Reaction). reacted S shop x now number key from (sent_first ∷ []) r)
+        (client_moves s (i % 256) (Some (next_window actual c.window s.out i)) e
         ∙ ap (λ b. if b then GoesOn Awaiting [] else client.sends_window c key.id ask.choice (next_window actual c.window s.out i) s.all_sent) f))
 
-    pub whole_read : (o : Option Entry) → is_none_live now o ≡ true → Starts S shop x now number key 1 (asking Awaiting o (client.request_apdu c key.id ask)) (performed awaiting (Some (join ask.pieces)) (sent_first ∷ []))
+    pub whole_read : (o : Option Entry) → is_none_live now o ≡ true
+        → Starts S shop x now number key 1 (asking Awaiting o (client.request_apdu c key.id ask))
+        (performed awaiting (Some (join ask.pieces)) (sent_first ∷ []))
     whole_read o dead =
         let a = client.request_apdu c key.id ask in
         first_step S shop x now number key (asking Awaiting o a) (performed awaiting (Some (join ask.pieces)) (sent_first ∷ [])) [] a refl (omega arith) refl
@@ -234,7 +270,8 @@ module _ (S : Type 0) (shop : Shop S) (x : Rules) (now number : ℕ) (key : Key)
 
     first_taken : (o : Option Entry) (y : Taking) → is_none_live now o ≡ true → takes empty (0 % 256) (nat_lt (0 + 1) n) (get_or ask.pieces 0 []) ≡ y
         → server.server_gets d key.id now service o true (piece 0) ≡ server.receives d key.id now service (begun None Dropped) 0 actual y
-    first_taken o y dead e = server_new d key.id now service o (piece 0) dead ∙ ap (λ (z : Taking). server.receives d key.id now service (begun None Dropped) 0 actual z) e
+    first_taken o y dead e = server_new d key.id now service o (piece 0) dead
+        ∙ ap (λ (z : Taking). server.receives d key.id now service (begun None Dropped) 0 actual z) e
 
     abbrev end : Duo S
     end = performed awaiting None (sent_first ∷ [])
@@ -243,7 +280,8 @@ module _ (S : Type 0) (shop : Shop S) (x : Rules) (now number : ℕ) (key : Key)
     from_start o = asking (Sending start.out start.all_sent) o (piece 0)
 
     -- a request of one piece
-    one_piece : (o : Option Entry) → is_none_live now o ≡ true → Fitting x.overtake actual c.window ask.pieces → 0 + 1 ≡ n → Starts S shop x now number key (2 * n) (from_start o) end
+    one_piece : (o : Option Entry) → is_none_live now o ≡ true → Fitting x.overtake actual c.window ask.pieces → 0 + 1 ≡ n
+        → Starts S shop x now number key (2 * n) (from_start o) end
     one_piece o dead sizes one =
         let some = sizes.some in
         let small = sizes.small in
@@ -257,7 +295,8 @@ module _ (S : Type 0) (shop : Shop S) (x : Rules) (now number : ℕ) (key : Key)
         (last_acked start 0 (omega arith) (omega arith) refl (omega arith) (omega arith) one)
 
     -- a request of more
-    more_pieces : (o : Option Entry) → is_none_live now o ≡ true → Fitting x.overtake actual c.window ask.pieces → 0 + 1 < n → Starts S shop x now number key (2 * n) (from_start o) end
+    more_pieces : (o : Option Entry) → is_none_live now o ≡ true → Fitting x.overtake actual c.window ask.pieces → 0 + 1 < n
+        → Starts S shop x now number key (2 * n) (from_start o) end
     unfolding carries_request
     more_pieces o dead sizes more =
         let some = sizes.some in
@@ -266,16 +305,29 @@ module _ (S : Type 0) (shop : Shop S) (x : Rules) (now number : ℕ) (key : Key)
         let inc = after_piece ask.pieces empty 0 0 in
         let e = takes_one ask.pieces empty 0 more sizes.few sizes.short refl refl true refl in
         let acked = requesting start inc (ack 0 ∷ []) in
-        let one = first_step S shop x now number key (from_start o) acked [] (piece 0) refl (omega arith) refl (ap (λ (v : server.Reaction). served S shop x now number key (from_start o) [] v) (first_taken o (Taken true inc) dead e)) in
-        let taken : IsTaken actual ask.pieces start inc 0 = record { pieces = refl; window = omega arith; actual_is = refl; behind = omega arith; full = omega arith; taken = taken_next ask.pieces empty 0 0 refl; acknowledged = refl; parts = parts_next ask.pieces empty 0 0 (omega arith) refl } in
-        let z = all_but_last S shop x now number key actual c.window ask.pieces sizes carries_request n start inc 0 (2 * n - 3) taken more (omega arith) (omega arith) in
+        let one = first_step S shop x now number key (from_start o) acked [] (piece 0) refl (omega arith) refl
+        (ap (λ (v : server.Reaction). served S shop x now number key (from_start o) [] v) (first_taken o (Taken true inc) dead e)) in
+        let taken : IsTaken actual ask.pieces start inc 0 =
+        record {
+          pieces = refl;
+          window = omega arith;
+          actual_is = refl;
+          behind = omega arith;
+          full = omega arith;
+          taken =
+              taken_next ask.pieces empty 0 0 refl;
+          acknowledged = refl;
+          parts = parts_next ask.pieces empty 0 0 (omega arith) refl;
+        } in
+        let z = all_but_last S shop x now number key actual c.window ask.pieces sizes carries_request n start inc 0 (2 * n - 3) taken more (omega arith)
+        (omega arith) in
         let b = z.before in
         let len : length z.s.out.pieces ≡ n = ap length b.pieces in
         let last = z.last in
         let full = b.full in
         let win = b.window in
         let f = server_takes z.inc z.p (Complete ask.pieces) (takes_last ask.pieces z.inc z.p z.last sizes.few sizes.short b.taken b.parts)
-            ∙ ap (λ (i : ℕ). server.receives d key.id now service (receiving z.inc) (z.p % 256) i (Complete ask.pieces)) b.actual_is in
+        ∙ ap (λ (i : ℕ). server.receives d key.id now service (receiving z.inc) (z.p % 256) i (Complete ask.pieces)) b.actual_is in
         let before = requesting z.s z.inc (piece z.p ∷ []) in
         let done = performed (sending z.s) None (ack (z.p % 256) ∷ sent_first ∷ []) in
         starts_then S shop x now number key 1 (2 * n - 1) (2 * n) (from_start o) acked end (omega arith) one
@@ -285,7 +337,8 @@ module _ (S : Type 0) (shop : Shop S) (x : Rules) (now number : ℕ) (key : Key)
         (performs_now (Sending z.s.out z.s.all_sent) (Some (receiving z.inc)) None (Receiving z.inc now) (piece z.p) (ack (z.p % 256) ∷ []) refl f))
         (last_acked z.s z.p (omega arith) (omega arith) b.pieces b.behind b.full z.last)))
 
-    pub pieces_read : (o : Option Entry) → is_none_live now o ≡ true → 0 < n → Fitting x.overtake actual c.window ask.pieces → Starts S shop x now number key (2 * n) (from_start o) end
+    pub pieces_read : (o : Option Entry) → is_none_live now o ≡ true → 0 < n → Fitting x.overtake actual c.window ask.pieces
+        → Starts S shop x now number key (2 * n) (from_start o) end
     pieces_read o dead any sizes = go (nat_lt 1 n) refl
       where
         go : (b : Bool) → nat_lt 1 n ≡ b → Starts S shop x now number key (2 * n) (from_start o) end

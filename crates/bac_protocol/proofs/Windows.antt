@@ -1,5 +1,6 @@
 -- A transfer in pieces where nothing is lost: each window is taken in order and acknowledged once.
-use Rattle.std.proofs.Common.{◌≡◌, ℕ, zero, suc, ◌+◌, ◌%◌, ◌<◌, ◌≤◌, min, Bool, true, false, List, [], ◌∷◌, ◌++◌, length, get_or, take, Option, Some, None, if◌then◌else◌, nat_lt, nat_eq, refl, sym, ap, ◌∙◌, arith, length-append, append_assoc, append-nil}
+use Rattle.std.proofs.Common.{◌≡◌, ℕ, zero, suc, ◌+◌, ◌%◌, ◌<◌, ◌≤◌, min, Bool, true, false, List, [], ◌∷◌, ◌++◌, length, get_or, take, Option, Some}
+use Rattle.std.proofs.Common.{None, if◌then◌else◌, nat_lt, nat_eq, refl, sym, ap, ◌∙◌, arith, length-append, append_assoc, append-nil}
 use Rattle.std.proofs.lemmas.Bool.Decides.{nat_tests}
 use Rattle.std.proofs.lemmas.List.{take_more, take_all}
 use Rattle.bac_segment.specs.Limits.{RETRIES, DATA}
@@ -38,10 +39,12 @@ pub parts_next : (ps : List Octets) (inc : Incoming) (t u : ℕ) → t < length 
 parts_next ps inc t u lt parts = ap (λ (xs : List Octets). xs ++ get_or ps t [] ∷ []) parts ∙ sym (take_more ps t [] lt)
 
 -- the next piece fits
-not_long : (ps : List Octets) (inc : Incoming) (t : ℕ) → t < length ps → length ps ≤ DATA → length (join ps) ≤ DATA → length inc.parts ≡ t → inc.parts ≡ take t ps → is_too_long inc (get_or ps t []) ≡ false
+not_long : (ps : List Octets) (inc : Incoming) (t : ℕ) → t < length ps → length ps ≤ DATA → length (join ps) ≤ DATA → length inc.parts ≡ t
+    → inc.parts ≡ take t ps → is_too_long inc (get_or ps t []) ≡ false
 not_long ps inc t lt few short is parts =
     let a : length (join inc.parts) ≡ length (join (take t ps)) = ap (λ (xs : List Octets). length (join xs)) parts in
-    let b : length (join (take (t + 1) ps)) ≡ length (join (take t ps ++ get_or ps t [] ∷ [])) = ap (λ (xs : List Octets). length (join xs)) (take_more ps t [] lt) in
+    let b : length (join (take (t + 1) ps)) ≡ length (join (take t ps ++ get_or ps t [] ∷ [])) = ap (λ (xs : List Octets). length (join xs))
+    (take_more ps t [] lt) in
     let c = ap length (join_push (take t ps) (get_or ps t [])) in
     let d = length-append (join (take t ps)) (get_or ps t []) in
     let e = join_front ps (t + 1) in
@@ -51,16 +54,21 @@ not_long ps inc t lt few short is parts =
 
 abbrev takes_if : Incoming → Octets → (expected long more full : Bool) → Taking
 takes_if inc octets expected long more full =
-    if expected then (if long then TooLong else (if more then (if full then Taken true (with_piece inc octets 0) else Taken false (with_piece inc octets (inc.unacknowledged + 1))) else Complete (inc.parts ++ octets ∷ []))) else Nak (record inc { unacknowledged = 0 })
+    if expected then (if long then TooLong else (if more then
+    (if full then Taken true (with_piece inc octets 0) else Taken false (with_piece inc octets (inc.unacknowledged + 1))) else Complete
+    (inc.parts ++ octets ∷ []))) else Nak (record inc { unacknowledged = 0 })
 
-takes_is : (inc : Incoming) (number : ℕ) (more : Bool) (octets : Octets) → takes inc number more octets ≡ takes_if inc octets (is_expected inc number) (is_too_long inc octets) more (is_acknowledged inc)
+takes_is : (inc : Incoming) (number : ℕ) (more : Bool) (octets : Octets)
+    → takes inc number more octets ≡ takes_if inc octets (is_expected inc number) (is_too_long inc octets) more (is_acknowledged inc)
 takes_is inc number true octets = refl
 takes_is inc number false octets = refl
 
 -- the piece is taken, and others follow: acknowledged where it is the first or fills the window
-pub takes_one : (ps : List Octets) (inc : Incoming) (t : ℕ) → t + 1 < length ps → length ps ≤ DATA → length (join ps) ≤ DATA → length inc.parts ≡ t → inc.parts ≡ take t ps
+pub takes_one : (ps : List Octets) (inc : Incoming) (t : ℕ) → t + 1 < length ps → length ps ≤ DATA → length (join ps) ≤ DATA → length inc.parts ≡ t
+    → inc.parts ≡ take t ps
     → (full : Bool) → is_acknowledged inc ≡ full
-    → takes inc (t % 256) (nat_lt (t + 1) (length ps)) (get_or ps t []) ≡ (if full then Taken true (after_piece ps inc t 0) else Taken false (after_piece ps inc t (inc.unacknowledged + 1)))
+    → takes inc (t % 256) (nat_lt (t + 1) (length ps)) (get_or ps t []) ≡
+    (if full then Taken true (after_piece ps inc t 0) else Taken false (after_piece ps inc t (inc.unacknowledged + 1)))
 takes_one ps inc t lt few short is parts full fills =
     let a : nat_eq (t % 256) (length inc.parts % 256) ≡ true = grind (arith, nat_tests) in
     let b : nat_lt (t + 1) (length ps) ≡ true = grind (arith, nat_tests) in
@@ -69,7 +77,8 @@ takes_one ps inc t lt few short is parts full fills =
     ∙ λ i. takes_if inc (get_or ps t []) (a i) (c i) (b i) (fills i)
 
 -- the last piece is taken
-pub takes_last : (ps : List Octets) (inc : Incoming) (t : ℕ) → t + 1 ≡ length ps → length ps ≤ DATA → length (join ps) ≤ DATA → length inc.parts ≡ t → inc.parts ≡ take t ps
+pub takes_last : (ps : List Octets) (inc : Incoming) (t : ℕ) → t + 1 ≡ length ps → length ps ≤ DATA → length (join ps) ≤ DATA → length inc.parts ≡ t
+    → inc.parts ≡ take t ps
     → takes inc (t % 256) (nat_lt (t + 1) (length ps)) (get_or ps t []) ≡ Complete ps
 takes_last ps inc t last few short is parts =
     let a : nat_eq (t % 256) (length inc.parts % 256) ≡ true = grind (arith, nat_tests) in
@@ -89,11 +98,13 @@ next_window actual own out p = record out { first = p + 1; window = min actual o
 test_true : (b : Bool) (A : Type 0) (x y : A) → b ≡ true → (if b then x else y) ≡ x
 test_true b A x y e = ap (λ c. if c then x else y) e
 
-pub acknowledged_last : (actual own : ℕ) (out : Outgoing) (p : ℕ) → in_window out ≤ 256 → out.first ≤ p → p + 1 ≡ out.first + in_window out → acknowledged own out (p % 256) actual ≡ Some (next_window actual own out p)
+pub acknowledged_last : (actual own : ℕ) (out : Outgoing) (p : ℕ) → in_window out ≤ 256 → out.first ≤ p → p + 1 ≡ out.first + in_window out
+    → acknowledged own out (p % 256) actual ≡ Some (next_window actual own out p)
 acknowledged_last actual own out p small le e =
     let is = ahead_is p out.first le (omega arith) in
     let lt : nat_lt (ahead (p % 256) out.first) (in_window out) ≡ true = grind (arith, nat_tests) in
-    test_true (nat_lt (ahead (p % 256) out.first) (in_window out)) (Option Outgoing) (Some (record out { first = out.first + ahead (p % 256) out.first + 1; window = min actual own; retries = RETRIES })) None lt
+    test_true (nat_lt (ahead (p % 256) out.first) (in_window out)) (Option Outgoing)
+    (Some (record out { first = out.first + ahead (p % 256) out.first + 1; window = min actual own; retries = RETRIES })) None lt
     ∙ ap (λ (n : ℕ). Some (record out { first = n + 1; window = min actual own; retries = RETRIES })) is
 
 pub not_finished : (out : Outgoing) → out.first < length out.pieces → is_finished out ≡ false

@@ -33,7 +33,12 @@ seen w = record { sent = map apdu_of w.net.posts; log = w.net.log; effects = w.s
 
 -- all nodes propose that window, take replies in segments without limit, and have APDUs of 50 octets
 abbrev pub rules : ℕ → Rules
-rules window = record { settings = λ node. record { window = window; takes_segments = true; max_segments = 7; max_apdu = 0 }; readable = λ choice octets. true; overtake = 128 }
+rules window = record {
+  settings = λ node. record { window = window; takes_segments = true; max_segments = 7; max_apdu = 0 };
+  readable =
+      λ choice octets. true;
+  overtake = 128;
+}
 
 -- each request is answered so
 abbrev pub shop : Reply → Shop ℕ
@@ -94,11 +99,13 @@ LostAnswer =
 
 -- a first tick at 60,000 sends the request again
 abbrev pub LastMoment : Type 0
-LastMoment = shows 32 position (ask_append ∷ Advance 60000 ∷ tick ∷ []) ≡ record { sent = append_apdu ∷ append_apdu ∷ []; log = asked append ∷ []; effects = 0 }
+LastMoment = shows 32 position (ask_append ∷ Advance 60000 ∷ tick ∷ []) ≡ record
+    { sent = append_apdu ∷ append_apdu ∷ []; log = asked append ∷ []; effects = 0 }
 
 -- at 60,001 the ticket is Expired, and nothing is sent
 abbrev pub TooLate : Type 0
-TooLate = shows 32 position (ask_append ∷ Advance 60001 ∷ tick ∷ []) ≡ record { sent = append_apdu ∷ []; log = Ended 0 Expired ∷ asked append ∷ []; effects = 0 }
+TooLate = shows 32 position (ask_append ∷ Advance 60001 ∷ tick ∷ []) ≡ record
+    { sent = append_apdu ∷ []; log = Ended 0 Expired ∷ asked append ∷ []; effects = 0 }
 
 -- with nothing delivered, ticks at 3,000, 6,000 and 9,000 repeat, and one at 12,000 ends the ticket
 abbrev pub NothingDelivered : Type 0
@@ -124,7 +131,8 @@ NoSlot =
 
 -- a copy that is 5,000 old arrives, one that is 5,001 old is lost
 abbrev pub OldCopy : Type 0
-OldCopy = shows 32 position (ask_append ∷ Advance 5000 ∷ Deliver 0 true ∷ []) ≡ record { sent = append_apdu ∷ position_apdu ∷ []; log = performed append position ∷ asked append ∷ []; effects = 1 }
+OldCopy = shows 32 position (ask_append ∷ Advance 5000 ∷ Deliver 0 true ∷ []) ≡ record
+    { sent = append_apdu ∷ position_apdu ∷ []; log = performed append position ∷ asked append ∷ []; effects = 1 }
 
 abbrev pub OlderCopy : Type 0
 OlderCopy = shows 32 position (ask_append ∷ Advance 5001 ∷ Deliver 0 true ∷ []) ≡ record { sent = append_apdu ∷ []; log = asked append ∷ []; effects = 0 }
@@ -132,7 +140,9 @@ OlderCopy = shows 32 position (ask_append ∷ Advance 5001 ∷ Deliver 0 true �
 -- an answer whose service data can't be read is answered by Abort 0
 abbrev pub Unreadable : Type 0
 Unreadable =
-    client_gets ((rules 32).settings 0) (λ choice octets. false) 0 0 (record { ask = record { first = 0; choice = 7; whole = true; pieces = append ∷ [] }; phase = Awaiting; repeats = 3; since = 0 }) (ComplexAck 0 None 7 (255 ∷ []))
+    client_gets ((rules 32).settings 0) (λ choice octets. false) 0 0
+    (record { ask = record { first = 0; choice = 7; whole = true; pieces = append ∷ [] }; phase = Awaiting; repeats = 3; since = 0 })
+    (ComplexAck 0 None 7 (255 ∷ []))
     ≡ Ends (Abort false 0 0 ∷ []) (Aborted 0)
 
 -- Requests in segments: three pieces.
@@ -171,7 +181,8 @@ ack_of nak number = SegmentAck nak true 0 number 32
 -- the answer and the last SegmentACK are lost; segments 1 and 2 are sent again, and answered by the kept reply
 abbrev pub LostAck : Type 0
 LostAck =
-    shows 32 position (ask_pieces ∷ Deliver 0 true ∷ Deliver 1 true ∷ Deliver 2 true ∷ Deliver 3 true ∷ Advance 2000 ∷ tick ∷ Deliver 6 true ∷ Deliver 8 true ∷ [])
+    shows 32 position (ask_pieces ∷ Deliver 0 true ∷ Deliver 1 true ∷ Deliver 2 true ∷ Deliver 3 true ∷ Advance 2000 ∷ tick ∷ Deliver 6 true ∷ Deliver 8
+    true ∷ [])
     ≡ record {
       sent = segment_0 ∷ ack_of false 0 ∷ segment_1 ∷ segment_2 ∷ ack_of false 2 ∷ position_apdu ∷ segment_1 ∷ segment_2 ∷ position_apdu ∷ [];
       log = Ended 0 (Answered position) ∷ performed whole position ∷ asked whole ∷ [];
@@ -181,9 +192,11 @@ LostAck =
 -- segments 2, 2, 1, 1 arrive in this order
 abbrev pub OutOfOrder : Type 0
 OutOfOrder =
-    shows 32 position (ask_pieces ∷ Deliver 0 true ∷ Deliver 1 true ∷ Deliver 3 true ∷ Deliver 3 true ∷ Deliver 2 true ∷ Deliver 2 true ∷ Deliver 4 true ∷ Deliver 5 true ∷ Deliver 6 true ∷ Deliver 7 true ∷ [])
+    shows 32 position (ask_pieces ∷ Deliver 0 true ∷ Deliver 1 true ∷ Deliver 3 true ∷ Deliver 3 true ∷ Deliver 2 true ∷ Deliver 2 true ∷ Deliver 4 true ∷
+    Deliver 5 true ∷ Deliver 6 true ∷ Deliver 7 true ∷ [])
     ≡ record {
-      sent = segment_0 ∷ ack_of false 0 ∷ segment_1 ∷ segment_2 ∷ ack_of true 0 ∷ ack_of true 0 ∷ ack_of true 1 ∷ segment_2 ∷ ack_of false 2 ∷ position_apdu ∷ [];
+      sent = segment_0 ∷ ack_of false 0 ∷ segment_1 ∷ segment_2 ∷ ack_of true 0 ∷ ack_of true 0 ∷ ack_of true 1 ∷ segment_2 ∷ ack_of false 2 ∷
+          position_apdu ∷ [];
       log = performed whole position ∷ asked whole ∷ [];
       effects = 1;
     }
@@ -201,7 +214,8 @@ InTime =
 -- .. or not
 abbrev pub OutOfTime : Type 0
 OutOfTime =
-    shows 32 position (ask_pieces ∷ Deliver 0 true ∷ Deliver 1 true ∷ Advance 6000 ∷ tick ∷ Advance 2000 ∷ Deliver 4 true ∷ Deliver 6 true ∷ Deliver 5 true ∷ [])
+    shows 32 position (ask_pieces ∷ Deliver 0 true ∷ Deliver 1 true ∷ Advance 6000 ∷ tick ∷ Advance 2000 ∷ Deliver 4 true ∷ Deliver 6 true ∷ Deliver 5
+    true ∷ [])
     ≡ record {
       sent = segment_0 ∷ ack_of false 0 ∷ segment_1 ∷ segment_2 ∷ segment_1 ∷ segment_2 ∷ Abort true 0 0 ∷ Abort true 0 0 ∷ [];
       log = Ended 0 (Aborted 0) ∷ asked whole ∷ [];
@@ -211,7 +225,8 @@ OutOfTime =
 -- everything is delivered but the answer: the request is sent again from segment 0 on, and answered by the kept reply
 abbrev pub LaterPass : Type 0
 LaterPass =
-    shows 32 position (ask_pieces ∷ Deliver 0 true ∷ Deliver 1 true ∷ Deliver 2 true ∷ Deliver 3 true ∷ Deliver 4 true ∷ Advance 3000 ∷ tick ∷ Deliver 6 true ∷ Deliver 7 true ∷ [])
+    shows 32 position (ask_pieces ∷ Deliver 0 true ∷ Deliver 1 true ∷ Deliver 2 true ∷ Deliver 3 true ∷ Deliver 4 true ∷ Advance 3000 ∷ tick ∷ Deliver 6
+    true ∷ Deliver 7 true ∷ [])
     ≡ record {
       sent = segment_0 ∷ ack_of false 0 ∷ segment_1 ∷ segment_2 ∷ ack_of false 2 ∷ position_apdu ∷ segment_0 ∷ position_apdu ∷ [];
       log = Ended 0 (Answered position) ∷ performed whole position ∷ asked whole ∷ [];
@@ -281,7 +296,8 @@ abbrev pub OddAcks : Type 0
 OddAcks =
     (hears sending (SegmentAck false true 0 1 32) ≡ Stays)
     × (hears sending (SegmentAck false true 0 255 32) ≡ Stays)
-    × (hears sending (SegmentAck false true 0 0 127) ≡ GoesOn (Sending (record { pieces = one ∷ two ∷ three ∷ []; first = 1; window = 32; retries = 3 }) true) (segment_1 ∷ segment_2 ∷ []))
+    × (hears sending (SegmentAck false true 0 0 127) ≡ GoesOn
+    (Sending (record { pieces = one ∷ two ∷ three ∷ []; first = 1; window = 32; retries = 3 }) true) (segment_1 ∷ segment_2 ∷ []))
 
 -- a ticket that waits for its answer
 abbrev pub awaiting : Ticket
@@ -302,7 +318,13 @@ serves now entry apdu = server_gets ((rules 32).settings 1) 0 now ((shop positio
 
 -- the entry of a request without SEG that was performed at 0
 abbrev pub done : Entry
-done = record { begin = 0; terms = record { choice = 7; takes_segments = true; max_segments = 7; max_apdu = 0 }; request = Some append; state = Done position_apdu }
+done = record {
+  begin = 0;
+  terms = record { choice = 7; takes_segments = true; max_segments = 7; max_apdu = 0 };
+  request = Some append;
+  state =
+      Done position_apdu;
+}
 
 -- while the entry is live the request gets the kept reply, and another choice, other data or a segment get Abort 0, without an effect;
 -- a moment later it is performed anew

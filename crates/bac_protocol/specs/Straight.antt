@@ -115,7 +115,8 @@ abbrev pub cost : (n m : ℕ) → ℕ
 cost n m = 2 * n + 2 * m
 
 -- the invoke ID is free, no entry is live, and the server's store would give that reply, which can reach the client
-pub record CanAsk (S : Type 0) (shop : Shop S) (x : Rules) (w : World S) (key : Key) (choice : ℕ) (whole : Bool) (pieces : List Octets) (reply : Reply) : Type 0 where
+pub record CanAsk (S : Type 0) (shop : Shop S) (x : Rules) (w : World S) (key : Key) (choice : ℕ) (whole : Bool) (pieces : List Octets)
+    (reply : Reply) : Type 0 where
   pub free : is_key_held w.net.now (w.net.tickets key) ≡ false
   pub dead : is_none_live w.net.now (w.net.entries key) ≡ true
   pub request : RequestFits whole pieces
@@ -124,8 +125,10 @@ pub record CanAsk (S : Type 0) (shop : Shop S) (x : Rules) (w : World S) (key : 
   pub way : WayFits (way_to x key choice reply)
 
 -- the ask was performed once, and its ticket ended with the reply
-pub record IsAnswered (S : Type 0) (shop : Shop S) (x : Rules) (key : Key) (request : Request) (reply : Reply) (n count : ℕ) (old new : World S) : Type 0 where
-  pub log : new.net.log ≡ Ended old.net.asks (Answered reply) ∷ Performed old.net.asks request reply ∷ Asked old.net.asks key.client key.server request ∷ old.net.log
+pub record IsAnswered (S : Type 0) (shop : Shop S) (x : Rules) (key : Key) (request : Request) (reply : Reply) (n count : ℕ)
+    (old new : World S) : Type 0 where
+  pub log : new.net.log ≡ Ended old.net.asks (Answered reply) ∷ Performed old.net.asks request reply ∷ Asked old.net.asks key.client key.server request ∷
+      old.net.log
   pub stores : (node : ℕ) → new.stores node ≡ (if nat_eq node key.server then shop.after (old.stores key.server) request else old.stores node)
   pub ended : is_ended (new.net.tickets key) ≡ true
   pub now : new.net.now ≡ old.net.now
@@ -149,8 +152,10 @@ StraightAnswers S shop x key Step =
 -- there is such a run
 abbrev pub StraightExists : (S : Type 0) → Shop S → Rules → Type 0
 StraightExists S shop x =
-    (w : World S) (key : Key) → AreStraight x key → (choice : ℕ) (whole : Bool) (front : Octets) (rest : List Octets) (reply : Reply) → CanAsk S shop x w key choice whole (front ∷ rest) reply
-    → (count : ℕ) × (v : World S) × Straight S (λ u e y. y ≡ happens S shop x u e) key true count (length w.net.posts) (happens S shop x w (MakeAsk key choice whole front rest)) v × (is_ended (v.net.tickets key) ≡ true)
+    (w : World S) (key : Key) → AreStraight x key → (choice : ℕ) (whole : Bool) (front : Octets) (rest : List Octets) (reply : Reply)
+    → CanAsk S shop x w key choice whole (front ∷ rest) reply
+    → (count : ℕ) × (v : World S) × Straight S (λ u e y. y ≡ happens S shop x u e) key true count (length w.net.posts)
+    (happens S shop x w (MakeAsk key choice whole front rest)) v × (is_ended (v.net.tickets key) ≡ true)
 
 -- in a world that was reached no entry is live for an invoke ID that is free
 abbrev pub NoneLive : (S : Type 0) → World S → Type 0

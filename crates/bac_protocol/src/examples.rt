@@ -1,35 +1,51 @@
 //! Runs that are computed: they show that the definitions do what the protocol's tables say, at the level of APDUs.
 
-ghost use Rattle.bac_protocol.specs.Examples.{FourCopies, LostAnswer, LastMoment, TooLate, NothingDelivered, HeldLong, NoSlot, OldCopy, OlderCopy, Unreadable, LostAck, OutOfOrder, InTime, OutOfTime, LaterPass, StoppedReply, Sizes, OddAcks, OtherAnswers, KeptReply, DroppedEntry};
+ghost use Rattle.bac_protocol.specs.Examples.{FourCopies, LostAnswer, Unreadable, NoSlot, OldCopy, OlderCopy, LastMoment, TooLate, NothingDelivered, HeldLong, LostAck};
+ghost use Rattle.bac_protocol.specs.Examples.{OutOfOrder, LaterPass, InTime, OutOfTime, StoppedReply, Sizes, OddAcks, OtherAnswers, KeptReply, DroppedEntry};
 
-/// Whole requests: repeats, answers, and what is lost.
-#[tactic(auto, using(crate::proofs::Computed::four_copies, crate::proofs::Computed::lost_answer, crate::proofs::Computed::no_slot, crate::proofs::Computed::old_copy, crate::proofs::Computed::older_copy, crate::proofs::Computed::unreadable))]
+/// Whole requests: a request that is delivered four times, a lost answer, and one that can't be read.
+#[tactic(auto, using(crate::proofs::Computed::four_copies, crate::proofs::Computed::lost_answer, crate::proofs::Computed::unreadable))]
 pub fn whole_requests()
     ensures four_copies { FourCopies }
     ensures lost_answer { LostAnswer }
-    ensures no_slot { NoSlot }
-    ensures old_copy { OldCopy }
-    ensures older_copy { OlderCopy }
     ensures unreadable { Unreadable }
 {}
 
-/// How long a client repeats, and how long it holds an invoke ID.
-#[tactic(auto, using(crate::proofs::Computed::last_moment, crate::proofs::Computed::too_late, crate::proofs::Computed::nothing_delivered, crate::proofs::Computed::held_long))]
+/// Requests that find no free slot, or are too old.
+#[tactic(auto, using(crate::proofs::Computed::no_slot, crate::proofs::Computed::old_copy, crate::proofs::Computed::older_copy))]
+pub fn lost_requests()
+    ensures no_slot { NoSlot }
+    ensures old_copy { OldCopy }
+    ensures older_copy { OlderCopy }
+{}
+
+/// How long a client repeats its request.
+#[tactic(auto, using(crate::proofs::Computed::last_moment, crate::proofs::Computed::too_late, crate::proofs::Computed::nothing_delivered))]
 pub fn time_of_a_ticket()
     ensures last_moment { LastMoment }
     ensures too_late { TooLate }
     ensures nothing_delivered { NothingDelivered }
-    ensures held_long { HeldLong }
 {}
 
-/// Requests in segments: loss, disorder, time, and a later pass.
-#[tactic(auto, using(crate::proofs::Computed::lost_ack, crate::proofs::Computed::out_of_order, crate::proofs::Computed::in_time, crate::proofs::Computed::out_of_time, crate::proofs::Computed::later_pass))]
+/// How long a client holds an invoke ID.
+#[tactic(auto, using(crate::proofs::Computed::held_long))]
+pub fn time_of_an_invoke_id()
+    ensures { HeldLong }
+{}
+
+/// Requests in segments: loss, disorder, and a later pass.
+#[tactic(auto, using(crate::proofs::Computed::lost_ack, crate::proofs::Computed::out_of_order, crate::proofs::Computed::later_pass))]
 pub fn requests_in_segments()
     ensures lost_ack { LostAck }
     ensures out_of_order { OutOfOrder }
+    ensures later_pass { LaterPass }
+{}
+
+/// How long a server waits for more segments.
+#[tactic(auto, using(crate::proofs::Computed::in_time, crate::proofs::Computed::out_of_time))]
+pub fn time_of_a_reassembly()
     ensures in_time { InTime }
     ensures out_of_time { OutOfTime }
-    ensures later_pass { LaterPass }
 {}
 
 /// Replies in segments: a transfer that stops and is resumed, and which replies go in segments.
@@ -39,11 +55,16 @@ pub fn replies_in_segments()
     ensures sizes { Sizes }
 {}
 
-/// Single steps of the two machines.
-#[tactic(auto, using(crate::proofs::Computed::odd_acks, crate::proofs::Computed::other_answers, crate::proofs::Computed::kept_reply, crate::proofs::Computed::dropped_entry))]
-pub fn single_steps()
+/// Single steps of the client's machine.
+#[tactic(auto, using(crate::proofs::Computed::odd_acks, crate::proofs::Computed::other_answers))]
+pub fn client_steps()
     ensures odd_acks { OddAcks }
     ensures other_answers { OtherAnswers }
+{}
+
+/// Single steps of the server's machine.
+#[tactic(auto, using(crate::proofs::Computed::kept_reply, crate::proofs::Computed::dropped_entry))]
+pub fn server_steps()
     ensures kept_reply { KeptReply }
     ensures dropped_entry { DroppedEntry }
 {}

@@ -22,5 +22,6 @@ pub fn straight_run_exists<S>()
 
 /// After every run, no entry is live for an invoke ID that is free.
 pub fn none_live_for_new<S>()
-    ensures { (shop : Shop S) (opening : ℕ → S) (W : ℕ) (rules : Rules) → IsBounded W rules → (events : List Event) → NoneLive S (run S shop rules events (start S opening)) }
+    ensures { (shop : Shop S) (opening : ℕ → S) (W : ℕ) (rules : Rules) → IsBounded W rules → (events : List Event)
+        → NoneLive S (run S shop rules events (start S opening)) }
 {}
