@@ -1,2 +1,4 @@
 pub mod Apdu
 pub mod Spelling
+pub mod Views
+pub mod Reading

@@ -7,13 +7,17 @@ use Rattle.bac_apdu.specs.Apdu.{Segment, Apdu, ConfirmedRequest, UnconfirmedRequ
 abbrev pub window_fits : ℕ → Bool
 window_fits window = nat_lt 0 window && nat_lt window 128
 
+-- the codes of clauses 20.1.2.4 (0 to 7) and 20.1.2.5 (0 to 5)
+abbrev pub codes_fit : ℕ → ℕ → Bool
+codes_fit max_segments max_apdu = nat_lt max_segments 8 && nat_lt max_apdu 6
+
 abbrev pub segment_fits : Option Segment → Bool
 segment_fits None = true
 segment_fits (Some s) = window_fits s.window
 
--- which APDUs have a spelling: the codes 0 to 7 and 0 to 5 of clause 20.1.2.4 and 20.1.2.5, windows, and class and code that are Enumerated of at most four octets (own limit of this profile)
+-- which APDUs have a spelling: codes and windows have their limits, and class and code are Enumerated of at most four octets (own limit of this profile)
 unfoldable pub apdu_fits : Apdu → Bool
-apdu_fits (ConfirmedRequest takes_segments max_segments max_apdu invoke segment choice service) = nat_lt max_segments 8 && nat_lt max_apdu 6 && segment_fits segment
+apdu_fits (ConfirmedRequest takes_segments max_segments max_apdu invoke segment choice service) = codes_fit max_segments max_apdu && segment_fits segment
 apdu_fits (UnconfirmedRequest choice service) = true
 apdu_fits (SimpleAck invoke choice) = true
 apdu_fits (ComplexAck invoke segment choice service) = segment_fits segment
@@ -68,3 +72,7 @@ is_confirmed_request (SegmentAck nak server invoke number window) = false
 is_confirmed_request (Error invoke choice class code) = false
 is_confirmed_request (Reject invoke reason) = false
 is_confirmed_request (Abort server invoke reason) = false
+
+-- the octets are no APDU
+abbrev pub IsNoApdu : List ℕ → Type 0
+IsNoApdu octets = (apdu : Apdu) → SpellsApdu apdu octets → ⊥

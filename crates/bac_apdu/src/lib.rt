@@ -1,5 +1,21 @@
 //! The eight kinds of APDU (clause 20.1): reading, and the one spelling of each.
 #![tactic(auto)]
 
+mod apdu;
+mod error_reading;
+mod fault;
+mod laws;
+mod limits;
+mod member_reading;
+mod reading;
+mod writing;
+
+pub use apdu::Apdu;
+pub use fault::ApduFault;
+pub use laws::{error_members_are_values, one_apdu_spelling};
+pub use limits::{Codes, Segment, Window};
+pub use reading::read;
+pub use writing::write;
+
 #[cfg(test)]
 mod examples;

@@ -8,7 +8,7 @@ use Rattle.bac_value.specs.Value.{Datum, unsigned, signed, enumerated, object, O
 use Rattle.bac_value.specs.Reading.{◌>>=◌, kind_at, number_at, signed_at, object_at, length_in}
 use Rattle.bac_value.proofs.Steps.{bind_ok, ok_is, IsExact}
 use Rattle.bac_value.proofs.Tags.{wide32}
-use Rattle.bac_value.proofs.RightContents.{between, no_fault, unsigned_of, signed_of, object_of, kind_again, IsRight}
+use Rattle.bac_value.proofs.RightContents.{between, no_fault, unsigned_of, signed_of, four, object_in, object_meant, kind_again, IsRight}
 use Rattle.bac_value.proofs.Elements.{IsKindFront, kind_front, right_again}
 
 -- contents of one kind and length, as what reading them gives
@@ -17,7 +17,6 @@ pub record HasContents {Y : Type 0} (datum_of : Y → Datum) (k : ℕ) (y : Y) (
   pub len : length text ≡ k
 
 -- ---- what is read
-
 
 unsigned_right_of : (xs : List ℕ) → IsBytes xs → IsRight 2 xs → IsNumber 8 (number_in xs) xs
 unsigned_right_of xs fits h = let k = between 0 9 (length xs) h.len in unsigned_of 8 xs fits k.0 (omega (arith, k.1)) (no_fault _ _ h.none)
@@ -28,20 +27,8 @@ enumerated_right_of xs fits h = let k = between 0 5 (length xs) h.len in unsigne
 signed_right_of : (xs : List ℕ) → IsBytes xs → IsRight 3 xs → IsContents (signed (signed_in xs)) xs
 signed_right_of xs fits h = let k = between 0 9 (length xs) h.len in signed_of xs fits k.0 (omega (arith, k.1)) (no_fault _ _ h.none)
 
--- the number in four octets
-four : (xs : List ℕ) → length xs ≡ 4 → number_in xs ≡ from_be_bytes w32 xs
-four [] e = absurd (omega arith)
-four (a ∷ []) e = absurd (omega arith)
-four (a ∷ b ∷ []) e = absurd (omega arith)
-four (a ∷ b ∷ c ∷ []) e = absurd (omega arith)
-four (a ∷ b ∷ c ∷ d ∷ []) e = omega arith
-four (a ∷ b ∷ c ∷ d ∷ x ∷ xs) e = absurd (omega arith)
-
-abbrev pub object_in : List ℕ → ObjectId
-object_in xs = record { kind = number_in xs / 2 ^ 22; instance = number_in xs % 2 ^ 22 }
-
 object_right_of : (xs : List ℕ) → IsBytes xs → IsRight 12 xs → IsContents (object (object_in xs)) xs
-object_right_of xs fits h = let len = eqb-true _ _ h.len in rw (four xs len) (object_of xs fits len)
+object_right_of xs fits h = object_meant xs fits (eqb-true _ _ h.len)
 
 -- ---- what a value's contents give
 
@@ -63,13 +50,13 @@ exact_kind : {Y : Type 0} (n k : ℕ) (view : List ℕ → Y) (datum_of : Y → 
     → IsExact (λ bytes. kind_at n k bytes >>= λ c. Ok (view c.0, c.1)) (HasContents datum_of k)
 exact_kind {Y = Y} n k view datum_of kind right back = record {
   takes = λ bytes x fits e.
-    let a = bind_ok (kind_at n k bytes) (λ c. Ok (view c.0, c.1)) x e in
-    let f = kind_front n k bytes a.0 fits a.1 in
-    let P : Y × List ℕ → Type 0 = λ y. (text : List ℕ) × (bytes ≡ text ++ y.1) × HasContents datum_of k y.0 text in
-    subst P (ok_is (view a.0.0, a.0.1) x a.2) (a.0.0, f.raw.took.parts, record { are = right a.0.0 f.raw.fits f.right; len = f.raw.len });
+      let a = bind_ok (kind_at n k bytes) (λ c. Ok (view c.0, c.1)) x e in
+      let f = kind_front n k bytes a.0 fits a.1 in
+      let P : Y × List ℕ → Type 0 = λ y. (text : List ℕ) × (bytes ≡ text ++ y.1) × HasContents datum_of k y.0 text in
+      subst P (ok_is (view a.0.0, a.0.1) x a.2) (a.0.0, f.raw.took.parts, record { are = right a.0.0 f.raw.fits f.right; len = f.raw.len });
   again = λ y text rest h.
-    let r = subst (λ i. IsRight i text) (kind y) (kind_again (datum_of y) text h.are) in
-    rw (right_again n k text rest h.len r, back y text h.are) refl;
+      let r = subst (λ i. IsRight i text) (kind y) (kind_again (datum_of y) text h.are) in
+      rw (right_again n k text rest h.len r, back y text h.are) refl;
 }
 
 pub unsigned_exact : (k : ℕ) → IsExact (number_at 2 k) (HasContents unsigned k)

@@ -9,4 +9,6 @@ pub mod Joined
 pub mod Numbers
 pub mod Signs
 pub mod Values
+pub mod Meanings
 pub mod ContentLaws
+pub mod ElementLists

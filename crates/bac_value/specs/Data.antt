@@ -63,3 +63,6 @@ pub record IsDataFront (bytes : List ℕ) (k : ℕ) : Type 0 where
 unfoldable pub AreElements : List Part → List ℕ → Type 0
 AreElements [] bytes = bytes ≡ []
 AreElements (p ∷ ps) bytes = (rest : List ℕ) × SpellsElement p (part_spelling p) × (bytes ≡ part_spelling p ++ rest) × AreElements ps rest
+
+abbrev pub SomeElements : List ℕ → Type 0
+SomeElements bytes = (ps : List Part) × AreElements ps bytes

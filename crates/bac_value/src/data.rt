@@ -1,8 +1,57 @@
+ghost use Rattle.std.specs.Prelude.{◌≡◌, IfOk};
 ghost use Rattle.bac_value.specs.Data.{IsData};
+
+use crate::memory::NoMemory;
+use crate::octets::Octets;
+use std::alloc::Global;
 
 /// Octets that are data: whole elements, each opened tag closed by its own number, at most 8 open at once. May be empty.
 #[derive(Clone, Copy, Debug)]
 pub struct Data<'a> {
     pub octets: &'a [u8],
     pub ghost whole: { ∥ IsData octets.now ∥₁ },
+}
+
+/// Octets that are data, with their memory.
+#[derive(Debug, Drop)]
+pub struct DataBuf {
+    pub octets: Vec<u8>,
+    pub ghost whole: { ∥ IsData octets.items ∥₁ },
+}
+
+impl DataBuf {
+    /// A copy of octets that are data, in one allocation.
+    pub fn copied<O: Octets>(alloc: Global, octets: O) -> Result<DataBuf, NoMemory>
+        requires { ∥ IsData (O.octets octets) ∥₁ }
+        ensures { IfOk result (λ copy. copy.octets.items ≡ O.octets octets) }
+    {
+        let mut copy = Vec::new(alloc);
+        octets.append_to(&mut copy)?;
+        Ok(DataBuf { octets: copy })
+    }
+
+    /// Lends the data.
+    pub fn as_data(&self) -> Data<'_>
+        ensures { result.octets.now ≡ self.now.octets.items }
+    {
+        Data {
+            octets: self.octets.as_slice(),
+        }
+    }
+
+    /// The octets, without taking memory.
+    pub fn into_vec(self) -> Vec<u8>
+        ensures { result ≡ self.octets }
+    {
+        self.octets
+    }
+}
+
+impl Data<'_> {
+    /// A copy with its own memory, in one allocation.
+    pub fn to_owned(self, alloc: Global) -> Result<DataBuf, NoMemory>
+        ensures { IfOk result (λ copy. copy.octets.items ≡ self.entry.octets.now) }
+    {
+        DataBuf::copied(alloc, self.octets)
+    }
 }

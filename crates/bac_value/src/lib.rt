@@ -22,10 +22,13 @@ mod tag;
 mod tag_reading;
 mod tag_writing;
 mod value;
+mod value_reading;
 mod value_writing;
+mod walking;
+mod walking_on;
 
 pub use contents::take_contents;
-pub use data::Data;
+pub use data::{Data, DataBuf};
 pub use data_reading::{one_data_front, read_data, take_data};
 pub use data_writing::write_data;
 pub use element::Element;
@@ -40,6 +43,12 @@ pub use tag::{Class, Form, Tag};
 pub use tag_reading::{one_tag_spelling, read_tag, take_tag};
 pub use tag_writing::{put_tag, write_tag};
 pub use value::{BitString, CharacterString, ObjectIdentifier, OctetString, Value};
+pub use value_reading::value_of;
 pub use value_writing::{
     put_boolean, put_object_identifier, put_primitive, put_signed, put_unsigned, put_value,
+    write_value,
 };
+pub use walking::DataElements;
+
+#[cfg(test)]
+mod tests;

@@ -1,6 +1,8 @@
 ghost use Rattle.std.specs.Prelude.{◌≡◌, ◌<◌, ◌+◌, ◌^◌, ◌↔◌, ◌∷◌, IsSome, IfSome, IsTrue, true, length};
 ghost use Rattle.bac_value.specs.Limits.{bits_fit};
 
+use crate::contents::are_bits_fit;
+
 /// At most `2^32 - 1` octets (clause 20.2.8).
 #[derive(Debug, Drop)]
 pub struct OctetString {
@@ -52,4 +54,60 @@ pub enum Value {
     Date([u8; 4]),
     Time([u8; 4]),
     ObjectIdentifier(ObjectIdentifier),
+}
+
+impl OctetString {
+    /// None exactly where there are too many octets.
+    pub fn new(octets: Vec<u8>) -> Option<OctetString>
+        ensures some { IsSome result ↔ (length octets.items < 2 ^ 32) }
+        ensures same { IfSome result (λ s. s.octets ≡ octets) }
+    {
+        if octets.len() < 0x1_0000_0000 {
+            Some(OctetString { octets })
+        } else {
+            None
+        }
+    }
+}
+
+impl CharacterString {
+    /// None exactly where the text is too long.
+    pub fn new(set: u8, text: Vec<u8>) -> Option<CharacterString>
+        ensures some { IsSome result ↔ (length text.items + 1 < 2 ^ 32) }
+        ensures same { IfSome result (λ s. (s.set ≡ set) × (s.text ≡ text)) }
+    {
+        if text.len() < 0xffff_ffff {
+            Some(CharacterString { set, text })
+        } else {
+            None
+        }
+    }
+}
+
+impl BitString {
+    /// None exactly where there are too many octets, or the unused bits are not as said of the type.
+    pub fn new(unused: u8, octets: Vec<u8>) -> Option<BitString>
+        ensures some { IsSome result ↔ ((length octets.items + 1 < 2 ^ 32) × IsTrue (bits_fit unused octets.items)) }
+        ensures same { IfSome result (λ s. (s.unused ≡ unused) × (s.octets ≡ octets)) }
+    {
+        if octets.len() < 0xffff_ffff && are_bits_fit(unused, octets.as_slice()) {
+            Some(BitString { unused, octets })
+        } else {
+            None
+        }
+    }
+}
+
+impl ObjectIdentifier {
+    /// None exactly where a number is too great.
+    pub fn new(kind: u16, instance: u32) -> Option<ObjectIdentifier>
+        ensures some { IsSome result ↔ ((kind < 1024) × (instance < 2 ^ 22)) }
+        ensures same { IfSome result (λ i. (i.kind ≡ kind) × (i.instance ≡ instance)) }
+    {
+        if kind < 1024 && instance < 0x40_0000 {
+            Some(ObjectIdentifier { kind, instance })
+        } else {
+            None
+        }
+    }
 }

@@ -1,0 +1,4 @@
+pub mod Steps
+pub mod Members
+pub mod Enumerated
+pub mod Apdus

@@ -1,0 +1,62 @@
+use crate::limits::{Codes, Segment, Window};
+
+/// An APDU (clause 20.1). Service data run to its end and may be empty.
+#[derive(Clone, Copy, Debug)]
+pub enum Apdu<'a> {
+    /// A request that is to be answered (clause 20.1.2).
+    ConfirmedRequest {
+        /// Whether the sender takes an answer in segments.
+        takes_segments: bool,
+        codes: Codes,
+        invoke: u8,
+        segment: Option<Segment>,
+        choice: u8,
+        service: &'a [u8],
+    },
+    /// A request without an answer (clause 20.1.3).
+    UnconfirmedRequest {
+        choice: u8,
+        service: &'a [u8],
+    },
+    /// An answer without data (clause 20.1.4).
+    SimpleAck {
+        invoke: u8,
+        choice: u8,
+    },
+    /// An answer with data (clause 20.1.5).
+    ComplexAck {
+        invoke: u8,
+        segment: Option<Segment>,
+        choice: u8,
+        service: &'a [u8],
+    },
+    /// Segments up to a number were taken in order (clause 20.1.6).
+    SegmentAck {
+        /// Whether a segment was out of order.
+        nak: bool,
+        /// Whether the sender is the server.
+        server: bool,
+        invoke: u8,
+        number: u8,
+        window: Window,
+    },
+    /// The request failed (clause 20.1.7).
+    Error {
+        invoke: u8,
+        choice: u8,
+        class: u32,
+        code: u32,
+    },
+    /// The request was not understood (clause 20.1.8).
+    Reject {
+        invoke: u8,
+        reason: u8,
+    },
+    /// The transaction is given up (clause 20.1.9).
+    Abort {
+        /// Whether the sender is the server.
+        server: bool,
+        invoke: u8,
+        reason: u8,
+    },
+}

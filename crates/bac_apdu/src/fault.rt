@@ -1,0 +1,20 @@
+/// Why octets are no APDU. `fault as u8` is the number by which it is printed.
+#[derive(Clone, Copy, Debug, PartialEq, Eq)]
+pub enum ApduFault {
+    /// The octets end too early.
+    Truncated = 1,
+    /// A bit is set that the kind of APDU does not name.
+    ReservedBits = 2,
+    /// A max-APDU code above 5.
+    ReservedCode = 3,
+    /// A window of 0, or above 127.
+    BadWindow = 4,
+    /// A type above 7.
+    BadType = 5,
+    /// Octets behind the last member.
+    Trailing = 6,
+    /// More segments follow what is no segment.
+    MorWithoutSeg = 7,
+    /// The class or the code of an Error is whole, and no application Enumerated.
+    BadError = 8,
+}

@@ -1,0 +1,61 @@
+ghost use Rattle.std.specs.Prelude.{◌≡◌, ◌<◌, ◌↔◌, IsTrue, IsSome, IfSome, nat_lt, ◌&&◌};
+ghost use Rattle.bac_apdu.specs.Spelling.{window_fits, codes_fit};
+
+/// A number of segments, 1 to 127, that are sent before a SegmentACK is waited for (clauses 20.1.2.8 and 20.1.6.5).
+#[derive(Clone, Copy, Debug, PartialEq, Eq)]
+pub struct Window {
+    pub size: u8,
+    pub ghost fits: { IsTrue (window_fits size) },
+}
+
+impl Window {
+    /// None where the size is 0 or above 127.
+    pub fn new(size: u8) -> Option<Window>
+        ensures some { IsSome result ↔ IsTrue (window_fits size) }
+        ensures same { IfSome result (λ w. w.size ≡ size) }
+    {
+        if size > 0 && size < 128 {
+            Some(Window { size })
+        } else {
+            None
+        }
+    }
+}
+
+/// What an APDU in segments says of its segment (clauses 20.1.2.1, 20.1.2.2, 20.1.2.7 and 20.1.2.8).
+#[derive(Clone, Copy, Debug, PartialEq, Eq)]
+pub struct Segment {
+    /// Whether more segments follow.
+    pub more: bool,
+    /// The segment's number, modulo 256.
+    pub number: u8,
+    /// The proposed window.
+    pub window: Window,
+}
+
+/// How many segments and how long an APDU the sender of a request takes, as codes (clauses 20.1.2.4 and 20.1.2.5).
+///
+/// Codes of segments are 0 (unspecified), 1 to 6 (2, 4, 8, 16, 32, 64) and 7 (more than 64); codes of octets are 0 to 5 (50, 128, 206, 480, 1,024, 1,476).
+#[derive(Clone, Copy, Debug, PartialEq, Eq)]
+pub struct Codes {
+    pub max_segments: u8,
+    pub max_apdu: u8,
+    pub ghost fits: { IsTrue (codes_fit max_segments max_apdu) },
+}
+
+impl Codes {
+    /// None where the code of segments is above 7, or that of octets above 5.
+    pub fn new(max_segments: u8, max_apdu: u8) -> Option<Codes>
+        ensures some { IsSome result ↔ IsTrue (codes_fit max_segments max_apdu) }
+        ensures same { IfSome result (λ c. (c.max_segments ≡ max_segments) × (c.max_apdu ≡ max_apdu)) }
+    {
+        if max_segments < 8 && max_apdu < 6 {
+            Some(Codes {
+                max_segments,
+                max_apdu,
+            })
+        } else {
+            None
+        }
+    }
+}

@@ -1,0 +1,158 @@
+ghost use Rattle.std.specs.Prelude.{◌≡◌, ℕ, List, IfOk, IfErr, Bool, ◌&&◌, not, ◌<◌, ◌%◌, ◌/◌};
+ghost use Rattle.bac_apdu.specs.Spelling.{SpellsApdu, IsNoApdu};
+ghost use Rattle.bac_apdu.specs.Views.{apdu_view};
+ghost use Rattle.bac_apdu.specs.Reading.{ReadsAll, confirmed_at, unconfirmed_at, simple_ack_at, complex_ack_at, segment_ack_at, reject_at, error_at, abort_at, has_bit, reserved_of, kind_at, apdu_at};
+
+use crate::apdu::Apdu;
+use crate::error_reading::error;
+use crate::fault::ApduFault;
+use crate::member_reading::{codes, ended, has, octet, segment, window};
+
+#[tactic(auto, unfolding(crate::specs::Reading::confirmed_at))]
+fn confirmed_request(octets: &[u8], bits: u8) -> Result<Apdu<'_>, ApduFault>
+    ensures { ReadsAll apdu_view result (confirmed_at bits octets.now) }
+{
+    let (codes, rest) = codes(octets)?;
+    let (invoke, rest) = octet(rest)?;
+    let (segment, rest) = segment(rest, has(bits, 8), has(bits, 4))?;
+    let (choice, service) = octet(rest)?;
+    Ok(Apdu::ConfirmedRequest {
+        takes_segments: has(bits, 2),
+        codes,
+        invoke,
+        segment,
+        choice,
+        service,
+    })
+}
+
+#[tactic(auto, unfolding(crate::specs::Reading::unconfirmed_at))]
+fn unconfirmed_request(octets: &[u8]) -> Result<Apdu<'_>, ApduFault>
+    ensures { ReadsAll apdu_view result (unconfirmed_at octets.now) }
+{
+    let (choice, service) = octet(octets)?;
+    Ok(Apdu::UnconfirmedRequest { choice, service })
+}
+
+#[tactic(auto, unfolding(crate::specs::Reading::simple_ack_at))]
+fn simple_ack(octets: &[u8]) -> Result<Apdu<'_>, ApduFault>
+    ensures { ReadsAll apdu_view result (simple_ack_at octets.now) }
+{
+    let (invoke, rest) = octet(octets)?;
+    let (choice, rest) = octet(rest)?;
+    ended(rest, Apdu::SimpleAck { invoke, choice })
+}
+
+#[tactic(auto, unfolding(crate::specs::Reading::complex_ack_at))]
+fn complex_ack(octets: &[u8], bits: u8) -> Result<Apdu<'_>, ApduFault>
+    ensures { ReadsAll apdu_view result (complex_ack_at bits octets.now) }
+{
+    let (invoke, rest) = octet(octets)?;
+    let (segment, rest) = segment(rest, has(bits, 8), has(bits, 4))?;
+    let (choice, service) = octet(rest)?;
+    Ok(Apdu::ComplexAck {
+        invoke,
+        segment,
+        choice,
+        service,
+    })
+}
+
+#[tactic(auto, unfolding(crate::specs::Reading::segment_ack_at))]
+fn segment_ack(octets: &[u8], bits: u8) -> Result<Apdu<'_>, ApduFault>
+    ensures { ReadsAll apdu_view result (segment_ack_at bits octets.now) }
+{
+    let (invoke, rest) = octet(octets)?;
+    let (number, rest) = octet(rest)?;
+    let (window, rest) = window(rest)?;
+    let apdu = Apdu::SegmentAck {
+        nak: has(bits, 2),
+        server: has(bits, 1),
+        invoke,
+        number,
+        window,
+    };
+    ended(rest, apdu)
+}
+
+#[tactic(auto, unfolding(crate::specs::Reading::reject_at))]
+fn reject(octets: &[u8]) -> Result<Apdu<'_>, ApduFault>
+    ensures { ReadsAll apdu_view result (reject_at octets.now) }
+{
+    let (invoke, rest) = octet(octets)?;
+    let (reason, rest) = octet(rest)?;
+    ended(rest, Apdu::Reject { invoke, reason })
+}
+
+#[tactic(auto, unfolding(crate::specs::Reading::abort_at))]
+fn abort(octets: &[u8], bits: u8) -> Result<Apdu<'_>, ApduFault>
+    ensures { ReadsAll apdu_view result (abort_at bits octets.now) }
+{
+    let (invoke, rest) = octet(octets)?;
+    let (reason, rest) = octet(rest)?;
+    let apdu = Apdu::Abort {
+        server: has(bits, 1),
+        invoke,
+        reason,
+    };
+    ended(rest, apdu)
+}
+
+/// Whether more segments follow what is no segment.
+fn is_more_alone(bits: u8) -> bool
+    ensures { result ≡ (has_bit bits 4 && not (has_bit bits 8)) }
+{
+    has(bits, 4) && !has(bits, 8)
+}
+
+/// Which bits of the first octet are set that the kind does not name.
+fn reserved(kind: u8, bits: u8) -> u8
+    ensures { result ≡ reserved_of kind bits }
+{
+    match kind {
+        0 => bits % 2,
+        3 => bits % 4,
+        4 => bits / 4,
+        7 => bits / 2,
+        _ => bits,
+    }
+}
+
+#[tactic(auto, unfolding(crate::specs::Reading::kind_at))]
+fn kind(octets: &[u8], kind: u8, bits: u8) -> Result<Apdu<'_>, ApduFault>
+    ensures { ReadsAll apdu_view result (kind_at kind bits octets.now) }
+{
+    if kind > 7 {
+        return Err(ApduFault::BadType);
+    }
+    if reserved(kind, bits) != 0 {
+        return Err(ApduFault::ReservedBits);
+    }
+    match kind {
+        0 | 3 if is_more_alone(bits) => Err(ApduFault::MorWithoutSeg),
+        0 => confirmed_request(octets, bits),
+        1 => unconfirmed_request(octets),
+        2 => simple_ack(octets),
+        3 => complex_ack(octets, bits),
+        4 => segment_ack(octets, bits),
+        5 => error(octets),
+        6 => reject(octets),
+        _ => abort(octets, bits),
+    }
+}
+
+#[tactic(auto, unfolding(crate::specs::Reading::apdu_at))]
+fn whole(octets: &[u8]) -> Result<Apdu<'_>, ApduFault>
+    ensures { ReadsAll apdu_view result (apdu_at octets.now) }
+{
+    let (first, rest) = octet(octets)?;
+    kind(rest, first / 16, first % 16)
+}
+
+/// The APDU that the octets are, to their end (clause 20.1). What an Error holds are its class and its code.
+pub fn read(octets: &[u8]) -> Result<Apdu<'_>, ApduFault>
+    ensures found { IfOk result (λ a. SpellsApdu (apdu_view a) octets.now) }
+    ensures refused { IfErr result (λ e. IsNoApdu octets.now) }
+{
+    whole(octets)
+}

@@ -1,0 +1,207 @@
+ghost use Rattle.std.specs.Prelude.{◌≡◌, ◌+◌, ◌*◌, ◌/◌, ◌%◌, ◌≤◌, ◌<◌, ◌++◌, ◌∷◌, [], length, OnOk, OnErr, vec_len, vec_capacity, Bool};
+ghost use Rattle.std.specs.Option.{option_map};
+ghost use Rattle.bac_value.specs.Octets.{Begins};
+ghost use Rattle.bac_apdu.specs.Spelling.{apdu_spelling, enumerated_spelling, bit, segment_bits, segment_octets};
+ghost use Rattle.bac_apdu.specs.Views.{segment_view, apdu_view};
+
+use crate::apdu::Apdu;
+use crate::limits::Segment;
+use bac_value::NoMemory;
+
+/// The bits of the first octet that speak of a segment.
+fn bits_of(segment: Option<Segment>) -> u8
+    ensures is { result ≡ segment_bits (option_map segment_view segment) }
+    ensures few { result < 16 }
+{
+    match segment {
+        None => 0,
+        Some(segment) => 8 + if segment.more { 4 } else { 0 },
+    }
+}
+
+fn weight(is_set: bool, weight: u8) -> u8
+    ensures { result ≡ bit is_set weight }
+{
+    if is_set { weight } else { 0 }
+}
+
+/// Appends both, or changes nothing.
+fn append(head: &[u8], service: &[u8], out: &mut Vec<u8>) -> Result<(), NoMemory>
+    ensures ok { OnOk result (out.new.items ≡ out.old.items ++ (head.now ++ service.now)) }
+    ensures err { OnErr result (out.new.items ≡ out.old.items) }
+    ensures full { OnErr result (vec_capacity out.old < vec_len out.old + (length head.now + length service.now)) }
+{
+    out.reserve(head.len() + service.len())?;
+    out.extend_from_slice(head)?;
+    out.extend_from_slice(service)?;
+    Ok(())
+}
+
+/// Appends an application Enumerated, or changes nothing.
+fn put_enumerated(number: u32, out: &mut Vec<u8>) -> Result<(), NoMemory>
+    ensures ok { OnOk result (out.new.items ≡ out.old.items ++ enumerated_spelling number) }
+    ensures len { OnOk result (vec_len out.new ≡ vec_len out.old + length (enumerated_spelling number)) }
+    ensures err { OnErr result (out.new.items ≡ out.old.items) }
+    ensures full { OnErr result (vec_capacity out.old < vec_len out.old + length (enumerated_spelling number)) }
+    ensures grows { vec_capacity out.old ≤ vec_capacity out.new }
+{
+    if number < 0x100 {
+        out.extend_from_slice(&[0x91, number as u8])?;
+    } else if number < 0x1_0000 {
+        let [high, low] = (number as u16).to_be_bytes();
+        out.extend_from_slice(&[0x92, high, low])?;
+    } else if number < 0x100_0000 {
+        let [high, low] = ((number % 0x1_0000) as u16).to_be_bytes();
+        out.extend_from_slice(&[0x93, (number / 0x1_0000) as u8, high, low])?;
+    } else {
+        let [a, b, c, d] = number.to_be_bytes();
+        out.extend_from_slice(&[0x94, a, b, c, d])?;
+    }
+    Ok(())
+}
+
+/// The four or six octets in front of the service data of a request, or three or five of an answer, and the service data.
+fn append_request(
+    first: u8,
+    codes: u8,
+    invoke: u8,
+    segment: Option<Segment>,
+    choice: u8,
+    service: &[u8],
+    out: &mut Vec<u8>,
+) -> Result<(), NoMemory>
+    ensures ok { OnOk result (out.new.items ≡ out.old.items ++ (first ∷ codes ∷ invoke ∷ (segment_octets (option_map segment_view segment) ++ choice ∷ service.now))) }
+    ensures err { OnErr result (out.new.items ≡ out.old.items) }
+    ensures full { OnErr result (vec_capacity out.old < vec_len out.old + length (first ∷ codes ∷ invoke ∷ (segment_octets (option_map segment_view segment) ++ choice ∷ service.now))) }
+{
+    match segment {
+        None => append(&[first, codes, invoke, choice], service, out),
+        Some(segment) => {
+            let head = [
+                first,
+                codes,
+                invoke,
+                segment.number,
+                segment.window.size,
+                choice,
+            ];
+            append(&head, service, out)
+        }
+    }
+}
+
+fn append_answer(
+    first: u8,
+    invoke: u8,
+    segment: Option<Segment>,
+    choice: u8,
+    service: &[u8],
+    out: &mut Vec<u8>,
+) -> Result<(), NoMemory>
+    ensures ok { OnOk result (out.new.items ≡ out.old.items ++ (first ∷ invoke ∷ (segment_octets (option_map segment_view segment) ++ choice ∷ service.now))) }
+    ensures err { OnErr result (out.new.items ≡ out.old.items) }
+    ensures full { OnErr result (vec_capacity out.old < vec_len out.old + length (first ∷ invoke ∷ (segment_octets (option_map segment_view segment) ++ choice ∷ service.now))) }
+{
+    match segment {
+        None => append(&[first, invoke, choice], service, out),
+        Some(segment) => {
+            let head = [first, invoke, segment.number, segment.window.size, choice];
+            append(&head, service, out)
+        }
+    }
+}
+
+fn put_error(
+    invoke: u8,
+    choice: u8,
+    class: u32,
+    code: u32,
+    out: &mut Vec<u8>,
+) -> Result<(), NoMemory>
+    ensures ok { OnOk result (out.new.items ≡ out.old.items ++ (0x50 ∷ invoke ∷ choice ∷ (enumerated_spelling class ++ enumerated_spelling code))) }
+    ensures kept { Begins out.old.items out.new.items }
+    ensures full { OnErr result (vec_capacity out.old < vec_len out.old + (3 + length (enumerated_spelling class) + length (enumerated_spelling code))) }
+{
+    out.extend_from_slice(&[0x50, invoke, choice])?;
+    put_enumerated(class, out)?;
+    put_enumerated(code, out)
+}
+
+fn append_error(
+    invoke: u8,
+    choice: u8,
+    class: u32,
+    code: u32,
+    out: &mut Vec<u8>,
+) -> Result<(), NoMemory>
+    ensures ok { OnOk result (out.new.items ≡ out.old.items ++ (0x50 ∷ invoke ∷ choice ∷ (enumerated_spelling class ++ enumerated_spelling code))) }
+    ensures err { OnErr result (out.new.items ≡ out.old.items) }
+    ensures full { OnErr result (vec_capacity out.old < vec_len out.old + (3 + length (enumerated_spelling class) + length (enumerated_spelling code))) }
+{
+    let len = out.len();
+    let written = put_error(invoke, choice, class, code, out);
+    if written.is_err() {
+        out.truncate(len);
+    }
+    written
+}
+
+/// Appends the one spelling of an APDU (clause 20.1). Want of memory changes nothing.
+#[tactic(auto, unfolding(crate::specs::Spelling::apdu_spelling))]
+pub fn write(apdu: &Apdu, out: &mut Vec<u8>) -> Result<(), NoMemory>
+    ensures ok { OnOk result (out.new.items ≡ out.old.items ++ apdu_spelling (apdu_view apdu.now)) }
+    ensures err { OnErr result (out.new.items ≡ out.old.items) }
+    ensures full { OnErr result (vec_capacity out.old < vec_len out.old + length (apdu_spelling (apdu_view apdu.now))) }
+{
+    match *apdu {
+        Apdu::ConfirmedRequest {
+            takes_segments,
+            codes,
+            invoke,
+            segment,
+            choice,
+            service,
+        } => {
+            let first = bits_of(segment) + weight(takes_segments, 2);
+            let codes = 16 * codes.max_segments + codes.max_apdu;
+            append_request(first, codes, invoke, segment, choice, service, out)
+        }
+        Apdu::UnconfirmedRequest { choice, service } => append(&[0x10, choice], service, out),
+        Apdu::SimpleAck { invoke, choice } => append(&[0x20, invoke, choice], &[], out),
+        Apdu::ComplexAck {
+            invoke,
+            segment,
+            choice,
+            service,
+        } => append_answer(
+            0x30 + bits_of(segment),
+            invoke,
+            segment,
+            choice,
+            service,
+            out,
+        ),
+        Apdu::SegmentAck {
+            nak,
+            server,
+            invoke,
+            number,
+            window,
+        } => {
+            let first = 0x40 + weight(nak, 2) + weight(server, 1);
+            append(&[first, invoke, number, window.size], &[], out)
+        }
+        Apdu::Error {
+            invoke,
+            choice,
+            class,
+            code,
+        } => append_error(invoke, choice, class, code, out),
+        Apdu::Reject { invoke, reason } => append(&[0x60, invoke, reason], &[], out),
+        Apdu::Abort {
+            server,
+            invoke,
+            reason,
+        } => append(&[0x70 + weight(server, 1), invoke, reason], &[], out),
+    }
+}

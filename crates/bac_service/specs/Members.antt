@@ -1,0 +1,80 @@
+-- The members of a production (clause 21): each is a value's contents behind a tag, and they follow each other.
+use Rattle.std.specs.Prelude.{◌≡◌, ℕ, ℤ, Bool, ◌^◌, ◌<◌, ◌≤◌, zero, suc, List, [], ◌++◌, length, Option, Some, None}
+use Rattle.bac_value.specs.declared.tag.Class.{Class}
+use Rattle.bac_value.specs.declared.tag.Class.TheVariants.{Application, Context}
+use Rattle.bac_value.specs.declared.tag.Form.TheVariants as form
+use Rattle.bac_value.specs.Spelling.{Mark, tag_spelling}
+use Rattle.bac_value.specs.Value.{ObjectId, IsNumber, IsInteger, IsObject}
+use Rattle.bac_value.specs.Data.{opening, closing, IsData}
+
+abbrev pub Octets : Type 0
+Octets = List ℕ
+
+-- one behind the other
+infixr 15 ◌⨾◌
+pub record ◌⨾◌ (P Q : Octets → Type 0) (bytes : Octets) : Type 0 where
+  pub front : Octets
+  pub back : Octets
+  pub first : P front
+  pub second : Q back
+  pub is : bytes ≡ front ++ back
+
+-- a member that may be absent
+abbrev pub Optional : {A : Type 0} → (A → Octets → Type 0) → Option A → Octets → Type 0
+Optional Spells None bytes = bytes ≡ []
+Optional Spells (Some x) bytes = Spells x bytes
+
+-- between an opening and a closing tag of that number
+pub record Enclosed (number : ℕ) (P : Octets → Type 0) (bytes : Octets) : Type 0 where
+  pub inside : Octets
+  pub are : P inside
+  pub is : bytes ≡ opening number ++ (inside ++ closing number)
+
+-- a tag of that class and number, with so many octets of contents behind it
+abbrev pub mark_of : Class → ℕ → ℕ → Mark
+mark_of class number len = record { number = number; class = class; form = form.Length len }
+
+-- such a tag, and contents of which something is said
+pub record Tagged (class : Class) (number : ℕ) (IsContents : Octets → Type 0) (bytes : Octets) : Type 0 where
+  pub contents : Octets
+  pub are : IsContents contents
+  pub fits : length contents < 2 ^ 32
+  pub is : bytes ≡ tag_spelling (mark_of class number (length contents)) ++ contents
+
+-- a priority for writing, 1 to 16 (clause 19.2)
+pub record IsPriority (n : ℕ) (xs : Octets) : Type 0 where
+  pub least : 0 < n
+  pub most : n ≤ 16
+  pub number : IsNumber 8 n xs
+
+abbrev pub IsString : Octets → Octets → Type 0
+IsString octets xs = xs ≡ octets
+
+-- ---- members with an application tag (clauses 20.2.3 to 20.2.14)
+
+abbrev pub ApplicationObject : ObjectId → Octets → Type 0
+ApplicationObject o = Tagged Application 12 (IsObject o)
+
+abbrev pub ApplicationSigned : ℤ → Octets → Type 0
+ApplicationSigned z = Tagged Application 3 (IsInteger 8 z)
+
+abbrev pub ApplicationUnsigned : ℕ → Octets → Type 0
+ApplicationUnsigned n = Tagged Application 2 (IsNumber 8 n)
+
+abbrev pub ApplicationString : Octets → Octets → Type 0
+ApplicationString octets = Tagged Application 6 (IsString octets)
+
+abbrev pub ApplicationBoolean : Bool → Octets → Type 0
+ApplicationBoolean b bytes = bytes ≡ tag_spelling (record { number = 1; class = Application; form = form.Boolean b })
+
+-- so many octet strings, joined
+abbrev pub AreStrings : ℕ → Octets → Type 0
+AreStrings zero run = run ≡ []
+AreStrings (suc count) run = (Tagged Application 6 (λ xs. Unit {0}) ⨾ AreStrings count) run
+
+-- ---- data
+
+-- the octets are data, and they are these
+pub record AreData (values bytes : Octets) : Type 0 where
+  pub spelled : IsData values
+  pub is : bytes ≡ values

@@ -1,0 +1,27 @@
+-- What spells the service data of a ComplexACK (clause 21).
+use Rattle.std.specs.Prelude.{◌≡◌, ℕ, ◌^◌, ◌<◌, length}
+use Rattle.bac_value.specs.declared.tag.Class.TheVariants.{Context}
+use Rattle.bac_value.specs.Value.{IsInteger}
+use Rattle.bac_value.specs.Data.{IsData}
+use Rattle.bac_service.specs.Values.{Complex, complex_choice_of}
+use Rattle.bac_service.specs.Values.Complex.{FileRead, StreamWritten, RecordsWritten, PropertyRead}
+use Rattle.bac_service.specs.Members.{Octets, ◌⨾◌, Enclosed, Tagged, ApplicationBoolean, ApplicationSigned, ApplicationString, AreData}
+use Rattle.bac_service.specs.Requests.{SpellsReference}
+
+abbrev pub SpellsAnswer : Complex → Octets → Type 0
+SpellsAnswer (FileRead end_of_file start octets) = ApplicationBoolean end_of_file ⨾ Enclosed 0 (ApplicationSigned start ⨾ ApplicationString octets)
+SpellsAnswer (StreamWritten start) = Tagged Context 0 (IsInteger 8 start)
+SpellsAnswer (RecordsWritten start) = Tagged Context 1 (IsInteger 8 start)
+SpellsAnswer (PropertyRead r values) = SpellsReference r ⨾ Enclosed 3 (AreData values)
+
+-- the octets are the service data of an answer to a request of this choice
+pub record SpellsComplex (choice : ℕ) (c : Complex) (bytes : Octets) : Type 0 where
+  pub choice_is : choice ≡ complex_choice_of c
+  pub members : SpellsAnswer c bytes
+
+-- what an answer's content and data are, whatever else it says
+abbrev pub IsMadeOf : Complex → Type 0
+IsMadeOf (FileRead end_of_file start octets) = length octets < 2 ^ 32
+IsMadeOf (StreamWritten start) = Unit {0}
+IsMadeOf (RecordsWritten start) = Unit {0}
+IsMadeOf (PropertyRead r values) = IsData values

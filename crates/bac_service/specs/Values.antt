@@ -1,0 +1,64 @@
+-- The requests and replies of the four services (clause 21), as plain values.
+use Rattle.std.specs.Prelude.{ℕ, ℤ, Bool, List, Option}
+use Rattle.bac_value.specs.Value.{ObjectId}
+
+-- which property of which object, and which element of it
+pub record Reference : Type 0 where
+  pub object : ObjectId
+  pub property : ℕ
+  pub index : Option ℕ
+
+-- where a file is read: from an octet on, or from a record on, and how many of them
+pub data ReadAccess : Type 0 where
+  ReadStream : (start : ℤ) (count : ℕ) → ReadAccess
+  ReadRecords : (start : ℤ) (count : ℕ) → ReadAccess
+
+-- where a file is written, and what; a run is octet strings, each spelled with its application tag, joined
+pub data WriteAccess : Type 0 where
+  WriteStream : (start : ℤ) (octets : List ℕ) → WriteAccess
+  WriteRecords : (start : ℤ) (count : ℕ) (run : List ℕ) → WriteAccess
+
+-- values are the octets of data
+pub data Request : Type 0 where
+  ReadFile : (file : ObjectId) (access : ReadAccess) → Request
+  WriteFile : (file : ObjectId) (access : WriteAccess) → Request
+  ReadProperty : (reference : Reference) → Request
+  WriteProperty : (reference : Reference) (values : List ℕ) (priority : Option ℕ) → Request
+
+-- what a ComplexACK answers
+pub data Complex : Type 0 where
+  FileRead : (end_of_file : Bool) (start : ℤ) (octets : List ℕ) → Complex
+  StreamWritten : (start : ℤ) → Complex
+  RecordsWritten : (start : ℤ) → Complex
+  PropertyRead : (reference : Reference) (values : List ℕ) → Complex
+
+pub data Reply : Type 0 where
+  Simple : Reply
+  Whole : Complex → Reply
+  Error : (class code : ℕ) → Reply
+  Reject : (reason : ℕ) → Reply
+
+-- the service choices (clause 21, BACnetConfirmedServiceChoice)
+abbrev pub READ_FILE : ℕ
+READ_FILE = 6
+
+abbrev pub WRITE_FILE : ℕ
+WRITE_FILE = 7
+
+abbrev pub READ_PROPERTY : ℕ
+READ_PROPERTY = 12
+
+abbrev pub WRITE_PROPERTY : ℕ
+WRITE_PROPERTY = 15
+
+abbrev pub choice_of : Request → ℕ
+choice_of (ReadFile file access) = READ_FILE
+choice_of (WriteFile file access) = WRITE_FILE
+choice_of (ReadProperty reference) = READ_PROPERTY
+choice_of (WriteProperty reference values priority) = WRITE_PROPERTY
+
+abbrev pub complex_choice_of : Complex → ℕ
+complex_choice_of (FileRead end_of_file start octets) = READ_FILE
+complex_choice_of (StreamWritten start) = WRITE_FILE
+complex_choice_of (RecordsWritten start) = WRITE_FILE
+complex_choice_of (PropertyRead reference values) = READ_PROPERTY

@@ -1,0 +1,145 @@
+//! Members one by one: a tag that is looked at first, and then the contents behind it.
+ghost use Rattle.std.specs.Prelude.{◌≡◌, ◌≤◌, ◌<◌, ◌==◌, ◌&&◌, ◌-◌, length, take, IfOk, MatchResult, Some, None, Ok};
+ghost use Rattle.bac_value.specs.Views.{mark, object_id};
+ghost use Rattle.bac_value.specs.Reading.{tag_at, number_at, signed_at, object_at, kind_at};
+ghost use Rattle.bac_service.specs.Reading.{Reads, kept, announced, head_at, member_at, is_next, is_opened, is_opening, is_closing, tag_that, opening_at, closing_at, values_at};
+
+use crate::stop::{Stop, Why};
+use bac_value::{Class, Form, Octets, Tag, take_data, take_tag};
+
+/// The next tag.
+pub(crate) fn tag<O: Octets>(octets: O) -> Result<(Tag, O), Stop>
+    ensures reads { Reads mark O.octets (O.octets octets) result (λ bytes. kept (tag_at bytes)) }
+    ensures onward { IfOk result (λ r. length (O.octets r.1) < length (O.octets octets)) }
+{
+    let left = octets.len();
+    match take_tag(octets) {
+        Ok(read) => Ok(read),
+        Err(kind) => {
+            let why = if left == 0 {
+                Why::Missing
+            } else {
+                Why::Fault(kind)
+            };
+            Err(Stop { why, left })
+        }
+    }
+}
+
+#[tactic(auto, unfolding(crate::specs::Reading::announced))]
+pub(crate) fn announced_by(tag: Tag, class: Class, number: u8) -> Option<usize>
+    ensures { result ≡ announced class number (mark tag) }
+{
+    let is_same = match (class, tag.class) {
+        (Class::Application, Class::Application) | (Class::Context, Class::Context) => true,
+        _ => false,
+    };
+    match tag.form {
+        Form::Length(len) if is_same && number == tag.number => Some(len as usize),
+        _ => None,
+    }
+}
+
+/// The tag of a class and number: how many octets of contents it announces.
+#[tactic(auto, unfolding(crate::specs::Reading::head_at))]
+pub(crate) fn head<O: Octets>(octets: O, class: Class, number: u8) -> Result<(usize, O), Stop>
+    ensures reads { Reads (λ k. k) O.octets (O.octets octets) result (head_at class number) }
+    ensures onward { IfOk result (λ r. length (O.octets r.1) < length (O.octets octets)) }
+{
+    let left = octets.len();
+    let (tag, rest) = tag(octets)?;
+    match announced_by(tag, class, number) {
+        Some(len) => Ok((len, rest)),
+        None => Err(Stop {
+            why: Why::Unexpected,
+            left,
+        }),
+    }
+}
+
+/// Whether the next tag is that of an optional member; at the end none comes.
+#[tactic(auto, unfolding(crate::specs::Reading::is_next))]
+pub(crate) fn comes_next<O: Octets>(octets: O, number: u8) -> Result<bool, Stop>
+    ensures { MatchResult result (λ b. is_next number (O.octets octets) ≡ Some b) (λ e. is_next number (O.octets octets) ≡ None) }
+{
+    if octets.len() == 0 {
+        return Ok(false);
+    }
+    let (tag, _) = tag(octets)?;
+    Ok(announced_by(tag, Class::Context, number).is_some())
+}
+
+/// Whether the next tag is the opening tag of a number.
+#[tactic(auto, unfolding(crate::specs::Reading::is_opened))]
+pub(crate) fn opens_next<O: Octets>(octets: O, number: u8) -> Result<bool, Stop>
+    ensures { MatchResult result (λ b. is_opened number (O.octets octets) ≡ Some b) (λ e. is_opened number (O.octets octets) ≡ None) }
+{
+    let (tag, _) = tag(octets)?;
+    Ok(opens(tag, number))
+}
+
+fn opens(tag: Tag, number: u8) -> bool
+    ensures { result ≡ (is_opening tag.form && (number == tag.number)) }
+{
+    match tag.form {
+        Form::Opening => number == tag.number,
+        _ => false,
+    }
+}
+
+fn closes(tag: Tag, number: u8) -> bool
+    ensures { result ≡ (is_closing tag.form && (number == tag.number)) }
+{
+    match tag.form {
+        Form::Closing => number == tag.number,
+        _ => false,
+    }
+}
+
+/// What is behind the opening tag of a number.
+#[tactic(auto, unfolding(crate::specs::Reading::tag_that))]
+pub(crate) fn opening<O: Octets>(octets: O, number: u8) -> Result<O, Stop>
+    ensures { MatchResult result (λ rest. (length (O.octets rest) ≤ length (O.octets octets)) × (opening_at number (O.octets octets) ≡ Some (O.octets rest)))
+        (λ e. opening_at number (O.octets octets) ≡ None) }
+{
+    let left = octets.len();
+    let (tag, rest) = tag(octets)?;
+    if opens(tag, number) {
+        Ok(rest)
+    } else {
+        Err(Stop {
+            why: Why::Unexpected,
+            left,
+        })
+    }
+}
+
+/// What is behind the closing tag of a number.
+#[tactic(auto, unfolding(crate::specs::Reading::tag_that))]
+pub(crate) fn closing<O: Octets>(octets: O, number: u8) -> Result<O, Stop>
+    ensures { MatchResult result (λ rest. (length (O.octets rest) ≤ length (O.octets octets)) × (closing_at number (O.octets octets) ≡ Some (O.octets rest)))
+        (λ e. closing_at number (O.octets octets) ≡ None) }
+{
+    let left = octets.len();
+    let (tag, rest) = tag(octets)?;
+    if closes(tag, number) {
+        Ok(rest)
+    } else {
+        Err(Stop {
+            why: Why::Unexpected,
+            left,
+        })
+    }
+}
+
+/// Data up to the end or a closing tag, and what is behind them.
+#[tactic(auto, unfolding(crate::specs::Reading::values_at))]
+pub(crate) fn values<O: Octets>(octets: O) -> Result<(O, O), Stop>
+    ensures { Reads O.octets O.octets (O.octets octets) result values_at }
+{
+    let left = octets.len();
+    match take_data(octets) {
+        Ok(read) => Ok(read),
+        Err(fault) => Err(Stop::fault(fault.kind, left.saturating_sub(fault.at))),
+    }
+}

@@ -1,0 +1,40 @@
+use thiserror::Error;
+
+/// Why a request is rejected (clause 18.9). The number of each is its place in this list, from 0.
+#[derive(Clone, Copy, Debug, PartialEq, Eq, Error)]
+pub enum Reject {
+    #[error("other")]
+    Other,
+    #[error("buffer overflow")]
+    BufferOverflow,
+    /// A count that is not the number of what it counts.
+    #[error("inconsistent parameters")]
+    InconsistentParameters,
+    /// Contents that no value of the member's type has.
+    #[error("invalid parameter data type")]
+    InvalidParameterDataType,
+    /// A tag that is not the member's, a tag that no member has, or tags that are not balanced.
+    #[error("invalid tag")]
+    InvalidTag,
+    /// The octets end before the request does.
+    #[error("missing required parameter")]
+    MissingRequiredParameter,
+    /// A priority outside 1 to 16.
+    #[error("parameter out of range")]
+    ParameterOutOfRange,
+    /// Octets behind the last member.
+    #[error("too many arguments")]
+    TooManyArguments,
+    #[error("undefined enumeration")]
+    UndefinedEnumeration,
+    /// A service choice other than 6, 7, 12 and 15.
+    #[error("unrecognized service")]
+    UnrecognizedService,
+}
+
+impl Reject {
+    /// The number of the reason, 0 to 9 (clause 18.9).
+    pub fn reason(self) -> u8 {
+        self as u8
+    }
+}

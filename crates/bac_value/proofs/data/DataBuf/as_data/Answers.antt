@@ -1,0 +1,6 @@
+use Rattle.std.proofs.Common.{subst, sym, List, ℕ}
+use Rattle.bac_value.specs.Data.{IsData}
+use Rattle.bac_value.proofs.data.DataBuf.as_data.Goals as goal
+
+pub invariant_of-result : goal.invariant_of-result
+invariant_of-result c = record { whole = subst (λ (xs : List ℕ). ∥ IsData xs ∥₁) (sym c.as_slice.ensures.value) c.args.self.now.whole }
