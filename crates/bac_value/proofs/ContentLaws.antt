@@ -32,7 +32,7 @@ object_right_of xs fits h = object_meant xs fits (eqb-true _ _ h.len)
 
 -- ---- what a value's contents give
 
-object_again : (i : ObjectId) (xs : List ℕ) → IsObject i xs → object_in xs ≡ i
+pub object_again : (i : ObjectId) (xs : List ℕ) → IsObject i xs → object_in xs ≡ i
 object_again i xs h =
     let n = i.kind * 2 ^ 22 + i.instance in
     let len : length xs ≡ 4 = ap length h.is in
