@@ -7,3 +7,4 @@ pub mod Accesses
 pub mod Wholes
 pub mod Runs
 pub mod Spelled
+pub mod LengthLaws
