@@ -32,3 +32,5 @@ pub use route::Route;
 
 #[cfg(test)]
 mod examples;
+#[cfg(test)]
+mod tests;
