@@ -37,7 +37,10 @@ fn faults(rt: HostRuntime) {
         (b"\x50\x03\x0C\x91\x01\x21", ApduFault::Truncated),
         (b"\x50\x03\x0C\x92\x00\x01", ApduFault::BadError),
         (b"\x50\x03\x0C\x90", ApduFault::BadError),
-        (b"\x50\x03\x0C\x95\x05\x00\x00\x00\x00\x01", ApduFault::BadError),
+        (
+            b"\x50\x03\x0C\x95\x05\x00\x00\x00\x00\x01",
+            ApduFault::BadError,
+        ),
         (b"\x50\x03\x0C\x99\x01\x91\x1F", ApduFault::BadError),
         (b"\x50\x03\x0C\x91\x01\x91\x1F\x00", ApduFault::Trailing),
         (b"\x60\x02", ApduFault::Truncated),
@@ -134,7 +137,11 @@ fn limits(rt: HostRuntime) {
         assert_eq!(rt; Window::new(size).is_some(), is_some, "{size}");
     }
     for (segments, apdu, is_some) in [(7, 5, true), (8, 0, false), (0, 6, false), (0, 0, true)] {
-        assert_eq!(rt; Codes::new(segments, apdu).is_some(), is_some, "{segments} {apdu}");
+        assert_eq!(rt;
+            Codes::new(segments, apdu).is_some(),
+            is_some,
+            "{segments} {apdu}"
+        );
     }
 }
 
