@@ -30,7 +30,8 @@ MayArrive overtake now k c = (now - c.moment ≤ LIFE) × (k ≤ overtake)
 
 -- every copy of the transaction that may arrive was sent since its newest ask was made
 abbrev pub AreOfNewest : Rules → Net → Type 0
-AreOfNewest x n = (key : Key) (t : Ticket) → n.tickets key ≡ Some t → EachCopy (λ k c. MayArrive x.overtake n.now k c → t.ask.first ≤ c.moment) (copies_of key n.posts)
+AreOfNewest x n = (key : Key) (t : Ticket) → n.tickets key ≡ Some t
+    → EachCopy (λ k c. MayArrive x.overtake n.now k c → t.ask.first ≤ c.moment) (copies_of key n.posts)
 
 -- a segment, with k later copies, is a piece of these, whose whole number is not far behind
 pub record IsPiece (W : ℕ) (pieces : List Octets) (sent k : ℕ) (segment : Segment) (octets : Octets) : Type 0 where
@@ -50,7 +51,8 @@ pub record IsAck (W taken sent k number : ℕ) : Type 0 where
 
 -- the same of the APDUs of a request's transfer
 abbrev pub IsNearUp : (W : ℕ) → List Octets → (taken sent : ℕ) → ℕ → Apdu → Type 0
-IsNearUp W pieces taken sent k (ConfirmedRequest takes_segments max_segments max_apdu invoke (Some segment) choice service) = IsPiece W pieces sent k segment service
+IsNearUp W pieces taken sent k (ConfirmedRequest takes_segments max_segments max_apdu invoke (Some segment) choice service) =
+    IsPiece W pieces sent k segment service
 IsNearUp W pieces taken sent k (SegmentAck nak true invoke number window) = IsAck W taken sent k number
 IsNearUp W pieces taken sent k _ = Unit {0}
 

@@ -2,3 +2,4 @@ pub mod Cut
 pub mod Joined
 pub mod Reach
 pub mod Unique
+pub mod Same

@@ -1,5 +1,5 @@
 //! The receiver of a transfer. It keeps the octets of each segment in a vector of their own, and joins nothing.
-ghost use Rattle.std.specs.Prelude.{◌≡◌, ◌+◌, ◌≤◌, ◌∷◌, ◌++◌, [], length, OnOk, OnErr, IsOkUnless};
+ghost use Rattle.std.specs.Prelude.{◌≡◌, ◌+◌, ◌≤◌, ◌↔◌, ◌∷◌, ◌++◌, [], length, IsTrue, OnOk, OnErr, IsOkUnless};
 ghost use Rattle.bac_value.specs.Views.{octets_in};
 ghost use Rattle.bac_segment.specs.Answers.{Takes, answer_of};
 ghost use Rattle.bac_segment.specs.Limits.{DATA};
@@ -140,6 +140,19 @@ impl Incoming {
             }
         }
         Ok(step)
+    }
+
+    /// Whether both hold the same parts and stand alike.
+    pub fn same(&self, other: &Incoming) -> bool
+        ensures { IsTrue result ↔ (self.now ≡ other.now) }
+    {
+        if self.unacknowledged != other.unacknowledged {
+            return false;
+        }
+        if self.window != other.window {
+            return false;
+        }
+        self.parts == other.parts
     }
 
     /// Keeps the octets of one more segment.

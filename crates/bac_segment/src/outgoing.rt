@@ -201,6 +201,23 @@ impl Outgoing {
         self.at.retries = RETRY_LIMIT;
     }
 
+    /// Whether both have the same pieces and stand alike.
+    pub fn same(&self, other: &Outgoing) -> bool
+        ensures { IsTrue result ↔ (self.now ≡ other.now) }
+    {
+        if self.at != other.at {
+            return false;
+        }
+        if self.count != other.count {
+            return false;
+        }
+        // one piece is the same whatever size it might have had
+        if self.count > 1 && self.size != other.size {
+            return false;
+        }
+        self.octets == other.octets
+    }
+
     /// The sender stands there again: this undoes a step that the caller could not finish.
     pub fn go_back(&mut self, to: Position)
         requires { to.first ≤ length self.old.pieces }

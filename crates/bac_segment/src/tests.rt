@@ -2,6 +2,7 @@
 ghost use Rattle.std.specs.Prelude.{◌≤◌};
 
 use crate::{Incoming, Outgoing, Progress, SegmentFault, Step, Timeout};
+use bac_value::Octets;
 use std::alloc::Global;
 use std::test::Fail;
 
@@ -195,4 +196,62 @@ fn stops_and_goes_on(rt: HostRuntime) -> Result<(), Fail> {
         (0, 1, 3)
     );
     Ok(())
+}
+
+#[test]
+fn tells_what_is_the_same(rt: HostRuntime) -> Result<(), Fail> {
+    // octets and size of one, octets and size of the other, whether their pieces are the same
+    let table = [
+        (1, 5, 1, 6, true),
+        (0, 5, 0, 6, true),
+        (6, 5, 6, 6, false),
+        (6, 3, 6, 5, false),
+        (6, 3, 6, 3, true),
+        (6, 3, 5, 3, false),
+    ];
+    for (len, size, other_len, other_size, same) in table {
+        assert!(rt; size > 0);
+        assert!(rt; other_size > 0);
+        let mut out = sender(rt.alloc(), len, size)?;
+        let other = sender(rt.alloc(), other_len, other_size)?;
+        assert_eq!(rt;
+            out.same(&other),
+            same,
+            "{len} by {size} and {other_len} by {other_size}"
+        );
+        let _ = out.on_timeout();
+        assert!(rt; !out.same(&other));
+    }
+    let mut inc = Incoming::new(rt.alloc(), 32, 32);
+    let mut other = Incoming::new(rt.alloc(), 64, 32);
+    assert!(rt; inc.same(&other));
+    assert!(rt; !inc.same(&Incoming::new(rt.alloc(), 16, 32)));
+    assert_eq!(rt;
+        inc.on_segment(0, true, b"ab"),
+        Ok(Step::Taken { ack: true })
+    );
+    assert!(rt; !inc.same(&other));
+    assert_eq!(rt;
+        other.on_segment(0, true, b"ac"),
+        Ok(Step::Taken { ack: true })
+    );
+    assert!(rt; !inc.same(&other));
+    Ok(())
+}
+
+/// Run with each allocation refused in turn, too: a refused segment changes nothing, and is taken when it comes again.
+#[test]
+fn takes_a_segment_that_was_refused(rt: HostRuntime) {
+    let mut inc = Incoming::new(rt.alloc(), 4, 32);
+    for n in 0..12u8 {
+        let ack = n % 4 == 0;
+        let before = (inc.taken(), inc.len());
+        let mut step = inc.on_segment(n, true, b"abc");
+        if step == Err(SegmentFault::NoMemory) {
+            assert_eq!(rt; (inc.taken(), inc.len()), before, "segment {n}");
+            step = inc.on_segment(n, true, b"abc");
+        }
+        assert_eq!(rt; step, Ok(Step::Taken { ack }), "segment {n}");
+    }
+    assert_eq!(rt; inc.parts().len(), 36);
 }

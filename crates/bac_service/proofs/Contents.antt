@@ -1,5 +1,5 @@
 -- Contents that are read with their length are exactly those of their kind.
-use Rattle.std.proofs.Common.{◌≡◌, ℕ, ◌+◌, ◌*◌, ◌<◌, ◌/◌, ◌%◌, ◌^◌, List, [], ◌∷◌, lit<, ◌++◌, length, Ok, refl, sym, ap, subst, ◌∙◌, arith}
+use Rattle.std.proofs.Common.{◌≡◌, ℕ, ◌+◌, ◌*◌, ◌<◌, ◌/◌, ◌%◌, ◌^◌, [], ◌∷◌, lit<, ◌++◌, length, Ok, refl, sym, ap, subst, ◌∙◌, arith}
 use Rattle.std.specs.Int.{w32, from_be_bytes}
 use Rattle.std.proofs.lemmas.Bool.{eqb-true}
 use Rattle.bac_value.proofs.Tags.{wide32}
@@ -7,7 +7,7 @@ use Rattle.bac_value.specs.Octets.{IsBytes}
 use Rattle.bac_value.specs.Number.{number_in, signed_in}
 use Rattle.bac_value.specs.Value.{Datum, null, boolean, unsigned, signed, real, double, octets, characters, bits, enumerated, date, time, object, ObjectId, kind_number, IsContents, IsNumber, IsInteger, IsObject}
 use Rattle.bac_value.specs.Reading.{kind_at, number_at, signed_at, object_at}
-use Rattle.bac_value.proofs.Steps.{bind_ok, ok_is, Takes}
+use Rattle.bac_value.proofs.Steps.{bind_ok, ok_is}
 use Rattle.bac_value.proofs.Elements.{kind_front, kind_of, right_again}
 use Rattle.bac_value.proofs.RightContents.{kind_again, object_of}
 use Rattle.bac_service.specs.Members.{Octets, IsString}
@@ -79,13 +79,13 @@ number_law : (n most : ℕ) → n < 13 → ((d : Datum) (xs : Octets) → kind_n
 unfolding number_at
 number_law n most lt to back = record {
   takes = λ k bytes x fits e.
-    let c = bind_ok (kind_at n k bytes) (λ c. Ok (number_in c.0, c.1)) x e in
-    let f = front_of n k bytes c.0 lt fits c.1 in
-    subst (λ (z : ℕ × Octets). (text : Octets) × (bytes ≡ text ++ z.1) × (length text ≡ k) × IsNumber most z.0 text) (ok_is (number_in c.0.0, c.0.1) x c.2) (c.0.0, f.is, f.len, to f.value c.0.0 f.kind f.contents);
+      let c = bind_ok (kind_at n k bytes) (λ c. Ok (number_in c.0, c.1)) x e in
+      let f = front_of n k bytes c.0 lt fits c.1 in
+      subst (λ (z : ℕ × Octets). (text : Octets) × (bytes ≡ text ++ z.1) × (length text ≡ k) × IsNumber most z.0 text) (ok_is (number_in c.0.0, c.0.1) x c.2) (c.0.0, f.is, f.len, to f.value c.0.0 f.kind f.contents);
   again = λ y text rest s.
-    let d = back y in
-    let right = subst (λ (m : ℕ). kind_at m (length text) (text ++ rest) ≡ Ok (text, rest)) d.1 (right_again (kind_number d.0) (length text) text rest refl (kind_again d.0 text (d.2 text s))) in
-    rw (right, s.spelled.sum) refl;
+      let d = back y in
+      let right = subst (λ (m : ℕ). kind_at m (length text) (text ++ rest) ≡ Ok (text, rest)) d.1 (right_again (kind_number d.0) (length text) text rest refl (kind_again d.0 text (d.2 text s))) in
+      rw (right, s.spelled.sum) refl;
 }
 
 pub long_law : IsContentsLaw (number_at 2) (IsNumber 8)
@@ -98,11 +98,11 @@ pub signed_law : IsContentsLaw signed_at (IsInteger 8)
 unfolding signed_at
 signed_law = record {
   takes = λ k bytes x fits e.
-    let c = bind_ok (kind_at 3 k bytes) (λ c. Ok (signed_in c.0, c.1)) x e in
-    let f = front_of 3 k bytes c.0 (lit< tt) fits c.1 in
-    subst (λ z. (text : Octets) × (bytes ≡ text ++ z.1) × (length text ≡ k) × IsInteger 8 z.0 text) (ok_is (signed_in c.0.0, c.0.1) x c.2) (c.0.0, f.is, f.len, integer_of f.value c.0.0 f.kind f.contents);
+      let c = bind_ok (kind_at 3 k bytes) (λ c. Ok (signed_in c.0, c.1)) x e in
+      let f = front_of 3 k bytes c.0 (lit< tt) fits c.1 in
+      subst (λ z. (text : Octets) × (bytes ≡ text ++ z.1) × (length text ≡ k) × IsInteger 8 z.0 text) (ok_is (signed_in c.0.0, c.0.1) x c.2) (c.0.0, f.is, f.len, integer_of f.value c.0.0 f.kind f.contents);
   again = λ y text rest s.
-    rw (right_again 3 (length text) text rest refl (kind_again (signed y) text s), s.spelled.sum) refl;
+      rw (right_again 3 (length text) text rest refl (kind_again (signed y) text s), s.spelled.sum) refl;
 }
 
 -- four octets as one number
@@ -134,19 +134,19 @@ pub object_law : IsContentsLaw object_at IsObject
 unfolding object_at
 object_law = record {
   takes = λ k bytes x fits e.
-    let c = bind_ok (kind_at 12 k bytes) (λ c. Ok (object_in c.0, c.1)) x e in
-    let f = kind_front 12 k bytes c.0 fits c.1 in
-    subst (λ (z : ObjectId × Octets). (text : Octets) × (bytes ≡ text ++ z.1) × (length text ≡ k) × IsObject z.0 text) (ok_is (object_in c.0.0, c.0.1) x c.2)
-    (c.0.0, f.raw.took.parts, f.raw.len, object_front c.0.0 f.raw.fits (eqb-true _ _ f.right.len));
+      let c = bind_ok (kind_at 12 k bytes) (λ c. Ok (object_in c.0, c.1)) x e in
+      let f = kind_front 12 k bytes c.0 fits c.1 in
+      subst (λ (z : ObjectId × Octets). (text : Octets) × (bytes ≡ text ++ z.1) × (length text ≡ k) × IsObject z.0 text) (ok_is (object_in c.0.0, c.0.1) x c.2)
+      (c.0.0, f.raw.took.parts, f.raw.len, object_front c.0.0 f.raw.fits (eqb-true _ _ f.right.len));
   again = λ y text rest s.
-    let right = kind_again (object y) text s in
-    rw (right_again 12 (length text) text rest refl right, object_sum y text s (eqb-true _ _ right.len)) refl;
+      let right = kind_again (object y) text s in
+      rw (right_again 12 (length text) text rest refl right, object_sum y text s (eqb-true _ _ right.len)) refl;
 }
 
 pub string_law : IsContentsLaw (kind_at 6) IsString
 string_law = record {
   takes = λ k bytes x fits e.
-    let f = kind_front 6 k bytes x fits e in
-    (x.0, f.raw.took.parts, f.raw.len, refl);
+      let f = kind_front 6 k bytes x fits e in
+      (x.0, f.raw.took.parts, f.raw.len, refl);
   again = λ y text rest s. rw (right_again 6 (length text) text rest refl (kind_again (octets text) text refl), s) refl;
 }

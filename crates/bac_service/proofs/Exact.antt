@@ -1,5 +1,5 @@
 -- Readings on lists that take exactly what is spelled, and how they follow each other.
-use Rattle.std.proofs.Common.{◌≡◌, ℕ, ◌+◌, ◌<◌, Bool, true, false, List, [], ◌∷◌, ◌++◌, length, Option, Some, None, cond, ◌⊎◌, inl, inr, refl, sym, ap, subst, ◌∙◌, append_assoc}
+use Rattle.std.proofs.Common.{◌≡◌, ℕ, ◌+◌, ◌<◌, Bool, true, false, [], ◌∷◌, ◌++◌, length, Option, Some, None, cond, ◌⊎◌, inl, inr, refl, sym, ap, subst, ◌∙◌, append_assoc}
 use Rattle.std.proofs.lemmas.List.{get_or-append-add, append-nil}
 use Rattle.bac_value.specs.Octets.{IsBytes}
 use Rattle.bac_service.specs.Members.{Octets, ◌⨾◌, Optional}
@@ -39,17 +39,17 @@ pub both_exact : {A B : Type 0} (F G : Octets → Type 0) (first : Octets → Op
     → IsExact G (both_at first second) (λ y. P y.0 ⨾ Q y.1)
 both_exact {A = A} {B = B} F G first second P Q one two link = record {
   takes = λ bytes x fits e.
-    let a = bind_some (first bytes) (λ a. second a.1 >>= λ b. Some ((a.0, b.0), b.1)) x e in
-    let b = bind_some (second a.0.1) (λ b. Some ((a.0.0, b.0), b.1)) x a.2 in
-    let t = one.takes bytes a.0 fits a.1 in
-    let u = two.takes a.0.1 b.0 (left_fits first P one bytes a.0 fits a.1) b.1 in
-    let whole_is : bytes ≡ (t.0 ++ u.0) ++ b.0.1 = t.1 ∙ ap (λ (r : Octets). t.0 ++ r) u.1 ∙ sym (append_assoc t.0 u.0 b.0.1) in
-    let is = some_is ((a.0.0, b.0.0), b.0.1) x b.2 in
-    subst (λ (y : (A × B) × Octets). (text : Octets) × (bytes ≡ text ++ y.1) × (P y.0.0 ⨾ Q y.0.1) text) is
-    (t.0 ++ u.0, whole_is, record { front = t.0; back = u.0; first = t.2; second = u.2; is = refl });
+      let a = bind_some (first bytes) (λ a. second a.1 >>= λ b. Some ((a.0, b.0), b.1)) x e in
+      let b = bind_some (second a.0.1) (λ b. Some ((a.0.0, b.0), b.1)) x a.2 in
+      let t = one.takes bytes a.0 fits a.1 in
+      let u = two.takes a.0.1 b.0 (left_fits first P one bytes a.0 fits a.1) b.1 in
+      let whole_is : bytes ≡ (t.0 ++ u.0) ++ b.0.1 = t.1 ∙ ap (λ (r : Octets). t.0 ++ r) u.1 ∙ sym (append_assoc t.0 u.0 b.0.1) in
+      let is = some_is ((a.0.0, b.0.0), b.0.1) x b.2 in
+      subst (λ (y : (A × B) × Octets). (text : Octets) × (bytes ≡ text ++ y.1) × (P y.0.0 ⨾ Q y.0.1) text) is
+      (t.0 ++ u.0, whole_is, record { front = t.0; back = u.0; first = t.2; second = u.2; is = refl });
   again = λ y text rest s follows.
-    let parts : text ++ rest ≡ s.front ++ (s.back ++ rest) = ap (λ (t : Octets). t ++ rest) s.is ∙ append_assoc s.front s.back rest in
-    ap (both_at first second) parts ∙ rw (one.again y.0 s.front (s.back ++ rest) s.first (link y.1 s.back rest s.second follows), two.again y.1 s.back rest s.second follows) refl;
+      let parts : text ++ rest ≡ s.front ++ (s.back ++ rest) = ap (λ (t : Octets). t ++ rest) s.is ∙ append_assoc s.front s.back rest in
+      ap (both_at first second) parts ∙ rw (one.again y.0 s.front (s.back ++ rest) s.first (link y.1 s.back rest s.second follows), two.again y.1 s.back rest s.second follows) refl;
 }
 
 -- a value made of what was read
@@ -59,9 +59,9 @@ Made {A = A} make P b text = (a : A) × (make a ≡ b) × P a text
 pub made_exact : {A B : Type 0} (F : Octets → Type 0) (make : A → B) (read : Octets → Option (A × Octets)) (P : A → Octets → Type 0) → IsExact F read P → IsExact F (made_at make read) (Made make P)
 made_exact {A = A} {B = B} F make read P law = record {
   takes = λ bytes x fits e.
-    let a = bind_some (read bytes) (λ a. Some (make a.0, a.1)) x e in
-    let t = law.takes bytes a.0 fits a.1 in
-    subst (λ (y : B × Octets). (text : Octets) × (bytes ≡ text ++ y.1) × Made make P y.0 text) (some_is (make a.0.0, a.0.1) x a.2) (t.0, t.1, (a.0.0, refl, t.2));
+      let a = bind_some (read bytes) (λ a. Some (make a.0, a.1)) x e in
+      let t = law.takes bytes a.0 fits a.1 in
+      subst (λ (y : B × Octets). (text : Octets) × (bytes ≡ text ++ y.1) × Made make P y.0 text) (some_is (make a.0.0, a.0.1) x a.2) (t.0, t.1, (a.0.0, refl, t.2));
   again = λ y text rest s follows. rw (law.again s.0 text rest s.2 follows, s.1) refl;
 }
 
@@ -84,10 +84,10 @@ pub that_exact : {A : Type 0} (F : Octets → Type 0) (test : A → Bool) (read 
 unfolding that_at
 that_exact {A = A} F test read P law = record {
   takes = λ bytes x fits e.
-    let a = bind_some (read bytes) (λ x. cond (test x.0) (Some x) None) x e in
-    let i = that_is (test a.0.0) a.0 x a.2 in
-    let t = law.takes bytes a.0 fits a.1 in
-    subst (λ (y : A × Octets). (text : Octets) × (bytes ≡ text ++ y.1) × That test P y.0 text) i.1 (t.0, t.1, (i.0, t.2));
+      let a = bind_some (read bytes) (λ x. cond (test x.0) (Some x) None) x e in
+      let i = that_is (test a.0.0) a.0 x a.2 in
+      let t = law.takes bytes a.0 fits a.1 in
+      subst (λ (y : A × Octets). (text : Octets) × (bytes ≡ text ++ y.1) × That test P y.0 text) i.1 (t.0, t.1, (i.0, t.2));
   again = λ y text rest s follows. rw (law.again y text rest s.1 follows, s.0) refl;
 }
 
@@ -106,8 +106,8 @@ pub either_exact : {A : Type 0} (F G H : Octets → Type 0) (test : Octets → O
     → IsExact F (either_at test one other) Spells
 either_exact F G H test one other P Q Spells is p q = record {
   takes = λ bytes x fits e.
-    let b = bind_some (test bytes) (λ b. chosen_at b one other bytes) x e in
-    chosen_takes F G H test one other P Q Spells is p q bytes x fits b.0 b.2;
+      let b = bind_some (test bytes) (λ b. chosen_at b one other bytes) x e in
+      chosen_takes F G H test one other P Q Spells is p q bytes x fits b.0 b.2;
   again = λ y text rest s follows. elim (is.told y text rest s follows) [
     | inl t ↦ rw (t.1, p.again y text rest t.0 t.2) refl
     | inr t ↦ rw (t.1, q.again y text rest t.0 t.2) refl
@@ -140,8 +140,8 @@ pub optional_exact : {A : Type 0} (number : ℕ) (read : Octets → Option (A ×
 unfolding optional_at
 optional_exact number read P law begins = record {
   takes = λ bytes x fits e.
-    let n = bind_some (is_next number bytes) (λ next. present next read bytes) x e in
-    present_takes read P law bytes x fits n.0 n.2;
+      let n = bind_some (is_next number bytes) (λ next. present next read bytes) x e in
+      present_takes read P law bytes x fits n.0 n.2;
   again = optional_again number read P law begins;
 }
 

@@ -1,5 +1,5 @@
 -- The laws of members: a tag of a class and number, with contents behind it.
-use Rattle.std.proofs.Common.{◌≡◌, ℕ, ◌+◌, ◌<◌, ◌^◌, Bool, true, false, cond, eqb, ◌&&◌, ◌==◌, nat_eq, List, [], ◌∷◌, ◌++◌, length, Option, Some, None, Result, Ok, Err, IsTrue, refl, sym, ap, subst, ◌∙◌, append_assoc}
+use Rattle.std.proofs.Common.{◌≡◌, ℕ, ◌<◌, ◌^◌, Bool, true, false, cond, nat_eq, ◌++◌, length, Some, None, Result, Ok, Err, IsTrue, refl, sym, ap, subst, ◌∙◌, append_assoc}
 use Rattle.std.proofs.lemmas.Bool.{eqb-true, eq-eqb}
 use Rattle.bac_value.specs.declared.fault.FaultKind.{FaultKind}
 use Rattle.bac_value.specs.declared.tag.Class.{Class}
@@ -12,8 +12,8 @@ use Rattle.bac_value.specs.Spelling.{Mark, tag_spelling, SpellsTag}
 use Rattle.bac_value.specs.Reading.{tag_at}
 use Rattle.bac_value.proofs.Tags.{tag_exact}
 use Rattle.bac_service.specs.Members.{Octets, mark_of, Tagged}
-use Rattle.bac_service.specs.Reading.{◌>>=◌, kept, same_class, length_of, announced, head_at, member_at}
-use Rattle.bac_service.proofs.Exact.{IsExact, Anything, bind_some, some_is, done, bytes_behind}
+use Rattle.bac_service.specs.Reading.{◌>>=◌, kept, length_of, announced, head_at, member_at}
+use Rattle.bac_service.proofs.Exact.{IsExact, Anything, bind_some, some_is, bytes_behind}
 
 pub kept_some : {A E : Type 0} (r : Result A E) (x : A) → kept r ≡ Some x → r ≡ Ok x
 kept_some (Ok y) x e = ap Ok (some_is y x e)
@@ -90,16 +90,16 @@ pub member_exact : {A : Type 0} → (class : Class) (number : ℕ) (read : ℕ �
 unfolding member_at
 member_exact {A = A} class number read Is fit law = record {
   takes = λ bytes x fits e.
-    let h = bind_some (head_at class number bytes) (λ h. kept (read h.0 h.1)) x e in
-    let took = head_takes class number bytes h.0 fits h.1 in
-    let c = law.takes h.0.0 h.0.1 x (bytes_behind (tag_spelling (mark_of class number h.0.0)) h.0.1 (subst IsBytes took.is fits)) (kept_some (read h.0.0 h.0.1) x h.2) in
-    let head = tag_spelling (mark_of class number h.0.0) in
-    let is : bytes ≡ (head ++ c.0) ++ x.1 = took.is ∙ ap (λ (r : Octets). head ++ r) c.1 ∙ sym (append_assoc head c.0 x.1) in
-    let short : length c.0 < 2 ^ 32 = subst (λ (k : ℕ). k < 2 ^ 32) (sym c.2) took.spelled.length_in in
-    let marked : head ≡ tag_spelling (mark_of class number (length c.0)) = ap (λ (k : ℕ). tag_spelling (mark_of class number k)) (sym c.2) in
-    (head ++ c.0, is, record { contents = c.0; are = c.3; fits = short; is = ap (λ (s : Octets). s ++ c.0) marked });
+      let h = bind_some (head_at class number bytes) (λ h. kept (read h.0 h.1)) x e in
+      let took = head_takes class number bytes h.0 fits h.1 in
+      let c = law.takes h.0.0 h.0.1 x (bytes_behind (tag_spelling (mark_of class number h.0.0)) h.0.1 (subst IsBytes took.is fits)) (kept_some (read h.0.0 h.0.1) x h.2) in
+      let head = tag_spelling (mark_of class number h.0.0) in
+      let is : bytes ≡ (head ++ c.0) ++ x.1 = took.is ∙ ap (λ (r : Octets). head ++ r) c.1 ∙ sym (append_assoc head c.0 x.1) in
+      let short : length c.0 < 2 ^ 32 = subst (λ (k : ℕ). k < 2 ^ 32) (sym c.2) took.spelled.length_in in
+      let marked : head ≡ tag_spelling (mark_of class number (length c.0)) = ap (λ (k : ℕ). tag_spelling (mark_of class number k)) (sym c.2) in
+      (head ++ c.0, is, record { contents = c.0; are = c.3; fits = short; is = ap (λ (s : Octets). s ++ c.0) marked });
   again = λ y text rest s follows.
-    let head = tag_spelling (mark_of class number (length s.contents)) in
-    let parts : text ++ rest ≡ head ++ (s.contents ++ rest) = ap (λ (t : Octets). t ++ rest) s.is ∙ append_assoc head s.contents rest in
-    rw (parts, head_again class number (length s.contents) (s.contents ++ rest) (fit (length s.contents)) s.fits, law.again y s.contents rest s.are) refl;
+      let head = tag_spelling (mark_of class number (length s.contents)) in
+      let parts : text ++ rest ≡ head ++ (s.contents ++ rest) = ap (λ (t : Octets). t ++ rest) s.is ∙ append_assoc head s.contents rest in
+      rw (parts, head_again class number (length s.contents) (s.contents ++ rest) (fit (length s.contents)) s.fits, law.again y s.contents rest s.are) refl;
 }

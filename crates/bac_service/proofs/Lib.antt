@@ -6,3 +6,5 @@ pub mod References
 pub mod Accesses
 pub mod Wholes
 pub mod Runs
+pub mod Spelled
+pub mod LengthLaws

@@ -1,8 +1,7 @@
 -- The laws of pairs of tags, of data between them, and of what comes next.
-use Rattle.std.proofs.Common.{◌≡◌, ℕ, ◌+◌, ◌-◌, ◌<◌, ◌^◌, Bool, true, false, cond, ◌&&◌, nat_eq, List, [], ◌∷◌, ◌++◌, length, take, Option, Some, None, is_some, Result, Ok, Err, IsTrue, refl, sym, ap, subst, ◌∙◌, append_assoc, arith}
-use Rattle.std.proofs.lemmas.Bool.{eqb-true, eq-eqb, lt-ltb, and_parts}
+use Rattle.std.proofs.Common.{◌≡◌, ℕ, ◌-◌, ◌<◌, Bool, true, false, cond, ◌&&◌, nat_eq, [], ◌++◌, length, take, Option, Some, None, is_some, IsTrue, refl, sym, ap, subst, ◌∙◌, append_assoc, arith}
+use Rattle.std.proofs.lemmas.Bool.{eqb-true, eq-eqb, lt-ltb}
 use Rattle.std.proofs.lemmas.List.{take_at, length-append}
-use Rattle.bac_value.specs.declared.fault.FaultKind.{FaultKind}
 use Rattle.bac_value.specs.declared.tag.Class.{Class}
 use Rattle.bac_value.specs.declared.tag.Class.TheVariants.{Application, Context}
 use Rattle.bac_value.specs.declared.tag.Form.{Form}
@@ -131,20 +130,20 @@ pub enclosed_exact : {A : Type 0} → (number : ℕ) → number < 255 → (F : O
 unfolding enclosed_at
 enclosed_exact {A = A} number lt F read Spells law link = record {
   takes = λ bytes x fits e.
-    let o = bind_some (opening_at number bytes) (λ inside. read inside >>= λ y. closing_at number y.1 >>= λ behind. Some (y.0, behind)) x e in
-    let y = bind_some (read o.0) (λ y. closing_at number y.1 >>= λ behind. Some (y.0, behind)) x o.2 in
-    let c = bind_some (closing_at number y.0.1) (λ behind. Some (y.0.0, behind)) x y.2 in
-    let front : bytes ≡ opening number ++ o.0 = opening_takes number bytes o.0 fits o.1 in
-    let inside_fits : IsBytes o.0 = bytes_behind (opening number) o.0 (subst IsBytes front fits) in
-    let t = law.takes o.0 y.0 inside_fits y.1 in
-    let behind : y.0.1 ≡ closing number ++ c.0 = closing_takes number y.0.1 c.0 (left_fits read Spells law o.0 y.0 inside_fits y.1) c.1 in
-    let all : bytes ≡ opening number ++ (t.0 ++ (closing number ++ c.0)) = front ∙ ap (λ (r : Octets). opening number ++ r) (t.1 ∙ ap (λ (r : Octets). t.0 ++ r) behind) in
-    let is : bytes ≡ (opening number ++ (t.0 ++ closing number)) ++ c.0 = all ∙ sym (regrouped (opening number) t.0 (closing number) c.0) in
-    subst (λ (z : A × Octets). (text : Octets) × (bytes ≡ text ++ z.1) × Enclosed number (Spells z.0) text) (some_is (y.0.0, c.0) x c.2)
-    (opening number ++ (t.0 ++ closing number), is, record { inside = t.0; are = t.2; is = refl });
+      let o = bind_some (opening_at number bytes) (λ inside. read inside >>= λ y. closing_at number y.1 >>= λ behind. Some (y.0, behind)) x e in
+      let y = bind_some (read o.0) (λ y. closing_at number y.1 >>= λ behind. Some (y.0, behind)) x o.2 in
+      let c = bind_some (closing_at number y.0.1) (λ behind. Some (y.0.0, behind)) x y.2 in
+      let front : bytes ≡ opening number ++ o.0 = opening_takes number bytes o.0 fits o.1 in
+      let inside_fits : IsBytes o.0 = bytes_behind (opening number) o.0 (subst IsBytes front fits) in
+      let t = law.takes o.0 y.0 inside_fits y.1 in
+      let behind : y.0.1 ≡ closing number ++ c.0 = closing_takes number y.0.1 c.0 (left_fits read Spells law o.0 y.0 inside_fits y.1) c.1 in
+      let all : bytes ≡ opening number ++ (t.0 ++ (closing number ++ c.0)) = front ∙ ap (λ (r : Octets). opening number ++ r) (t.1 ∙ ap (λ (r : Octets). t.0 ++ r) behind) in
+      let is : bytes ≡ (opening number ++ (t.0 ++ closing number)) ++ c.0 = all ∙ sym (regrouped (opening number) t.0 (closing number) c.0) in
+      subst (λ (z : A × Octets). (text : Octets) × (bytes ≡ text ++ z.1) × Enclosed number (Spells z.0) text) (some_is (y.0.0, c.0) x c.2)
+      (opening number ++ (t.0 ++ closing number), is, record { inside = t.0; are = t.2; is = refl });
   again = λ y text rest s follows.
-    let parts : text ++ rest ≡ opening number ++ (s.inside ++ (closing number ++ rest)) = ap (λ (t : Octets). t ++ rest) s.is ∙ regrouped (opening number) s.inside (closing number) rest in
-    rw (parts, opening_again number (s.inside ++ (closing number ++ rest)) lt, law.again y s.inside (closing number ++ rest) s.are (link rest), closing_again number rest lt) refl;
+      let parts : text ++ rest ≡ opening number ++ (s.inside ++ (closing number ++ rest)) = ap (λ (t : Octets). t ++ rest) s.is ∙ regrouped (opening number) s.inside (closing number) rest in
+      rw (parts, opening_again number (s.inside ++ (closing number ++ rest)) lt, law.again y s.inside (closing number ++ rest) s.are (link rest), closing_again number rest lt) refl;
 }
 
 -- ---- data
@@ -156,13 +155,13 @@ pub values_exact : IsExact Ends values_at AreData
 unfolding values_at
 values_exact = record {
   takes = λ bytes x fits e.
-    let r = bind_some (kept (data_of bytes)) (λ rest. Some (take (length bytes - length rest) bytes, rest)) x e in
-    let t = data_found bytes r.0 fits (kept_some (data_of bytes) r.0 r.1) in
-    let front : take (length bytes - length r.0) bytes ≡ t.1 = ap (λ (b : Octets). take (length b - length r.0) b) t.2 ∙ front_is t.1 r.0 in
-    let spelled : IsData (take (length bytes - length r.0) bytes) = subst IsData (sym front) (t.0, t.3.spelled) in
-    subst (λ (z : Octets × Octets). (text : Octets) × (bytes ≡ text ++ z.1) × AreData z.0 text) (some_is (take (length bytes - length r.0) bytes, r.0) x r.2)
-    (t.1, t.2, record { spelled = spelled; is = sym front });
+      let r = bind_some (kept (data_of bytes)) (λ rest. Some (take (length bytes - length rest) bytes, rest)) x e in
+      let t = data_found bytes r.0 fits (kept_some (data_of bytes) r.0 r.1) in
+      let front : take (length bytes - length r.0) bytes ≡ t.1 = ap (λ (b : Octets). take (length b - length r.0) b) t.2 ∙ front_is t.1 r.0 in
+      let spelled : IsData (take (length bytes - length r.0) bytes) = subst IsData (sym front) (t.0, t.3.spelled) in
+      subst (λ (z : Octets × Octets). (text : Octets) × (bytes ≡ text ++ z.1) × AreData z.0 text) (some_is (take (length bytes - length r.0) bytes, r.0) x r.2)
+      (t.1, t.2, record { spelled = spelled; is = sym front });
   again = λ y text rest s ends.
-    let spelled : IsData text = subst IsData (sym s.is) s.spelled in
-    rw (data_again spelled.0 text rest (record { spelled = spelled.1; ends = ends }), front_is text rest, s.is) refl;
+      let spelled : IsData text = subst IsData (sym s.is) s.spelled in
+      rw (data_again spelled.0 text rest (record { spelled = spelled.1; ends = ends }), front_is text rest, s.is) refl;
 }

@@ -1,5 +1,5 @@
 -- Going over octet strings one by one.
-use Rattle.std.proofs.Common.{◌≡◌, ℕ, zero, suc, ◌+◌, ◌-◌, ◌<◌, ◌≤◌, Bool, true, false, cond, List, Option, Some, None, is_some, refl, sym, ap, subst, ◌∙◌, length, take, zero-add, add-one, add-zero, arith}
+use Rattle.std.proofs.Common.{◌≡◌, ℕ, zero, suc, ◌+◌, ◌-◌, ◌<◌, ◌≤◌, Bool, true, false, cond, Option, Some, None, is_some, refl, sym, ap, ◌∙◌, length, take, zero-add, add-zero, arith}
 use Rattle.bac_value.specs.declared.tag.Class.TheVariants.{Application}
 use Rattle.bac_value.specs.Spelling.{Mark}
 use Rattle.bac_value.specs.Reading.{tag_at}
@@ -42,7 +42,7 @@ of_test most bytes false = refl
 
 of_tag : (most : ℕ) (bytes : Octets) (t : Option (Mark × Octets))
     → (t >>= λ t. cond (is_some (announced Application 6 t.0)) (application_string bytes >>= λ s. strings_at most s.1 >>= λ n. Some (n.0 + 1, n.1)) (Some (0, bytes)))
-      ≡ stepped most bytes (t >>= λ t. cond (is_some (announced Application 6 t.0)) (application_string bytes >>= λ s. Some (Some s.1)) (Some None))
+    ≡ stepped most bytes (t >>= λ t. cond (is_some (announced Application 6 t.0)) (application_string bytes >>= λ s. Some (Some s.1)) (Some None))
 unfolding stepped
 of_tag most bytes None = refl
 of_tag most bytes (Some t) = of_test most bytes (is_some (announced Application 6 t.0))

@@ -1,6 +1,6 @@
 -- What is read of whole service data is exactly what they spell.
-use Rattle.std.proofs.Common.{◌≡◌, ◌≢◌, ℕ, ◌<◌, ℤ, Bool, true, false, cond, nat_eq, List, [], ◌++◌, Option, Some, None, ◌⊎◌, inl, inr, refl, sym, ap, subst, ◌∙◌, append_assoc, lit<, IsTrue, length, ◌^◌, Result, Ok, Err, MatchResult, IfOk, IfErr}
-use Rattle.std.proofs.lemmas.Bool.{eqb-true, lt-ltb}
+use Rattle.std.proofs.Common.{◌≡◌, ℕ, ◌<◌, ℤ, Bool, true, false, cond, nat_eq, ◌++◌, Option, Some, None, ◌⊎◌, inl, inr, refl, sym, ap, subst, ◌∙◌, append_assoc, lit<, IsTrue, length, ◌^◌, Result, Ok, Err, MatchResult, IfOk, IfErr}
+use Rattle.std.proofs.lemmas.Bool.{eqb-true}
 use Rattle.bac_value.specs.declared.tag.Class.{Class}
 use Rattle.bac_value.specs.declared.tag.Class.TheVariants.{Application, Context}
 use Rattle.bac_value.specs.declared.tag.Form.{Form}
@@ -8,19 +8,19 @@ use Rattle.bac_value.specs.declared.tag.Form.TheVariants.{Length, Boolean, Openi
 use Rattle.bac_value.specs.Limits.{tag_fits}
 use Rattle.bac_value.specs.Octets.{IsBytes}
 use Rattle.bac_value.specs.Spelling.{Mark, tag_spelling, SpellsTag}
-use Rattle.bac_value.specs.Value.{ObjectId, IsNumber, IsInteger, IsObject}
+use Rattle.bac_value.specs.Value.{ObjectId, IsInteger}
 use Rattle.bac_value.specs.Reading.{tag_at, signed_at}
 use Rattle.bac_value.specs.Data.{opening, closing, Ends}
 use Rattle.bac_value.proofs.Tags.{tag_exact}
-use Rattle.bac_service.specs.Values.{Reference, ReadAccess, WriteAccess, Request, Complex, choice_of, complex_choice_of, READ_FILE, WRITE_FILE, READ_PROPERTY, WRITE_PROPERTY}
+use Rattle.bac_service.specs.Values.{Reference, Request, Complex, choice_of, complex_choice_of, READ_FILE, WRITE_FILE, READ_PROPERTY, WRITE_PROPERTY}
 use Rattle.bac_service.specs.Values.WriteAccess.{WriteStream, WriteRecords}
 use Rattle.bac_service.specs.Values.Request.{ReadFile, WriteFile, ReadProperty, WriteProperty}
 use Rattle.bac_service.specs.Values.Complex.{FileRead, StreamWritten, RecordsWritten, PropertyRead}
-use Rattle.bac_service.specs.Members.{Octets, ◌⨾◌, Optional, Enclosed, Tagged, mark_of, IsPriority, ApplicationObject, ApplicationBoolean, ApplicationSigned, ApplicationString, AreData}
+use Rattle.bac_service.specs.Members.{Octets, ◌⨾◌, Optional, Enclosed, Tagged, IsPriority, ApplicationObject, ApplicationBoolean, AreData}
 use Rattle.bac_service.specs.Requests.{SpellsReference, SpellsReadAccess, SpellsWriteAccess, SpellsMembers, SpellsRequest, IsMade}
-use Rattle.bac_service.specs.Replies.{SpellsAnswer, SpellsComplex}
-use Rattle.bac_service.specs.Reading.{◌>>=◌, kept, both_at, made_at, member_at, is_next, optional_at, enclosed_at, values_at, priority_at, reference_at, write_property_of, write_property_at, application_object, content_at, either_at, read_access_at, write_access_at, file_at, whole, request_at, boolean_of, end_of_file_at, file_read_at, file_written_at, property_read_at, complex_at}
-use Rattle.bac_service.proofs.Exact.{IsExact, Anything, Differs, Made, IsOneOf, bind_some, some_is, both_exact, made_exact, optional_exact, either_exact, whole_takes, whole_again}
+use Rattle.bac_service.specs.Replies.{SpellsAnswer, SpellsComplex, IsMadeOf}
+use Rattle.bac_service.specs.Reading.{◌>>=◌, kept, both_at, made_at, member_at, is_next, optional_at, enclosed_at, values_at, priority_at, reference_at, write_property_of, write_property_at, application_object, content_at, read_access_at, write_access_at, file_at, whole, request_at, boolean_of, end_of_file_at, file_read_at, file_written_at, property_read_at, complex_at}
+use Rattle.bac_service.proofs.Exact.{IsExact, Anything, Differs, Made, bind_some, some_is, both_exact, made_exact, optional_exact, either_exact, whole_takes, whole_again}
 use Rattle.bac_service.proofs.Heads.{kept_some, member_exact}
 use Rattle.bac_service.proofs.Contents.{signed_law}
 use Rattle.bac_service.proofs.Pairs.{next_tagged, next_other, next_opening, end_differs, enclosed_exact, values_exact}
@@ -53,7 +53,7 @@ write_exact =
     let priority = optional_exact 4 priority_at Priority priority_exact (λ y text rest s. next_tagged 4 (IsPriority y) text rest refl s) in
     let behind = both_exact Anything (Differs 4) (enclosed_at 3 values_at) (optional_at 4 priority_at) Enclosing (Optional Priority) enclosing_exact priority (λ b text rest q f. tt) in
     let all = both_exact (Differs 2) (Differs 4) reference_at (both_at (enclosed_at 3 values_at) (optional_at 4 priority_at)) SpellsReference (λ (t : Octets × Option ℕ). Enclosing t.0 ⨾ Optional Priority t.1) reference_exact behind
-      (λ b text rest q f. (ap (λ (t : Octets). is_next 2 (t ++ rest)) q.is ∙ ap (is_next 2) (append_assoc q.front q.back rest)) ∙ opened_differs 2 3 (AreData b.0) q.front (q.back ++ rest) (lit< tt) q.first) in
+    (λ b text rest q f. (ap (λ (t : Octets). is_next 2 (t ++ rest)) q.is ∙ ap (is_next 2) (append_assoc q.front q.back rest)) ∙ opened_differs 2 3 (AreData b.0) q.front (q.back ++ rest) (lit< tt) q.first) in
     made_exact (Differs 4) write_property_of (both_at reference_at (both_at (enclosed_at 3 values_at) (optional_at 4 priority_at))) Written all
 
 -- ---- files
@@ -147,14 +147,14 @@ end_of_file_exact : IsExact Anything end_of_file_at ApplicationBoolean
 unfolding end_of_file_at
 end_of_file_exact = record {
   takes = λ bytes x fits e.
-    let t = bind_some (kept (tag_at bytes)) (λ t. boolean_of t.0.form >>= λ b. Some (b, t.1)) x e in
-    let b = bind_some (boolean_of t.0.0.form) (λ b. Some (b, t.0.1)) x t.2 in
-    let took = tag_exact.takes bytes t.0 fits (kept_some (tag_at bytes) t.0 t.1) in
-    let m = boolean_fields t.0.0.number t.0.0.class t.0.0.form b.0 (boolean_is t.0.0.form b.0 b.1) took.2.fits in
-    subst (λ (y : Bool × Octets). (text : Octets) × (bytes ≡ text ++ y.1) × ApplicationBoolean y.0 text) (some_is (b.0, t.0.1) x b.2) (took.0, took.1, took.2.is ∙ ap tag_spelling m);
+      let t = bind_some (kept (tag_at bytes)) (λ t. boolean_of t.0.form >>= λ b. Some (b, t.1)) x e in
+      let b = bind_some (boolean_of t.0.0.form) (λ b. Some (b, t.0.1)) x t.2 in
+      let took = tag_exact.takes bytes t.0 fits (kept_some (tag_at bytes) t.0 t.1) in
+      let m = boolean_fields t.0.0.number t.0.0.class t.0.0.form b.0 (boolean_is t.0.0.form b.0 b.1) took.2.fits in
+      subst (λ (y : Bool × Octets). (text : Octets) × (bytes ≡ text ++ y.1) × ApplicationBoolean y.0 text) (some_is (b.0, t.0.1) x b.2) (took.0, took.1, took.2.is ∙ ap tag_spelling m);
   again = λ y text rest s follows.
-    let tag : SpellsTag (boolean_mark y) text = record { fits = refl; length_in = tt; is = s } in
-    rw (tag_exact.again (boolean_mark y) text rest tag) refl;
+      let tag : SpellsTag (boolean_mark y) text = record { fits = refl; length_in = tt; is = s } in
+      rw (tag_exact.again (boolean_mark y) text rest tag) refl;
 }
 
 abbrev FileReads : Bool × (ℤ × Octets) → Octets → Type 0
@@ -269,3 +269,24 @@ request_made view choice bytes (Err d) fits e = tt
 pub request_refused : {X E : Type 0} (view : X → Request) (choice : ℕ) (bytes : Octets) (result : Result X E) → ReadAs view choice bytes result → IfErr result (λ e. (r : Request) → SpellsRequest choice r bytes → ⊥)
 request_refused view choice bytes (Ok f) e = tt
 request_refused view choice bytes (Err d) e = λ r s. let again = request_again choice bytes r s in absurd cc
+
+abbrev AnsweredAs : {X E : Type 0} → (X → Complex) → ℕ → Octets → Result X E → Type 0
+AnsweredAs view choice bytes result = MatchResult result (λ c. complex_at choice bytes ≡ Some (view c)) (λ e. complex_at choice bytes ≡ None)
+
+pub complex_found : {X E : Type 0} (view : X → Complex) (choice : ℕ) (bytes : Octets) (result : Result X E) → IsBytes bytes → AnsweredAs view choice bytes result → IfOk result (λ c. SpellsComplex choice (view c) bytes)
+complex_found view choice bytes (Ok c) fits e = complex_takes choice bytes (view c) fits e
+complex_found view choice bytes (Err d) fits e = tt
+
+answer_made : (c : Complex) (bytes : Octets) → SpellsAnswer c bytes → IsMadeOf c
+answer_made (FileRead b z octets) bytes s = let string = s.second.are.second in subst (λ (xs : Octets). length xs < 2 ^ 32) string.are string.fits
+answer_made (StreamWritten z) bytes s = tt
+answer_made (RecordsWritten z) bytes s = tt
+answer_made (PropertyRead r values) bytes s = s.second.are.spelled
+
+pub complex_made : {X E : Type 0} (view : X → Complex) (choice : ℕ) (bytes : Octets) (result : Result X E) → IsBytes bytes → AnsweredAs view choice bytes result → IfOk result (λ c. IsMadeOf (view c))
+complex_made view choice bytes (Ok c) fits e = answer_made (view c) bytes (complex_takes choice bytes (view c) fits e).members
+complex_made view choice bytes (Err d) fits e = tt
+
+pub complex_refused : {X E : Type 0} (view : X → Complex) (choice : ℕ) (bytes : Octets) (result : Result X E) → AnsweredAs view choice bytes result → IfErr result (λ e. (c : Complex) → SpellsComplex choice c bytes → ⊥)
+complex_refused view choice bytes (Ok c) e = tt
+complex_refused view choice bytes (Err d) e = λ c s. let again = complex_again choice bytes c s in absurd cc

@@ -5,3 +5,5 @@ pub mod Replies
 pub mod Reading
 pub mod Views
 pub mod Services
+pub mod Spellings
+pub mod Lengths

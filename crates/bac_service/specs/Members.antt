@@ -1,7 +1,7 @@
 -- The members of a production (clause 21): each is a value's contents behind a tag, and they follow each other.
 use Rattle.std.specs.Prelude.{◌≡◌, ℕ, ℤ, Bool, ◌^◌, ◌<◌, ◌≤◌, zero, suc, List, [], ◌++◌, length, Option, Some, None}
 use Rattle.bac_value.specs.declared.tag.Class.{Class}
-use Rattle.bac_value.specs.declared.tag.Class.TheVariants.{Application, Context}
+use Rattle.bac_value.specs.declared.tag.Class.TheVariants.{Application}
 use Rattle.bac_value.specs.declared.tag.Form.TheVariants as form
 use Rattle.bac_value.specs.Spelling.{Mark, tag_spelling}
 use Rattle.bac_value.specs.Value.{ObjectId, IsNumber, IsInteger, IsObject}

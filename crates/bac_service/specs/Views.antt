@@ -15,6 +15,12 @@ use Rattle.bac_service.specs.declared.request.AnyRequest.TheVariants as variant
 use Rattle.bac_service.specs.declared.request.ReadFile.{ReadFile}
 use Rattle.bac_service.specs.declared.request.WriteFile.{WriteFile}
 use Rattle.bac_service.specs.declared.request.WriteProperty.{WriteProperty}
+use Rattle.bac_service.specs.declared.reply.FileRead.{FileRead}
+use Rattle.bac_service.specs.declared.reply.FileWritten.{FileWritten}
+use Rattle.bac_service.specs.declared.reply.FileWritten.TheVariants as place
+use Rattle.bac_service.specs.declared.reply.PropertyRead.{PropertyRead}
+use Rattle.bac_service.specs.declared.reply.AnyComplex as answer
+use Rattle.bac_service.specs.declared.reply.AnyComplex.TheVariants as kind
 use Rattle.bac_service.specs.declared.run.Run.{Run}
 use Rattle.bac_service.specs.Values as plain
 
@@ -60,3 +66,21 @@ request r = seen lent r
 -- a request whose octets are still those that it is read from
 abbrev pub left : {O : Type 0} → (O → List ℕ) → Sight O O (Run O)
 left octets = record { values = octets; content = octets; count = λ r. r.count; run = λ r. octets r.octets }
+
+-- ---- answers
+
+abbrev pub ComplexOver : Type 0 → Type 0 → Type 0
+ComplexOver D C = answer.AnyComplex (FileRead C) FileWritten (PropertyRead D)
+
+abbrev pub written : FileWritten → plain.Complex
+written (place.Stream start) = plain.Complex.StreamWritten start
+written (place.Records start) = plain.Complex.RecordsWritten start
+
+abbrev pub answered : {D C : Type 0} → (D → List ℕ) → (C → List ℕ) → ComplexOver D C → plain.Complex
+answered values content (kind.FileRead r) = plain.Complex.FileRead r.end_of_file r.start (content r.content)
+answered values content (kind.FileWritten w) = written w
+answered values content (kind.PropertyRead r) = plain.Complex.PropertyRead (reference r.reference) (values r.values)
+
+-- an answer that borrows its octets
+abbrev pub complex : ComplexOver Data Content → plain.Complex
+complex c = answered (λ d. d.octets.now) (λ c. c.octets.now) c

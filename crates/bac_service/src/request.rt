@@ -66,8 +66,12 @@ pub enum AnyRequest<A, B, C, D> {
 }
 
 /// A request whose octets are held by these types: data, the octets for a file, and records for one.
-pub type RequestOver<D, C, R> =
-    AnyRequest<ReadFile, WriteFile<C, R>, PropertyReference, WriteProperty<D>>;
+pub type RequestOver<D, C, R> = AnyRequest<
+    ReadFile,
+    WriteFile<C, R>,
+    PropertyReference,
+    WriteProperty<D>,
+>;
 
 /// A request that borrows its octets.
 pub type Request<'a> = RequestOver<Data<'a>, Content<'a>, Records<'a>>;

@@ -11,8 +11,8 @@ ghost use Rattle.bac_service.specs.Values.Request.{ReadFile, WriteFile, ReadProp
 use crate::member::{announced_by, closing, opening, opens_next, tag, values};
 use crate::reject::Reject;
 use crate::request::{
-    AnyRequest, ReadAccess, ReadFile, Request, RequestOver, WriteAccess, WriteFile, WriteProperty, WriteRecords,
-    WriteStream,
+    AnyRequest, ReadAccess, ReadFile, Request, RequestOver, WriteAccess, WriteFile, WriteProperty,
+    WriteRecords, WriteStream,
 };
 use crate::run::Run;
 use crate::service::{Service, service_of};
@@ -209,7 +209,9 @@ pub(crate) fn request_in<O: Octets>(service: Service, octets: O) -> Result<Found
     request_read(service, octets)
 }
 
-fn access_of<'a>(access: WriteAccess<&'a [u8], Run<&'a [u8]>>) -> WriteAccess<Content<'a>, Records<'a>>
+fn access_of<'a>(
+    access: WriteAccess<&'a [u8], Run<&'a [u8]>>,
+) -> WriteAccess<Content<'a>, Records<'a>>
     requires { IsWritten (write_access (left (λ s. s.now)) access) }
     ensures { write_access lent result ≡ write_access (left (λ s. s.now)) access.entry }
 {

@@ -8,7 +8,7 @@ use Rattle.bac_value.specs.Value.{Datum, unsigned, signed, enumerated, object, O
 use Rattle.bac_value.specs.Reading.{◌>>=◌, kind_at, number_at, signed_at, object_at, length_in}
 use Rattle.bac_value.proofs.Steps.{bind_ok, ok_is, IsExact}
 use Rattle.bac_value.proofs.Tags.{wide32}
-use Rattle.bac_value.proofs.RightContents.{between, no_fault, unsigned_of, signed_of, object_of, kind_again, IsRight}
+use Rattle.bac_value.proofs.RightContents.{between, no_fault, unsigned_of, signed_of, four, object_in, object_meant, kind_again, IsRight}
 use Rattle.bac_value.proofs.Elements.{IsKindFront, kind_front, right_again}
 
 -- contents of one kind and length, as what reading them gives
@@ -27,24 +27,12 @@ enumerated_right_of xs fits h = let k = between 0 5 (length xs) h.len in unsigne
 signed_right_of : (xs : List ℕ) → IsBytes xs → IsRight 3 xs → IsContents (signed (signed_in xs)) xs
 signed_right_of xs fits h = let k = between 0 9 (length xs) h.len in signed_of xs fits k.0 (omega (arith, k.1)) (no_fault _ _ h.none)
 
--- the number in four octets
-four : (xs : List ℕ) → length xs ≡ 4 → number_in xs ≡ from_be_bytes w32 xs
-four [] e = absurd (omega arith)
-four (a ∷ []) e = absurd (omega arith)
-four (a ∷ b ∷ []) e = absurd (omega arith)
-four (a ∷ b ∷ c ∷ []) e = absurd (omega arith)
-four (a ∷ b ∷ c ∷ d ∷ []) e = omega arith
-four (a ∷ b ∷ c ∷ d ∷ x ∷ xs) e = absurd (omega arith)
-
-abbrev pub object_in : List ℕ → ObjectId
-object_in xs = record { kind = number_in xs / 2 ^ 22; instance = number_in xs % 2 ^ 22 }
-
 object_right_of : (xs : List ℕ) → IsBytes xs → IsRight 12 xs → IsContents (object (object_in xs)) xs
-object_right_of xs fits h = let len = eqb-true _ _ h.len in rw (four xs len) (object_of xs fits len)
+object_right_of xs fits h = object_meant xs fits (eqb-true _ _ h.len)
 
 -- ---- what a value's contents give
 
-object_again : (i : ObjectId) (xs : List ℕ) → IsObject i xs → object_in xs ≡ i
+pub object_again : (i : ObjectId) (xs : List ℕ) → IsObject i xs → object_in xs ≡ i
 object_again i xs h =
     let n = i.kind * 2 ^ 22 + i.instance in
     let len : length xs ≡ 4 = ap length h.is in

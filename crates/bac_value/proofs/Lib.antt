@@ -9,5 +9,7 @@ pub mod Joined
 pub mod Numbers
 pub mod Signs
 pub mod Values
+pub mod Meanings
 pub mod ContentLaws
 pub mod ElementLists
+pub mod OneSpelling

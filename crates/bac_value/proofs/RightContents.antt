@@ -8,8 +8,9 @@ use Rattle.bac_value.specs.declared.fault.FaultKind.TheVariants.{NotShortest, Re
 use Rattle.bac_value.specs.Octets.{IsBytes}
 use Rattle.bac_value.specs.Limits.{bits_fit}
 use Rattle.bac_value.specs.Number.{number_in, signed_in, IsUnsigned, IsSigned}
-use Rattle.bac_value.specs.Value.{Datum, null, boolean, unsigned, signed, real, double, octets, characters, bits, enumerated, date, time, object, kind_number, IsContents, IsNumber, IsInteger, IsRaw, IsBits, IsObject}
+use Rattle.bac_value.specs.Value.{Datum, null, boolean, unsigned, signed, real, double, octets, characters, bits, enumerated, date, time, object, ObjectId, kind_number, IsContents, IsNumber, IsInteger, IsRaw, IsBits, IsObject}
 use Rattle.bac_value.specs.Element.{IsOfKind}
+use Rattle.bac_value.specs.Meaning.{datum_in}
 use Rattle.bac_value.specs.Reading.{length_in, flaw, is_longer_unsigned, is_longer_signed}
 use Rattle.bac_value.proofs.Tags.{wide32}
 
@@ -61,29 +62,51 @@ object_of xs fits four =
     let whole : n / 2 ^ 22 * 2 ^ 22 + n % 2 ^ 22 ≡ n = omega arith in
     record { kind_fits = omega (arith, below); instance_fits = omega arith; is = sym (ap (to_be_bytes w32) whole ∙ wide32.back xs four fits) }
 
-pub kind_takes : (n : ℕ) (xs : List ℕ) → n < 13 → IsBytes xs → IsTrue (length_in n (length xs)) → flaw n xs ≡ None → IsOfKind n xs
-kind_takes zero xs lt fits len e = (null, refl, empty xs (eqb-true _ _ len))
-kind_takes (suc zero) xs lt fits len e = (boolean true, refl, empty xs (eqb-true _ _ len))
-kind_takes (suc (suc zero)) xs lt fits len e =
+-- the number in four octets
+pub four : (xs : List ℕ) → length xs ≡ 4 → number_in xs ≡ from_be_bytes w32 xs
+four [] e = absurd (omega arith)
+four (a ∷ []) e = absurd (omega arith)
+four (a ∷ b ∷ []) e = absurd (omega arith)
+four (a ∷ b ∷ c ∷ []) e = absurd (omega arith)
+four (a ∷ b ∷ c ∷ d ∷ []) e = omega arith
+four (a ∷ b ∷ c ∷ d ∷ x ∷ xs) e = absurd (omega arith)
+
+abbrev pub object_in : List ℕ → ObjectId
+object_in xs = record { kind = number_in xs / 2 ^ 22; instance = number_in xs % 2 ^ 22 }
+
+pub object_meant : (xs : List ℕ) → IsBytes xs → length xs ≡ 4 → IsObject (object_in xs) xs
+object_meant xs fits len = rw (four xs len) (object_of xs fits len)
+
+-- the value that right contents mean
+abbrev pub IsMeant : ℕ → List ℕ → Type 0
+IsMeant n xs = (kind_number (datum_in n xs) ≡ n) × IsContents (datum_in n xs) xs
+
+pub kind_meant : (n : ℕ) (xs : List ℕ) → n < 13 → IsBytes xs → IsTrue (length_in n (length xs)) → flaw n xs ≡ None → IsMeant n xs
+kind_meant zero xs lt fits len e = (refl, empty xs (eqb-true _ _ len))
+kind_meant (suc zero) xs lt fits len e = (refl, empty xs (eqb-true _ _ len))
+kind_meant (suc (suc zero)) xs lt fits len e =
     let k = between 0 9 (length xs) len in
-    (unsigned (number_in xs), refl, unsigned_of 8 xs fits k.0 (omega (arith, k.1)) (no_fault (is_longer_unsigned xs) NotShortest e))
-kind_takes (suc (suc (suc zero))) xs lt fits len e =
+    (refl, unsigned_of 8 xs fits k.0 (omega (arith, k.1)) (no_fault (is_longer_unsigned xs) NotShortest e))
+kind_meant (suc (suc (suc zero))) xs lt fits len e =
     let k = between 0 9 (length xs) len in
-    (signed (signed_in xs), refl, signed_of xs fits k.0 (omega (arith, k.1)) (no_fault (is_longer_signed xs) NotShortest e))
-kind_takes (suc (suc (suc (suc zero)))) xs lt fits len e = (real xs, refl, raw_of 4 xs len)
-kind_takes (suc (suc (suc (suc (suc zero))))) xs lt fits len e = (double xs, refl, raw_of 8 xs len)
-kind_takes (suc (suc (suc (suc (suc (suc zero)))))) xs lt fits len e = (octets xs, refl, refl)
-kind_takes (suc (suc (suc (suc (suc (suc (suc zero))))))) [] lt fits len e = absurd cc
-kind_takes (suc (suc (suc (suc (suc (suc (suc zero))))))) (x ∷ xs) lt fits len e = (characters x xs, refl, refl)
-kind_takes (suc (suc (suc (suc (suc (suc (suc (suc zero)))))))) [] lt fits len e = absurd cc
-kind_takes (suc (suc (suc (suc (suc (suc (suc (suc zero)))))))) (x ∷ xs) lt fits len e = (bits x xs, refl, record { is = refl; fits = fault_unless (bits_fit x xs) ReservedBits e })
-kind_takes (suc (suc (suc (suc (suc (suc (suc (suc (suc zero))))))))) xs lt fits len e =
+    (refl, signed_of xs fits k.0 (omega (arith, k.1)) (no_fault (is_longer_signed xs) NotShortest e))
+kind_meant (suc (suc (suc (suc zero)))) xs lt fits len e = (refl, raw_of 4 xs len)
+kind_meant (suc (suc (suc (suc (suc zero))))) xs lt fits len e = (refl, raw_of 8 xs len)
+kind_meant (suc (suc (suc (suc (suc (suc zero)))))) xs lt fits len e = (refl, refl)
+kind_meant (suc (suc (suc (suc (suc (suc (suc zero))))))) [] lt fits len e = absurd cc
+kind_meant (suc (suc (suc (suc (suc (suc (suc zero))))))) (x ∷ xs) lt fits len e = (refl, refl)
+kind_meant (suc (suc (suc (suc (suc (suc (suc (suc zero)))))))) [] lt fits len e = absurd cc
+kind_meant (suc (suc (suc (suc (suc (suc (suc (suc zero)))))))) (x ∷ xs) lt fits len e = (refl, record { is = refl; fits = fault_unless (bits_fit x xs) ReservedBits e })
+kind_meant (suc (suc (suc (suc (suc (suc (suc (suc (suc zero))))))))) xs lt fits len e =
     let k = between 0 5 (length xs) len in
-    (enumerated (number_in xs), refl, unsigned_of 4 xs fits k.0 (omega (arith, k.1)) (no_fault (is_longer_unsigned xs) NotShortest e))
-kind_takes (suc (suc (suc (suc (suc (suc (suc (suc (suc (suc zero)))))))))) xs lt fits len e = (date xs, refl, raw_of 4 xs len)
-kind_takes (suc (suc (suc (suc (suc (suc (suc (suc (suc (suc (suc zero))))))))))) xs lt fits len e = (time xs, refl, raw_of 4 xs len)
-kind_takes (suc (suc (suc (suc (suc (suc (suc (suc (suc (suc (suc (suc zero)))))))))))) xs lt fits len e = (object _, refl, object_of xs fits (eqb-true _ _ len))
-kind_takes (suc (suc (suc (suc (suc (suc (suc (suc (suc (suc (suc (suc (suc n))))))))))))) xs lt fits len e = absurd (omega arith)
+    (refl, unsigned_of 4 xs fits k.0 (omega (arith, k.1)) (no_fault (is_longer_unsigned xs) NotShortest e))
+kind_meant (suc (suc (suc (suc (suc (suc (suc (suc (suc (suc zero)))))))))) xs lt fits len e = (refl, raw_of 4 xs len)
+kind_meant (suc (suc (suc (suc (suc (suc (suc (suc (suc (suc (suc zero))))))))))) xs lt fits len e = (refl, raw_of 4 xs len)
+kind_meant (suc (suc (suc (suc (suc (suc (suc (suc (suc (suc (suc (suc zero)))))))))))) xs lt fits len e = (refl, object_meant xs fits (eqb-true _ _ len))
+kind_meant (suc (suc (suc (suc (suc (suc (suc (suc (suc (suc (suc (suc (suc n))))))))))))) xs lt fits len e = absurd (omega arith)
+
+pub kind_takes : (n : ℕ) (xs : List ℕ) → n < 13 → IsBytes xs → IsTrue (length_in n (length xs)) → flaw n xs ≡ None → IsOfKind n xs
+kind_takes n xs lt fits len e = let h = kind_meant n xs lt fits len e in (datum_in n xs, h.0, h.1)
 
 -- ---- what a value has is found right
 

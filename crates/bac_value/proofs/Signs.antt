@@ -18,12 +18,12 @@ upper_half n greatest half whole le above fits w h = rw (le-ltb n half (omega ar
 
 -- ---- what is written
 
-half_power : (j : ℕ) → 2 ^ (8 * suc j - 1) ≡ 128 * 256 ^ j
+pub half_power : (j : ℕ) → 2 ^ (8 * suc j - 1) ≡ 128 * 256 ^ j
 half_power j =
     let e : 8 * suc j - 1 ≡ 8 * j + 7 = omega arith in
     rw (e, pow-add 2 (8 * j) 7, bits_power j) (omega arith)
 
-whole_power : (j : ℕ) → 2 ^ (8 * suc j) ≡ 256 * 256 ^ j
+pub whole_power : (j : ℕ) → 2 ^ (8 * suc j) ≡ 256 * 256 ^ j
 whole_power j = bits_power (suc j) ∙ rw (pow-suc 256 j) (omega arith)
 
 -- j + 1 octets of n, read in two's complement

@@ -5,6 +5,7 @@ pub mod Number
 pub mod Value
 pub mod Writing
 pub mod Element
+pub mod Meaning
 pub mod Data
 pub mod Reading
 pub mod Views

@@ -7,7 +7,7 @@ use crate::fault::FaultKind;
 use crate::octets::Octets;
 use crate::tag::{Class, Form, Tag};
 
-fn is_length_in(kind: u8, len: usize) -> bool
+pub(crate) fn is_length_in(kind: u8, len: usize) -> bool
     ensures { result ≡ length_in kind len }
 {
     match kind {
@@ -88,7 +88,7 @@ fn is_bit_string<O: Octets>(contents: O) -> bool
     }
 }
 
-fn flaw_in<O: Octets>(contents: O, kind: u8) -> Option<FaultKind>
+pub(crate) fn flaw_in<O: Octets>(contents: O, kind: u8) -> Option<FaultKind>
     ensures { result ≡ flaw kind (O.octets contents) }
 {
     let flaw = match kind {

@@ -22,6 +22,7 @@ mod tag;
 mod tag_reading;
 mod tag_writing;
 mod value;
+mod value_reading;
 mod value_writing;
 mod walking;
 mod walking_on;
@@ -42,7 +43,12 @@ pub use tag::{Class, Form, Tag};
 pub use tag_reading::{one_tag_spelling, read_tag, take_tag};
 pub use tag_writing::{put_tag, write_tag};
 pub use value::{BitString, CharacterString, ObjectIdentifier, OctetString, Value};
+pub use value_reading::value_of;
 pub use value_writing::{
-    put_boolean, put_object_identifier, put_primitive, put_signed, put_unsigned, put_value,
+    one_value_spelling, put_boolean, put_object_identifier, put_primitive, put_signed,
+    put_unsigned, put_value, write_value,
 };
 pub use walking::DataElements;
+
+#[cfg(test)]
+mod tests;

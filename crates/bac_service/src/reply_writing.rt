@@ -1,0 +1,156 @@
+//! Writing answers.
+ghost use Rattle.std.specs.Prelude.{◌≡◌, ◌++◌, ◌<◌, ◌^◌, OnOk, OnErr, length};
+ghost use Rattle.bac_value.specs.Octets.{Begins};
+ghost use Rattle.bac_value.specs.Data.{opening, closing};
+ghost use Rattle.bac_service.specs.Spellings.{index_spelling, reference_spelling, content_spelling, enclosed_spelling, answer_spelling, IsAnswer, IsReference};
+ghost use Rattle.bac_value.specs.Number.{distance};
+ghost use Rattle.bac_service.specs.Replies.{SpellsComplex};
+ghost use Rattle.bac_service.specs.Values.{complex_choice_of};
+ghost use Rattle.bac_service.specs.Views.{reference, written, complex};
+ghost use Rattle.bac_service.specs.Values.Complex.{FileRead as PlainFileRead, PropertyRead as PlainPropertyRead};
+
+use crate::reply::{AnyComplex, Complex, FileRead, FileWritten, PropertyRead};
+use crate::value::{Content, PropertyReference};
+use bac_value::{
+    Class, Data, Form, NoMemory, Octets, Tag, put_boolean, put_object_identifier, put_primitive,
+    put_signed, put_tag, put_unsigned,
+};
+
+pub(crate) fn put_opening(number: u8, out: &mut Vec<u8>) -> Result<(), NoMemory>
+    requires { number < 255 }
+    ensures ok { OnOk result (out.new.items ≡ out.old.items ++ opening number) }
+    ensures kept { Begins out.old.items out.new.items }
+{
+    let tag = Tag {
+        number,
+        class: Class::Context,
+        form: Form::Opening,
+    };
+    put_tag(&tag, out)
+}
+
+pub(crate) fn put_closing(number: u8, out: &mut Vec<u8>) -> Result<(), NoMemory>
+    requires { number < 255 }
+    ensures ok { OnOk result (out.new.items ≡ out.old.items ++ closing number) }
+    ensures kept { Begins out.old.items out.new.items }
+{
+    let tag = Tag {
+        number,
+        class: Class::Context,
+        form: Form::Closing,
+    };
+    put_tag(&tag, out)
+}
+
+fn put_index(index: Option<u32>, out: &mut Vec<u8>) -> Result<(), NoMemory>
+    ensures ok { OnOk result (out.new.items ≡ out.old.items ++ index_spelling index) }
+    ensures kept { Begins out.old.items out.new.items }
+{
+    match index {
+        Some(index) => put_unsigned(Class::Context, 2, u64::from(index), out),
+        None => Ok(()),
+    }
+}
+
+/// Appends what names a property.
+pub(crate) fn put_reference(to: PropertyReference, out: &mut Vec<u8>) -> Result<(), NoMemory>
+    ensures ok { OnOk result (out.new.items ≡ out.old.items ++ reference_spelling (reference to)) }
+    ensures kept { Begins out.old.items out.new.items }
+    ensures is { IsReference (reference to) }
+{
+    put_object_identifier(Class::Context, 0, to.object, out)?;
+    put_unsigned(Class::Context, 1, u64::from(to.property), out)?;
+    put_index(to.index, out)
+}
+
+/// Appends data between a pair of tags of number 3.
+pub(crate) fn put_values(values: &[u8], out: &mut Vec<u8>) -> Result<(), NoMemory>
+    ensures ok { OnOk result (out.new.items ≡ out.old.items ++ enclosed_spelling 3 values.now) }
+    ensures kept { Begins out.old.items out.new.items }
+{
+    put_opening(3, out)?;
+    out.extend_from_slice(values)?;
+    put_closing(3, out)
+}
+
+fn put_start(start: i64, content: Content<'_>, out: &mut Vec<u8>) -> Result<(), NoMemory>
+    ensures ok { OnOk result (out.new.items ≡ out.old.items ++ content_spelling start content.entry.octets.now) }
+    ensures kept { Begins out.old.items out.new.items }
+    ensures start_fits { distance start < 2 ^ 63 }
+    ensures content_fits { length content.entry.octets.now < 2 ^ 32 }
+{
+    put_signed(Class::Application, 3, start, out)?;
+    put_primitive(Class::Application, 6, content.octets, out)
+}
+
+/// Appends a Signed and an OctetString with application tags, between a pair of tags of number 0.
+pub(crate) fn put_content(
+    start: i64,
+    content: Content<'_>,
+    out: &mut Vec<u8>,
+) -> Result<(), NoMemory>
+    ensures ok { OnOk result (out.new.items ≡ out.old.items ++ enclosed_spelling 0 (content_spelling start content.entry.octets.now)) }
+    ensures kept { Begins out.old.items out.new.items }
+{
+    put_opening(0, out)?;
+    put_start(start, content, out)?;
+    put_closing(0, out)
+}
+
+fn put_file_read(read: FileRead<Content<'_>>, out: &mut Vec<u8>) -> Result<(), NoMemory>
+    ensures ok { OnOk result (out.new.items ≡ out.old.items ++ answer_spelling (PlainFileRead read.entry.end_of_file read.entry.start read.entry.content.octets.now)) }
+    ensures kept { Begins out.old.items out.new.items }
+    ensures is { IsAnswer (PlainFileRead read.entry.end_of_file read.entry.start read.entry.content.octets.now) }
+{
+    put_boolean(read.end_of_file, out)?;
+    put_content(read.start, read.content, out)
+}
+
+fn put_file_written(place: FileWritten, out: &mut Vec<u8>) -> Result<(), NoMemory>
+    ensures ok { OnOk result (out.new.items ≡ out.old.items ++ answer_spelling (written place)) }
+    ensures kept { Begins out.old.items out.new.items }
+    ensures is { IsAnswer (written place) }
+{
+    match place {
+        FileWritten::Stream(start) => put_signed(Class::Context, 0, start, out),
+        FileWritten::Records(start) => put_signed(Class::Context, 1, start, out),
+    }
+}
+
+fn put_property_read(read: PropertyRead<Data<'_>>, out: &mut Vec<u8>) -> Result<(), NoMemory>
+    ensures ok { OnOk result (out.new.items ≡ out.old.items ++ answer_spelling (PlainPropertyRead (reference read.entry.reference) read.entry.values.octets.now)) }
+    ensures kept { Begins out.old.items out.new.items }
+    ensures is { IsAnswer (PlainPropertyRead (reference read.entry.reference) read.entry.values.octets.now) }
+{
+    // from here on each of the data's octets is known to be one
+    let _count = Octets::len(read.values.octets);
+    put_reference(read.reference, out)?;
+    put_values(read.values.octets, out)
+}
+
+fn put_complex(reply: Complex<'_>, out: &mut Vec<u8>) -> Result<(), NoMemory>
+    ensures ok { OnOk result (out.new.items ≡ out.old.items ++ answer_spelling (complex reply.entry)) }
+    ensures kept { Begins out.old.items out.new.items }
+    ensures is { IsAnswer (complex reply.entry) }
+{
+    match reply {
+        AnyComplex::FileRead(read) => put_file_read(read, out),
+        AnyComplex::FileWritten(place) => put_file_written(place, out),
+        AnyComplex::PropertyRead(read) => put_property_read(read, out),
+    }
+}
+
+/// Appends the service data of a ComplexACK in their one spelling (clause 21), or answers `NoMemory` and changes nothing.
+#[tactic(auto, using(crate::proofs::Spelled::complex_spelled))]
+pub fn write_reply(reply: Complex<'_>, out: &mut Vec<u8>) -> Result<(), NoMemory>
+    ensures ok { OnOk result (out.new.items ≡ out.old.items ++ answer_spelling (complex reply.entry)) }
+    ensures err { OnErr result (out.new.items ≡ out.old.items) }
+    ensures spelled { SpellsComplex (complex_choice_of (complex reply.entry)) (complex reply.entry) (answer_spelling (complex reply.entry)) }
+{
+    let before = out.len();
+    let written = put_complex(reply, out);
+    if written.is_err() {
+        out.truncate(before);
+    }
+    written
+}

@@ -1,0 +1,25 @@
+use Rattle.std.proofs.Common.{arith, ap, sym, length, take, ◌++◌, ◌∷◌, [], ◌≡◌, ◌<◌, ◌∙◌, ◌+◌, List, ℕ, append_assoc}
+use Rattle.std.proofs.Math.ListN.{set, length-set}
+use Rattle.std.proofs.lemmas.List.{take_more_set, take_all, append-nil}
+use Rattle.bac_value.proofs.value_reading.array_of.Goals as goal
+
+pub bounds-array-at : goal.bounds-array-at
+bounds-array-at g c = omega (arith, ap length c.in-Some.ensures, c.loop-read.invariant.count)
+
+pub loop-read-preserved : goal.loop-read-preserved
+loop-read-preserved g c =
+    let inv = c.loop-read.invariant in
+    let next = g.O.Octets.octets c.in-Some.read.1 in
+    let x = c.in-Some.read.0 in
+    let lt : c.loop-read.at < length c.loop-read.array = omega (arith, ap length c.in-Some.ensures, inv.count, inv.sized) in
+    record {
+      sized = length-set c.loop-read.array c.loop-read.at x ∙ inv.sized;
+      count = omega (arith, ap length c.in-Some.ensures, inv.count);
+      same = ap (λ (xs : List ℕ). xs ++ next) (take_more_set c.loop-read.array c.loop-read.at x lt) ∙ append_assoc (take c.loop-read.at c.loop-read.array) (x ∷ []) next ∙ ap (λ (xs : List ℕ). take c.loop-read.at c.loop-read.array ++ xs) (sym c.in-Some.ensures) ∙ inv.same;
+    }
+
+pub returns : goal.returns
+returns g c =
+    let inv = c.loop-read.invariant in
+    let all = take_all c.loop-read.at c.loop-read.array (omega (arith, ap length c.in_default.ensures, inv.count, inv.sized)) in
+    sym all ∙ sym (append-nil (take c.loop-read.at c.loop-read.array)) ∙ ap (λ (xs : List ℕ). take c.loop-read.at c.loop-read.array ++ xs) (sym c.in_default.ensures) ∙ inv.same

@@ -1,0 +1,118 @@
+ghost use Rattle.std.specs.Prelude.{◌≡◌, ◌<◌, ◌≤◌, ◌+◌, ◌∷◌, ◌^◌, ◌≢◌, length, slice_index, drop, IsTrue, None, IfOk, MatchOption};
+ghost use Rattle.bac_value.specs.Element.{IsOfKind};
+ghost use Rattle.bac_value.specs.Meaning.{IsValueOf, datum_in};
+ghost use Rattle.bac_value.specs.Reading.{length_in, flaw};
+ghost use Rattle.bac_value.specs.Value.{Datum, kind_number, IsContents};
+ghost use Rattle.bac_value.specs.Views.{datum, part};
+
+use crate::contents::{flaw_in, is_length_in};
+use crate::element::Element;
+use crate::memory::NoMemory;
+use crate::number_reading::{number_of, object_of, signed_of};
+use crate::octets::Octets;
+use crate::tag::{Class, Form};
+use crate::value::{BitString, CharacterString, OctetString, Value};
+use std::alloc::Global;
+
+/// The octets as an array.
+fn array_of<O: Octets, const N: usize>(octets: O) -> [u8; N]
+    requires { length (O.octets octets) ≡ N }
+    ensures { result ≡ O.octets octets }
+{
+    let mut array = [0u8; N];
+    let mut at = 0;
+    let mut rest = octets;
+    while let Some(read) = rest.first() {
+        array[at] = read.0;
+        at += 1;
+        rest = read.1;
+    }
+    array
+}
+
+fn copy_of<O: Octets>(alloc: Global, octets: O) -> Result<Vec<u8>, NoMemory>
+    ensures { IfOk result (λ copy. copy.items ≡ O.octets octets) }
+{
+    let mut copy = Vec::new(alloc);
+    octets.append_to(&mut copy)?;
+    Ok(copy)
+}
+
+fn octet_string<O: Octets>(alloc: Global, contents: O) -> Result<Value, NoMemory>
+    requires { length (O.octets contents) < 2 ^ 32 }
+    ensures { IfOk result (λ v. datum v ≡ datum_in 6 (O.octets contents)) }
+{
+    let octets = copy_of(alloc, contents)?;
+    Ok(Value::OctetString(OctetString { octets }))
+}
+
+fn character_string<O: Octets>(alloc: Global, contents: O) -> Result<Value, NoMemory>
+    requires some { 0 < length (O.octets contents) }
+    requires fits { length (O.octets contents) < 2 ^ 32 }
+    ensures { IfOk result (λ v. datum v ≡ datum_in 7 (O.octets contents)) }
+{
+    let Some((set, text)) = contents.first() else {
+        unreachable!()
+    };
+    let text = copy_of(alloc, text)?;
+    Ok(Value::CharacterString(CharacterString { set, text }))
+}
+
+fn bit_string<O: Octets>(alloc: Global, contents: O) -> Result<Value, NoMemory>
+    requires some { 0 < length (O.octets contents) }
+    requires fits { length (O.octets contents) < 2 ^ 32 }
+    requires right { flaw 8 (O.octets contents) ≡ None }
+    ensures { IfOk result (λ v. datum v ≡ datum_in 8 (O.octets contents)) }
+{
+    let Some((unused, octets)) = contents.first() else {
+        unreachable!()
+    };
+    let octets = copy_of(alloc, octets)?;
+    Ok(Value::BitString(BitString { unused, octets }))
+}
+
+/// The value in contents of a kind that are right.
+fn value_of_kind<O: Octets>(alloc: Global, kind: u8, contents: O) -> Result<Value, NoMemory>
+    requires kind { kind < 13 }
+    requires no_boolean { kind ≢ 1 }
+    requires fits { length (O.octets contents) < 2 ^ 32 }
+    requires sized { IsTrue (length_in kind (length (O.octets contents))) }
+    requires right { flaw kind (O.octets contents) ≡ None }
+    ensures { IfOk result (λ v. datum v ≡ datum_in kind (O.octets contents)) }
+{
+    match kind {
+        0 => Ok(Value::Null),
+        2 => Ok(Value::Unsigned(number_of(contents))),
+        3 => Ok(Value::Signed(signed_of(contents))),
+        4 => Ok(Value::Real(array_of(contents))),
+        5 => Ok(Value::Double(array_of(contents))),
+        6 => octet_string(alloc, contents),
+        7 => character_string(alloc, contents),
+        8 => bit_string(alloc, contents),
+        9 => Ok(Value::Enumerated(number_of(contents) as u32)),
+        10 => Ok(Value::Date(array_of(contents))),
+        11 => Ok(Value::Time(array_of(contents))),
+        _ => Ok(Value::ObjectIdentifier(object_of(contents))),
+    }
+}
+
+/// The application value that an element is; None exactly where it is none.
+///
+/// An element that was read is a value exactly where its tag is of the application class.
+pub fn value_of<O: Octets>(alloc: Global, element: Element<O>) -> Result<Option<Value>, NoMemory>
+    ensures { IfOk result (λ o. MatchOption o ((d : Datum) → IsValueOf d (part O.octets element) → ⊥)
+        (λ v. IsValueOf (datum v) (part O.octets element))) }
+{
+    let len = element.contents.len();
+    match (element.tag.class, element.tag.form) {
+        (Class::Application, Form::Boolean(value)) if len == 0 => Ok(Some(Value::Boolean(value))),
+        (Class::Application, Form::Length(length)) if len == length as usize => {
+            let kind = element.tag.number;
+            if !is_length_in(kind, len) || flaw_in(element.contents, kind).is_some() {
+                return Ok(None);
+            }
+            Ok(Some(value_of_kind(alloc, kind, element.contents)?))
+        }
+        _ => Ok(None),
+    }
+}
