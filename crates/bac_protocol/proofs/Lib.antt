@@ -22,3 +22,4 @@ pub mod Dead
 pub mod Follow
 pub mod StraightRuns
 pub mod Loops
+pub mod Own
