@@ -23,3 +23,4 @@ pub mod Follow
 pub mod StraightRuns
 pub mod Loops
 pub mod Own
+pub mod Owned

@@ -1,5 +1,6 @@
 -- Each end sends its own APDUs alone.
-use Rattle.std.proofs.Common.{◌≡◌, ℕ, ◌+◌, ◌-◌, ◌≤◌, ◌<◌, Bool, true, false, ◌&&◌, ◌||◌, not, List, [], ◌∷◌, ◌++◌, length, Option, Some, None, if◌then◌else◌, nat_le, nat_eq, refl}
+use Rattle.std.proofs.Common.{◌≡◌, ℕ, ◌+◌, ◌-◌, ◌≤◌, ◌<◌, Bool, true, false, ◌&&◌, ◌||◌, not, List, [], ◌∷◌, ◌++◌, length, Option, Some, None}
+use Rattle.std.proofs.Common.{if◌then◌else◌, nat_le, nat_eq, refl}
 use Rattle.std.specs.Prelude.{is_some}
 use Rattle.bac_apdu.specs.Apdu.{Apdu, Segment}
 use Rattle.bac_apdu.specs.Apdu.Apdu.{ConfirmedRequest, SimpleAck, ComplexAck, SegmentAck, Error, Reject, Abort}
@@ -32,7 +33,8 @@ module _ (c : Settings) (readable : Readable) (id now : ℕ) where
   window_own : (choice : ℕ) (out : Outgoing) → Each (IsOfClient id) (client.request_window c id choice out)
   window_own choice out = pieces_all (IsOfClient id) (client.request_piece c id choice out.pieces) out.first (in_window out) (λ p lo hi. (refl, refl))
 
-  answered_own : (choice : ℕ) (acks : List Apdu) (octets : Octets) → Each (IsOfClient id) acks → Each (IsOfClient id) (acks ++ Abort false id 0 ∷ []) → Own (client.answered_with readable id choice acks octets)
+  answered_own : (choice : ℕ) (acks : List Apdu) (octets : Octets) → Each (IsOfClient id) acks → Each (IsOfClient id) (acks ++ Abort false id 0 ∷ [])
+      → Own (client.answered_with readable id choice acks octets)
   answered_own choice acks octets h k = go (readable choice octets)
     where
       go : (b : Bool) → Own (if b then Ends acks (Answered (reply.Complex octets)) else Ends (acks ++ Abort false id 0 ∷ []) (Aborted 0))
@@ -42,7 +44,8 @@ module _ (c : Settings) (readable : Readable) (id now : ℕ) where
   collects_own : (choice number window : ℕ) (y : Taking) → Own (client.collects readable id choice number window y)
   collects_own choice number window (Taken true inc) = ((refl, refl), tt)
   collects_own choice number window (Taken false inc) = tt
-  collects_own choice number window (Complete parts) = answered_own choice (client.client_ack false id number window ∷ []) (join parts) ((refl, refl), tt) ((refl, refl), ((refl, refl), tt))
+  collects_own choice number window (Complete parts) = answered_own choice (client.client_ack false id number window ∷ []) (join parts) ((refl, refl), tt)
+      ((refl, refl), ((refl, refl), tt))
   collects_own choice number window (Nak inc) = ((refl, refl), tt)
   collects_own choice number window TooLong = ((refl, refl), tt)
 
@@ -57,10 +60,13 @@ module _ (c : Settings) (readable : Readable) (id now : ℕ) where
 
   awaiting_own : (ask : Ask) (a : Apdu) → Own (client.awaiting_gets c readable id ask a)
   awaiting_own ask (SimpleAck i choice) = if_own (nat_eq choice ask.choice && client.answers_simply ask.choice) (Ends [] (Answered reply.Simple)) tt
-  awaiting_own ask (ComplexAck i None choice o) = if_own (nat_eq choice ask.choice && client.answers_with_data ask.choice) (client.answered_with readable id ask.choice [] o) (answered_own ask.choice [] o tt ((refl, refl), tt))
+  awaiting_own ask (ComplexAck i None choice o) = if_own (nat_eq choice ask.choice && client.answers_with_data ask.choice)
+      (client.answered_with readable id ask.choice [] o) (answered_own ask.choice [] o tt ((refl, refl), tt))
   awaiting_own ask (ComplexAck i (Some g) choice o) =
       let inc = incoming c.window g.window in
-      if_own (nat_eq choice ask.choice && (client.answers_with_data ask.choice && (c.takes_segments && nat_eq g.number 0))) (client.collects readable id ask.choice g.number inc.window (takes inc g.number g.more o)) (collects_own ask.choice g.number inc.window (takes inc g.number g.more o))
+      if_own (nat_eq choice ask.choice && (client.answers_with_data ask.choice && (c.takes_segments && nat_eq g.number 0)))
+      (client.collects readable id ask.choice g.number inc.window (takes inc g.number g.more o))
+      (collects_own ask.choice g.number inc.window (takes inc g.number g.more o))
   awaiting_own ask (Error i choice class code) = if_own (nat_eq choice ask.choice) (Ends [] (Answered (reply.Error class code))) tt
   awaiting_own ask (Reject i r) = tt
   awaiting_own ask (Abort true i r) = tt
@@ -80,7 +86,9 @@ module _ (c : Settings) (readable : Readable) (id now : ℕ) where
   sending_own ask out false a = refused_own a
 
   collecting_own : (ask : Ask) (inc : Incoming) (a : Apdu) → Own (client.collecting_gets readable id ask inc a)
-  collecting_own ask inc (ComplexAck i (Some g) choice o) = if_own (nat_eq choice ask.choice) (client.collects readable id ask.choice g.number inc.window (takes inc g.number g.more o)) (collects_own ask.choice g.number inc.window (takes inc g.number g.more o))
+  collecting_own ask inc (ComplexAck i (Some g) choice o) = if_own (nat_eq choice ask.choice)
+      (client.collects readable id ask.choice g.number inc.window (takes inc g.number g.more o))
+      (collects_own ask.choice g.number inc.window (takes inc g.number g.more o))
   collecting_own ask inc a = refused_own a
 
   open_own : (ask : Ask) (phase : Phase) (a : Apdu) → Own (client.open_gets c readable id ask phase a)
@@ -107,7 +115,8 @@ module _ (c : Settings) (readable : Readable) (id now : ℕ) where
   pieces_own : (t : Ticket) → Own (client.repeats_pieces c id t)
   pieces_own t = go (nat_eq t.repeats 0)
     where
-      go : (b : Bool) → Own (if b then Ends [] TimedOut else Repeats (Sending (outgoing t.ask.pieces) true) (client.request_window c id t.ask.choice (outgoing t.ask.pieces)))
+      go : (b : Bool) → Own (if b then Ends [] TimedOut else Repeats (Sending (outgoing t.ask.pieces) true)
+          (client.request_window c id t.ask.choice (outgoing t.ask.pieces)))
       go true = tt
       go false = window_own t.ask.choice (outgoing t.ask.pieces)
 
@@ -123,9 +132,11 @@ module _ (c : Settings) (readable : Readable) (id now : ℕ) where
   again_own choice all_sent (Some out) = window_own choice out
 
   open_ticks_own : (t : Ticket) (phase : Phase) → Own (client.open_ticks c id now t phase)
-  open_ticks_own t (Sending out all_sent) = if_own (nat_le T_SEG (now - t.since)) (client.sends_again c id t.ask.choice all_sent (again out)) (again_own t.ask.choice all_sent (again out))
+  open_ticks_own t (Sending out all_sent) = if_own (nat_le T_SEG (now - t.since)) (client.sends_again c id t.ask.choice all_sent (again out))
+      (again_own t.ask.choice all_sent (again out))
   open_ticks_own t Awaiting = if_own (nat_le T_OUT (now - t.since)) (client.repeats c id t) (repeats_own t)
-  open_ticks_own t (Collecting inc) = if_own (nat_le WAIT_SEG (now - t.since)) (if t.ask.whole then client.repeats_whole c id t else Ends [] TimedOut) (go t.ask.whole)
+  open_ticks_own t (Collecting inc) = if_own (nat_le WAIT_SEG (now - t.since)) (if t.ask.whole then client.repeats_whole c id t else Ends [] TimedOut)
+      (go t.ask.whole)
     where
       go : (b : Bool) → Own (if b then client.repeats_whole c id t else Ends [] TimedOut)
       go true = whole_own t
@@ -143,12 +154,18 @@ module _ (c : Settings) (readable : Readable) (id now : ℕ) where
   asks_own : (ask : Ask) → Own (client.asks c id ask)
   asks_own ask = go ask.whole
     where
-      go : (b : Bool) → Own (if b then GoesOn Awaiting (client.request_apdu c id ask ∷ []) else client.sends_window c id ask.choice (outgoing ask.pieces) false)
+      go : (b : Bool) → Own (if b then GoesOn Awaiting (client.request_apdu c id ask ∷ []) else client.sends_window c id ask.choice
+          (outgoing ask.pieces) false)
       go true = ((refl, refl), tt)
       go false = window_own ask.choice (outgoing ask.pieces)
 
 pub client_sends_own : ClientSendsOwn
-client_sends_own = record { gets = gets_own; ticks = λ c id now t. ticks_own c (λ choice octets. true) id now t; asks = λ c id ask. asks_own c (λ choice octets. true) id 0 ask }
+client_sends_own = record {
+  gets = gets_own;
+  ticks = λ c id now t. ticks_own c (λ choice octets. true) id now t;
+  asks = λ c id ask. asks_own c
+      (λ choice octets. true) id 0 ask;
+}
 
 -- The server.
 
@@ -165,7 +182,8 @@ module _ (c : Settings) (id now : ℕ) (service : Service) where
   reply_own choice (reply.Complex o) = (refl, refl)
   reply_own choice (reply.Error class code) = (refl, refl)
 
-  gives_own : (e : Entry) (acks : List Apdu) (octets : Octets) (p : reply) (way : Way) → Each (IsOfServer id) acks → Own' (server.gives c id now e acks octets p way)
+  gives_own : (e : Entry) (acks : List Apdu) (octets : Octets) (p : reply) (way : Way) → Each (IsOfServer id) acks
+      → Own' (server.gives c id now e acks octets p way)
   gives_own e acks octets p AtOnce h = (push_own id acks (server.reply_apdu id e.terms.choice p) h (reply_own e.terms.choice p), reply_own e.terms.choice p)
   gives_own e acks octets p (InPieces ps) h = (push_own id acks (server.reply_piece c id e.terms.choice ps 0) h (refl, refl), tt)
   gives_own e acks octets p (Unsendable reason) h = (push_own id acks (Abort true id reason) h (refl, refl), (refl, refl))
@@ -177,34 +195,42 @@ module _ (c : Settings) (id now : ℕ) (service : Service) where
   receives_own : (e : Entry) (number window : ℕ) (y : Taking) → Own' (server.receives c id now service e number window y)
   receives_own e number window (Taken true inc) = (((refl, refl), tt), tt)
   receives_own e number window (Taken false inc) = (tt, tt)
-  receives_own e number window (Complete parts) = so_own e (server.server_ack false id number window ∷ []) (join parts) (service e.terms.choice (join parts)) ((refl, refl), tt)
+  receives_own e number window (Complete parts) = so_own e (server.server_ack false id number window ∷ []) (join parts)
+      (service e.terms.choice (join parts)) ((refl, refl), tt)
   receives_own e number window (Nak inc) = (((refl, refl), tt), tt)
   receives_own e number window TooLong = (((refl, refl), tt), tt)
 
   abort_own : (o : Option Entry) → IsOwnEntry id o → Own' (server.rests o (server.abort_0 id ∷ []))
   abort_own o h = (((refl, refl), tt), h)
 
-  request_own : (o : Option Entry) → IsOwnEntry id o → (free : Bool) (terms : Terms) (octets : Octets) → Own' (server.new_request c id now service o free terms octets)
+  request_own : (o : Option Entry) → IsOwnEntry id o → (free : Bool) (terms : Terms) (octets : Octets)
+      → Own' (server.new_request c id now service o free terms octets)
   request_own o h true terms octets = so_own (server.begins now terms (Some octets)) [] octets (service terms.choice octets) tt
   request_own o h false terms octets = abort_own o h
 
-  segment_own : (o : Option Entry) → IsOwnEntry id o → (free : Bool) (terms : Terms) (g : Segment) (octets : Octets) → Own' (server.new_segment c id now service o free terms g octets)
+  segment_own : (o : Option Entry) → IsOwnEntry id o → (free : Bool) (terms : Terms) (g : Segment) (octets : Octets)
+      → Own' (server.new_segment c id now service o free terms g octets)
   segment_own o h free terms g octets = go (nat_eq g.number 0) free
     where
-      go : (b d : Bool) → Own' (if not b then server.rests o [] else if d then server.receives c id now service (server.begins now terms None) g.number (incoming c.window g.window).window (takes (incoming c.window g.window) g.number g.more octets) else server.rests o (server.abort_0 id ∷ []))
-      go true true = receives_own (server.begins now terms None) g.number (incoming c.window g.window).window (takes (incoming c.window g.window) g.number g.more octets)
+      go : (b d : Bool) → Own' (if not b then server.rests o [] else if d then server.receives c id now service (server.begins now terms None) g.number
+          (incoming c.window g.window).window (takes (incoming c.window g.window) g.number g.more octets) else server.rests o (server.abort_0 id ∷ []))
+      go true true = receives_own (server.begins now terms None) g.number (incoming c.window g.window).window
+          (takes (incoming c.window g.window) g.number g.more octets)
       go true false = abort_own o h
       go false d = (tt, h)
 
   new_own : (o : Option Entry) → IsOwnEntry id o → (free : Bool) (a : Apdu) → Own' (server.new_gets c id now service o free a)
-  new_own o h free (ConfirmedRequest sa ms ma i None choice octets) = request_own o h free (record { choice = choice; takes_segments = sa; max_segments = ms; max_apdu = ma }) octets
-  new_own o h free (ConfirmedRequest sa ms ma i (Some g) choice octets) = segment_own o h free (record { choice = choice; takes_segments = sa; max_segments = ms; max_apdu = ma }) g octets
+  new_own o h free (ConfirmedRequest sa ms ma i None choice octets) = request_own o h free
+      (record { choice = choice; takes_segments = sa; max_segments = ms; max_apdu = ma }) octets
+  new_own o h free (ConfirmedRequest sa ms ma i (Some g) choice octets) = segment_own o h free
+      (record { choice = choice; takes_segments = sa; max_segments = ms; max_apdu = ma }) g octets
   new_own o h free _ = (tt, h)
 
   receiving_own : (e : Entry) → IsOwnEntry id (Some e) → (inc : Incoming) (since : ℕ) (a : Apdu) → Own' (server.receiving_gets c id now service e inc since a)
   receiving_own e h inc since (ConfirmedRequest sa ms ma i (Some g) choice octets) = go (nat_le WAIT_SEG (now - since))
     where
-      go : (b : Bool) → Own' (if b then server.becomes e Dropped (server.abort_0 id ∷ []) else server.receives c id now service e g.number inc.window (takes inc g.number g.more octets))
+      go : (b : Bool) → Own' (if b then server.becomes e Dropped (server.abort_0 id ∷ []) else server.receives c id now service e g.number inc.window
+          (takes inc g.number g.more octets))
       go true = (((refl, refl), tt), tt)
       go false = receives_own e g.number inc.window (takes inc g.number g.more octets)
   receiving_own e h inc since (Abort false i reason) = (tt, tt)
@@ -224,7 +250,11 @@ module _ (c : Settings) (id now : ℕ) (service : Service) where
   done_own e h kept own _ = (tt, h)
 
   gives_window_own : (e : Entry) (out : Outgoing) → Own' (server.gives_window c id now e out)
-  gives_window_own e out = (pieces_all (IsOfServer id) (server.reply_piece c id e.terms.choice out.pieces) out.first (in_window out) (λ p lo hi. (refl, refl)), tt)
+  gives_window_own e out = (
+    pieces_all (IsOfServer id) (server.reply_piece c id e.terms.choice out.pieces) out.first (in_window out)
+        (λ p lo hi. (refl, refl)),
+    tt,
+  )
 
   resumes_own : (e : Entry) → IsOwnEntry id (Some e) → (out : Outgoing) (transfer : Transfer) → Own' (server.resumes c id now e out transfer)
   resumes_own e h out Stopped = gives_window_own e (resume out)
@@ -239,12 +269,14 @@ module _ (c : Settings) (id now : ℕ) (service : Service) where
       go true = (tt, tt)
       go false = gives_window_own e out
 
-  giving_ack_own : (e : Entry) → IsOwnEntry id (Some e) → (out : Outgoing) (transfer : Transfer) (number window : ℕ) → Own' (server.giving_gets_ack c id now e out transfer number window)
+  giving_ack_own : (e : Entry) → IsOwnEntry id (Some e) → (out : Outgoing) (transfer : Transfer) (number window : ℕ)
+      → Own' (server.giving_gets_ack c id now e out transfer number window)
   giving_ack_own e h out Running number window = gives_on_own e h (acknowledged c.window out number window)
   giving_ack_own e h out Stopped number window = (tt, h)
   giving_ack_own e h out Finished number window = (tt, h)
 
-  giving_own : (e : Entry) → IsOwnEntry id (Some e) → (out : Outgoing) (transfer : Transfer) (since : ℕ) (a : Apdu) → Own' (server.giving_gets c id now e out transfer since a)
+  giving_own : (e : Entry) → IsOwnEntry id (Some e) → (out : Outgoing) (transfer : Transfer) (since : ℕ) (a : Apdu)
+      → Own' (server.giving_gets c id now e out transfer since a)
   giving_own e h out transfer since (ConfirmedRequest sa ms ma i None choice octets) = go (server.is_kept e e.request choice octets)
     where
       go : (b : Bool) → Own' (if b then server.resumes c id now e out transfer else server.rests (Some e) (server.abort_0 id ∷ []))
@@ -263,7 +295,8 @@ module _ (c : Settings) (id now : ℕ) (service : Service) where
   dropped_own e h (ConfirmedRequest sa ms ma i g choice octets) = abort_own (Some e) h
   dropped_own e h _ = (tt, h)
 
-  live_own : (e : Entry) → IsOwnEntry id (Some e) → (st : State) → IsOwnEntry id (Some (record e { state = st })) → (a : Apdu) → Own' (server.live_gets c id now service e st a)
+  live_own : (e : Entry) → IsOwnEntry id (Some e) → (st : State) → IsOwnEntry id (Some (record e { state = st })) → (a : Apdu)
+      → Own' (server.live_gets c id now service e st a)
   live_own e h (Receiving inc since) own a = receiving_own e h inc since a
   live_own e h (Done kept) own a = done_own e h kept own a
   live_own e h (Giving out transfer since) own a = giving_own e h out transfer since a

@@ -10,6 +10,7 @@ use Rattle.bac_protocol.specs.Client.{Ask, Ticket}
 use Rattle.bac_protocol.specs.Server as server
 use Rattle.bac_protocol.specs.Server.{State, Entry, Service}
 use Rattle.bac_protocol.specs.Server.State.{Receiving, Done, Giving, Dropped}
+use Rattle.bac_protocol.specs.Transaction.{Key}
 use Rattle.bac_protocol.specs.World.{Net, Post}
 
 abbrev pub invoke_of : Apdu → ℕ
@@ -41,7 +42,8 @@ IsOwnEntry id (Some e) = KeepsOwn id e.state
 
 -- the client's machine sends its own alone
 pub record ClientSendsOwn : Type 0 where
-  pub gets : (c : Settings) (readable : Readable) (id now : ℕ) (t : Ticket) (a : Apdu) → Each (IsOfClient id) (client.sends_of (client.client_gets c readable id now t a))
+  pub gets : (c : Settings) (readable : Readable) (id now : ℕ) (t : Ticket) (a : Apdu)
+      → Each (IsOfClient id) (client.sends_of (client.client_gets c readable id now t a))
   pub ticks : (c : Settings) (id now : ℕ) (t : Ticket) → Each (IsOfClient id) (client.sends_of (client.client_ticks c id now t))
   pub asks : (c : Settings) (id : ℕ) (ask : Ask) → Each (IsOfClient id) (client.sends_of (client.asks c id ask))
 
@@ -50,5 +52,15 @@ IsOwnReaction id v = Each (IsOfServer id) v.sends × IsOwnEntry id v.entry
 
 -- the server's machine sends and keeps its own alone
 pub record ServerSendsOwn : Type 0 where
-  pub gets : (c : Settings) (id now : ℕ) (service : Service) (entry : Option Entry) (free : Bool) (a : Apdu) → IsOwnEntry id entry → IsOwnReaction id (server.server_gets c id now service entry free a)
+  pub gets : (c : Settings) (id now : ℕ) (service : Service) (entry : Option Entry) (free : Bool) (a : Apdu) → IsOwnEntry id entry
+      → IsOwnReaction id (server.server_gets c id now service entry free a)
   pub ticks : (c : Settings) (id now : ℕ) (entry : Option Entry) → IsOwnEntry id entry → IsOwnReaction id (server.server_ticks c id now entry)
+
+-- a copy carries its transaction's invoke ID, and is one that its client or its server sends
+abbrev pub IsOwnPost : Post → Type 0
+IsOwnPost p = IsOfClient p.key.id p.copy.apdu ⊎ IsOfServer p.key.id p.copy.apdu
+
+-- so are all copies, and what all entries keep
+pub record AreOwn (n : Net) : Type 0 where
+  pub posts : (number : ℕ) (p : Post) → slice_get n.posts number ≡ Some p → IsOwnPost p
+  pub entries : (key : Key) → IsOwnEntry key.id (n.entries key)

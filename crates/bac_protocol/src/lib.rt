@@ -13,7 +13,7 @@ ghost use Rattle.bac_protocol.specs.Log.{Shop, IsOnce};
 ghost use Rattle.bac_protocol.specs.Transaction.{Rules};
 ghost use Rattle.bac_protocol.specs.World.{Event, run, start};
 ghost use Rattle.bac_protocol.specs.Beyond.{Misread};
-ghost use Rattle.bac_protocol.specs.Own.{ClientSendsOwn, ServerSendsOwn};
+ghost use Rattle.bac_protocol.specs.Own.{ClientSendsOwn, ServerSendsOwn, AreOwn};
 ghost use Rattle.bac_protocol.specs.Claims.{IsBounded, AreOfNewest, RequestsAreInWindow, RepliesAreInWindow, LaterPassesFindDone};
 
 /// No number that can arrive is misread modulo 256, where windows are at most W, at most V later copies may overtake one, and V + 2W <= 255:
@@ -70,4 +70,9 @@ pub fn misread_beyond_the_bound()
 pub fn each_end_sends_its_own()
     ensures client { ClientSendsOwn }
     ensures server { ServerSendsOwn }
+{}
+
+/// In every run each copy carries its transaction's invoke ID and is an APDU of its client or its server.
+pub fn each_copy_is_its_own<S>()
+    ensures { (shop : Shop S) (rules : Rules) (opening : ℕ → S) (events : List Event) → AreOwn (run S shop rules events (start S opening)).net }
 {}
