@@ -1,5 +1,5 @@
 -- Each end sends its own APDUs alone.
-use Rattle.std.proofs.Common.{◌≡◌, ℕ, ◌+◌, ◌-◌, ◌≤◌, ◌<◌, Bool, true, false, ◌&&◌, ◌||◌, not, List, [], ◌∷◌, ◌++◌, length, Option, Some, None}
+use Rattle.std.proofs.Common.{ℕ, ◌-◌, Bool, true, false, ◌&&◌, ◌||◌, not, List, [], ◌∷◌, ◌++◌, Option, Some, None}
 use Rattle.std.proofs.Common.{if◌then◌else◌, nat_le, nat_eq, refl}
 use Rattle.std.specs.Prelude.{is_some}
 use Rattle.bac_apdu.specs.Apdu.{Apdu, Segment}

@@ -1,6 +1,6 @@
 -- In every run all copies are their transactions' own.
 use Rattle.std.proofs.Common.{◌≡◌, ℕ, zero, suc, ◌-◌, ◌⊎◌, Bool, true, false, ◌&&◌, List, [], ◌∷◌, ◌++◌, map, Option, Some, None, slice_get}
-use Rattle.std.proofs.Common.{if◌then◌else◌, nat_le, refl, sym, ap, subst, inl, inr, ◌∙◌}
+use Rattle.std.proofs.Common.{if◌then◌else◌, nat_le, sym, subst, inl, inr}
 use Rattle.bac_apdu.specs.Apdu.{Apdu}
 use Rattle.bac_protocol.specs.Times.{LIFE}
 use Rattle.bac_protocol.specs.Wire.{is_from_client, Each}
@@ -10,7 +10,7 @@ use Rattle.bac_protocol.specs.Server as server
 use Rattle.bac_protocol.specs.Server.{Entry}
 use Rattle.bac_protocol.specs.Log.{Shop}
 use Rattle.bac_protocol.specs.Transaction.{Key, Rules}
-use Rattle.bac_protocol.specs.World.{Net, World, Post, Event, post_of, set_at, later, client_acts, server_acts, asked_at, is_key_held, ask_made}
+use Rattle.bac_protocol.specs.World.{Net, World, Post, Event, post_of, set_at, later, client_acts, server_acts, is_key_held, ask_made}
 use Rattle.bac_protocol.specs.World.{takes_at_client, takes_at_server, arrives, delivered, ticks_ticket, ticks_as_client, ticks_as_server, serves}
 use Rattle.bac_protocol.specs.World.{service_of, happens, run, start}
 use Rattle.bac_protocol.specs.World.Event.{MakeAsk, Deliver, Tick, Noise, Advance}
@@ -24,7 +24,7 @@ AllOwn (p ∷ posts) = IsOwnPost p × AllOwn posts
 
 own_at : (posts : List Post) → AllOwn posts → (number : ℕ) (p : Post) → slice_get posts number ≡ Some p → IsOwnPost p
 own_at [] h number p e = absurd cc
-own_at (q ∷ posts) h zero p e = subst IsOwnPost (cc) h.0
+own_at (q ∷ posts) h zero p e = let same : q ≡ p = cc in subst IsOwnPost same h.0
 own_at (q ∷ posts) h (suc number) p e = own_at posts h.1 number p e
 
 own_join : (xs ys : List Post) → AllOwn xs → AllOwn ys → AllOwn (xs ++ ys)

@@ -1,6 +1,6 @@
 -- Each APDU that an end sends carries its transaction's invoke ID, and is one that this end sends.
-use Rattle.std.specs.Prelude.{◌≡◌, ℕ, ◌⊎◌, Bool, true, List, Option, Some, None, slice_get}
-use Rattle.bac_apdu.specs.Apdu.{Apdu, Segment}
+use Rattle.std.specs.Prelude.{◌≡◌, ℕ, ◌⊎◌, Bool, true, Option, Some, None, slice_get}
+use Rattle.bac_apdu.specs.Apdu.{Apdu}
 use Rattle.bac_apdu.specs.Apdu.Apdu.{ConfirmedRequest, UnconfirmedRequest, SimpleAck, ComplexAck, SegmentAck, Error, Reject, Abort}
 use Rattle.bac_protocol.specs.Sizes.{Settings}
 use Rattle.bac_protocol.specs.Service.{Readable}
