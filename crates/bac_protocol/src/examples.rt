@@ -1,6 +1,7 @@
 //! Runs that are computed: they show that the definitions do what the protocol's tables say, at the level of APDUs.
 
-ghost use Rattle.bac_protocol.specs.Examples.{FourCopies, LostAnswer, Unreadable, NoSlot, OldCopy, OlderCopy, LastMoment, TooLate, NothingDelivered, HeldLong, LostAck};
+ghost use Rattle.bac_protocol.specs.Examples.{FourCopies, LostAnswer, Unreadable, NoSlot, OldCopy, OlderCopy, LastMoment, TooLate, NothingDelivered};
+ghost use Rattle.bac_protocol.specs.Examples.{HeldLong, LostAck};
 ghost use Rattle.bac_protocol.specs.Examples.{OutOfOrder, LaterPass, InTime, OutOfTime, StoppedReply, Sizes, OddAcks, OtherAnswers, KeptReply, DroppedEntry};
 
 /// Whole requests: a request that is delivered four times, a lost answer, and one that can't be read.

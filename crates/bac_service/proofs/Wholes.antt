@@ -258,9 +258,9 @@ request_found view choice bytes (Err d) fits e = tt
 made_of : (r : Request) (bytes : Octets) → SpellsMembers r bytes → IsMade r
 made_of (ReadFile file access) bytes s = tt
 made_of (WriteFile file (WriteStream start octets)) bytes s = let string = s.second.are.second in subst (λ (xs : Octets). length xs < 2 ^ 32) string.are string.fits
-made_of (WriteFile file (WriteRecords start count run)) bytes s = s.second.are.second.second.strings
+made_of (WriteFile file (WriteRecords start count run)) bytes s = ∣ s.second.are.second.second.strings ∣₁
 made_of (ReadProperty r) bytes s = tt
-made_of (WriteProperty r values priority) bytes s = s.second.first.are.spelled
+made_of (WriteProperty r values priority) bytes s = ∣ s.second.first.are.spelled ∣₁
 
 pub request_made : {X E : Type 0} (view : X → Request) (choice : ℕ) (bytes : Octets) (result : Result X E) → IsBytes bytes → ReadAs view choice bytes result → IfOk result (λ f. IsMade (view f))
 request_made view choice bytes (Ok f) fits e = made_of (view f) bytes (request_takes choice bytes (view f) fits e).members
@@ -281,7 +281,7 @@ answer_made : (c : Complex) (bytes : Octets) → SpellsAnswer c bytes → IsMade
 answer_made (FileRead b z octets) bytes s = let string = s.second.are.second in subst (λ (xs : Octets). length xs < 2 ^ 32) string.are string.fits
 answer_made (StreamWritten z) bytes s = tt
 answer_made (RecordsWritten z) bytes s = tt
-answer_made (PropertyRead r values) bytes s = s.second.are.spelled
+answer_made (PropertyRead r values) bytes s = ∣ s.second.are.spelled ∣₁
 
 pub complex_made : {X E : Type 0} (view : X → Complex) (choice : ℕ) (bytes : Octets) (result : Result X E) → IsBytes bytes → AnsweredAs view choice bytes result → IfOk result (λ c. IsMadeOf (view c))
 complex_made view choice bytes (Ok c) fits e = answer_made (view c) bytes (complex_takes choice bytes (view c) fits e).members

@@ -7,3 +7,4 @@ pub mod Views
 pub mod Services
 pub mod Spellings
 pub mod Lengths
+pub mod Refusals

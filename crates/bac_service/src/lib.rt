@@ -1,8 +1,13 @@
 //! Requests and answers of the four services (clauses 14 and 15), read from and written as service data (clause 21).
 #![tactic(auto)]
 
+mod lending;
 mod lengths;
 mod member;
+mod owned;
+mod owned_records;
+mod parts_reading;
+mod read_error;
 mod reject;
 mod reply;
 mod reply_reading;
@@ -17,6 +22,10 @@ mod typed;
 mod value;
 
 pub use lengths::{reply_len, request_len};
+pub use owned::{OwnedComplex, OwnedReply, OwnedRequest};
+pub use owned_records::OwnedRecords;
+pub use parts_reading::{read_reply_parts, read_request_parts};
+pub use read_error::ReadError;
 pub use reject::Reject;
 pub use reply::{
     AnyComplex, AnyReply, Complex, ComplexOver, FileRead, FileWritten, PropertyRead, Reply,

@@ -1,6 +1,6 @@
 -- Reading from left to right, on lists alone: what a reader answers, and which fault it finds first.
 -- That these answers are exactly the spellings are laws beside the readers in code.
-use Rattle.std.specs.Prelude.{◌≡◌, ℕ, zero, suc, ◌/◌, ◌%◌, ◌+◌, ◌≤◌, ◌<◌, ◌^◌, ℤ, slice_index, List, [], ◌∷◌, ◌++◌, length, take, drop, Option, Some, None, Result, Ok, Err, Bool, true, false, nat_lt, ◌==◌, ◌&&◌, ◌||◌, not, if◌then◌else◌}
+use Rattle.std.specs.Prelude.{◌≡◌, ℕ, zero, suc, ◌/◌, ◌%◌, ◌≤◌, ◌^◌, ℤ, slice_index, List, [], ◌∷◌, ◌++◌, length, take, drop, Option, Some, None, Result, Ok, Err, Bool, true, false, nat_lt, ◌==◌, ◌&&◌, ◌||◌, if◌then◌else◌}
 use Rattle.std.specs.Int.{Width, w16, w32, byte_len, from_be_bytes}
 use Rattle.bac_value.specs.declared.fault.FaultKind.{FaultKind}
 use Rattle.bac_value.specs.declared.fault.FaultKind.TheVariants.{Truncated, ReservedTag, LongForm, BadLength, NotShortest, Unbalanced, TooDeep, ReservedBits}
