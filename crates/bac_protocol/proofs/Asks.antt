@@ -4,6 +4,7 @@ use Rattle.bac_apdu.specs.Apdu.{Apdu}
 use Rattle.bac_segment.specs.Window.{outgoing, in_window}
 use Rattle.bac_protocol.specs.Times.{LIFE, DEADLINE, KEEP, HOLD}
 use Rattle.bac_protocol.specs.Service.{Octets}
+use Rattle.bac_protocol.specs.Wire.{Each}
 use Rattle.bac_protocol.specs.Client as client
 use Rattle.bac_protocol.specs.Client.{Ask, request_of, Ticket}
 use Rattle.bac_protocol.specs.Server.{Entry}
@@ -14,7 +15,7 @@ use Rattle.bac_protocol.specs.Claims.{EachCopy}
 use Rattle.bac_protocol.proofs.Sound.{IsBelow, IsOrderly, Up, Down, Says, Fits, ServerFits, IsSound}
 use Rattle.bac_protocol.proofs.Sound.Up.{Reading}
 use Rattle.bac_protocol.proofs.Sound.Down.{Unsent}
-use Rattle.bac_protocol.proofs.Facts.{below_more, below_unperformed, below_unended, AllSends, all_map, each_sent, says_time, pieces_all}
+use Rattle.bac_protocol.proofs.Facts.{below_more, below_unperformed, below_unended, all_map, each_sent, says_time, pieces_all}
 use Rattle.bac_protocol.proofs.ClientKeeps.{SoundOf}
 
 -- what there is of asks before it is of no account
@@ -31,7 +32,7 @@ asked_server W w ask sn log is un None dead = (refl, un)
 asked_server W w ask sn log is un (Some e) dead = inl (record { dead = let d = dead e refl in omega arith; unbegun = (refl, un) })
 
 asked_copies : (W : ℕ) (w : Transaction) (ask : Ask) (log : List Fact) (up : Up) (sends : List Apdu) → IsSpent w → ask.first ≡ w.now
-    → AllSends (λ a. (k : ℕ) → Says W w.asks ask log up Unsent w.now k a) sends
+    → Each (λ a. (k : ℕ) → Says W w.asks ask log up Unsent w.now k a) sends
     → EachCopy (λ k c. Fits W w.now w.asks ask log up Unsent k c) (sent w.now sends w.copies)
 asked_copies W w ask log up sends spent is says =
     each_sent (λ k c. Fits W w.now w.asks ask log up Unsent k c) w.now sends w.copies

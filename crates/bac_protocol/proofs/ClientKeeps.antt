@@ -12,7 +12,7 @@ use Rattle.bac_protocol.specs.Times.{T_OUT, T_SEG, WAIT_SEG}
 use Rattle.bac_protocol.specs.Sizes.{Settings}
 use Rattle.bac_protocol.specs.Service.{Octets, Ending, Readable, Reply as reply}
 use Rattle.bac_protocol.specs.Service.Ending.{Answered, Rejected, Aborted, TimedOut, Expired}
-use Rattle.bac_protocol.specs.Wire.{is_from_server, segment_of}
+use Rattle.bac_protocol.specs.Wire.{is_from_server, segment_of, Each}
 use Rattle.bac_protocol.specs.Client as client
 use Rattle.bac_protocol.specs.Client.{Ask, request_of, Phase, Ticket, Reaction}
 use Rattle.bac_protocol.specs.Client.Phase.{Sending, Awaiting, Collecting, Over}
@@ -28,7 +28,7 @@ use Rattle.bac_protocol.proofs.Sound.{IsSendingFor, IsReadIfPieces, IsReadIfRepe
 use Rattle.bac_protocol.proofs.Sound.{StateFits, ServerFits, UpFits, DownFits, IsOpenIn, Sound, IsSound}
 use Rattle.bac_protocol.proofs.Sound.Up.{Reading, Read}
 use Rattle.bac_protocol.proofs.Sound.Down.{Unsent, Sent, Closed}
-use Rattle.bac_protocol.proofs.Facts.{below_has, AllSends, UpGoes, DownGoes, up_same, down_same, closed, down_closed, grows_same, grows_more}
+use Rattle.bac_protocol.proofs.Facts.{below_has, UpGoes, DownGoes, up_same, down_same, closed, down_closed, grows_same, grows_more}
 use Rattle.bac_protocol.proofs.Facts.{copies_go, pieces_all, pieces_length}
 use Rattle.bac_protocol.proofs.Transfer.{moved, acknowledged_cases, acknowledges_taken, moved_sender, sent_to, window_underway, window_sender}
 use Rattle.bac_protocol.proofs.Transfer.{window_grows, window_piece, with_piece, takes_cases, takes_below, takes_left, takes_front, takes_all}
@@ -185,7 +185,7 @@ module _ (W V : ℕ) (some : 0 < W) (room : V + 2 * W ≤ 255) (c : Settings) (o
       → UpGoes (length sends) up up' → DownGoes (length sends) down down'
       → ClientFits W t.ask phase up' down' → IsReadIfRepeated t.ask repeats up' → ServerFits W w.number t.ask w.entry up' down' w.log → UpFits W t.ask up'
       → DownFits W down'
-      → AllSends (SaysNow up' down') sends
+      → Each (SaysNow up' down') sends
       → Goes (record t { phase = phase; repeats = repeats; since = since }) sends
   goes up down s opened phase repeats since sends up' down' gu gd client passes server upload download says = (
     up',
@@ -209,7 +209,7 @@ module _ (W V : ℕ) (some : 0 < W) (room : V + 2 * W ≤ 255) (c : Settings) (o
   -- the ticket goes on, and no ghost moves
   goes_same : (up : Up) (down : Down) → SoundOf W key w t up down → IsUnended w.number w.log → (phase : Phase) (repeats since : ℕ) (sends : List Apdu)
       → ClientFits W t.ask phase up down → IsReadIfRepeated t.ask repeats up
-      → AllSends (SaysNow up down) sends
+      → Each (SaysNow up down) sends
       → Goes (record t { phase = phase; repeats = repeats; since = since }) sends
   goes_same up down s opened phase repeats since sends client passes says =
       goes up down s opened phase repeats since sends up down (up_same (length sends) up)
@@ -217,7 +217,7 @@ module _ (W V : ℕ) (some : 0 < W) (room : V + 2 * W ≤ 255) (c : Settings) (o
 
   -- the ticket ends
   ends : (up : Up) (down : Down) → SoundOf W key w t up down → IsUnended w.number w.log → (sends : List Apdu) (how : Ending) → MayEnd w.number how w.log
-      → AllSends (λ a. (k : ℕ) → Says W w.number t.ask (Ended w.number how ∷ w.log) up (closed down) w.now k a) sends
+      → Each (λ a. (k : ℕ) → Says W w.number t.ask (Ended w.number how ∷ w.log) up (closed down) w.now k a) sends
       → IsKept (Ends sends how)
   ends up down s opened sends how may says = (
     up,
@@ -255,8 +255,8 @@ module _ (W V : ℕ) (some : 0 < W) (room : V + 2 * W ≤ 255) (c : Settings) (o
     -- whole service data came, of a reply with which the ask was performed
     answered_kept : (up : Up) (down : Down) → SoundOf W key w t up down → (choice : ℕ) (acks : List Apdu) (octets : Octets)
         → WasPerformed w.number t.ask (reply.Complex octets) w.log
-        → ((log : List Fact) → AllSends (λ a. (k : ℕ) → Says W w.number t.ask log up (closed down) w.now k a) acks)
-        → ((log : List Fact) → AllSends (λ a. (k : ℕ) → Says W w.number t.ask log up (closed down) w.now k a) (acks ++ Abort false key.id 0 ∷ []))
+        → ((log : List Fact) → Each (λ a. (k : ℕ) → Says W w.number t.ask log up (closed down) w.now k a) acks)
+        → ((log : List Fact) → Each (λ a. (k : ℕ) → Says W w.number t.ask log up (closed down) w.now k a) (acks ++ Abort false key.id 0 ∷ []))
         → IsKept (client.answered_with readable key.id choice acks octets)
     answered_kept up down s choice acks octets h says aborts = go (readable choice octets)
       where
@@ -300,7 +300,7 @@ module _ (W V : ℕ) (some : 0 < W) (room : V + 2 * W ≤ 255) (c : Settings) (o
       next_ack : g.number ≡ length inc.parts % 256 → (j : ℕ) → IsAck W (tk + 1) sn j g.number
       next_ack e j = let near = s.download.near in record { piece = tk; number_is = number_is e; below = omega arith; near = omega arith }
 
-      next : (sends : List Apdu) → g.number ≡ length inc.parts % 256 → g.more ≡ true → (n : ℕ) → AllSends (SaysNow up (Sent ps (tk + 1) sn)) sends
+      next : (sends : List Apdu) → g.number ≡ length inc.parts % 256 → g.more ≡ true → (n : ℕ) → Each (SaysNow up (Sent ps (tk + 1) sn)) sends
           → IsKept (GoesOn (Collecting (with_piece inc o n)) sends)
       next sends e m n says = goes up (Sent ps tk sn) s opened (Collecting (with_piece inc o n)) t.repeats w.now sends up (Sent ps (tk + 1) sn)
           (up_same (length sends) up) (refl, omega arith, omega arith, omega arith) (front e n) s.passes

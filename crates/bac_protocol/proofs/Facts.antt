@@ -4,7 +4,7 @@ use Rattle.std.proofs.Common.{arith, zero-add, suc-add, add-suc}
 use Rattle.bac_apdu.specs.Apdu.{Apdu, Segment}
 use Rattle.bac_apdu.specs.Apdu.Apdu.{ConfirmedRequest, UnconfirmedRequest, SimpleAck, ComplexAck, SegmentAck, Error, Reject, Abort}
 use Rattle.bac_protocol.specs.Service.{Octets, Reply as reply}
-use Rattle.bac_protocol.specs.Wire.{pieces_from}
+use Rattle.bac_protocol.specs.Wire.{pieces_from, Each}
 use Rattle.bac_protocol.specs.Client.{Ask, request_of}
 use Rattle.bac_protocol.specs.Log.{Fact, Has, IsUnperformed, IsUnended}
 use Rattle.bac_protocol.specs.Log.Fact.{Asked, Performed, Ended}
@@ -39,11 +39,7 @@ below_has n f (g ∷ log) h (inr k) = below_has n f log h.1 k
 
 -- The copies.
 
-abbrev pub AllSends : (Apdu → Type 0) → List Apdu → Type 0
-AllSends Q [] = Unit {0}
-AllSends Q (a ∷ more) = Q a × AllSends Q more
-
-pub all_map : (Q R : Apdu → Type 0) → ((a : Apdu) → Q a → R a) → (sends : List Apdu) → AllSends Q sends → AllSends R sends
+pub all_map : (Q R : Apdu → Type 0) → ((a : Apdu) → Q a → R a) → (sends : List Apdu) → Each Q sends → Each R sends
 all_map Q R f [] h = tt
 all_map Q R f (a ∷ more) h = (f a h.0, all_map Q R f more h.1)
 
@@ -54,7 +50,7 @@ each_cons P n c cs here there zero d e = subst (λ (x : Copy). P (n + 0) x) (cc)
 each_cons P n c cs here there (suc k) d e = rw (add-suc, ← suc-add) (there k d e)
 
 pub each_sent : (P : ℕ → Copy → Type 0) (now : ℕ) (sends : List Apdu) (copies : List Copy)
-    → AllSends (λ a. (k : ℕ) → P k (record { moment = now; apdu = a })) sends
+    → Each (λ a. (k : ℕ) → P k (record { moment = now; apdu = a })) sends
     → ((k : ℕ) (c : Copy) → slice_get copies k ≡ Some c → P (length sends + k) c)
     → EachCopy P (sent now sends copies)
 each_sent P now [] copies h old = λ k c e. rw zero-add at (old k c e)
@@ -180,7 +176,7 @@ says_goes W d m k number ask log log' up up' down down' grows gu gd (Abort false
 
 pub copies_go : (W now number : ℕ) (ask : Ask) (log log' : List Fact) (up up' : Up) (down down' : Down) (sends : List Apdu) (copies : List Copy)
     → Grows log log' → UpGoes (length sends) up up' → DownGoes (length sends) down down' → ask.first ≤ now
-    → AllSends (λ a. (k : ℕ) → Says W number ask log' up' down' now k a) sends
+    → Each (λ a. (k : ℕ) → Says W number ask log' up' down' now k a) sends
     → EachCopy (λ k c. Fits W now number ask log up down k c) copies
     → EachCopy (λ k c. Fits W now number ask log' up' down' k c) (sent now sends copies)
 copies_go W now number ask log log' up up' down down' sends copies grows gu gd clock says old =
@@ -208,7 +204,7 @@ says_time W m k number ask log up down (Abort false id r) h = omega (arith, h)
 -- Pieces.
 
 pub pieces_all : (Q : Apdu → Type 0) (piece : ℕ → Apdu) (a count : ℕ) → ((p : ℕ) → a ≤ p → p < a + count → Q (piece p))
-    → AllSends Q (pieces_from piece a count)
+    → Each Q (pieces_from piece a count)
 pieces_all Q piece a zero h = tt
 pieces_all Q piece a (suc count) h = (h a (omega arith) (omega arith), pieces_all Q piece (a + 1) count (λ p lo hi. h p (omega arith) (omega arith)))
 

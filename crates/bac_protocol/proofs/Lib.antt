@@ -22,3 +22,5 @@ pub mod Dead
 pub mod Follow
 pub mod StraightRuns
 pub mod Loops
+pub mod Own
+pub mod Owned

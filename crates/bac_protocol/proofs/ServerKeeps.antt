@@ -14,7 +14,7 @@ use Rattle.bac_protocol.specs.Times.{T_SEG, WAIT_SEG, LIFE, DEADLINE, KEEP}
 use Rattle.bac_protocol.specs.Sizes.{Settings}
 use Rattle.bac_protocol.specs.Service.{Octets, Outcome, Reply as reply}
 use Rattle.bac_protocol.specs.Service.Outcome.{Replies, Rejects}
-use Rattle.bac_protocol.specs.Wire.{segment_of}
+use Rattle.bac_protocol.specs.Wire.{segment_of, Each}
 use Rattle.bac_protocol.specs.Client.{Ask, request_of, Phase, Ticket}
 use Rattle.bac_protocol.specs.Client.Phase.{Sending, Awaiting, Collecting, Over}
 use Rattle.bac_protocol.specs.Server as server
@@ -31,13 +31,13 @@ use Rattle.bac_protocol.proofs.Sound.{IsReadIfRepeated, IsKeptFor, IsUnbegun, Is
 use Rattle.bac_protocol.proofs.Sound.{DownFits, IsOpenIn, Sound, IsSound}
 use Rattle.bac_protocol.proofs.Sound.Up.{Reading, Read}
 use Rattle.bac_protocol.proofs.Sound.Down.{Unsent, Sent, Closed}
-use Rattle.bac_protocol.proofs.Facts.{below_has, AllSends, UpGoes, DownGoes, up_same, up_read, down_same, grows_same, grows_more, copies_go}
+use Rattle.bac_protocol.proofs.Facts.{below_has, UpGoes, DownGoes, up_same, up_read, down_same, grows_same, grows_more, copies_go}
 use Rattle.bac_protocol.proofs.Facts.{pieces_all, pieces_length}
 use Rattle.bac_protocol.proofs.Transfer.{moved, acknowledged_cases, acknowledges_taken, moved_sender, sent_to, window_underway, window_sender}
 use Rattle.bac_protocol.proofs.Transfer.{window_grows, window_piece, with_piece, takes_cases, takes_below, takes_left, takes_front, takes_all}
 use Rattle.bac_protocol.proofs.Ways.{way_cut}
 
-all_join : (Q : Apdu → Type 0) (xs ys : List Apdu) → AllSends Q xs → AllSends Q ys → AllSends Q (xs ++ ys)
+all_join : (Q : Apdu → Type 0) (xs ys : List Apdu) → Each Q xs → Each Q ys → Each Q (xs ++ ys)
 all_join Q [] ys h k = k
 all_join Q (x ∷ xs) ys h k = (h.0, all_join Q xs ys h.1 k)
 
@@ -184,7 +184,7 @@ module _ (W V : ℕ) (some : 0 < W) (room : V + 2 * W ≤ 255) (c : Settings) (o
       → UpGoes (length sends) up up' → DownGoes (length sends) down down'
       → ClientFits W t.ask t.phase up' down' → IsReadIfRepeated t.ask t.repeats up' → ServerFits W w.number t.ask entry up' down' w.log
       → UpFits W t.ask up' → DownFits W down'
-      → AllSends (SaysNow w.log up' down') sends
+      → Each (SaysNow w.log up' down') sends
       → IsKept (server.rests entry sends)
   serves o up down s entry sends up' down' gu gd client passes fits upload download says = (
     up',
@@ -208,7 +208,7 @@ module _ (W V : ℕ) (some : 0 < W) (room : V + 2 * W ≤ 255) (c : Settings) (o
   -- no ghost moves
   serves_same : (o : Option Entry) (up : Up) (down : Down) → SoundWith o up down → (entry : Option Entry) (sends : List Apdu)
       → ServerFits W w.number t.ask entry up down w.log
-      → AllSends (SaysNow w.log up down) sends
+      → Each (SaysNow w.log up down) sends
       → IsKept (server.rests entry sends)
   serves_same o up down s entry sends fits says =
       serves o up down s entry sends up down (up_same (length sends) up) (down_same (length sends) down) s.client s.passes fits s.upload s.download says
@@ -218,7 +218,7 @@ module _ (W V : ℕ) (some : 0 < W) (room : V + 2 * W ≤ 255) (c : Settings) (o
     module _ (o : Option Entry) (up : Up) (s : SoundWith o up Unsent) (un : IsUnperformed w.number w.log) (e : Entry) (after : t.ask.first ≤ e.begin)
         (before : e.begin ≤ t.ask.first + DEADLINE + LIFE) (chosen : e.terms.choice ≡ t.ask.choice)
         (octets : Octets) (same : octets ≡ join t.ask.pieces) (acks : List Apdu)
-        (acks_say : (log : List Fact) (down : Down) → AllSends (SaysNow log Read down) acks) where
+        (acks_say : (log : List Fact) (down : Down) → Each (SaysNow log Read down) acks) where
       abbrev effect : reply → Effect
       effect p = record { request = record { choice = e.terms.choice; service = octets }; reply = p }
 
@@ -235,7 +235,7 @@ module _ (W V : ℕ) (some : 0 < W) (room : V + 2 * W ≤ 255) (c : Settings) (o
       effect_kept : (p : reply) (state : State) (sends : List Apdu) (down' : Down)
           → StateFits W w.number t.ask state Read down' (log_with p)
           → ClientFits W t.ask t.phase Read down' → DownFits W down'
-          → AllSends (SaysNow (log_with p) Read down') sends
+          → Each (SaysNow (log_with p) Read down') sends
           → IsKept (record { entry = Some (record e { state = state }); sends = sends; effect = Some (effect p) })
       effect_kept p state sends down' fits client download says = (
         Read,
@@ -331,7 +331,7 @@ module _ (W V : ℕ) (some : 0 < W) (room : V + 2 * W ≤ 255) (c : Settings) (o
       }
 
       next : (sends : List Apdu) → g.number ≡ length inc.parts % 256 → g.more ≡ true → (n : ℕ)
-          → AllSends (SaysNow w.log (Reading (tk + 1) sn) Unsent) sends → IsKept (server.becomes e (Receiving (with_piece inc octets n) w.now) sends)
+          → Each (SaysNow w.log (Reading (tk + 1) sn) Unsent) sends → IsKept (server.becomes e (Receiving (with_piece inc octets n) w.now) sends)
       next sends eq m n says = serves o (Reading tk sn) Unsent s (Some (record e { state = Receiving (with_piece inc octets n) w.now })) sends
           (Reading (tk + 1) sn) Unsent
           (omega arith, omega arith, omega arith) tt (client_up W t.ask tk sn t.phase Unsent s.client) s.passes
@@ -539,7 +539,7 @@ module _ (W V : ℕ) (some : 0 < W) (room : V + 2 * W ≤ 255) (c : Settings) (o
 
     -- an entry that receives is dropped
     drops : (tk sn : ℕ) → SoundWith (Some e) (Reading tk sn) Unsent → IsUnperformed w.number w.log → (sends : List Apdu)
-        → AllSends (SaysNow w.log (Reading tk sn) Unsent) sends → IsKept (server.becomes e Dropped sends)
+        → Each (SaysNow w.log (Reading tk sn) Unsent) sends → IsKept (server.becomes e Dropped sends)
     drops tk sn s un sends says = serves_same (Some e) (Reading tk sn) Unsent s (Some (record e { state = Dropped })) sends
         (inr (record { after = after; before = before; choice = chosen; state = un })) says
 

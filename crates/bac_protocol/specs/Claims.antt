@@ -7,8 +7,8 @@ use Rattle.bac_segment.specs.Pieces.{piece_at}
 use Rattle.bac_segment.specs.Window.{Outgoing, Incoming}
 use Rattle.bac_protocol.specs.Times.{LIFE}
 use Rattle.bac_protocol.specs.Service.{Octets}
-use Rattle.bac_protocol.specs.Client.{Ask, Phase, Ticket}
-use Rattle.bac_protocol.specs.Client.Phase.{Sending, Awaiting, Collecting}
+use Rattle.bac_protocol.specs.Client.{Ask, Phase, Ticket, is_over}
+use Rattle.bac_protocol.specs.Client.Phase.{Sending, Awaiting, Collecting, Over}
 use Rattle.bac_protocol.specs.Server.{Transfer, State, Entry, is_live}
 use Rattle.bac_protocol.specs.Server.State.{Receiving, Done, Giving, Dropped}
 use Rattle.bac_protocol.specs.Transaction.{Key, Rules, Copy}
@@ -77,12 +77,19 @@ RequestsAreInWindow W x n =
     → n.tickets key ≡ Some t → n.entries key ≡ Some e → t.phase ≡ Sending out all_sent → e.state ≡ Receiving inc since → t.ask.first ≤ e.begin
     → IsInWindow W x.overtake n.now out.first (length inc.parts) (IsNearUp W t.ask.pieces (length inc.parts)) (copies_of key n.posts)
 
--- the pass of each reply: its server gives segments, and its client collects them
+-- how many pieces of its reply an open ticket has taken
+abbrev pub taken_of : Phase → ℕ
+taken_of (Sending out all_sent) = 0
+taken_of Awaiting = 0
+taken_of (Collecting inc) = length inc.parts
+taken_of Over = 0
+
+-- the pass of each reply: its server, whose entry was begun for this ask, gives segments, and its client's ticket is open
 abbrev pub RepliesAreInWindow : ℕ → Rules → Net → Type 0
 RepliesAreInWindow W x n =
-    (key : Key) (t : Ticket) (e : Entry) (inc : Incoming) (out : Outgoing) (transfer : Transfer) (since : ℕ)
-    → n.tickets key ≡ Some t → n.entries key ≡ Some e → t.phase ≡ Collecting inc → e.state ≡ Giving out transfer since
-    → IsInWindow W x.overtake n.now out.first (length inc.parts) (IsNearDown W out.pieces (length inc.parts)) (copies_of key n.posts)
+    (key : Key) (t : Ticket) (e : Entry) (out : Outgoing) (transfer : Transfer) (since : ℕ)
+    → n.tickets key ≡ Some t → n.entries key ≡ Some e → is_over t.phase ≡ false → e.state ≡ Giving out transfer since → t.ask.first ≤ e.begin
+    → IsInWindow W x.overtake n.now out.first (taken_of t.phase) (IsNearDown W out.pieces (taken_of t.phase)) (copies_of key n.posts)
 
 -- a later pass of a request was begun, or its first has been acknowledged
 abbrev pub IsPastFirstPass : Phase → (repeats : ℕ) → Type 0

@@ -11,3 +11,4 @@ pub mod Claims
 pub mod Examples
 pub mod Beyond
 pub mod Straight
+pub mod Own

@@ -13,6 +13,7 @@ ghost use Rattle.bac_protocol.specs.Log.{Shop, IsOnce};
 ghost use Rattle.bac_protocol.specs.Transaction.{Rules};
 ghost use Rattle.bac_protocol.specs.World.{Event, run, start};
 ghost use Rattle.bac_protocol.specs.Beyond.{Misread};
+ghost use Rattle.bac_protocol.specs.Own.{ClientSendsOwn, ServerSendsOwn, AreOwn};
 ghost use Rattle.bac_protocol.specs.Claims.{IsBounded, AreOfNewest, RequestsAreInWindow, RepliesAreInWindow, LaterPassesFindDone};
 
 /// No number that can arrive is misread modulo 256, where windows are at most W, at most V later copies may overtake one, and V + 2W <= 255:
@@ -62,4 +63,16 @@ pub fn later_passes_find_done<S>()
 #[tactic(auto, using(crate::proofs::Beyond::misread))]
 pub fn misread_beyond_the_bound()
     ensures { Misread }
+{}
+
+/// Whatever an end sends carries its transaction's invoke ID and is an APDU that this end sends; what a server keeps is so too.
+#[tactic(auto, using(crate::proofs::Own::client_sends_own, crate::proofs::Own::server_sends_own))]
+pub fn each_end_sends_its_own()
+    ensures client { ClientSendsOwn }
+    ensures server { ServerSendsOwn }
+{}
+
+/// In every run each copy carries its transaction's invoke ID and is an APDU of its client or its server.
+pub fn each_copy_is_its_own<S>()
+    ensures { (shop : Shop S) (rules : Rules) (opening : ℕ → S) (events : List Event) → AreOwn (run S shop rules events (start S opening)).net }
 {}
