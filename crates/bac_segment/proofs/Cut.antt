@@ -1,5 +1,6 @@
 -- The pieces that octets are cut into.
-use Rattle.std.proofs.Common.{◌≡◌, ℕ, zero, suc, ◌+◌, ◌-◌, ◌*◌, ◌<◌, ◌≤◌, min, List, [], ◌++◌, length, take, drop, map, refl, ap, sym, ◌∙◌, arith, length-drop}
+use Rattle.std.proofs.Common.{◌≡◌, ℕ, zero, suc, ◌+◌, ◌-◌, ◌*◌, ◌<◌, ◌≤◌, min, List}
+use Rattle.std.proofs.Common.{[], ◌++◌, length, take, drop, map, refl, ap, sym, ◌∙◌, arith, length-drop}
 use Rattle.std.proofs.Math.Nat.{mul-le-mul_right}
 use Rattle.std.proofs.Math.Seq.{take-add}
 use Rattle.std.proofs.lemmas.Grind.{common_steps, div_ceil_times}
@@ -22,7 +23,8 @@ piece_at-cut (suc count) size (suc n) xs h = grind (arith, common_steps, piece_a
 
 pub join-cut : (count size : ℕ) (xs : List ℕ) → join (cut count size xs) ≡ take (count * size) xs
 join-cut zero size xs = grind (arith, common_steps)
-join-cut (suc count) size xs = ap (λ l. take size xs ++ l) (join-cut count size (drop size xs)) ∙ sym (take-add size (count * size) xs) ∙ ap (λ n. take n xs) (grind arith)
+join-cut (suc count) size xs =
+    ap (λ l. take size xs ++ l) (join-cut count size (drop size xs)) ∙ sym (take-add size (count * size) xs) ∙ ap (λ n. take n xs) (grind arith)
 
 -- the pieces are enough
 pub length-le-count : (size : ℕ) (xs : List ℕ) → 1 ≤ size → length xs ≤ count_of size xs * size
@@ -39,7 +41,8 @@ pub join-pieces_of : (size : ℕ) (xs : List ℕ) → 1 ≤ size → join (piece
 join-pieces_of size xs some = join-cut (count_of size xs) size xs ∙ take_all _ xs (length-le-count size xs some)
 
 -- the pieces of a window, one by one
-pub map-piece_at : (pieces : List (List ℕ)) (first window : ℕ) → map (piece_at pieces) (range_with_len first (min window (length pieces - first))) ≡ take window (drop first pieces)
+pub map-piece_at : (pieces : List (List ℕ)) (first window : ℕ)
+    → map (piece_at pieces) (range_with_len first (min window (length pieces - first))) ≡ take window (drop first pieces)
 map-piece_at pieces first window =
     let few = length-map-range_with_len (piece_at pieces) first (min window (length pieces - first)) in
     let taken = length-take window (drop first pieces) in

@@ -15,7 +15,9 @@ pub length-join-push : (parts : List (List ℕ)) (octets : List ℕ) → length 
 length-join-push parts octets = ap length (join-push parts octets) ∙ length-append (join parts) octets
 
 -- one more part is counted
-pub CountsOctets-push : (parts more : List (List ℕ)) (octets : List ℕ) (total fresh : ℕ) → CountsOctets total fresh parts → more ≡ parts ++ octets ∷ [] → length (join parts) + length octets ≤ DATA → length parts + 1 ≤ DATA → CountsOctets (total + length octets) fresh more
+pub CountsOctets-push : (parts more : List (List ℕ)) (octets : List ℕ) (total fresh : ℕ) → CountsOctets total fresh parts
+    → more ≡ parts ++ octets ∷ []
+    → length (join parts) + length octets ≤ DATA → length parts + 1 ≤ DATA → CountsOctets (total + length octets) fresh more
 CountsOctets-push parts more octets total fresh counts is short few =
     let octets_are = ap (λ l. length (join l)) is ∙ length-join-push parts octets in
     let parts_are = ap length is ∙ length_push parts octets in

@@ -1,5 +1,6 @@
 -- What decides that two sides are the same.
-use Rattle.std.proofs.Common.{◌≡◌, ℕ, zero, suc, ◌*◌, ◌<◌, ◌≤◌, ◌⊎◌, inl, inr, Bool, false, not, ◌&&◌, eqb, List, [], ◌∷◌, length, map, Decides, refl, ap, sym, ◌∙◌, arith}
+use Rattle.std.proofs.Common.{◌≡◌, ℕ, zero, suc, ◌*◌, ◌<◌, ◌≤◌, ◌⊎◌, inl, inr, Bool, false, not}
+use Rattle.std.proofs.Common.{◌&&◌, eqb, List, [], ◌∷◌, length, map, Decides, refl, ap, sym, ◌∙◌, arith}
 use Rattle.std.specs.Global.{Vec}
 use Rattle.std.specs.Str.{bytes_eq}
 use Rattle.std.specs.Cmp.Lexicographic.{pointwise}
@@ -11,24 +12,28 @@ use Rattle.bac_segment.specs.Window.{Outgoing, Incoming}
 use Rattle.bac_segment.proofs.Cut.{length-pieces_of, length-le-count, join-pieces_of}
 use Rattle.bac_segment.proofs.Unique.{pieces_are}
 
-pointwise-items : (vs ws : List (Vec ℕ)) → pointwise (λ v w. bytes_eq v.items w.items) vs ws ≡ pointwise bytes_eq (map (λ v. v.items) vs) (map (λ v. v.items) ws)
+pointwise-items : (vs ws : List (Vec ℕ))
+    → pointwise (λ v w. bytes_eq v.items w.items) vs ws ≡ pointwise bytes_eq (map (λ v. v.items) vs) (map (λ v. v.items) ws)
 pointwise-items [] [] = refl
 pointwise-items [] (w ∷ ws) = refl
 pointwise-items (v ∷ vs) [] = refl
 pointwise-items (v ∷ vs) (w ∷ ws) = ap (λ b. bytes_eq v.items w.items && b) (pointwise-items vs ws)
 
 -- vectors of vectors that are alike, element by element, have the same parts
-pub parts_are_same : (vs ws : List (Vec ℕ)) (r : Bool) → r ≡ pointwise (λ v w. bytes_eq v.items w.items) vs ws → Decides r (map (λ v. v.items) vs ≡ map (λ v. v.items) ws)
+pub parts_are_same : (vs ws : List (Vec ℕ)) (r : Bool) → r ≡ pointwise (λ v w. bytes_eq v.items w.items) vs ws
+    → Decides r (map (λ v. v.items) vs ≡ map (λ v. v.items) ws)
 parts_are_same vs ws r is = slice_eq-Decides bytes_eq-Decides (map (λ v. v.items) vs) (map (λ v. v.items) ws) r (is ∙ pointwise-items vs ws)
 
-whole_front : (count size : ℕ) (octets : List ℕ) → count < 2 → length octets ≤ count * size → cut count size octets ≡ cut count (length octets) octets
+whole_front : (count size : ℕ) (octets : List ℕ) → count < 2 → length octets ≤ count * size
+    → cut count size octets ≡ cut count (length octets) octets
 whole_front zero size octets few enough = refl
 whole_front (suc zero) size octets few enough =
     ap (λ l. l ∷ []) (take_all size octets (omega arith) ∙ sym (take_all (length octets) octets (omega arith)))
 whole_front (suc (suc count)) size octets few enough = absurd (omega arith)
 
 -- the same octets in as many pieces are the same pieces, where these are one at most or of one size
-pub pieces_from_same : (s t : ℕ) (octets other : List ℕ) → 1 ≤ s → 1 ≤ t → octets ≡ other → length (pieces_of s octets) ≡ length (pieces_of t other) → (length (pieces_of s octets) < 2) ⊎ (s ≡ t) → pieces_of s octets ≡ pieces_of t other
+pub pieces_from_same : (s t : ℕ) (octets other : List ℕ) → 1 ≤ s → 1 ≤ t → octets ≡ other
+    → length (pieces_of s octets) ≡ length (pieces_of t other) → (length (pieces_of s octets) < 2) ⊎ (s ≡ t) → pieces_of s octets ≡ pieces_of t other
 pieces_from_same s t octets other ps pt same count (inl few) =
     let ours = length-pieces_of s octets in
     let theirs = length-pieces_of t other in
@@ -41,7 +46,8 @@ pieces_from_same s t octets other ps pt same count (inr size) = ap (λ n. pieces
 pub octets_from_same : (s t : ℕ) (octets other : List ℕ) → 1 ≤ s → 1 ≤ t → pieces_of s octets ≡ pieces_of t other → octets ≡ other
 octets_from_same s t octets other ps pt same = sym (join-pieces_of s octets ps) ∙ ap join same ∙ join-pieces_of t other pt
 
-pub size_from_same : (s t : ℕ) (octets other : List ℕ) → 1 ≤ s → 1 ≤ t → pieces_of s octets ≡ pieces_of t other → 2 ≤ length (pieces_of s octets) → s ≡ t
+pub size_from_same : (s t : ℕ) (octets other : List ℕ) → 1 ≤ s → 1 ≤ t → pieces_of s octets ≡ pieces_of t other
+    → 2 ≤ length (pieces_of s octets) → s ≡ t
 size_from_same s t octets other ps pt same many =
     let ours = (pieces_are s octets ps).full 0 (omega arith) in
     let count = ap length same in

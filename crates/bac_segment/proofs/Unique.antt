@@ -1,12 +1,14 @@
 -- The pieces of some octets are one list.
-use Rattle.std.proofs.Common.{◌≡◌, ℕ, suc, ◌+◌, ◌-◌, ◌*◌, ◌<◌, ◌≤◌, min, List, [], ◌∷◌, length, take, drop, refl, ap, sym, subst, ◌∙◌, arith, length-append}
+use Rattle.std.proofs.Common.{◌≡◌, ℕ, suc, ◌+◌, ◌-◌, ◌*◌, ◌<◌, ◌≤◌, min, List, []}
+use Rattle.std.proofs.Common.{◌∷◌, length, take, drop, refl, ap, sym, subst, ◌∙◌, arith, length-append}
 use Rattle.std.proofs.Math.Nat.{lt_of_mul-lt-mul_right}
 use Rattle.std.proofs.lemmas.Grind.{div_ceil_times}
 use Rattle.std.proofs.lemmas.List.{append-nil, length-take, length-drop, take_all, take_at, drop_at}
 use Rattle.bac_segment.specs.Pieces.{join, piece_at, ArePieces, count_of, cut, pieces_of}
 use Rattle.bac_segment.proofs.Cut.{length-pieces_of, piece_at-cut, join-pieces_of, begins_within}
 
-length-piece_at : (size n : ℕ) (octets : List ℕ) → n < length (pieces_of size octets) → length (piece_at (pieces_of size octets) n) ≡ min size (length octets - n * size)
+length-piece_at : (size n : ℕ) (octets : List ℕ) → n < length (pieces_of size octets)
+    → length (piece_at (pieces_of size octets) n) ≡ min size (length octets - n * size)
 length-piece_at size n octets inside =
     ap length (piece_at-cut _ size n octets (subst (λ k. n < k) (length-pieces_of size octets) inside))
     ∙ length-take size (drop (n * size) octets) ∙ ap (λ k. min size k) (length-drop (n * size) octets)
@@ -49,7 +51,8 @@ are_cut size octets (piece ∷ second ∷ pieces) are =
     ap (λ p. p ∷ second ∷ pieces) here ∙ ap (λ l. take size octets ∷ l) (later ∙ ap (λ l. cut (length (second ∷ pieces)) size l) there)
 
 -- there are as many as the octets need
-spans : (size : ℕ) (octets : List ℕ) (pieces : List (List ℕ)) → 1 ≤ size → ArePieces size octets pieces → (length octets ≤ length pieces * size) × (length pieces * size < length octets + size)
+spans : (size : ℕ) (octets : List ℕ) (pieces : List (List ℕ)) → 1 ≤ size → ArePieces size octets pieces
+    → (length octets ≤ length pieces * size) × (length pieces * size < length octets + size)
 spans size octets [] positive are = let none = ap length are.joined in omega (arith, none)
 spans size octets (piece ∷ []) positive are =
     let all = ap length are.joined ∙ refl in

@@ -2,7 +2,8 @@
 ghost use Rattle.std.specs.Prelude.{◌≡◌, [], ◌∷◌, true, false, Some, None, length, map, replicate};
 ghost use Rattle.bac_segment.specs.Numbers.{ahead};
 ghost use Rattle.bac_segment.specs.Pieces.{join, piece_at, pieces_of};
-ghost use Rattle.bac_segment.specs.Window.{outgoing, in_window, window_pieces, is_finished, acknowledged, again, restart, resume, incoming, Taking, takes};
+ghost use Rattle.bac_segment.specs.Window.{outgoing, in_window, window_pieces, is_finished, acknowledged, again, restart, resume};
+ghost use Rattle.bac_segment.specs.Window.{incoming, Taking, takes};
 
 /// 111 octets in pieces of 44 are pieces of 44, 44 and 23.
 fn cuts()
@@ -25,30 +26,41 @@ fn counts_ahead()
 /// A sender of three pieces: acknowledgements of piece 0, of pieces behind and ahead of the window, and of the last.
 fn sends()
     ensures start { window_pieces (outgoing ((1 ∷ []) ∷ (2 ∷ []) ∷ (3 ∷ []) ∷ [])) ≡ (1 ∷ []) ∷ [] }
-    ensures first { acknowledged 32 (outgoing ((1 ∷ []) ∷ (2 ∷ []) ∷ (3 ∷ []) ∷ [])) 0 127 ≡ Some (record { pieces = (1 ∷ []) ∷ (2 ∷ []) ∷ (3 ∷ []) ∷ []; first = 1; window = 32; retries = 3 }) }
+    ensures first { acknowledged 32 (outgoing ((1 ∷ []) ∷ (2 ∷ []) ∷ (3 ∷ []) ∷ [])) 0 127
+        ≡ Some (record { pieces = (1 ∷ []) ∷ (2 ∷ []) ∷ (3 ∷ []) ∷ []; first = 1; window = 32; retries = 3 }) }
     ensures ahead { acknowledged 32 (outgoing ((1 ∷ []) ∷ (2 ∷ []) ∷ (3 ∷ []) ∷ [])) 1 32 ≡ None }
     ensures behind { acknowledged 32 (outgoing ((1 ∷ []) ∷ (2 ∷ []) ∷ (3 ∷ []) ∷ [])) 255 32 ≡ None }
-    ensures window { window_pieces (record { pieces = (1 ∷ []) ∷ (2 ∷ []) ∷ (3 ∷ []) ∷ []; first = 1; window = 32; retries = 3 }) ≡ (2 ∷ []) ∷ (3 ∷ []) ∷ [] }
-    ensures last { acknowledged 32 (record { pieces = (1 ∷ []) ∷ (2 ∷ []) ∷ (3 ∷ []) ∷ []; first = 1; window = 32; retries = 0 }) 2 16 ≡ Some (record { pieces = (1 ∷ []) ∷ (2 ∷ []) ∷ (3 ∷ []) ∷ []; first = 3; window = 16; retries = 3 }) }
+    ensures window { window_pieces (record { pieces = (1 ∷ []) ∷ (2 ∷ []) ∷ (3 ∷ []) ∷ []; first = 1; window = 32; retries = 3 })
+        ≡ (2 ∷ []) ∷ (3 ∷ []) ∷ [] }
+    ensures last { acknowledged 32 (record { pieces = (1 ∷ []) ∷ (2 ∷ []) ∷ (3 ∷ []) ∷ []; first = 1; window = 32; retries = 0 }) 2 16
+        ≡ Some (record { pieces = (1 ∷ []) ∷ (2 ∷ []) ∷ (3 ∷ []) ∷ []; first = 3; window = 16; retries = 3 }) }
     ensures finished { is_finished (record { pieces = (1 ∷ []) ∷ (2 ∷ []) ∷ (3 ∷ []) ∷ []; first = 3; window = 16; retries = 3 }) ≡ true }
-    ensures unfinished { is_finished (record { pieces = (1 ∷ []) ∷ (2 ∷ []) ∷ (3 ∷ []) ∷ []; first = 2; window = 16; retries = 3 }) ≡ false }
+    ensures unfinished { is_finished (record { pieces = (1 ∷ []) ∷ (2 ∷ []) ∷ (3 ∷ []) ∷ []; first = 2; window = 16; retries = 3 })
+        ≡ false }
 {}
 
 /// Repeats, and what a transfer begins with again.
 fn repeats()
     ensures once { again (outgoing ((1 ∷ []) ∷ [])) ≡ Some (record { pieces = (1 ∷ []) ∷ []; first = 0; window = 1; retries = 2 }) }
     ensures no_more { again (record { pieces = (1 ∷ []) ∷ []; first = 0; window = 1; retries = 0 }) ≡ None }
-    ensures restart { restart (record { pieces = (1 ∷ []) ∷ (2 ∷ []) ∷ []; first = 1; window = 9; retries = 0 }) ≡ record { pieces = (1 ∷ []) ∷ (2 ∷ []) ∷ []; first = 0; window = 1; retries = 3 } }
-    ensures resume { resume (record { pieces = (1 ∷ []) ∷ (2 ∷ []) ∷ []; first = 1; window = 9; retries = 0 }) ≡ record { pieces = (1 ∷ []) ∷ (2 ∷ []) ∷ []; first = 1; window = 9; retries = 3 } }
+    ensures restart { restart (record { pieces = (1 ∷ []) ∷ (2 ∷ []) ∷ []; first = 1; window = 9; retries = 0 })
+        ≡ record { pieces = (1 ∷ []) ∷ (2 ∷ []) ∷ []; first = 0; window = 1; retries = 3 } }
+    ensures resume { resume (record { pieces = (1 ∷ []) ∷ (2 ∷ []) ∷ []; first = 1; window = 9; retries = 0 })
+        ≡ record { pieces = (1 ∷ []) ∷ (2 ∷ []) ∷ []; first = 1; window = 9; retries = 3 } }
 {}
 
 /// A receiver of window 2: piece 0 is acknowledged, piece 1 is not, piece 2 fills the window.
 fn receives()
     ensures actual { incoming 32 64 ≡ record { parts = []; unacknowledged = 0; window = 32 } }
     ensures lesser { incoming 32 2 ≡ record { parts = []; unacknowledged = 0; window = 2 } }
-    ensures zero { takes (incoming 32 2) 0 true (7 ∷ []) ≡ Taking.Taken true (record { parts = (7 ∷ []) ∷ []; unacknowledged = 0; window = 2 }) }
-    ensures one { takes (record { parts = (7 ∷ []) ∷ []; unacknowledged = 0; window = 2 }) 1 true [] ≡ Taking.Taken false (record { parts = (7 ∷ []) ∷ [] ∷ []; unacknowledged = 1; window = 2 }) }
-    ensures two { takes (record { parts = (7 ∷ []) ∷ [] ∷ []; unacknowledged = 1; window = 2 }) 2 true (8 ∷ []) ≡ Taking.Taken true (record { parts = (7 ∷ []) ∷ [] ∷ (8 ∷ []) ∷ []; unacknowledged = 0; window = 2 }) }
-    ensures last { takes (record { parts = (7 ∷ []) ∷ [] ∷ []; unacknowledged = 1; window = 2 }) 2 false (8 ∷ []) ≡ Taking.Complete ((7 ∷ []) ∷ [] ∷ (8 ∷ []) ∷ []) }
-    ensures other { takes (record { parts = (7 ∷ []) ∷ [] ∷ []; unacknowledged = 1; window = 2 }) 1 true [] ≡ Taking.Nak (record { parts = (7 ∷ []) ∷ [] ∷ []; unacknowledged = 0; window = 2 }) }
+    ensures zero { takes (incoming 32 2) 0 true (7 ∷ [])
+        ≡ Taking.Taken true (record { parts = (7 ∷ []) ∷ []; unacknowledged = 0; window = 2 }) }
+    ensures one { takes (record { parts = (7 ∷ []) ∷ []; unacknowledged = 0; window = 2 }) 1 true []
+        ≡ Taking.Taken false (record { parts = (7 ∷ []) ∷ [] ∷ []; unacknowledged = 1; window = 2 }) }
+    ensures two { takes (record { parts = (7 ∷ []) ∷ [] ∷ []; unacknowledged = 1; window = 2 }) 2 true (8 ∷ [])
+        ≡ Taking.Taken true (record { parts = (7 ∷ []) ∷ [] ∷ (8 ∷ []) ∷ []; unacknowledged = 0; window = 2 }) }
+    ensures last { takes (record { parts = (7 ∷ []) ∷ [] ∷ []; unacknowledged = 1; window = 2 }) 2 false (8 ∷ [])
+        ≡ Taking.Complete ((7 ∷ []) ∷ [] ∷ (8 ∷ []) ∷ []) }
+    ensures other { takes (record { parts = (7 ∷ []) ∷ [] ∷ []; unacknowledged = 1; window = 2 }) 1 true []
+        ≡ Taking.Nak (record { parts = (7 ∷ []) ∷ [] ∷ []; unacknowledged = 0; window = 2 }) }
 {}

@@ -18,7 +18,7 @@ use Rattle.bac_service.specs.Values.Request.{ReadFile, WriteFile, ReadProperty, 
 use Rattle.bac_service.specs.Values.Complex.{FileRead, StreamWritten, RecordsWritten, PropertyRead}
 use Rattle.bac_service.specs.Members.{Octets, ◌⨾◌, Optional, Enclosed, Tagged, mark_of, IsPriority, ApplicationObject, ApplicationBoolean, ApplicationSigned, ApplicationString, AreData}
 use Rattle.bac_service.specs.Requests.{SpellsReference, SpellsReadAccess, SpellsWriteAccess, SpellsMembers, SpellsRequest, IsMade}
-use Rattle.bac_service.specs.Replies.{SpellsAnswer, SpellsComplex}
+use Rattle.bac_service.specs.Replies.{SpellsAnswer, SpellsComplex, IsMadeOf}
 use Rattle.bac_service.specs.Reading.{◌>>=◌, kept, both_at, made_at, member_at, is_next, optional_at, enclosed_at, values_at, priority_at, reference_at, write_property_of, write_property_at, application_object, content_at, either_at, read_access_at, write_access_at, file_at, whole, request_at, boolean_of, end_of_file_at, file_read_at, file_written_at, property_read_at, complex_at}
 use Rattle.bac_service.proofs.Exact.{IsExact, Anything, Differs, Made, IsOneOf, bind_some, some_is, both_exact, made_exact, optional_exact, either_exact, whole_takes, whole_again}
 use Rattle.bac_service.proofs.Heads.{kept_some, member_exact}
@@ -269,3 +269,24 @@ request_made view choice bytes (Err d) fits e = tt
 pub request_refused : {X E : Type 0} (view : X → Request) (choice : ℕ) (bytes : Octets) (result : Result X E) → ReadAs view choice bytes result → IfErr result (λ e. (r : Request) → SpellsRequest choice r bytes → ⊥)
 request_refused view choice bytes (Ok f) e = tt
 request_refused view choice bytes (Err d) e = λ r s. let again = request_again choice bytes r s in absurd cc
+
+abbrev AnsweredAs : {X E : Type 0} → (X → Complex) → ℕ → Octets → Result X E → Type 0
+AnsweredAs view choice bytes result = MatchResult result (λ c. complex_at choice bytes ≡ Some (view c)) (λ e. complex_at choice bytes ≡ None)
+
+pub complex_found : {X E : Type 0} (view : X → Complex) (choice : ℕ) (bytes : Octets) (result : Result X E) → IsBytes bytes → AnsweredAs view choice bytes result → IfOk result (λ c. SpellsComplex choice (view c) bytes)
+complex_found view choice bytes (Ok c) fits e = complex_takes choice bytes (view c) fits e
+complex_found view choice bytes (Err d) fits e = tt
+
+answer_made : (c : Complex) (bytes : Octets) → SpellsAnswer c bytes → IsMadeOf c
+answer_made (FileRead b z octets) bytes s = let string = s.second.are.second in subst (λ (xs : Octets). length xs < 2 ^ 32) string.are string.fits
+answer_made (StreamWritten z) bytes s = tt
+answer_made (RecordsWritten z) bytes s = tt
+answer_made (PropertyRead r values) bytes s = s.second.are.spelled
+
+pub complex_made : {X E : Type 0} (view : X → Complex) (choice : ℕ) (bytes : Octets) (result : Result X E) → IsBytes bytes → AnsweredAs view choice bytes result → IfOk result (λ c. IsMadeOf (view c))
+complex_made view choice bytes (Ok c) fits e = answer_made (view c) bytes (complex_takes choice bytes (view c) fits e).members
+complex_made view choice bytes (Err d) fits e = tt
+
+pub complex_refused : {X E : Type 0} (view : X → Complex) (choice : ℕ) (bytes : Octets) (result : Result X E) → AnsweredAs view choice bytes result → IfErr result (λ e. (c : Complex) → SpellsComplex choice c bytes → ⊥)
+complex_refused view choice bytes (Ok c) e = tt
+complex_refused view choice bytes (Err d) e = λ c s. let again = complex_again choice bytes c s in absurd cc

@@ -1,7 +1,8 @@
 -- What spells the service data of a ComplexACK (clause 21).
-use Rattle.std.specs.Prelude.{◌≡◌, ℕ}
+use Rattle.std.specs.Prelude.{◌≡◌, ℕ, ◌^◌, ◌<◌, length}
 use Rattle.bac_value.specs.declared.tag.Class.TheVariants.{Context}
 use Rattle.bac_value.specs.Value.{IsInteger}
+use Rattle.bac_value.specs.Data.{IsData}
 use Rattle.bac_service.specs.Values.{Complex, complex_choice_of}
 use Rattle.bac_service.specs.Values.Complex.{FileRead, StreamWritten, RecordsWritten, PropertyRead}
 use Rattle.bac_service.specs.Members.{Octets, ◌⨾◌, Enclosed, Tagged, ApplicationBoolean, ApplicationSigned, ApplicationString, AreData}
@@ -17,3 +18,10 @@ SpellsAnswer (PropertyRead r values) = SpellsReference r ⨾ Enclosed 3 (AreData
 pub record SpellsComplex (choice : ℕ) (c : Complex) (bytes : Octets) : Type 0 where
   pub choice_is : choice ≡ complex_choice_of c
   pub members : SpellsAnswer c bytes
+
+-- what an answer's content and data are, whatever else it says
+abbrev pub IsMadeOf : Complex → Type 0
+IsMadeOf (FileRead end_of_file start octets) = length octets < 2 ^ 32
+IsMadeOf (StreamWritten start) = Unit {0}
+IsMadeOf (RecordsWritten start) = Unit {0}
+IsMadeOf (PropertyRead r values) = IsData values

@@ -7,7 +7,7 @@ use Rattle.bac_service.specs.Values as plain
 use Rattle.bac_service.specs.Values.{READ_FILE, WRITE_FILE, READ_PROPERTY, WRITE_PROPERTY}
 use Rattle.bac_value.specs.declared.tag.Class.TheVariants.{Application}
 use Rattle.bac_value.specs.Reading.{tag_at}
-use Rattle.bac_service.specs.Reading.{◌>>=◌, kept, announced, application_string, made_at, file_at, read_access_at, write_access_at, reference_at, write_property_at}
+use Rattle.bac_service.specs.Reading.{◌>>=◌, kept, announced, application_string, made_at, file_at, read_access_at, write_access_at, reference_at, write_property_at, file_read_at, file_written_at, property_read_at}
 
 abbrev pub service_at : ℕ → Option Service
 service_at choice =
@@ -43,3 +43,10 @@ members_of service.ReadFile = file_at plain.Request.ReadFile read_access_at
 members_of service.WriteFile = file_at plain.Request.WriteFile write_access_at
 members_of service.ReadProperty = made_at plain.Request.ReadProperty reference_at
 members_of service.WriteProperty = write_property_at
+
+-- the members of a service's ComplexACK, on lists; a WriteProperty has none
+abbrev pub answer_of : Service → Octets → Option (plain.Complex × Octets)
+answer_of service.ReadFile bytes = file_read_at bytes
+answer_of service.WriteFile bytes = file_written_at bytes
+answer_of service.ReadProperty bytes = property_read_at bytes
+answer_of service.WriteProperty bytes = None

@@ -4,6 +4,7 @@
 mod member;
 mod reject;
 mod reply;
+mod reply_reading;
 mod reply_writing;
 mod request;
 mod request_reading;
@@ -17,6 +18,7 @@ pub use reject::Reject;
 pub use reply::{
     AnyComplex, AnyReply, Complex, ComplexOver, FileRead, FileWritten, PropertyRead, Reply,
 };
+pub use reply_reading::read_reply;
 pub use reply_writing::write_reply;
 pub use request::{
     AnyRequest, ReadAccess, ReadFile, Request, RequestOver, WriteAccess, WriteFile, WriteProperty,

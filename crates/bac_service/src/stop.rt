@@ -1,4 +1,4 @@
-ghost use Rattle.std.specs.Prelude.{◌≢◌};
+ghost use Rattle.std.specs.Prelude.{◌≢◌, ◌≤◌};
 
 use crate::reject::Reject;
 use bac_value::{Fault, FaultKind};
@@ -54,7 +54,9 @@ impl Stop {
 
     /// The fault of an answer that had `all` octets (own rule of this profile: a member that is missing or another is
     /// `ReservedTag` at its place, octets behind the last member are `BadLength` at theirs).
-    pub(crate) fn fault_in(self, all: usize) -> Fault {
+    pub(crate) fn fault_in(self, all: usize) -> Fault
+        ensures { result.at ≤ all }
+    {
         let kind = match self.why {
             Why::Fault(kind) => kind,
             Why::Missing | Why::Unexpected => FaultKind::ReservedTag,

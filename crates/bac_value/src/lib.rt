@@ -46,5 +46,9 @@ pub use value::{BitString, CharacterString, ObjectIdentifier, OctetString, Value
 pub use value_reading::value_of;
 pub use value_writing::{
     put_boolean, put_object_identifier, put_primitive, put_signed, put_unsigned, put_value,
+    write_value,
 };
 pub use walking::DataElements;
+
+#[cfg(test)]
+mod tests;

@@ -1,4 +1,4 @@
-ghost use Rattle.std.specs.Prelude.{◌≡◌, ◌<◌, ◌≤◌, ◌+◌, ◌-◌, ◌++◌, ◌^◌, length, take, drop, min, IfOk, OnOk, OnErr};
+ghost use Rattle.std.specs.Prelude.{◌≡◌, ◌<◌, ◌≤◌, ◌+◌, ◌-◌, ◌++◌, ◌^◌, ◌↔◌, length, take, drop, min, IsSome, IfSome, IfOk, OnOk, OnErr};
 ghost use Rattle.bac_value.specs.Octets.{IsBytes, joined, Begins};
 ghost use Rattle.bac_value.specs.Views.{octets_in};
 
@@ -6,17 +6,37 @@ use crate::memory::NoMemory;
 use crate::octets::{Octets, slice_len};
 use crate::parts::{Parts, settled};
 
+/// How many octets some pieces have; None where they are more than `2^64 - 1`.
+fn total_of(parts: &[Vec<u8>]) -> Option<usize>
+    ensures some { IsSome result ↔ (length (joined parts.now) < 2 ^ 64) }
+    ensures all { IfSome result (λ n. (n ≡ length (joined parts.now)) × IsBytes (joined parts.now)) }
+{
+    let mut len: usize = 0;
+    for part in parts {
+        len = len.checked_add(slice_len(part))?;
+    }
+    Some(len)
+}
+
 impl<'a> Parts<'a> {
     /// All octets of some pieces. A caller knows that there are fewer than `2^64`.
     pub fn new(parts: &'a [Vec<u8>]) -> Parts<'a>
         requires { length (joined parts.now) < 2 ^ 64 }
         ensures { octets_in result ≡ joined parts.now }
     {
-        let mut len = 0;
-        for part in parts {
-            len += slice_len(part);
+        match total_of(parts) {
+            Some(len) => settled(parts, 0, len),
+            None => unreachable!(),
         }
-        settled(parts, 0, len)
+    }
+
+    /// All octets of some pieces; None exactly where there are `2^64` or more.
+    pub fn try_new(parts: &'a [Vec<u8>]) -> Option<Parts<'a>>
+        ensures some { IsSome result ↔ (length (joined parts.now) < 2 ^ 64) }
+        ensures octets { IfSome result (λ p. octets_in p ≡ joined parts.now) }
+    {
+        let len = total_of(parts)?;
+        Some(settled(parts, 0, len))
     }
 }
 

@@ -21,4 +21,5 @@ pub returns : goal.returns
 returns c =
     let inside = rw (← c.self.view_is, length-pieces_of c.self.inside.size c.self.inside.octets.items) at c.requires in
     let is = piece_at-cut _ c.self.inside.size c.args.n c.self.inside.octets.items inside in
-    rw (← c.self.view_is, is, c.part.ensures) (ap (λ l. take c.self.inside.size (drop (c.args.n * c.self.inside.size) l)) c.as_slice-octets.ensures.value)
+    rw (← c.self.view_is, is, c.part.ensures)
+    (ap (λ l. take c.self.inside.size (drop (c.args.n * c.self.inside.size) l)) c.as_slice-octets.ensures.value)
