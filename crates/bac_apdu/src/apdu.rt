@@ -1,3 +1,5 @@
+ghost use Rattle.std.specs.Prelude.{◌≡◌};
+
 use crate::limits::{Codes, Segment, Window};
 
 /// An APDU (clause 20.1). Service data run to its end and may be empty.
@@ -59,4 +61,16 @@ pub enum Apdu<'a> {
         invoke: u8,
         reason: u8,
     },
+}
+
+impl Apdu<'_> {
+    ghost use Rattle.bac_apdu.specs.Spelling.{is_confirmed_request};
+    ghost use Rattle.bac_apdu.specs.Views.{apdu_view};
+
+    /// Whether a frame that carries it says that a reply is expected: it is a Confirmed-Request.
+    pub fn expects_reply(&self) -> bool
+        ensures { result ≡ is_confirmed_request (apdu_view self.now) }
+    {
+        matches!(self, Apdu::ConfirmedRequest { .. })
+    }
 }

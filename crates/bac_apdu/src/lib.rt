@@ -19,3 +19,5 @@ pub use writing::write;
 
 #[cfg(test)]
 mod examples;
+#[cfg(test)]
+mod tests;

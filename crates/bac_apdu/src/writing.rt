@@ -1,7 +1,7 @@
 ghost use Rattle.std.specs.Prelude.{◌≡◌, ◌+◌, ◌*◌, ◌/◌, ◌%◌, ◌≤◌, ◌<◌, ◌++◌, ◌∷◌, [], length, OnOk, OnErr, vec_len, vec_capacity, Bool};
 ghost use Rattle.std.specs.Option.{option_map};
 ghost use Rattle.bac_value.specs.Octets.{Begins};
-ghost use Rattle.bac_apdu.specs.Spelling.{apdu_spelling, enumerated_spelling, bit, segment_bits, segment_octets};
+ghost use Rattle.bac_apdu.specs.Spelling.{SpellsApdu, apdu_spelling, enumerated_spelling, bit, segment_bits, segment_octets};
 ghost use Rattle.bac_apdu.specs.Views.{segment_view, apdu_view};
 
 use crate::apdu::Apdu;
@@ -147,9 +147,10 @@ fn append_error(
 }
 
 /// Appends the one spelling of an APDU (clause 20.1). Want of memory changes nothing.
-#[tactic(auto, unfolding(crate::specs::Spelling::apdu_spelling))]
+#[tactic(auto, unfolding(crate::specs::Spelling::apdu_spelling, crate::specs::Spelling::apdu_fits))]
 pub fn write(apdu: &Apdu, out: &mut Vec<u8>) -> Result<(), NoMemory>
     ensures ok { OnOk result (out.new.items ≡ out.old.items ++ apdu_spelling (apdu_view apdu.now)) }
+    ensures spelled { SpellsApdu (apdu_view apdu.now) (apdu_spelling (apdu_view apdu.now)) }
     ensures err { OnErr result (out.new.items ≡ out.old.items) }
     ensures full { OnErr result (vec_capacity out.old < vec_len out.old + length (apdu_spelling (apdu_view apdu.now))) }
 {

@@ -3,3 +3,4 @@ pub mod Members
 pub mod Frames
 pub mod Datagrams
 pub mod Writing
+pub mod Slots

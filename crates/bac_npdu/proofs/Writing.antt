@@ -1,10 +1,15 @@
 -- The parts of the frame to a peer, as they are written.
-use Rattle.std.proofs.Common.{◌≡◌, ℕ, ◌+◌, Bool, true, List, [], ◌∷◌, ◌++◌, length, Option, Some, None, refl, ap, ◌∙◌, append_assoc, arith}
+use Rattle.std.proofs.Common.{IsTrue, ◌≤◌, ◌≡◌, ℕ, ◌+◌, Bool, true, List, [], ◌∷◌, ◌++◌, length, Option, Some, None, refl, ap, ◌∙◌, append_assoc, arith}
 use Rattle.std.specs.Int.{w16, to_be_bytes}
 use Rattle.std.proofs.lemmas.List.{length-append}
-use Rattle.bac_npdu.specs.Peers.{RouteView, PeerView}
-use Rattle.bac_npdu.specs.Npdu.{npdu_spelling, members_spelling, bvll_spelling}
-use Rattle.bac_npdu.specs.Datagram.{npdu_to, frame}
+use Rattle.bac_npdu.specs.Peers.{RouteView, PeerView, route_fits}
+use Rattle.bac_npdu.specs.Npdu.{all_of, npdu_spelling, members_spelling, bvll_spelling}
+use Rattle.bac_npdu.specs.Datagram.{npdu_to, frame, IsFrameOf}
+use Rattle.bac_npdu.specs.Views.{route_view, peer_view}
+use Rattle.bac_npdu.specs.declared.route.Route.{Route}
+use Rattle.bac_npdu.specs.declared.peer.Peer.{Peer}
+use Rattle.bac_npdu.proofs.Datagrams.{frame_is}
+use Rattle.std.specs.Option.{option_map}
 
 abbrev peer_at : List ℕ → Option RouteView → PeerView
 peer_at link route = record { link = link; route = route }
@@ -44,3 +49,11 @@ written p e apdu old first second third all bytes n is-n is-bytes one two three 
     let octets : bytes ≡ to_be_bytes w16 (4 + length (npdu_spelling (npdu_to p true [])) + length apdu) = rw is-n at is-bytes in
     let joined : all ≡ (((old ++ 0x81 ∷ 0x0A ∷ []) ++ bytes) ++ npdu_spelling (npdu_to p e [])) ++ apdu = rw (four, three, two, one) refl in
     rw frame_parts (joined ∙ ap (λ (x : List ℕ). (((old ++ 0x81 ∷ 0x0A ∷ []) ++ x) ++ npdu_spelling (npdu_to p e [])) ++ apdu) octets ∙ simp append_assoc)
+
+-- a peer's route keeps the limits of one
+peer_fits : (route : Option Route) → IsTrue (all_of route_fits (option_map route_view route))
+peer_fits None = refl
+peer_fits (Some r) = r.fits
+
+pub frame_spelled : (p : Peer) (e : Bool) (apdu : List ℕ) → length apdu ≤ 1476 → IsFrameOf (npdu_to (peer_view p) e apdu) (frame (peer_view p) e apdu)
+frame_spelled p e apdu short = frame_is p.link (option_map route_view p.route) e apdu (peer_fits p.route) short

@@ -5,3 +5,4 @@ pub mod Addresses
 pub mod Views
 pub mod Reading
 pub mod Causes
+pub mod Slots

@@ -1,7 +1,7 @@
 ghost use Rattle.std.specs.Prelude.{◌≡◌, ◌≤◌, ◌↔◌, IsSome, IfSome, length};
 
 /// The address of a device on its network: 0 to 8 octets (8 is the own limit of this profile).
-#[derive(Clone, Copy)]
+#[derive(Clone, Copy, Debug)]
 pub struct Address {
     octets: [u8; 8],
     len: usize,

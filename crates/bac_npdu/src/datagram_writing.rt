@@ -1,6 +1,6 @@
 ghost use Rattle.std.specs.Prelude.{◌≡◌, ◌+◌, ◌≤◌, ◌<◌, ◌++◌, ◌∷◌, [], length, OnOk, OnErr, vec_len, vec_capacity, true};
 ghost use Rattle.bac_npdu.specs.Npdu.{address_spelling, npdu_spelling};
-ghost use Rattle.bac_npdu.specs.Datagram.{frame, npdu_to};
+ghost use Rattle.bac_npdu.specs.Datagram.{frame, npdu_to, IsFrameOf};
 ghost use Rattle.bac_npdu.specs.Views.{peer_view};
 ghost use Rattle.bac_npdu.specs.Addresses.{address_view};
 
@@ -64,6 +64,7 @@ pub fn write_datagram(
 ) -> Result<(), AllocError>
     requires { length apdu.now ≤ 1476 }
     ensures ok { OnOk result (out.new.items ≡ out.old.items ++ frame (peer_view peer.now) expecting apdu.now) }
+    ensures spelled { IsFrameOf (npdu_to (peer_view peer.now) expecting apdu.now) (frame (peer_view peer.now) expecting apdu.now) }
     ensures err { OnErr result (out.new.items ≡ out.old.items) }
     ensures full { OnErr result (vec_capacity out.old < vec_len out.old + length (frame (peer_view peer.now) expecting apdu.now)) }
 {

@@ -6,7 +6,7 @@ use crate::address::Address;
 use crate::route::Route;
 
 /// Where an NPDU is to be routed to: network 65,535 is the global broadcast, and an address of no octets a broadcast on the network.
-#[derive(Clone, Copy)]
+#[derive(Clone, Copy, Debug)]
 pub struct Destination {
     pub network: u16,
     pub address: Address,
@@ -16,7 +16,7 @@ pub struct Destination {
 }
 
 /// The type of a network message, with the vendor's identifier from type 128 on (clause 6.2.4).
-#[derive(Clone, Copy)]
+#[derive(Clone, Copy, Debug)]
 pub struct Message {
     pub kind: u8,
     pub vendor: Option<u16>,
@@ -24,7 +24,7 @@ pub struct Message {
 }
 
 /// A message of the network layer (clause 6.2).
-#[derive(Clone, Copy)]
+#[derive(Clone, Copy, Debug)]
 pub struct Npdu<'a> {
     pub destination: Option<Destination>,
     pub source: Option<Route>,

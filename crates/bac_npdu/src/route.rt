@@ -5,7 +5,7 @@ ghost use Rattle.bac_npdu.specs.Addresses.{address_view};
 use crate::address::Address;
 
 /// A device on a network behind a router: a network number of 1 to 65,534, and an address of 1 to 8 octets (clause 6.2.2).
-#[derive(Clone, Copy)]
+#[derive(Clone, Copy, Debug)]
 pub struct Route {
     pub network: u16,
     pub address: Address,

@@ -1,5 +1,6 @@
 -- What the client does keeps what holds of its transaction.
-use Rattle.std.proofs.Common.{◌≡◌, ℕ, ◌+◌, ◌-◌, ◌*◌, ◌%◌, ◌<◌, ◌≤◌, ◌≢◌, Bool, true, false, ◌&&◌, ◌||◌, not, List, [], ◌∷◌, ◌++◌, length, get_or, take, Option, Some, None, if◌then◌else◌, nat_le, nat_eq, refl, sym, ap, subst, inl, inr, ◌∙◌, arith}
+use Rattle.std.proofs.Common.{◌≡◌, ℕ, ◌+◌, ◌-◌, ◌*◌, ◌%◌, ◌<◌, ◌≤◌, ◌≢◌, Bool, true, false, ◌&&◌, ◌||◌, not, List, [], ◌∷◌, ◌++◌, length, get_or}
+use Rattle.std.proofs.Common.{take, Option, Some, None, if◌then◌else◌, nat_le, nat_eq, refl, sym, ap, subst, inl, inr, ◌∙◌, arith}
 use Rattle.std.proofs.lemmas.Bool.Decides.{nat_tests}
 use Rattle.bac_apdu.specs.Apdu.{Apdu, Segment}
 use Rattle.bac_apdu.specs.Apdu.Apdu.{SimpleAck, ComplexAck, SegmentAck, Error, Reject, Abort}
@@ -11,7 +12,7 @@ use Rattle.bac_protocol.specs.Times.{T_OUT, T_SEG, WAIT_SEG}
 use Rattle.bac_protocol.specs.Sizes.{Settings}
 use Rattle.bac_protocol.specs.Service.{Octets, Ending, Readable, Reply as reply}
 use Rattle.bac_protocol.specs.Service.Ending.{Answered, Rejected, Aborted, TimedOut, Expired}
-use Rattle.bac_protocol.specs.Wire.{is_from_server, segment_of}
+use Rattle.bac_protocol.specs.Wire.{is_from_server, segment_of, Each}
 use Rattle.bac_protocol.specs.Client as client
 use Rattle.bac_protocol.specs.Client.{Ask, request_of, Phase, Ticket, Reaction}
 use Rattle.bac_protocol.specs.Client.Phase.{Sending, Awaiting, Collecting, Over}
@@ -22,11 +23,15 @@ use Rattle.bac_protocol.specs.Log.{Fact, IsUnended, MayEnd, WasAsked}
 use Rattle.bac_protocol.specs.Log.Fact.{Asked, Ended}
 use Rattle.bac_protocol.specs.Transaction.{Key, Transaction, sent, client_does}
 use Rattle.bac_protocol.specs.Claims.{IsPiece, IsAck}
-use Rattle.bac_protocol.proofs.Sound.{IsUnderway, IsFront, Up, Down, IsAckUp, IsPieceDown, client_until, WasPerformed, Says, SendsUp, IsUntaken, IsSendingFor, IsReadIfPieces, IsReadIfRepeated, CollectsDown, ClientFits, IsKeptFor, IsUnbegun, SendsDown, StateFits, ServerFits, UpFits, DownFits, IsOpenIn, Sound, IsSound}
+use Rattle.bac_protocol.proofs.Sound.{IsUnderway, IsFront, Up, Down, IsAckUp, IsPieceDown, client_until, WasPerformed, Says, SendsUp, IsUntaken}
+use Rattle.bac_protocol.proofs.Sound.{IsSendingFor, IsReadIfPieces, IsReadIfRepeated, CollectsDown, ClientFits, IsKeptFor, IsUnbegun, SendsDown}
+use Rattle.bac_protocol.proofs.Sound.{StateFits, ServerFits, UpFits, DownFits, IsOpenIn, Sound, IsSound}
 use Rattle.bac_protocol.proofs.Sound.Up.{Reading, Read}
 use Rattle.bac_protocol.proofs.Sound.Down.{Unsent, Sent, Closed}
-use Rattle.bac_protocol.proofs.Facts.{below_has, AllSends, UpGoes, DownGoes, up_same, down_same, closed, down_closed, grows_same, grows_more, copies_go, pieces_all, pieces_length}
-use Rattle.bac_protocol.proofs.Transfer.{moved, acknowledged_cases, acknowledges_taken, moved_sender, sent_to, window_underway, window_sender, window_grows, window_piece, with_piece, takes_cases, takes_below, takes_left, takes_front, takes_all}
+use Rattle.bac_protocol.proofs.Facts.{below_has, UpGoes, DownGoes, up_same, down_same, closed, down_closed, grows_same, grows_more}
+use Rattle.bac_protocol.proofs.Facts.{copies_go, pieces_all, pieces_length}
+use Rattle.bac_protocol.proofs.Transfer.{moved, acknowledged_cases, acknowledges_taken, moved_sender, sent_to, window_underway, window_sender}
+use Rattle.bac_protocol.proofs.Transfer.{window_grows, window_piece, with_piece, takes_cases, takes_below, takes_left, takes_front, takes_all}
 
 abbrev pub SoundOf : ℕ → Key → Transaction → Ticket → Up → Down → Type 0
 SoundOf W key w t up down = Sound W key w.now w.asks w.number t w.entry w.copies w.log up down
@@ -45,7 +50,8 @@ is_open Over n log e h = absurd cc
 
 -- The server's side as the client's ghosts move.
 
-kept_ends : (number : ℕ) (ask : Ask) (how : Ending) (log : List Fact) (a : Apdu) → IsKeptFor number ask a log → IsKeptFor number ask a (Ended number how ∷ log)
+kept_ends : (number : ℕ) (ask : Ask) (how : Ending) (log : List Fact) (a : Apdu) → IsKeptFor number ask a log
+    → IsKeptFor number ask a (Ended number how ∷ log)
 kept_ends number ask how log (SimpleAck id choice) h = inr h
 kept_ends number ask how log (ComplexAck id None choice o) h = inr h
 kept_ends number ask how log (Error id choice class code) h = inr h
@@ -53,7 +59,8 @@ kept_ends number ask how log (Reject id r) h = h
 kept_ends number ask how log (Abort true id r) h = h
 kept_ends number ask how log _ h = absurd h
 
-unbegun_ends : (number : ℕ) (how : Ending) (log : List Fact) (up : Up) (down : Down) → IsUnbegun number up down log → IsUnbegun number up (closed down) (Ended number how ∷ log)
+unbegun_ends : (number : ℕ) (how : Ending) (log : List Fact) (up : Up) (down : Down) → IsUnbegun number up down log
+    → IsUnbegun number up (closed down) (Ended number how ∷ log)
 unbegun_ends number how log (Reading t s) Unsent h = h
 unbegun_ends number how log _ _ h = absurd h
 
@@ -62,38 +69,47 @@ sends_closed W out Unsent h = h
 sends_closed W out (Sent ps t s) h = tt
 sends_closed W out Closed h = h
 
-state_ends : (W number : ℕ) (ask : Ask) (how : Ending) (log : List Fact) (st : State) (up : Up) (down : Down) → StateFits W number ask st up down log → StateFits W number ask st up (closed down) (Ended number how ∷ log)
-state_ends W number ask how log (Receiving inc since) (Reading t s) Unsent h = record { in_pieces = h.in_pieces; front = h.front; unperformed = h.unperformed }
+state_ends : (W number : ℕ) (ask : Ask) (how : Ending) (log : List Fact) (st : State) (up : Up) (down : Down) → StateFits W number ask st up down log
+    → StateFits W number ask st up (closed down) (Ended number how ∷ log)
+state_ends W number ask how log (Receiving inc since) (Reading t s) Unsent h =
+    record { in_pieces = h.in_pieces; front = h.front; unperformed = h.unperformed }
 state_ends W number ask how log (Done kept) Read Unsent h = kept_ends number ask how log kept h
-state_ends W number ask how log (Giving out transfer since) Read down h = record { window = h.window; performed = inr h.performed; sends = sends_closed W out down h.sends }
+state_ends W number ask how log (Giving out transfer since) Read down h =
+    record { window = h.window; performed = inr h.performed; sends = sends_closed W out down h.sends }
 state_ends W number ask how log Dropped (Reading t s) Unsent h = h
 state_ends W number ask how log _ _ _ h = absurd h
 
-server_ends : (W number : ℕ) (ask : Ask) (how : Ending) (log : List Fact) (up : Up) (down : Down) (o : Option Entry) → ServerFits W number ask o up down log → ServerFits W number ask o up (closed down) (Ended number how ∷ log)
+server_ends : (W number : ℕ) (ask : Ask) (how : Ending) (log : List Fact) (up : Up) (down : Down) (o : Option Entry)
+    → ServerFits W number ask o up down log → ServerFits W number ask o up (closed down) (Ended number how ∷ log)
 server_ends W number ask how log up down None h = unbegun_ends number how log up down h
 server_ends W number ask how log up down (Some e) (inl h) = inl (record { dead = h.dead; unbegun = unbegun_ends number how log up down h.unbegun })
-server_ends W number ask how log up down (Some e) (inr h) = inr (record { after = h.after; before = h.before; choice = h.choice; state = state_ends W number ask how log e.state up down h.state })
+server_ends W number ask how log up down (Some e) (inr h) = inr
+    (record { after = h.after; before = h.before; choice = h.choice; state = state_ends W number ask how log e.state up down h.state })
 
 -- the ghost after the window is sent
 abbrev pub widened : Outgoing → Up → Up
 widened out (Reading t s) = Reading t (sent_to out s)
 widened out Read = Read
 
-unbegun_widened : (number : ℕ) (out : Outgoing) (log : List Fact) (up : Up) (down : Down) → IsUnbegun number up down log → IsUnbegun number (widened out up) down log
+unbegun_widened : (number : ℕ) (out : Outgoing) (log : List Fact) (up : Up) (down : Down) → IsUnbegun number up down log
+    → IsUnbegun number (widened out up) down log
 unbegun_widened number out log (Reading t s) Unsent h = h
 unbegun_widened number out log _ _ h = absurd h
 
-state_widened : (W number : ℕ) (ask : Ask) (out : Outgoing) (log : List Fact) (st : State) (up : Up) (down : Down) → StateFits W number ask st up down log → StateFits W number ask st (widened out up) down log
+state_widened : (W number : ℕ) (ask : Ask) (out : Outgoing) (log : List Fact) (st : State) (up : Up) (down : Down) → StateFits W number ask st up down log
+    → StateFits W number ask st (widened out up) down log
 state_widened W number ask out log (Receiving inc since) (Reading t s) Unsent h = h
 state_widened W number ask out log (Done kept) Read Unsent h = h
 state_widened W number ask out log (Giving out' transfer since) Read down h = h
 state_widened W number ask out log Dropped (Reading t s) Unsent h = h
 state_widened W number ask out log _ _ _ h = absurd h
 
-server_widened : (W number : ℕ) (ask : Ask) (out : Outgoing) (log : List Fact) (up : Up) (down : Down) (o : Option Entry) → ServerFits W number ask o up down log → ServerFits W number ask o (widened out up) down log
+server_widened : (W number : ℕ) (ask : Ask) (out : Outgoing) (log : List Fact) (up : Up) (down : Down) (o : Option Entry)
+    → ServerFits W number ask o up down log → ServerFits W number ask o (widened out up) down log
 server_widened W number ask out log up down None h = unbegun_widened number out log up down h
 server_widened W number ask out log up down (Some e) (inl h) = inl (record { dead = h.dead; unbegun = unbegun_widened number out log up down h.unbegun })
-server_widened W number ask out log up down (Some e) (inr h) = inr (record { after = h.after; before = h.before; choice = h.choice; state = state_widened W number ask out log e.state up down h.state })
+server_widened W number ask out log up down (Some e) (inr h) = inr
+    (record { after = h.after; before = h.before; choice = h.choice; state = state_widened W number ask out log e.state up down h.state })
 
 repeated_widened : (ask : Ask) (repeats : ℕ) (out : Outgoing) (up : Up) → IsReadIfRepeated ask repeats up → IsReadIfRepeated ask repeats (widened out up)
 repeated_widened ask repeats out (Reading t s) h = h
@@ -103,8 +119,10 @@ repeated_widened ask repeats out Read h = h
 sends_taken : (W : ℕ) (out : Outgoing) (ps : List Octets) (t s : ℕ) → SendsDown W out (Sent ps t s) → SendsDown W out (Sent ps (t + 1) s)
 sends_taken W out ps t s h = (h.0, record { behind = omega (arith, h.1.behind); near = h.1.near })
 
-state_taken : (W number : ℕ) (ask : Ask) (log : List Fact) (ps : List Octets) (t s : ℕ) (st : State) (up : Up) → StateFits W number ask st up (Sent ps t s) log → StateFits W number ask st up (Sent ps (t + 1) s) log
-state_taken W number ask log ps t s (Giving out transfer since) Read h = record { window = h.window; performed = h.performed; sends = sends_taken W out ps t s h.sends }
+state_taken : (W number : ℕ) (ask : Ask) (log : List Fact) (ps : List Octets) (t s : ℕ) (st : State) (up : Up)
+    → StateFits W number ask st up (Sent ps t s) log → StateFits W number ask st up (Sent ps (t + 1) s) log
+state_taken W number ask log ps t s (Giving out transfer since) Read h =
+    record { window = h.window; performed = h.performed; sends = sends_taken W out ps t s h.sends }
 state_taken W number ask log ps t s (Giving out transfer since) (Reading a b) h = absurd h
 state_taken W number ask log ps t s (Receiving inc since) (Reading a b) h = absurd h
 state_taken W number ask log ps t s (Receiving inc since) Read h = absurd h
@@ -117,14 +135,18 @@ unbegun_unsent : (number : ℕ) (log : List Fact) (up : Up) (ps : List Octets) (
 unbegun_unsent number log (Reading a b) ps t s h = h
 unbegun_unsent number log Read ps t s h = h
 
-server_taken : (W number : ℕ) (ask : Ask) (log : List Fact) (up : Up) (ps : List Octets) (t s : ℕ) (o : Option Entry) → ServerFits W number ask o up (Sent ps t s) log → ServerFits W number ask o up (Sent ps (t + 1) s) log
+server_taken : (W number : ℕ) (ask : Ask) (log : List Fact) (up : Up) (ps : List Octets) (t s : ℕ) (o : Option Entry)
+    → ServerFits W number ask o up (Sent ps t s) log → ServerFits W number ask o up (Sent ps (t + 1) s) log
 server_taken W number ask log up ps t s None h = absurd (unbegun_unsent number log up ps t s h)
 server_taken W number ask log up ps t s (Some e) (inl h) = absurd (unbegun_unsent number log up ps t s h.unbegun)
-server_taken W number ask log up ps t s (Some e) (inr h) = inr (record { after = h.after; before = h.before; choice = h.choice; state = state_taken W number ask log ps t s e.state up h.state })
+server_taken W number ask log up ps t s (Some e) (inr h) = inr
+    (record { after = h.after; before = h.before; choice = h.choice; state = state_taken W number ask log ps t s e.state up h.state })
 
 -- where pieces of a reply are sent, the request was performed with that reply
-state_performed : (W number : ℕ) (ask : Ask) (log : List Fact) (ps : List Octets) (t s : ℕ) (st : State) (up : Up) → StateFits W number ask st up (Sent ps t s) log → WasPerformed number ask (reply.Complex (join ps)) log
-state_performed W number ask log ps t s (Giving out transfer since) Read h = subst (λ (xs : List Octets). WasPerformed number ask (reply.Complex (join xs)) log) h.sends.0 h.performed
+state_performed : (W number : ℕ) (ask : Ask) (log : List Fact) (ps : List Octets) (t s : ℕ) (st : State) (up : Up)
+    → StateFits W number ask st up (Sent ps t s) log → WasPerformed number ask (reply.Complex (join ps)) log
+state_performed W number ask log ps t s (Giving out transfer since) Read h = subst
+    (λ (xs : List Octets). WasPerformed number ask (reply.Complex (join xs)) log) h.sends.0 h.performed
 state_performed W number ask log ps t s (Giving out transfer since) (Reading a b) h = absurd h
 state_performed W number ask log ps t s (Receiving inc since) (Reading a b) h = absurd h
 state_performed W number ask log ps t s (Receiving inc since) Read h = absurd h
@@ -133,7 +155,8 @@ state_performed W number ask log ps t s (Done kept) Read h = absurd h
 state_performed W number ask log ps t s Dropped (Reading a b) h = absurd h
 state_performed W number ask log ps t s Dropped Read h = absurd h
 
-server_performed : (W number : ℕ) (ask : Ask) (log : List Fact) (up : Up) (ps : List Octets) (t s : ℕ) (o : Option Entry) → ServerFits W number ask o up (Sent ps t s) log → WasPerformed number ask (reply.Complex (join ps)) log
+server_performed : (W number : ℕ) (ask : Ask) (log : List Fact) (up : Up) (ps : List Octets) (t s : ℕ) (o : Option Entry)
+    → ServerFits W number ask o up (Sent ps t s) log → WasPerformed number ask (reply.Complex (join ps)) log
 server_performed W number ask log up ps t s None h = absurd (unbegun_unsent number log up ps t s h)
 server_performed W number ask log up ps t s (Some e) (inl h) = absurd (unbegun_unsent number log up ps t s h.unbegun)
 server_performed W number ask log up ps t s (Some e) (inr h) = state_performed W number ask log ps t s e.state up h.state
@@ -144,7 +167,8 @@ down_fits_closed W (Sent ps t s) h = tt
 down_fits_closed W Closed h = tt
 
 -- One transaction, whose ticket is t.
-module _ (W V : ℕ) (some : 0 < W) (room : V + 2 * W ≤ 255) (c : Settings) (own : c.window ≤ W) (readable : Readable) (key : Key) (w : Transaction) (t : Ticket) where
+module _ (W V : ℕ) (some : 0 < W) (room : V + 2 * W ≤ 255) (c : Settings) (own : c.window ≤ W) (readable : Readable) (key : Key) (w : Transaction)
+    (t : Ticket) where
   -- it goes on as that ticket, after these sends
   abbrev Goes : Ticket → List Apdu → Type 0
   Goes t' sends = (up : Up) × (down : Down) × Sound W key w.now w.asks w.number t' w.entry (sent w.now sends w.copies) w.log up down
@@ -156,10 +180,12 @@ module _ (W V : ℕ) (some : 0 < W) (room : V + 2 * W ≤ 255) (c : Settings) (o
   SaysNow up down a = (k : ℕ) → Says W w.number t.ask w.log up down w.now k a
 
   -- the ticket goes on
-  goes : (up : Up) (down : Down) → SoundOf W key w t up down → IsUnended w.number w.log → (phase : Phase) (repeats since : ℕ) (sends : List Apdu) (up' : Up) (down' : Down)
+  goes : (up : Up) (down : Down) → SoundOf W key w t up down → IsUnended w.number w.log
+      → (phase : Phase) (repeats since : ℕ) (sends : List Apdu) (up' : Up) (down' : Down)
       → UpGoes (length sends) up up' → DownGoes (length sends) down down'
-      → ClientFits W t.ask phase up' down' → IsReadIfRepeated t.ask repeats up' → ServerFits W w.number t.ask w.entry up' down' w.log → UpFits W t.ask up' → DownFits W down'
-      → AllSends (SaysNow up' down') sends
+      → ClientFits W t.ask phase up' down' → IsReadIfRepeated t.ask repeats up' → ServerFits W w.number t.ask w.entry up' down' w.log → UpFits W t.ask up'
+      → DownFits W down'
+      → Each (SaysNow up' down') sends
       → Goes (record t { phase = phase; repeats = repeats; since = since }) sends
   goes up down s opened phase repeats since sends up' down' gu gd client passes server upload download says = (
     up',
@@ -183,14 +209,15 @@ module _ (W V : ℕ) (some : 0 < W) (room : V + 2 * W ≤ 255) (c : Settings) (o
   -- the ticket goes on, and no ghost moves
   goes_same : (up : Up) (down : Down) → SoundOf W key w t up down → IsUnended w.number w.log → (phase : Phase) (repeats since : ℕ) (sends : List Apdu)
       → ClientFits W t.ask phase up down → IsReadIfRepeated t.ask repeats up
-      → AllSends (SaysNow up down) sends
+      → Each (SaysNow up down) sends
       → Goes (record t { phase = phase; repeats = repeats; since = since }) sends
   goes_same up down s opened phase repeats since sends client passes says =
-      goes up down s opened phase repeats since sends up down (up_same (length sends) up) (down_same (length sends) down) client passes s.server s.upload s.download says
+      goes up down s opened phase repeats since sends up down (up_same (length sends) up)
+      (down_same (length sends) down) client passes s.server s.upload s.download says
 
   -- the ticket ends
   ends : (up : Up) (down : Down) → SoundOf W key w t up down → IsUnended w.number w.log → (sends : List Apdu) (how : Ending) → MayEnd w.number how w.log
-      → AllSends (λ a. (k : ℕ) → Says W w.number t.ask (Ended w.number how ∷ w.log) up (closed down) w.now k a) sends
+      → Each (λ a. (k : ℕ) → Says W w.number t.ask (Ended w.number how ∷ w.log) up (closed down) w.now k a) sends
       → IsKept (Ends sends how)
   ends up down s opened sends how may says = (
     up,
@@ -207,7 +234,8 @@ module _ (W V : ℕ) (some : 0 < W) (room : V + 2 * W ≤ 255) (c : Settings) (o
       server = server_ends W w.number t.ask how w.log up down w.entry s.server;
       upload = s.upload;
       download = down_fits_closed W down s.download;
-      arriving = copies_go W w.now w.number t.ask w.log (Ended w.number how ∷ w.log) up up down (closed down) sends w.copies (grows_more (Ended w.number how) w.log) (up_same (length sends) up) (down_closed (length sends) down) s.clock says s.arriving;
+      arriving = copies_go W w.now w.number t.ask w.log (Ended w.number how ∷ w.log) up up down (closed down) sends w.copies
+          (grows_more (Ended w.number how) w.log) (up_same (length sends) up) (down_closed (length sends) down) s.clock says s.arriving;
     },
   )
 
@@ -225,24 +253,29 @@ module _ (W V : ℕ) (some : 0 < W) (room : V + 2 * W ≤ 255) (c : Settings) (o
 
   module _ (opened : IsUnended w.number w.log) (early : w.now ≤ client_until t.ask) where
     -- whole service data came, of a reply with which the ask was performed
-    answered_kept : (up : Up) (down : Down) → SoundOf W key w t up down → (choice : ℕ) (acks : List Apdu) (octets : Octets) → WasPerformed w.number t.ask (reply.Complex octets) w.log
-        → ((log : List Fact) → AllSends (λ a. (k : ℕ) → Says W w.number t.ask log up (closed down) w.now k a) acks)
-        → ((log : List Fact) → AllSends (λ a. (k : ℕ) → Says W w.number t.ask log up (closed down) w.now k a) (acks ++ Abort false key.id 0 ∷ []))
+    answered_kept : (up : Up) (down : Down) → SoundOf W key w t up down → (choice : ℕ) (acks : List Apdu) (octets : Octets)
+        → WasPerformed w.number t.ask (reply.Complex octets) w.log
+        → ((log : List Fact) → Each (λ a. (k : ℕ) → Says W w.number t.ask log up (closed down) w.now k a) acks)
+        → ((log : List Fact) → Each (λ a. (k : ℕ) → Says W w.number t.ask log up (closed down) w.now k a) (acks ++ Abort false key.id 0 ∷ []))
         → IsKept (client.answered_with readable key.id choice acks octets)
     answered_kept up down s choice acks octets h says aborts = go (readable choice octets)
       where
         go : (b : Bool) → IsKept (if b then Ends acks (Answered (reply.Complex octets)) else Ends (acks ++ Abort false key.id 0 ∷ []) (Aborted 0))
-        go true = ends up down s opened acks (Answered (reply.Complex octets)) (may_answer (reply.Complex octets) h) (says (Ended w.number (Answered (reply.Complex octets)) ∷ w.log))
+        go true = ends up down s opened acks (Answered (reply.Complex octets)) (may_answer (reply.Complex octets) h)
+            (says (Ended w.number (Answered (reply.Complex octets)) ∷ w.log))
         go false = ends up down s opened (acks ++ Abort false key.id 0 ∷ []) (Aborted 0) (was_asked up down s) (aborts (Ended w.number (Aborted 0) ∷ w.log))
 
     -- a piece of the reply comes, of which tk were taken
-    module _ (up : Up) (ps : List Octets) (tk sn : ℕ) (s : SoundOf W key w t up (Sent ps tk sn)) (inc : Incoming) (taken : length inc.parts ≡ tk) (parts : inc.parts ≡ take tk ps)
-        (k : ℕ) (late : k ≤ V) (g : Segment) (o : Octets) (piece : IsPiece W ps sn k g o) (first : g.number ≢ length inc.parts % 256 → 0 < tk) (choice : ℕ) where
+    module _ (up : Up) (ps : List Octets) (tk sn : ℕ) (s : SoundOf W key w t up (Sent ps tk sn)) (inc : Incoming) (taken : length inc.parts ≡ tk)
+        (parts : inc.parts ≡ take tk ps)
+        (k : ℕ) (late : k ≤ V) (g : Segment) (o : Octets) (piece : IsPiece W ps sn k g o) (first : g.number ≢ length inc.parts % 256 → 0 < tk)
+        (choice : ℕ) where
       number_is : g.number ≡ length inc.parts % 256 → g.number ≡ tk % 256
       number_is e = e ∙ ap (λ x. x % 256) taken
 
       nak_ack : 0 < tk → (j : ℕ) → IsAck W tk sn j ((length inc.parts - 1) % 256)
-      nak_ack pos j = let near = s.download.near in record { piece = tk - 1; number_is = ap (λ x. (x - 1) % 256) taken; below = omega arith; near = omega arith }
+      nak_ack pos j = let near = s.download.near in record
+          { piece = tk - 1; number_is = ap (λ x. (x - 1) % 256) taken; below = omega arith; near = omega arith }
 
       all : g.number ≡ length inc.parts % 256 → g.more ≡ false → join (inc.parts ++ o ∷ []) ≡ join ps
       all e m = ap join (takes_all V W some room ps tk sn k late s.download g o piece (number_is e) inc.parts parts m)
@@ -267,23 +300,28 @@ module _ (W V : ℕ) (some : 0 < W) (room : V + 2 * W ≤ 255) (c : Settings) (o
       next_ack : g.number ≡ length inc.parts % 256 → (j : ℕ) → IsAck W (tk + 1) sn j g.number
       next_ack e j = let near = s.download.near in record { piece = tk; number_is = number_is e; below = omega arith; near = omega arith }
 
-      next : (sends : List Apdu) → g.number ≡ length inc.parts % 256 → g.more ≡ true → (n : ℕ) → AllSends (SaysNow up (Sent ps (tk + 1) sn)) sends → IsKept (GoesOn (Collecting (with_piece inc o n)) sends)
+      next : (sends : List Apdu) → g.number ≡ length inc.parts % 256 → g.more ≡ true → (n : ℕ) → Each (SaysNow up (Sent ps (tk + 1) sn)) sends
+          → IsKept (GoesOn (Collecting (with_piece inc o n)) sends)
       next sends e m n says = goes up (Sent ps tk sn) s opened (Collecting (with_piece inc o n)) t.repeats w.now sends up (Sent ps (tk + 1) sn)
-          (up_same (length sends) up) (refl, omega arith, omega arith, omega arith) (front e n) s.passes (server_taken W w.number t.ask w.log up ps tk sn w.entry s.server) s.upload (under e m) says
+          (up_same (length sends) up) (refl, omega arith, omega arith, omega arith) (front e n) s.passes
+          (server_taken W w.number t.ask w.log up ps tk sn w.entry s.server) s.upload (under e m) says
 
-      goes_on : g.number ≡ length inc.parts % 256 → g.more ≡ true → (ack : Bool) (n : ℕ) → IsKept (client.collects readable key.id choice g.number inc.window (Taken ack (with_piece inc o n)))
+      goes_on : g.number ≡ length inc.parts % 256 → g.more ≡ true → (ack : Bool) (n : ℕ)
+          → IsKept (client.collects readable key.id choice g.number inc.window (Taken ack (with_piece inc o n)))
       goes_on e m true n = next (client.client_ack false key.id g.number inc.window ∷ []) e m n (λ j. (early, next_ack e j), tt)
       goes_on e m false n = next [] e m n tt
 
       collects_kept : IsKept (client.collects readable key.id choice g.number inc.window (takes inc g.number g.more o))
       collects_kept =
           takes_cases inc g.number g.more o (λ x. IsKept (client.collects readable key.id choice g.number inc.window x))
-          (λ ne. goes_same up (Sent ps tk sn) s opened (Collecting (record inc { unacknowledged = 0 })) t.repeats w.now (client.client_ack true key.id ((length inc.parts - 1) % 256) inc.window ∷ [])
+          (λ ne. goes_same up (Sent ps tk sn) s opened (Collecting (record inc { unacknowledged = 0 })) t.repeats w.now
+          (client.client_ack true key.id ((length inc.parts - 1) % 256) inc.window ∷ [])
           (record { taken_is = taken; some = first ne; parts_are = parts }) s.passes
           (λ j. (early, nak_ack (first ne) j), tt))
           (ends up (Sent ps tk sn) s opened (Abort false key.id 1 ∷ []) (Aborted 1) (was_asked up (Sent ps tk sn) s) (λ j. early, tt))
           (λ e m. answered_kept up (Sent ps tk sn) s choice (client.client_ack false key.id g.number inc.window ∷ []) (join (inc.parts ++ o ∷ []))
-          (subst (λ (x : Octets). WasPerformed w.number t.ask (reply.Complex x) w.log) (sym (all e m)) (server_performed W w.number t.ask w.log up ps tk sn w.entry s.server))
+          (subst (λ (x : Octets). WasPerformed w.number t.ask (reply.Complex x) w.log) (sym (all e m))
+          (server_performed W w.number t.ask w.log up ps tk sn w.entry s.server))
           (λ log. (λ j. (early, tt), tt))
           (λ log. (λ j. (early, tt), (λ j. early, tt))))
           (λ e m ack n. goes_on e m ack n)
@@ -294,22 +332,32 @@ module _ (W V : ℕ) (some : 0 < W) (room : V + 2 * W ≤ 255) (c : Settings) (o
     up_widens out (Reading tk sn) u h = let g = window_grows W out tk sn u.behind h in (omega arith, g.0, g.1)
     up_widens out Read u h = tt
 
-    up_fits_widened : (out : Outgoing) (up : Up) → out.window ≤ W → out.pieces ≡ t.ask.pieces → UpFits W t.ask up → SendsUp W out up → UpFits W t.ask (widened out up)
+    up_fits_widened : (out : Outgoing) (up : Up) → out.window ≤ W → out.pieces ≡ t.ask.pieces → UpFits W t.ask up → SendsUp W out up
+        → UpFits W t.ask (widened out up)
     up_fits_widened out (Reading tk sn) small is u h =
-        subst (λ (ps : List Octets). IsUnderway W tk (sent_to out sn) (length ps)) is (window_underway W out tk sn small (subst (λ (ps : List Octets). IsUnderway W tk sn (length ps)) (sym is) u) h)
+        subst (λ (ps : List Octets). IsUnderway W tk (sent_to out sn) (length ps)) is
+        (window_underway W out tk sn small (subst (λ (ps : List Octets). IsUnderway W tk sn (length ps)) (sym is) u) h)
     up_fits_widened out Read small is u h = tt
 
     sends_up_widened : (out : Outgoing) (up : Up) → out.window ≤ W → SendsUp W out up → SendsUp W out (widened out up)
     sends_up_widened out (Reading tk sn) small h = window_sender W out tk sn small h
     sends_up_widened out Read small h = tt
 
-    piece_says : (k p : ℕ) (log : List Fact) (out : Outgoing) (up : Up) (down : Down) → t.ask.whole ≡ false → out.window ≤ W → out.pieces ≡ t.ask.pieces → SendsUp W out up → out.first ≤ p → p < out.first + in_window out → Says W w.number t.ask log (widened out up) down w.now k (client.request_piece c key.id t.ask.choice out.pieces p)
-    piece_says k p log out (Reading tk sn) down whole small is h lo hi =
-        (early, whole, refl, subst (λ (ps : List Octets). IsPiece W ps (sent_to out sn) k (segment_of c.window out.pieces p) (get_or out.pieces p [])) is (window_piece W c.window out tk sn k p small h lo hi))
+    piece_says : (k p : ℕ) (log : List Fact) (out : Outgoing) (up : Up) (down : Down) → t.ask.whole ≡ false → out.window ≤ W → out.pieces ≡ t.ask.pieces
+        → SendsUp W out up → out.first ≤ p → p < out.first + in_window out
+        → Says W w.number t.ask log (widened out up) down w.now k (client.request_piece c key.id t.ask.choice out.pieces p)
+    piece_says k p log out (Reading tk sn) down whole small is h lo hi = (
+      early,
+      whole,
+      refl,
+      subst (λ (ps : List Octets). IsPiece W ps (sent_to out sn) k (segment_of c.window out.pieces p) (get_or out.pieces p [])) is
+          (window_piece W c.window out tk sn k p small h lo hi),
+    )
     piece_says k p log out Read down whole small is h lo hi = (early, whole, refl, tt)
 
     -- the window is sent
-    window_goes : (up : Up) (down : Down) → SoundOf W key w t up down → (repeats : ℕ) → IsReadIfRepeated t.ask repeats up → (out : Outgoing) (all_sent : Bool) → IsSendingFor W t.ask out up down
+    window_goes : (up : Up) (down : Down) → SoundOf W key w t up down → (repeats : ℕ) → IsReadIfRepeated t.ask repeats up
+        → (out : Outgoing) (all_sent : Bool) → IsSendingFor W t.ask out up down
         → Goes (record t { phase = Sending out all_sent; repeats = repeats; since = w.now }) (client.request_window c key.id t.ask.choice out)
     window_goes up down s repeats passes out all_sent h =
         goes up down s opened (Sending out all_sent) repeats w.now (client.request_window c key.id t.ask.choice out) (widened out up) down
@@ -320,19 +368,23 @@ module _ (W V : ℕ) (some : 0 < W) (room : V + 2 * W ≤ 255) (c : Settings) (o
         (server_widened W w.number t.ask out w.log up down w.entry s.server)
         (up_fits_widened out up h.window h.pieces s.upload h.sends)
         s.download
-        (pieces_all (SaysNow (widened out up) down) (client.request_piece c key.id t.ask.choice out.pieces) out.first (in_window out) (λ p lo hi k. piece_says k p w.log out up down h.in_pieces h.window h.pieces h.sends lo hi))
+        (pieces_all (SaysNow (widened out up) down) (client.request_piece c key.id t.ask.choice out.pieces) out.first (in_window out)
+        (λ p lo hi k. piece_says k p w.log out up down h.in_pieces h.window h.pieces h.sends lo hi))
 
-    window_kept : (up : Up) (down : Down) → SoundOf W key w t up down → (out : Outgoing) (all_sent : Bool) → IsSendingFor W t.ask out up down → IsKept (client.sends_window c key.id t.ask.choice out all_sent)
+    window_kept : (up : Up) (down : Down) → SoundOf W key w t up down → (out : Outgoing) (all_sent : Bool) → IsSendingFor W t.ask out up down
+        → IsKept (client.sends_window c key.id t.ask.choice out all_sent)
     window_kept up down s out all_sent h = window_goes up down s t.repeats s.passes out (all_sent || nat_le (length out.pieces) (out.first + in_window out)) h
 
     -- What comes to the client.
 
-    moved_up : (out : Outgoing) (up : Up) (k number window : ℕ) → k ≤ V → out.window ≤ W → UpFits W t.ask up → SendsUp W out up → IsAckUp W up k number → ahead number out.first < in_window out → SendsUp W (moved c.window out number window) up
+    moved_up : (out : Outgoing) (up : Up) (k number window : ℕ) → k ≤ V → out.window ≤ W → UpFits W t.ask up → SendsUp W out up → IsAckUp W up k number
+        → ahead number out.first < in_window out → SendsUp W (moved c.window out number window) up
     moved_up out (Reading tk sn) k number window late small u h ack lt =
         moved_sender c.window W out tk sn number window h (acknowledges_taken V W out tk sn k number room late small u.behind h ack lt)
     moved_up out Read k number window late small u h ack lt = tt
 
-    finished_up : (out : Outgoing) (up : Up) → out.pieces ≡ t.ask.pieces → UpFits W t.ask up → SendsUp W out up → is_finished out ≡ true → IsReadIfPieces t.ask up
+    finished_up : (out : Outgoing) (up : Up) → out.pieces ≡ t.ask.pieces → UpFits W t.ask up → SendsUp W out up → is_finished out ≡ true
+        → IsReadIfPieces t.ask up
     finished_up out (Reading tk sn) is u h e =
         let all : length out.pieces ≤ out.first = grind (arith, nat_tests) in
         let same : length out.pieces ≡ length t.ask.pieces = ap length is in
@@ -341,72 +393,105 @@ module _ (W V : ℕ) (some : 0 < W) (room : V + 2 * W ≤ 255) (c : Settings) (o
         absurd (omega arith)
     finished_up out Read is u h e = tt
 
-    moves_kept : (up : Up) (down : Down) → SoundOf W key w t up down → (out : Outgoing) (all_sent : Bool) → IsSendingFor W t.ask out up down → (k number window : ℕ) → k ≤ V → IsAckUp W up k number → IsKept (client.moves c key.id t.ask.choice all_sent (acknowledged c.window out number window))
+    moves_kept : (up : Up) (down : Down) → SoundOf W key w t up down → (out : Outgoing) (all_sent : Bool) → IsSendingFor W t.ask out up down
+        → (k number window : ℕ) → k ≤ V → IsAckUp W up k number
+        → IsKept (client.moves c key.id t.ask.choice all_sent (acknowledged c.window out number window))
     moves_kept up down s out all_sent h k number window late ack =
         acknowledged_cases c.window out number window (λ x. IsKept (client.moves c key.id t.ask.choice all_sent x)) (up, down, s)
         (λ lt. by_end lt (is_finished (moved c.window out number window)) refl)
       where
-        by_end : ahead number out.first < in_window out → (b : Bool) → is_finished (moved c.window out number window) ≡ b → IsKept (if b then GoesOn Awaiting [] else client.sends_window c key.id t.ask.choice (moved c.window out number window) all_sent)
-        by_end lt true is = goes_same up down s opened Awaiting t.repeats w.now [] (finished_up (moved c.window out number window) up h.pieces s.upload (moved_up out up k number window late h.window s.upload h.sends ack lt) is, h.untaken) s.passes tt
+        by_end : ahead number out.first < in_window out → (b : Bool) → is_finished (moved c.window out number window) ≡ b
+            → IsKept (if b then GoesOn Awaiting [] else client.sends_window c key.id t.ask.choice (moved c.window out number window) all_sent)
+        by_end lt true is = goes_same up down s opened Awaiting t.repeats w.now [] (
+          finished_up (moved c.window out number window) up h.pieces s.upload
+              (moved_up out up k number window late h.window s.upload h.sends ack lt) is,
+          h.untaken,
+        ) s.passes tt
         by_end lt false is = window_kept up down s (moved c.window out number window) all_sent
-            (record { in_pieces = h.in_pieces; pieces = h.pieces; window = omega arith; sends = moved_up out up k number window late h.window s.upload h.sends ack lt; untaken = h.untaken })
+            (record {
+              in_pieces = h.in_pieces;
+              pieces = h.pieces;
+              window = omega arith;
+              sends =
+                  moved_up out up k number window late h.window s.upload h.sends ack lt;
+              untaken = h.untaken;
+            })
 
-    first_piece : (up : Up) (down : Down) → SoundOf W key w t up down → IsUntaken down → (k : ℕ) → k ≤ V → (g : Segment) (o : Octets) → g.number ≡ 0 → IsPieceDown W down k g o → (choice proposed : ℕ)
+    first_piece : (up : Up) (down : Down) → SoundOf W key w t up down → IsUntaken down → (k : ℕ) → k ≤ V → (g : Segment) (o : Octets) → g.number ≡ 0
+        → IsPieceDown W down k g o → (choice proposed : ℕ)
         → IsKept (client.collects readable key.id choice g.number (incoming c.window proposed).window (takes (incoming c.window proposed) g.number g.more o))
     first_piece up Unsent s untaken k late g o e piece choice proposed = absurd piece
     first_piece up (Sent ps tk sn) s untaken k late g o e piece choice proposed =
-        collects_kept up ps tk sn s (incoming c.window proposed) (sym untaken) (ap (λ n. take n ps) (sym untaken)) k late g o piece (λ ne. absurd (ne e)) choice
+        collects_kept up ps tk sn s (incoming c.window proposed) (sym untaken) (ap (λ n. take n ps) (sym untaken)) k late g o piece
+        (λ ne. absurd (ne e)) choice
     first_piece up Closed s untaken k late g o e piece choice proposed = absurd untaken
 
     -- an answer, where its choice and kind fit
-    answer_kept : (up : Up) (down : Down) → SoundOf W key w t up down → (p : reply) → WasPerformed w.number t.ask p w.log → (b : Bool) → IsKept (if b then Ends [] (Answered p) else Stays)
+    answer_kept : (up : Up) (down : Down) → SoundOf W key w t up down → (p : reply) → WasPerformed w.number t.ask p w.log → (b : Bool)
+        → IsKept (if b then Ends [] (Answered p) else Stays)
     answer_kept up down s p h true = ends up down s opened [] (Answered p) (may_answer p h) tt
     answer_kept up down s p h false = (up, down, s)
 
-    complex_kept : (up : Up) (down : Down) → SoundOf W key w t up down → (octets : Octets) → WasPerformed w.number t.ask (reply.Complex octets) w.log → (b : Bool) → IsKept (if b then client.answered_with readable key.id t.ask.choice [] octets else Stays)
+    complex_kept : (up : Up) (down : Down) → SoundOf W key w t up down → (octets : Octets) → WasPerformed w.number t.ask (reply.Complex octets) w.log
+        → (b : Bool) → IsKept (if b then client.answered_with readable key.id t.ask.choice [] octets else Stays)
     complex_kept up down s octets h true = answered_kept up down s t.ask.choice [] octets h (λ log. tt) (λ log. (λ j. early, tt))
     complex_kept up down s octets h false = (up, down, s)
 
-    first_kept : (up : Up) (down : Down) → SoundOf W key w t up down → IsUntaken down → (k : ℕ) → k ≤ V → (g : Segment) (choice : ℕ) (o : Octets) → IsPieceDown W down k g o → IsKept (client.gets_first c readable key.id t.ask g choice o)
-    first_kept up down s untaken k late g choice o piece = go (nat_eq choice t.ask.choice) (client.answers_with_data t.ask.choice) c.takes_segments (nat_eq g.number 0) refl
+    first_kept : (up : Up) (down : Down) → SoundOf W key w t up down → IsUntaken down → (k : ℕ) → k ≤ V → (g : Segment) (choice : ℕ) (o : Octets)
+        → IsPieceDown W down k g o → IsKept (client.gets_first c readable key.id t.ask g choice o)
+    first_kept up down s untaken k late g choice o piece = go (nat_eq choice t.ask.choice) (client.answers_with_data t.ask.choice) c.takes_segments
+        (nat_eq g.number 0) refl
       where
-        go : (x y z b : Bool) → nat_eq g.number 0 ≡ b → IsKept (if x && (y && (z && b)) then client.collects readable key.id t.ask.choice g.number (incoming c.window g.window).window (takes (incoming c.window g.window) g.number g.more o) else Stays)
+        go : (x y z b : Bool) → nat_eq g.number 0 ≡ b → IsKept
+            (if x && (y && (z && b)) then client.collects readable key.id t.ask.choice g.number (incoming c.window g.window).window
+            (takes (incoming c.window g.window) g.number g.more o) else Stays)
         go true true true true is = first_piece up down s untaken k late g o (grind (arith, nat_tests)) piece t.ask.choice g.window
         go true true true false is = (up, down, s)
         go true true false b is = (up, down, s)
         go true false z b is = (up, down, s)
         go false y z b is = (up, down, s)
 
-    awaiting_kept : (up : Up) (down : Down) → SoundOf W key w t up down → IsUntaken down → (m k : ℕ) → k ≤ V → (a : Apdu) → Says W w.number t.ask w.log up down m k a → IsKept (client.awaiting_gets c readable key.id t.ask a)
-    awaiting_kept up down s untaken m k late (SimpleAck id choice) says = answer_kept up down s reply.Simple says.1 (nat_eq choice t.ask.choice && client.answers_simply t.ask.choice)
-    awaiting_kept up down s untaken m k late (ComplexAck id None choice o) says = complex_kept up down s o says.1 (nat_eq choice t.ask.choice && client.answers_with_data t.ask.choice)
+    awaiting_kept : (up : Up) (down : Down) → SoundOf W key w t up down → IsUntaken down → (m k : ℕ) → k ≤ V → (a : Apdu)
+        → Says W w.number t.ask w.log up down m k a → IsKept (client.awaiting_gets c readable key.id t.ask a)
+    awaiting_kept up down s untaken m k late (SimpleAck id choice) says = answer_kept up down s reply.Simple says.1
+        (nat_eq choice t.ask.choice && client.answers_simply t.ask.choice)
+    awaiting_kept up down s untaken m k late (ComplexAck id None choice o) says = complex_kept up down s o says.1
+        (nat_eq choice t.ask.choice && client.answers_with_data t.ask.choice)
     awaiting_kept up down s untaken m k late (ComplexAck id (Some g) choice o) says = first_kept up down s untaken k late g choice o says.1
-    awaiting_kept up down s untaken m k late (Error id choice class code) says = answer_kept up down s (reply.Error class code) says.1 (nat_eq choice t.ask.choice)
+    awaiting_kept up down s untaken m k late (Error id choice class code) says = answer_kept up down s (reply.Error class code) says.1
+        (nat_eq choice t.ask.choice)
     awaiting_kept up down s untaken m k late (Reject id r) says = refused_kept up down s opened (Reject id r)
     awaiting_kept up down s untaken m k late (Abort true id r) says = refused_kept up down s opened (Abort true id r)
     awaiting_kept up down s untaken m k late _ says = (up, down, s)
 
-    sending_kept : (up : Up) (down : Down) → SoundOf W key w t up down → (out : Outgoing) (all_sent : Bool) → IsSendingFor W t.ask out up down → (m k : ℕ) → k ≤ V → (a : Apdu) → Says W w.number t.ask w.log up down m k a → IsKept (client.sending_gets c readable key.id t.ask out all_sent a)
-    sending_kept up down s out all_sent h m k late (SegmentAck nak true id number window) says = moves_kept up down s out all_sent h k number window late says.1
+    sending_kept : (up : Up) (down : Down) → SoundOf W key w t up down → (out : Outgoing) (all_sent : Bool) → IsSendingFor W t.ask out up down → (m k : ℕ)
+        → k ≤ V → (a : Apdu) → Says W w.number t.ask w.log up down m k a → IsKept (client.sending_gets c readable key.id t.ask out all_sent a)
+    sending_kept up down s out all_sent h m k late (SegmentAck nak true id number window) says =
+        moves_kept up down s out all_sent h k number window late says.1
     sending_kept up down s out true h m k late a says = awaiting_kept up down s h.untaken m k late a says
     sending_kept up down s out false h m k late a says = refused_kept up down s opened a
 
-    next_piece : (up : Up) (down : Down) → SoundOf W key w t up down → (inc : Incoming) → CollectsDown inc down → (k : ℕ) → k ≤ V → (g : Segment) (o : Octets) → IsPieceDown W down k g o → (choice : ℕ)
+    next_piece : (up : Up) (down : Down) → SoundOf W key w t up down → (inc : Incoming) → CollectsDown inc down → (k : ℕ) → k ≤ V
+        → (g : Segment) (o : Octets) → IsPieceDown W down k g o → (choice : ℕ)
         → IsKept (client.collects readable key.id choice g.number inc.window (takes inc g.number g.more o))
     next_piece up Unsent s inc h k late g o piece choice = absurd h
-    next_piece up (Sent ps tk sn) s inc h k late g o piece choice = collects_kept up ps tk sn s inc h.taken_is h.parts_are k late g o piece (λ ne. h.some) choice
+    next_piece up (Sent ps tk sn) s inc h k late g o piece choice = collects_kept up ps tk sn s inc h.taken_is h.parts_are k late g o piece
+        (λ ne. h.some) choice
     next_piece up Closed s inc h k late g o piece choice = absurd h
 
-    next_kept : (up : Up) (down : Down) → SoundOf W key w t up down → (inc : Incoming) → CollectsDown inc down → (k : ℕ) → k ≤ V → (g : Segment) (o : Octets) → IsPieceDown W down k g o → (b : Bool)
+    next_kept : (up : Up) (down : Down) → SoundOf W key w t up down → (inc : Incoming) → CollectsDown inc down → (k : ℕ) → k ≤ V
+        → (g : Segment) (o : Octets) → IsPieceDown W down k g o → (b : Bool)
         → IsKept (if b then client.collects readable key.id t.ask.choice g.number inc.window (takes inc g.number g.more o) else Stays)
     next_kept up down s inc h k late g o piece true = next_piece up down s inc h k late g o piece t.ask.choice
     next_kept up down s inc h k late g o piece false = (up, down, s)
 
-    collecting_kept : (up : Up) (down : Down) → SoundOf W key w t up down → (inc : Incoming) → CollectsDown inc down → (m k : ℕ) → k ≤ V → (a : Apdu) → Says W w.number t.ask w.log up down m k a → IsKept (client.collecting_gets readable key.id t.ask inc a)
+    collecting_kept : (up : Up) (down : Down) → SoundOf W key w t up down → (inc : Incoming) → CollectsDown inc down → (m k : ℕ) → k ≤ V → (a : Apdu)
+        → Says W w.number t.ask w.log up down m k a → IsKept (client.collecting_gets readable key.id t.ask inc a)
     collecting_kept up down s inc h m k late (ComplexAck id (Some g) choice o) says = next_kept up down s inc h k late g o says.1 (nat_eq choice t.ask.choice)
     collecting_kept up down s inc h m k late a says = refused_kept up down s opened a
 
-    open_gets_kept : (up : Up) (down : Down) → SoundOf W key w t up down → (phase : Phase) → ClientFits W t.ask phase up down → (m k : ℕ) → k ≤ V → (a : Apdu) → Says W w.number t.ask w.log up down m k a → IsKept (client.open_gets c readable key.id t.ask phase a)
+    open_gets_kept : (up : Up) (down : Down) → SoundOf W key w t up down → (phase : Phase) → ClientFits W t.ask phase up down → (m k : ℕ) → k ≤ V
+        → (a : Apdu) → Says W w.number t.ask w.log up down m k a → IsKept (client.open_gets c readable key.id t.ask phase a)
     open_gets_kept up down s (Sending out all_sent) h m k late a says = sending_kept up down s out all_sent h m k late a says
     open_gets_kept up down s Awaiting h m k late a says = awaiting_kept up down s h.1 m k late a says
     open_gets_kept up down s (Collecting inc) h m k late a says = collecting_kept up down s inc h m k late a says
@@ -423,9 +508,11 @@ module _ (W V : ℕ) (some : 0 < W) (room : V + 2 * W ≤ 255) (c : Settings) (o
 
         go : (b : Bool) → IsKept (if b then Ends [] TimedOut else Repeats t.phase (client.request_apdu c key.id t.ask ∷ []))
         go true = ends up down s opened [] TimedOut (was_asked up down s) tt
-        go false = goes_same up down s opened t.phase (t.repeats - 1) w.now (client.request_apdu c key.id t.ask ∷ []) s.client (passes up) (λ k. (early, whole, refl, refl), tt)
+        go false = goes_same up down s opened t.phase (t.repeats - 1) w.now (client.request_apdu c key.id t.ask ∷ []) s.client (passes up)
+            (λ k. (early, whole, refl, refl), tt)
 
-    repeats_pieces_kept : (up : Up) (down : Down) → SoundOf W key w t up down → IsReadIfPieces t.ask up → IsUntaken down → t.ask.whole ≡ false → IsKept (client.repeats_pieces c key.id t)
+    repeats_pieces_kept : (up : Up) (down : Down) → SoundOf W key w t up down → IsReadIfPieces t.ask up → IsUntaken down → t.ask.whole ≡ false
+        → IsKept (client.repeats_pieces c key.id t)
     repeats_pieces_kept up down s read untaken whole = go (nat_eq t.repeats 0)
       where
         restarts : (up : Up) → IsReadIfPieces t.ask up → SendsUp W (outgoing t.ask.pieces) up
@@ -436,12 +523,14 @@ module _ (W V : ℕ) (some : 0 < W) (room : V + 2 * W ≤ 255) (c : Settings) (o
         passes (Reading tk sn) h = inl h
         passes Read h = tt
 
-        go : (b : Bool) → IsKept (if b then Ends [] TimedOut else Repeats (Sending (outgoing t.ask.pieces) true) (client.request_window c key.id t.ask.choice (outgoing t.ask.pieces)))
+        go : (b : Bool) → IsKept (if b then Ends [] TimedOut else Repeats (Sending (outgoing t.ask.pieces) true)
+            (client.request_window c key.id t.ask.choice (outgoing t.ask.pieces)))
         go true = ends up down s opened [] TimedOut (was_asked up down s) tt
         go false = window_goes up down s (t.repeats - 1) (passes up read) (outgoing t.ask.pieces) true
             (record { in_pieces = whole; pieces = refl; window = omega arith; sends = restarts up read; untaken = untaken })
 
-    repeats_kept : (up : Up) (down : Down) → SoundOf W key w t up down → IsReadIfPieces t.ask up → IsUntaken down → (b : Bool) → t.ask.whole ≡ b → IsKept (if b then client.repeats_whole c key.id t else client.repeats_pieces c key.id t)
+    repeats_kept : (up : Up) (down : Down) → SoundOf W key w t up down → IsReadIfPieces t.ask up → IsUntaken down → (b : Bool) → t.ask.whole ≡ b
+        → IsKept (if b then client.repeats_whole c key.id t else client.repeats_pieces c key.id t)
     repeats_kept up down s read untaken true whole = repeats_whole_kept up down s whole
     repeats_kept up down s read untaken false whole = repeats_pieces_kept up down s read untaken whole
 
@@ -449,7 +538,8 @@ module _ (W V : ℕ) (some : 0 < W) (room : V + 2 * W ≤ 255) (c : Settings) (o
     again_up out n (Reading tk sn) h = record { behind = h.behind; near = h.near }
     again_up out n Read h = tt
 
-    sends_again_kept : (up : Up) (down : Down) → SoundOf W key w t up down → (out : Outgoing) (all_sent : Bool) → IsSendingFor W t.ask out up down → IsKept (client.sends_again c key.id t.ask.choice all_sent (again out))
+    sends_again_kept : (up : Up) (down : Down) → SoundOf W key w t up down → (out : Outgoing) (all_sent : Bool) → IsSendingFor W t.ask out up down
+        → IsKept (client.sends_again c key.id t.ask.choice all_sent (again out))
     sends_again_kept up down s out all_sent h = go (nat_eq out.retries 0)
       where
         go : (b : Bool) → IsKept (client.sends_again c key.id t.ask.choice all_sent (if b then None else Some (record out { retries = out.retries - 1 })))
@@ -457,7 +547,8 @@ module _ (W V : ℕ) (some : 0 < W) (room : V + 2 * W ≤ 255) (c : Settings) (o
         go false = window_kept up down s (record out { retries = out.retries - 1 }) all_sent
             (record { in_pieces = h.in_pieces; pieces = h.pieces; window = h.window; sends = again_up out (out.retries - 1) up h.sends; untaken = h.untaken })
 
-    open_ticks_kept : (up : Up) (down : Down) → SoundOf W key w t up down → (phase : Phase) → ClientFits W t.ask phase up down → IsKept (client.open_ticks c key.id w.now t phase)
+    open_ticks_kept : (up : Up) (down : Down) → SoundOf W key w t up down → (phase : Phase) → ClientFits W t.ask phase up down
+        → IsKept (client.open_ticks c key.id w.now t phase)
     open_ticks_kept up down s (Sending out all_sent) h = by_due (nat_le T_SEG (w.now - t.since))
       where
         by_due : (b : Bool) → IsKept (if b then client.sends_again c key.id t.ask.choice all_sent (again out) else Stays)
@@ -480,14 +571,17 @@ module _ (W V : ℕ) (some : 0 < W) (room : V + 2 * W ≤ 255) (c : Settings) (o
     open_ticks_kept up down s Over h = (up, down, s)
 
   -- Any copy of the transaction that arrives.
-  pub client_gets_kept : (up : Up) (down : Down) → SoundOf W key w t up down → (m k : ℕ) → k ≤ V → (a : Apdu) → Says W w.number t.ask w.log up down m k a → IsKept (client.client_gets c readable key.id w.now t a)
+  pub client_gets_kept : (up : Up) (down : Down) → SoundOf W key w t up down → (m k : ℕ) → k ≤ V → (a : Apdu) → Says W w.number t.ask w.log up down m k a
+      → IsKept (client.client_gets c readable key.id w.now t a)
   client_gets_kept up down s m k late a says = by_phase (client.is_over t.phase) refl (not (is_from_server a))
     where
-      by_time : IsUnended w.number w.log → (b : Bool) → client.is_expired w.now t.ask ≡ b → IsKept (if b then Ends [] Expired else client.open_gets c readable key.id t.ask t.phase a)
+      by_time : IsUnended w.number w.log → (b : Bool) → client.is_expired w.now t.ask ≡ b
+          → IsKept (if b then Ends [] Expired else client.open_gets c readable key.id t.ask t.phase a)
       by_time opened true is = ends up down s opened [] Expired (was_asked up down s) tt
       by_time opened false is = open_gets_kept opened (grind (arith, nat_tests)) up down s t.phase s.client m k late a says
 
-      by_phase : (b : Bool) → client.is_over t.phase ≡ b → (d : Bool) → IsKept (if b || d then Stays else if client.is_expired w.now t.ask then Ends [] Expired else client.open_gets c readable key.id t.ask t.phase a)
+      by_phase : (b : Bool) → client.is_over t.phase ≡ b → (d : Bool)
+          → IsKept (if b || d then Stays else if client.is_expired w.now t.ask then Ends [] Expired else client.open_gets c readable key.id t.ask t.phase a)
       by_phase true is d = (up, down, s)
       by_phase false is true = (up, down, s)
       by_phase false is false = by_time (is_open t.phase w.number w.log is s.unended) (client.is_expired w.now t.ask) refl
@@ -495,10 +589,12 @@ module _ (W V : ℕ) (some : 0 < W) (room : V + 2 * W ≤ 255) (c : Settings) (o
   pub client_ticks_kept : (up : Up) (down : Down) → SoundOf W key w t up down → IsKept (client.client_ticks c key.id w.now t)
   client_ticks_kept up down s = by_phase (client.is_over t.phase) refl
     where
-      by_time : IsUnended w.number w.log → (b : Bool) → client.is_expired w.now t.ask ≡ b → IsKept (if b then Ends [] Expired else client.open_ticks c key.id w.now t t.phase)
+      by_time : IsUnended w.number w.log → (b : Bool) → client.is_expired w.now t.ask ≡ b
+          → IsKept (if b then Ends [] Expired else client.open_ticks c key.id w.now t t.phase)
       by_time opened true is = ends up down s opened [] Expired (was_asked up down s) tt
       by_time opened false is = open_ticks_kept opened (grind (arith, nat_tests)) up down s t.phase s.client
 
-      by_phase : (b : Bool) → client.is_over t.phase ≡ b → IsKept (if b then Stays else if client.is_expired w.now t.ask then Ends [] Expired else client.open_ticks c key.id w.now t t.phase)
+      by_phase : (b : Bool) → client.is_over t.phase ≡ b
+          → IsKept (if b then Stays else if client.is_expired w.now t.ask then Ends [] Expired else client.open_ticks c key.id w.now t t.phase)
       by_phase true is = (up, down, s)
       by_phase false is = by_time (is_open t.phase w.number w.log is s.unended) (client.is_expired w.now t.ask) refl

@@ -1,9 +1,10 @@
 -- What the log says, and how copies go on as others are sent.
-use Rattle.std.proofs.Common.{◌≡◌, ℕ, zero, suc, ◌+◌, ◌<◌, ◌≤◌, true, false, List, [], ◌∷◌, length, Some, None, slice_get, refl, ap, subst, inl, inr, arith, zero-add, suc-add, add-suc}
+use Rattle.std.proofs.Common.{◌≡◌, ℕ, zero, suc, ◌+◌, ◌<◌, ◌≤◌, true, false, List, [], ◌∷◌, length, Some, None, slice_get, refl, ap, subst, inl, inr}
+use Rattle.std.proofs.Common.{arith, zero-add, suc-add, add-suc}
 use Rattle.bac_apdu.specs.Apdu.{Apdu, Segment}
 use Rattle.bac_apdu.specs.Apdu.Apdu.{ConfirmedRequest, UnconfirmedRequest, SimpleAck, ComplexAck, SegmentAck, Error, Reject, Abort}
 use Rattle.bac_protocol.specs.Service.{Octets, Reply as reply}
-use Rattle.bac_protocol.specs.Wire.{pieces_from}
+use Rattle.bac_protocol.specs.Wire.{pieces_from, Each}
 use Rattle.bac_protocol.specs.Client.{Ask, request_of}
 use Rattle.bac_protocol.specs.Log.{Fact, Has, IsUnperformed, IsUnended}
 use Rattle.bac_protocol.specs.Log.Fact.{Asked, Performed, Ended}
@@ -38,21 +39,18 @@ below_has n f (g ∷ log) h (inr k) = below_has n f log h.1 k
 
 -- The copies.
 
-abbrev pub AllSends : (Apdu → Type 0) → List Apdu → Type 0
-AllSends Q [] = Unit {0}
-AllSends Q (a ∷ more) = Q a × AllSends Q more
-
-pub all_map : (Q R : Apdu → Type 0) → ((a : Apdu) → Q a → R a) → (sends : List Apdu) → AllSends Q sends → AllSends R sends
+pub all_map : (Q R : Apdu → Type 0) → ((a : Apdu) → Q a → R a) → (sends : List Apdu) → Each Q sends → Each R sends
 all_map Q R f [] h = tt
 all_map Q R f (a ∷ more) h = (f a h.0, all_map Q R f more h.1)
 
 -- one copy more, in front of those that were
-each_cons : (P : ℕ → Copy → Type 0) (n : ℕ) (c : Copy) (cs : List Copy) → ((k : ℕ) → P k c) → ((k : ℕ) (d : Copy) → slice_get cs k ≡ Some d → P (suc n + k) d) → (k : ℕ) (d : Copy) → slice_get (c ∷ cs) k ≡ Some d → P (n + k) d
+each_cons : (P : ℕ → Copy → Type 0) (n : ℕ) (c : Copy) (cs : List Copy) → ((k : ℕ) → P k c)
+    → ((k : ℕ) (d : Copy) → slice_get cs k ≡ Some d → P (suc n + k) d) → (k : ℕ) (d : Copy) → slice_get (c ∷ cs) k ≡ Some d → P (n + k) d
 each_cons P n c cs here there zero d e = subst (λ (x : Copy). P (n + 0) x) (cc) (here (n + 0))
 each_cons P n c cs here there (suc k) d e = rw (add-suc, ← suc-add) (there k d e)
 
 pub each_sent : (P : ℕ → Copy → Type 0) (now : ℕ) (sends : List Apdu) (copies : List Copy)
-    → AllSends (λ a. (k : ℕ) → P k (record { moment = now; apdu = a })) sends
+    → Each (λ a. (k : ℕ) → P k (record { moment = now; apdu = a })) sends
     → ((k : ℕ) (c : Copy) → slice_get copies k ≡ Some c → P (length sends + k) c)
     → EachCopy P (sent now sends copies)
 each_sent P now [] copies h old = λ k c e. rw zero-add at (old k c e)
@@ -101,12 +99,21 @@ down_closed d (Sent ps t s) = tt
 down_closed d Closed = tt
 
 piece_goes : (W d s r k : ℕ) (ps : List Octets) (g : Segment) (o : Octets) → s ≤ r → r ≤ s + d → IsPiece W ps s k g o → IsPiece W ps r (d + k) g o
-piece_goes W d s r k ps g o le far h = record { piece = h.piece; number_is = h.number_is; more_is = h.more_is; octets_is = h.octets_is; below = omega (arith, h.below); near = omega (arith, h.near) }
+piece_goes W d s r k ps g o le far h = record {
+  piece = h.piece;
+  number_is = h.number_is;
+  more_is = h.more_is;
+  octets_is = h.octets_is;
+  below = omega
+      (arith, h.below);
+  near = omega (arith, h.near);
+}
 
 ack_goes : (W d t u s r k n : ℕ) → t ≤ u → r ≤ s + d → IsAck W t s k n → IsAck W u r (d + k) n
 ack_goes W d t u s r k n le far h = record { piece = h.piece; number_is = h.number_is; below = omega (arith, h.below); near = omega (arith, h.near) }
 
-piece_up_goes : (W d k : ℕ) (ask : Ask) (up up' : Up) (g : Segment) (o : Octets) → UpGoes d up up' → IsPieceUp W ask up k g o → IsPieceUp W ask up' (d + k) g o
+piece_up_goes : (W d k : ℕ) (ask : Ask) (up up' : Up) (g : Segment) (o : Octets) → UpGoes d up up' → IsPieceUp W ask up k g o
+    → IsPieceUp W ask up' (d + k) g o
 piece_up_goes W d k ask (Reading t s) (Reading u r) g o go h = piece_goes W d s r k ask.pieces g o go.1 go.2 h
 piece_up_goes W d k ask (Reading t s) Read g o go h = tt
 piece_up_goes W d k ask Read (Reading u r) g o go h = absurd go
@@ -118,10 +125,12 @@ ack_up_goes W d k n (Reading t s) Read g h = tt
 ack_up_goes W d k n Read (Reading u r) g h = absurd g
 ack_up_goes W d k n Read Read g h = tt
 
-piece_down_goes : (W d k : ℕ) (down down' : Down) (g : Segment) (o : Octets) → DownGoes d down down' → IsPieceDown W down k g o → IsPieceDown W down' (d + k) g o
+piece_down_goes : (W d k : ℕ) (down down' : Down) (g : Segment) (o : Octets) → DownGoes d down down' → IsPieceDown W down k g o
+    → IsPieceDown W down' (d + k) g o
 piece_down_goes W d k Unsent down' g o go h = absurd h
 piece_down_goes W d k (Sent ps t s) Unsent g o go h = absurd go
-piece_down_goes W d k (Sent ps t s) (Sent qs u r) g o go h = subst (λ (xs : List Octets). IsPiece W xs r (d + k) g o) go.0 (piece_goes W d s r k ps g o go.2 go.3 h)
+piece_down_goes W d k (Sent ps t s) (Sent qs u r) g o go h = subst (λ (xs : List Octets). IsPiece W xs r (d + k) g o) go.0
+    (piece_goes W d s r k ps g o go.2 go.3 h)
 piece_down_goes W d k (Sent ps t s) Closed g o go h = tt
 piece_down_goes W d k Closed Unsent g o go h = absurd go
 piece_down_goes W d k Closed (Sent qs u r) g o go h = absurd go
@@ -146,32 +155,39 @@ grows_same log f h = h
 pub grows_more : (g : Fact) (log : List Fact) → Grows log (g ∷ log)
 grows_more g log f h = inr h
 
-pub says_goes : (W d m k number : ℕ) (ask : Ask) (log log' : List Fact) (up up' : Up) (down down' : Down) → Grows log log' → UpGoes d up up' → DownGoes d down down' → (a : Apdu) → Says W number ask log up down m k a → Says W number ask log' up' down' m (d + k) a
+pub says_goes : (W d m k number : ℕ) (ask : Ask) (log log' : List Fact) (up up' : Up) (down down' : Down) → Grows log log' → UpGoes d up up'
+    → DownGoes d down down' → (a : Apdu) → Says W number ask log up down m k a → Says W number ask log' up' down' m (d + k) a
 says_goes W d m k number ask log log' up up' down down' grows gu gd (ConfirmedRequest sa ms ma id None choice o) h = h
-says_goes W d m k number ask log log' up up' down down' grows gu gd (ConfirmedRequest sa ms ma id (Some g) choice o) h = (h.0, h.1, h.2, piece_up_goes W d k ask up up' g o gu h.3)
+says_goes W d m k number ask log log' up up' down down' grows gu gd (ConfirmedRequest sa ms ma id (Some g) choice o) h =
+    (h.0, h.1, h.2, piece_up_goes W d k ask up up' g o gu h.3)
 says_goes W d m k number ask log log' up up' down down' grows gu gd (UnconfirmedRequest choice o) h = h
-says_goes W d m k number ask log log' up up' down down' grows gu gd (SimpleAck id choice) h = (h.0, grows (Performed number (request_of ask) reply.Simple) h.1)
-says_goes W d m k number ask log log' up up' down down' grows gu gd (ComplexAck id None choice o) h = (h.0, grows (Performed number (request_of ask) (reply.Complex o)) h.1)
+says_goes W d m k number ask log log' up up' down down' grows gu gd (SimpleAck id choice) h =
+    (h.0, grows (Performed number (request_of ask) reply.Simple) h.1)
+says_goes W d m k number ask log log' up up' down down' grows gu gd (ComplexAck id None choice o) h =
+    (h.0, grows (Performed number (request_of ask) (reply.Complex o)) h.1)
 says_goes W d m k number ask log log' up up' down down' grows gu gd (ComplexAck id (Some g) choice o) h = (h.0, piece_down_goes W d k down down' g o gd h.1)
 says_goes W d m k number ask log log' up up' down down' grows gu gd (SegmentAck nak true id n win) h = (h.0, ack_up_goes W d k n up up' gu h.1)
 says_goes W d m k number ask log log' up up' down down' grows gu gd (SegmentAck nak false id n win) h = (h.0, ack_down_goes W d k n down down' gd h.1)
-says_goes W d m k number ask log log' up up' down down' grows gu gd (Error id choice class code) h = (h.0, grows (Performed number (request_of ask) (reply.Error class code)) h.1)
+says_goes W d m k number ask log log' up up' down down' grows gu gd (Error id choice class code) h =
+    (h.0, grows (Performed number (request_of ask) (reply.Error class code)) h.1)
 says_goes W d m k number ask log log' up up' down down' grows gu gd (Reject id r) h = h
 says_goes W d m k number ask log log' up up' down down' grows gu gd (Abort true id r) h = h
 says_goes W d m k number ask log log' up up' down down' grows gu gd (Abort false id r) h = h
 
 pub copies_go : (W now number : ℕ) (ask : Ask) (log log' : List Fact) (up up' : Up) (down down' : Down) (sends : List Apdu) (copies : List Copy)
     → Grows log log' → UpGoes (length sends) up up' → DownGoes (length sends) down down' → ask.first ≤ now
-    → AllSends (λ a. (k : ℕ) → Says W number ask log' up' down' now k a) sends
+    → Each (λ a. (k : ℕ) → Says W number ask log' up' down' now k a) sends
     → EachCopy (λ k c. Fits W now number ask log up down k c) copies
     → EachCopy (λ k c. Fits W now number ask log' up' down' k c) (sent now sends copies)
 copies_go W now number ask log log' up up' down down' sends copies grows gu gd clock says old =
     each_sent (λ k c. Fits W now number ask log' up' down' k c) now sends copies
-    (all_map (λ a. (k : ℕ) → Says W number ask log' up' down' now k a) (λ a. (k : ℕ) → Fits W now number ask log' up' down' k (record { moment = now; apdu = a })) (λ a f k young. (clock, f k)) sends says)
+    (all_map (λ a. (k : ℕ) → Says W number ask log' up' down' now k a)
+    (λ a. (k : ℕ) → Fits W now number ask log' up' down' k (record { moment = now; apdu = a })) (λ a f k young. (clock, f k)) sends says)
     (λ k c e young. let h = old k c e young in (h.0, says_goes W (length sends) c.moment k number ask log log' up up' down down' grows gu gd c.apdu h.1))
 
 -- all copies of an ask are sent in time
-pub says_time : (W m k number : ℕ) (ask : Ask) (log : List Fact) (up : Up) (down : Down) (a : Apdu) → Says W number ask log up down m k a → m ≤ server_until ask
+pub says_time : (W m k number : ℕ) (ask : Ask) (log : List Fact) (up : Up) (down : Down) (a : Apdu) → Says W number ask log up down m k a
+    → m ≤ server_until ask
 says_time W m k number ask log up down (ConfirmedRequest sa ms ma id None choice o) h = omega (arith, h.0)
 says_time W m k number ask log up down (ConfirmedRequest sa ms ma id (Some g) choice o) h = omega (arith, h.0)
 says_time W m k number ask log up down (UnconfirmedRequest choice o) h = absurd h
@@ -187,7 +203,8 @@ says_time W m k number ask log up down (Abort false id r) h = omega (arith, h)
 
 -- Pieces.
 
-pub pieces_all : (Q : Apdu → Type 0) (piece : ℕ → Apdu) (a count : ℕ) → ((p : ℕ) → a ≤ p → p < a + count → Q (piece p)) → AllSends Q (pieces_from piece a count)
+pub pieces_all : (Q : Apdu → Type 0) (piece : ℕ → Apdu) (a count : ℕ) → ((p : ℕ) → a ≤ p → p < a + count → Q (piece p))
+    → Each Q (pieces_from piece a count)
 pieces_all Q piece a zero h = tt
 pieces_all Q piece a (suc count) h = (h a (omega arith) (omega arith), pieces_all Q piece (a + 1) count (λ p lo hi. h p (omega arith) (omega arith)))
 

@@ -1,5 +1,6 @@
 -- After every run the log is right with the stores.
-use Rattle.std.proofs.Common.{◌≡◌, ℕ, ◌-◌, ◌<◌, ◌≤◌, Bool, true, false, ◌&&◌, List, [], ◌∷◌, ◌++◌, Option, Some, None, slice_get, if◌then◌else◌, nat_le, refl, sym, ap, subst, inl, inr, arith}
+use Rattle.std.proofs.Common.{◌≡◌, ℕ, ◌-◌, ◌<◌, ◌≤◌, Bool, true, false, ◌&&◌, List, [], ◌∷◌, ◌++◌, Option, Some, None, slice_get, if◌then◌else◌}
+use Rattle.std.proofs.Common.{nat_le, refl, sym, ap, subst, inl, inr, arith}
 use Rattle.std.proofs.lemmas.Bool.Decides.{nat_tests}
 use Rattle.bac_protocol.specs.Times.{LIFE}
 use Rattle.bac_protocol.specs.Service.{Octets, Request, Ending}
@@ -11,7 +12,9 @@ use Rattle.bac_protocol.specs.Server.{Entry, Effect}
 use Rattle.bac_protocol.specs.Log.{Fact, Has, asks_in, Shop, IsOnce}
 use Rattle.bac_protocol.specs.Log.Fact.{Asked, Performed, Ended}
 use Rattle.bac_protocol.specs.Transaction.{Key, Rules, Copy, ended}
-use Rattle.bac_protocol.specs.World.{Net, World, Post, Event, one, later, client_acts, server_acts, asked_at, is_key_held, service_of, reacts, serves, ask_made, takes_at_client, takes_at_server, arrives, delivered, ticks_ticket, ticks_as_client, ticks_as_server, stored, happens, run, start}
+use Rattle.bac_protocol.specs.World.{Net, World, Post, Event, one, later, client_acts, server_acts, asked_at, is_key_held, service_of, reacts}
+use Rattle.bac_protocol.specs.World.{serves, ask_made, takes_at_client, takes_at_server, arrives, delivered, ticks_ticket, ticks_as_client}
+use Rattle.bac_protocol.specs.World.{ticks_as_server, stored, happens, run, start}
 use Rattle.bac_protocol.specs.World.Event.{MakeAsk, Deliver, Tick, Noise, Advance}
 use Rattle.bac_protocol.specs.Claims.{IsBounded}
 use Rattle.bac_protocol.proofs.Sound.{IsOrderly}
@@ -36,8 +39,10 @@ has_below n c s r (Ended m how ∷ log) o (inr h) = has_below n c s r log o.2 h
 asked_once : (n c s d u : ℕ) (q r : Request) (log : List Fact) → IsOrderly log → Has (Asked n c s q) log → Has (Asked n d u r) log → q ≡ r
 asked_once n c s d u q r [] o h k = absurd h
 asked_once n c s d u q r (Asked m a b x ∷ log) o (inl e) (inl f) = cc
-asked_once n c s d u q r (Asked m a b x ∷ log) o (inl e) (inr k) = let same : m ≡ n = cc in let is = o.0 in let lt = has_below n d u r log o.1 k in absurd (omega arith)
-asked_once n c s d u q r (Asked m a b x ∷ log) o (inr h) (inl f) = let same : m ≡ n = cc in let is = o.0 in let lt = has_below n c s q log o.1 h in absurd (omega arith)
+asked_once n c s d u q r (Asked m a b x ∷ log) o (inl e) (inr k) = let same : m ≡ n = cc in let is = o.0 in let lt = has_below n d u r log o.1 k in absurd
+    (omega arith)
+asked_once n c s d u q r (Asked m a b x ∷ log) o (inr h) (inl f) = let same : m ≡ n = cc in let is = o.0 in let lt = has_below n c s q log o.1 h in absurd
+    (omega arith)
 asked_once n c s d u q r (Asked m a b x ∷ log) o (inr h) (inr k) = asked_once n c s d u q r log o.1 h k
 asked_once n c s d u q r (Performed m x p ∷ log) o (inl e) k = absurd cc
 asked_once n c s d u q r (Performed m x p ∷ log) o (inr h) (inl f) = absurd cc
@@ -66,25 +71,35 @@ module _ (S : Type 0) (shop : Shop S) (opening : ℕ → S) (W : ℕ) (x : Rules
       go (Some how) h = (w.stores, (h.0, h.1, λ node. refl), s.once)
 
   -- a request was performed
-  effect_once : (w : World S) → Kept w → (key : Key) (t : Ticket) → w.net.tickets key ≡ Some t → (e : Effect) → IsServed (service_of S shop w key) (Some e) → IsOrderly (Performed (w.net.numbers key) e.request e.reply ∷ w.net.log)
+  effect_once : (w : World S) → Kept w → (key : Key) (t : Ticket) → w.net.tickets key ≡ Some t → (e : Effect) → IsServed (service_of S shop w key) (Some e)
+      → IsOrderly (Performed (w.net.numbers key) e.request e.reply ∷ w.net.log)
       → IsOnce S shop opening (Performed (w.net.numbers key) e.request e.reply ∷ w.net.log) (stored S shop key.server (Some e) w.stores)
   effect_once w s key t at e is right =
       let own = (sound_at W w.net key (Some t) at s.net).2 in
       let n = w.net.numbers key in
-      let same : request_of t.ask ≡ e.request = asked_once n key.client key.server right.0.0 right.0.1 (request_of t.ask) e.request w.net.log right.2 own.asked right.0.2 in
+      let same : request_of t.ask ≡ e.request = asked_once n key.client key.server right.0.0 right.0.1
+      (request_of t.ask) e.request w.net.log right.2 own.asked right.0.2 in
       (w.stores, (key.client, key.server, subst (λ r. Has (Asked n key.client key.server r) w.net.log) same own.asked, right.1, is, λ node. refl), s.once)
 
-  serves_kept : (w : World S) → Kept w → (key : Key) (t : Ticket) → w.net.tickets key ≡ Some t → (v : server.Reaction) → IsServed (service_of S shop w key) v.effect → NetSound W (server_acts w.net key v) → Kept (serves S shop w key v)
+  serves_kept : (w : World S) → Kept w → (key : Key) (t : Ticket) → w.net.tickets key ≡ Some t → (v : server.Reaction)
+      → IsServed (service_of S shop w key) v.effect → NetSound W (server_acts w.net key v) → Kept (serves S shop w key v)
   serves_kept w s key t at v is sound = go v.effect is sound
     where
-      go : (o : Option Effect) → IsServed (service_of S shop w key) o → NetSound W (server_acts w.net key (record v { effect = o })) → Kept (serves S shop w key (record v { effect = o }))
+      go : (o : Option Effect) → IsServed (service_of S shop w key) o → NetSound W (server_acts w.net key (record v { effect = o }))
+          → Kept (serves S shop w key (record v { effect = o }))
       go None is sound = record { net = sound; once = s.once }
-      go (Some e) is sound = record { net = sound; once = effect_once w s key t at e is (net_log W (server_acts w.net key (record v { effect = Some e })) sound).orderly }
+      go (Some e) is sound = record {
+        net = sound;
+        once = effect_once w s key t at e is
+            (net_log W (server_acts w.net key (record v { effect = Some e })) sound).orderly;
+      }
 
-  asks_kept : (w : World S) → Kept w → (key : Key) (choice : ℕ) (whole : Bool) (front : Octets) (rest : List Octets) (b : Bool) → is_key_held w.net.now (w.net.tickets key) ≡ b
+  asks_kept : (w : World S) → Kept w → (key : Key) (choice : ℕ) (whole : Bool) (front : Octets) (rest : List Octets) (b : Bool)
+      → is_key_held w.net.now (w.net.tickets key) ≡ b
       → Kept (if b then w else ask_made S x w key (record { first = w.net.now; choice = choice; whole = whole; pieces = front ∷ rest }))
   asks_kept w s key choice whole front rest true e = s
-  asks_kept w s key choice whole front rest false e = record { net = sound; once = (w.stores, ((net_log W (asked_at x w.net key ask) sound).orderly.0, λ node. refl), s.once) }
+  asks_kept w s key choice whole front rest false e =
+      record { net = sound; once = (w.stores, ((net_log W (asked_at x w.net key ask) sound).orderly.0, λ node. refl), s.once) }
     where
       ask : Ask
       ask = record { first = w.net.now; choice = choice; whole = whole; pieces = front ∷ rest }
@@ -97,32 +112,42 @@ module _ (S : Type 0) (shop : Shop S) (opening : ℕ → S) (W : ℕ) (x : Rules
     k : ℕ
     k = later p.key number w.net.posts
 
-    arrives_kept : (o : Option Ticket) → w.net.tickets p.key ≡ o → w.net.now - p.copy.moment ≤ LIFE → later p.key number w.net.posts ≤ x.overtake → (free up : Bool) → Kept (if up then takes_at_server S shop x w p.key free p.copy.apdu else takes_at_client S x w p.key p.copy.apdu o)
+    arrives_kept : (o : Option Ticket) → w.net.tickets p.key ≡ o → w.net.now - p.copy.moment ≤ LIFE → later p.key number w.net.posts ≤ x.overtake
+        → (free up : Bool) → Kept (if up then takes_at_server S shop x w p.key free p.copy.apdu else takes_at_client S x w p.key p.copy.apdu o)
     arrives_kept None at young few free up =
-        absurd (none_there (later p.key number w.net.posts) p.copy (subst (λ (cs : List Copy). slice_get cs (later p.key number w.net.posts) ≡ Some p.copy) (sound_at W w.net p.key None at s.net).no_copies (copy_at number w.net.posts p at_number)))
+        absurd (none_there (later p.key number w.net.posts) p.copy
+        (subst (λ (cs : List Copy). slice_get cs (later p.key number w.net.posts) ≡ Some p.copy) (sound_at W w.net p.key None at s.net).no_copies
+        (copy_at number w.net.posts p at_number)))
     arrives_kept (Some t) at young few free true =
         let f = sound_at W w.net p.key (Some t) at s.net in
         let says = ((f.2).arriving (later p.key number w.net.posts) p.copy (copy_at number w.net.posts p at_number) young).1 in
         let v = server.server_gets (x.settings p.key.server) p.key.id w.net.now (service_of S shop w p.key) (w.net.entries p.key) free p.copy.apdu in
-        serves_kept w s p.key t at v (gets_served (x.settings p.key.server) p.key.id w.net.now (service_of S shop w p.key) (w.net.entries p.key) free p.copy.apdu)
+        serves_kept w s p.key t at v (gets_served (x.settings p.key.server) p.key.id w.net.now (service_of S shop w p.key)
+        (w.net.entries p.key) free p.copy.apdu)
         (net_server W w.net p.key t at s.net v
-        (server_gets_kept W x.overtake bound.some bound.room (x.settings p.key.server) (bound.windows p.key.server) (service_of S shop w p.key) p.key (one w.net p.key) t (w.net.entries p.key) f.0 f.1 f.2 free p.copy.moment (later p.key number w.net.posts) few young p.copy.apdu says))
+        (server_gets_kept W x.overtake bound.some bound.room (x.settings p.key.server) (bound.windows p.key.server) (service_of S shop w p.key) p.key
+        (one w.net p.key) t (w.net.entries p.key) f.0 f.1 f.2 free p.copy.moment (later p.key number w.net.posts) few young p.copy.apdu says))
     arrives_kept (Some t) at young few free false =
         let f = sound_at W w.net p.key (Some t) at s.net in
         let says = ((f.2).arriving (later p.key number w.net.posts) p.copy (copy_at number w.net.posts p at_number) young).1 in
         let r = client.client_gets (x.settings p.key.client) x.readable p.key.id w.net.now t p.copy.apdu in
         reacts_kept w s p.key t r
         (net_client W w.net p.key t at s.net r
-        (client_gets_kept W x.overtake bound.some bound.room (x.settings p.key.client) (bound.windows p.key.client) x.readable p.key (one w.net p.key) t f.0 f.1 f.2 p.copy.moment (later p.key number w.net.posts) few p.copy.apdu says))
+        (client_gets_kept W x.overtake bound.some bound.room (x.settings p.key.client) (bound.windows p.key.client) x.readable p.key
+        (one w.net p.key) t f.0 f.1 f.2 p.copy.moment (later p.key number w.net.posts) few p.copy.apdu says))
 
-    by_test : (free a b : Bool) → nat_le (w.net.now - p.copy.moment) LIFE ≡ a → nat_le (later p.key number w.net.posts) x.overtake ≡ b → Kept (if a && b then arrives S shop x w p.key free p.copy.apdu else w)
-    by_test free true true young few = arrives_kept (w.net.tickets p.key) refl (grind (arith, nat_tests)) (grind (arith, nat_tests)) free (is_from_client p.copy.apdu)
+    by_test : (free a b : Bool) → nat_le (w.net.now - p.copy.moment) LIFE ≡ a → nat_le (later p.key number w.net.posts) x.overtake ≡ b
+        → Kept (if a && b then arrives S shop x w p.key free p.copy.apdu else w)
+    by_test free true true young few = arrives_kept (w.net.tickets p.key) refl (grind (arith, nat_tests)) (grind (arith, nat_tests)) free
+        (is_from_client p.copy.apdu)
     by_test free true false young few = s
     by_test free false b young few = s
 
-  delivered_kept : (w : World S) → Kept w → (number : ℕ) (free : Bool) (o : Option Post) → slice_get w.net.posts number ≡ o → Kept (delivered S shop x w number free o)
+  delivered_kept : (w : World S) → Kept w → (number : ℕ) (free : Bool) (o : Option Post) → slice_get w.net.posts number ≡ o
+      → Kept (delivered S shop x w number free o)
   delivered_kept w s number free None e = s
-  delivered_kept w s number free (Some p) e = by_test w s number p e free (nat_le (w.net.now - p.copy.moment) LIFE) (nat_le (later p.key number w.net.posts) x.overtake) refl refl
+  delivered_kept w s number free (Some p) e = by_test w s number p e free (nat_le (w.net.now - p.copy.moment) LIFE)
+      (nat_le (later p.key number w.net.posts) x.overtake) refl refl
 
   -- a ticket's tick
   ticket_kept : (w : World S) → Kept w → (key : Key) (o : Option Ticket) → w.net.tickets key ≡ o → Kept (ticks_ticket S x w key o)
@@ -130,7 +155,9 @@ module _ (S : Type 0) (shop : Shop S) (opening : ℕ → S) (W : ℕ) (x : Rules
   ticket_kept w s key (Some t) at =
       let f = sound_at W w.net key (Some t) at s.net in
       let r = client.client_ticks (x.settings key.client) key.id w.net.now t in
-      reacts_kept w s key t r (net_client W w.net key t at s.net r (client_ticks_kept W x.overtake bound.some bound.room (x.settings key.client) (bound.windows key.client) x.readable key (one w.net key) t f.0 f.1 f.2))
+      reacts_kept w s key t r (net_client W w.net key t at s.net r
+      (client_ticks_kept W x.overtake bound.some bound.room (x.settings key.client) (bound.windows key.client) x.readable key
+      (one w.net key) t f.0 f.1 f.2))
 
   clients_kept : (keys : List Key) (w : World S) → Kept w → Kept (ticks_as_client S x keys w)
   clients_kept [] w s = s
@@ -140,12 +167,14 @@ module _ (S : Type 0) (shop : Shop S) (opening : ℕ → S) (W : ℕ) (x : Rules
   quiet : (w : World S) (key : Key) (v : server.Reaction) → v.effect ≡ None → IsServed (service_of S shop w key) v.effect
   quiet w key v e = subst (IsServed (service_of S shop w key)) (sym e) tt
 
-  entry_kept : (w : World S) → Kept w → (key : Key) (o : Option Ticket) → w.net.tickets key ≡ o → Kept (serves S shop w key (server.server_ticks (x.settings key.server) key.id w.net.now (w.net.entries key)))
+  entry_kept : (w : World S) → Kept w → (key : Key) (o : Option Ticket) → w.net.tickets key ≡ o
+      → Kept (serves S shop w key (server.server_ticks (x.settings key.server) key.id w.net.now (w.net.entries key)))
   entry_kept w s key (Some t) at =
       let f = sound_at W w.net key (Some t) at s.net in
       let v = server.server_ticks (x.settings key.server) key.id w.net.now (w.net.entries key) in
       serves_kept w s key t at v (quiet w key v (ticks_quiet (x.settings key.server) key.id w.net.now (w.net.entries key)))
-      (net_server W w.net key t at s.net v (server_ticks_kept W x.overtake bound.some bound.room (x.settings key.server) (bound.windows key.server) (service_of S shop w key) key (one w.net key) t (w.net.entries key) f.0 f.1 f.2))
+      (net_server W w.net key t at s.net v (server_ticks_kept W x.overtake bound.some bound.room (x.settings key.server) (bound.windows key.server)
+      (service_of S shop w key) key (one w.net key) t (w.net.entries key) f.0 f.1 f.2))
   entry_kept w s key None at = go (w.net.entries key) refl (sound_at W w.net key None at s.net).no_entry
     where
       all_there : (posts : List Post) → posts ++ [] ≡ posts
@@ -154,11 +183,13 @@ module _ (S : Type 0) (shop : Shop S) (opening : ℕ → S) (W : ℕ) (x : Rules
 
       go : (o : Option Entry) → w.net.entries key ≡ o → o ≡ None → Kept (serves S shop w key (server.server_ticks (x.settings key.server) key.id w.net.now o))
       go (Some e) is nil = absurd cc
-      go None is nil = subst (λ (n : Net). Kept (record { net = n; stores = w.stores })) (λ i. record (w.net) { entries = sym (set_nothing w.net.entries key None is) i; posts = sym (all_there w.net.posts) i }) s
+      go None is nil = subst (λ (n : Net). Kept (record { net = n; stores = w.stores }))
+          (λ i. record (w.net) { entries = sym (set_nothing w.net.entries key None is) i; posts = sym (all_there w.net.posts) i }) s
 
   servers_kept : (keys : List Key) (w : World S) → Kept w → Kept (ticks_as_server S shop x keys w)
   servers_kept [] w s = s
-  servers_kept (key ∷ keys) w s = servers_kept keys (serves S shop w key (server.server_ticks (x.settings key.server) key.id w.net.now (w.net.entries key))) (entry_kept w s key (w.net.tickets key) refl)
+  servers_kept (key ∷ keys) w s = servers_kept keys (serves S shop w key
+      (server.server_ticks (x.settings key.server) key.id w.net.now (w.net.entries key))) (entry_kept w s key (w.net.tickets key) refl)
 
   pub event_kept : (w : World S) → Kept w → (e : Event) → Kept (happens S shop x w e)
   event_kept w s (MakeAsk key choice whole front rest) = asks_kept w s key choice whole front rest (is_key_held w.net.now (w.net.tickets key)) refl

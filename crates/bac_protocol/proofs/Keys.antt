@@ -1,5 +1,6 @@
 -- One list of copies for all transactions, and tables by key.
-use Rattle.std.proofs.Common.{◌≡◌, ℕ, zero, suc, ◌+◌, ◌⊎◌, Bool, true, false, ◌&&◌, List, [], ◌∷◌, ◌++◌, map, Some, slice_get, if◌then◌else◌, nat_eq, refl, sym, ap, inl, inr, ◌∙◌, arith}
+use Rattle.std.proofs.Common.{◌≡◌, ℕ, zero, suc, ◌+◌, ◌⊎◌, Bool, true, false, ◌&&◌, List, [], ◌∷◌, ◌++◌, map, Some, slice_get, if◌then◌else◌, nat_eq}
+use Rattle.std.proofs.Common.{refl, sym, ap, inl, inr, ◌∙◌, arith}
 use Rattle.std.proofs.lemmas.Bool.Decides.{nat_tests}
 use Rattle.bac_apdu.specs.Apdu.{Apdu}
 use Rattle.bac_protocol.specs.Transaction.{Key, Copy, sent}
@@ -78,22 +79,27 @@ before_other key k ne now (a ∷ more) cs =
     ∙ before_other key k ne now more cs
 
 -- what a transaction sends goes to the front of its copies, and is nothing to another
-pub copies_posted : (key : Key) (now : ℕ) (sends : List Apdu) (posts : List Post) → copies_of key (posts ++ map (post_of key now) sends) ≡ sent now sends (copies_of key posts)
+pub copies_posted : (key : Key) (now : ℕ) (sends : List Apdu) (posts : List Post)
+    → copies_of key (posts ++ map (post_of key now) sends) ≡ sent now sends (copies_of key posts)
 copies_posted key now sends posts = before_join key posts (map (post_of key now) sends) [] ∙ before_own key now sends (copies_of key posts)
 
-pub copies_other : (key k : Key) → (key ≡ k → ⊥) → (now : ℕ) (sends : List Apdu) (posts : List Post) → copies_of k (posts ++ map (post_of key now) sends) ≡ copies_of k posts
+pub copies_other : (key k : Key) → (key ≡ k → ⊥) → (now : ℕ) (sends : List Apdu) (posts : List Post)
+    → copies_of k (posts ++ map (post_of key now) sends) ≡ copies_of k posts
 copies_other key k ne now sends posts = before_join k posts (map (post_of key now) sends) [] ∙ before_other key k ne now sends (copies_of k posts)
 
 behind : (key : Key) (posts : List Post) (cs : List Copy) (j : ℕ) → slice_get (copies_before key posts cs) (count_of key posts + j) ≡ slice_get cs j
 behind key [] cs j = let e : 0 + j ≡ j = omega arith in ap (λ i. slice_get cs i) e
 behind key (p ∷ posts) cs j = go (same_key p.key key) (behind key posts (p.copy ∷ cs) (suc j)) (behind key posts cs j)
   where
-    go : (b : Bool) → slice_get (copies_before key posts (p.copy ∷ cs)) (count_of key posts + suc j) ≡ slice_get cs j → slice_get (copies_before key posts cs) (count_of key posts + j) ≡ slice_get cs j
+    go : (b : Bool) → slice_get (copies_before key posts (p.copy ∷ cs)) (count_of key posts + suc j) ≡ slice_get cs j
+        → slice_get (copies_before key posts cs) (count_of key posts + j) ≡ slice_get cs j
         → slice_get (copies_before key posts (picks b p.copy cs)) ((if b then suc (count_of key posts) else count_of key posts) + j) ≡ slice_get cs j
-    go true h k = let e : suc (count_of key posts) + j ≡ count_of key posts + suc j = omega arith in ap (λ i. slice_get (copies_before key posts (p.copy ∷ cs)) i) e ∙ h
+    go true h k = let e : suc (count_of key posts) + j ≡ count_of key posts + suc j = omega arith in ap
+        (λ i. slice_get (copies_before key posts (p.copy ∷ cs)) i) e ∙ h
     go false h k = k
 
-copy_before : (number : ℕ) (posts : List Post) (p : Post) (cs : List Copy) → slice_get posts number ≡ Some p → slice_get (copies_before p.key posts cs) (later p.key number posts) ≡ Some p.copy
+copy_before : (number : ℕ) (posts : List Post) (p : Post) (cs : List Copy) → slice_get posts number ≡ Some p
+    → slice_get (copies_before p.key posts cs) (later p.key number posts) ≡ Some p.copy
 copy_before number [] p cs e = absurd cc
 copy_before zero (q ∷ posts) p cs e =
     let same : q ≡ p = cc in
@@ -106,5 +112,6 @@ copy_before zero (q ∷ posts) p cs e =
 copy_before (suc n) (q ∷ posts) p cs e = copy_before n posts p (picks (same_key q.key p.key) q.copy cs) e
 
 -- a copy stands among those of its transaction behind as many as are later
-pub copy_at : (number : ℕ) (posts : List Post) (p : Post) → slice_get posts number ≡ Some p → slice_get (copies_of p.key posts) (later p.key number posts) ≡ Some p.copy
+pub copy_at : (number : ℕ) (posts : List Post) (p : Post) → slice_get posts number ≡ Some p
+    → slice_get (copies_of p.key posts) (later p.key number posts) ≡ Some p.copy
 copy_at number posts p e = copy_before number posts p [] e

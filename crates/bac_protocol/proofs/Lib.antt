@@ -11,3 +11,16 @@ pub mod Nets
 pub mod Served
 pub mod Headline
 pub mod Claimed
+pub mod Computed
+pub mod Beyond
+pub mod Queue
+pub mod Windows
+pub mod Carries
+pub mod Requested
+pub mod Replied
+pub mod Dead
+pub mod Follow
+pub mod StraightRuns
+pub mod Loops
+pub mod Own
+pub mod Owned

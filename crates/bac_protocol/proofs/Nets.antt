@@ -1,5 +1,6 @@
 -- What holds of one transaction holds of each of many.
-use Rattle.std.proofs.Common.{◌≡◌, ℕ, ◌+◌, ◌-◌, ◌<◌, ◌≤◌, ◌≢◌, ◌⊎◌, Bool, true, false, ◌||◌, not, List, ◌∷◌, Option, Some, None, nat_le, refl, sym, ap, subst, inl, inr, ◌∙◌, arith, zero-add}
+use Rattle.std.proofs.Common.{◌≡◌, ℕ, ◌+◌, ◌-◌, ◌<◌, ◌≤◌, ◌≢◌, ◌⊎◌, Bool, true, false, ◌||◌, not, List, ◌∷◌, Option, Some, None, nat_le, refl, sym}
+use Rattle.std.proofs.Common.{ap, subst, inl, inr, ◌∙◌, arith, zero-add}
 use Rattle.std.proofs.lemmas.Bool.Decides.{nat_tests}
 use Rattle.bac_apdu.specs.Apdu.{Apdu}
 use Rattle.bac_apdu.specs.Apdu.Apdu.{SimpleAck, ComplexAck, Error, Reject, Abort}
@@ -40,7 +41,8 @@ open_more Awaiting n f log ne h = unended_more n f log ne h
 open_more (Collecting inc) n f log ne h = unended_more n f log ne h
 open_more Over n f log ne h = tt
 
-kept_more : (number : ℕ) (ask : Ask) (f : Fact) (log : List Fact) (a : Apdu) → number_of f ≢ number → IsKeptFor number ask a log → IsKeptFor number ask a (f ∷ log)
+kept_more : (number : ℕ) (ask : Ask) (f : Fact) (log : List Fact) (a : Apdu) → number_of f ≢ number → IsKeptFor number ask a log
+    → IsKeptFor number ask a (f ∷ log)
 kept_more number ask f log (SimpleAck id choice) ne h = inr h
 kept_more number ask f log (ComplexAck id None choice o) ne h = inr h
 kept_more number ask f log (Error id choice class code) ne h = inr h
@@ -48,21 +50,26 @@ kept_more number ask f log (Reject id r) ne h = unperformed_more number f log ne
 kept_more number ask f log (Abort true id r) ne h = unperformed_more number f log ne h
 kept_more number ask f log _ ne h = absurd h
 
-unbegun_more : (number : ℕ) (f : Fact) (log : List Fact) (up : Up) (down : Down) → number_of f ≢ number → IsUnbegun number up down log → IsUnbegun number up down (f ∷ log)
+unbegun_more : (number : ℕ) (f : Fact) (log : List Fact) (up : Up) (down : Down) → number_of f ≢ number → IsUnbegun number up down log
+    → IsUnbegun number up down (f ∷ log)
 unbegun_more number f log (Reading t s) Unsent ne h = (h.0, unperformed_more number f log ne h.1)
 unbegun_more number f log _ _ ne h = absurd h
 
-state_more : (W number : ℕ) (ask : Ask) (f : Fact) (log : List Fact) (st : State) (up : Up) (down : Down) → number_of f ≢ number → StateFits W number ask st up down log → StateFits W number ask st up down (f ∷ log)
-state_more W number ask f log (Receiving inc since) (Reading t s) Unsent ne h = record { in_pieces = h.in_pieces; front = h.front; unperformed = unperformed_more number f log ne h.unperformed }
+state_more : (W number : ℕ) (ask : Ask) (f : Fact) (log : List Fact) (st : State) (up : Up) (down : Down) → number_of f ≢ number
+    → StateFits W number ask st up down log → StateFits W number ask st up down (f ∷ log)
+state_more W number ask f log (Receiving inc since) (Reading t s) Unsent ne h =
+    record { in_pieces = h.in_pieces; front = h.front; unperformed = unperformed_more number f log ne h.unperformed }
 state_more W number ask f log (Done kept) Read Unsent ne h = kept_more number ask f log kept ne h
 state_more W number ask f log (Giving out transfer since) Read down ne h = record { window = h.window; performed = inr h.performed; sends = h.sends }
 state_more W number ask f log Dropped (Reading t s) Unsent ne h = unperformed_more number f log ne h
 state_more W number ask f log _ _ _ ne h = absurd h
 
-server_more : (W number : ℕ) (ask : Ask) (f : Fact) (log : List Fact) (up : Up) (down : Down) (o : Option Entry) → number_of f ≢ number → ServerFits W number ask o up down log → ServerFits W number ask o up down (f ∷ log)
+server_more : (W number : ℕ) (ask : Ask) (f : Fact) (log : List Fact) (up : Up) (down : Down) (o : Option Entry) → number_of f ≢ number
+    → ServerFits W number ask o up down log → ServerFits W number ask o up down (f ∷ log)
 server_more W number ask f log up down None ne h = unbegun_more number f log up down ne h
 server_more W number ask f log up down (Some e) ne (inl h) = inl (record { dead = h.dead; unbegun = unbegun_more number f log up down ne h.unbegun })
-server_more W number ask f log up down (Some e) ne (inr h) = inr (record { after = h.after; before = h.before; choice = h.choice; state = state_more W number ask f log e.state up down ne h.state })
+server_more W number ask f log up down (Some e) ne (inr h) = inr
+    (record { after = h.after; before = h.before; choice = h.choice; state = state_more W number ask f log e.state up down ne h.state })
 
 -- what any transaction's soundness says of the log
 pub record IsLogOf (asks : ℕ) (log : List Fact) : Type 0 where
@@ -75,8 +82,16 @@ log_of W key None w s = record { numbers = s.numbers; counted = s.counted; order
 log_of W key (Some t) w s = record { numbers = (s.2).numbers; counted = (s.2).counted; orderly = (s.2).orderly }
 
 -- another transaction's fact enters the log
-elsewhere : (W asks' : ℕ) (key : Key) (f : Fact) (w : Transaction) (o : Option Ticket) → IsLogOf asks' (f ∷ w.log) → ((t : Ticket) → o ≡ Some t → number_of f ≢ w.number) → IsSoundAt W key o w → IsSoundAt W key o (record w { asks = asks'; log = f ∷ w.log })
-elsewhere W asks' key f w None log ne s = record { no_entry = s.no_entry; no_copies = s.no_copies; numbers = log.numbers; counted = log.counted; orderly = log.orderly }
+elsewhere : (W asks' : ℕ) (key : Key) (f : Fact) (w : Transaction) (o : Option Ticket) → IsLogOf asks' (f ∷ w.log)
+    → ((t : Ticket) → o ≡ Some t → number_of f ≢ w.number) → IsSoundAt W key o w → IsSoundAt W key o (record w { asks = asks'; log = f ∷ w.log })
+elsewhere W asks' key f w None log ne s = record {
+  no_entry = s.no_entry;
+  no_copies = s.no_copies;
+  numbers = log.numbers;
+  counted = log.counted;
+  orderly =
+      log.orderly;
+}
 elsewhere W asks' key f w (Some t) log ne s = (
   s.0,
   s.1,
@@ -92,7 +107,11 @@ elsewhere W asks' key f w (Some t) log ne s = (
     server = server_more W w.number t.ask f w.log s.0 s.1 w.entry (ne t refl) (s.2).server;
     upload = (s.2).upload;
     download = (s.2).download;
-    arriving = λ k c e young. let h = (s.2).arriving k c e young in (h.0, rw zero-add at (says_goes W 0 c.moment k w.number t.ask w.log (f ∷ w.log) s.0 s.0 s.1 s.1 (grows_more f w.log) (up_same 0 s.0) (down_same 0 s.1) c.apdu h.1));
+    arriving = λ k c e young. let h = (s.2).arriving k c e young in (
+      h.0,
+      rw zero-add at (says_goes W 0 c.moment k w.number t.ask w.log (f ∷ w.log) s.0 s.0 s.1 s.1 (grows_more f w.log) (up_same 0 s.0)
+          (down_same 0 s.1) c.apdu h.1),
+    );
   },
 )
 
@@ -113,17 +132,20 @@ number_below W n k t is s =
 
 -- the transaction has the number that it had, or a new one
 abbrev KeepsNumber : Net → Net → Key → Type 0
-KeepsNumber n n' key = (u : Ticket) → n'.tickets key ≡ Some u → ((t : Ticket) × (n.tickets key ≡ Some t) × (n.numbers key ≡ n'.numbers key)) ⊎ (n.asks ≤ n'.numbers key)
+KeepsNumber n n' key = (u : Ticket) → n'.tickets key ≡ Some u
+    → ((t : Ticket) × (n.tickets key ≡ Some t) × (n.numbers key ≡ n'.numbers key)) ⊎ (n.asks ≤ n'.numbers key)
 
 -- the log is as it was, or has one more fact, which is the transaction's
 abbrev AddsOwn : Net → Net → Key → Type 0
-AddsOwn n n' key = ((n'.log ≡ n.log) × (n'.asks ≡ n.asks)) ⊎ ((f : Fact) × (n'.log ≡ f ∷ n.log) × ((u : Ticket) × (n'.tickets key ≡ Some u) × (number_of f ≡ n'.numbers key)))
+AddsOwn n n' key = ((n'.log ≡ n.log) × (n'.asks ≡ n.asks)) ⊎
+    ((f : Fact) × (n'.log ≡ f ∷ n.log) × ((u : Ticket) × (n'.tickets key ≡ Some u) × (number_of f ≡ n'.numbers key)))
 
 -- all other transactions see no more than that
 abbrev LeavesOthers : Net → Net → Key → Type 0
 LeavesOthers n n' key = (k : Key) → (key ≡ k → ⊥) → one n' k ≡ record (one n k) { asks = n'.asks; log = n'.log }
 
-foreign : (W : ℕ) (n n' : Net) (key : Key) → NetSound W n → KeepsNumber n n' key → (k : Key) → (key ≡ k → ⊥) → (t u : Ticket) → n.tickets k ≡ Some t → n'.tickets key ≡ Some u → n'.numbers key ≡ n.numbers k → ⊥
+foreign : (W : ℕ) (n n' : Net) (key : Key) → NetSound W n → KeepsNumber n n' key → (k : Key) → (key ≡ k → ⊥) → (t u : Ticket) → n.tickets k ≡ Some t
+    → n'.tickets key ≡ Some u → n'.numbers key ≡ n.numbers k → ⊥
 foreign W n n' key s keeps k ne t u at at' same = go (keeps u at')
   where
     go : (((t : Ticket) × (n.tickets key ≡ Some t) × (n.numbers key ≡ n'.numbers key)) ⊎ (n.asks ≤ n'.numbers key)) → ⊥
@@ -131,8 +153,10 @@ foreign W n n' key s keeps k ne t u at at' same = go (keeps u at')
     go (inr h) = let lt = number_below W n k t at s in omega arith
 
 -- a step of one transaction keeps what holds of all
-net_keeps : (W : ℕ) (n n' : Net) (key : Key) → NetSound W n → IsSound W key (one n' key) → LeavesOthers n n' key → KeepsNumber n n' key → AddsOwn n n' key → NetSound W n'
-net_keeps W n n' key s own others keeps adds = record { each = λ k. each k (decide_key key k); apart = λ a b x y. apart a b x y (decide_key key a) (decide_key key b) }
+net_keeps : (W : ℕ) (n n' : Net) (key : Key) → NetSound W n → IsSound W key (one n' key) → LeavesOthers n n' key → KeepsNumber n n' key → AddsOwn n n' key
+    → NetSound W n'
+net_keeps W n n' key s own others keeps adds = record
+    { each = λ k. each k (decide_key key k); apart = λ a b x y. apart a b x y (decide_key key a) (decide_key key b) }
   where
     ticket_is : (k : Key) → (key ≡ k → ⊥) → n'.tickets k ≡ n.tickets k
     ticket_is k ne = ap (λ (w : Transaction). w.ticket) (others k ne)
@@ -141,9 +165,11 @@ net_keeps W n n' key s own others keeps adds = record { each = λ k. each k (dec
     number_is k ne = ap (λ (w : Transaction). w.number) (others k ne)
 
     same_log : (k : Key) → n'.log ≡ n.log → n'.asks ≡ n.asks → IsSoundAt W k (n.tickets k) (record (one n k) { asks = n'.asks; log = n'.log })
-    same_log k e f = subst (λ (lg : List Fact). IsSoundAt W k (n.tickets k) (record (one n k) { asks = n'.asks; log = lg })) (sym e) (subst (λ (x : ℕ). IsSoundAt W k (n.tickets k) (record (one n k) { asks = x })) (sym f) (s.each k))
+    same_log k e f = subst (λ (lg : List Fact). IsSoundAt W k (n.tickets k) (record (one n k) { asks = n'.asks; log = lg })) (sym e)
+        (subst (λ (x : ℕ). IsSoundAt W k (n.tickets k) (record (one n k) { asks = x })) (sym f) (s.each k))
 
-    more_log : (k : Key) → (key ≡ k → ⊥) → (f : Fact) (u : Ticket) → n'.log ≡ f ∷ n.log → n'.tickets key ≡ Some u → number_of f ≡ n'.numbers key → IsSoundAt W k (n.tickets k) (record (one n k) { asks = n'.asks; log = n'.log })
+    more_log : (k : Key) → (key ≡ k → ⊥) → (f : Fact) (u : Ticket) → n'.log ≡ f ∷ n.log → n'.tickets key ≡ Some u → number_of f ≡ n'.numbers key
+        → IsSoundAt W k (n.tickets k) (record (one n k) { asks = n'.asks; log = n'.log })
     more_log k ne f u e at same = subst (λ (lg : List Fact). IsSoundAt W k (n.tickets k) (record (one n k) { asks = n'.asks; log = lg })) (sym e)
         (elsewhere W n'.asks k f (one n k) (n.tickets k)
         (subst (IsLogOf n'.asks) e (log_of W key (n'.tickets key) (one n' key) own))
@@ -158,43 +184,88 @@ net_keeps W n n' key s own others keeps adds = record { each = λ k. each k (dec
     each k (inl is) = subst (λ (x : Key). IsSound W x (one n' x)) is own
     each k (inr ne) = subst (λ (w : Transaction). IsSound W k w) (sym (others k ne)) (after_log k ne adds)
 
-    apart : (a b : Key) (x y : Ticket) → ((key ≡ a) ⊎ (key ≡ a → ⊥)) → ((key ≡ b) ⊎ (key ≡ b → ⊥)) → n'.tickets a ≡ Some x → n'.tickets b ≡ Some y → n'.numbers a ≡ n'.numbers b → a ≡ b
+    apart : (a b : Key) (x y : Ticket) → ((key ≡ a) ⊎ (key ≡ a → ⊥)) → ((key ≡ b) ⊎ (key ≡ b → ⊥)) → n'.tickets a ≡ Some x → n'.tickets b ≡ Some y
+        → n'.numbers a ≡ n'.numbers b → a ≡ b
     apart a b x y (inl p) (inl q) at at' same = sym p ∙ q
-    apart a b x y (inl p) (inr q) at at' same = absurd (foreign W n n' key s keeps b q y x (sym (ticket_is b q) ∙ at') (ap n'.tickets p ∙ at) (ap n'.numbers p ∙ same ∙ number_is b q))
-    apart a b x y (inr p) (inl q) at at' same = absurd (foreign W n n' key s keeps a p x y (sym (ticket_is a p) ∙ at) (ap n'.tickets q ∙ at') (ap n'.numbers q ∙ sym same ∙ number_is a p))
-    apart a b x y (inr p) (inr q) at at' same = s.apart a b x y (sym (ticket_is a p) ∙ at) (sym (ticket_is b q) ∙ at') (sym (number_is a p) ∙ same ∙ number_is b q)
+    apart a b x y (inl p) (inr q) at at' same = absurd
+        (foreign W n n' key s keeps b q y x (sym (ticket_is b q) ∙ at') (ap n'.tickets p ∙ at) (ap n'.numbers p ∙ same ∙ number_is b q))
+    apart a b x y (inr p) (inl q) at at' same = absurd
+        (foreign W n n' key s keeps a p x y (sym (ticket_is a p) ∙ at) (ap n'.tickets q ∙ at') (ap n'.numbers q ∙ sym same ∙ number_is a p))
+    apart a b x y (inr p) (inr q) at at' same = s.apart a b x y (sym (ticket_is a p) ∙ at) (sym (ticket_is b q) ∙ at')
+        (sym (number_is a p) ∙ same ∙ number_is b q)
 
 -- One client, one server, one ask.
 
-pub net_client : (W : ℕ) (n : Net) (key : Key) (t : Ticket) → n.tickets key ≡ Some t → NetSound W n → (r : client.Reaction) → IsSound W key (client_does (one n key) t r) → NetSound W (client_acts n key t r)
+pub net_client : (W : ℕ) (n : Net) (key : Key) (t : Ticket) → n.tickets key ≡ Some t → NetSound W n → (r : client.Reaction)
+    → IsSound W key (client_does (one n key) t r) → NetSound W (client_acts n key t r)
 net_client W n key t at s r own = net_keeps W n (client_acts n key t r) key s
-    (subst (λ (w : Transaction). IsSound W key w) (λ i. record (client_does (one n key) t r) { ticket = sym (set_same n.tickets key made) i; copies = sym (copies_posted key n.now (client.sends_of r) n.posts) i }) own)
-    (λ k ne i. record (one n k) { log = ended (n.numbers key) (client.ending_of r) n.log; ticket = set_other n.tickets key made k ne i; copies = copies_other key k ne n.now (client.sends_of r) n.posts i })
+    (subst (λ (w : Transaction). IsSound W key w) (λ i. record
+    (client_does (one n key) t r) {
+      ticket = sym (set_same n.tickets key made) i;
+      copies = sym
+          (copies_posted key n.now (client.sends_of r) n.posts) i;
+    }) own)
+    (λ k ne i. record (one n k) {
+      log = ended (n.numbers key) (client.ending_of r) n.log;
+      ticket = set_other n.tickets key made k ne i;
+      copies =
+          copies_other key k ne n.now (client.sends_of r) n.posts i;
+    })
     (λ u e. inl (t, at, refl))
     (adds (client.ending_of r))
   where
     made : Option Ticket
     made = Some (client.after n.now t r)
 
-    adds : (o : Option Ending) → ((ended (n.numbers key) o n.log ≡ n.log) × (n.asks ≡ n.asks)) ⊎ ((f : Fact) × (ended (n.numbers key) o n.log ≡ f ∷ n.log) × ((u : Ticket) × (set_at n.tickets key (Some (client.after n.now t r)) key ≡ Some u) × (number_of f ≡ n.numbers key)))
+    adds : (o : Option Ending) → ((ended (n.numbers key) o n.log ≡ n.log) × (n.asks ≡ n.asks)) ⊎
+        ((f : Fact) × (ended (n.numbers key) o n.log ≡ f ∷ n.log)
+        × ((u : Ticket) × (set_at n.tickets key (Some (client.after n.now t r)) key ≡ Some u) × (number_of f ≡ n.numbers key)))
     adds None = inl (refl, refl)
     adds (Some how) = inr (Ended (n.numbers key) how, refl, (client.after n.now t r, set_same n.tickets key (Some (client.after n.now t r)), refl))
 
-pub net_server : (W : ℕ) (n : Net) (key : Key) (t : Ticket) → n.tickets key ≡ Some t → NetSound W n → (v : server.Reaction) → IsSound W key (server_does (record (one n key) { ticket = Some t }) v) → NetSound W (server_acts n key v)
+pub net_server : (W : ℕ) (n : Net) (key : Key) (t : Ticket) → n.tickets key ≡ Some t → NetSound W n → (v : server.Reaction)
+    → IsSound W key (server_does (record (one n key) { ticket = Some t }) v) → NetSound W (server_acts n key v)
 net_server W n key t at s v own = net_keeps W n (server_acts n key v) key s
-    (subst (λ (w : Transaction). IsSound W key w) (λ i. record (server_does (one n key) v) { ticket = sym at i; entry = sym (set_same n.entries key v.entry) i; copies = sym (copies_posted key n.now v.sends n.posts) i }) own)
-    (λ k ne i. record (one n k) { log = performed (n.numbers key) v.effect n.log; entry = set_other n.entries key v.entry k ne i; copies = copies_other key k ne n.now v.sends n.posts i })
+    (subst (λ (w : Transaction). IsSound W key w) (λ i. record
+    (server_does (one n key) v) {
+      ticket = sym at i;
+      entry = sym (set_same n.entries key v.entry) i;
+      copies = sym
+          (copies_posted key n.now v.sends n.posts) i;
+    }) own)
+    (λ k ne i. record (one n k) {
+      log = performed (n.numbers key) v.effect n.log;
+      entry = set_other n.entries key v.entry k ne i;
+      copies =
+          copies_other key k ne n.now v.sends n.posts i;
+    })
     (λ u e. inl (t, at, refl))
     (adds v.effect)
   where
-    adds : (x : Option Effect) → ((performed (n.numbers key) x n.log ≡ n.log) × (n.asks ≡ n.asks)) ⊎ ((f : Fact) × (performed (n.numbers key) x n.log ≡ f ∷ n.log) × ((u : Ticket) × (n.tickets key ≡ Some u) × (number_of f ≡ n.numbers key)))
+    adds : (x : Option Effect) → ((performed (n.numbers key) x n.log ≡ n.log) × (n.asks ≡ n.asks)) ⊎
+        ((f : Fact) × (performed (n.numbers key) x n.log ≡ f ∷ n.log) × ((u : Ticket) × (n.tickets key ≡ Some u) × (number_of f ≡ n.numbers key)))
     adds None = inl (refl, refl)
     adds (Some x) = inr (Performed (n.numbers key) x.request x.reply, refl, (t, at, refl))
 
-pub net_asked : (W : ℕ) → 0 < W → (x : Rules) (n : Net) (key : Key) → NetSound W n → IsSpent (one n key) → (choice : ℕ) (whole : Bool) (front : Octets) (rest : List Octets) → NetSound W (asked_at x n key (record { first = n.now; choice = choice; whole = whole; pieces = front ∷ rest }))
+pub net_asked : (W : ℕ) → 0 < W → (x : Rules) (n : Net) (key : Key) → NetSound W n → IsSpent (one n key)
+    → (choice : ℕ) (whole : Bool) (front : Octets) (rest : List Octets)
+    → NetSound W (asked_at x n key (record { first = n.now; choice = choice; whole = whole; pieces = front ∷ rest }))
 net_asked W some x n key s spent choice whole front rest = net_keeps W n (asked_at x n key ask) key s
-    (subst (λ (w : Transaction). IsSound W key w) (λ i. record (asked_by x key (one n key) ask) { number = sym (set_same n.numbers key n.asks) i; ticket = sym (set_same n.tickets key (Some made)) i; copies = sym (copies_posted key n.now sends n.posts) i }) (asked_sound W some x key (one n key) spent choice front rest whole))
-    (λ k ne i. record (one n k) { asks = n.asks + 1; log = Asked n.asks key.client key.server (request_of ask) ∷ n.log; number = set_other n.numbers key n.asks k ne i; ticket = set_other n.tickets key (Some made) k ne i; copies = copies_other key k ne n.now sends n.posts i })
+    (subst (λ (w : Transaction). IsSound W key w) (λ i. record
+    (asked_by x key (one n key) ask) {
+      number = sym (set_same n.numbers key n.asks) i;
+      ticket = sym (set_same n.tickets key (Some made)) i;
+      copies =
+          sym (copies_posted key n.now sends n.posts) i;
+    }) (asked_sound W some x key (one n key) spent choice front rest whole))
+    (λ k ne i. record (one n k) {
+      asks = n.asks + 1;
+      log = Asked n.asks key.client key.server (request_of ask) ∷ n.log;
+      number =
+          set_other n.numbers key n.asks k ne i;
+      ticket = set_other n.tickets key (Some made) k ne i;
+      copies = copies_other key k ne n.now sends n.posts i;
+    })
     (λ u e. inr (let same : set_at n.numbers key n.asks key ≡ n.asks = set_same n.numbers key n.asks in omega arith))
     (inr (Asked n.asks key.client key.server (request_of ask), refl, (made, set_same n.tickets key (Some made), sym (set_same n.numbers key n.asks))))
   where
@@ -208,8 +279,10 @@ net_asked W some x n key s spent choice whole front rest = net_keeps W n (asked_
     sends = client.sends_of (client.asks (x.settings key.client) key.id ask)
 
 -- an ask where the invoke ID is free
-pub spent_at : (W : ℕ) (n : Net) (key : Key) (o : Option Ticket) → n.tickets key ≡ o → IsSoundAt W key o (one n key) → is_key_held n.now o ≡ false → IsSpent (one n key)
-spent_at W n key None at s free = subst IsSpent (λ i. record (one n key) { ticket = sym at i; entry = sym s.no_entry i; copies = sym s.no_copies i }) (spent_fresh (one n key) s.numbers s.counted s.orderly)
+pub spent_at : (W : ℕ) (n : Net) (key : Key) (o : Option Ticket) → n.tickets key ≡ o → IsSoundAt W key o (one n key) → is_key_held n.now o ≡ false
+    → IsSpent (one n key)
+spent_at W n key None at s free = subst IsSpent (λ i. record (one n key) { ticket = sym at i; entry = sym s.no_entry i; copies = sym s.no_copies i })
+    (spent_fresh (one n key) s.numbers s.counted s.orderly)
 spent_at W n key (Some t) at s free = spent_of W key (one n key) t s.0 s.1 s.2 (go (client.is_over t.phase) free)
   where
     go : (b : Bool) → (not b || nat_le (n.now - t.ask.first) HOLD) ≡ false → t.ask.first + HOLD < n.now
@@ -243,4 +316,8 @@ pub net_later : (W by : ℕ) (n : Net) → NetSound W n → NetSound W (record n
 net_later W by n s = record { each = λ key. later_moment W by key (one n key) (n.tickets key) (s.each key); apart = s.apart }
 
 pub net_starts : (W : ℕ) → NetSound W net_start
-net_starts W = record { each = λ key. record { no_entry = refl; no_copies = refl; numbers = tt; counted = refl; orderly = tt }; apart = λ a b x y at at' same. absurd cc }
+net_starts W = record {
+  each = λ key. record { no_entry = refl; no_copies = refl; numbers = tt; counted = refl; orderly = tt };
+  apart =
+      λ a b x y at at' same. absurd cc;
+}

@@ -24,7 +24,8 @@ module _ (c : Settings) (id now : ℕ) (service : Service) where
   abbrev Serves : Reaction → Type 0
   Serves v = IsServed service v.effect
 
-  gives_served : (e : Entry) (sends : List Apdu) (octets : Octets) (p : Reply) → service e.terms.choice octets ≡ Replies p → (way : Way) → Serves (server.gives c id now e sends octets p way)
+  gives_served : (e : Entry) (sends : List Apdu) (octets : Octets) (p : Reply) → service e.terms.choice octets ≡ Replies p → (way : Way)
+      → Serves (server.gives c id now e sends octets p way)
   gives_served e sends octets p is AtOnce = is
   gives_served e sends octets p is (InPieces pieces) = is
   gives_served e sends octets p is (Unsendable reason) = tt
@@ -43,27 +44,35 @@ module _ (c : Settings) (id now : ℕ) (service : Service) where
   receives_served e number window (Nak inc) = tt
   receives_served e number window TooLong = tt
 
-  new_request_served : (dead : Option Entry) (free : Bool) (terms : Terms) (octets : Octets) → Serves (server.new_request c id now service dead free terms octets)
+  new_request_served : (dead : Option Entry) (free : Bool) (terms : Terms) (octets : Octets)
+      → Serves (server.new_request c id now service dead free terms octets)
   new_request_served dead true terms octets = performs_served (server.begins now terms (Some octets)) [] octets
   new_request_served dead false terms octets = tt
 
-  new_segment_served : (dead : Option Entry) (free : Bool) (terms : Terms) (g : Segment) (octets : Octets) → Serves (server.new_segment c id now service dead free terms g octets)
+  new_segment_served : (dead : Option Entry) (free : Bool) (terms : Terms) (g : Segment) (octets : Octets)
+      → Serves (server.new_segment c id now service dead free terms g octets)
   new_segment_served dead free terms g octets = go (nat_eq g.number 0) free
     where
-      go : (b d : Bool) → Serves (if not b then server.rests dead [] else if d then server.receives c id now service (server.begins now terms None) g.number (incoming c.window g.window).window (takes (incoming c.window g.window) g.number g.more octets) else server.rests dead (server.abort_0 id ∷ []))
-      go true true = receives_served (server.begins now terms None) g.number (incoming c.window g.window).window (takes (incoming c.window g.window) g.number g.more octets)
+      go : (b d : Bool) → Serves (if not b then server.rests dead [] else if d then server.receives c id now service
+          (server.begins now terms None) g.number (incoming c.window g.window).window (takes (incoming c.window g.window) g.number g.more octets)
+          else server.rests dead (server.abort_0 id ∷ []))
+      go true true = receives_served (server.begins now terms None) g.number (incoming c.window g.window).window
+          (takes (incoming c.window g.window) g.number g.more octets)
       go true false = tt
       go false d = tt
 
   new_served : (dead : Option Entry) (free : Bool) (a : Apdu) → Serves (server.new_gets c id now service dead free a)
-  new_served dead free (ConfirmedRequest sa ms ma i None choice octets) = new_request_served dead free (record { choice = choice; takes_segments = sa; max_segments = ms; max_apdu = ma }) octets
-  new_served dead free (ConfirmedRequest sa ms ma i (Some g) choice octets) = new_segment_served dead free (record { choice = choice; takes_segments = sa; max_segments = ms; max_apdu = ma }) g octets
+  new_served dead free (ConfirmedRequest sa ms ma i None choice octets) = new_request_served dead free
+      (record { choice = choice; takes_segments = sa; max_segments = ms; max_apdu = ma }) octets
+  new_served dead free (ConfirmedRequest sa ms ma i (Some g) choice octets) = new_segment_served dead free
+      (record { choice = choice; takes_segments = sa; max_segments = ms; max_apdu = ma }) g octets
   new_served dead free _ = tt
 
   receiving_served : (e : Entry) (inc : Incoming) (since : ℕ) (a : Apdu) → Serves (server.receiving_gets c id now service e inc since a)
   receiving_served e inc since (ConfirmedRequest sa ms ma i (Some g) choice octets) = go (nat_le WAIT_SEG (now - since))
     where
-      go : (b : Bool) → Serves (if b then server.becomes e Dropped (server.abort_0 id ∷ []) else server.receives c id now service e g.number inc.window (takes inc g.number g.more octets))
+      go : (b : Bool) → Serves (if b then server.becomes e Dropped (server.abort_0 id ∷ []) else server.receives c id now service e g.number inc.window
+          (takes inc g.number g.more octets))
       go true = tt
       go false = receives_served e g.number inc.window (takes inc g.number g.more octets)
   receiving_served e inc since (Abort false i reason) = tt
@@ -87,7 +96,8 @@ module _ (c : Settings) (id now : ℕ) (service : Service) where
       go true = tt
       go false = tt
 
-  giving_ack_served : (e : Entry) (out : Outgoing) (transfer : Transfer) (number window : ℕ) → Serves (server.giving_gets_ack c id now e out transfer number window)
+  giving_ack_served : (e : Entry) (out : Outgoing) (transfer : Transfer) (number window : ℕ)
+      → Serves (server.giving_gets_ack c id now e out transfer number window)
   giving_ack_served e out Running number window = gives_on_served e (acknowledged c.window out number window)
   giving_ack_served e out Stopped number window = tt
   giving_ack_served e out Finished number window = tt

@@ -1,5 +1,6 @@
 -- What the server does keeps what holds of its transaction.
-use Rattle.std.proofs.Common.{◌≡◌, ℕ, ◌+◌, ◌-◌, ◌*◌, ◌%◌, ◌<◌, ◌≤◌, ◌≢◌, Bool, true, false, not, List, [], ◌∷◌, ◌++◌, length, get_or, take, Option, Some, None, if◌then◌else◌, nat_le, nat_eq, refl, sym, ap, subst, inl, inr, ◌∙◌, arith}
+use Rattle.std.proofs.Common.{◌≡◌, ℕ, ◌+◌, ◌-◌, ◌*◌, ◌%◌, ◌<◌, ◌≤◌, ◌≢◌, Bool, true, false, not, List, [], ◌∷◌, ◌++◌, length, get_or, take, Option}
+use Rattle.std.proofs.Common.{Some, None, if◌then◌else◌, nat_le, nat_eq, refl, sym, ap, subst, inl, inr, ◌∙◌, arith}
 use Rattle.std.specs.Prelude.{is_some}
 use Rattle.std.proofs.lemmas.Bool.Decides.{nat_tests}
 use Rattle.bac_apdu.specs.Apdu.{Apdu, Segment}
@@ -13,7 +14,7 @@ use Rattle.bac_protocol.specs.Times.{T_SEG, WAIT_SEG, LIFE, DEADLINE, KEEP}
 use Rattle.bac_protocol.specs.Sizes.{Settings}
 use Rattle.bac_protocol.specs.Service.{Octets, Outcome, Reply as reply}
 use Rattle.bac_protocol.specs.Service.Outcome.{Replies, Rejects}
-use Rattle.bac_protocol.specs.Wire.{segment_of}
+use Rattle.bac_protocol.specs.Wire.{segment_of, Each}
 use Rattle.bac_protocol.specs.Client.{Ask, request_of, Phase, Ticket}
 use Rattle.bac_protocol.specs.Client.Phase.{Sending, Awaiting, Collecting, Over}
 use Rattle.bac_protocol.specs.Server as server
@@ -25,14 +26,18 @@ use Rattle.bac_protocol.specs.Log.{Fact, Has, IsUnperformed}
 use Rattle.bac_protocol.specs.Log.Fact.{Asked, Performed}
 use Rattle.bac_protocol.specs.Transaction.{Key, Transaction, server_does}
 use Rattle.bac_protocol.specs.Claims.{IsPiece, IsAck}
-use Rattle.bac_protocol.proofs.Sound.{IsUnderway, IsFront, Up, Down, IsAckDown, server_until, WasPerformed, Says, IsUntaken, ClientFits, IsReadIfRepeated, IsKeptFor, IsUnbegun, IsReceivingFor, SendsDown, IsGivingFor, StateFits, ServerFits, UpFits, DownFits, IsOpenIn, Sound, IsSound}
+use Rattle.bac_protocol.proofs.Sound.{IsUnderway, IsFront, Up, Down, IsAckDown, server_until, WasPerformed, Says, IsUntaken, ClientFits}
+use Rattle.bac_protocol.proofs.Sound.{IsReadIfRepeated, IsKeptFor, IsUnbegun, IsReceivingFor, SendsDown, IsGivingFor, StateFits, ServerFits, UpFits}
+use Rattle.bac_protocol.proofs.Sound.{DownFits, IsOpenIn, Sound, IsSound}
 use Rattle.bac_protocol.proofs.Sound.Up.{Reading, Read}
 use Rattle.bac_protocol.proofs.Sound.Down.{Unsent, Sent, Closed}
-use Rattle.bac_protocol.proofs.Facts.{below_has, AllSends, UpGoes, DownGoes, up_same, up_read, down_same, grows_same, grows_more, copies_go, pieces_all, pieces_length}
-use Rattle.bac_protocol.proofs.Transfer.{moved, acknowledged_cases, acknowledges_taken, moved_sender, sent_to, window_underway, window_sender, window_grows, window_piece, with_piece, takes_cases, takes_below, takes_left, takes_front, takes_all}
+use Rattle.bac_protocol.proofs.Facts.{below_has, UpGoes, DownGoes, up_same, up_read, down_same, grows_same, grows_more, copies_go}
+use Rattle.bac_protocol.proofs.Facts.{pieces_all, pieces_length}
+use Rattle.bac_protocol.proofs.Transfer.{moved, acknowledged_cases, acknowledges_taken, moved_sender, sent_to, window_underway, window_sender}
+use Rattle.bac_protocol.proofs.Transfer.{window_grows, window_piece, with_piece, takes_cases, takes_below, takes_left, takes_front, takes_all}
 use Rattle.bac_protocol.proofs.Ways.{way_cut}
 
-all_join : (Q : Apdu → Type 0) (xs ys : List Apdu) → AllSends Q xs → AllSends Q ys → AllSends Q (xs ++ ys)
+all_join : (Q : Apdu → Type 0) (xs ys : List Apdu) → Each Q xs → Each Q ys → Each Q (xs ++ ys)
 all_join Q [] ys h k = k
 all_join Q (x ∷ xs) ys h k = (h.0, all_join Q xs ys h.1 k)
 
@@ -46,8 +51,16 @@ client_read W ask (Collecting inc) up down h = h
 client_read W ask Over up down h = h
 
 -- the next piece of the request was taken
-client_up : (W : ℕ) (ask : Ask) (tk sn : ℕ) (phase : Phase) (down : Down) → ClientFits W ask phase (Reading tk sn) down → ClientFits W ask phase (Reading (tk + 1) sn) down
-client_up W ask tk sn (Sending out all_sent) down h = record { in_pieces = h.in_pieces; pieces = h.pieces; window = h.window; sends = record { behind = omega (arith, h.sends.behind); near = h.sends.near }; untaken = h.untaken }
+client_up : (W : ℕ) (ask : Ask) (tk sn : ℕ) (phase : Phase) (down : Down) → ClientFits W ask phase (Reading tk sn) down
+    → ClientFits W ask phase (Reading (tk + 1) sn) down
+client_up W ask tk sn (Sending out all_sent) down h =
+    record {
+      in_pieces = h.in_pieces;
+      pieces = h.pieces;
+      window = h.window;
+      sends = record { behind = omega (arith, h.sends.behind); near = h.sends.near };
+      untaken = h.untaken;
+    }
 client_up W ask tk sn Awaiting down h = h
 client_up W ask tk sn (Collecting inc) down h = h
 client_up W ask tk sn Over down h = h
@@ -59,7 +72,8 @@ opened Awaiting ps = Sent ps 0 1
 opened (Collecting inc) ps = Sent ps 0 1
 opened Over ps = Closed
 
-client_opened : (W : ℕ) (ask : Ask) (ps : List Octets) (phase : Phase) (up : Up) → ClientFits W ask phase up Unsent → ClientFits W ask phase Read (opened phase ps)
+client_opened : (W : ℕ) (ask : Ask) (ps : List Octets) (phase : Phase) (up : Up) → ClientFits W ask phase up Unsent
+    → ClientFits W ask phase Read (opened phase ps)
 client_opened W ask ps (Sending out all_sent) up h = record { in_pieces = h.in_pieces; pieces = h.pieces; window = h.window; sends = tt; untaken = refl }
 client_opened W ask ps Awaiting up h = (tt, refl)
 client_opened W ask ps (Collecting inc) up h = absurd h
@@ -83,20 +97,23 @@ sends_opened W some Over ps = tt
 first_piece : (W own k : ℕ) (ps : List Octets) → IsPiece W ps 1 k (segment_of own ps 0) (piece_at ps 0)
 first_piece W own k ps = record { piece = 0; number_is = refl; more_is = refl; octets_is = refl; below = omega arith; near = omega arith }
 
-piece_opened : (W number now k id choice : ℕ) (c : Settings) (ask : Ask) (log : List Fact) (phase : Phase) (ps : List Octets) → now ≤ server_until ask → Says W number ask log Read (opened phase ps) now k (server.reply_piece c id choice ps 0)
+piece_opened : (W number now k id choice : ℕ) (c : Settings) (ask : Ask) (log : List Fact) (phase : Phase) (ps : List Octets) → now ≤ server_until ask
+    → Says W number ask log Read (opened phase ps) now k (server.reply_piece c id choice ps 0)
 piece_opened W number now k id choice c ask log (Sending out all_sent) ps late = (late, first_piece W c.window k ps)
 piece_opened W number now k id choice c ask log Awaiting ps late = (late, first_piece W c.window k ps)
 piece_opened W number now k id choice c ask log (Collecting inc) ps late = (late, first_piece W c.window k ps)
 piece_opened W number now k id choice c ask log Over ps late = (late, tt)
 
-unended_performed : (phase : Phase) (n : ℕ) (f : Fact) (log : List Fact) → (x : Effect) → f ≡ Performed n x.request x.reply → IsOpenIn phase n log → IsOpenIn phase n (Performed n x.request x.reply ∷ log)
+unended_performed : (phase : Phase) (n : ℕ) (f : Fact) (log : List Fact) → (x : Effect) → f ≡ Performed n x.request x.reply → IsOpenIn phase n log
+    → IsOpenIn phase n (Performed n x.request x.reply ∷ log)
 unended_performed (Sending out all_sent) n f log x e h = h
 unended_performed Awaiting n f log x e h = h
 unended_performed (Collecting inc) n f log x e h = h
 unended_performed Over n f log x e h = h
 
 -- what is kept is said again
-kept_says : (W number now k : ℕ) (ask : Ask) (a : Apdu) (log : List Fact) (up : Up) (down : Down) → now ≤ server_until ask → IsKeptFor number ask a log → Says W number ask log up down now k a
+kept_says : (W number now k : ℕ) (ask : Ask) (a : Apdu) (log : List Fact) (up : Up) (down : Down) → now ≤ server_until ask → IsKeptFor number ask a log
+    → Says W number ask log up down now k a
 kept_says W number now k ask (SimpleAck id choice) log up down late h = (late, h)
 kept_says W number now k ask (ComplexAck id None choice o) log up down late h = (late, h)
 kept_says W number now k ask (Error id choice class code) log up down late h = (late, h)
@@ -104,7 +121,8 @@ kept_says W number now k ask (Reject id r) log up down late h = late
 kept_says W number now k ask (Abort true id r) log up down late h = late
 kept_says W number now k ask _ log up down late h = absurd h
 
-reply_kept : (number id choice : ℕ) (ask : Ask) (log : List Fact) (p : reply) → WasPerformed number ask p log → IsKeptFor number ask (server.reply_apdu id choice p) log
+reply_kept : (number id choice : ℕ) (ask : Ask) (log : List Fact) (p : reply) → WasPerformed number ask p log
+    → IsKeptFor number ask (server.reply_apdu id choice p) log
 reply_kept number id choice ask log reply.Simple h = h
 reply_kept number id choice ask log (reply.Complex o) h = h
 reply_kept number id choice ask log (reply.Error class code) h = h
@@ -124,7 +142,8 @@ down_widens W out Closed u h = tt
 down_fits_widened : (W : ℕ) (out : Outgoing) (down : Down) → out.window ≤ W → DownFits W down → SendsDown W out down → DownFits W (down_widened out down)
 down_fits_widened W out Unsent small u h = tt
 down_fits_widened W out (Sent ps t s) small u h =
-    subst (λ (qs : List Octets). IsUnderway W t (sent_to out s) (length qs)) h.0 (window_underway W out t s small (subst (λ (qs : List Octets). IsUnderway W t s (length qs)) (sym h.0) u) h.1)
+    subst (λ (qs : List Octets). IsUnderway W t (sent_to out s) (length qs)) h.0
+    (window_underway W out t s small (subst (λ (qs : List Octets). IsUnderway W t s (length qs)) (sym h.0) u) h.1)
 down_fits_widened W out Closed small u h = tt
 
 sends_down_widened : (W : ℕ) (out : Outgoing) (down : Down) → out.window ≤ W → SendsDown W out down → SendsDown W out (down_widened out down)
@@ -137,8 +156,10 @@ untaken_widened out Unsent h = h
 untaken_widened out (Sent ps t s) h = h
 untaken_widened out Closed h = h
 
-client_down_widened : (W : ℕ) (ask : Ask) (out : Outgoing) (phase : Phase) (up : Up) (down : Down) → ClientFits W ask phase up down → ClientFits W ask phase up (down_widened out down)
-client_down_widened W ask out (Sending out' all_sent) up down h = record { in_pieces = h.in_pieces; pieces = h.pieces; window = h.window; sends = h.sends; untaken = untaken_widened out down h.untaken }
+client_down_widened : (W : ℕ) (ask : Ask) (out : Outgoing) (phase : Phase) (up : Up) (down : Down) → ClientFits W ask phase up down
+    → ClientFits W ask phase up (down_widened out down)
+client_down_widened W ask out (Sending out' all_sent) up down h =
+    record { in_pieces = h.in_pieces; pieces = h.pieces; window = h.window; sends = h.sends; untaken = untaken_widened out down h.untaken }
 client_down_widened W ask out Awaiting up down h = (h.0, untaken_widened out down h.1)
 client_down_widened W ask out (Collecting inc) up Unsent h = h
 client_down_widened W ask out (Collecting inc) up (Sent ps t s) h = h
@@ -146,7 +167,8 @@ client_down_widened W ask out (Collecting inc) up Closed h = h
 client_down_widened W ask out Over up down h = tt
 
 -- One transaction, whose ticket is t.
-module _ (W V : ℕ) (some : 0 < W) (room : V + 2 * W ≤ 255) (c : Settings) (own : c.window ≤ W) (service : Service) (key : Key) (w : Transaction) (t : Ticket) where
+module _ (W V : ℕ) (some : 0 < W) (room : V + 2 * W ≤ 255) (c : Settings) (own : c.window ≤ W) (service : Service) (key : Key) (w : Transaction)
+    (t : Ticket) where
   -- it is sound with that entry
   abbrev SoundWith : Option Entry → Up → Down → Type 0
   SoundWith o up down = Sound W key w.now w.asks w.number t o w.copies w.log up down
@@ -160,8 +182,9 @@ module _ (W V : ℕ) (some : 0 < W) (room : V + 2 * W ≤ 255) (c : Settings) (o
   -- an entry is as it is, or new, and nothing was performed
   serves : (o : Option Entry) (up : Up) (down : Down) → SoundWith o up down → (entry : Option Entry) (sends : List Apdu) (up' : Up) (down' : Down)
       → UpGoes (length sends) up up' → DownGoes (length sends) down down'
-      → ClientFits W t.ask t.phase up' down' → IsReadIfRepeated t.ask t.repeats up' → ServerFits W w.number t.ask entry up' down' w.log → UpFits W t.ask up' → DownFits W down'
-      → AllSends (SaysNow w.log up' down') sends
+      → ClientFits W t.ask t.phase up' down' → IsReadIfRepeated t.ask t.repeats up' → ServerFits W w.number t.ask entry up' down' w.log
+      → UpFits W t.ask up' → DownFits W down'
+      → Each (SaysNow w.log up' down') sends
       → IsKept (server.rests entry sends)
   serves o up down s entry sends up' down' gu gd client passes fits upload download says = (
     up',
@@ -185,15 +208,17 @@ module _ (W V : ℕ) (some : 0 < W) (room : V + 2 * W ≤ 255) (c : Settings) (o
   -- no ghost moves
   serves_same : (o : Option Entry) (up : Up) (down : Down) → SoundWith o up down → (entry : Option Entry) (sends : List Apdu)
       → ServerFits W w.number t.ask entry up down w.log
-      → AllSends (SaysNow w.log up down) sends
+      → Each (SaysNow w.log up down) sends
       → IsKept (server.rests entry sends)
   serves_same o up down s entry sends fits says =
       serves o up down s entry sends up down (up_same (length sends) up) (down_same (length sends) down) s.client s.passes fits s.upload s.download says
 
   module _ (late : w.now ≤ server_until t.ask) where
     -- The request is performed, in the entry e.
-    module _ (o : Option Entry) (up : Up) (s : SoundWith o up Unsent) (un : IsUnperformed w.number w.log) (e : Entry) (after : t.ask.first ≤ e.begin) (before : e.begin ≤ t.ask.first + DEADLINE + LIFE) (chosen : e.terms.choice ≡ t.ask.choice)
-        (octets : Octets) (same : octets ≡ join t.ask.pieces) (acks : List Apdu) (acks_say : (log : List Fact) (down : Down) → AllSends (SaysNow log Read down) acks) where
+    module _ (o : Option Entry) (up : Up) (s : SoundWith o up Unsent) (un : IsUnperformed w.number w.log) (e : Entry) (after : t.ask.first ≤ e.begin)
+        (before : e.begin ≤ t.ask.first + DEADLINE + LIFE) (chosen : e.terms.choice ≡ t.ask.choice)
+        (octets : Octets) (same : octets ≡ join t.ask.pieces) (acks : List Apdu)
+        (acks_say : (log : List Fact) (down : Down) → Each (SaysNow log Read down) acks) where
       abbrev effect : reply → Effect
       effect p = record { request = record { choice = e.terms.choice; service = octets }; reply = p }
 
@@ -210,7 +235,7 @@ module _ (W V : ℕ) (some : 0 < W) (room : V + 2 * W ≤ 255) (c : Settings) (o
       effect_kept : (p : reply) (state : State) (sends : List Apdu) (down' : Down)
           → StateFits W w.number t.ask state Read down' (log_with p)
           → ClientFits W t.ask t.phase Read down' → DownFits W down'
-          → AllSends (SaysNow (log_with p) Read down') sends
+          → Each (SaysNow (log_with p) Read down') sends
           → IsKept (record { entry = Some (record e { state = state }); sends = sends; effect = Some (effect p) })
       effect_kept p state sends down' fits client download says = (
         Read,
@@ -227,32 +252,42 @@ module _ (W V : ℕ) (some : 0 < W) (room : V + 2 * W ≤ 255) (c : Settings) (o
           server = inr (record { after = after; before = before; choice = chosen; state = fits });
           upload = tt;
           download = download;
-          arriving = copies_go W w.now w.number t.ask w.log (log_with p) up Read Unsent down' sends w.copies (grows_more (Performed w.number (effect p).request p) w.log) (up_read (length sends) up) tt s.clock says s.arriving;
+          arriving = copies_go W w.now w.number t.ask w.log (log_with p) up Read Unsent down' sends w.copies
+              (grows_more (Performed w.number (effect p).request p) w.log) (up_read (length sends) up) tt s.clock says s.arriving;
         },
       )
 
       -- an Abort or a Reject is kept, and nothing was performed
       refusal_kept : (a : Apdu) → IsKeptFor w.number t.ask a w.log → IsKept (server.becomes e (Done a) (acks ++ a ∷ []))
       refusal_kept a h =
-          serves o up Unsent s (Some (record e { state = Done a })) (acks ++ a ∷ []) Read Unsent (up_read (length (acks ++ a ∷ [])) up) tt (client_read W t.ask t.phase up Unsent s.client) tt
+          serves o up Unsent s (Some (record e { state = Done a })) (acks ++ a ∷ []) Read Unsent (up_read (length (acks ++ a ∷ [])) up) tt
+          (client_read W t.ask t.phase up Unsent s.client) tt
           (inr (record { after = after; before = before; choice = chosen; state = h })) tt tt
-          (all_join (SaysNow w.log Read Unsent) acks (a ∷ []) (acks_say w.log Unsent) ((λ k. kept_says W w.number w.now k t.ask a w.log Read Unsent late h), tt))
+          (all_join (SaysNow w.log Read Unsent) acks (a ∷ []) (acks_say w.log Unsent)
+          ((λ k. kept_says W w.number w.now k t.ask a w.log Read Unsent late h), tt))
 
       gives_kept : (p : reply) (way : Way) → server.way_of c e.terms p ≡ way → IsKept (server.gives c key.id w.now e acks octets p way)
       gives_kept p AtOnce is =
           let a = server.reply_apdu key.id e.terms.choice p in
           let kept = reply_kept w.number key.id e.terms.choice t.ask (log_with p) p (performed_is p) in
           effect_kept p (Done a) (acks ++ a ∷ []) Unsent kept (client_read W t.ask t.phase up Unsent s.client) tt
-          (all_join (SaysNow (log_with p) Read Unsent) acks (a ∷ []) (acks_say (log_with p) Unsent) ((λ k. kept_says W w.number w.now k t.ask a (log_with p) Read Unsent late kept), tt))
+          (all_join (SaysNow (log_with p) Read Unsent) acks (a ∷ []) (acks_say (log_with p) Unsent)
+          ((λ k. kept_says W w.number w.now k t.ask a (log_with p) Read Unsent late kept), tt))
       gives_kept p (InPieces ps) is =
           let a = server.reply_piece c key.id e.terms.choice ps 0 in
           let cut = way_cut c e.terms p ps is in
           let down' = opened t.phase ps in
           effect_kept p (Giving (outgoing ps) Running w.now) (acks ++ a ∷ []) down'
-          (record { window = omega arith; performed = subst (λ q. WasPerformed w.number t.ask q (log_with p)) cut.is (performed_is p); sends = sends_opened W some t.phase ps })
+          (record {
+            window = omega arith;
+            performed = subst (λ q. WasPerformed w.number t.ask q (log_with p)) cut.is (performed_is p);
+            sends =
+                sends_opened W some t.phase ps;
+          })
           (client_opened W t.ask ps t.phase up s.client)
           (down_opened W some t.phase ps cut.some)
-          (all_join (SaysNow (log_with p) Read down') acks (a ∷ []) (acks_say (log_with p) down') ((λ k. piece_opened W w.number w.now k key.id e.terms.choice c t.ask (log_with p) t.phase ps late), tt))
+          (all_join (SaysNow (log_with p) Read down') acks (a ∷ []) (acks_say (log_with p) down')
+          ((λ k. piece_opened W w.number w.now k key.id e.terms.choice c t.ask (log_with p) t.phase ps late), tt))
       gives_kept p (Unsendable reason) is = refusal_kept (Abort true key.id reason) un
 
       so_kept : (x : Outcome) → IsKept (server.performs_so c key.id w.now e acks octets x)
@@ -263,13 +298,16 @@ module _ (W V : ℕ) (some : 0 < W) (room : V + 2 * W ≤ 255) (c : Settings) (o
       performs_kept = so_kept (service e.terms.choice octets)
 
     -- A piece of the request comes to the entry e, which has taken tk of them.
-    module _ (o : Option Entry) (tk sn : ℕ) (s : SoundWith o (Reading tk sn) Unsent) (un : IsUnperformed w.number w.log) (whole : t.ask.whole ≡ false) (e : Entry) (after : t.ask.first ≤ e.begin) (before : e.begin ≤ t.ask.first + DEADLINE + LIFE) (chosen : e.terms.choice ≡ t.ask.choice)
-        (inc : Incoming) (taken : length inc.parts ≡ tk) (parts : inc.parts ≡ take tk t.ask.pieces) (k : ℕ) (soon : k ≤ V) (g : Segment) (octets : Octets) (piece : IsPiece W t.ask.pieces sn k g octets) (first : g.number ≢ length inc.parts % 256 → 0 < tk) where
+    module _ (o : Option Entry) (tk sn : ℕ) (s : SoundWith o (Reading tk sn) Unsent) (un : IsUnperformed w.number w.log) (whole : t.ask.whole ≡ false)
+        (e : Entry) (after : t.ask.first ≤ e.begin) (before : e.begin ≤ t.ask.first + DEADLINE + LIFE) (chosen : e.terms.choice ≡ t.ask.choice)
+        (inc : Incoming) (taken : length inc.parts ≡ tk) (parts : inc.parts ≡ take tk t.ask.pieces) (k : ℕ) (soon : k ≤ V) (g : Segment) (octets : Octets)
+        (piece : IsPiece W t.ask.pieces sn k g octets) (first : g.number ≢ length inc.parts % 256 → 0 < tk) where
       number_is : g.number ≡ length inc.parts % 256 → g.number ≡ tk % 256
       number_is eq = eq ∙ ap (λ x. x % 256) taken
 
       nak_ack : 0 < tk → (j : ℕ) → IsAck W tk sn j ((length inc.parts - 1) % 256)
-      nak_ack pos j = let near = s.upload.near in record { piece = tk - 1; number_is = ap (λ x. (x - 1) % 256) taken; below = omega arith; near = omega arith }
+      nak_ack pos j = let near = s.upload.near in record
+          { piece = tk - 1; number_is = ap (λ x. (x - 1) % 256) taken; below = omega arith; near = omega arith }
 
       under : g.number ≡ length inc.parts % 256 → g.more ≡ true → IsUnderway W (tk + 1) sn (length t.ask.pieces)
       under eq m =
@@ -292,66 +330,92 @@ module _ (W V : ℕ) (some : 0 < W) (room : V + 2 * W ≤ 255) (c : Settings) (o
         parts_are = takes_front V W some room t.ask.pieces tk sn k soon s.upload g octets piece (number_is eq) inc.parts parts;
       }
 
-      next : (sends : List Apdu) → g.number ≡ length inc.parts % 256 → g.more ≡ true → (n : ℕ) → AllSends (SaysNow w.log (Reading (tk + 1) sn) Unsent) sends → IsKept (server.becomes e (Receiving (with_piece inc octets n) w.now) sends)
-      next sends eq m n says = serves o (Reading tk sn) Unsent s (Some (record e { state = Receiving (with_piece inc octets n) w.now })) sends (Reading (tk + 1) sn) Unsent
+      next : (sends : List Apdu) → g.number ≡ length inc.parts % 256 → g.more ≡ true → (n : ℕ)
+          → Each (SaysNow w.log (Reading (tk + 1) sn) Unsent) sends → IsKept (server.becomes e (Receiving (with_piece inc octets n) w.now) sends)
+      next sends eq m n says = serves o (Reading tk sn) Unsent s (Some (record e { state = Receiving (with_piece inc octets n) w.now })) sends
+          (Reading (tk + 1) sn) Unsent
           (omega arith, omega arith, omega arith) tt (client_up W t.ask tk sn t.phase Unsent s.client) s.passes
           (inr (record { after = after; before = before; choice = chosen; state = record { in_pieces = whole; front = front eq n; unperformed = un } }))
           (under eq m) tt says
 
-      goes_on : g.number ≡ length inc.parts % 256 → g.more ≡ true → (ack : Bool) (n : ℕ) → IsKept (server.receives c key.id w.now service e g.number inc.window (Taken ack (with_piece inc octets n)))
+      goes_on : g.number ≡ length inc.parts % 256 → g.more ≡ true → (ack : Bool) (n : ℕ)
+          → IsKept (server.receives c key.id w.now service e g.number inc.window (Taken ack (with_piece inc octets n)))
       goes_on eq m true n = next (server.server_ack false key.id g.number inc.window ∷ []) eq m n (λ j. (late, next_ack eq j), tt)
       goes_on eq m false n = next [] eq m n tt
 
       receives_kept : IsKept (server.receives c key.id w.now service e g.number inc.window (takes inc g.number g.more octets))
       receives_kept =
           takes_cases inc g.number g.more octets (λ x. IsKept (server.receives c key.id w.now service e g.number inc.window x))
-          (λ ne. serves_same o (Reading tk sn) Unsent s (Some (record e { state = Receiving (record inc { unacknowledged = 0 }) w.now })) (server.server_ack true key.id ((length inc.parts - 1) % 256) inc.window ∷ [])
-          (inr (record { after = after; before = before; choice = chosen; state = record { in_pieces = whole; front = record { taken_is = taken; some = first ne; parts_are = parts }; unperformed = un } }))
+          (λ ne. serves_same o (Reading tk sn) Unsent s (Some (record e { state = Receiving (record inc { unacknowledged = 0 }) w.now }))
+          (server.server_ack true key.id ((length inc.parts - 1) % 256) inc.window ∷ [])
+          (inr (record {
+            after = after;
+            before = before;
+            choice = chosen;
+            state =
+                record { in_pieces = whole; front = record { taken_is = taken; some = first ne; parts_are = parts }; unperformed = un };
+          }))
           (λ j. (late, nak_ack (first ne) j), tt))
-          (serves_same o (Reading tk sn) Unsent s (Some (record e { state = Dropped })) (Abort true key.id 1 ∷ []) (inr (record { after = after; before = before; choice = chosen; state = un })) (λ j. late, tt))
-          (λ eq m. performs_kept o (Reading tk sn) s un e after before chosen (join (inc.parts ++ octets ∷ [])) (ap join (takes_all V W some room t.ask.pieces tk sn k soon s.upload g octets piece (number_is eq) inc.parts parts m)) (server.server_ack false key.id g.number inc.window ∷ []) (λ log down. (λ j. (late, tt), tt)))
+          (serves_same o (Reading tk sn) Unsent s (Some (record e { state = Dropped })) (Abort true key.id 1 ∷ [])
+          (inr (record { after = after; before = before; choice = chosen; state = un })) (λ j. late, tt))
+          (λ eq m. performs_kept o (Reading tk sn) s un e after before chosen (join (inc.parts ++ octets ∷ []))
+          (ap join (takes_all V W some room t.ask.pieces tk sn k soon s.upload g octets piece (number_is eq) inc.parts parts m))
+          (server.server_ack false key.id g.number inc.window ∷ []) (λ log down. (λ j. (late, tt), tt)))
           (λ eq m ack n. goes_on eq m ack n)
 
   -- What comes to the server.
 
   -- no entry is live, and none was begun for the ask
-  module _ (o : Option Entry) (tk sn : ℕ) (s : SoundWith o (Reading tk sn) Unsent) (un : IsUnbegun w.number (Reading tk sn) Unsent w.log) (soon : w.now ≤ t.ask.first + DEADLINE + LIFE) where
+  module _ (o : Option Entry) (tk sn : ℕ) (s : SoundWith o (Reading tk sn) Unsent) (un : IsUnbegun w.number (Reading tk sn) Unsent w.log)
+      (soon : w.now ≤ t.ask.first + DEADLINE + LIFE) where
     in_time : w.now ≤ server_until t.ask
     in_time = omega (arith, soon)
 
     no_slot : IsKept (server.rests o (server.abort_0 key.id ∷ []))
     no_slot = serves_same o (Reading tk sn) Unsent s o (server.abort_0 key.id ∷ []) s.server (λ j. omega (arith, soon), tt)
 
-    new_request_kept : (terms : Terms) (octets : Octets) → terms.choice ≡ t.ask.choice → octets ≡ join t.ask.pieces → (free : Bool) → IsKept (server.new_request c key.id w.now service o free terms octets)
-    new_request_kept terms octets chosen same true = performs_kept in_time o (Reading tk sn) s un.1 (server.begins w.now terms (Some octets)) s.clock soon chosen octets same [] (λ log down. tt)
+    new_request_kept : (terms : Terms) (octets : Octets) → terms.choice ≡ t.ask.choice → octets ≡ join t.ask.pieces → (free : Bool)
+        → IsKept (server.new_request c key.id w.now service o free terms octets)
+    new_request_kept terms octets chosen same true = performs_kept in_time o (Reading tk sn) s un.1
+        (server.begins w.now terms (Some octets)) s.clock soon chosen octets same [] (λ log down. tt)
     new_request_kept terms octets chosen same false = no_slot
 
-    new_segment_kept : t.ask.whole ≡ false → (terms : Terms) (g : Segment) (octets : Octets) → terms.choice ≡ t.ask.choice → (k : ℕ) → k ≤ V → IsPiece W t.ask.pieces sn k g octets → (free : Bool) → IsKept (server.new_segment c key.id w.now service o free terms g octets)
+    new_segment_kept : t.ask.whole ≡ false → (terms : Terms) (g : Segment) (octets : Octets) → terms.choice ≡ t.ask.choice → (k : ℕ) → k ≤ V
+        → IsPiece W t.ask.pieces sn k g octets → (free : Bool) → IsKept (server.new_segment c key.id w.now service o free terms g octets)
     new_segment_kept whole terms g octets chosen k late piece free = by_number (nat_eq g.number 0) refl free
       where
-        by_number : (b : Bool) → nat_eq g.number 0 ≡ b → (d : Bool) → IsKept (if not b then server.rests o [] else if d then server.receives c key.id w.now service (server.begins w.now terms None) g.number (incoming c.window g.window).window (takes (incoming c.window g.window) g.number g.more octets) else server.rests o (server.abort_0 key.id ∷ []))
+        by_number : (b : Bool) → nat_eq g.number 0 ≡ b → (d : Bool)
+            → IsKept (if not b then server.rests o [] else if d then server.receives c key.id w.now service (server.begins w.now terms None) g.number
+            (incoming c.window g.window).window (takes (incoming c.window g.window) g.number g.more octets) else server.rests o
+            (server.abort_0 key.id ∷ []))
         by_number true is true =
             let zero_is : g.number ≡ 0 = grind (arith, nat_tests) in
-            receives_kept in_time o tk sn s un.1 whole (server.begins w.now terms None) s.clock soon chosen (incoming c.window g.window) (sym un.0) (ap (λ n. take n t.ask.pieces) (sym un.0)) k late g octets piece (λ ne. absurd (ne zero_is))
+            receives_kept in_time o tk sn s un.1 whole (server.begins w.now terms None) s.clock soon chosen (incoming c.window g.window) (sym un.0)
+            (ap (λ n. take n t.ask.pieces) (sym un.0)) k late g octets piece (λ ne. absurd (ne zero_is))
         by_number true is false = no_slot
         by_number false is d = (Reading tk sn, Unsent, s)
 
-  new_kept : (o : Option Entry) (up : Up) (down : Down) → SoundWith o up down → IsUnbegun w.number up down w.log → (free : Bool) (m k : ℕ) → k ≤ V → w.now - m ≤ LIFE → (a : Apdu) → Says W w.number t.ask w.log up down m k a → IsKept (server.new_gets c key.id w.now service o free a)
+  new_kept : (o : Option Entry) (up : Up) (down : Down) → SoundWith o up down → IsUnbegun w.number up down w.log → (free : Bool) (m k : ℕ) → k ≤ V
+      → w.now - m ≤ LIFE → (a : Apdu) → Says W w.number t.ask w.log up down m k a → IsKept (server.new_gets c key.id w.now service o free a)
   new_kept o (Reading tk sn) Unsent s un free m k late young (ConfirmedRequest sa ms ma id None choice octets) says =
-      let le = says.0 in new_request_kept o tk sn s un (omega arith) (record { choice = choice; takes_segments = sa; max_segments = ms; max_apdu = ma }) octets says.2 says.3 free
+      let le = says.0 in new_request_kept o tk sn s un (omega arith)
+      (record { choice = choice; takes_segments = sa; max_segments = ms; max_apdu = ma }) octets says.2 says.3 free
   new_kept o (Reading tk sn) Unsent s un free m k late young (ConfirmedRequest sa ms ma id (Some g) choice octets) says =
-      let le = says.0 in new_segment_kept o tk sn s un (omega arith) says.1 (record { choice = choice; takes_segments = sa; max_segments = ms; max_apdu = ma }) g octets says.2 k late says.3 free
+      let le = says.0 in new_segment_kept o tk sn s un (omega arith) says.1
+      (record { choice = choice; takes_segments = sa; max_segments = ms; max_apdu = ma }) g octets says.2 k late says.3 free
   new_kept o (Reading tk sn) Unsent s un free m k late young _ says = (Reading tk sn, Unsent, s)
   new_kept o _ _ s un free m k late young a says = absurd un
 
   -- an entry that is not live, where it was begun for the ask: no request arrives
-  dead_kept : (e : Entry) (up : Up) (down : Down) → SoundWith (Some e) up down → t.ask.first ≤ e.begin → KEEP < w.now - e.begin → (free : Bool) (m k : ℕ) → w.now - m ≤ LIFE → (a : Apdu) → Says W w.number t.ask w.log up down m k a → IsKept (server.new_gets c key.id w.now service (Some e) free a)
+  dead_kept : (e : Entry) (up : Up) (down : Down) → SoundWith (Some e) up down → t.ask.first ≤ e.begin → KEEP < w.now - e.begin → (free : Bool) (m k : ℕ)
+      → w.now - m ≤ LIFE → (a : Apdu) → Says W w.number t.ask w.log up down m k a → IsKept (server.new_gets c key.id w.now service (Some e) free a)
   dead_kept e up down s after dead free m k young (ConfirmedRequest sa ms ma id None choice octets) says = let le = says.0 in absurd (omega arith)
   dead_kept e up down s after dead free m k young (ConfirmedRequest sa ms ma id (Some g) choice octets) says = let le = says.0 in absurd (omega arith)
   dead_kept e up down s after dead free m k young _ says = (up, down, s)
 
   -- A live entry, which was begun for the ask.
-  module _ (e : Entry) (late : w.now ≤ server_until t.ask) (after : t.ask.first ≤ e.begin) (before : e.begin ≤ t.ask.first + DEADLINE + LIFE) (chosen : e.terms.choice ≡ t.ask.choice) where
+  module _ (e : Entry) (late : w.now ≤ server_until t.ask) (after : t.ask.first ≤ e.begin) (before : e.begin ≤ t.ask.first + DEADLINE + LIFE)
+      (chosen : e.terms.choice ≡ t.ask.choice) where
     -- the server answers, and all else stays
     answers : (up : Up) (down : Down) → SoundWith (Some e) up down → (a : Apdu) → SaysNow w.log up down a → IsKept (server.rests (Some e) (a ∷ []))
     answers up down s a says = serves_same (Some e) up down s (Some e) (a ∷ []) s.server (says, tt)
@@ -359,7 +423,8 @@ module _ (W V : ℕ) (some : 0 < W) (room : V + 2 * W ≤ 255) (c : Settings) (o
     aborts : (up : Up) (down : Down) → SoundWith (Some e) up down → IsKept (server.rests (Some e) (server.abort_0 key.id ∷ []))
     aborts up down s = answers up down s (server.abort_0 key.id) (λ k. late)
 
-    done_kept : (up : Up) (down : Down) → SoundWith (Some e) up down → (kept : Apdu) → IsKeptFor w.number t.ask kept w.log → (a : Apdu) → IsKept (server.done_gets key.id e kept a)
+    done_kept : (up : Up) (down : Down) → SoundWith (Some e) up down → (kept : Apdu) → IsKeptFor w.number t.ask kept w.log → (a : Apdu)
+        → IsKept (server.done_gets key.id e kept a)
     done_kept up down s kept h (ConfirmedRequest sa ms ma id None choice octets) = by_same (server.is_kept e e.request choice octets)
       where
         by_same : (b : Bool) → IsKept (server.rests (Some e) ((if b then kept else server.abort_0 key.id) ∷ []))
@@ -376,43 +441,64 @@ module _ (W V : ℕ) (some : 0 < W) (room : V + 2 * W ≤ 255) (c : Settings) (o
     dropped_kept up down s (ConfirmedRequest sa ms ma id g choice octets) = aborts up down s
     dropped_kept up down s _ = (up, down, s)
 
-    reply_says : (k p : ℕ) (log : List Fact) (out : Outgoing) (up : Up) (down : Down) → out.window ≤ W → SendsDown W out down → out.first ≤ p → p < out.first + in_window out → Says W w.number t.ask log up (down_widened out down) w.now k (server.reply_piece c key.id e.terms.choice out.pieces p)
+    reply_says : (k p : ℕ) (log : List Fact) (out : Outgoing) (up : Up) (down : Down) → out.window ≤ W → SendsDown W out down → out.first ≤ p
+        → p < out.first + in_window out → Says W w.number t.ask log up (down_widened out down) w.now k
+        (server.reply_piece c key.id e.terms.choice out.pieces p)
     reply_says k p log out up Unsent small h lo hi = absurd h
-    reply_says k p log out up (Sent ps tk sn) small h lo hi =
-        (late, subst (λ (qs : List Octets). IsPiece W qs (sent_to out sn) k (segment_of c.window out.pieces p) (get_or out.pieces p [])) h.0 (window_piece W c.window out tk sn k p small h.1 lo hi))
+    reply_says k p log out up (Sent ps tk sn) small h lo hi = (
+      late,
+      subst (λ (qs : List Octets). IsPiece W qs (sent_to out sn) k (segment_of c.window out.pieces p) (get_or out.pieces p [])) h.0
+          (window_piece W c.window out tk sn k p small h.1 lo hi),
+    )
     reply_says k p log out up Closed small h lo hi = (late, tt)
 
-    gives_window_kept : (down : Down) → SoundWith (Some e) Read down → (out : Outgoing) → IsGivingFor W w.number t.ask out down w.log → IsKept (server.gives_window c key.id w.now e out)
+    gives_window_kept : (down : Down) → SoundWith (Some e) Read down → (out : Outgoing) → IsGivingFor W w.number t.ask out down w.log
+        → IsKept (server.gives_window c key.id w.now e out)
     gives_window_kept down s out h =
-        serves (Some e) Read down s (Some (record e { state = Giving out Running w.now })) (server.reply_window c key.id e.terms.choice out) Read (down_widened out down)
+        serves (Some e) Read down s (Some (record e { state = Giving out Running w.now })) (server.reply_window c key.id e.terms.choice out) Read
+        (down_widened out down)
         tt
         (rw pieces_length (down_widens W out down s.download h.sends))
         (client_down_widened W t.ask out t.phase Read down s.client)
         tt
-        (inr (record { after = after; before = before; choice = chosen; state = record { window = h.window; performed = h.performed; sends = sends_down_widened W out down h.window h.sends } }))
+        (inr (record {
+          after = after;
+          before = before;
+          choice = chosen;
+          state =
+              record { window = h.window; performed = h.performed; sends = sends_down_widened W out down h.window h.sends };
+        }))
         tt
         (down_fits_widened W out down h.window s.download h.sends)
-        (pieces_all (SaysNow w.log Read (down_widened out down)) (server.reply_piece c key.id e.terms.choice out.pieces) out.first (in_window out) (λ p lo hi k. reply_says k p w.log out Read down h.window h.sends lo hi))
+        (pieces_all (SaysNow w.log Read (down_widened out down)) (server.reply_piece c key.id e.terms.choice out.pieces) out.first (in_window out)
+        (λ p lo hi k. reply_says k p w.log out Read down h.window h.sends lo hi))
 
     -- the transfer changes, and nothing is sent
-    rests_giving : (down : Down) → SoundWith (Some e) Read down → (out : Outgoing) (transfer : Transfer) (since : ℕ) → IsGivingFor W w.number t.ask out down w.log → IsKept (server.becomes e (Giving out transfer since) [])
-    rests_giving down s out transfer since h = serves_same (Some e) Read down s (Some (record e { state = Giving out transfer since })) [] (inr (record { after = after; before = before; choice = chosen; state = h })) tt
+    rests_giving : (down : Down) → SoundWith (Some e) Read down → (out : Outgoing) (transfer : Transfer) (since : ℕ)
+        → IsGivingFor W w.number t.ask out down w.log → IsKept (server.becomes e (Giving out transfer since) [])
+    rests_giving down s out transfer since h = serves_same (Some e) Read down s (Some (record e { state = Giving out transfer since })) []
+        (inr (record { after = after; before = before; choice = chosen; state = h })) tt
 
-    moved_down : (out : Outgoing) (down : Down) (k number window : ℕ) → k ≤ V → out.window ≤ W → DownFits W down → SendsDown W out down → IsAckDown W down k number → ahead number out.first < in_window out → SendsDown W (moved c.window out number window) down
+    moved_down : (out : Outgoing) (down : Down) (k number window : ℕ) → k ≤ V → out.window ≤ W → DownFits W down → SendsDown W out down
+        → IsAckDown W down k number → ahead number out.first < in_window out → SendsDown W (moved c.window out number window) down
     moved_down out Unsent k number window soon small u h ack lt = h
     moved_down out (Sent ps tk sn) k number window soon small u h ack lt =
         (h.0, moved_sender c.window W out tk sn number window h.1 (acknowledges_taken V W out tk sn k number room soon small u.behind h.1 ack lt))
     moved_down out Closed k number window soon small u h ack lt = tt
 
-    giving_ack_kept : (down : Down) → SoundWith (Some e) Read down → (out : Outgoing) → IsGivingFor W w.number t.ask out down w.log → (transfer : Transfer) (k number window : ℕ) → k ≤ V → IsAckDown W down k number
+    giving_ack_kept : (down : Down) → SoundWith (Some e) Read down → (out : Outgoing) → IsGivingFor W w.number t.ask out down w.log
+        → (transfer : Transfer) (k number window : ℕ) → k ≤ V → IsAckDown W down k number
         → IsKept (server.giving_gets_ack c key.id w.now e out transfer number window)
     giving_ack_kept down s out h Running k number window soon ack =
-        acknowledged_cases c.window out number window (λ x. IsKept (server.gives_on c key.id w.now e x)) (Read, down, s) (λ lt. by_end lt (is_finished (moved c.window out number window)))
+        acknowledged_cases c.window out number window (λ x. IsKept (server.gives_on c key.id w.now e x)) (Read, down, s)
+        (λ lt. by_end lt (is_finished (moved c.window out number window)))
       where
         on : ahead number out.first < in_window out → IsGivingFor W w.number t.ask (moved c.window out number window) down w.log
         on lt = record { window = omega arith; performed = h.performed; sends = moved_down out down k number window soon h.window s.download h.sends ack lt }
 
-        by_end : ahead number out.first < in_window out → (b : Bool) → IsKept (if b then server.becomes e (Giving (moved c.window out number window) Finished w.now) [] else server.gives_window c key.id w.now e (moved c.window out number window))
+        by_end : ahead number out.first < in_window out → (b : Bool)
+            → IsKept (if b then server.becomes e (Giving (moved c.window out number window) Finished w.now) [] else server.gives_window c key.id w.now e
+            (moved c.window out number window))
         by_end lt true = rests_giving down s (moved c.window out number window) Finished w.now (on lt)
         by_end lt false = gives_window_kept down s (moved c.window out number window) (on lt)
     giving_ack_kept down s out h Stopped k number window soon ack = (Read, down, s)
@@ -423,15 +509,18 @@ module _ (W V : ℕ) (some : 0 < W) (room : V + 2 * W ≤ 255) (c : Settings) (o
     retries_down out n (Sent ps tk sn) h = (h.0, record { behind = h.1.behind; near = h.1.near })
     retries_down out n Closed h = h
 
-    with_retries : (out : Outgoing) (n : ℕ) (down : Down) (log : List Fact) → IsGivingFor W w.number t.ask out down log → IsGivingFor W w.number t.ask (record out { retries = n }) down log
+    with_retries : (out : Outgoing) (n : ℕ) (down : Down) (log : List Fact) → IsGivingFor W w.number t.ask out down log
+        → IsGivingFor W w.number t.ask (record out { retries = n }) down log
     with_retries out n down log h = record { window = h.window; performed = h.performed; sends = retries_down out n down h.sends }
 
-    resumes_kept : (down : Down) → SoundWith (Some e) Read down → (out : Outgoing) → IsGivingFor W w.number t.ask out down w.log → (transfer : Transfer) → IsKept (server.resumes c key.id w.now e out transfer)
+    resumes_kept : (down : Down) → SoundWith (Some e) Read down → (out : Outgoing) → IsGivingFor W w.number t.ask out down w.log → (transfer : Transfer)
+        → IsKept (server.resumes c key.id w.now e out transfer)
     resumes_kept down s out h Stopped = gives_window_kept down s (resume out) (with_retries out RETRIES down w.log h)
     resumes_kept down s out h Running = (Read, down, s)
     resumes_kept down s out h Finished = (Read, down, s)
 
-    giving_kept : (down : Down) → SoundWith (Some e) Read down → (out : Outgoing) → IsGivingFor W w.number t.ask out down w.log → (transfer : Transfer) (since m k : ℕ) → k ≤ V → (a : Apdu) → Says W w.number t.ask w.log Read down m k a
+    giving_kept : (down : Down) → SoundWith (Some e) Read down → (out : Outgoing) → IsGivingFor W w.number t.ask out down w.log
+        → (transfer : Transfer) (since m k : ℕ) → k ≤ V → (a : Apdu) → Says W w.number t.ask w.log Read down m k a
         → IsKept (server.giving_gets c key.id w.now e out transfer since a)
     giving_kept down s out h transfer since m k soon (ConfirmedRequest sa ms ma id None choice octets) says = go (server.is_kept e e.request choice octets)
       where
@@ -443,26 +532,33 @@ module _ (W V : ℕ) (some : 0 < W) (room : V + 2 * W ≤ 255) (c : Settings) (o
         go : (b : Bool) → IsKept (if b then server.rests (Some e) (server.abort_0 key.id ∷ []) else server.resumes c key.id w.now e out transfer)
         go true = aborts Read down s
         go false = resumes_kept down s out h transfer
-    giving_kept down s out h transfer since m k soon (SegmentAck nak false id number window) says = giving_ack_kept down s out h transfer k number window soon says.1
+    giving_kept down s out h transfer since m k soon (SegmentAck nak false id number window) says =
+        giving_ack_kept down s out h transfer k number window soon says.1
     giving_kept down s out h transfer since m k soon (Abort false id reason) says = rests_giving down s out Finished since h
     giving_kept down s out h transfer since m k soon _ says = (Read, down, s)
 
     -- an entry that receives is dropped
-    drops : (tk sn : ℕ) → SoundWith (Some e) (Reading tk sn) Unsent → IsUnperformed w.number w.log → (sends : List Apdu) → AllSends (SaysNow w.log (Reading tk sn) Unsent) sends → IsKept (server.becomes e Dropped sends)
-    drops tk sn s un sends says = serves_same (Some e) (Reading tk sn) Unsent s (Some (record e { state = Dropped })) sends (inr (record { after = after; before = before; choice = chosen; state = un })) says
+    drops : (tk sn : ℕ) → SoundWith (Some e) (Reading tk sn) Unsent → IsUnperformed w.number w.log → (sends : List Apdu)
+        → Each (SaysNow w.log (Reading tk sn) Unsent) sends → IsKept (server.becomes e Dropped sends)
+    drops tk sn s un sends says = serves_same (Some e) (Reading tk sn) Unsent s (Some (record e { state = Dropped })) sends
+        (inr (record { after = after; before = before; choice = chosen; state = un })) says
 
-    receiving_kept : (tk sn : ℕ) → SoundWith (Some e) (Reading tk sn) Unsent → (inc : Incoming) (since : ℕ) → IsReceivingFor w.number t.ask inc tk w.log → (m k : ℕ) → k ≤ V → (a : Apdu) → Says W w.number t.ask w.log (Reading tk sn) Unsent m k a
+    receiving_kept : (tk sn : ℕ) → SoundWith (Some e) (Reading tk sn) Unsent → (inc : Incoming) (since : ℕ) → IsReceivingFor w.number t.ask inc tk w.log
+        → (m k : ℕ) → k ≤ V → (a : Apdu) → Says W w.number t.ask w.log (Reading tk sn) Unsent m k a
         → IsKept (server.receiving_gets c key.id w.now service e inc since a)
     receiving_kept tk sn s inc since h m k soon (ConfirmedRequest sa ms ma id None choice octets) says = (Reading tk sn, Unsent, s)
     receiving_kept tk sn s inc since h m k soon (ConfirmedRequest sa ms ma id (Some g) choice octets) says = by_time (nat_le WAIT_SEG (w.now - since))
       where
-        by_time : (b : Bool) → IsKept (if b then server.becomes e Dropped (server.abort_0 key.id ∷ []) else server.receives c key.id w.now service e g.number inc.window (takes inc g.number g.more octets))
+        by_time : (b : Bool) → IsKept (if b then server.becomes e Dropped (server.abort_0 key.id ∷ [])
+            else server.receives c key.id w.now service e g.number inc.window (takes inc g.number g.more octets))
         by_time true = drops tk sn s h.unperformed (server.abort_0 key.id ∷ []) (λ j. late, tt)
-        by_time false = receives_kept late (Some e) tk sn s h.unperformed h.in_pieces e after before chosen inc h.front.taken_is h.front.parts_are k soon g octets says.3 (λ ne. h.front.some)
+        by_time false = receives_kept late (Some e) tk sn s h.unperformed h.in_pieces e after before chosen inc h.front.taken_is h.front.parts_are k soon g
+            octets says.3 (λ ne. h.front.some)
     receiving_kept tk sn s inc since h m k soon (Abort false id reason) says = drops tk sn s h.unperformed [] tt
     receiving_kept tk sn s inc since h m k soon _ says = (Reading tk sn, Unsent, s)
 
-    live_kept : (st : State) (up : Up) (down : Down) → SoundWith (Some e) up down → StateFits W w.number t.ask st up down w.log → (m k : ℕ) → k ≤ V → (a : Apdu) → Says W w.number t.ask w.log up down m k a
+    live_kept : (st : State) (up : Up) (down : Down) → SoundWith (Some e) up down → StateFits W w.number t.ask st up down w.log → (m k : ℕ) → k ≤ V
+        → (a : Apdu) → Says W w.number t.ask w.log up down m k a
         → IsKept (server.live_gets c key.id w.now service e st a)
     live_kept (Receiving inc since) (Reading tk sn) Unsent s h m k soon a says = receiving_kept tk sn s inc since h m k soon a says
     live_kept (Done kept) Read Unsent s h m k soon a says = done_kept Read Unsent s kept h a
@@ -472,14 +568,16 @@ module _ (W V : ℕ) (some : 0 < W) (room : V + 2 * W ≤ 255) (c : Settings) (o
 
     -- What the server does in time.
 
-    gives_again_kept : (down : Down) → SoundWith (Some e) Read down → (out : Outgoing) → IsGivingFor W w.number t.ask out down w.log → (since : ℕ) → IsKept (server.gives_again c key.id w.now e out since (again out))
+    gives_again_kept : (down : Down) → SoundWith (Some e) Read down → (out : Outgoing) → IsGivingFor W w.number t.ask out down w.log → (since : ℕ)
+        → IsKept (server.gives_again c key.id w.now e out since (again out))
     gives_again_kept down s out h since = go (nat_eq out.retries 0)
       where
         go : (b : Bool) → IsKept (server.gives_again c key.id w.now e out since (if b then None else Some (record out { retries = out.retries - 1 })))
         go true = rests_giving down s out Stopped since h
         go false = gives_window_kept down s (record out { retries = out.retries - 1 }) (with_retries out (out.retries - 1) down w.log h)
 
-    live_ticks_kept : (st : State) (up : Up) (down : Down) → SoundWith (Some e) up down → StateFits W w.number t.ask st up down w.log → IsKept (server.live_ticks c key.id w.now e st)
+    live_ticks_kept : (st : State) (up : Up) (down : Down) → SoundWith (Some e) up down → StateFits W w.number t.ask st up down w.log
+        → IsKept (server.live_ticks c key.id w.now e st)
     live_ticks_kept (Receiving inc since) (Reading tk sn) Unsent s h = by_due (nat_le WAIT_SEG (w.now - since))
       where
         by_due : (b : Bool) → IsKept (if b then server.becomes e Dropped [] else server.rests (Some e) [])
@@ -497,13 +595,16 @@ module _ (W V : ℕ) (some : 0 < W) (room : V + 2 * W ≤ 255) (c : Settings) (o
     live_ticks_kept _ _ _ s h = absurd h
 
   -- Any copy of the transaction that arrives.
-  pub server_gets_kept : (o : Option Entry) (up : Up) (down : Down) → SoundWith o up down → (free : Bool) (m k : ℕ) → k ≤ V → w.now - m ≤ LIFE → (a : Apdu) → Says W w.number t.ask w.log up down m k a → IsKept (server.server_gets c key.id w.now service o free a)
+  pub server_gets_kept : (o : Option Entry) (up : Up) (down : Down) → SoundWith o up down → (free : Bool) (m k : ℕ) → k ≤ V → w.now - m ≤ LIFE → (a : Apdu)
+      → Says W w.number t.ask w.log up down m k a → IsKept (server.server_gets c key.id w.now service o free a)
   server_gets_kept None up down s free m k late young a says = new_kept None up down s s.server free m k late young a says
   server_gets_kept (Some e) up down s free m k late young a says = by_life (is_live w.now e) refl s.server
     where
-      by_life : (b : Bool) → is_live w.now e ≡ b → ServerFits W w.number t.ask (Some e) up down w.log → IsKept (if b then server.live_gets c key.id w.now service e e.state a else server.new_gets c key.id w.now service (Some e) free a)
+      by_life : (b : Bool) → is_live w.now e ≡ b → ServerFits W w.number t.ask (Some e) up down w.log
+          → IsKept (if b then server.live_gets c key.id w.now service e e.state a else server.new_gets c key.id w.now service (Some e) free a)
       by_life true is (inl past) = let clock = s.clock in let dead = past.dead in absurd (grind (arith, nat_tests))
-      by_life true is (inr begun) = let before = begun.before in live_kept e (grind (arith, nat_tests)) begun.after begun.before begun.choice e.state up down s begun.state m k late a says
+      by_life true is (inr begun) = let before = begun.before in live_kept e
+          (grind (arith, nat_tests)) begun.after begun.before begun.choice e.state up down s begun.state m k late a says
       by_life false is (inl past) = new_kept (Some e) up down s past.unbegun free m k late young a says
       by_life false is (inr begun) = dead_kept e up down s begun.after (grind (arith, nat_tests)) free m k young a says
 
@@ -511,7 +612,9 @@ module _ (W V : ℕ) (some : 0 < W) (room : V + 2 * W ≤ 255) (c : Settings) (o
   server_ticks_kept None up down s = (up, down, s)
   server_ticks_kept (Some e) up down s = by_life (is_live w.now e) refl s.server
     where
-      by_life : (b : Bool) → is_live w.now e ≡ b → ServerFits W w.number t.ask (Some e) up down w.log → IsKept (if b then server.live_ticks c key.id w.now e e.state else server.rests (Some e) [])
+      by_life : (b : Bool) → is_live w.now e ≡ b → ServerFits W w.number t.ask (Some e) up down w.log
+          → IsKept (if b then server.live_ticks c key.id w.now e e.state else server.rests (Some e) [])
       by_life true is (inl past) = let clock = s.clock in let dead = past.dead in absurd (grind (arith, nat_tests))
-      by_life true is (inr begun) = let before = begun.before in live_ticks_kept e (grind (arith, nat_tests)) begun.after begun.before begun.choice e.state up down s begun.state
+      by_life true is (inr begun) = let before = begun.before in live_ticks_kept e
+          (grind (arith, nat_tests)) begun.after begun.before begun.choice e.state up down s begun.state
       by_life false is h = (up, down, s)

@@ -97,8 +97,10 @@ WasPerformed number ask p log = Has (Performed number (request_of ask) p) log
 
 -- a copy with k later ones is of this ask, and was sent in time
 abbrev pub Says : ℕ → ℕ → Ask → List Fact → Up → Down → ℕ → ℕ → Apdu → Type 0
-Says W number ask log up down moment k (ConfirmedRequest sa ms ma id None choice octets) = (moment ≤ client_until ask) × (ask.whole ≡ true) × (choice ≡ ask.choice) × (octets ≡ join ask.pieces)
-Says W number ask log up down moment k (ConfirmedRequest sa ms ma id (Some segment) choice octets) = (moment ≤ client_until ask) × (ask.whole ≡ false) × (choice ≡ ask.choice) × IsPieceUp W ask up k segment octets
+Says W number ask log up down moment k (ConfirmedRequest sa ms ma id None choice octets) = (moment ≤ client_until ask) × (ask.whole ≡ true)
+    × (choice ≡ ask.choice) × (octets ≡ join ask.pieces)
+Says W number ask log up down moment k (ConfirmedRequest sa ms ma id (Some segment) choice octets) = (moment ≤ client_until ask) × (ask.whole ≡ false)
+    × (choice ≡ ask.choice) × IsPieceUp W ask up k segment octets
 Says W number ask log up down moment k (UnconfirmedRequest choice octets) = ⊥
 Says W number ask log up down moment k (SimpleAck id choice) = (moment ≤ server_until ask) × WasPerformed number ask reply.Simple log
 Says W number ask log up down moment k (ComplexAck id None choice octets) = (moment ≤ server_until ask) × WasPerformed number ask (reply.Complex octets) log
@@ -224,7 +226,8 @@ IsOpenIn Awaiting n log = IsUnended n log
 IsOpenIn (Collecting inc) n log = IsUnended n log
 IsOpenIn Over n log = Unit {0}
 
-pub record Sound (W : ℕ) (key : Key) (now asks number : ℕ) (t : Ticket) (entry : Option Entry) (copies : List Copy) (log : List Fact) (up : Up) (down : Down) : Type 0 where
+pub record Sound (W : ℕ) (key : Key) (now asks number : ℕ) (t : Ticket) (entry : Option Entry) (copies : List Copy) (log : List Fact) (up : Up)
+    (down : Down) : Type 0 where
   pub clock : t.ask.first ≤ now
   pub numbers : IsBelow asks log
   pub counted : asks ≡ asks_in log

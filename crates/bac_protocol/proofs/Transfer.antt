@@ -1,5 +1,6 @@
 -- Neither side of a transfer in pieces misreads a number.
-use Rattle.std.proofs.Common.{◌≡◌, ℕ, ◌+◌, ◌*◌, ◌%◌, ◌<◌, ◌≤◌, ◌≢◌, max, min, Bool, true, false, List, [], ◌∷◌, ◌++◌, length, get_or, take, Option, Some, None, if◌then◌else◌, nat_lt, nat_eq, refl, ap, sym, ◌∙◌, arith}
+use Rattle.std.proofs.Common.{◌≡◌, ℕ, ◌+◌, ◌*◌, ◌%◌, ◌<◌, ◌≤◌, ◌≢◌, max, min, Bool, true, false, List, [], ◌∷◌, ◌++◌, length, get_or, take, Option}
+use Rattle.std.proofs.Common.{Some, None, if◌then◌else◌, nat_lt, nat_eq, refl, ap, sym, ◌∙◌, arith}
 use Rattle.std.proofs.lemmas.Bool.Decides.{nat_tests}
 use Rattle.std.proofs.lemmas.List.{take_more, take_all}
 use Rattle.bac_apdu.specs.Apdu.{Segment}
@@ -19,7 +20,8 @@ use Rattle.bac_protocol.proofs.Readings.{reads_segment, reads_ack, ahead_is}
 abbrev pub moved : (own : ℕ) → Outgoing → ℕ → ℕ → Outgoing
 moved own out number window = record out { first = out.first + ahead number out.first + 1; window = min window own; retries = RETRIES }
 
-pub acknowledged_cases : (own : ℕ) (out : Outgoing) (number window : ℕ) (P : Option Outgoing → Type 0) → P None → (ahead number out.first < in_window out → P (Some (moved own out number window))) → P (acknowledged own out number window)
+pub acknowledged_cases : (own : ℕ) (out : Outgoing) (number window : ℕ) (P : Option Outgoing → Type 0) → P None
+    → (ahead number out.first < in_window out → P (Some (moved own out number window))) → P (acknowledged own out number window)
 acknowledged_cases own out number window P none some = go (nat_lt (ahead number out.first) (in_window out)) refl
   where
     go : (b : Bool) → nat_lt (ahead number out.first) (in_window out) ≡ b → P (if b then Some (moved own out number window) else None)
@@ -27,7 +29,8 @@ acknowledged_cases own out number window P none some = go (nat_lt (ahead number 
     go false is = none
 
 -- what is newly acknowledged was taken
-pub acknowledges_taken : (V W : ℕ) (out : Outgoing) (t s k number : ℕ) → V + 2 * W ≤ 255 → k ≤ V → out.window ≤ W → t ≤ s → IsSender W out t s → IsAck W t s k number → ahead number out.first < in_window out → out.first + ahead number out.first + 1 ≤ t
+pub acknowledges_taken : (V W : ℕ) (out : Outgoing) (t s k number : ℕ) → V + 2 * W ≤ 255 → k ≤ V → out.window ≤ W → t ≤ s → IsSender W out t s
+    → IsAck W t s k number → ahead number out.first < in_window out → out.first + ahead number out.first + 1 ≤ t
 acknowledges_taken V W out t s k number room late small le sender ack reads =
     let is = ack.number_is in
     let below = ack.below in
@@ -35,19 +38,22 @@ acknowledges_taken V W out t s k number room late small le sender ack reads =
     let behind = sender.behind in
     let far = sender.near in
     let reads' : ahead (ack.piece % 256) out.first < in_window out = rw (← is) reads in
-    let found : (out.first ≤ ack.piece) × (ack.piece < out.first + in_window out) = reads_ack V W ack.piece out.first (in_window out) room (omega arith) (omega arith) (omega arith) reads' in
+    let found : (out.first ≤ ack.piece) × (ack.piece < out.first + in_window out) = reads_ack V W ack.piece out.first (in_window out) room (omega arith)
+    (omega arith) (omega arith) reads' in
     let e : out.first + ahead (ack.piece % 256) out.first ≡ ack.piece = ahead_is ack.piece out.first found.0 (omega arith) in
     let e' : out.first + ahead number out.first ≡ ack.piece = rw is e in
     omega arith
 
-pub moved_sender : (own W : ℕ) (out : Outgoing) (t s number window : ℕ) → IsSender W out t s → out.first + ahead number out.first + 1 ≤ t → IsSender W (moved own out number window) t s
+pub moved_sender : (own W : ℕ) (out : Outgoing) (t s number window : ℕ) → IsSender W out t s → out.first + ahead number out.first + 1 ≤ t
+    → IsSender W (moved own out number window) t s
 moved_sender own W out t s number window sender le = record { behind = le; near = omega (arith, sender.near) }
 
 -- the whole number below which all pieces were sent, after the window is sent
 abbrev pub sent_to : Outgoing → ℕ → ℕ
 sent_to out s = max s (out.first + in_window out)
 
-pub window_underway : (W : ℕ) (out : Outgoing) (t s : ℕ) → out.window ≤ W → IsUnderway W t s (length out.pieces) → IsSender W out t s → IsUnderway W t (sent_to out s) (length out.pieces)
+pub window_underway : (W : ℕ) (out : Outgoing) (t s : ℕ) → out.window ≤ W → IsUnderway W t s (length out.pieces) → IsSender W out t s
+    → IsUnderway W t (sent_to out s) (length out.pieces)
 window_underway W out t s small u sender =
     let a = u.behind in let b = u.near in let c = u.within in let d = u.unfinished in let e = sender.behind in let f = sender.near in
     record { behind = omega arith; near = omega arith; within = omega arith; unfinished = d }
@@ -59,8 +65,10 @@ pub window_grows : (W : ℕ) (out : Outgoing) (t s : ℕ) → t ≤ s → IsSend
 window_grows W out t s le sender = let e = sender.behind in (omega arith, omega arith)
 
 -- a piece of the window, as it is sent
-pub window_piece : (W own : ℕ) (out : Outgoing) (t s k p : ℕ) → out.window ≤ W → IsSender W out t s → out.first ≤ p → p < out.first + in_window out → IsPiece W out.pieces (sent_to out s) k (segment_of own out.pieces p) (get_or out.pieces p [])
-window_piece W own out t s k p small sender lo hi = let f = sender.near in record { piece = p; number_is = refl; more_is = refl; octets_is = refl; below = omega arith; near = omega arith }
+pub window_piece : (W own : ℕ) (out : Outgoing) (t s k p : ℕ) → out.window ≤ W → IsSender W out t s → out.first ≤ p → p < out.first + in_window out
+    → IsPiece W out.pieces (sent_to out s) k (segment_of own out.pieces p) (get_or out.pieces p [])
+window_piece W own out t s k p small sender lo hi = let f =
+    sender.near in record { piece = p; number_is = refl; more_is = refl; octets_is = refl; below = omega arith; near = omega arith }
 
 -- The receiver.
 
@@ -76,7 +84,8 @@ pub takes_cases : (inc : Incoming) (number : ℕ) (more : Bool) (octets : Octets
     → P (takes inc number more octets)
 takes_cases inc number more octets P nak long complete taken = by_number (nat_eq number (length inc.parts % 256)) refl
   where
-    by_ack : number ≡ length inc.parts % 256 → more ≡ true → (b : Bool) → P (if b then Taken true (with_piece inc octets 0) else Taken false (with_piece inc octets (inc.unacknowledged + 1)))
+    by_ack : number ≡ length inc.parts % 256 → more ≡ true → (b : Bool)
+        → P (if b then Taken true (with_piece inc octets 0) else Taken false (with_piece inc octets (inc.unacknowledged + 1)))
     by_ack e m true = taken e m true 0
     by_ack e m false = taken e m false (inc.unacknowledged + 1)
 
@@ -88,11 +97,13 @@ takes_cases inc number more octets P nak long complete taken = by_number (nat_eq
     by_length e true = long
     by_length e false = by_more e more refl
 
-    by_number : (b : Bool) → nat_eq number (length inc.parts % 256) ≡ b → P (if b then (if is_too_long inc octets then TooLong else takes_expected inc more octets) else Nak (record inc { unacknowledged = 0 }))
+    by_number : (b : Bool) → nat_eq number (length inc.parts % 256) ≡ b
+        → P (if b then (if is_too_long inc octets then TooLong else takes_expected inc more octets) else Nak (record inc { unacknowledged = 0 }))
     by_number true is = by_length (grind (arith, nat_tests)) (is_too_long inc octets)
     by_number false is = nak (grind (arith, nat_tests))
 
-module _ (V W : ℕ) (some : 0 < W) (room : V + 2 * W ≤ 255) (ps : List Octets) (t s k : ℕ) (late : k ≤ V) (u : IsUnderway W t s (length ps)) (g : Segment) (octets : Octets) (h : IsPiece W ps s k g octets) (e : g.number ≡ t % 256) where
+module _ (V W : ℕ) (some : 0 < W) (room : V + 2 * W ≤ 255) (ps : List Octets) (t s k : ℕ) (late : k ≤ V) (u : IsUnderway W t s (length ps)) (g : Segment)
+    (octets : Octets) (h : IsPiece W ps s k g octets) (e : g.number ≡ t % 256) where
   -- what is taken is the next piece
   pub takes_piece : h.piece ≡ t
   takes_piece =

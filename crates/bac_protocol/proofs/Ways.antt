@@ -1,5 +1,6 @@
 -- A reply that is sent in pieces is the joining of its pieces, and has at least one.
-use Rattle.std.proofs.Common.{◌≡◌, ℕ, zero, suc, ◌+◌, ◌-◌, ◌*◌, ◌<◌, ◌≤◌, Bool, true, false, not, List, [], ◌∷◌, ◌++◌, length, take, drop, if◌then◌else◌, nat_eq, nat_le, refl, sym, ap, ◌∙◌, arith}
+use Rattle.std.proofs.Common.{◌≡◌, ℕ, zero, suc, ◌+◌, ◌-◌, ◌*◌, ◌<◌, ◌≤◌, Bool, true, false, not, List, [], ◌∷◌, ◌++◌, length, take, drop}
+use Rattle.std.proofs.Common.{if◌then◌else◌, nat_eq, nat_le, refl, sym, ap, ◌∙◌, arith}
 use Rattle.std.proofs.lemmas.Bool.Decides.{nat_tests}
 use Rattle.std.proofs.lemmas.List.{take-append-drop, length-drop}
 use Rattle.std.proofs.lemmas.Grind.{div_ceil_times}
@@ -56,18 +57,22 @@ module _ (c : Settings) (terms : Terms) (octets : Octets) (pieces : List Octets)
       let some : 0 < length octets = grind (arith, nat_tests) in
       cut_of octets pieces some (ap join (sym same) ∙ join_pieces (size - 5) octets (omega arith))
 
-  by_allowed : nat_le (length octets + 3) size ≡ false → (b : Bool) → (if b then InPieces all else Unsendable 1) ≡ InPieces pieces → IsCut (Complex octets) pieces
+  by_allowed : nat_le (length octets + 3) size ≡ false → (b : Bool) → (if b then InPieces all else Unsendable 1) ≡ InPieces pieces
+      → IsCut (Complex octets) pieces
   by_allowed long true h = is_cut long (inside h)
     where
       inside : {xs ys : List Octets} → InPieces xs ≡ InPieces ys → xs ≡ ys
       inside e = cc
   by_allowed long false h = absurd cc
 
-  by_kind : nat_le (length octets + 3) size ≡ false → (b : Bool) → (if not b then Unsendable 4 else if allows_segments terms.max_segments (length all) then InPieces all else Unsendable 1) ≡ InPieces pieces → IsCut (Complex octets) pieces
+  by_kind : nat_le (length octets + 3) size ≡ false → (b : Bool)
+      → (if not b then Unsendable 4 else if allows_segments terms.max_segments (length all) then InPieces all else Unsendable 1) ≡ InPieces pieces
+      → IsCut (Complex octets) pieces
   by_kind long true h = by_allowed long (allows_segments terms.max_segments (length all)) h
   by_kind long false h = absurd cc
 
-  by_size : (b : Bool) → nat_le (length octets + 3) size ≡ b → (if b then AtOnce else way_in_pieces terms all) ≡ InPieces pieces → IsCut (Complex octets) pieces
+  by_size : (b : Bool) → nat_le (length octets + 3) size ≡ b → (if b then AtOnce else way_in_pieces terms all) ≡ InPieces pieces
+      → IsCut (Complex octets) pieces
   by_size true is h = absurd cc
   by_size false is h = by_kind is terms.takes_segments h
 

@@ -7,8 +7,8 @@ use Rattle.bac_segment.specs.Pieces.{piece_at}
 use Rattle.bac_segment.specs.Window.{Outgoing, Incoming}
 use Rattle.bac_protocol.specs.Times.{LIFE}
 use Rattle.bac_protocol.specs.Service.{Octets}
-use Rattle.bac_protocol.specs.Client.{Ask, Phase, Ticket}
-use Rattle.bac_protocol.specs.Client.Phase.{Sending, Awaiting, Collecting}
+use Rattle.bac_protocol.specs.Client.{Ask, Phase, Ticket, is_over}
+use Rattle.bac_protocol.specs.Client.Phase.{Sending, Awaiting, Collecting, Over}
 use Rattle.bac_protocol.specs.Server.{Transfer, State, Entry, is_live}
 use Rattle.bac_protocol.specs.Server.State.{Receiving, Done, Giving, Dropped}
 use Rattle.bac_protocol.specs.Transaction.{Key, Rules, Copy}
@@ -30,7 +30,8 @@ MayArrive overtake now k c = (now - c.moment ≤ LIFE) × (k ≤ overtake)
 
 -- every copy of the transaction that may arrive was sent since its newest ask was made
 abbrev pub AreOfNewest : Rules → Net → Type 0
-AreOfNewest x n = (key : Key) (t : Ticket) → n.tickets key ≡ Some t → EachCopy (λ k c. MayArrive x.overtake n.now k c → t.ask.first ≤ c.moment) (copies_of key n.posts)
+AreOfNewest x n = (key : Key) (t : Ticket) → n.tickets key ≡ Some t
+    → EachCopy (λ k c. MayArrive x.overtake n.now k c → t.ask.first ≤ c.moment) (copies_of key n.posts)
 
 -- a segment, with k later copies, is a piece of these, whose whole number is not far behind
 pub record IsPiece (W : ℕ) (pieces : List Octets) (sent k : ℕ) (segment : Segment) (octets : Octets) : Type 0 where
@@ -50,7 +51,8 @@ pub record IsAck (W taken sent k number : ℕ) : Type 0 where
 
 -- the same of the APDUs of a request's transfer
 abbrev pub IsNearUp : (W : ℕ) → List Octets → (taken sent : ℕ) → ℕ → Apdu → Type 0
-IsNearUp W pieces taken sent k (ConfirmedRequest takes_segments max_segments max_apdu invoke (Some segment) choice service) = IsPiece W pieces sent k segment service
+IsNearUp W pieces taken sent k (ConfirmedRequest takes_segments max_segments max_apdu invoke (Some segment) choice service) =
+    IsPiece W pieces sent k segment service
 IsNearUp W pieces taken sent k (SegmentAck nak true invoke number window) = IsAck W taken sent k number
 IsNearUp W pieces taken sent k _ = Unit {0}
 
@@ -75,12 +77,19 @@ RequestsAreInWindow W x n =
     → n.tickets key ≡ Some t → n.entries key ≡ Some e → t.phase ≡ Sending out all_sent → e.state ≡ Receiving inc since → t.ask.first ≤ e.begin
     → IsInWindow W x.overtake n.now out.first (length inc.parts) (IsNearUp W t.ask.pieces (length inc.parts)) (copies_of key n.posts)
 
--- the pass of each reply: its server gives segments, and its client collects them
+-- how many pieces of its reply an open ticket has taken
+abbrev pub taken_of : Phase → ℕ
+taken_of (Sending out all_sent) = 0
+taken_of Awaiting = 0
+taken_of (Collecting inc) = length inc.parts
+taken_of Over = 0
+
+-- the pass of each reply: its server, whose entry was begun for this ask, gives segments, and its client's ticket is open
 abbrev pub RepliesAreInWindow : ℕ → Rules → Net → Type 0
 RepliesAreInWindow W x n =
-    (key : Key) (t : Ticket) (e : Entry) (inc : Incoming) (out : Outgoing) (transfer : Transfer) (since : ℕ)
-    → n.tickets key ≡ Some t → n.entries key ≡ Some e → t.phase ≡ Collecting inc → e.state ≡ Giving out transfer since
-    → IsInWindow W x.overtake n.now out.first (length inc.parts) (IsNearDown W out.pieces (length inc.parts)) (copies_of key n.posts)
+    (key : Key) (t : Ticket) (e : Entry) (out : Outgoing) (transfer : Transfer) (since : ℕ)
+    → n.tickets key ≡ Some t → n.entries key ≡ Some e → is_over t.phase ≡ false → e.state ≡ Giving out transfer since → t.ask.first ≤ e.begin
+    → IsInWindow W x.overtake n.now out.first (taken_of t.phase) (IsNearDown W out.pieces (taken_of t.phase)) (copies_of key n.posts)
 
 -- a later pass of a request was begun, or its first has been acknowledged
 abbrev pub IsPastFirstPass : Phase → (repeats : ℕ) → Type 0

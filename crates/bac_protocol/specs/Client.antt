@@ -1,5 +1,6 @@
 -- The client's transaction state machine (clause 5.4.4): what each event makes of one ticket.
-use Rattle.std.specs.Prelude.{ℕ, ◌+◌, ◌-◌, ◌%◌, Bool, true, false, ◌&&◌, ◌||◌, not, List, [], ◌∷◌, ◌++◌, length, Option, Some, None, if◌then◌else◌, nat_eq, nat_lt, nat_le}
+use Rattle.std.specs.Prelude.{ℕ, ◌+◌, ◌-◌, ◌%◌, Bool, true, false, ◌&&◌, ◌||◌, not, List, [], ◌∷◌, ◌++◌, length, Option, Some, None, if◌then◌else◌}
+use Rattle.std.specs.Prelude.{nat_eq, nat_lt, nat_le}
 use Rattle.bac_apdu.specs.Apdu.{Apdu, Segment}
 use Rattle.bac_apdu.specs.Apdu.Apdu.{ConfirmedRequest, SimpleAck, ComplexAck, SegmentAck, Error, Reject, Abort}
 use Rattle.bac_segment.specs.Limits.{RETRIES}
@@ -85,7 +86,8 @@ request_apdu c id ask = ConfirmedRequest c.takes_segments c.max_segments c.max_a
 
 -- piece n of the request
 abbrev pub request_piece : Settings → (id choice : ℕ) → List Octets → ℕ → Apdu
-request_piece c id choice pieces n = ConfirmedRequest c.takes_segments c.max_segments c.max_apdu id (Some (segment_of c.window pieces n)) choice (piece_at pieces n)
+request_piece c id choice pieces n = ConfirmedRequest c.takes_segments c.max_segments c.max_apdu id (Some (segment_of c.window pieces n)) choice
+    (piece_at pieces n)
 
 -- the window of a request
 abbrev pub request_window : Settings → (id choice : ℕ) → Outgoing → List Apdu
@@ -167,7 +169,8 @@ moves c id choice all_sent (Some out) = if is_finished out then GoesOn Awaiting 
 
 -- SEGMENTED_REQUEST
 abbrev pub sending_gets : Settings → Readable → (id : ℕ) → Ask → Outgoing → Bool → Apdu → Reaction
-sending_gets c readable id ask out all_sent (SegmentAck nak true invoke number window) = moves c id ask.choice all_sent (acknowledged c.window out number window)
+sending_gets c readable id ask out all_sent (SegmentAck nak true invoke number window) = moves c id ask.choice all_sent
+    (acknowledged c.window out number window)
 sending_gets c readable id ask out true apdu = awaiting_gets c readable id ask apdu
 sending_gets c readable id ask out false apdu = refused apdu
 

@@ -8,3 +8,7 @@ pub mod Log
 pub mod Transaction
 pub mod World
 pub mod Claims
+pub mod Examples
+pub mod Beyond
+pub mod Straight
+pub mod Own

@@ -1,5 +1,6 @@
 -- The server's transaction state machine (clause 5.4.5) over its reply table (own rule of this profile): what each event makes of one entry.
-use Rattle.std.specs.Prelude.{ℕ, ◌+◌, ◌-◌, ◌%◌, Bool, true, false, ◌&&◌, not, is_some, List, [], ◌∷◌, ◌++◌, length, Option, Some, None, if◌then◌else◌, nat_eq, nat_le}
+use Rattle.std.specs.Prelude.{ℕ, ◌+◌, ◌-◌, ◌%◌, Bool, true, false, ◌&&◌, not, is_some, List, [], ◌∷◌, ◌++◌, length, Option, Some, None}
+use Rattle.std.specs.Prelude.{if◌then◌else◌, nat_eq, nat_le}
 use Rattle.std.specs.Str.{bytes_eq}
 use Rattle.bac_apdu.specs.Apdu.{Apdu, Apdu as apdu, Segment}
 use Rattle.bac_apdu.specs.Apdu.Apdu.{ConfirmedRequest, SimpleAck, ComplexAck, SegmentAck, Reject, Abort}
@@ -167,9 +168,11 @@ new_segment c id now service dead free terms segment octets =
 
 abbrev pub new_gets : Settings → (id now : ℕ) → Service → (dead : Option Entry) → (free : Bool) → Apdu → Reaction
 new_gets c id now service dead free (ConfirmedRequest takes_segments max_segments max_apdu invoke None choice octets) =
-    new_request c id now service dead free (record { choice = choice; takes_segments = takes_segments; max_segments = max_segments; max_apdu = max_apdu }) octets
+    new_request c id now service dead free (record { choice = choice; takes_segments = takes_segments; max_segments = max_segments; max_apdu = max_apdu })
+    octets
 new_gets c id now service dead free (ConfirmedRequest takes_segments max_segments max_apdu invoke (Some segment) choice octets) =
-    new_segment c id now service dead free (record { choice = choice; takes_segments = takes_segments; max_segments = max_segments; max_apdu = max_apdu }) segment octets
+    new_segment c id now service dead free (record { choice = choice; takes_segments = takes_segments; max_segments = max_segments; max_apdu = max_apdu })
+    segment octets
 new_gets c id now service dead free _ = rests dead []
 
 -- Receiving: a segment that comes WAIT_SEG after the last one, or later, ends the reassembly; a request without SEG is ignored

@@ -38,3 +38,8 @@ segment_of window pieces n = record { more = nat_lt (n + 1) (length pieces); num
 abbrev pub pieces_from : (ℕ → Apdu) → ℕ → ℕ → List Apdu
 pieces_from piece a zero = []
 pieces_from piece a (suc count) = piece a ∷ pieces_from piece (a + 1) count
+
+-- each of these APDUs has that
+abbrev pub Each : (Apdu → Type 0) → List Apdu → Type 0
+Each Q [] = Unit {0}
+Each Q (a ∷ more) = Q a × Each Q more

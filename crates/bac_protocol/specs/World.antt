@@ -1,5 +1,6 @@
 -- All transactions of all nodes, with one list of copies, one log, and the servers' stores.
-use Rattle.std.specs.Prelude.{ℕ, zero, suc, ◌+◌, ◌-◌, Bool, false, ◌&&◌, List, [], ◌∷◌, ◌++◌, map, Option, Some, None, slice_get, if◌then◌else◌, nat_le, nat_eq}
+use Rattle.std.specs.Prelude.{ℕ, zero, suc, ◌+◌, ◌-◌, Bool, false, ◌&&◌, List, [], ◌∷◌, ◌++◌, map, Option, Some, None, slice_get, if◌then◌else◌}
+use Rattle.std.specs.Prelude.{nat_le, nat_eq}
 use Rattle.bac_apdu.specs.Apdu.{Apdu}
 use Rattle.bac_protocol.specs.Times.{LIFE}
 use Rattle.bac_protocol.specs.Service.{Octets}
@@ -64,7 +65,15 @@ post_of key now a = record { key = key; copy = record { moment = now; apdu = a }
 
 -- what one transaction sees of it all
 abbrev pub one : Net → Key → Transaction
-one n key = record { now = n.now; asks = n.asks; number = n.numbers key; ticket = n.tickets key; entry = n.entries key; copies = copies_of key n.posts; log = n.log }
+one n key = record {
+  now = n.now;
+  asks = n.asks;
+  number = n.numbers key;
+  ticket = n.tickets key;
+  entry = n.entries key;
+  copies = copies_of key n.posts;
+  log = n.log;
+}
 
 -- What one end does.
 
@@ -130,7 +139,8 @@ takes_at_client S x w key a None = w
 takes_at_client S x w key a (Some t) = reacts S w key t (client_gets (x.settings key.client) x.readable key.id w.net.now t a)
 
 abbrev pub takes_at_server : (S : Type 0) → Shop S → Rules → World S → Key → (free : Bool) → Apdu → World S
-takes_at_server S shop x w key free a = serves S shop w key (server_gets (x.settings key.server) key.id w.net.now (service_of S shop w key) (w.net.entries key) free a)
+takes_at_server S shop x w key free a = serves S shop w key
+    (server_gets (x.settings key.server) key.id w.net.now (service_of S shop w key) (w.net.entries key) free a)
 
 -- a copy reaches the other end of its transaction
 abbrev pub arrives : (S : Type 0) → Shop S → Rules → World S → Key → (free : Bool) → Apdu → World S
@@ -151,7 +161,8 @@ ticks_as_client S x (key ∷ keys) w = ticks_as_client S x keys (ticks_ticket S 
 
 abbrev pub ticks_as_server : (S : Type 0) → Shop S → Rules → List Key → World S → World S
 ticks_as_server S shop x [] w = w
-ticks_as_server S shop x (key ∷ keys) w = ticks_as_server S shop x keys (serves S shop w key (server_ticks (x.settings key.server) key.id w.net.now (w.net.entries key)))
+ticks_as_server S shop x (key ∷ keys) w = ticks_as_server S shop x keys
+    (serves S shop w key (server_ticks (x.settings key.server) key.id w.net.now (w.net.entries key)))
 
 abbrev pub ask_made : (S : Type 0) → Rules → World S → Key → Ask → World S
 ask_made S x w key ask = record { net = asked_at x w.net key ask; stores = w.stores }

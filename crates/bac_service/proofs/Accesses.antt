@@ -1,14 +1,16 @@
 -- The laws of priorities, of what is read or written of a file, and of octet strings in a row.
-use Rattle.std.proofs.Common.{◌≡◌, ℕ, zero, suc, ◌+◌, ◌-◌, ◌<◌, ◌≤◌, ◌^◌, ℤ, Bool, true, false, cond, ◌&&◌, nat_eq, List, [], ◌∷◌, ◌++◌, length, take, Option, Some, None, is_some, ◌⊎◌, inl, inr, refl, sym, ap, subst, ◌∙◌, append_assoc, arith, add-one, Ok, lit<}
-use Rattle.std.proofs.lemmas.Bool.{eqb-true, eq-eqb, and_parts, and_from, ltb-true, lt-ltb}
+use Rattle.std.proofs.Common.{◌≡◌, ℕ, zero, suc, ◌+◌, ◌-◌, ◌<◌, ◌≤◌, ℤ, Bool, true, false, cond, nat_eq, [], ◌++◌, length, take, Option, Some, is_some, ◌⊎◌, inl, inr, refl, sym, ap, subst, ◌∙◌, append_assoc, arith, add-one, Ok, lit<}
+use Rattle.std.proofs.Math.Logic.{∥∥₁_elim}
+use Rattle.std.proofs.Props.{props}
+use Rattle.bac_value.proofs.Joined.{IsBytes-append}
+use Rattle.std.proofs.lemmas.Bool.{eqb-true, eq-eqb, and_parts, ltb-true, lt-ltb}
 use Rattle.std.proofs.lemmas.Bool.Decides.{nat_tests}
-use Rattle.std.proofs.lemmas.List.{take_at, length-append}
+use Rattle.std.proofs.lemmas.List.{length-append, append-nil}
 use Rattle.bac_value.specs.declared.tag.Class.TheVariants.{Application, Context}
-use Rattle.bac_value.specs.declared.tag.Form.{Form}
-use Rattle.bac_value.specs.declared.tag.Form.TheVariants.{Length, Boolean, Opening, Closing}
+use Rattle.bac_value.specs.declared.tag.Form.TheVariants.{Opening, Closing}
 use Rattle.bac_value.specs.Octets.{IsBytes}
 use Rattle.bac_value.specs.Spelling.{Mark, tag_spelling, SpellsTag}
-use Rattle.bac_value.specs.Value.{ObjectId, IsNumber, IsInteger, IsObject}
+use Rattle.bac_value.specs.Value.{IsNumber, IsInteger, IsObject}
 use Rattle.bac_value.specs.Reading.{tag_at, kind_at, number_at, signed_at, object_at}
 use Rattle.bac_value.specs.Data.{opening, closing}
 use Rattle.bac_value.proofs.Tags.{tag_exact}
@@ -17,10 +19,10 @@ use Rattle.bac_service.specs.Values.ReadAccess.{ReadStream, ReadRecords}
 use Rattle.bac_service.specs.Values.WriteAccess.{WriteStream, WriteRecords}
 use Rattle.bac_service.specs.Members.{Octets, ◌⨾◌, Enclosed, Tagged, mark_of, IsPriority, IsString, ApplicationObject, ApplicationSigned, ApplicationUnsigned, ApplicationString, AreStrings}
 use Rattle.bac_service.specs.Requests.{SpellsReadAccess, SpellsWriteAccess, AreRecords}
-use Rattle.bac_service.specs.Reading.{◌>>=◌, kept, both_at, made_at, announced, member_at, is_opened, enclosed_at, closing_at, that_at, is_priority, priority_at, application_object, application_signed, application_unsigned, application_string, extent_at, content_at, either_at, read_access_at, strings_at, run_at, counted_at, are_counted, write_access_at}
-use Rattle.bac_service.proofs.Exact.{IsExact, Anything, Made, That, IsOneOf, bind_some, some_is, left_fits, bytes_behind, both_exact, made_exact, same_exact, that_exact, either_exact}
-use Rattle.bac_service.proofs.Heads.{kept_some, announced_is, announced_again, member_exact}
-use Rattle.bac_service.proofs.Contents.{object_law, short_law, long_law, signed_law, string_law}
+use Rattle.bac_service.specs.Reading.{◌>>=◌, kept, both_at, made_at, announced, member_at, is_opened, enclosed_at, that_at, is_priority, priority_at, application_object, application_signed, application_unsigned, application_string, extent_at, content_at, read_access_at, strings_at, run_at, counted_at, are_counted, write_access_at}
+use Rattle.bac_service.proofs.Exact.{IsExact, Anything, Made, That, bind_some, some_is, left_fits, both_exact, made_exact, same_exact, that_exact, either_exact}
+use Rattle.bac_service.proofs.Heads.{announced_again, member_exact}
+use Rattle.bac_service.proofs.Contents.{object_law, long_law, signed_law, string_law}
 use Rattle.bac_service.proofs.Pairs.{pair_mark, enclosed_exact, front_is}
 
 -- ---- members with an application tag
@@ -107,10 +109,10 @@ read_access_exact =
 -- ---- octet strings in a row
 
 -- no octet string comes next
-abbrev NoString : Octets → Type 0
+abbrev pub NoString : Octets → Type 0
 NoString rest = (t : Mark × Octets) × (tag_at rest ≡ Ok t) × (is_some (announced Application 6 t.0) ≡ false)
 
-no_string_closing : (n : ℕ) (rest : Octets) → n < 255 → NoString (closing n ++ rest)
+pub no_string_closing : (n : ℕ) (rest : Octets) → n < 255 → NoString (closing n ++ rest)
 unfolding announced
 no_string_closing n rest lt =
     let tag : SpellsTag (pair_mark Closing n) (closing n) = record { fits = lt-ltb n 255 lt; length_in = tt; is = refl } in
@@ -148,7 +150,7 @@ strings_takes (suc most) bytes x fits e =
     strings_went most (strings_takes most) bytes x fits (is_some (announced Application 6 t.0.0)) t.2
 
 -- strings in a row are at least as many octets
-strings_len : (n : ℕ) (text : Octets) → AreStrings n text → n ≤ length text
+pub strings_len : (n : ℕ) (text : Octets) → AreStrings n text → n ≤ length text
 unfolding tag_spelling
 strings_len zero text s = omega arith
 strings_len (suc n) text s =
@@ -170,10 +172,10 @@ strings_again (suc most) (suc n) text rest lt s none =
     let read : application_string (s.front ++ more) ≡ Some (s.first.contents, more) = string_exact.again s.first.contents s.front more string tt in
     rw (parts, tagged, announced_again Application 6 (length s.first.contents), read, strings_again most n s.back rest (omega arith) s.second none, add-one) refl
 
-abbrev Run : ℕ × Octets → Octets → Type 0
+abbrev pub Run : ℕ × Octets → Octets → Type 0
 Run t text = AreStrings t.0 t.1 × (text ≡ t.1)
 
-run_exact : IsExact NoString run_at Run
+pub run_exact : IsExact NoString run_at Run
 unfolding run_at StringsTaken
 run_exact = record {
   takes = λ bytes x fits e.
@@ -234,3 +236,21 @@ write_access_exact =
     let other = made_exact Anything written_stream (enclosed_at 0 content_at) (λ t. Enclosed 0 (Content t)) (enclosed_exact 0 (lit< tt) Anything content_at Content content_exact (λ rest. tt)) in
     either_exact Anything Anything Anything (is_opened 1) (made_at written_records (that_at are_counted (enclosed_at 1 counted_at))) (made_at written_stream (enclosed_at 0 content_at)) WritesRecords WritesStream SpellsWriteAccess
     (record { one = records_to; other = λ a text p. subst (λ r. SpellsWriteAccess r text) p.1 p.2; told = write_told }) one other
+
+-- ---- that octets are octet strings is known whole where it is known at all
+
+read_run_prop : (bytes : Octets) (n : ℕ) (run rest : Octets) → IsProp (run_at bytes ≡ Some ((n, run), rest))
+read_run_prop bytes n run rest = hlevel props
+
+closing_bytes : (n : ℕ) → n < 15 → IsBytes (closing n)
+unfolding tag_spelling
+closing_bytes n lt zero = rw (lt-ltb n 15 lt) (omega arith)
+closing_bytes n lt (suc i) = rw (lt-ltb n 15 lt) (omega arith)
+
+pub whole_strings : (n : ℕ) (text : Octets) → IsBytes text → ∥ AreStrings n text ∥₁ → AreStrings n text
+whole_strings n text fits known =
+    let rest = closing 1 in
+    let bytes = IsBytes-append text rest fits (closing_bytes 1 (lit< tt)) in
+    let read : run_at (text ++ rest) ≡ Some ((n, text), rest) = ∥∥₁_elim known (read_run_prop (text ++ rest) n text rest) (λ s. run_exact.again (n, text) text rest (s, refl) (subst NoString (append-nil rest) (no_string_closing 1 [] (lit< tt)))) in
+    let t = run_exact.takes (text ++ rest) ((n, text), rest) bytes read in
+    t.2.0

@@ -1,5 +1,5 @@
 -- Contents that are read with their length are exactly those of their kind.
-use Rattle.std.proofs.Common.{◌≡◌, ℕ, ◌+◌, ◌*◌, ◌<◌, ◌/◌, ◌%◌, ◌^◌, List, [], ◌∷◌, lit<, ◌++◌, length, Ok, refl, sym, ap, subst, ◌∙◌, arith}
+use Rattle.std.proofs.Common.{◌≡◌, ℕ, ◌+◌, ◌*◌, ◌<◌, ◌/◌, ◌%◌, ◌^◌, [], ◌∷◌, lit<, ◌++◌, length, Ok, refl, sym, ap, subst, ◌∙◌, arith}
 use Rattle.std.specs.Int.{w32, from_be_bytes}
 use Rattle.std.proofs.lemmas.Bool.{eqb-true}
 use Rattle.bac_value.proofs.Tags.{wide32}
@@ -7,7 +7,7 @@ use Rattle.bac_value.specs.Octets.{IsBytes}
 use Rattle.bac_value.specs.Number.{number_in, signed_in}
 use Rattle.bac_value.specs.Value.{Datum, null, boolean, unsigned, signed, real, double, octets, characters, bits, enumerated, date, time, object, ObjectId, kind_number, IsContents, IsNumber, IsInteger, IsObject}
 use Rattle.bac_value.specs.Reading.{kind_at, number_at, signed_at, object_at}
-use Rattle.bac_value.proofs.Steps.{bind_ok, ok_is, Takes}
+use Rattle.bac_value.proofs.Steps.{bind_ok, ok_is}
 use Rattle.bac_value.proofs.Elements.{kind_front, kind_of, right_again}
 use Rattle.bac_value.proofs.RightContents.{kind_again, object_of}
 use Rattle.bac_service.specs.Members.{Octets, IsString}

@@ -1,5 +1,5 @@
 -- Readings on lists that take exactly what is spelled, and how they follow each other.
-use Rattle.std.proofs.Common.{◌≡◌, ℕ, ◌+◌, ◌<◌, Bool, true, false, List, [], ◌∷◌, ◌++◌, length, Option, Some, None, cond, ◌⊎◌, inl, inr, refl, sym, ap, subst, ◌∙◌, append_assoc}
+use Rattle.std.proofs.Common.{◌≡◌, ℕ, ◌+◌, ◌<◌, Bool, true, false, [], ◌∷◌, ◌++◌, length, Option, Some, None, cond, ◌⊎◌, inl, inr, refl, sym, ap, subst, ◌∙◌, append_assoc}
 use Rattle.std.proofs.lemmas.List.{get_or-append-add, append-nil}
 use Rattle.bac_value.specs.Octets.{IsBytes}
 use Rattle.bac_service.specs.Members.{Octets, ◌⨾◌, Optional}

@@ -1,5 +1,5 @@
 -- The laws of members: a tag of a class and number, with contents behind it.
-use Rattle.std.proofs.Common.{◌≡◌, ℕ, ◌+◌, ◌<◌, ◌^◌, Bool, true, false, cond, eqb, ◌&&◌, ◌==◌, nat_eq, List, [], ◌∷◌, ◌++◌, length, Option, Some, None, Result, Ok, Err, IsTrue, refl, sym, ap, subst, ◌∙◌, append_assoc}
+use Rattle.std.proofs.Common.{◌≡◌, ℕ, ◌<◌, ◌^◌, Bool, true, false, cond, nat_eq, ◌++◌, length, Some, None, Result, Ok, Err, IsTrue, refl, sym, ap, subst, ◌∙◌, append_assoc}
 use Rattle.std.proofs.lemmas.Bool.{eqb-true, eq-eqb}
 use Rattle.bac_value.specs.declared.fault.FaultKind.{FaultKind}
 use Rattle.bac_value.specs.declared.tag.Class.{Class}
@@ -12,8 +12,8 @@ use Rattle.bac_value.specs.Spelling.{Mark, tag_spelling, SpellsTag}
 use Rattle.bac_value.specs.Reading.{tag_at}
 use Rattle.bac_value.proofs.Tags.{tag_exact}
 use Rattle.bac_service.specs.Members.{Octets, mark_of, Tagged}
-use Rattle.bac_service.specs.Reading.{◌>>=◌, kept, same_class, length_of, announced, head_at, member_at}
-use Rattle.bac_service.proofs.Exact.{IsExact, Anything, bind_some, some_is, done, bytes_behind}
+use Rattle.bac_service.specs.Reading.{◌>>=◌, kept, length_of, announced, head_at, member_at}
+use Rattle.bac_service.proofs.Exact.{IsExact, Anything, bind_some, some_is, bytes_behind}
 
 pub kept_some : {A E : Type 0} (r : Result A E) (x : A) → kept r ≡ Some x → r ≡ Ok x
 kept_some (Ok y) x e = ap Ok (some_is y x e)

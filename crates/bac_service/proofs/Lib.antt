@@ -7,3 +7,6 @@ pub mod Accesses
 pub mod Wholes
 pub mod Runs
 pub mod Spelled
+pub mod LengthLaws
+pub mod OnlySpelling
+pub mod Counting

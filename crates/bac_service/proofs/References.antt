@@ -1,10 +1,8 @@
 -- The laws of what names a property.
-use Rattle.std.proofs.Common.{◌≡◌, ℕ, ◌<◌, ◌^◌, List, ◌++◌, Option, Some, None, refl, subst}
-use Rattle.bac_value.specs.declared.tag.Class.TheVariants.{Application, Context}
-use Rattle.bac_value.specs.Spelling.{SpellsTag}
+use Rattle.std.proofs.Common.{ℕ, Option, refl, subst}
+use Rattle.bac_value.specs.declared.tag.Class.TheVariants.{Context}
 use Rattle.bac_value.specs.Value.{ObjectId, IsNumber, IsObject}
-use Rattle.bac_value.specs.Reading.{tag_at, number_at, object_at}
-use Rattle.bac_service.specs.Values.{Reference}
+use Rattle.bac_value.specs.Reading.{number_at, object_at}
 use Rattle.bac_service.specs.Members.{Octets, ◌⨾◌, Optional, Tagged}
 use Rattle.bac_service.specs.Requests.{SpellsReference}
 use Rattle.bac_service.specs.Reading.{both_at, optional_at, member_at, reference_of, reference_at}

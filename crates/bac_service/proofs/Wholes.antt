@@ -1,6 +1,6 @@
 -- What is read of whole service data is exactly what they spell.
-use Rattle.std.proofs.Common.{◌≡◌, ◌≢◌, ℕ, ◌<◌, ℤ, Bool, true, false, cond, nat_eq, List, [], ◌++◌, Option, Some, None, ◌⊎◌, inl, inr, refl, sym, ap, subst, ◌∙◌, append_assoc, lit<, IsTrue, length, ◌^◌, Result, Ok, Err, MatchResult, IfOk, IfErr}
-use Rattle.std.proofs.lemmas.Bool.{eqb-true, lt-ltb}
+use Rattle.std.proofs.Common.{◌≡◌, ℕ, ◌<◌, ℤ, Bool, true, false, cond, nat_eq, ◌++◌, Option, Some, None, ◌⊎◌, inl, inr, refl, sym, ap, subst, ◌∙◌, append_assoc, lit<, IsTrue, length, ◌^◌, Result, Ok, Err, MatchResult, IfOk, IfErr}
+use Rattle.std.proofs.lemmas.Bool.{eqb-true}
 use Rattle.bac_value.specs.declared.tag.Class.{Class}
 use Rattle.bac_value.specs.declared.tag.Class.TheVariants.{Application, Context}
 use Rattle.bac_value.specs.declared.tag.Form.{Form}
@@ -8,19 +8,19 @@ use Rattle.bac_value.specs.declared.tag.Form.TheVariants.{Length, Boolean, Openi
 use Rattle.bac_value.specs.Limits.{tag_fits}
 use Rattle.bac_value.specs.Octets.{IsBytes}
 use Rattle.bac_value.specs.Spelling.{Mark, tag_spelling, SpellsTag}
-use Rattle.bac_value.specs.Value.{ObjectId, IsNumber, IsInteger, IsObject}
+use Rattle.bac_value.specs.Value.{ObjectId, IsInteger}
 use Rattle.bac_value.specs.Reading.{tag_at, signed_at}
 use Rattle.bac_value.specs.Data.{opening, closing, Ends}
 use Rattle.bac_value.proofs.Tags.{tag_exact}
-use Rattle.bac_service.specs.Values.{Reference, ReadAccess, WriteAccess, Request, Complex, choice_of, complex_choice_of, READ_FILE, WRITE_FILE, READ_PROPERTY, WRITE_PROPERTY}
+use Rattle.bac_service.specs.Values.{Reference, Request, Complex, choice_of, complex_choice_of, READ_FILE, WRITE_FILE, READ_PROPERTY, WRITE_PROPERTY}
 use Rattle.bac_service.specs.Values.WriteAccess.{WriteStream, WriteRecords}
 use Rattle.bac_service.specs.Values.Request.{ReadFile, WriteFile, ReadProperty, WriteProperty}
 use Rattle.bac_service.specs.Values.Complex.{FileRead, StreamWritten, RecordsWritten, PropertyRead}
-use Rattle.bac_service.specs.Members.{Octets, ◌⨾◌, Optional, Enclosed, Tagged, mark_of, IsPriority, ApplicationObject, ApplicationBoolean, ApplicationSigned, ApplicationString, AreData}
+use Rattle.bac_service.specs.Members.{Octets, ◌⨾◌, Optional, Enclosed, Tagged, IsPriority, ApplicationObject, ApplicationBoolean, AreData}
 use Rattle.bac_service.specs.Requests.{SpellsReference, SpellsReadAccess, SpellsWriteAccess, SpellsMembers, SpellsRequest, IsMade}
 use Rattle.bac_service.specs.Replies.{SpellsAnswer, SpellsComplex, IsMadeOf}
-use Rattle.bac_service.specs.Reading.{◌>>=◌, kept, both_at, made_at, member_at, is_next, optional_at, enclosed_at, values_at, priority_at, reference_at, write_property_of, write_property_at, application_object, content_at, either_at, read_access_at, write_access_at, file_at, whole, request_at, boolean_of, end_of_file_at, file_read_at, file_written_at, property_read_at, complex_at}
-use Rattle.bac_service.proofs.Exact.{IsExact, Anything, Differs, Made, IsOneOf, bind_some, some_is, both_exact, made_exact, optional_exact, either_exact, whole_takes, whole_again}
+use Rattle.bac_service.specs.Reading.{◌>>=◌, kept, both_at, made_at, member_at, is_next, optional_at, enclosed_at, values_at, priority_at, reference_at, write_property_of, write_property_at, application_object, content_at, read_access_at, write_access_at, file_at, whole, request_at, boolean_of, end_of_file_at, file_read_at, file_written_at, property_read_at, complex_at}
+use Rattle.bac_service.proofs.Exact.{IsExact, Anything, Differs, Made, bind_some, some_is, both_exact, made_exact, optional_exact, either_exact, whole_takes, whole_again}
 use Rattle.bac_service.proofs.Heads.{kept_some, member_exact}
 use Rattle.bac_service.proofs.Contents.{signed_law}
 use Rattle.bac_service.proofs.Pairs.{next_tagged, next_other, next_opening, end_differs, enclosed_exact, values_exact}
@@ -258,9 +258,9 @@ request_found view choice bytes (Err d) fits e = tt
 made_of : (r : Request) (bytes : Octets) → SpellsMembers r bytes → IsMade r
 made_of (ReadFile file access) bytes s = tt
 made_of (WriteFile file (WriteStream start octets)) bytes s = let string = s.second.are.second in subst (λ (xs : Octets). length xs < 2 ^ 32) string.are string.fits
-made_of (WriteFile file (WriteRecords start count run)) bytes s = s.second.are.second.second.strings
+made_of (WriteFile file (WriteRecords start count run)) bytes s = ∣ s.second.are.second.second.strings ∣₁
 made_of (ReadProperty r) bytes s = tt
-made_of (WriteProperty r values priority) bytes s = s.second.first.are.spelled
+made_of (WriteProperty r values priority) bytes s = ∣ s.second.first.are.spelled ∣₁
 
 pub request_made : {X E : Type 0} (view : X → Request) (choice : ℕ) (bytes : Octets) (result : Result X E) → IsBytes bytes → ReadAs view choice bytes result → IfOk result (λ f. IsMade (view f))
 request_made view choice bytes (Ok f) fits e = made_of (view f) bytes (request_takes choice bytes (view f) fits e).members
@@ -281,7 +281,7 @@ answer_made : (c : Complex) (bytes : Octets) → SpellsAnswer c bytes → IsMade
 answer_made (FileRead b z octets) bytes s = let string = s.second.are.second in subst (λ (xs : Octets). length xs < 2 ^ 32) string.are string.fits
 answer_made (StreamWritten z) bytes s = tt
 answer_made (RecordsWritten z) bytes s = tt
-answer_made (PropertyRead r values) bytes s = s.second.are.spelled
+answer_made (PropertyRead r values) bytes s = ∣ s.second.are.spelled ∣₁
 
 pub complex_made : {X E : Type 0} (view : X → Complex) (choice : ℕ) (bytes : Octets) (result : Result X E) → IsBytes bytes → AnsweredAs view choice bytes result → IfOk result (λ c. IsMadeOf (view c))
 complex_made view choice bytes (Ok c) fits e = answer_made (view c) bytes (complex_takes choice bytes (view c) fits e).members

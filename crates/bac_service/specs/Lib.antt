@@ -6,3 +6,5 @@ pub mod Reading
 pub mod Views
 pub mod Services
 pub mod Spellings
+pub mod Lengths
+pub mod Refusals

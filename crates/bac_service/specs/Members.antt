@@ -1,7 +1,7 @@
 -- The members of a production (clause 21): each is a value's contents behind a tag, and they follow each other.
 use Rattle.std.specs.Prelude.{◌≡◌, ℕ, ℤ, Bool, ◌^◌, ◌<◌, ◌≤◌, zero, suc, List, [], ◌++◌, length, Option, Some, None}
 use Rattle.bac_value.specs.declared.tag.Class.{Class}
-use Rattle.bac_value.specs.declared.tag.Class.TheVariants.{Application, Context}
+use Rattle.bac_value.specs.declared.tag.Class.TheVariants.{Application}
 use Rattle.bac_value.specs.declared.tag.Form.TheVariants as form
 use Rattle.bac_value.specs.Spelling.{Mark, tag_spelling}
 use Rattle.bac_value.specs.Value.{ObjectId, IsNumber, IsInteger, IsObject}
@@ -71,6 +71,11 @@ ApplicationBoolean b bytes = bytes ≡ tag_spelling (record { number = 1; class 
 abbrev pub AreStrings : ℕ → Octets → Type 0
 AreStrings zero run = run ≡ []
 AreStrings (suc count) run = (Tagged Application 6 (λ xs. Unit {0}) ⨾ AreStrings count) run
+
+-- they are so many octet strings, and no other number of them
+pub record IsCount (run : Octets) (count : ℕ) : Type 0 where
+  pub are : AreStrings count run
+  pub only : (m : ℕ) → AreStrings m run → m ≡ count
 
 -- ---- data
 

@@ -24,4 +24,4 @@ abbrev pub IsMadeOf : Complex → Type 0
 IsMadeOf (FileRead end_of_file start octets) = length octets < 2 ^ 32
 IsMadeOf (StreamWritten start) = Unit {0}
 IsMadeOf (RecordsWritten start) = Unit {0}
-IsMadeOf (PropertyRead r values) = IsData values
+IsMadeOf (PropertyRead r values) = ∥ IsData values ∥₁

@@ -43,13 +43,13 @@ pub record SpellsRequest (choice : ℕ) (r : Request) (bytes : Octets) : Type 0 
 -- what a request's strings and data are, whatever else it says
 abbrev pub IsWritten : WriteAccess → Type 0
 IsWritten (WriteStream start octets) = length octets < 2 ^ 32
-IsWritten (WriteRecords start count run) = AreStrings count run
+IsWritten (WriteRecords start count run) = ∥ AreStrings count run ∥₁
 
 abbrev pub IsMade : Request → Type 0
 IsMade (ReadFile file access) = Unit {0}
 IsMade (WriteFile file access) = IsWritten access
 IsMade (ReadProperty r) = Unit {0}
-IsMade (WriteProperty r values priority) = IsData values
+IsMade (WriteProperty r values priority) = ∥ IsData values ∥₁
 
 -- a choice of another service
 pub record IsUnknown (choice : ℕ) : Type 0 where

@@ -1,6 +1,8 @@
 -- What contracts see of the types in code.
 use Rattle.std.specs.Prelude.{ℕ, List, Option, Some, None}
 use Rattle.bac_value.specs.declared.data.Data.{Data}
+use Rattle.bac_value.specs.declared.data.DataBuf.{DataBuf}
+use Rattle.bac_value.specs.declared.value.OctetString.{OctetString}
 use Rattle.bac_value.specs.Views.{object_id}
 use Rattle.bac_service.specs.declared.value.PropertyReference.{PropertyReference}
 use Rattle.bac_service.specs.declared.value.Priority.{Priority}
@@ -21,6 +23,9 @@ use Rattle.bac_service.specs.declared.reply.FileWritten.TheVariants as place
 use Rattle.bac_service.specs.declared.reply.PropertyRead.{PropertyRead}
 use Rattle.bac_service.specs.declared.reply.AnyComplex as answer
 use Rattle.bac_service.specs.declared.reply.AnyComplex.TheVariants as kind
+use Rattle.bac_service.specs.declared.reply.AnyReply as outcome
+use Rattle.bac_service.specs.declared.reply.AnyReply.TheVariants as way
+use Rattle.bac_service.specs.declared.owned_records.OwnedRecords.{OwnedRecords}
 use Rattle.bac_service.specs.declared.run.Run.{Run}
 use Rattle.bac_service.specs.Values as plain
 
@@ -67,6 +72,10 @@ request r = seen lent r
 abbrev pub left : {O : Type 0} → (O → List ℕ) → Sight O O (Run O)
 left octets = record { values = octets; content = octets; count = λ r. r.count; run = λ r. octets r.octets }
 
+-- a request with its own memory
+abbrev pub owned : Sight DataBuf OctetString OwnedRecords
+owned = record { values = λ d. d.octets.items; content = λ c. c.octets.items; count = λ r. r.count; run = λ r. r.run.items }
+
 -- ---- answers
 
 abbrev pub ComplexOver : Type 0 → Type 0 → Type 0
@@ -84,3 +93,13 @@ answered values content (kind.PropertyRead r) = plain.Complex.PropertyRead (refe
 -- an answer that borrows its octets
 abbrev pub complex : ComplexOver Data Content → plain.Complex
 complex c = answered (λ d. d.octets.now) (λ c. c.octets.now) c
+
+-- an answer with its own memory
+abbrev pub owned_complex : ComplexOver DataBuf OctetString → plain.Complex
+owned_complex c = answered (λ d. d.octets.items) (λ c. c.octets.items) c
+
+abbrev pub replied : {C : Type 0} → (C → plain.Complex) → outcome.AnyReply C → plain.Reply
+replied view way.Simple = plain.Reply.Simple
+replied view (way.Complex c) = plain.Reply.Whole (view c)
+replied view (way.Error class code) = plain.Reply.Error class code
+replied view (way.Reject reason) = plain.Reply.Reject reason

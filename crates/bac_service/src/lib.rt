@@ -1,19 +1,34 @@
 //! Requests and answers of the four services (clauses 14 and 15), read from and written as service data (clause 21).
 #![tactic(auto)]
 
+mod laws;
+mod lending;
+mod lengths;
 mod member;
+mod owned;
+mod owned_records;
+mod parts_reading;
+mod read_error;
+mod records;
 mod reject;
 mod reply;
 mod reply_reading;
 mod reply_writing;
 mod request;
 mod request_reading;
+mod request_writing;
 mod run;
 mod service;
 mod stop;
 mod typed;
 mod value;
 
+pub use laws::{one_reply_spelling, one_request_spelling};
+pub use lengths::{reply_len, request_len};
+pub use owned::{OwnedComplex, OwnedReply, OwnedRequest};
+pub use owned_records::OwnedRecords;
+pub use parts_reading::{read_reply_parts, read_request_parts};
+pub use read_error::ReadError;
 pub use reject::Reject;
 pub use reply::{
     AnyComplex, AnyReply, Complex, ComplexOver, FileRead, FileWritten, PropertyRead, Reply,
@@ -25,4 +40,5 @@ pub use request::{
     WriteRecords, WriteStream,
 };
 pub use request_reading::read_request;
+pub use request_writing::write_request;
 pub use value::{Content, Priority, PropertyReference, Records};

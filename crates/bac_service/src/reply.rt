@@ -3,7 +3,7 @@ use crate::value::{Content, PropertyReference};
 use bac_value::Data;
 
 /// What was read of a file (clause 14.1): octets from a position on, and whether they reach the file's end.
-#[derive(Clone, Copy, Debug)]
+#[derive(Clone, Copy, Debug, Drop)]
 pub struct FileRead<C> {
     pub end_of_file: bool,
     pub start: i64,
@@ -18,14 +18,14 @@ pub enum FileWritten {
 }
 
 /// What a property is (clause 15.5).
-#[derive(Clone, Copy, Debug)]
+#[derive(Clone, Copy, Debug, Drop)]
 pub struct PropertyRead<D> {
     pub reference: PropertyReference,
     pub values: D,
 }
 
 /// The service data of a ComplexACK, over what each service answers.
-#[derive(Clone, Copy, Debug)]
+#[derive(Clone, Copy, Debug, Drop)]
 pub enum AnyComplex<A, B, C> {
     /// AtomicReadFile, service choice 6.
     FileRead(A),
@@ -42,7 +42,7 @@ pub type ComplexOver<D, C> = AnyComplex<FileRead<C>, FileWritten, PropertyRead<D
 pub type Complex<'a> = ComplexOver<Data<'a>, Content<'a>>;
 
 /// An answer, over what holds the service data of a ComplexACK.
-#[derive(Clone, Copy, Debug)]
+#[derive(Clone, Copy, Debug, Drop)]
 pub enum AnyReply<C> {
     /// It was done, and there is nothing to tell.
     Simple,

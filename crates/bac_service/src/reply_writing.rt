@@ -16,7 +16,7 @@ use bac_value::{
     put_signed, put_tag, put_unsigned,
 };
 
-fn put_opening(number: u8, out: &mut Vec<u8>) -> Result<(), NoMemory>
+pub(crate) fn put_opening(number: u8, out: &mut Vec<u8>) -> Result<(), NoMemory>
     requires { number < 255 }
     ensures ok { OnOk result (out.new.items ≡ out.old.items ++ opening number) }
     ensures kept { Begins out.old.items out.new.items }
@@ -29,7 +29,7 @@ fn put_opening(number: u8, out: &mut Vec<u8>) -> Result<(), NoMemory>
     put_tag(&tag, out)
 }
 
-fn put_closing(number: u8, out: &mut Vec<u8>) -> Result<(), NoMemory>
+pub(crate) fn put_closing(number: u8, out: &mut Vec<u8>) -> Result<(), NoMemory>
     requires { number < 255 }
     ensures ok { OnOk result (out.new.items ≡ out.old.items ++ closing number) }
     ensures kept { Begins out.old.items out.new.items }

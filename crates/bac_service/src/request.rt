@@ -17,35 +17,35 @@ pub struct ReadFile {
 }
 
 /// Octets of a file from a position on; position -1 appends.
-#[derive(Clone, Copy, Debug)]
+#[derive(Clone, Copy, Debug, Drop)]
 pub struct WriteStream<C> {
     pub start: i64,
     pub content: C,
 }
 
 /// Records of a file from a record on; record -1 appends.
-#[derive(Clone, Copy, Debug)]
+#[derive(Clone, Copy, Debug, Drop)]
 pub struct WriteRecords<R> {
     pub start: i64,
     pub records: R,
 }
 
 /// Where a file is written, and what (clause 14.2).
-#[derive(Clone, Copy, Debug)]
+#[derive(Clone, Copy, Debug, Drop)]
 pub enum WriteAccess<C, R> {
     Stream(WriteStream<C>),
     Records(WriteRecords<R>),
 }
 
 /// Which file is written, where, and what (clause 14.2).
-#[derive(Clone, Copy, Debug)]
+#[derive(Clone, Copy, Debug, Drop)]
 pub struct WriteFile<C, R> {
     pub file: ObjectIdentifier,
     pub access: WriteAccess<C, R>,
 }
 
 /// What a property is to be (clause 15.9). The priority is for commandable properties.
-#[derive(Clone, Copy, Debug)]
+#[derive(Clone, Copy, Debug, Drop)]
 pub struct WriteProperty<D> {
     pub reference: PropertyReference,
     pub values: D,
@@ -53,7 +53,7 @@ pub struct WriteProperty<D> {
 }
 
 /// A request of one of the four services, over what each of them says.
-#[derive(Clone, Copy, Debug)]
+#[derive(Clone, Copy, Debug, Drop)]
 pub enum AnyRequest<A, B, C, D> {
     /// AtomicReadFile, service choice 6.
     ReadFile(A),

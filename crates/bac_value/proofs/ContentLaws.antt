@@ -1,15 +1,15 @@
 -- Reading the contents of a kind takes exactly the contents that values of that kind have.
-use Rattle.std.proofs.Common.{◌≡◌, ℕ, ◌+◌, ◌-◌, ◌*◌, ◌/◌, ◌%◌, ◌^◌, ◌<◌, ◌≤◌, ℤ, true, List, [], ◌∷◌, ◌++◌, length, get_or, Result, Ok, Err, Some, None, refl, sym, ap, subst, ◌∙◌, arith}
-use Rattle.std.specs.Int.{w32, to_be_bytes, from_be_bytes}
+use Rattle.std.proofs.Common.{◌≡◌, ℕ, ◌+◌, ◌*◌, ◌/◌, ◌%◌, ◌^◌, List, ◌++◌, length, Ok, refl, ap, subst, ◌∙◌, arith}
+use Rattle.std.specs.Int.{w32, from_be_bytes}
 use Rattle.std.proofs.lemmas.Bool.{eqb-true}
 use Rattle.bac_value.specs.Octets.{IsBytes}
-use Rattle.bac_value.specs.Number.{number_in, signed_in, IsUnsigned, IsSigned}
-use Rattle.bac_value.specs.Value.{Datum, unsigned, signed, enumerated, object, ObjectId, kind_number, IsContents, IsNumber, IsInteger, IsObject}
-use Rattle.bac_value.specs.Reading.{◌>>=◌, kind_at, number_at, signed_at, object_at, length_in}
+use Rattle.bac_value.specs.Number.{number_in, signed_in}
+use Rattle.bac_value.specs.Value.{Datum, unsigned, signed, enumerated, object, ObjectId, kind_number, IsContents, IsNumber, IsObject}
+use Rattle.bac_value.specs.Reading.{◌>>=◌, kind_at, number_at, signed_at, object_at}
 use Rattle.bac_value.proofs.Steps.{bind_ok, ok_is, IsExact}
 use Rattle.bac_value.proofs.Tags.{wide32}
 use Rattle.bac_value.proofs.RightContents.{between, no_fault, unsigned_of, signed_of, four, object_in, object_meant, kind_again, IsRight}
-use Rattle.bac_value.proofs.Elements.{IsKindFront, kind_front, right_again}
+use Rattle.bac_value.proofs.Elements.{kind_front, right_again}
 
 -- contents of one kind and length, as what reading them gives
 pub record HasContents {Y : Type 0} (datum_of : Y → Datum) (k : ℕ) (y : Y) (text : List ℕ) : Type 0 where
@@ -32,7 +32,7 @@ object_right_of xs fits h = object_meant xs fits (eqb-true _ _ h.len)
 
 -- ---- what a value's contents give
 
-object_again : (i : ObjectId) (xs : List ℕ) → IsObject i xs → object_in xs ≡ i
+pub object_again : (i : ObjectId) (xs : List ℕ) → IsObject i xs → object_in xs ≡ i
 object_again i xs h =
     let n = i.kind * 2 ^ 22 + i.instance in
     let len : length xs ≡ 4 = ap length h.is in

@@ -1,13 +1,12 @@
 -- Data as elements one after the other.
-use Rattle.std.proofs.Common.{◌≡◌, ℕ, zero, suc, ◌<◌, List, [], ◌∷◌, ◌++◌, length, Result, Ok, Err, refl, sym, ap, ◌∙◌, append_assoc, arith}
+use Rattle.std.proofs.Common.{◌≡◌, ℕ, zero, suc, ◌<◌, List, [], ◌∷◌, ◌++◌, length, Ok, Err, refl, sym, ap, ◌∙◌, append_assoc, arith}
 use Rattle.std.proofs.lemmas.Bool.{lt-ltb}
 use Rattle.std.proofs.lemmas.List.{append-nil}
 use Rattle.bac_value.specs.declared.fault.FaultKind.{FaultKind}
 use Rattle.bac_value.specs.declared.tag.Class.TheVariants.{Context}
 use Rattle.bac_value.specs.declared.tag.Form.TheVariants.{Opening, Closing}
-use Rattle.bac_value.specs.Spelling.{Mark, tag_spelling}
 use Rattle.bac_value.specs.Element.{Part, part_spelling, SpellsElement}
-use Rattle.bac_value.specs.Data.{Forest, none, leaf, pair, opening, closing, spelling, IsWithin, SpellsData, IsData, AreElements, SomeElements}
+use Rattle.bac_value.specs.Data.{Forest, none, leaf, pair, opening, closing, spelling, IsWithin, IsData, AreElements, SomeElements}
 use Rattle.bac_value.specs.Reading.{element_at}
 use Rattle.bac_value.proofs.Steps.{ok_is, done}
 use Rattle.bac_value.proofs.Elements.{element_again}

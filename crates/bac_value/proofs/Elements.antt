@@ -1,6 +1,7 @@
 -- Reading elements takes exactly the spellings.
-use Rattle.std.proofs.Common.{◌≡◌, ℕ, ◌+◌, ◌-◌, ◌<◌, ◌≤◌, Bool, true, false, cond, ltb, List, [], ◌∷◌, ◌++◌, length, take, drop, Result, Ok, Err, Option, Some, None, refl, sym, ap, subst, ◌∙◌, append_assoc, arith, IsTrue}
-use Rattle.std.proofs.lemmas.Bool.{ltb-false, le-ltb, ltb-true}
+use Rattle.std.proofs.Common.{◌≡◌, ℕ, ◌<◌, Bool, true, false, cond, ltb, List, [], ◌++◌, length, take, drop, Result, Ok, Err, Option, Some}
+use Rattle.std.proofs.Common.{None, refl, sym, ap, subst, ◌∙◌, append_assoc, arith, IsTrue}
+use Rattle.std.proofs.lemmas.Bool.{ltb-false, le-ltb}
 use Rattle.std.proofs.lemmas.List.{take_at, drop_at, take-append-drop, length-append, length-take-le}
 use Rattle.bac_value.specs.declared.fault.FaultKind.{FaultKind}
 use Rattle.bac_value.specs.declared.fault.FaultKind.TheVariants.{Truncated, BadLength}
@@ -10,12 +11,11 @@ use Rattle.bac_value.specs.declared.tag.Form.{Form}
 use Rattle.bac_value.specs.declared.tag.Form.TheVariants.{Length, Boolean, Opening, Closing}
 use Rattle.bac_value.specs.Octets.{IsBytes}
 use Rattle.bac_value.specs.Limits.{tag_fits}
-use Rattle.bac_value.specs.Spelling.{Mark, tag_spelling, SpellsTag}
-use Rattle.bac_value.specs.Value.{kind_number}
+use Rattle.bac_value.specs.Spelling.{Mark, tag_spelling}
 use Rattle.bac_value.specs.Element.{Part, IsOfKind, IsOfClass, IsAnnounced, SpellsElement}
 use Rattle.bac_value.specs.Reading.{◌>>=◌, length_in, flaw, unless_flaw, raw_at, kind_at, class_at, contents_at, tag_at, element_at}
-use Rattle.bac_value.proofs.Steps.{IsBytes-drop, IsBytes-take, bind_ok, chosen, guard_ok, ok_is, Takes, Takes-then, IsExact}
-use Rattle.bac_value.proofs.Tags.{tag_takes, tag_again, tag_number-lt, length_number-lt}
+use Rattle.bac_value.proofs.Steps.{IsBytes-drop, IsBytes-take, bind_ok, guard_ok, ok_is, Takes, Takes-then, IsExact}
+use Rattle.bac_value.proofs.Tags.{tag_takes, tag_again, length_number-lt}
 use Rattle.bac_value.proofs.RightContents.{kind_takes, kind_again, IsRight}
 
 -- ---- raw octets

@@ -12,3 +12,4 @@ pub mod Values
 pub mod Meanings
 pub mod ContentLaws
 pub mod ElementLists
+pub mod OneSpelling

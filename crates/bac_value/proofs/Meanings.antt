@@ -1,16 +1,16 @@
 -- Elements with right contents of a kind are one value.
-use Rattle.std.proofs.Common.{◌≡◌, ℕ, ◌<◌, Bool, true, false, List, length, Option, Some, None, refl, sym, ap, subst, ◌∙◌, IsTrue, not, ◌&&◌, ltb, eqb}
+use Rattle.std.proofs.Common.{◌≡◌, ℕ, false, List, length, Option, Some, None, refl, sym, ap, subst, ◌∙◌, IsTrue, not, ltb, eqb}
 use Rattle.std.specs.Prelude.{is_some}
 use Rattle.std.proofs.lemmas.Bool.{and_parts, not-true, eqb-false}
 use Rattle.bac_value.specs.declared.tag.Class.{Class}
 use Rattle.bac_value.specs.declared.tag.Class.TheVariants.{Application}
 use Rattle.bac_value.specs.declared.tag.Form.{Form}
-use Rattle.bac_value.specs.declared.tag.Form.TheVariants.{Length, Boolean}
+use Rattle.bac_value.specs.declared.tag.Form.TheVariants.{Length}
 use Rattle.bac_value.specs.Octets.{IsBytes}
-use Rattle.bac_value.specs.Limits.{tag_fits, length_tag_fits}
+use Rattle.bac_value.specs.Limits.{tag_fits}
 use Rattle.bac_value.specs.Spelling.{Mark}
-use Rattle.bac_value.specs.Value.{Datum, null, boolean, unsigned, signed, real, double, octets, characters, bits, enumerated, date, time, object, kind_number, IsContents, form_of, mark_for}
-use Rattle.bac_value.specs.Element.{Part}
+use Rattle.bac_value.specs.Value.{Datum, null, boolean, unsigned, signed, real, double, octets, characters, bits, enumerated, date, time}
+use Rattle.bac_value.specs.Value.{object, kind_number, IsContents, form_of}
 use Rattle.bac_value.specs.Reading.{length_in, flaw}
 use Rattle.bac_value.specs.Meaning.{datum_in, IsValueOf}
 use Rattle.bac_value.proofs.Tags.{length_number-lt}

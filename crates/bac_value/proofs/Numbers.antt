@@ -1,10 +1,12 @@
 -- Numbers in octets, the highest first.
-use Rattle.std.proofs.Common.{◌≡◌, ℕ, zero, suc, ◌+◌, ◌-◌, ◌*◌, ◌/◌, ◌%◌, ◌^◌, ◌<◌, ◌≤◌, List, [], ◌∷◌, ◌++◌, length, get_or, take, drop, refl, sym, ap, ◌∙◌, arith, inl, inr}
-use Rattle.std.proofs.Math.Nat.{pow-suc, pow-succ', pow-le-pow_right, one-le-pow, mul_assoc, mul-le-mul_right, mul-le-mul_left, add-mul, add_assoc, mul-add-mod_self_right, div-add-mod', mod-eq_of_lt, mod-lt, div-div-eq-div-mul}
-use Rattle.std.proofs.lemmas.Nat.{pow-add, same_from_place, mul-add-lt, le-div, div_below}
+use Rattle.std.proofs.Common.{◌≡◌, ℕ, zero, suc, ◌+◌, ◌-◌, ◌*◌, ◌/◌, ◌%◌, ◌^◌, ◌<◌, ◌≤◌, List, [], ◌∷◌, length, get_or, refl, sym, ap, ◌∙◌}
+use Rattle.std.proofs.Common.{arith, inl, inr}
+use Rattle.std.proofs.Math.Nat.{pow-suc, pow-succ', pow-le-pow_right, one-le-pow, mul_assoc, mul-le-mul_right, add-mul, add_assoc}
+use Rattle.std.proofs.Math.Nat.{mul-add-mod_self_right, div-add-mod', mod-eq_of_lt, mod-lt, div-div-eq-div-mul}
+use Rattle.std.proofs.lemmas.Nat.{pow-add, mul-add-lt, le-div, div_below}
 use Rattle.std.proofs.lemmas.Grind.{pow_more}
-use Rattle.std.proofs.lemmas.Bool.{cases_lt, cases_order, lt-ltb, le-ltb}
-use Rattle.std.specs.Int.{byte_at, bytes_high_first}
+use Rattle.std.proofs.lemmas.Bool.{cases_lt, lt-ltb, le-ltb}
+use Rattle.std.specs.Int.{byte_at}
 use Rattle.byteorder.specs.Endian.{big_bytes}
 use Rattle.bac_value.specs.Octets.{IsBytes}
 use Rattle.bac_value.specs.Number.{number_in, IsUnsigned, width_of, half_width_of, unsigned_octets}

@@ -1,15 +1,14 @@
 -- Numbers in two's complement.
-use Rattle.std.proofs.Common.{◌≡◌, ℕ, zero, suc, ◌+◌, ◌-◌, ◌*◌, ◌/◌, ◌%◌, ◌^◌, ◌<◌, ◌≤◌, ℤ, pos, negsuc, ◌+ℤ◌, ◌-ℤ◌, neg_ℤ, ◌≤ℤ◌, ◌<ℤ◌, to_z, of_z, cond, ltb, List, [], ◌∷◌, length, get_or, refl, sym, ap, ◌∙◌, subst, arith}
-use Rattle.std.specs.Int.{w64, cast_unsigned}
+use Rattle.std.proofs.Common.{◌≡◌, ℕ, zero, suc, ◌+◌, ◌-◌, ◌*◌, ◌/◌, ◌%◌, ◌^◌, ◌<◌, ◌≤◌, ℤ, pos, negsuc, ◌-ℤ◌, to_z, of_z, cond, ltb}
+use Rattle.std.proofs.Common.{length, get_or, refl, ap, ◌∙◌, arith}
+use Rattle.std.specs.Int.{w64}
 use Rattle.std.proofs.lemmas.Int.{ints}
 use Rattle.std.proofs.lemmas.Bool.{le-ltb, lt-ltb}
 use Rattle.std.proofs.lemmas.Nat.{pow-add}
 use Rattle.std.proofs.Math.Nat.{pow-suc}
 use Rattle.byteorder.specs.Endian.{big_bytes}
-use Rattle.bac_value.specs.Octets.{IsBytes}
-use Rattle.bac_value.specs.Number.{number_in, signed_in, IsSigned, distance, half_width_of, complement, signed_octets}
+use Rattle.bac_value.specs.Number.{signed_in, IsSigned, distance, half_width_of, complement, signed_octets}
 use Rattle.bac_value.proofs.Numbers.{bits_power, length-big, IsBytes-big, number_in_big, two_front, quotient_between, IsHalfWidth, half_width_is}
-use Rattle.std.proofs.lemmas.Bool.Decides.{nat_tests}
 
 -- a number in the upper half of its range
 pub upper_half : (n greatest half whole : ℕ) → n ≤ greatest → greatest / 2 < n → greatest < 2 ^ 64 → greatest + 1 ≡ whole → greatest / 2 + 1 ≡ half
@@ -18,12 +17,12 @@ upper_half n greatest half whole le above fits w h = rw (le-ltb n half (omega ar
 
 -- ---- what is written
 
-half_power : (j : ℕ) → 2 ^ (8 * suc j - 1) ≡ 128 * 256 ^ j
+pub half_power : (j : ℕ) → 2 ^ (8 * suc j - 1) ≡ 128 * 256 ^ j
 half_power j =
     let e : 8 * suc j - 1 ≡ 8 * j + 7 = omega arith in
     rw (e, pow-add 2 (8 * j) 7, bits_power j) (omega arith)
 
-whole_power : (j : ℕ) → 2 ^ (8 * suc j) ≡ 256 * 256 ^ j
+pub whole_power : (j : ℕ) → 2 ^ (8 * suc j) ≡ 256 * 256 ^ j
 whole_power j = bits_power (suc j) ∙ rw (pow-suc 256 j) (omega arith)
 
 -- j + 1 octets of n, read in two's complement

@@ -1,5 +1,5 @@
 -- Which tags and which values there are.
-use Rattle.std.specs.Prelude.{ℕ, Bool, true, false, nat_lt, ◌==◌, ◌&&◌, ◌-◌, ◌%◌, ◌^◌, not, if◌then◌else◌, List, length, slice_index}
+use Rattle.std.specs.Prelude.{ℕ, Bool, false, nat_lt, ◌==◌, ◌&&◌, ◌-◌, ◌%◌, ◌^◌, not, if◌then◌else◌, List, length, slice_index}
 use Rattle.bac_value.specs.declared.tag.Class.{Class}
 use Rattle.bac_value.specs.declared.tag.Class.TheVariants.{Application, Context}
 use Rattle.bac_value.specs.declared.tag.Form.{Form}

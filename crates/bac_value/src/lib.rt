@@ -36,6 +36,7 @@ pub use element_reading::{one_element_spelling, read_element, take_element};
 pub use fault::{Fault, FaultKind};
 pub use memory::NoMemory;
 pub use number_reading::{take_enumerated, take_object_identifier, take_signed, take_unsigned};
+pub use number_width::{signed_len, unsigned_len};
 pub use octets::Octets;
 pub use parts::Parts;
 pub use parts_reading::{check_data_at, copy_out, read_tag_at};
@@ -45,8 +46,8 @@ pub use tag_writing::{put_tag, write_tag};
 pub use value::{BitString, CharacterString, ObjectIdentifier, OctetString, Value};
 pub use value_reading::value_of;
 pub use value_writing::{
-    put_boolean, put_object_identifier, put_primitive, put_signed, put_unsigned, put_value,
-    write_value,
+    one_value_spelling, put_boolean, put_object_identifier, put_primitive, put_signed,
+    put_unsigned, put_value, write_value,
 };
 pub use walking::DataElements;
 

@@ -284,3 +284,86 @@ fn pieces_give_what_the_octets_give(rt: HostRuntime) -> Result<(), Fail> {
     }
     Ok(())
 }
+
+#[test]
+fn reads_contents_of_context_tags(rt: HostRuntime) -> Result<(), Fail> {
+    let octets = octets_of(rt.alloc(), "0155FF7F00800001")?;
+    let octets = octets.as_slice();
+    assert!(rt; matches!(take_unsigned(octets, 2), Ok((0x155, _))));
+    assert!(rt; matches!(take_unsigned(octets, 0), Err(FaultKind::BadLength)));
+    assert!(rt; matches!(take_enumerated(octets, 4), Ok((0x0155_FF7F, _))));
+    assert!(rt; matches!(take_enumerated(octets, 5), Err(FaultKind::BadLength)));
+    assert!(rt; matches!(take_unsigned(octets, 9), Err(FaultKind::BadLength)));
+    assert!(rt; matches!(take_signed(octets, 2), Ok((0x155, _))));
+    let Ok((_, octets)) = take_contents(octets, 6, 2) else {
+        return Err("octets").map_err(Fail::from);
+    };
+    assert!(rt; matches!(take_signed(octets, 2), Ok((-129, _))));
+    let Ok((_, octets)) = take_contents(octets, 6, 2) else {
+        return Err("octets").map_err(Fail::from);
+    };
+    assert!(rt; matches!(take_object_identifier(octets, 3), Err(FaultKind::BadLength)));
+    let Ok((object, rest)) = take_object_identifier(octets, 4) else {
+        return Err("an object").map_err(Fail::from);
+    };
+    assert!(rt; object == ObjectIdentifier::new(2, 1).ok_or("an object")?);
+    assert_eq!(rt; rest.len(), 0);
+    assert!(rt; matches!(take_unsigned(rest, 1), Err(FaultKind::Truncated)));
+    Ok(())
+}
+
+#[test]
+fn lends_copies_and_walks_data(rt: HostRuntime) -> Result<(), Fail> {
+    let alloc = rt.alloc();
+    let octets = octets_of(alloc, "0E21050F1A02033F")?;
+    let (data, len) = read_data(&octets)?;
+    assert_eq!(rt; len, 7);
+    let copy = data.to_owned(alloc)?;
+    let mut out = octets_of(alloc, "AA")?;
+    write_data(copy.as_data(), &mut out)?;
+    assert_eq!(rt;
+        out.as_slice(),
+        octets_of(alloc, "AA0E21050F1A0203")?.as_slice()
+    );
+    let mut tags = Vec::new(alloc);
+    let mut elements = data.elements();
+    for _ in 0..octets.len() {
+        let Some((element, behind)) = elements.split_first() else {
+            break;
+        };
+        write_tag(&element.tag, &mut tags)?;
+        elements = behind;
+    }
+    assert_eq!(rt; tags.as_slice(), octets_of(alloc, "0E210F1A")?.as_slice());
+    assert_eq!(rt; copy.into_vec().len(), 7);
+    Ok(())
+}
+
+#[test]
+fn reads_many_pieces_of_one_octet(rt: HostRuntime) -> Result<(), Fail> {
+    let alloc = rt.alloc();
+    let octets = vec![in alloc; 0u8; 65_535]?;
+    let pieces = pieces_of(alloc, &octets, 1)?;
+    let parts = Parts::try_new(&pieces).ok_or("few octets")?;
+    assert!(rt; matches!(check_data_at(&parts, 0), Ok(65_535)));
+    let mut out = Vec::new(alloc);
+    assert_eq!(rt; parts.len(), 65_535);
+    parts.append_to(&mut out)?;
+    assert!(rt; out == octets);
+    Ok(())
+}
+
+#[test]
+fn copies_out_of_pieces(rt: HostRuntime) -> Result<(), Fail> {
+    let alloc = rt.alloc();
+    let octets = octets_of(alloc, "000102030405")?;
+    for size in 1..=octets.len() {
+        let pieces = pieces_of(alloc, &octets, size)?;
+        let parts = Parts::try_new(&pieces).ok_or("few octets")?;
+        assert_eq!(rt; parts.len(), 6);
+        let mut out = octets_of(alloc, "AA")?;
+        copy_out(&parts, 1, 4, &mut out)?;
+        assert_eq!(rt; out.as_slice(), [0xAA, 1, 2, 3, 4].as_slice());
+    }
+    Ok(())
+}

@@ -1,10 +1,10 @@
-ghost use Rattle.std.specs.Prelude.{◌≡◌, ◌<◌, ◌≤◌, ◌+◌, ◌*◌, ◌++◌, ◌^◌, ◌∷◌, ℕ, [], length, IsTrue, OnOk, OnErr};
+ghost use Rattle.std.specs.Prelude.{◌≡◌, ◌<◌, ◌≤◌, ◌+◌, ◌*◌, ◌++◌, ◌^◌, ◌∷◌, ℕ, List, [], length, IsTrue, OnOk, OnErr};
 ghost use Rattle.byteorder.specs.Endian.{big_bytes};
 ghost use Rattle.bac_value.specs.Octets.{Begins};
 ghost use Rattle.bac_value.specs.Limits.{length_tag_fits};
 ghost use Rattle.bac_value.specs.Spelling.{tag_spelling};
 ghost use Rattle.bac_value.specs.Number.{unsigned_octets, signed_octets};
-ghost use Rattle.bac_value.specs.Value.{boolean, mark_for, IsValue};
+ghost use Rattle.bac_value.specs.Value.{Datum, boolean, mark_for, IsValue, SpellsValue};
 ghost use Rattle.bac_value.specs.Writing.{primitive, object_octets, value_spelling, AppendsValue};
 ghost use Rattle.bac_value.specs.Views.{datum, object_id};
 
@@ -164,3 +164,9 @@ pub fn write_value(value: &Value, out: &mut Vec<u8>) -> Result<(), NoMemory>
     }
     written
 }
+
+/// No value has two spellings; a spelling means one value, and begins no other.
+pub fn one_value_spelling()
+    ensures only { (d : Datum) (a b : List ℕ) → SpellsValue d a → SpellsValue d b → a ≡ b }
+    ensures apart { (d e : Datum) (a b c f : List ℕ) → SpellsValue d a → SpellsValue e b → a ++ c ≡ b ++ f → (d ≡ e) × (a ≡ b) }
+{}

@@ -1,4 +1,4 @@
-use Rattle.std.proofs.Common.{arith, ap, sym, length, length-drop, ◌-◌}
+use Rattle.std.proofs.Common.{arith, ap, length, length-drop, ◌-◌}
 use Rattle.bac_value.proofs.contents.last_octet.Goals as goal
 
 pub unreachable-requires : goal.unreachable-requires

@@ -1,4 +1,4 @@
-use Rattle.std.proofs.Common.{arith, length, reverse, sym}
+use Rattle.std.proofs.Common.{arith, reverse, sym}
 use Rattle.std.proofs.lemmas.Bool.{eqb-true, eqb-false}
 use Rattle.std.proofs.lemmas.List.{length-reverse}
 use Rattle.bac_value.specs.Reading.{data_of}

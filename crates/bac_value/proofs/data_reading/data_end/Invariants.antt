@@ -1,4 +1,4 @@
-use Rattle.std.proofs.Common.{◌≡◌, ◌<◌, ◌≤◌, ◌-◌, ℕ, length, drop, reverse}
+use Rattle.std.proofs.Common.{◌≡◌, ◌<◌, ◌≤◌, ℕ, length, reverse}
 use Rattle.bac_value.specs.Reading.{data_at, data_of}
 use Rattle.bac_value.proofs.data_reading.data_end.Given as goal
 

@@ -1,4 +1,4 @@
-use Rattle.std.proofs.Common.{arith, ap, sym, ◌∙◌, ◌<◌, ◌≤◌, ◌≡◌, ◌*◌, ◌+◌, ◌-◌, ◌^◌, ◌/◌, length}
+use Rattle.std.proofs.Common.{arith, ap, sym, ◌∙◌, ◌≡◌, ◌*◌, ◌+◌, ◌-◌, ◌^◌, ◌/◌, length}
 use Rattle.bac_value.specs.Number.{number_in}
 use Rattle.bac_value.proofs.Numbers.{bits_power}
 use Rattle.bac_value.proofs.Signs.{upper_half}

@@ -1,5 +1,4 @@
-use Rattle.std.proofs.Common.{arith, ◌<◌, ◌≤◌, length}
-use Rattle.std.proofs.lemmas.Bool.{ltb-true, and_parts}
+use Rattle.std.proofs.Common.{arith}
 use Rattle.bac_value.proofs.Numbers.{few_octets}
 use Rattle.bac_value.proofs.RightContents.{between}
 use Rattle.bac_value.proofs.number_reading.take_enumerated.Goals as goal

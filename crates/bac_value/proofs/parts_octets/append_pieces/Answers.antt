@@ -1,4 +1,4 @@
-use Rattle.std.proofs.Common.{arith, ◌≡◌, ◌+◌, ◌-◌, ◌++◌, min, length, take, drop, get_or, ap, ◌∙◌, subst, length-append, ℕ}
+use Rattle.std.proofs.Common.{arith, ◌≡◌, ◌+◌, ◌-◌, ◌++◌, min, length, take, drop, get_or, ap, ◌∙◌, length-append, ℕ}
 use Rattle.std.specs.Global.{Vec}
 use Rattle.bac_value.specs.Octets.{joined}
 use Rattle.bac_value.proofs.Joined.{copied, joined_rest, begins_more}

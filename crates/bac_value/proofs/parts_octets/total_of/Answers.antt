@@ -1,4 +1,4 @@
-use Rattle.std.proofs.Common.{arith, refl, length, length-append, ap, take, drop, ◌+◌, ◌≡◌, ◌<◌, ◌^◌, get_or, subst, ◌∙◌, ℕ}
+use Rattle.std.proofs.Common.{arith, refl, length, length-append, ap, take, drop, ◌+◌, ◌≡◌, get_or, subst, ◌∙◌, ℕ}
 use Rattle.std.specs.Global.{Vec}
 use Rattle.std.proofs.lemmas.List.{take_all, drop_all}
 use Rattle.bac_value.specs.Octets.{IsBytes, joined}

@@ -1,5 +1,5 @@
-use Rattle.std.proofs.Common.{arith, ap, sym, length, take, ◌++◌, ◌∷◌, [], ◌≡◌, ◌<◌, ◌∙◌, ◌+◌, List, ℕ, append_assoc}
-use Rattle.std.proofs.Math.ListN.{set, length-set}
+use Rattle.std.proofs.Common.{arith, ap, sym, length, take, ◌++◌, ◌∷◌, [], ◌<◌, ◌∙◌, List, ℕ, append_assoc}
+use Rattle.std.proofs.Math.ListN.{length-set}
 use Rattle.std.proofs.lemmas.List.{take_more_set, take_all, append-nil}
 use Rattle.bac_value.proofs.value_reading.array_of.Goals as goal
 

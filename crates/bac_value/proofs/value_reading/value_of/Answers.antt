@@ -1,5 +1,4 @@
-use Rattle.std.proofs.Common.{arith, ap, sym, ◌∙◌, ◌≡◌, length, true, None, IsTrue}
-use Rattle.bac_value.specs.Meaning.{IsValueOf}
+use Rattle.std.proofs.Common.{arith, ap, sym, ◌∙◌, ◌≡◌, length, None, IsTrue}
 use Rattle.bac_value.specs.Reading.{length_in, flaw}
 use Rattle.bac_value.proofs.Meanings.{meant_is, is_none}
 use Rattle.bac_value.proofs.value_reading.value_of.Goals as goal

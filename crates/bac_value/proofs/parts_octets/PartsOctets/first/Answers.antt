@@ -1,4 +1,4 @@
-use Rattle.std.proofs.Common.{arith, sym, ap, subst, IsTrue, ◌∙◌, ◌≡◌, ◌<◌, ◌∷◌, length}
+use Rattle.std.proofs.Common.{arith, subst, IsTrue, ◌∷◌}
 use Rattle.std.proofs.lemmas.Bool.{ltb-true}
 use Rattle.bac_value.specs.Octets.{begins_in_first}
 use Rattle.bac_value.proofs.Joined.{first_of}

@@ -1,4 +1,4 @@
-use Rattle.std.proofs.Common.{arith, sym, ap, ◌∙◌, ◌≤◌, drop}
+use Rattle.std.proofs.Common.{arith, sym, drop}
 use Rattle.std.proofs.lemmas.List.{length-take}
 use Rattle.bac_value.specs.Octets.{joined}
 use Rattle.bac_value.proofs.Joined.{behind_front}

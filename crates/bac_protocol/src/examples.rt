@@ -1,0 +1,79 @@
+//! Runs that are computed: they show that the definitions do what the protocol's tables say, at the level of APDUs.
+
+ghost use Rattle.bac_protocol.specs.Examples.{LongReply, LongRequest};
+ghost use Rattle.bac_protocol.specs.Examples.{FourCopies, LostAnswer, Unreadable, NoSlot, OldCopy, OlderCopy, LastMoment, TooLate, NothingDelivered};
+ghost use Rattle.bac_protocol.specs.Examples.{HeldLong, LostAck};
+ghost use Rattle.bac_protocol.specs.Examples.{OutOfOrder, LaterPass, InTime, OutOfTime, StoppedReply, Sizes, OddAcks, OtherAnswers, KeptReply, DroppedEntry};
+
+/// Whole requests: a request that is delivered four times, a lost answer, and one that can't be read.
+#[tactic(auto, using(crate::proofs::Computed::four_copies, crate::proofs::Computed::lost_answer, crate::proofs::Computed::unreadable))]
+pub fn whole_requests()
+    ensures four_copies { FourCopies }
+    ensures lost_answer { LostAnswer }
+    ensures unreadable { Unreadable }
+{}
+
+/// Requests that find no free slot, or are too old.
+#[tactic(auto, using(crate::proofs::Computed::no_slot, crate::proofs::Computed::old_copy, crate::proofs::Computed::older_copy))]
+pub fn lost_requests()
+    ensures no_slot { NoSlot }
+    ensures old_copy { OldCopy }
+    ensures older_copy { OlderCopy }
+{}
+
+/// How long a client repeats its request.
+#[tactic(auto, using(crate::proofs::Computed::last_moment, crate::proofs::Computed::too_late, crate::proofs::Computed::nothing_delivered))]
+pub fn time_of_a_ticket()
+    ensures last_moment { LastMoment }
+    ensures too_late { TooLate }
+    ensures nothing_delivered { NothingDelivered }
+{}
+
+/// How long a client holds an invoke ID.
+#[tactic(auto, using(crate::proofs::Computed::held_long))]
+pub fn time_of_an_invoke_id()
+    ensures { HeldLong }
+{}
+
+/// Requests in segments: loss, disorder, and a later pass.
+#[tactic(auto, using(crate::proofs::Computed::lost_ack, crate::proofs::Computed::out_of_order, crate::proofs::Computed::later_pass))]
+pub fn requests_in_segments()
+    ensures lost_ack { LostAck }
+    ensures out_of_order { OutOfOrder }
+    ensures later_pass { LaterPass }
+{}
+
+/// How long a server waits for more segments.
+#[tactic(auto, using(crate::proofs::Computed::in_time, crate::proofs::Computed::out_of_time))]
+pub fn time_of_a_reassembly()
+    ensures in_time { InTime }
+    ensures out_of_time { OutOfTime }
+{}
+
+/// Replies in segments: a transfer that stops and is resumed, and which replies go in segments.
+#[tactic(auto, using(crate::proofs::Computed::stopped_reply, crate::proofs::Computed::sizes))]
+pub fn replies_in_segments()
+    ensures stopped_reply { StoppedReply }
+    ensures sizes { Sizes }
+{}
+
+/// Single steps of the client's machine.
+#[tactic(auto, using(crate::proofs::Computed::odd_acks, crate::proofs::Computed::other_answers))]
+pub fn client_steps()
+    ensures odd_acks { OddAcks }
+    ensures other_answers { OtherAnswers }
+{}
+
+/// Single steps of the server's machine.
+#[tactic(auto, using(crate::proofs::Computed::kept_reply, crate::proofs::Computed::dropped_entry))]
+pub fn server_steps()
+    ensures kept_reply { KeptReply }
+    ensures dropped_entry { DroppedEntry }
+{}
+
+/// Straight runs past a window and past 256 segments, with their counts of deliveries.
+#[tactic(auto, using(crate::proofs::Computed::long_reply, crate::proofs::Computed::long_request))]
+pub fn long_transfers()
+    ensures long_reply { LongReply }
+    ensures long_request { LongRequest }
+{}

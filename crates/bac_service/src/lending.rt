@@ -1,0 +1,107 @@
+//! Lending requests and answers that have memory of their own.
+ghost use Rattle.std.specs.Prelude.{◌≡◌};
+ghost use Rattle.bac_service.specs.Views.{write_access, seen, lent, owned, complex, owned_complex, replied};
+
+use crate::owned::{OwnedComplex, OwnedReply, OwnedRequest};
+use crate::owned_records::OwnedRecords;
+use crate::reply::{AnyComplex, AnyReply, Complex, FileRead, PropertyRead, Reply};
+use crate::request::{
+    AnyRequest, Request, WriteAccess, WriteFile, WriteProperty, WriteRecords, WriteStream,
+};
+use crate::value::{Content, Records};
+use bac_value::OctetString;
+
+fn content_of(string: &OctetString) -> Content<'_>
+    ensures { result.octets.now ≡ string.now.octets.items }
+{
+    Content {
+        octets: string.octets.as_slice(),
+    }
+}
+
+fn access_of(
+    access: &WriteAccess<OctetString, OwnedRecords>,
+) -> WriteAccess<Content<'_>, Records<'_>>
+    ensures { write_access lent result ≡ write_access owned access.now }
+{
+    match access {
+        WriteAccess::Stream(write) => {
+            let content = content_of(&write.content);
+            let start = write.start;
+            WriteAccess::Stream(WriteStream { start, content })
+        }
+        WriteAccess::Records(write) => {
+            let records = write.records.as_records();
+            let start = write.start;
+            WriteAccess::Records(WriteRecords { start, records })
+        }
+    }
+}
+
+impl OwnedRequest {
+    /// Lends the request. It takes no memory.
+    pub fn as_request(&self) -> Request<'_>
+        ensures { seen lent result ≡ seen owned self.now }
+    {
+        match self {
+            AnyRequest::ReadFile(read) => AnyRequest::ReadFile(*read),
+            AnyRequest::WriteFile(write) => {
+                let access = access_of(&write.access);
+                let file = write.file;
+                AnyRequest::WriteFile(WriteFile { file, access })
+            }
+            AnyRequest::ReadProperty(reference) => AnyRequest::ReadProperty(*reference),
+            AnyRequest::WriteProperty(write) => {
+                let values = write.values.as_data();
+                AnyRequest::WriteProperty(WriteProperty {
+                    reference: write.reference,
+                    values,
+                    priority: write.priority,
+                })
+            }
+        }
+    }
+}
+
+impl OwnedComplex {
+    /// Lends the answer. It takes no memory.
+    pub fn as_complex(&self) -> Complex<'_>
+        ensures { complex result ≡ owned_complex self.now }
+    {
+        match self {
+            AnyComplex::FileRead(read) => {
+                let content = content_of(&read.content);
+                AnyComplex::FileRead(FileRead {
+                    end_of_file: read.end_of_file,
+                    start: read.start,
+                    content,
+                })
+            }
+            AnyComplex::FileWritten(place) => AnyComplex::FileWritten(*place),
+            AnyComplex::PropertyRead(read) => {
+                let values = read.values.as_data();
+                AnyComplex::PropertyRead(PropertyRead {
+                    reference: read.reference,
+                    values,
+                })
+            }
+        }
+    }
+}
+
+impl OwnedReply {
+    /// Lends the answer. It takes no memory.
+    pub fn as_reply(&self) -> Reply<'_>
+        ensures { replied complex result ≡ replied owned_complex self.now }
+    {
+        match self {
+            AnyReply::Simple => AnyReply::Simple,
+            AnyReply::Complex(told) => AnyReply::Complex(told.as_complex()),
+            AnyReply::Error { class, code } => AnyReply::Error {
+                class: *class,
+                code: *code,
+            },
+            AnyReply::Reject(reason) => AnyReply::Reject(*reason),
+        }
+    }
+}

@@ -1,0 +1,237 @@
+//! How many octets service data have, without writing them.
+ghost use Rattle.std.specs.Prelude.{◌≡◌, ◌+◌, ◌<◌, ◌≤◌, ◌^◌, length};
+ghost use Rattle.bac_value.specs.Number.{width_of, half_width_of, distance};
+ghost use Rattle.bac_value.specs.Views.{object_id};
+ghost use Rattle.bac_service.specs.Lengths.{member_length, unsigned_length, signed_length, reference_length, index_length, content_length, extent_length, read_access_length, write_access_length, priority_length, request_length, answer_length};
+ghost use Rattle.bac_service.specs.Members.{AreStrings};
+ghost use Rattle.bac_service.specs.Replies.{SpellsComplex};
+ghost use Rattle.bac_service.specs.Requests.{SpellsRequest};
+ghost use Rattle.bac_service.specs.Spellings.{request_spelling, answer_spelling, IsReference, IsExtent, IsReadAccess, IsWriteAccess, IsUrgency, IsFile, IsRequest, IsAnswer};
+ghost use Rattle.bac_service.specs.Values.{choice_of, complex_choice_of};
+ghost use Rattle.bac_service.specs.Values.Complex.{FileRead as PlainFileRead, PropertyRead as PlainPropertyRead};
+ghost use Rattle.bac_service.specs.Values.Request.{WriteProperty as PlainWriteProperty};
+ghost use Rattle.bac_service.specs.Values.WriteAccess.{WriteRecords as PlainWriteRecords};
+ghost use Rattle.bac_service.specs.Views.{reference, number_of, read_access, write_access, seen, lent, written, complex, request};
+
+use crate::reply::{AnyComplex, Complex, FileRead, FileWritten, PropertyRead};
+use crate::request::{AnyRequest, ReadAccess, Request, WriteAccess, WriteProperty, WriteRecords};
+use crate::value::{Content, Priority, PropertyReference, Records};
+use bac_value::{Data, Octets};
+
+/// How many octets an ObjectIdentifier has with its tag.
+const OBJECT_LEN: usize = 5;
+
+/// How many octets a pair of opening and closing tags has.
+const PAIR_LEN: usize = 2;
+
+/// So many octets of contents behind a tag with a number below 15 (clause 20.2.1.3).
+fn member_len(contents: usize) -> usize
+    requires { contents < 2 ^ 63 }
+    ensures { result ≡ member_length contents }
+{
+    let length_octets = if contents < 5 {
+        0
+    } else if contents < 254 {
+        1
+    } else if contents < 65536 {
+        3
+    } else {
+        5
+    };
+    1 + length_octets + contents
+}
+
+/// How many octets a number needs, and at least one.
+fn width(number: u64) -> usize
+    ensures is { result ≡ width_of number }
+    ensures few { result ≤ 8 }
+{
+    if number < 0x100 {
+        1
+    } else if number < 0x1_0000 {
+        2
+    } else if number < 0x100_0000 {
+        3
+    } else if number < 0x1_0000_0000 {
+        4
+    } else if number < 0x100_0000_0000 {
+        5
+    } else if number < 0x1_0000_0000_0000 {
+        6
+    } else if number < 0x100_0000_0000_0000 {
+        7
+    } else {
+        8
+    }
+}
+
+/// How far a number is from 0, or from -1 below 0.
+fn distance_of(number: i64) -> u64
+    ensures is { result ≡ distance number }
+    ensures small { result < 2 ^ 63 }
+{
+    if number < 0 {
+        (-1 - number) as u64
+    } else {
+        number as u64
+    }
+}
+
+/// A number in the fewest octets (clause 20.2.4) behind a tag.
+fn unsigned_len(number: u64) -> usize
+    ensures is { result ≡ unsigned_length number }
+    ensures few { result ≤ 10 }
+{
+    member_len(width(number))
+}
+
+/// A number in the fewest octets of two's complement (clause 20.2.5) behind a tag; the sign takes a bit.
+#[tactic(auto, using(crate::proofs::LengthLaws::half_width))]
+fn signed_len(number: i64) -> usize
+    ensures is { result ≡ signed_length number }
+    ensures few { result ≤ 10 }
+{
+    member_len(width(distance_of(number) * 2))
+}
+
+fn index_len(index: Option<u32>) -> usize
+    ensures { result ≡ index_length index }
+{
+    match index {
+        Some(index) => unsigned_len(u64::from(index)),
+        None => 0,
+    }
+}
+
+fn reference_len(to: PropertyReference) -> usize
+    ensures len { result ≡ reference_length (reference to) }
+    ensures is { IsReference (reference to) }
+{
+    OBJECT_LEN + unsigned_len(u64::from(to.property)) + index_len(to.index)
+}
+
+fn content_len(start: i64, content: Content<'_>) -> usize
+    ensures len { result ≡ content_length start (length content.entry.octets.now) }
+    ensures start_fits { distance start < 2 ^ 63 }
+    ensures content_fits { length content.entry.octets.now < 2 ^ 32 }
+    ensures few { result ≤ length content.entry.octets.now + 18 }
+{
+    signed_len(start) + member_len(content.octets.len()) + PAIR_LEN
+}
+
+fn extent_len(start: i64, count: u64) -> usize
+    ensures len { result ≡ extent_length start count }
+    ensures is { IsExtent start count }
+    ensures few { result ≤ 20 }
+{
+    signed_len(start) + unsigned_len(count)
+}
+
+fn read_access_len(access: ReadAccess) -> usize
+    ensures len { result ≡ read_access_length (read_access access) }
+    ensures is { IsReadAccess (read_access access) }
+    ensures fits { result + 5 < 2 ^ 64 }
+{
+    match access {
+        ReadAccess::Stream { start, count } => extent_len(start, count) + PAIR_LEN,
+        ReadAccess::Records { start, count } => extent_len(start, count) + PAIR_LEN,
+    }
+}
+
+fn records_len(write: WriteRecords<Records<'_>>) -> usize
+    ensures len { result ≡ write_access_length (PlainWriteRecords write.entry.start write.entry.records.count write.entry.records.run.now) }
+    ensures is { IsExtent write.entry.start write.entry.records.count }
+    ensures strings { AreStrings write.entry.records.count write.entry.records.run.now }
+    ensures fits { result + 5 < 2 ^ 64 }
+{
+    let run = Octets::len(write.records.run);
+    extent_len(write.start, write.records.count) + run + PAIR_LEN
+}
+
+fn write_access_len(access: WriteAccess<Content<'_>, Records<'_>>) -> usize
+    ensures len { result ≡ write_access_length (write_access lent access.entry) }
+    ensures is { IsWriteAccess (write_access lent access.entry) }
+    ensures fits { result + 5 < 2 ^ 64 }
+{
+    match access {
+        WriteAccess::Stream(write) => content_len(write.start, write.content),
+        WriteAccess::Records(write) => records_len(write),
+    }
+}
+
+fn priority_len(priority: Option<Priority>) -> usize
+    ensures len { result ≡ priority_length (number_of priority) }
+    ensures is { IsUrgency (number_of priority) }
+{
+    match priority {
+        Some(priority) => unsigned_len(u64::from(priority.number)),
+        None => 0,
+    }
+}
+
+fn write_property_len(write: WriteProperty<Data<'_>>) -> usize
+    ensures len { result ≡ request_length (PlainWriteProperty (reference write.entry.reference) write.entry.values.octets.now (number_of write.entry.priority)) }
+    ensures is { IsRequest (PlainWriteProperty (reference write.entry.reference) write.entry.values.octets.now (number_of write.entry.priority)) }
+{
+    let values = Octets::len(write.values.octets) + PAIR_LEN;
+    reference_len(write.reference) + values + priority_len(write.priority)
+}
+
+fn members_len(request: Request<'_>) -> usize
+    ensures len { result ≡ request_length (seen lent request.entry) }
+    ensures is { IsRequest (seen lent request.entry) }
+{
+    match request {
+        AnyRequest::ReadFile(read) => OBJECT_LEN + read_access_len(read.access),
+        AnyRequest::WriteFile(write) => OBJECT_LEN + write_access_len(write.access),
+        AnyRequest::ReadProperty(reference) => reference_len(reference),
+        AnyRequest::WriteProperty(write) => write_property_len(write),
+    }
+}
+
+/// How many octets the service data of a request have. It takes no memory.
+#[tactic(auto, using(crate::proofs::LengthLaws::length_request))]
+pub fn request_len(request: Request<'_>) -> usize
+    ensures len { result ≡ length (request_spelling (seen lent request.entry)) }
+    ensures spelled { SpellsRequest (choice_of (seen lent request.entry)) (seen lent request.entry) (request_spelling (seen lent request.entry)) }
+{
+    members_len(request)
+}
+
+fn property_read_len(read: PropertyRead<Data<'_>>) -> usize
+    ensures len { result ≡ answer_length (PlainPropertyRead (reference read.entry.reference) read.entry.values.octets.now) }
+    ensures is { IsAnswer (PlainPropertyRead (reference read.entry.reference) read.entry.values.octets.now) }
+{
+    let values = Octets::len(read.values.octets) + PAIR_LEN;
+    reference_len(read.reference) + values
+}
+
+fn file_written_len(place: FileWritten) -> usize
+    ensures len { result ≡ answer_length (written place) }
+    ensures is { IsAnswer (written place) }
+{
+    match place {
+        FileWritten::Stream(start) => signed_len(start),
+        FileWritten::Records(start) => signed_len(start),
+    }
+}
+
+fn answer_len(reply: Complex<'_>) -> usize
+    ensures len { result ≡ answer_length (complex reply.entry) }
+    ensures is { IsAnswer (complex reply.entry) }
+{
+    match reply {
+        AnyComplex::FileRead(read) => 1 + content_len(read.start, read.content),
+        AnyComplex::FileWritten(place) => file_written_len(place),
+        AnyComplex::PropertyRead(read) => property_read_len(read),
+    }
+}
+
+/// How many octets the service data of a ComplexACK have. It takes no memory.
+#[tactic(auto, using(crate::proofs::LengthLaws::length_answer, crate::proofs::Spelled::complex_spelled))]
+pub fn reply_len(reply: Complex<'_>) -> usize
+    ensures len { result ≡ length (answer_spelling (complex reply.entry)) }
+    ensures spelled { SpellsComplex (complex_choice_of (complex reply.entry)) (complex reply.entry) (answer_spelling (complex reply.entry)) }
+{
+    answer_len(reply)
+}

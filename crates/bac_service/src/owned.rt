@@ -1,0 +1,217 @@
+//! Requests and answers with memory of their own.
+ghost use Rattle.std.specs.Prelude.{◌≡◌, ◌<◌, ◌^◌, length, IfOk};
+ghost use Rattle.bac_service.specs.Replies.{IsMadeOf};
+ghost use Rattle.bac_service.specs.Requests.{IsMade, IsWritten};
+ghost use Rattle.bac_service.specs.Views.{write_access, seen, lent, left, owned, answered, complex, owned_complex, replied};
+
+use crate::owned_records::OwnedRecords;
+use crate::reply::{AnyComplex, AnyReply, Complex, ComplexOver, FileRead, PropertyRead, Reply};
+use crate::reply_reading::Told;
+use crate::request::{
+    AnyRequest, Request, RequestOver, WriteAccess, WriteFile, WriteProperty, WriteRecords,
+    WriteStream,
+};
+use crate::request_reading::Found;
+use crate::run::Run;
+use crate::value::{Content, Records};
+use bac_value::{DataBuf, NoMemory, OctetString, Octets};
+use std::alloc::Global;
+
+/// A request with its memory.
+pub type OwnedRequest = RequestOver<DataBuf, OctetString, OwnedRecords>;
+
+/// The service data of a ComplexACK with their memory.
+pub type OwnedComplex = ComplexOver<DataBuf, OctetString>;
+
+/// An answer with its memory.
+pub type OwnedReply = AnyReply<OwnedComplex>;
+
+fn string_copy<O: Octets>(alloc: Global, octets: O) -> Result<OctetString, NoMemory>
+    requires { length (O.octets octets) < 2 ^ 32 }
+    ensures { IfOk result (λ s. s.octets.items ≡ O.octets octets) }
+{
+    let mut copy = Vec::new(alloc);
+    octets.append_to(&mut copy)?;
+    Ok(OctetString { octets: copy })
+}
+
+fn access_copy<O: Octets>(
+    alloc: Global,
+    access: WriteAccess<O, Run<O>>,
+) -> Result<WriteAccess<OctetString, OwnedRecords>, NoMemory>
+    requires { IsWritten (write_access (left O.octets) access) }
+    ensures { IfOk result (λ a. write_access owned a ≡ write_access (left O.octets) access) }
+{
+    match access {
+        WriteAccess::Stream(write) => {
+            let content = string_copy(alloc, write.content)?;
+            let start = write.start;
+            Ok(WriteAccess::Stream(WriteStream { start, content }))
+        }
+        WriteAccess::Records(write) => {
+            let records = OwnedRecords::copied(alloc, write.records.octets, write.records.count)?;
+            let start = write.start;
+            Ok(WriteAccess::Records(WriteRecords { start, records }))
+        }
+    }
+}
+
+/// A copy of a request, in one allocation where it has octets.
+pub(crate) fn request_copy<O: Octets>(
+    alloc: Global,
+    found: Found<O>,
+) -> Result<OwnedRequest, NoMemory>
+    requires { IsMade (seen (left O.octets) found) }
+    ensures { IfOk result (λ r. seen owned r ≡ seen (left O.octets) found) }
+{
+    match found {
+        AnyRequest::ReadFile(read) => Ok(AnyRequest::ReadFile(read)),
+        AnyRequest::WriteFile(write) => {
+            let access = access_copy(alloc, write.access)?;
+            let file = write.file;
+            Ok(AnyRequest::WriteFile(WriteFile { file, access }))
+        }
+        AnyRequest::ReadProperty(reference) => Ok(AnyRequest::ReadProperty(reference)),
+        AnyRequest::WriteProperty(write) => {
+            let values = DataBuf::copied(alloc, write.values)?;
+            Ok(AnyRequest::WriteProperty(WriteProperty {
+                reference: write.reference,
+                values,
+                priority: write.priority,
+            }))
+        }
+    }
+}
+
+/// A copy of an answer, in one allocation where it has octets.
+pub(crate) fn complex_copy<O: Octets>(
+    alloc: Global,
+    told: Told<O>,
+) -> Result<OwnedComplex, NoMemory>
+    requires { IsMadeOf (answered O.octets O.octets told) }
+    ensures { IfOk result (λ c. owned_complex c ≡ answered O.octets O.octets told) }
+{
+    match told {
+        AnyComplex::FileRead(read) => {
+            let content = string_copy(alloc, read.content)?;
+            Ok(AnyComplex::FileRead(FileRead {
+                end_of_file: read.end_of_file,
+                start: read.start,
+                content,
+            }))
+        }
+        AnyComplex::FileWritten(place) => Ok(AnyComplex::FileWritten(place)),
+        AnyComplex::PropertyRead(read) => {
+            let values = DataBuf::copied(alloc, read.values)?;
+            Ok(AnyComplex::PropertyRead(PropertyRead {
+                reference: read.reference,
+                values,
+            }))
+        }
+    }
+}
+
+fn access_found<'a>(
+    access: WriteAccess<Content<'a>, Records<'a>>,
+) -> WriteAccess<&'a [u8], Run<&'a [u8]>>
+    ensures same { write_access (left (λ s. s.now)) result ≡ write_access lent access.entry }
+    ensures made { IsWritten (write_access lent access.entry) }
+{
+    match access {
+        WriteAccess::Stream(write) => {
+            let content = write.content.octets;
+            let start = write.start;
+            WriteAccess::Stream(WriteStream { start, content })
+        }
+        WriteAccess::Records(write) => {
+            let records = Run {
+                octets: write.records.run,
+                count: write.records.count,
+            };
+            let start = write.start;
+            WriteAccess::Records(WriteRecords { start, records })
+        }
+    }
+}
+
+fn request_found(request: Request<'_>) -> Found<&[u8]>
+    ensures same { seen (left (λ s. s.now)) result ≡ seen lent request.entry }
+    ensures made { IsMade (seen lent request.entry) }
+{
+    match request {
+        AnyRequest::ReadFile(read) => AnyRequest::ReadFile(read),
+        AnyRequest::WriteFile(write) => {
+            let access = access_found(write.access);
+            let file = write.file;
+            AnyRequest::WriteFile(WriteFile { file, access })
+        }
+        AnyRequest::ReadProperty(reference) => AnyRequest::ReadProperty(reference),
+        AnyRequest::WriteProperty(write) => {
+            let values = write.values.octets;
+            AnyRequest::WriteProperty(WriteProperty {
+                reference: write.reference,
+                values,
+                priority: write.priority,
+            })
+        }
+    }
+}
+
+fn complex_found(reply: Complex<'_>) -> Told<&[u8]>
+    ensures same { answered (λ s. s.now) (λ s. s.now) result ≡ complex reply.entry }
+    ensures made { IsMadeOf (complex reply.entry) }
+{
+    match reply {
+        AnyComplex::FileRead(read) => {
+            let content = read.content.octets;
+            AnyComplex::FileRead(FileRead {
+                end_of_file: read.end_of_file,
+                start: read.start,
+                content,
+            })
+        }
+        AnyComplex::FileWritten(place) => AnyComplex::FileWritten(place),
+        AnyComplex::PropertyRead(read) => {
+            let values = read.values.octets;
+            AnyComplex::PropertyRead(PropertyRead {
+                reference: read.reference,
+                values,
+            })
+        }
+    }
+}
+
+impl Request<'_> {
+    /// A copy with its own memory, in one allocation where the request has octets, otherwise in none.
+    pub fn to_owned(self, alloc: Global) -> Result<OwnedRequest, NoMemory>
+        ensures { IfOk result (λ r. seen owned r ≡ seen lent self.entry) }
+    {
+        request_copy(alloc, request_found(self))
+    }
+}
+
+impl Complex<'_> {
+    /// A copy with its own memory, in one allocation where the answer has octets, otherwise in none.
+    pub fn to_owned(self, alloc: Global) -> Result<OwnedComplex, NoMemory>
+        ensures { IfOk result (λ c. owned_complex c ≡ complex self.entry) }
+    {
+        complex_copy(alloc, complex_found(self))
+    }
+}
+
+impl Reply<'_> {
+    /// A copy with its own memory, in one allocation where the answer has octets, otherwise in none.
+    pub fn to_owned(self, alloc: Global) -> Result<OwnedReply, NoMemory>
+        ensures { IfOk result (λ r. replied owned_complex r ≡ replied complex self.entry) }
+    {
+        match self {
+            AnyReply::Simple => Ok(AnyReply::Simple),
+            AnyReply::Complex(told) => {
+                let copy = told.to_owned(alloc)?;
+                Ok(AnyReply::Complex(copy))
+            }
+            AnyReply::Error { class, code } => Ok(AnyReply::Error { class, code }),
+            AnyReply::Reject(reason) => Ok(AnyReply::Reject(reason)),
+        }
+    }
+}

@@ -1,0 +1,40 @@
+ghost use Rattle.std.specs.Prelude.{◌≡◌, IfOk};
+ghost use Rattle.bac_service.specs.Members.{AreStrings};
+
+use crate::value::Records;
+use bac_value::{NoMemory, Octets};
+use std::alloc::Global;
+
+/// Records of a file with their memory.
+#[derive(Debug, Drop)]
+pub struct OwnedRecords {
+    pub run: Vec<u8>,
+    pub count: u64,
+    pub ghost counted: { ∥ AreStrings count run.items ∥₁ },
+}
+
+impl OwnedRecords {
+    /// A copy of so many octet strings, in one allocation.
+    pub(crate) fn copied<O: Octets>(
+        alloc: Global,
+        run: O,
+        count: u64,
+    ) -> Result<OwnedRecords, NoMemory>
+        requires { ∥ AreStrings count (O.octets run) ∥₁ }
+        ensures { IfOk result (λ r. (r.run.items ≡ O.octets run) × (r.count ≡ count)) }
+    {
+        let mut copy = Vec::new(alloc);
+        run.append_to(&mut copy)?;
+        Ok(OwnedRecords { run: copy, count })
+    }
+
+    /// Lends the records.
+    pub fn as_records(&self) -> Records<'_>
+        ensures { (result.run.now ≡ self.now.run.items) × (result.count ≡ self.now.count) }
+    {
+        Records {
+            run: self.run.as_slice(),
+            count: self.count,
+        }
+    }
+}

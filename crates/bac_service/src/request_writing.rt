@@ -1,0 +1,150 @@
+//! Writing requests.
+ghost use Rattle.std.specs.Prelude.{◌≡◌, ◌++◌, ◌<◌, ◌^◌, OnOk, OnErr, length};
+ghost use Rattle.bac_value.specs.Octets.{Begins};
+ghost use Rattle.bac_service.specs.Spellings.{enclosed_spelling, extent_spelling, read_access_spelling, records_spelling, write_access_spelling, priority_spelling, request_spelling};
+ghost use Rattle.bac_service.specs.Requests.{SpellsRequest};
+ghost use Rattle.bac_service.specs.Values.{choice_of};
+ghost use Rattle.bac_value.specs.Views.{object_id};
+ghost use Rattle.bac_service.specs.Views.{reference, number_of, read_access, write_access, seen, lent};
+ghost use Rattle.bac_service.specs.Values.Request.{ReadFile as PlainReadFile, WriteFile as PlainWriteFile, WriteProperty as PlainWriteProperty};
+
+use crate::lengths::request_len;
+use crate::reply_writing::{put_closing, put_content, put_opening, put_reference, put_values};
+use crate::request::{
+    AnyRequest, ReadAccess, ReadFile, Request, WriteAccess, WriteFile, WriteProperty, WriteRecords,
+};
+use crate::value::{Content, Priority, Records};
+use bac_value::{Class, Data, NoMemory, put_object_identifier, put_signed, put_unsigned};
+
+/// Appends a Signed and an Unsigned with application tags.
+fn put_extent(start: i64, count: u64, out: &mut Vec<u8>) -> Result<(), NoMemory>
+    ensures ok { OnOk result (out.new.items ≡ out.old.items ++ extent_spelling start count) }
+    ensures kept { Begins out.old.items out.new.items }
+{
+    put_signed(Class::Application, 3, start, out)?;
+    put_unsigned(Class::Application, 2, count, out)
+}
+
+/// Appends the same between a pair of tags of that number.
+fn put_enclosed_extent(
+    number: u8,
+    start: i64,
+    count: u64,
+    out: &mut Vec<u8>,
+) -> Result<(), NoMemory>
+    requires { number < 255 }
+    ensures ok { OnOk result (out.new.items ≡ out.old.items ++ enclosed_spelling number (extent_spelling start count)) }
+    ensures kept { Begins out.old.items out.new.items }
+{
+    put_opening(number, out)?;
+    put_extent(start, count, out)?;
+    put_closing(number, out)
+}
+
+fn put_read_access(access: ReadAccess, out: &mut Vec<u8>) -> Result<(), NoMemory>
+    ensures ok { OnOk result (out.new.items ≡ out.old.items ++ read_access_spelling (read_access access)) }
+    ensures kept { Begins out.old.items out.new.items }
+{
+    match access {
+        ReadAccess::Stream { start, count } => put_enclosed_extent(0, start, count, out),
+        ReadAccess::Records { start, count } => put_enclosed_extent(1, start, count, out),
+    }
+}
+
+/// Appends a Signed, an Unsigned and octet strings, with application tags.
+fn put_run(start: i64, records: Records<'_>, out: &mut Vec<u8>) -> Result<(), NoMemory>
+    ensures ok { OnOk result (out.new.items ≡ out.old.items ++ records_spelling start records.entry.count records.entry.run.now) }
+    ensures kept { Begins out.old.items out.new.items }
+{
+    put_extent(start, records.count, out)?;
+    out.extend_from_slice(records.run)?;
+    Ok(())
+}
+
+/// Appends where records are written, their count, and the octet strings that they are, between tags of number 1.
+fn put_records(write: WriteRecords<Records<'_>>, out: &mut Vec<u8>) -> Result<(), NoMemory>
+    ensures ok { OnOk result (out.new.items ≡ out.old.items ++ enclosed_spelling 1 (records_spelling write.entry.start write.entry.records.count write.entry.records.run.now)) }
+    ensures kept { Begins out.old.items out.new.items }
+{
+    put_opening(1, out)?;
+    put_run(write.start, write.records, out)?;
+    put_closing(1, out)
+}
+
+fn put_write_access(
+    access: WriteAccess<Content<'_>, Records<'_>>,
+    out: &mut Vec<u8>,
+) -> Result<(), NoMemory>
+    ensures ok { OnOk result (out.new.items ≡ out.old.items ++ write_access_spelling (write_access lent access.entry)) }
+    ensures kept { Begins out.old.items out.new.items }
+{
+    match access {
+        WriteAccess::Stream(write) => put_content(write.start, write.content, out),
+        WriteAccess::Records(write) => put_records(write, out),
+    }
+}
+
+fn put_priority(priority: Option<Priority>, out: &mut Vec<u8>) -> Result<(), NoMemory>
+    ensures ok { OnOk result (out.new.items ≡ out.old.items ++ priority_spelling (number_of priority)) }
+    ensures kept { Begins out.old.items out.new.items }
+{
+    match priority {
+        Some(priority) => put_unsigned(Class::Context, 4, u64::from(priority.number), out),
+        None => Ok(()),
+    }
+}
+
+fn put_read_file(read: ReadFile, out: &mut Vec<u8>) -> Result<(), NoMemory>
+    ensures ok { OnOk result (out.new.items ≡ out.old.items ++ request_spelling (PlainReadFile (object_id read.file) (read_access read.access))) }
+    ensures kept { Begins out.old.items out.new.items }
+{
+    put_object_identifier(Class::Application, 12, read.file, out)?;
+    put_read_access(read.access, out)
+}
+
+fn put_write_file(
+    write: WriteFile<Content<'_>, Records<'_>>,
+    out: &mut Vec<u8>,
+) -> Result<(), NoMemory>
+    ensures ok { OnOk result (out.new.items ≡ out.old.items ++ request_spelling (PlainWriteFile (object_id write.entry.file) (write_access lent write.entry.access))) }
+    ensures kept { Begins out.old.items out.new.items }
+{
+    put_object_identifier(Class::Application, 12, write.file, out)?;
+    put_write_access(write.access, out)
+}
+
+fn put_write_property(write: WriteProperty<Data<'_>>, out: &mut Vec<u8>) -> Result<(), NoMemory>
+    ensures ok { OnOk result (out.new.items ≡ out.old.items ++ request_spelling (PlainWriteProperty (reference write.entry.reference) write.entry.values.octets.now (number_of write.entry.priority))) }
+    ensures kept { Begins out.old.items out.new.items }
+{
+    put_reference(write.reference, out)?;
+    put_values(write.values.octets, out)?;
+    put_priority(write.priority, out)
+}
+
+fn put_request(request: Request<'_>, out: &mut Vec<u8>) -> Result<(), NoMemory>
+    ensures ok { OnOk result (out.new.items ≡ out.old.items ++ request_spelling (seen lent request.entry)) }
+    ensures kept { Begins out.old.items out.new.items }
+{
+    match request {
+        AnyRequest::ReadFile(read) => put_read_file(read, out),
+        AnyRequest::WriteFile(write) => put_write_file(write, out),
+        AnyRequest::ReadProperty(reference) => put_reference(reference, out),
+        AnyRequest::WriteProperty(write) => put_write_property(write, out),
+    }
+}
+
+/// Appends the service data of a request in their one spelling (clause 21), or answers `NoMemory` and changes nothing.
+pub fn write_request(request: Request<'_>, out: &mut Vec<u8>) -> Result<(), NoMemory>
+    ensures ok { OnOk result (out.new.items ≡ out.old.items ++ request_spelling (seen lent request.entry)) }
+    ensures err { OnErr result (out.new.items ≡ out.old.items) }
+    ensures spelled { SpellsRequest (choice_of (seen lent request.entry)) (seen lent request.entry) (request_spelling (seen lent request.entry)) }
+{
+    out.reserve(request_len(request))?;
+    let before = out.len();
+    let written = put_request(request, out);
+    if written.is_err() {
+        out.truncate(before);
+    }
+    written
+}
