@@ -1,5 +1,6 @@
 -- The example runs are computed.
 use Rattle.std.proofs.Common.{refl}
+use Rattle.bac_protocol.specs.Examples.{LongReply, LongRequest}
 use Rattle.bac_protocol.specs.Examples.{FourCopies, LostAnswer, LastMoment, TooLate, NothingDelivered, HeldLong, NoSlot, OldCopy, OlderCopy}
 use Rattle.bac_protocol.specs.Examples.{Unreadable, LostAck, OutOfOrder, InTime, OutOfTime, LaterPass, StoppedReply, Sizes, OddAcks, OtherAnswers}
 use Rattle.bac_protocol.specs.Examples.{KeptReply, DroppedEntry}
@@ -66,3 +67,9 @@ kept_reply = (refl, refl, refl, refl, refl)
 
 pub dropped_entry : DroppedEntry
 dropped_entry = (refl, refl, refl, refl)
+
+pub long_reply : LongReply
+long_reply = (refl, refl, refl)
+
+pub long_request : LongRequest
+long_request = (refl, refl, refl)

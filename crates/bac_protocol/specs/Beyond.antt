@@ -1,26 +1,16 @@
 -- Beyond the bound: 300 later copies may overtake one, with windows of 64. An old copy of segment 1 is taken where segment 257 is expected.
-use Rattle.std.specs.Prelude.{◌≡◌, ℕ, zero, suc, ◌+◌, Bool, true, false, List, [], ◌∷◌, ◌++◌}
+use Rattle.std.specs.Prelude.{◌≡◌, ℕ, Bool, true, false, List, [], ◌∷◌, ◌++◌}
 use Rattle.std.specs.Str.{bytes_eq}
-use Rattle.bac_protocol.specs.Service.{Octets, Reply}
+use Rattle.bac_protocol.specs.Service.{Reply}
 use Rattle.bac_protocol.specs.Log.{Fact}
 use Rattle.bac_protocol.specs.Log.Fact.{Asked, Performed}
 use Rattle.bac_protocol.specs.Transaction.{Rules}
 use Rattle.bac_protocol.specs.World.{Event, run, start}
 use Rattle.bac_protocol.specs.World.Event.{MakeAsk, Deliver}
-use Rattle.bac_protocol.specs.Examples.{key, shop, rules}
+use Rattle.bac_protocol.specs.Examples.{key, shop, rules, pieces, in_order}
 
 abbrev pub wide : Rules
 wide = record (rules 64) { overtake = 300 }
-
--- so many pieces of one octet each, which counts up
-abbrev pub pieces : ℕ → ℕ → List Octets
-pieces zero k = []
-pieces (suc n) k = (k ∷ []) ∷ pieces n (suc k)
-
--- so many copies are delivered, from that number on
-abbrev pub in_order : ℕ → ℕ → List Event
-in_order number zero = []
-in_order number (suc count) = Deliver number true ∷ in_order (number + 1) count
 
 -- 300 pieces: segment 0 and its SegmentACK, then windows of 64 with theirs. Where segment 257 is expected, copy 2, which is segment 1, comes again;
 -- then the SegmentACK of segment 256, copy 261, and of the window behind it all but segment 257, copy 262

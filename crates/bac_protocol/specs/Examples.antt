@@ -1,5 +1,6 @@
 -- Runs that are computed: what is sent, logged and stored. Each type here is an equation that a law proves.
-use Rattle.std.specs.Prelude.{◌≡◌, ℕ, zero, suc, Bool, true, false, List, [], ◌∷◌, ◌++◌, map, Option, Some, None}
+use Rattle.bac_segment.specs.Pieces.{join}
+use Rattle.std.specs.Prelude.{◌≡◌, ℕ, zero, suc, ◌+◌, length, Bool, true, false, List, [], ◌∷◌, ◌++◌, map, Option, Some, None}
 use Rattle.bac_apdu.specs.Apdu.{Apdu}
 use Rattle.bac_apdu.specs.Apdu.Apdu.{ConfirmedRequest, SimpleAck, ComplexAck, SegmentAck, Error, Abort}
 use Rattle.bac_protocol.specs.Service.{Octets, Reply, Reply as reply}
@@ -354,3 +355,27 @@ DroppedEntry =
     × (serves 0 (Some receiving) (Abort false 0 0) ≡ record { entry = Some dropped; sends = []; effect = None })
     × (serves 0 (Some dropped) segment_1 ≡ record { entry = Some dropped; sends = Abort true 0 0 ∷ []; effect = None })
     × (serves 0 None segment_1 ≡ record { entry = None; sends = []; effect = None })
+
+-- Straight runs past a window and past 256 segments.
+
+-- so many pieces of one octet each, which counts up
+abbrev pub pieces : ℕ → ℕ → List Octets
+pieces zero k = []
+pieces (suc n) k = (k ∷ []) ∷ pieces n (suc k)
+
+-- so many copies are delivered, from that number on
+abbrev pub in_order : ℕ → ℕ → List Event
+in_order number zero = []
+in_order number (suc count) = Deliver number true ∷ in_order (number + 1) count
+
+abbrev pub IsAnsweredAfter : (sent : ℕ) → Octets → Reply → Seen → Type 0
+IsAnsweredAfter sent octets p s =
+    (length s.sent ≡ sent) × (s.log ≡ Ended 0 (Answered p) ∷ performed octets p ∷ asked octets ∷ []) × (s.effects ≡ 1)
+
+-- 94 deliveries for a reply of 90 pieces: the request, 90 segments and 3 SegmentACKs; the last SegmentACK is left
+abbrev pub LongReply : Type 0
+LongReply = IsAnsweredAfter 95 append (Complex (zeros 4013)) (shows 32 (Complex (zeros 4013)) (ask_append ∷ in_order 0 94))
+
+-- 312 deliveries for a request of 300 pieces: 300 segments, 11 SegmentACKs and the answer
+abbrev pub LongRequest : Type 0
+LongRequest = IsAnsweredAfter 312 (join ((0 ∷ []) ∷ pieces 299 1)) position (shows 32 position (MakeAsk key 7 false (0 ∷ []) (pieces 299 1) ∷ in_order 0 312))

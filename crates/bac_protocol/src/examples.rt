@@ -1,5 +1,6 @@
 //! Runs that are computed: they show that the definitions do what the protocol's tables say, at the level of APDUs.
 
+ghost use Rattle.bac_protocol.specs.Examples.{LongReply, LongRequest};
 ghost use Rattle.bac_protocol.specs.Examples.{FourCopies, LostAnswer, Unreadable, NoSlot, OldCopy, OlderCopy, LastMoment, TooLate, NothingDelivered};
 ghost use Rattle.bac_protocol.specs.Examples.{HeldLong, LostAck};
 ghost use Rattle.bac_protocol.specs.Examples.{OutOfOrder, LaterPass, InTime, OutOfTime, StoppedReply, Sizes, OddAcks, OtherAnswers, KeptReply, DroppedEntry};
@@ -68,4 +69,11 @@ pub fn client_steps()
 pub fn server_steps()
     ensures kept_reply { KeptReply }
     ensures dropped_entry { DroppedEntry }
+{}
+
+/// Straight runs past a window and past 256 segments, with their counts of deliveries.
+#[tactic(auto, using(crate::proofs::Computed::long_reply, crate::proofs::Computed::long_request))]
+pub fn long_transfers()
+    ensures long_reply { LongReply }
+    ensures long_request { LongRequest }
 {}

@@ -150,7 +150,7 @@ strings_takes (suc most) bytes x fits e =
     strings_went most (strings_takes most) bytes x fits (is_some (announced Application 6 t.0.0)) t.2
 
 -- strings in a row are at least as many octets
-strings_len : (n : ℕ) (text : Octets) → AreStrings n text → n ≤ length text
+pub strings_len : (n : ℕ) (text : Octets) → AreStrings n text → n ≤ length text
 unfolding tag_spelling
 strings_len zero text s = omega arith
 strings_len (suc n) text s =

@@ -8,3 +8,5 @@ pub mod Wholes
 pub mod Runs
 pub mod Spelled
 pub mod LengthLaws
+pub mod OnlySpelling
+pub mod Counting

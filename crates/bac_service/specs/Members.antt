@@ -72,6 +72,11 @@ abbrev pub AreStrings : ℕ → Octets → Type 0
 AreStrings zero run = run ≡ []
 AreStrings (suc count) run = (Tagged Application 6 (λ xs. Unit {0}) ⨾ AreStrings count) run
 
+-- they are so many octet strings, and no other number of them
+pub record IsCount (run : Octets) (count : ℕ) : Type 0 where
+  pub are : AreStrings count run
+  pub only : (m : ℕ) → AreStrings m run → m ≡ count
+
 -- ---- data
 
 -- the octets are data, and they are these

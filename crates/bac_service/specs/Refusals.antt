@@ -1,5 +1,7 @@
--- What is said of a refusal, want of memory aside.
-use Rattle.std.specs.Prelude.{Result, Ok, Err}
+-- The numbers of reasons, and what is said of a refusal, want of memory aside.
+use Rattle.std.specs.Prelude.{ℕ, Result, Ok, Err}
+use Rattle.bac_service.specs.declared.reject.Reject.{Reject}
+use Rattle.bac_service.specs.declared.reject.Reject.TheVariants as reject
 use Rattle.bac_service.specs.declared.read_error.ReadError as code
 use Rattle.bac_service.specs.declared.read_error.ReadError.TheVariants.{Refused, NoMemory}
 
@@ -7,3 +9,16 @@ abbrev pub IfRefused : {A E : Type 0} → Result A (code.ReadError E) → (E →
 IfRefused (Ok x) P = Unit {0}
 IfRefused (Err (Refused e)) P = P e
 IfRefused (Err NoMemory) P = Unit {0}
+
+-- clause 18.9
+abbrev pub reason_number : Reject → ℕ
+reason_number reject.Other = 0
+reason_number reject.BufferOverflow = 1
+reason_number reject.InconsistentParameters = 2
+reason_number reject.InvalidParameterDataType = 3
+reason_number reject.InvalidTag = 4
+reason_number reject.MissingRequiredParameter = 5
+reason_number reject.ParameterOutOfRange = 6
+reason_number reject.TooManyArguments = 7
+reason_number reject.UndefinedEnumeration = 8
+reason_number reject.UnrecognizedService = 9

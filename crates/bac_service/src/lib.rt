@@ -1,6 +1,7 @@
 //! Requests and answers of the four services (clauses 14 and 15), read from and written as service data (clause 21).
 #![tactic(auto)]
 
+mod laws;
 mod lending;
 mod lengths;
 mod member;
@@ -8,6 +9,7 @@ mod owned;
 mod owned_records;
 mod parts_reading;
 mod read_error;
+mod records;
 mod reject;
 mod reply;
 mod reply_reading;
@@ -21,6 +23,7 @@ mod stop;
 mod typed;
 mod value;
 
+pub use laws::{one_reply_spelling, one_request_spelling};
 pub use lengths::{reply_len, request_len};
 pub use owned::{OwnedComplex, OwnedReply, OwnedRequest};
 pub use owned_records::OwnedRecords;
@@ -39,3 +42,6 @@ pub use request::{
 pub use request_reading::read_request;
 pub use request_writing::write_request;
 pub use value::{Content, Priority, PropertyReference, Records};
+
+#[cfg(test)]
+mod tests;

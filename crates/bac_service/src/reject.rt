@@ -1,3 +1,6 @@
+ghost use Rattle.std.specs.Prelude.{◌≡◌};
+ghost use Rattle.bac_service.specs.Refusals.{reason_number};
+
 use thiserror::Error;
 
 /// Why a request is rejected (clause 18.9). The number of each is its place in this list, from 0.
@@ -34,7 +37,9 @@ pub enum Reject {
 
 impl Reject {
     /// The number of the reason, 0 to 9 (clause 18.9).
-    pub fn reason(self) -> u8 {
+    pub fn reason(self) -> u8
+        ensures { result ≡ reason_number self }
+    {
         self as u8
     }
 }

@@ -1,14 +1,16 @@
 -- Worked examples of the definitions, by computing.
 use Rattle.std.proofs.Common.{◌≡◌, ℕ, ◌<◌, List, [], ◌∷◌, ◌++◌, Result, Ok, Err, refl, arith, pos, neg_ℤ, ◌-◌, ◌^◌, zero, suc, replicate}
 use Rattle.bac_value.specs.declared.fault.FaultKind.{FaultKind}
-use Rattle.bac_value.specs.declared.fault.FaultKind.TheVariants.{Truncated, ReservedTag, LongForm, BadLength, NotShortest, Unbalanced, TooDeep, ReservedBits}
+use Rattle.bac_value.specs.declared.fault.FaultKind.TheVariants.{Truncated, ReservedTag, LongForm, BadLength, NotShortest, Unbalanced}
+use Rattle.bac_value.specs.declared.fault.FaultKind.TheVariants.{TooDeep, ReservedBits}
 use Rattle.bac_value.specs.declared.tag.Class.TheVariants.{Application, Context}
 use Rattle.bac_value.specs.declared.tag.Form.TheVariants.{Length}
 use Rattle.bac_value.specs.Octets.{IsBytes}
 use Rattle.bac_value.specs.Spelling.{tag_spelling}
 use Rattle.bac_value.specs.Number.{number_in, signed_in}
 use Rattle.bac_value.specs.Value.{unsigned, signed, SpellsValue, object}
-use Rattle.bac_value.specs.Reading.{tag_at, element_at, data_of, kind_at, contents_at, tag_number_at, form_at, length_at, raw_at, class_at, data_at, step_at, turn}
+use Rattle.bac_value.specs.Reading.{tag_at, element_at, data_of, kind_at, contents_at, tag_number_at, form_at, length_at, raw_at, class_at}
+use Rattle.bac_value.specs.Reading.{data_at, step_at, turn}
 
 abbrev kind_of : {Y : Type 0} → Result (Y × List ℕ) FaultKind → Result (List ℕ) FaultKind
 kind_of (Ok x) = Ok x.1

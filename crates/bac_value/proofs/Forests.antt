@@ -1,5 +1,6 @@
 -- Reading data takes exactly the spellings of trees that stand at the end or before a closing tag.
-use Rattle.std.proofs.Common.{◌≡◌, ℕ, zero, suc, ◌+◌, ◌-◌, ◌<◌, ◌≤◌, ltb, eqb, List, [], ◌∷◌, ◌++◌, length, take, drop, Result, Ok, Err, Option, Some, None, refl, sym, ap, subst, ◌∙◌, append_assoc, arith, inl, inr}
+use Rattle.std.proofs.Common.{◌≡◌, ℕ, zero, suc, ◌+◌, ◌-◌, ◌<◌, ◌≤◌, ltb, eqb, List, [], ◌∷◌, ◌++◌, length, take, drop, Result, Ok, Err}
+use Rattle.std.proofs.Common.{Option, Some, None, refl, sym, ap, subst, ◌∙◌, append_assoc, arith, inl, inr}
 use Rattle.std.proofs.lemmas.Bool.{ltb-true, lt-ltb, eqb-true, eq-eqb}
 use Rattle.std.proofs.lemmas.List.{append-nil, length-append, length-drop, take_at, drop_at, take-append-drop}
 use Rattle.bac_value.specs.declared.fault.FaultKind.{FaultKind}
@@ -11,7 +12,8 @@ use Rattle.bac_value.specs.declared.tag.Form.TheVariants.{Length, Boolean, Openi
 use Rattle.bac_value.specs.Spelling.{Mark, tag_spelling, SpellsTag}
 use Rattle.bac_value.specs.Octets.{IsBytes}
 use Rattle.bac_value.specs.Element.{Part, part_spelling, SpellsElement, IsAnnounced}
-use Rattle.bac_value.specs.Data.{Forest, none, leaf, pair, opening, closing, spelling, IsPrimitive, IsWithin, SpellsData, Ends, IsPrimitiveForm, IsDataFront}
+use Rattle.bac_value.specs.Data.{Forest, none, leaf, pair, opening, closing, spelling, IsPrimitive, IsWithin, SpellsData, Ends}
+use Rattle.bac_value.specs.Data.{IsPrimitiveForm, IsDataFront}
 use Rattle.bac_value.specs.Reading.{◌>>=◌, element_at, turn, with_rest, step_at, goes_on, data_at, data_of, IsDataTaken}
 use Rattle.bac_value.proofs.Steps.{bind_ok, chosen, ok_is}
 use Rattle.bac_value.proofs.Elements.{element_takes, element_again}

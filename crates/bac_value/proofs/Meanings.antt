@@ -9,7 +9,8 @@ use Rattle.bac_value.specs.declared.tag.Form.TheVariants.{Length}
 use Rattle.bac_value.specs.Octets.{IsBytes}
 use Rattle.bac_value.specs.Limits.{tag_fits}
 use Rattle.bac_value.specs.Spelling.{Mark}
-use Rattle.bac_value.specs.Value.{Datum, null, boolean, unsigned, signed, real, double, octets, characters, bits, enumerated, date, time, object, kind_number, IsContents, form_of}
+use Rattle.bac_value.specs.Value.{Datum, null, boolean, unsigned, signed, real, double, octets, characters, bits, enumerated, date, time}
+use Rattle.bac_value.specs.Value.{object, kind_number, IsContents, form_of}
 use Rattle.bac_value.specs.Reading.{length_in, flaw}
 use Rattle.bac_value.specs.Meaning.{datum_in, IsValueOf}
 use Rattle.bac_value.proofs.Tags.{length_number-lt}

@@ -1,6 +1,8 @@
 -- Numbers in octets, the highest first.
-use Rattle.std.proofs.Common.{◌≡◌, ℕ, zero, suc, ◌+◌, ◌-◌, ◌*◌, ◌/◌, ◌%◌, ◌^◌, ◌<◌, ◌≤◌, List, [], ◌∷◌, length, get_or, refl, sym, ap, ◌∙◌, arith, inl, inr}
-use Rattle.std.proofs.Math.Nat.{pow-suc, pow-succ', pow-le-pow_right, one-le-pow, mul_assoc, mul-le-mul_right, add-mul, add_assoc, mul-add-mod_self_right, div-add-mod', mod-eq_of_lt, mod-lt, div-div-eq-div-mul}
+use Rattle.std.proofs.Common.{◌≡◌, ℕ, zero, suc, ◌+◌, ◌-◌, ◌*◌, ◌/◌, ◌%◌, ◌^◌, ◌<◌, ◌≤◌, List, [], ◌∷◌, length, get_or, refl, sym, ap, ◌∙◌}
+use Rattle.std.proofs.Common.{arith, inl, inr}
+use Rattle.std.proofs.Math.Nat.{pow-suc, pow-succ', pow-le-pow_right, one-le-pow, mul_assoc, mul-le-mul_right, add-mul, add_assoc}
+use Rattle.std.proofs.Math.Nat.{mul-add-mod_self_right, div-add-mod', mod-eq_of_lt, mod-lt, div-div-eq-div-mul}
 use Rattle.std.proofs.lemmas.Nat.{pow-add, mul-add-lt, le-div, div_below}
 use Rattle.std.proofs.lemmas.Grind.{pow_more}
 use Rattle.std.proofs.lemmas.Bool.{cases_lt, lt-ltb, le-ltb}

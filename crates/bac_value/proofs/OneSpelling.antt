@@ -1,5 +1,6 @@
 -- No value has two spellings, and none begins another's.
-use Rattle.std.proofs.Common.{◌≡◌, ℕ, zero, suc, ◌+◌, ◌-◌, ◌*◌, ◌^◌, ◌<◌, ◌≤◌, ℤ, pos, negsuc, ◌-ℤ◌, List, [], ◌∷◌, ◌++◌, length, get_or, refl, sym, ap, subst, ◌∙◌, arith, inl, inr, IsTrue}
+use Rattle.std.proofs.Common.{◌≡◌, ℕ, zero, suc, ◌+◌, ◌-◌, ◌*◌, ◌^◌, ◌<◌, ◌≤◌, ℤ, pos, negsuc, ◌-ℤ◌, List, [], ◌∷◌, ◌++◌, length, get_or}
+use Rattle.std.proofs.Common.{refl, sym, ap, subst, ◌∙◌, arith, inl, inr, IsTrue}
 use Rattle.std.proofs.Math.Nat.{pow-suc, pow-le-pow_right, mul-le-mul_right}
 use Rattle.std.proofs.lemmas.Nat.{same_from_place}
 use Rattle.std.proofs.lemmas.Bool.{cases_lt, cases_order, lt-ltb, le-ltb}
@@ -14,7 +15,8 @@ use Rattle.bac_value.specs.Element.{Part, IsAnnounced, SpellsElement}
 use Rattle.bac_value.specs.Meaning.{datum_in}
 use Rattle.bac_value.specs.Reading.{element_at}
 use Rattle.bac_value.specs.Number.{number_in, signed_in, IsUnsigned, IsSigned, distance}
-use Rattle.bac_value.specs.Value.{Datum, null, boolean, unsigned, signed, real, double, octets, characters, bits, enumerated, date, time, object, kind_number, form_of, IsContents, mark_for, SpellsValue}
+use Rattle.bac_value.specs.Value.{Datum, null, boolean, unsigned, signed, real, double, octets, characters, bits, enumerated, date, time}
+use Rattle.bac_value.specs.Value.{object, kind_number, form_of, IsContents, mark_for, SpellsValue}
 use Rattle.bac_value.proofs.Steps.{IsBytes-rest, one_only}
 use Rattle.bac_value.proofs.Elements.{element_exact}
 use Rattle.bac_value.proofs.ContentLaws.{object_again}

@@ -1,5 +1,6 @@
 -- What reading finds right in contents is what values of that kind have as contents.
-use Rattle.std.proofs.Common.{◌≡◌, ℕ, zero, suc, ◌+◌, ◌*◌, ◌/◌, ◌%◌, ◌^◌, ◌<◌, ◌≤◌, Bool, true, false, cond, ltb, eqb, List, [], ◌∷◌, length, get_or, Some, None, refl, sym, ap, ◌∙◌, arith, IsTrue, ◌&&◌}
+use Rattle.std.proofs.Common.{◌≡◌, ℕ, zero, suc, ◌+◌, ◌*◌, ◌/◌, ◌%◌, ◌^◌, ◌<◌, ◌≤◌, Bool, true, false, cond, ltb, eqb, List, [], ◌∷◌}
+use Rattle.std.proofs.Common.{length, get_or, Some, None, refl, sym, ap, ◌∙◌, arith, IsTrue, ◌&&◌}
 use Rattle.std.specs.Int.{w32, to_be_bytes, from_be_bytes}
 use Rattle.std.proofs.lemmas.Bool.{ltb-true, lt-ltb, eqb-true, eq-eqb, and_parts, and_from}
 use Rattle.std.proofs.lemmas.Bool.Decides.{nat_tests}
@@ -8,7 +9,8 @@ use Rattle.bac_value.specs.declared.fault.FaultKind.TheVariants.{NotShortest, Re
 use Rattle.bac_value.specs.Octets.{IsBytes}
 use Rattle.bac_value.specs.Limits.{bits_fit}
 use Rattle.bac_value.specs.Number.{number_in, signed_in}
-use Rattle.bac_value.specs.Value.{Datum, null, boolean, unsigned, signed, real, double, octets, characters, bits, enumerated, date, time, object, ObjectId, kind_number, IsContents, IsNumber, IsInteger, IsRaw, IsObject}
+use Rattle.bac_value.specs.Value.{Datum, null, boolean, unsigned, signed, real, double, octets, characters, bits, enumerated, date, time}
+use Rattle.bac_value.specs.Value.{object, ObjectId, kind_number, IsContents, IsNumber, IsInteger, IsRaw, IsObject}
 use Rattle.bac_value.specs.Element.{IsOfKind}
 use Rattle.bac_value.specs.Meaning.{datum_in}
 use Rattle.bac_value.specs.Reading.{length_in, flaw, is_longer_unsigned, is_longer_signed}

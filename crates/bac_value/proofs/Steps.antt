@@ -1,7 +1,9 @@
 -- What a chain of readings on lists took.
-use Rattle.std.proofs.Common.{◌≡◌, ℕ, suc, ◌+◌, ◌-◌, Bool, true, false, cond, List, ◌∷◌, ◌++◌, length, take, drop, Result, Ok, Err, refl, sym, ap, ◌∙◌, append_assoc, arith, inl, inr, ◌⊎◌}
+use Rattle.std.proofs.Common.{◌≡◌, ℕ, suc, ◌+◌, ◌-◌, Bool, true, false, cond, List, ◌∷◌, ◌++◌, length, take, drop, Result, Ok, Err, refl}
+use Rattle.std.proofs.Common.{sym, ap, ◌∙◌, append_assoc, arith, inl, inr, ◌⊎◌}
 use Rattle.std.proofs.lemmas.Bool.{cases_lt}
-use Rattle.std.proofs.lemmas.List.{length-take, length-append, get_or-drop, get_or-take, get_or_past, take_at, drop_at, take-append-drop, append_cancel_right}
+use Rattle.std.proofs.lemmas.List.{length-take, length-append, get_or-drop, get_or-take, get_or_past, take_at, drop_at, take-append-drop}
+use Rattle.std.proofs.lemmas.List.{append_cancel_right}
 use Rattle.bac_value.specs.declared.fault.FaultKind.{FaultKind}
 use Rattle.bac_value.specs.Octets.{IsBytes}
 use Rattle.bac_value.specs.Reading.{◌>>=◌, IsFound, IsRefused}

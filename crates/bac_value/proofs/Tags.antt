@@ -1,5 +1,7 @@
 -- The two laws of tags: what is read is spelled so, and what is spelled so is read.
-use Rattle.std.proofs.Common.{◌≡◌, ℕ, zero, suc, ◌+◌, ◌*◌, ◌/◌, ◌%◌, ◌^◌, ◌<◌, ◌≤◌, Bool, true, false, cond, ltb, eqb, List, [], ◌∷◌, ◌++◌, length, take, drop, Result, Ok, Err, refl, sym, ap, subst, ◌∙◌, append_assoc, arith, inl, inr, IsTrue, not, ◌⊎◌}
+use Rattle.std.proofs.Common.{◌≡◌, ℕ, zero, suc, ◌+◌, ◌*◌, ◌/◌, ◌%◌, ◌^◌, ◌<◌, ◌≤◌, Bool, true, false, cond, ltb, eqb, List, [], ◌∷◌, ◌++◌}
+use Rattle.std.proofs.Common.{length, take, drop, Result, Ok, Err, refl, sym, ap, subst, ◌∙◌, append_assoc, arith, inl, inr, IsTrue, not}
+use Rattle.std.proofs.Common.{◌⊎◌}
 use Rattle.std.specs.Int.{Width, w16, w32, byte_len, from_be_bytes, to_be_bytes}
 use Rattle.std.proofs.lemmas.Bool.{cases_lt, ltb-false, ltb-true, le-ltb, lt-ltb, eqb-true, eq-eqb, ne_eqb, eqb-false, and_parts, and_from, not-true}
 use Rattle.std.proofs.lemmas.List.{take_at, drop_at, take-append-drop, length-append, length-take}
@@ -11,7 +13,8 @@ use Rattle.bac_value.specs.declared.tag.Class.TheVariants.{Application, Context}
 use Rattle.bac_value.specs.declared.tag.Form.{Form}
 use Rattle.bac_value.specs.declared.tag.Form.TheVariants.{Length, Boolean, Opening, Closing}
 use Rattle.bac_value.specs.Limits.{tag_fits}
-use Rattle.bac_value.specs.Spelling.{Mark, number_bits, number_octets, length_octets, form_bits, form_octets, class_bit, tag_spelling, SpellsTag, length_fits}
+use Rattle.bac_value.specs.Spelling.{Mark, number_bits, number_octets, length_octets, form_bits, form_octets, class_bit, tag_spelling}
+use Rattle.bac_value.specs.Spelling.{SpellsTag, length_fits}
 use Rattle.bac_value.specs.Octets.{IsBytes}
 use Rattle.bac_value.specs.Reading.{◌>>=◌, octet_at, tag_number_at, wide_at, length_at, form_at, tag_at}
 use Rattle.bac_value.proofs.Steps.{IsBytes-drop, IsBytes-take, IsBytes-rest, bind_ok, chosen, guard_ok, ok_is, Takes, Takes-then, IsExact}

@@ -1,7 +1,8 @@
 -- Each value's spelling spells it.
 use Rattle.std.proofs.Common.{ℕ, ◌<◌, ◌≤◌, ◌^◌, length, refl, arith}
 use Rattle.bac_value.specs.Number.{unsigned_octets, width_of, distance}
-use Rattle.bac_value.specs.Value.{Datum, null, boolean, unsigned, signed, real, double, octets, characters, bits, enumerated, date, time, object, IsContents, IsNumber, IsValue, SpellsValue}
+use Rattle.bac_value.specs.Value.{Datum, null, boolean, unsigned, signed, real, double, octets, characters, bits, enumerated, date, time}
+use Rattle.bac_value.specs.Value.{object, IsContents, IsNumber, IsValue, SpellsValue}
 use Rattle.bac_value.specs.Writing.{contents_of, value_spelling}
 use Rattle.bac_value.proofs.Numbers.{unsigned_spelled, length-unsigned, width_is, width-le}
 use Rattle.bac_value.proofs.Signs.{signed_spelled, length-signed}

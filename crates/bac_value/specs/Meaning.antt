@@ -1,7 +1,8 @@
 -- The value that an element is.
 use Rattle.std.specs.Prelude.{◌≡◌, ℕ, ◌/◌, ◌%◌, ◌^◌, true, ◌==◌, if◌then◌else◌, List, length, drop, slice_index}
 use Rattle.bac_value.specs.Number.{number_in, signed_in}
-use Rattle.bac_value.specs.Value.{Datum, null, boolean, unsigned, signed, real, double, octets, characters, bits, enumerated, date, time, object, mark_for, IsContents}
+use Rattle.bac_value.specs.Value.{Datum, null, boolean, unsigned, signed, real, double, octets, characters, bits, enumerated, date, time}
+use Rattle.bac_value.specs.Value.{object, mark_for, IsContents}
 use Rattle.bac_value.specs.Element.{Part}
 
 -- the element is the value: its tag is that of the value's kind, and its contents are the value's

@@ -1,9 +1,11 @@
 -- Reading from left to right, on lists alone: what a reader answers, and which fault it finds first.
 -- That these answers are exactly the spellings are laws beside the readers in code.
-use Rattle.std.specs.Prelude.{◌≡◌, ℕ, zero, suc, ◌/◌, ◌%◌, ◌≤◌, ◌^◌, ℤ, slice_index, List, [], ◌∷◌, ◌++◌, length, take, drop, Option, Some, None, Result, Ok, Err, Bool, true, false, nat_lt, ◌==◌, ◌&&◌, ◌||◌, if◌then◌else◌}
+use Rattle.std.specs.Prelude.{◌≡◌, ℕ, zero, suc, ◌/◌, ◌%◌, ◌≤◌, ◌^◌, ℤ, slice_index, List, [], ◌∷◌, ◌++◌, length, take, drop, Option, Some}
+use Rattle.std.specs.Prelude.{None, Result, Ok, Err, Bool, true, false, nat_lt, ◌==◌, ◌&&◌, ◌||◌, if◌then◌else◌}
 use Rattle.std.specs.Int.{Width, w16, w32, byte_len, from_be_bytes}
 use Rattle.bac_value.specs.declared.fault.FaultKind.{FaultKind}
-use Rattle.bac_value.specs.declared.fault.FaultKind.TheVariants.{Truncated, ReservedTag, LongForm, BadLength, NotShortest, Unbalanced, TooDeep, ReservedBits}
+use Rattle.bac_value.specs.declared.fault.FaultKind.TheVariants.{Truncated, ReservedTag, LongForm, BadLength, NotShortest, Unbalanced}
+use Rattle.bac_value.specs.declared.fault.FaultKind.TheVariants.{TooDeep, ReservedBits}
 use Rattle.bac_value.specs.declared.fault.Fault.{Fault}
 use Rattle.bac_value.specs.declared.tag.Class.{Class}
 use Rattle.bac_value.specs.declared.tag.Class.TheVariants.{Application, Context}
@@ -98,7 +100,8 @@ abbrev pub is_longer_unsigned : List ℕ → Bool
 is_longer_unsigned xs = nat_lt 1 (length xs) && slice_index xs 0 == 0
 
 abbrev pub is_longer_signed : List ℕ → Bool
-is_longer_signed xs = nat_lt 1 (length xs) && ((slice_index xs 0 == 0 && nat_lt (slice_index xs 1) 128) || (slice_index xs 0 == 255 && nat_lt 127 (slice_index xs 1)))
+is_longer_signed xs =
+    nat_lt 1 (length xs) && ((slice_index xs 0 == 0 && nat_lt (slice_index xs 1) 128) || (slice_index xs 0 == 255 && nat_lt 127 (slice_index xs 1)))
 
 -- what is wrong with contents of a kind whose length is right
 abbrev pub flaw : ℕ → List ℕ → Option FaultKind

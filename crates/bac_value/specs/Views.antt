@@ -9,7 +9,8 @@ use Rattle.bac_value.specs.declared.parts.Parts.{Parts}
 use Rattle.bac_value.specs.Octets.{joined}
 use Rattle.bac_value.specs.Spelling.{Mark}
 use Rattle.bac_value.specs.Element.{Part}
-use Rattle.bac_value.specs.Value.{Datum, ObjectId, null, boolean, unsigned, signed, real, double, octets, characters, bits, enumerated, date, time, object}
+use Rattle.bac_value.specs.Value.{Datum, ObjectId, null, boolean, unsigned, signed, real, double, octets, characters, bits, enumerated}
+use Rattle.bac_value.specs.Value.{date, time, object}
 
 abbrev pub mark : Tag → Mark
 mark t = record { number = t.number; class = t.class; form = t.form }

@@ -5,7 +5,8 @@ use Rattle.bac_value.specs.declared.tag.Class.{Class}
 use Rattle.bac_value.specs.declared.tag.Form.TheVariants as form
 use Rattle.bac_value.specs.Spelling.{Mark, tag_spelling}
 use Rattle.bac_value.specs.Number.{unsigned_octets, signed_octets}
-use Rattle.bac_value.specs.Value.{Datum, null, boolean, unsigned, signed, real, double, octets, characters, bits, enumerated, date, time, object, ObjectId, mark_for, SpellsValue}
+use Rattle.bac_value.specs.Value.{Datum, null, boolean, unsigned, signed, real, double, octets, characters, bits, enumerated, date, time}
+use Rattle.bac_value.specs.Value.{object, ObjectId, mark_for, SpellsValue}
 
 -- a tag with a length
 abbrev pub length_mark : Class → ℕ → ℕ → Mark

@@ -1,4 +1,5 @@
-ghost use Rattle.std.specs.Prelude.{◌≡◌, ◌<◌, ◌≤◌, ◌+◌, ◌-◌, ◌%◌, ◌^◌, ◌==◌, ◌&&◌, ◌∷◌, length, drop, take, slice_index, MatchOption, IfOk, IsTrue, true};
+ghost use Rattle.std.specs.Prelude.{◌≡◌, ◌<◌, ◌≤◌, ◌+◌, ◌-◌, ◌%◌, ◌^◌, ◌==◌, ◌&&◌, ◌∷◌, length, drop, take, slice_index, MatchOption, IfOk};
+ghost use Rattle.std.specs.Prelude.{IsTrue, true};
 ghost use Rattle.bac_value.specs.Limits.{bits_fit};
 ghost use Rattle.bac_value.specs.Reading.{Reads, raw_at, kind_at, class_at, contents_at, length_in, flaw, is_longer_unsigned, is_longer_signed};
 ghost use Rattle.bac_value.specs.Views.{mark};

@@ -36,6 +36,7 @@ pub use element_reading::{one_element_spelling, read_element, take_element};
 pub use fault::{Fault, FaultKind};
 pub use memory::NoMemory;
 pub use number_reading::{take_enumerated, take_object_identifier, take_signed, take_unsigned};
+pub use number_width::{signed_len, unsigned_len};
 pub use octets::Octets;
 pub use parts::Parts;
 pub use parts_reading::{check_data_at, copy_out, read_tag_at};

@@ -1,5 +1,5 @@
-ghost use Rattle.std.specs.Prelude.{◌≡◌, ◌<◌, ◌≤◌, ◌+◌, ◌-◌, ◌*◌, ◌/◌, ◌^◌};
-ghost use Rattle.bac_value.specs.Number.{width_of, half_width_of, distance, complement};
+ghost use Rattle.std.specs.Prelude.{length, ◌≡◌, ◌<◌, ◌≤◌, ◌+◌, ◌-◌, ◌*◌, ◌/◌, ◌^◌};
+ghost use Rattle.bac_value.specs.Number.{width_of, half_width_of, distance, complement, unsigned_octets, signed_octets};
 
 /// How many octets a number needs, and at least one.
 pub(crate) fn octets_of(number: u64) -> usize
@@ -90,4 +90,18 @@ pub(crate) fn complement_of(number: i64) -> u64
     } else {
         distance
     }
+}
+
+/// How many octets the contents of an Unsigned or an Enumerated have (clause 20.2.4).
+pub fn unsigned_len(number: u64) -> usize
+    ensures { result ≡ length (unsigned_octets number) }
+{
+    octets_of(number)
+}
+
+/// How many octets the contents of a Signed have (clause 20.2.5).
+pub fn signed_len(number: i64) -> usize
+    ensures { result ≡ length (signed_octets number) }
+{
+    signed_octets_of(distance_of(number))
 }

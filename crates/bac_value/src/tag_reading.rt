@@ -1,4 +1,5 @@
-ghost use Rattle.std.specs.Prelude.{◌≡◌, ◌<◌, ◌≤◌, ◌+◌, ◌^◌, ◌%◌, ◌/◌, ◌==◌, ◌++◌, ℕ, List, length, drop, take, true, false, IfOk, IfErr, MatchResult, Ok, Err};
+ghost use Rattle.std.specs.Prelude.{◌≡◌, ◌<◌, ◌≤◌, ◌+◌, ◌^◌, ◌%◌, ◌/◌, ◌==◌, ◌++◌, ℕ, List, length, drop, take, true, false, IfOk, IfErr};
+ghost use Rattle.std.specs.Prelude.{MatchResult, Ok, Err};
 ghost use Rattle.std.specs.Int.{w16, w32};
 ghost use Rattle.bac_value.specs.Reading.{Reads, IsFound, IsRefused, octet_at, tag_number_at, length_at, wide_at, form_at, tag_at};
 ghost use Rattle.bac_value.specs.Spelling.{Mark, SpellsTag};

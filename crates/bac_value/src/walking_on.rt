@@ -11,7 +11,8 @@ impl<'a> DataElements<'a> {
     /// The first element, and the elements behind it; None exactly at the end.
     pub fn split_first(self) -> Option<(Element<&'a [u8]>, DataElements<'a>)>
         ensures { MatchOption result (self.entry.octets.now ≡ [])
-            (λ r. SpellsElement (part (λ s. s.now) r.0) (part_spelling (part (λ s. s.now) r.0)) × (self.entry.octets.now ≡ part_spelling (part (λ s. s.now) r.0) ++ r.1.octets.now)) }
+            (λ r. SpellsElement (part (λ s. s.now) r.0) (part_spelling (part (λ s. s.now) r.0))
+            × (self.entry.octets.now ≡ part_spelling (part (λ s. s.now) r.0) ++ r.1.octets.now)) }
     {
         if slice_len(self.octets) == 0 {
             return None;

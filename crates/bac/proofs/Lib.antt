@@ -1,0 +1,4 @@
+pub mod Literals
+pub mod Short
+pub mod Replies
+pub mod Asking

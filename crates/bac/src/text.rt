@@ -1,0 +1,42 @@
+//! The texts that commands take and print.
+use crate::answer::answer_datagram;
+use crate::status::Status;
+use hex::FromHexError;
+use std::alloc::Global;
+use std::io::Write;
+
+/// Prints a complaint; where even that fails, the status alone tells.
+fn complain<E: Write>(err: &mut E, message: &str, status: Status) -> Status {
+    let _ = err.writeln(message);
+    status
+}
+
+/// Prints the datagrams that answer a datagram given in hexadecimal, in capitals, one a line, or `none`.
+///
+/// Text that is not hexadecimal: `bad hex` on `err`. Want of memory: `no memory` on `err`.
+pub fn answer_over<O: Write, E: Write>(
+    alloc: Global,
+    text: &str,
+    out: &mut O,
+    err: &mut E,
+) -> Status {
+    let datagram = match hex::decode(alloc, text) {
+        Ok(datagram) => datagram,
+        Err(FromHexError::OutOfMemory) => return complain(err, "no memory", Status::Memory),
+        Err(_) => return complain(err, "bad hex", Status::CommandLine),
+    };
+    let Ok(answer) = answer_datagram(alloc, &datagram) else {
+        return complain(err, "no memory", Status::Memory);
+    };
+    let printed = match answer {
+        None => out.writeln("none"),
+        Some(frame) => match hex::encode_upper(alloc, frame) {
+            Ok(text) => out.writeln(text.as_str()),
+            Err(_) => return complain(err, "no memory", Status::Memory),
+        },
+    };
+    match printed {
+        Ok(()) => Status::Done,
+        Err(_) => Status::Output,
+    }
+}
