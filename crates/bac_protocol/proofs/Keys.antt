@@ -1,5 +1,6 @@
 -- One list of copies for all transactions, and tables by key.
-use Rattle.std.proofs.Common.{◌≡◌, ℕ, zero, suc, ◌+◌, ◌⊎◌, Bool, true, false, ◌&&◌, List, [], ◌∷◌, ◌++◌, map, Some, slice_get, if◌then◌else◌, nat_eq}
+use Rattle.std.proofs.Common.{◌<◌, length, take, add-one, ◌≡◌, ℕ, zero, suc, ◌+◌, ◌⊎◌, Bool, true, false, ◌&&◌, List, [], ◌∷◌, ◌++◌, map, Some}
+use Rattle.std.proofs.Common.{slice_get, if◌then◌else◌, nat_eq}
 use Rattle.std.proofs.Common.{refl, sym, ap, inl, inr, ◌∙◌, arith}
 use Rattle.std.proofs.lemmas.Bool.Decides.{nat_tests}
 use Rattle.bac_apdu.specs.Apdu.{Apdu}
@@ -115,3 +116,21 @@ copy_before (suc n) (q ∷ posts) p cs e = copy_before n posts p (picks (same_ke
 pub copy_at : (number : ℕ) (posts : List Post) (p : Post) → slice_get posts number ≡ Some p
     → slice_get (copies_of p.key posts) (later p.key number posts) ≡ Some p.copy
 copy_at number posts p e = copy_before number posts p [] e
+
+-- the later members are those of all that are not among the first
+pub later_counted : (key : Key) (number : ℕ) (posts : List Post) → number < length posts
+    → count_of key (take (number + 1) posts) + later key number posts ≡ count_of key posts
+later_counted key number [] lt = absurd (omega arith)
+later_counted key zero (p ∷ posts) lt = go (same_key p.key key)
+  where
+    go : (b : Bool) → (if b then suc (count_of key []) else count_of key []) + count_of key posts ≡
+        (if b then suc (count_of key posts) else count_of key posts)
+    go true = omega arith
+    go false = omega arith
+later_counted key (suc n) (p ∷ posts) lt = rw add-one (go (same_key p.key key) (rw add-one at (later_counted key n posts (omega arith))))
+  where
+    go : (b : Bool) → count_of key (take (suc n) posts) + later key n posts ≡ count_of key posts
+        → (if b then suc (count_of key (take (suc n) posts)) else count_of key (take (suc n) posts)) + later key n posts ≡
+        (if b then suc (count_of key posts) else count_of key posts)
+    go true h = omega arith
+    go false h = h

@@ -1,9 +1,9 @@
 -- What a loop that delivers copy after copy needs.
-use Rattle.std.proofs.Common.{◌≡◌, ℕ, zero, suc, ◌+◌, ◌-◌, ◌<◌, ◌≤◌, Bool, true, false, length, refl, sym, ap, subst, ◌∙◌, arith}
+use Rattle.std.proofs.Common.{[], ◌∷◌, ◌≡◌, ℕ, zero, suc, ◌+◌, ◌-◌, ◌<◌, ◌≤◌, Bool, true, false, length, refl, sym, ap, subst, ◌∙◌, arith}
 use Rattle.bac_protocol.specs.Transaction.{Key}
 use Rattle.bac_protocol.specs.World.{World}
 use Rattle.bac_protocol.specs.World.Event.{Deliver}
-use Rattle.bac_protocol.specs.Straight.{Steps, is_ended, Straight}
+use Rattle.bac_protocol.specs.Straight.{Steps, is_ended, Straight, IsRunOfDeliveries}
 
 -- a straight run goes on by one delivery
 straight_more : (S : Type 0) (Step : Steps S) (key : Key) (has_slot : Bool) (count number : ℕ) (w u v : World S)
@@ -40,3 +40,10 @@ straight_on S Step key has_slot first number w u v le run free slot going left g
     let h = straight_more S Step key has_slot (number - first) first w u v run free (λ e z. slot e (omega arith)) going (omega arith)
     (subst (λ (k : ℕ). Step u (Deliver k free) v) b goes) in
     subst (λ (k : ℕ). Straight S Step key has_slot k first w v) a h
+
+-- a straight run is a run of so many deliveries
+pub straight_runs : (S : Type 0) (Step : Steps S) (key : Key) → IsRunOfDeliveries S Step key
+straight_runs S Step key has_slot zero number w v run = ([], run, tt, refl)
+straight_runs S Step key has_slot (suc count) number w v run =
+    let h = straight_runs S Step key false count (suc number) run.4 v run.6 in
+    (Deliver number run.0 ∷ h.0, (run.4, run.5, h.1), ((run.0, refl), h.2), ap suc h.3)

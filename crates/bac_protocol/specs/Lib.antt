@@ -8,7 +8,7 @@ pub mod Log
 pub mod Transaction
 pub mod World
 pub mod Claims
+pub mod Own
+pub mod Straight
 pub mod Examples
 pub mod Beyond
-pub mod Straight
-pub mod Own

@@ -1,5 +1,5 @@
 -- The straight run: each copy that arises from an ask is delivered once, in the order of sending, at one moment, while the ticket is open.
-use Rattle.std.specs.Prelude.{◌≡◌, ℕ, zero, suc, ◌+◌, ◌*◌, ◌<◌, ◌≤◌, ◌⊎◌, Bool, true, false, List, ◌∷◌, length, Option, Some, None, if◌then◌else◌, nat_eq}
+use Rattle.std.specs.Prelude.{[], ◌≡◌, ℕ, zero, suc, ◌+◌, ◌*◌, ◌<◌, ◌≤◌, ◌⊎◌, Bool, true, false, List, ◌∷◌, length, Option, Some, None, if◌then◌else◌, nat_eq}
 use Rattle.bac_segment.specs.Limits.{DATA}
 use Rattle.bac_segment.specs.Pieces.{join}
 use Rattle.bac_protocol.specs.Sizes.{Settings}
@@ -160,3 +160,19 @@ StraightExists S shop x =
 -- in a world that was reached no entry is live for an invoke ID that is free
 abbrev pub NoneLive : (S : Type 0) → World S → Type 0
 NoneLive S w = (key : Key) → is_key_held w.net.now (w.net.tickets key) ≡ false → is_none_live w.net.now (w.net.entries key) ≡ true
+
+-- these events deliver the copies from that number on, each once, in order of sending
+abbrev pub AreDeliveries : (number : ℕ) → List Event → Type 0
+AreDeliveries number [] = Unit {0}
+AreDeliveries number (e ∷ es) = ((free : Bool) × (e ≡ Deliver number free)) × AreDeliveries (suc number) es
+
+-- a run of events
+abbrev pub Runs : (S : Type 0) → Steps S → List Event → (old new : World S) → Type 0
+Runs S Step [] w v = w ≡ v
+Runs S Step (e ∷ es) w v = (u : World S) × Step w e u × Runs S Step es u v
+
+-- a straight run is a run of so many deliveries
+abbrev pub IsRunOfDeliveries : (S : Type 0) → Steps S → Key → Type 0
+IsRunOfDeliveries S Step key =
+    (has_slot : Bool) (count number : ℕ) (w v : World S) → Straight S Step key has_slot count number w v
+    → (events : List Event) × Runs S Step events w v × AreDeliveries number events × (length events ≡ count)

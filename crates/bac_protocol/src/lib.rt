@@ -7,11 +7,11 @@
 pub mod examples;
 pub mod straight;
 
-ghost use Rattle.std.specs.Prelude.{◌≡◌, ℕ, ◌+◌, ◌*◌, ◌%◌, ◌<◌, ◌≤◌, List};
+ghost use Rattle.std.specs.Prelude.{◌≡◌, ℕ, ◌+◌, ◌*◌, ◌%◌, ◌<◌, ◌≤◌, List, length, take};
 ghost use Rattle.bac_segment.specs.Numbers.{ahead};
 ghost use Rattle.bac_protocol.specs.Log.{Shop, IsOnce};
-ghost use Rattle.bac_protocol.specs.Transaction.{Rules};
-ghost use Rattle.bac_protocol.specs.World.{Event, run, start};
+ghost use Rattle.bac_protocol.specs.Transaction.{Key, Rules};
+ghost use Rattle.bac_protocol.specs.World.{Post, Event, count_of, later, run, start};
 ghost use Rattle.bac_protocol.specs.Beyond.{Misread};
 ghost use Rattle.bac_protocol.specs.Own.{ClientSendsOwn, ServerSendsOwn, AreOwn};
 ghost use Rattle.bac_protocol.specs.Claims.{IsBounded, AreOfNewest, RequestsAreInWindow, RepliesAreInWindow, LaterPassesFindDone};
@@ -75,4 +75,11 @@ pub fn each_end_sends_its_own()
 /// In every run each copy carries its transaction's invoke ID and is an APDU of its client or its server.
 pub fn each_copy_is_its_own<S>()
     ensures { (shop : Shop S) (rules : Rules) (opening : ℕ → S) (events : List Event) → AreOwn (run S shop rules events (start S opening)).net }
+{}
+
+/// How many later copies a copy has is known from counts: those of its transaction but the ones up to it.
+#[tactic(auto, using(crate::proofs::Keys::later_counted))]
+pub fn later_copies_are_counted()
+    ensures { (key : Key) (number : ℕ) (posts : List Post) → number < length posts
+        → count_of key (take (number + 1) posts) + later key number posts ≡ count_of key posts }
 {}

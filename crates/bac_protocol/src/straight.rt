@@ -5,7 +5,7 @@ ghost use Rattle.bac_protocol.specs.Log.{Shop};
 ghost use Rattle.bac_protocol.specs.Transaction.{Key, Rules};
 ghost use Rattle.bac_protocol.specs.World.{Event, run, start};
 ghost use Rattle.bac_protocol.specs.Claims.{IsBounded};
-ghost use Rattle.bac_protocol.specs.Straight.{AreStraight, StraightAnswers, StraightExists, NoneLive, like_machine};
+ghost use Rattle.bac_protocol.specs.Straight.{AreStraight, StraightAnswers, StraightExists, NoneLive, IsRunOfDeliveries, like_machine};
 
 /// Each straight run of a transaction answers its ask: with an invoke ID that is free, no live entry, a free slot at the server, and a reply that
 /// can reach its client, the ask is performed once and its ticket ends with the service's reply, after at most 2n + 2m deliveries for n datagrams
@@ -24,4 +24,10 @@ pub fn straight_run_exists<S>()
 pub fn none_live_for_new<S>()
     ensures { (shop : Shop S) (opening : ℕ → S) (W : ℕ) (rules : Rules) → IsBounded W rules → (events : List Event)
         → NoneLive S (run S shop rules events (start S opening)) }
+{}
+
+/// A straight run is a run of so many deliveries: of the copies from its first number on, each once, in order of sending.
+#[tactic(auto, using(crate::proofs::Loops::straight_runs))]
+pub fn straight_run_is_deliveries<S>()
+    ensures { (shop : Shop S) (rules : Rules) (key : Key) → IsRunOfDeliveries S (like_machine S shop rules key) key }
 {}

@@ -42,3 +42,6 @@ pub use request::{
 pub use request_reading::read_request;
 pub use request_writing::write_request;
 pub use value::{Content, Priority, PropertyReference, Records};
+
+#[cfg(test)]
+mod tests;
