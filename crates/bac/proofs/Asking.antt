@@ -11,6 +11,12 @@ use Rattle.bac_service.specs.Values.Request.{ReadProperty}
 use Rattle.bac_service.specs.Requests.{SpellsRequest}
 use Rattle.bac.specs.Answers.{CLIENT_LINK, Asks, answer_frame, reply_to, unsegmented_in}
 
+-- a datagram means at most one APDU, of one peer
+pub means_one : (link octets : List ℕ) (p q : PeerView) (a b : Apdu) → Means SpellsApdu link octets p a → Means SpellsApdu link octets q b → (p ≡ q) × (a ≡ b)
+means_one link octets p q a b s t =
+    let same = carries_one link octets p q s.apdu_octets t.apdu_octets s.carries t.carries in
+    (same.0, apdu_one a b t.apdu_octets (subst (SpellsApdu a) same.1 s.spelled) t.spelled)
+
 abbrev request : Bool → ℕ → ℕ → ℕ → ℕ → List ℕ → Apdu
 request takes_segments max_segments max_apdu invoke choice service = ConfirmedRequest takes_segments max_segments max_apdu invoke None choice service
 

@@ -58,6 +58,10 @@ fn property_asked(choice: u8, service: &[u8]) -> Result<PropertyReference, Rejec
     ensures found { IfOk result (λ r. SpellsRequest choice (ReadProperty (reference r)) service.now) }
     ensures refused { IfErr result (λ e. (r : Reference) → SpellsRequest choice (ReadProperty r) service.now → ⊥) }
 {
+    // the other services are not performed here, so their requests are not read
+    if choice != READ_PROPERTY {
+        return Err(Reject::UnrecognizedService);
+    }
     match read_request(choice, service) {
         Ok(AnyRequest::ReadProperty(reference)) => Ok(reference),
         Ok(_) => Err(Reject::UnrecognizedService),

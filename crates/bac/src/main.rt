@@ -3,7 +3,10 @@
 
 mod answer;
 mod house;
+mod laws;
 mod status;
+#[cfg(test)]
+mod tests;
 mod text;
 
 use clap::{Arg, ArgAction, ArgMatches, Command};
@@ -38,6 +41,8 @@ fn run(rt: &HostRuntime, matches: &ArgMatches) -> Status {
 }
 
 fn main(rt: HostRuntime) -> anyhow::Result<ExitCode> {
+    // a law is proved where it is reached
+    laws::one_meaning();
     let alloc = rt.alloc();
     let words: Vec<String> = std::env::args(&rt)?.collect(alloc)?;
     let status = match command(alloc)?.try_get_matches_from(words.as_slice()) {

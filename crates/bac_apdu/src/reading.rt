@@ -153,6 +153,8 @@ fn whole(octets: &[u8]) -> Result<Apdu<'_>, ApduFault>
 pub fn read(octets: &[u8]) -> Result<Apdu<'_>, ApduFault>
     ensures found { IfOk result (λ a. SpellsApdu (apdu_view a) octets.now) }
     ensures refused { IfErr result (λ e. IsNoApdu octets.now) }
+    // The fault is the first from the left.
+    ensures exact { ReadsAll apdu_view result (apdu_at octets.now) }
 {
     whole(octets)
 }

@@ -26,6 +26,8 @@ fn npdu_in(octets: &[u8]) -> Result<&[u8], FrameFault>
 pub fn read_bvll(octets: &[u8]) -> Result<&[u8], FrameFault>
     ensures found { IfOk result (λ n. SpellsBvll n.now octets.now) }
     ensures refused { IfErr result (λ e. (n : List ℕ) → SpellsBvll n octets.now → ⊥) }
+    // The fault is the first from the left.
+    ensures exact { MatchResult result (λ n. bvll_at octets.now ≡ Ok n.now) (λ e. bvll_at octets.now ≡ Err e) }
 {
     npdu_in(octets)
 }

@@ -185,6 +185,8 @@ fn whole(octets: &[u8]) -> Result<Npdu<'_>, FrameFault>
 pub fn read_npdu(octets: &[u8]) -> Result<Npdu<'_>, FrameFault>
     ensures found { IfOk result (λ n. SpellsNpdu (npdu_view n) octets.now) }
     ensures refused { IfErr result (λ e. (n : NpduView) → SpellsNpdu n octets.now → ⊥) }
+    // The fault is the first from the left.
+    ensures exact { MatchResult result (λ n. npdu_at octets.now ≡ Ok (npdu_view n)) (λ e. npdu_at octets.now ≡ Err e) }
 {
     whole(octets)
 }

@@ -2,6 +2,7 @@ ghost use Rattle.std.specs.Prelude.{◌≡◌};
 ghost use Rattle.bac_npdu.specs.Reading.{Reads, octet_at, word_at, cut_at};
 
 use crate::fault::FrameFault;
+use byteorder::{BigEndian, ByteOrder};
 
 /// The first octet, and what is behind it.
 pub(crate) fn octet(octets: &[u8]) -> Result<(u8, &[u8]), FrameFault>
@@ -14,13 +15,12 @@ pub(crate) fn octet(octets: &[u8]) -> Result<(u8, &[u8]), FrameFault>
 }
 
 /// The number of two octets, and what is behind it.
-#[tactic(auto, unfolding(crate::specs::Reading::word_at))]
+#[tactic(auto, unfolding(crate::specs::Reading::word_at, crate::specs::Reading::cut_at))]
 pub(crate) fn word(octets: &[u8]) -> Result<(u16, &[u8]), FrameFault>
     ensures { Reads (λ x. x) (λ r. r.now) octets.now result word_at }
 {
-    let (high, rest) = octet(octets)?;
-    let (low, rest) = octet(rest)?;
-    Ok((u16::from_be_bytes([high, low]), rest))
+    let (number, rest) = cut(octets, 2)?;
+    Ok((BigEndian::read_u16(number), rest))
 }
 
 /// So many octets, and what is behind them.

@@ -1,5 +1,5 @@
 -- One more slot.
-use Rattle.std.proofs.Common.{◌≡◌, ◌∷◌, [], ◌∙◌, ap, sym, subst, List, arith, length, length-append}
+use Rattle.std.proofs.Common.{◌∷◌, [], ◌∙◌, ap, sym, subst, List, arith, length, length-append}
 use Rattle.bac_npdu.specs.declared.slot.Slot.{Slot}
 use Rattle.bac_npdu.specs.Slots.{IsDistinct}
 use Rattle.bac_npdu.proofs.Slots.{IsDistinct-push}

@@ -1,5 +1,5 @@
 -- The slot is taken out.
-use Rattle.std.proofs.Common.{◌≡◌, ◌∙◌, ap, sym, subst, List, arith, Some}
+use Rattle.std.proofs.Common.{◌∙◌, ap, sym, subst, List, arith, Some}
 use Rattle.bac_npdu.specs.declared.slot.Slot.{Slot}
 use Rattle.bac_npdu.specs.Slots.{IsDistinct}
 use Rattle.bac_npdu.proofs.Slots.{without-none, without-IsAt, value_at-IsAt, IsDistinct-without}

@@ -1,5 +1,5 @@
 -- Another value there.
-use Rattle.std.proofs.Common.{◌≡◌, ◌∙◌, ap, sym, subst, List, Some, length-set}
+use Rattle.std.proofs.Common.{◌∙◌, ap, sym, subst, List, Some, length-set}
 use Rattle.bac_npdu.specs.declared.slot.Slot.{Slot}
 use Rattle.bac_npdu.specs.Slots.{IsDistinct}
 use Rattle.bac_npdu.proofs.Slots.{with_value-none, set_is, value_at-IsAt, IsDistinct-with_value}
