@@ -9,9 +9,11 @@ mod status;
 mod tests;
 mod text;
 
+use clap::error::ErrorKind;
 use clap::{Arg, ArgAction, ArgMatches, Command};
 use status::Status;
 use std::alloc::Global;
+use std::io;
 use std::process::ExitCode;
 
 fn command<'a>(alloc: Global) -> Result<Command<'a>, clap::Error> {
@@ -40,17 +42,39 @@ fn run(rt: &HostRuntime, matches: &ArgMatches) -> Status {
     }
 }
 
-fn main(rt: HostRuntime) -> anyhow::Result<ExitCode> {
-    // a law is proved where it is reached
-    laws::one_meaning();
+/// Reads the command line and does what it says. An Err comes for want of memory alone.
+fn start(rt: &HostRuntime) -> anyhow::Result<Status> {
     let alloc = rt.alloc();
-    let words: Vec<String> = std::env::args(&rt)?.collect(alloc)?;
-    let status = match command(alloc)?.try_get_matches_from(words.as_slice()) {
-        Ok(matches) => run(&rt, &matches),
+    let words: Vec<String> = match std::env::args(rt) {
+        Ok(words) => words.collect(alloc)?,
+        Err(error) if error.kind() == io::ErrorKind::OutOfMemory => return Ok(no_memory(rt)),
         Err(error) => {
-            eprint!(rt; "{error}")?;
-            Status::CommandLine
+            let _ = eprintln!(rt; "{error}");
+            return Ok(Status::CommandLine);
         }
     };
-    Ok(ExitCode::from(status.code()))
+    match command(alloc)?.try_get_matches_from(words.as_slice()) {
+        Ok(matches) => Ok(run(rt, &matches)),
+        Err(error) if error.kind() == ErrorKind::OutOfMemory => Ok(no_memory(rt)),
+        Err(error) => {
+            // where even that fails, the status alone tells
+            let _ = eprint!(rt; "{error}");
+            Ok(Status::CommandLine)
+        }
+    }
+}
+
+fn no_memory(rt: &HostRuntime) -> Status {
+    let _ = eprintln!(rt; "no memory");
+    Status::Memory
+}
+
+fn main(rt: HostRuntime) -> ExitCode {
+    // a law is proved where it is reached
+    laws::one_meaning();
+    let status = match start(&rt) {
+        Ok(status) => status,
+        Err(_) => no_memory(&rt),
+    };
+    ExitCode::from(status.code())
 }

@@ -32,20 +32,21 @@ pub fn at_most_once<S>()
         → (let w = run S shop rules events (start S opening) in IsOnce S shop opening w.net.log w.stores) }
 {}
 
-/// In every run, each copy that may arrive was sent since the newest ask of its transaction: no copy of an earlier use of the invoke ID arrives.
+/// In every run, each copy that may arrive was sent no earlier than the newest ask of its transaction was made.
 pub fn only_newest_arrives<S>()
     ensures { (shop : Shop S) (opening : ℕ → S) (W : ℕ) (rules : Rules) → IsBounded W rules → (events : List Event)
         → AreOfNewest rules (run S shop rules events (start S opening)).net }
 {}
 
-/// In every run, in the first pass of a request, acknowledged <= taken <= sent <= acknowledged + W, and no copy that may arrive is misread.
+/// In every run, while a client sends the pieces of a request and its server takes them, acknowledged <= taken <= sent <= acknowledged + W, and
+/// each segment and SegmentACK that may arrive is near enough to be read as it was meant.
 #[tactic(auto, using(crate::proofs::Claimed::requests_in_run))]
 pub fn requests_in_window<S>()
     ensures { (shop : Shop S) (opening : ℕ → S) (W : ℕ) (rules : Rules) → IsBounded W rules → (events : List Event)
         → RequestsAreInWindow W rules (run S shop rules events (start S opening)).net }
 {}
 
-/// The same in the one pass of a reply.
+/// The same in the one pass of a reply, from its first segment on, while the ticket is open.
 #[tactic(auto, using(crate::proofs::Claimed::replies_in_run))]
 pub fn replies_in_window<S>()
     ensures { (shop : Shop S) (opening : ℕ → S) (W : ℕ) (rules : Rules) → IsBounded W rules → (events : List Event)
