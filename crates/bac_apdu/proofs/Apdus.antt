@@ -1,5 +1,6 @@
 -- The two laws of APDUs: what is read is spelled so, and what is spelled so is read.
-use Rattle.std.proofs.Common.{◌≡◌, ℕ, zero, suc, ◌+◌, ◌*◌, ◌/◌, ◌%◌, ◌^◌, ◌<◌, Bool, true, false, cond, ltb, eqb, List, [], ◌∷◌, ◌++◌, Result, Ok, Err, Option, Some, None, refl, sym, ap, subst, ◌∙◌, arith, IsTrue, ◌&&◌, ◌||◌, not}
+use Rattle.std.proofs.Common.{◌≡◌, ℕ, zero, suc, ◌+◌, ◌*◌, ◌/◌, ◌%◌, ◌^◌, ◌<◌, Bool, true, false, cond, ltb, eqb, List, [], ◌∷◌, ◌++◌, Result, Ok, Err}
+use Rattle.std.proofs.Common.{Option, Some, None, refl, sym, ap, subst, ◌∙◌, arith, IsTrue, ◌&&◌, ◌||◌, not}
 use Rattle.std.proofs.lemmas.Bool.{ltb-true, lt-ltb, and_parts, and_from, eqb-true, agree_below_at}
 use Rattle.std.proofs.lemmas.List.{append-nil}
 use Rattle.bac_value.specs.Octets.{IsBytes}
@@ -7,8 +8,10 @@ use Rattle.bac_value.proofs.Steps.{IsBytes-rest}
 use Rattle.bac_apdu.specs.declared.fault.ApduFault.{ApduFault}
 use Rattle.bac_apdu.specs.declared.fault.ApduFault.TheVariants.{ReservedBits, MorWithoutSeg}
 use Rattle.bac_apdu.specs.Apdu.{Segment, Apdu, ConfirmedRequest, UnconfirmedRequest, SimpleAck, ComplexAck, SegmentAck, Error, Reject, Abort}
-use Rattle.bac_apdu.specs.Spelling.{window_fits, codes_fit, segment_fits, apdu_fits, bit, segment_bits, segment_octets, enumerated_spelling, apdu_spelling, SpellsApdu}
-use Rattle.bac_apdu.specs.Reading.{◌>>=◌, octet_at, end_at, has_bit, window_at, segment_at, codes_at, enumerated_at, confirmed_at, unconfirmed_at, simple_ack_at, complex_ack_at, segment_ack_at, error_at, reject_at, abort_at, kind_at, apdu_at}
+use Rattle.bac_apdu.specs.Spelling.{window_fits, codes_fit, segment_fits, apdu_fits, bit, segment_bits, segment_octets, enumerated_spelling, apdu_spelling}
+use Rattle.bac_apdu.specs.Spelling.{SpellsApdu}
+use Rattle.bac_apdu.specs.Reading.{◌>>=◌, octet_at, end_at, has_bit, window_at, segment_at, codes_at, enumerated_at, confirmed_at, unconfirmed_at}
+use Rattle.bac_apdu.specs.Reading.{simple_ack_at, complex_ack_at, segment_ack_at, error_at, reject_at, abort_at, kind_at, apdu_at}
 use Rattle.bac_apdu.proofs.Steps.{bind_ok, unless_ok, where_ok, ok_is, end_ok}
 use Rattle.bac_apdu.proofs.Members.{octet_takes, window_takes, segment_takes, codes_takes, codes_again}
 use Rattle.bac_apdu.proofs.Enumerated.{enumerated_takes, enumerated_again}
@@ -66,12 +69,16 @@ low_bit_is b lt clear =
 abbrev Spelled : ℕ → List ℕ → Apdu → Type 0
 Spelled first rest apdu = SpellsApdu apdu (first ∷ rest)
 
-confirmed_takes : (bits : ℕ) (rest : List ℕ) (a : Apdu) → bits < 16 → eqb (bits % 2) 0 ≡ true → alone bits ≡ false → IsBytes rest → confirmed_at bits rest ≡ Ok a → Spelled bits rest a
+confirmed_takes : (bits : ℕ) (rest : List ℕ) (a : Apdu) → bits < 16 → eqb (bits % 2) 0 ≡ true → alone bits ≡ false → IsBytes rest
+    → confirmed_at bits rest ≡ Ok a → Spelled bits rest a
 unfolding confirmed_at apdu_fits apdu_spelling
 confirmed_takes bits rest a lt clear more fits e =
-    let made : ℕ × ℕ → ℕ → Option Segment → ℕ × List ℕ → Apdu = λ codes invoke segment choice. ConfirmedRequest (has_bit bits 2) codes.0 codes.1 invoke segment choice.0 choice.1 in
-    let after_segment : ℕ × ℕ → ℕ → Option Segment × List ℕ → Result Apdu ApduFault = λ codes invoke segment. octet_at segment.1 >>= λ choice. Ok (made codes invoke segment.0 choice) in
-    let after_invoke : ℕ × ℕ → ℕ × List ℕ → Result Apdu ApduFault = λ codes invoke. segment_at (has_bit bits 8) (has_bit bits 4) invoke.1 >>= after_segment codes invoke.0 in
+    let made : ℕ × ℕ → ℕ → Option Segment → ℕ × List ℕ → Apdu =
+    λ codes invoke segment choice. ConfirmedRequest (has_bit bits 2) codes.0 codes.1 invoke segment choice.0 choice.1 in
+    let after_segment : ℕ × ℕ → ℕ → Option Segment × List ℕ → Result Apdu ApduFault = λ codes invoke segment. octet_at segment.1 >>=
+    λ choice. Ok (made codes invoke segment.0 choice) in
+    let after_invoke : ℕ × ℕ → ℕ × List ℕ → Result Apdu ApduFault = λ codes invoke. segment_at (has_bit bits 8) (has_bit bits 4) invoke.1 >>=
+    after_segment codes invoke.0 in
     let codes = bind_ok (codes_at rest) (λ codes. octet_at codes.1 >>= after_invoke codes.0) a e in
     let tc = codes_takes rest codes.0 fits codes.1 in
     let invoke = bind_ok (octet_at codes.0.1) (after_invoke codes.0.0) a codes.2 in
@@ -80,11 +87,16 @@ confirmed_takes bits rest a lt clear more fits e =
     let ts = segment_takes (has_bit bits 8) (has_bit bits 4) invoke.0.1 segment.0 ti.0.rest_fits segment.1 in
     let choice = bind_ok (octet_at segment.0.1) (λ choice. Ok (made codes.0.0 invoke.0.0 segment.0.0 choice)) a segment.2 in
     let th = octet_takes segment.0.1 choice.0 ts.0.rest_fits choice.1 in
-    let first : bits ≡ segment_bits segment.0.0 + bit (has_bit bits 2) 2 = three_bits_are bits lt clear more ∙ ap (λ (n : ℕ). n + bit (has_bit bits 2) 2) (sym ts.2) in
+    let first : bits ≡ segment_bits segment.0.0 + bit (has_bit bits 2) 2 =
+    three_bits_are bits lt clear more ∙ ap (λ (n : ℕ). n + bit (has_bit bits 2) 2) (sym ts.2) in
     let behind : rest ≡ (16 * codes.0.0.0 + codes.0.0.1) ∷ invoke.0.0 ∷ (segment_octets segment.0.0 ++ choice.0.0 ∷ choice.0.1) =
-    tc.0.parts ∙ ap (λ (x : List ℕ). (16 * codes.0.0.0 + codes.0.0.1) ∷ x) (ti.0.parts ∙ ap (λ (x : List ℕ). invoke.0.0 ∷ x) (ts.0.parts ∙ ap (λ (x : List ℕ). segment_octets segment.0.0 ++ x) th.0.parts)) in
+    tc.0.parts ∙ ap (λ (x : List ℕ). (16 * codes.0.0.0 + codes.0.0.1) ∷ x)
+    (ti.0.parts ∙ ap (λ (x : List ℕ). invoke.0.0 ∷ x) (ts.0.parts ∙ ap (λ (x : List ℕ). segment_octets segment.0.0 ++ x) th.0.parts)) in
     subst (Spelled bits rest) (ok_is (made codes.0.0 invoke.0.0 segment.0.0 choice.0) a choice.2)
-    (record { fits = and_from (codes_fit codes.0.0.0 codes.0.0.1) (segment_fits segment.0.0) tc.1 ts.1; is = ap (λ (n : ℕ). n ∷ rest) first ∙ ap (λ (x : List ℕ). (segment_bits segment.0.0 + bit (has_bit bits 2) 2) ∷ x) behind })
+    (record {
+      fits = and_from (codes_fit codes.0.0.0 codes.0.0.1) (segment_fits segment.0.0) tc.1 ts.1;
+      is = ap (λ (n : ℕ). n ∷ rest) first ∙ ap (λ (x : List ℕ). (segment_bits segment.0.0 + bit (has_bit bits 2) 2) ∷ x) behind;
+    })
 
 unconfirmed_takes : (rest : List ℕ) (a : Apdu) → IsBytes rest → unconfirmed_at rest ≡ Ok a → Spelled 16 rest a
 unfolding unconfirmed_at apdu_fits apdu_spelling
@@ -114,16 +126,20 @@ reject_takes : (rest : List ℕ) (a : Apdu) → IsBytes rest → reject_at rest 
 unfolding reject_at apdu_fits apdu_spelling
 reject_takes = pair_takes 96 Reject (λ x y. record { fits = refl; is = refl })
 
-abort_takes : (bits : ℕ) (rest : List ℕ) (a : Apdu) → bits < 16 → eqb (bits / 2) 0 ≡ true → IsBytes rest → abort_at bits rest ≡ Ok a → Spelled (112 + bits) rest a
+abort_takes : (bits : ℕ) (rest : List ℕ) (a : Apdu) → bits < 16 → eqb (bits / 2) 0 ≡ true → IsBytes rest → abort_at bits rest ≡ Ok a
+    → Spelled (112 + bits) rest a
 unfolding abort_at apdu_fits apdu_spelling
 abort_takes bits rest a lt clear =
-    pair_takes (112 + bits) (Abort (has_bit bits 1)) (λ x y. record { fits = refl; is = ap (λ (n : ℕ). (112 + n) ∷ x ∷ y ∷ []) (low_bit_is bits lt clear) }) rest a
+    pair_takes (112 + bits) (Abort (has_bit bits 1))
+    (λ x y. record { fits = refl; is = ap (λ (n : ℕ). (112 + n) ∷ x ∷ y ∷ []) (low_bit_is bits lt clear) }) rest a
 
-complex_ack_takes : (bits : ℕ) (rest : List ℕ) (a : Apdu) → bits < 16 → eqb (bits % 4) 0 ≡ true → alone bits ≡ false → IsBytes rest → complex_ack_at bits rest ≡ Ok a → Spelled (48 + bits) rest a
+complex_ack_takes : (bits : ℕ) (rest : List ℕ) (a : Apdu) → bits < 16 → eqb (bits % 4) 0 ≡ true → alone bits ≡ false → IsBytes rest
+    → complex_ack_at bits rest ≡ Ok a → Spelled (48 + bits) rest a
 unfolding complex_ack_at apdu_fits apdu_spelling
 complex_ack_takes bits rest a lt clear more fits e =
     let made : ℕ → Option Segment → ℕ × List ℕ → Apdu = λ invoke segment choice. ComplexAck invoke segment choice.0 choice.1 in
-    let after_segment : ℕ → Option Segment × List ℕ → Result Apdu ApduFault = λ invoke segment. octet_at segment.1 >>= λ choice. Ok (made invoke segment.0 choice) in
+    let after_segment : ℕ → Option Segment × List ℕ → Result Apdu ApduFault = λ invoke segment. octet_at segment.1 >>=
+    λ choice. Ok (made invoke segment.0 choice) in
     let invoke = bind_ok (octet_at rest) (λ invoke. segment_at (has_bit bits 8) (has_bit bits 4) invoke.1 >>= after_segment invoke.0) a e in
     let ti = octet_takes rest invoke.0 fits invoke.1 in
     let segment = bind_ok (segment_at (has_bit bits 8) (has_bit bits 4) invoke.0.1) (after_segment invoke.0.0) a invoke.2 in
@@ -136,11 +152,13 @@ complex_ack_takes bits rest a lt clear more fits e =
     subst (Spelled (48 + bits) rest) (ok_is (made invoke.0.0 segment.0.0 choice.0) a choice.2)
     (record { fits = ts.1; is = ap (λ (n : ℕ). n ∷ rest) first ∙ ap (λ (x : List ℕ). (48 + segment_bits segment.0.0) ∷ x) behind })
 
-segment_ack_takes : (bits : ℕ) (rest : List ℕ) (a : Apdu) → bits < 16 → eqb (bits / 4) 0 ≡ true → IsBytes rest → segment_ack_at bits rest ≡ Ok a → Spelled (64 + bits) rest a
+segment_ack_takes : (bits : ℕ) (rest : List ℕ) (a : Apdu) → bits < 16 → eqb (bits / 4) 0 ≡ true → IsBytes rest → segment_ack_at bits rest ≡ Ok a
+    → Spelled (64 + bits) rest a
 unfolding segment_ack_at apdu_fits apdu_spelling
 segment_ack_takes bits rest a lt clear fits e =
     let made : ℕ → ℕ → ℕ → Apdu = SegmentAck (has_bit bits 2) (has_bit bits 1) in
-    let after_number : ℕ → ℕ × List ℕ → Result Apdu ApduFault = λ invoke number. window_at number.1 >>= λ window. end_at window.1 (made invoke number.0 window.0) in
+    let after_number : ℕ → ℕ × List ℕ → Result Apdu ApduFault = λ invoke number. window_at number.1 >>=
+    λ window. end_at window.1 (made invoke number.0 window.0) in
     let invoke = bind_ok (octet_at rest) (λ invoke. octet_at invoke.1 >>= after_number invoke.0) a e in
     let ti = octet_takes rest invoke.0 fits invoke.1 in
     let number = bind_ok (octet_at invoke.0.1) (after_number invoke.0.0) a invoke.2 in
@@ -150,14 +168,16 @@ segment_ack_takes bits rest a lt clear fits e =
     let done = end_ok window.0.1 (made invoke.0.0 number.0.0 window.0.0) a window.2 in
     let first : 64 + bits ≡ 64 + bit (has_bit bits 2) 2 + bit (has_bit bits 1) 1 = omega (arith, low_bits_are bits lt clear) in
     let behind : rest ≡ invoke.0.0 ∷ number.0.0 ∷ window.0.0 ∷ [] =
-    ti.0.parts ∙ ap (λ (x : List ℕ). invoke.0.0 ∷ x) (tn.0.parts ∙ ap (λ (x : List ℕ). number.0.0 ∷ x) (tw.0.parts ∙ ap (λ (x : List ℕ). window.0.0 ∷ x) done.0)) in
+    ti.0.parts ∙ ap (λ (x : List ℕ). invoke.0.0 ∷ x)
+    (tn.0.parts ∙ ap (λ (x : List ℕ). number.0.0 ∷ x) (tw.0.parts ∙ ap (λ (x : List ℕ). window.0.0 ∷ x) done.0)) in
     subst (Spelled (64 + bits) rest) done.1
     (record { fits = tw.1; is = ap (λ (n : ℕ). n ∷ rest) first ∙ ap (λ (x : List ℕ). (64 + bit (has_bit bits 2) 2 + bit (has_bit bits 1) 1) ∷ x) behind })
 
 error_takes : (rest : List ℕ) (a : Apdu) → IsBytes rest → error_at rest ≡ Ok a → Spelled 80 rest a
 unfolding error_at apdu_fits apdu_spelling
 error_takes rest a fits e =
-    let after_class : ℕ → ℕ → ℕ × List ℕ → Result Apdu ApduFault = λ invoke choice class. enumerated_at class.1 >>= λ code. end_at code.1 (Error invoke choice class.0 code.0) in
+    let after_class : ℕ → ℕ → ℕ × List ℕ → Result Apdu ApduFault = λ invoke choice class. enumerated_at class.1 >>=
+    λ code. end_at code.1 (Error invoke choice class.0 code.0) in
     let after_choice : ℕ → ℕ × List ℕ → Result Apdu ApduFault = λ invoke choice. enumerated_at choice.1 >>= after_class invoke choice.0 in
     let invoke = bind_ok (octet_at rest) (λ invoke. octet_at invoke.1 >>= after_choice invoke.0) a e in
     let ti = octet_takes rest invoke.0 fits invoke.1 in
@@ -169,11 +189,15 @@ error_takes rest a fits e =
     let td = enumerated_takes class.0.1 code.0 tl.0.rest_fits code.1 in
     let done = end_ok code.0.1 (Error invoke.0.0 choice.0.0 class.0.0 code.0.0) a code.2 in
     let both : choice.0.1 ≡ enumerated_spelling class.0.0 ++ enumerated_spelling code.0.0 =
-    tl.0.parts ∙ ap (λ (x : List ℕ). enumerated_spelling class.0.0 ++ x) (td.0.parts ∙ ap (λ (x : List ℕ). enumerated_spelling code.0.0 ++ x) done.0 ∙ append-nil (enumerated_spelling code.0.0)) in
+    tl.0.parts ∙ ap (λ (x : List ℕ). enumerated_spelling class.0.0 ++ x)
+    (td.0.parts ∙ ap (λ (x : List ℕ). enumerated_spelling code.0.0 ++ x) done.0 ∙ append-nil (enumerated_spelling code.0.0)) in
     let behind : rest ≡ invoke.0.0 ∷ choice.0.0 ∷ (enumerated_spelling class.0.0 ++ enumerated_spelling code.0.0) =
     ti.0.parts ∙ ap (λ (x : List ℕ). invoke.0.0 ∷ x) (th.0.parts ∙ ap (λ (x : List ℕ). choice.0.0 ∷ x) both) in
     subst (Spelled 80 rest) done.1
-    (record { fits = and_from (ltb class.0.0 (2 ^ 32)) (ltb code.0.0 (2 ^ 32)) (lt-ltb class.0.0 (2 ^ 32) tl.1) (lt-ltb code.0.0 (2 ^ 32) td.1); is = ap (λ (x : List ℕ). 80 ∷ x) behind })
+    (record {
+      fits = and_from (ltb class.0.0 (2 ^ 32)) (ltb code.0.0 (2 ^ 32)) (lt-ltb class.0.0 (2 ^ 32) tl.1) (lt-ltb code.0.0 (2 ^ 32) td.1);
+      is = ap (λ (x : List ℕ). 80 ∷ x) behind;
+    })
 
 -- where the bits that the kind does not name are zero
 clear_ok : (bits : ℕ) (read : Result Apdu ApduFault) (a : Apdu) → cond (eqb bits 0) read (Err ReservedBits) ≡ Ok a → (bits ≡ 0) × (read ≡ Ok a)
@@ -224,13 +248,15 @@ apdu_takes (first ∷ rest) a fits e =
 abbrev segment : Bool → ℕ → ℕ → Segment
 segment more number window = record { more = more; number = number; window = window }
 
-whole_request : (sa : Bool) (a b invoke choice : ℕ) (service : List ℕ) → IsTrue (codes_fit a b) → apdu_at (apdu_spelling (ConfirmedRequest sa a b invoke None choice service)) ≡ Ok (ConfirmedRequest sa a b invoke None choice service)
+whole_request : (sa : Bool) (a b invoke choice : ℕ) (service : List ℕ) → IsTrue (codes_fit a b)
+    → apdu_at (apdu_spelling (ConfirmedRequest sa a b invoke None choice service)) ≡ Ok (ConfirmedRequest sa a b invoke None choice service)
 unfolding apdu_at kind_at confirmed_at segment_at apdu_spelling
 whole_request true a b invoke choice service fits = rw (codes_again a b (invoke ∷ choice ∷ service) fits) refl
 whole_request false a b invoke choice service fits = rw (codes_again a b (invoke ∷ choice ∷ service) fits) refl
 
 request_segment : (sa more : Bool) (a b invoke number window choice : ℕ) (service : List ℕ) → IsTrue (codes_fit a b) → IsTrue (window_fits window)
-    → apdu_at (apdu_spelling (ConfirmedRequest sa a b invoke (Some (segment more number window)) choice service)) ≡ Ok (ConfirmedRequest sa a b invoke (Some (segment more number window)) choice service)
+    → apdu_at (apdu_spelling (ConfirmedRequest sa a b invoke (Some (segment more number window)) choice service))
+    ≡ Ok (ConfirmedRequest sa a b invoke (Some (segment more number window)) choice service)
 unfolding apdu_at kind_at confirmed_at segment_at window_at apdu_spelling
 request_segment true true a b invoke number window choice service fits one = rw (codes_again a b (invoke ∷ number ∷ window ∷ choice ∷ service) fits, one) refl
 request_segment true false a b invoke number window choice service fits one = rw (codes_again a b (invoke ∷ number ∷ window ∷ choice ∷ service) fits, one) refl
@@ -238,12 +264,14 @@ request_segment false true a b invoke number window choice service fits one = rw
 request_segment false false a b invoke number window choice service fits one = rw (codes_again a b (invoke ∷ number ∷ window ∷ choice ∷ service) fits, one) refl
 
 answer_segment : (more : Bool) (invoke number window choice : ℕ) (service : List ℕ) → IsTrue (window_fits window)
-    → apdu_at (apdu_spelling (ComplexAck invoke (Some (segment more number window)) choice service)) ≡ Ok (ComplexAck invoke (Some (segment more number window)) choice service)
+    → apdu_at (apdu_spelling (ComplexAck invoke (Some (segment more number window)) choice service))
+    ≡ Ok (ComplexAck invoke (Some (segment more number window)) choice service)
 unfolding apdu_at kind_at complex_ack_at segment_at window_at apdu_spelling
 answer_segment true invoke number window choice service fits = rw fits refl
 answer_segment false invoke number window choice service fits = rw fits refl
 
-ack_again : (nak server : Bool) (invoke number window : ℕ) → IsTrue (window_fits window) → apdu_at (apdu_spelling (SegmentAck nak server invoke number window)) ≡ Ok (SegmentAck nak server invoke number window)
+ack_again : (nak server : Bool) (invoke number window : ℕ) → IsTrue (window_fits window)
+    → apdu_at (apdu_spelling (SegmentAck nak server invoke number window)) ≡ Ok (SegmentAck nak server invoke number window)
 unfolding apdu_at kind_at segment_ack_at window_at apdu_spelling
 ack_again true true invoke number window fits = rw fits refl
 ack_again true false invoke number window fits = rw fits refl
@@ -253,7 +281,8 @@ ack_again false false invoke number window fits = rw fits refl
 last_number : (n : ℕ) → n < 2 ^ 32 → enumerated_at (enumerated_spelling n) ≡ Ok (n, [])
 last_number n lt = ap enumerated_at (sym (append-nil (enumerated_spelling n))) ∙ enumerated_again n [] lt
 
-error_again : (invoke choice class code : ℕ) → class < 2 ^ 32 → code < 2 ^ 32 → apdu_at (apdu_spelling (Error invoke choice class code)) ≡ Ok (Error invoke choice class code)
+error_again : (invoke choice class code : ℕ) → class < 2 ^ 32 → code < 2 ^ 32
+    → apdu_at (apdu_spelling (Error invoke choice class code)) ≡ Ok (Error invoke choice class code)
 unfolding apdu_at kind_at error_at apdu_spelling
 error_again invoke choice class code lc ld = rw (enumerated_again class (enumerated_spelling code) lc, last_number code ld) refl
 

@@ -1,5 +1,6 @@
 -- The two laws of an application Enumerated.
-use Rattle.std.proofs.Common.{◌≡◌, ℕ, zero, suc, ◌+◌, ◌*◌, ◌/◌, ◌%◌, ◌^◌, ◌<◌, ◌≤◌, true, cond, ltb, List, [], ◌∷◌, ◌++◌, length, get_or, Ok, Err, refl, sym, ap, subst, ◌∙◌, arith, inl, inr}
+use Rattle.std.proofs.Common.{◌≡◌, ℕ, zero, suc, ◌+◌, ◌*◌, ◌/◌, ◌%◌, ◌^◌, ◌<◌, ◌≤◌, true, cond, ltb, List, [], ◌∷◌, ◌++◌, length, get_or, Ok, Err, refl, sym}
+use Rattle.std.proofs.Common.{ap, subst, ◌∙◌, arith, inl, inr}
 use Rattle.std.specs.Int.{w16, w32, from_be_bytes, to_be_bytes}
 use Rattle.std.proofs.lemmas.Nat.{be_bytes_4}
 use Rattle.std.proofs.lemmas.Bool.{cases_lt, le-ltb, lt-ltb, eqb-true}
@@ -10,7 +11,8 @@ use Rattle.bac_value.specs.declared.tag.Form.TheVariants.{Length, Boolean, Openi
 use Rattle.bac_value.specs.Octets.{IsBytes}
 use Rattle.bac_value.specs.Number.{number_in}
 use Rattle.bac_value.specs.Spelling.{Mark, tag_spelling, SpellsTag}
-use Rattle.bac_value.specs.Value.{IsNumber, SpellsValue, null, boolean, unsigned, signed, real, double, octets, characters, bits, enumerated, date, time, object}
+use Rattle.bac_value.specs.Value.{IsNumber, SpellsValue, null, boolean, unsigned, signed, real, double, octets, characters, bits, enumerated, date, time}
+use Rattle.bac_value.specs.Value.{object}
 use Rattle.bac_value.specs.Element.{IsOfKind}
 use Rattle.bac_value.specs.Reading.{tag_at, kind_at, number_at, element_at}
 use Rattle.bac_value.proofs.Steps.{Takes, Takes-then}
@@ -106,9 +108,11 @@ number_is n lt =
             (shorter n (to_be_bytes w16 n) (two_octets _ _ (omega arith) (omega arith)) (omega arith) (omega arith) (omega arith) (λ h. omega arith))
         | inr b ↦ elim (cases_lt n 16777216) [
           | inl c ↦ rw (le-ltb n 256 a, le-ltb n 65536 b, lt-ltb n 16777216 c)
-              (shorter n (n / 65536 ∷ to_be_bytes w16 (n % 65536)) (three_octets _ _ _ (omega arith) (omega arith) (omega arith)) (omega arith) (omega arith) (omega arith) (λ h. omega arith))
+              (shorter n (n / 65536 ∷ to_be_bytes w16 (n % 65536)) (three_octets _ _ _ (omega arith) (omega arith) (omega arith)) (omega arith)
+              (omega arith) (omega arith) (λ h. omega arith))
           | inr c ↦ rw (le-ltb n 256 a, le-ltb n 65536 b, le-ltb n 16777216 c)
-              (shorter n (to_be_bytes w32 n) (four_octets _ _ _ _ (omega arith) (omega arith) (omega arith) (omega arith)) (omega arith) (omega arith) (omega arith) (λ h. omega arith))
+              (shorter n (to_be_bytes w32 n) (four_octets _ _ _ _ (omega arith) (omega arith) (omega arith) (omega arith)) (omega arith) (omega arith)
+              (omega arith) (λ h. omega arith))
         ]
       ]
     ]
@@ -130,7 +134,8 @@ enumerated_again n rest lt =
     let k = length xs in
     let tag : SpellsTag (tag_of k) (tag_spelling (tag_of k)) = record { fits = refl; length_in = omega (arith, h.few); is = refl } in
     let read_tag : tag_at ((144 + k) ∷ (xs ++ rest)) ≡ Ok (tag_of k, xs ++ rest) =
-    subst (λ (t : List ℕ). tag_at (t ++ (xs ++ rest)) ≡ Ok (tag_of k, xs ++ rest)) (few_bits k h.spelled.some h.few) (tag_again (tag_of k) (tag_spelling (tag_of k)) (xs ++ rest) tag) in
+    subst (λ (t : List ℕ). tag_at (t ++ (xs ++ rest)) ≡ Ok (tag_of k, xs ++ rest)) (few_bits k h.spelled.some h.few)
+    (tag_again (tag_of k) (tag_spelling (tag_of k)) (xs ++ rest) tag) in
     let read_number : kind_at 9 k (xs ++ rest) ≡ Ok (xs, rest) = right_again 9 k xs rest refl (kind_again (enumerated n) xs h) in
     rw (tag_octet n) (rw (read_tag, read_number, h.spelled.sum) refl)
 
@@ -161,7 +166,8 @@ no_value : (bytes : List ℕ) (x : ℕ × List ℕ) → no_enumerated bytes ≡ 
 unfolding no_enumerated
 no_value bytes x e = let one = bind_ok (from_value (element_at bytes)) (λ element. Err BadError) x e in let no = one.2 in cc
 
-behind_takes : (n : ℕ) (c : Class) (f : Form) (rest bytes : List ℕ) (x : ℕ × List ℕ) → Takes bytes (tag_spelling (record { number = n; class = c; form = f })) rest
+behind_takes : (n : ℕ) (c : Class) (f : Form) (rest bytes : List ℕ) (x : ℕ × List ℕ)
+    → Takes bytes (tag_spelling (record { number = n; class = c; form = f })) rest
     → behind_tag (record { number = n; class = c; form = f }) f rest bytes ≡ Ok x → IsEnumerated bytes x
 unfolding behind_tag number_at IsEnumerated
 behind_takes n c (Length k) rest bytes x took e =
@@ -175,9 +181,11 @@ behind_takes n c (Length k) rest bytes x took e =
           let mark : ℕ → Class → Mark = λ m d. record { number = m; class = d; form = Length k } in
           let tag : tag_spelling (mark n c) ≡ (144 + length xs) ∷ [] =
           ap (λ (m : ℕ). tag_spelling (mark m c)) is.1 ∙ ap (λ (d : Class). tag_spelling (mark 9 d)) is.0
-          ∙ few_bits k (omega (arith, front.raw.len, number.spelled.some)) (omega (arith, front.raw.len, number.few)) ∙ ap (λ (m : ℕ). (144 + m) ∷ []) (sym front.raw.len) in
+          ∙ few_bits k (omega (arith, front.raw.len, number.spelled.some)) (omega (arith, front.raw.len, number.few))
+          ∙ ap (λ (m : ℕ). (144 + m) ∷ []) (sym front.raw.len) in
           let both = Takes-then bytes (tag_spelling (mark n c)) rest xs contents.0.1 took front.raw.took in
-          let octets-are : tag_spelling (mark n c) ++ xs ≡ enumerated_spelling (number_in xs) = ap (λ (t : List ℕ). t ++ xs) tag ∙ sym (spelled_number (number_in xs) xs number) in
+          let octets-are : tag_spelling (mark n c) ++ xs ≡ enumerated_spelling (number_in xs) =
+          ap (λ (t : List ℕ). t ++ xs) tag ∙ sym (spelled_number (number_in xs) xs number) in
           subst (IsEnumerated bytes) (value.ok_is (number_in xs, contents.0.1) x contents.2)
           (subst (λ (t : List ℕ). Takes bytes t contents.0.1) octets-are both, few_octets xs 4 (number_in xs) number.few (number_in-lt xs front.raw.fits))
       | inr h ↦ absurd (no_value bytes x h.1)
@@ -186,7 +194,8 @@ behind_takes n c (Boolean b) rest bytes x took e = absurd (no_value bytes x e)
 behind_takes n c Opening rest bytes x took e = absurd (no_value bytes x e)
 behind_takes n c Closing rest bytes x took e = absurd (no_value bytes x e)
 
-pub enumerated_takes : (bytes : List ℕ) (x : ℕ × List ℕ) → IsBytes bytes → enumerated_at bytes ≡ Ok x → Takes bytes (enumerated_spelling x.0) x.1 × (x.0 < 2 ^ 32)
+pub enumerated_takes : (bytes : List ℕ) (x : ℕ × List ℕ) → IsBytes bytes → enumerated_at bytes ≡ Ok x → Takes bytes (enumerated_spelling x.0) x.1
+    × (x.0 < 2 ^ 32)
 unfolding enumerated_at IsEnumerated
 enumerated_takes bytes x fits e =
     let tag = bind_ok (from_value (tag_at bytes)) (λ t. behind_tag t.0 t.0.form t.1 bytes) x e in
@@ -197,4 +206,9 @@ enumerated_takes bytes x fits e =
 pub enumerated_value : (n : ℕ) → n < 2 ^ 32 → SpellsValue (enumerated n) (enumerated_spelling n)
 enumerated_value n lt =
     let h = number_is n lt in
-    record { contents = number_octets n; are = h; fits = omega (arith, h.few); is = tag_octet n ∙ ap (λ (t : List ℕ). t ++ number_octets n) (sym (few_bits (length (number_octets n)) h.spelled.some h.few)) }
+    record {
+      contents = number_octets n;
+      are = h;
+      fits = omega (arith, h.few);
+      is = tag_octet n ∙ ap (λ (t : List ℕ). t ++ number_octets n) (sym (few_bits (length (number_octets n)) h.spelled.some h.few));
+    }

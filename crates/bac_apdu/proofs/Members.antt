@@ -1,5 +1,6 @@
 -- The two laws of each member of an APDU: what is read is spelled so, and what is spelled so is read.
-use Rattle.std.proofs.Common.{◌≡◌, ℕ, ◌+◌, ◌*◌, ◌/◌, ◌%◌, ◌<◌, Bool, true, false, cond, ltb, List, [], ◌∷◌, ◌++◌, Result, Ok, Err, Option, Some, None, refl, ap, subst, ◌∙◌, arith, IsTrue}
+use Rattle.std.proofs.Common.{◌≡◌, ℕ, ◌+◌, ◌*◌, ◌/◌, ◌%◌, ◌<◌, Bool, true, false, cond, ltb, List, [], ◌∷◌, ◌++◌, Result, Ok, Err, Option, Some, None, refl}
+use Rattle.std.proofs.Common.{ap, subst, ◌∙◌, arith, IsTrue}
 use Rattle.std.specs.Prelude.{is_some}
 use Rattle.std.proofs.lemmas.Bool.{ltb-true, lt-ltb, and_parts, and_from}
 use Rattle.bac_value.specs.Octets.{IsBytes}
@@ -14,7 +15,8 @@ use Rattle.bac_apdu.proofs.Steps.{bind_ok, where_ok, ok_is}
 pub octet_takes : (bytes : List ℕ) (x : ℕ × List ℕ) → IsBytes bytes → octet_at bytes ≡ Ok x → Takes bytes (x.0 ∷ []) x.1 × (x.0 < 256)
 octet_takes [] x fits e = absurd cc
 octet_takes (b ∷ rest) x fits e =
-    subst (λ (y : ℕ × List ℕ). Takes (b ∷ rest) (y.0 ∷ []) y.1 × (y.0 < 256)) (ok_is (b, rest) x e) (record { parts = refl; rest_fits = IsBytes-rest b rest fits }, fits 0)
+    subst (λ (y : ℕ × List ℕ). Takes (b ∷ rest) (y.0 ∷ []) y.1 × (y.0 < 256)) (ok_is (b, rest) x e)
+    (record { parts = refl; rest_fits = IsBytes-rest b rest fits }, fits 0)
 
 -- ---- windows and segments
 
@@ -50,7 +52,8 @@ segment_takes true more bytes x fits e =
     let both = Takes-then bytes (number.0.0 ∷ []) number.0.1 (window.0.0 ∷ []) window.0.1 tn.0 tw.0 in
     subst (IsSegment true more bytes) (ok_is (Some (segment more number.0.0 window.0.0), window.0.1) x window.2) (both, tw.1, refl)
 
-pub segment_again : (s : Option Segment) (rest : List ℕ) → IsTrue (segment_fits s) → segment_at (is_some s) (more_of s) (segment_octets s ++ rest) ≡ Ok (s, rest)
+pub segment_again : (s : Option Segment) (rest : List ℕ) → IsTrue (segment_fits s)
+    → segment_at (is_some s) (more_of s) (segment_octets s ++ rest) ≡ Ok (s, rest)
 unfolding segment_at window_at
 segment_again None rest fits = refl
 segment_again (Some s) rest fits = rw fits refl
@@ -60,7 +63,8 @@ segment_again (Some s) rest fits = rw fits refl
 abbrev CodesRead : List ℕ → (ℕ × ℕ) × List ℕ → Type 0
 CodesRead bytes x = Takes bytes ((16 * x.0.0 + x.0.1) ∷ []) x.1 × IsTrue (codes_fit x.0.0 x.0.1)
 
-pub codes_takes : (bytes : List ℕ) (x : (ℕ × ℕ) × List ℕ) → IsBytes bytes → codes_at bytes ≡ Ok x → Takes bytes ((16 * x.0.0 + x.0.1) ∷ []) x.1 × IsTrue (codes_fit x.0.0 x.0.1)
+pub codes_takes : (bytes : List ℕ) (x : (ℕ × ℕ) × List ℕ) → IsBytes bytes → codes_at bytes ≡ Ok x → Takes bytes ((16 * x.0.0 + x.0.1) ∷ []) x.1
+    × IsTrue (codes_fit x.0.0 x.0.1)
 unfolding codes_at
 codes_takes bytes x fits e =
     let split : ℕ × List ℕ → Result ((ℕ × ℕ) × List ℕ) ApduFault = λ c. cond (ltb (c.0 % 16) 6) (Ok ((c.0 / 16, c.0 % 16), c.1)) (Err ReservedCode) in

@@ -35,10 +35,12 @@ end_ok [] a b e = (refl, ok_is a b e)
 end_ok (x ∷ rest) a b e = absurd cc
 
 -- one side of what a call answered
-pub ok_by : {X Y : Type 0} (view : X → Y) (r : Result X ApduFault) (read : Result Y ApduFault) (R : X → Type 0) → ReadsAll view r read → ((x : X) → read ≡ Ok (view x) → R x) → IfOk r R
+pub ok_by : {X Y : Type 0} (view : X → Y) (r : Result X ApduFault) (read : Result Y ApduFault) (R : X → Type 0) → ReadsAll view r read
+    → ((x : X) → read ≡ Ok (view x) → R x) → IfOk r R
 ok_by view (Ok x) read R h f = f x h
 ok_by view (Err e) read R h f = tt
 
-pub err_by : {X Y : Type 0} (view : X → Y) (r : Result X ApduFault) (read : Result Y ApduFault) (R : ApduFault → Type 0) → ReadsAll view r read → ((e : ApduFault) → read ≡ Err e → R e) → IfErr r R
+pub err_by : {X Y : Type 0} (view : X → Y) (r : Result X ApduFault) (read : Result Y ApduFault) (R : ApduFault → Type 0) → ReadsAll view r read
+    → ((e : ApduFault) → read ≡ Err e → R e) → IfErr r R
 err_by view (Ok x) read R h f = tt
 err_by view (Err e) read R h f = f e h

@@ -1,4 +1,7 @@
-/// Why octets are no APDU. `fault as u8` is the number by which it is printed.
+ghost use Rattle.std.specs.Prelude.{◌≡◌};
+ghost use Rattle.bac_apdu.specs.Faults.{fault_number};
+
+/// Why octets are no APDU. `number` is the number by which it is printed.
 #[derive(Clone, Copy, Debug, PartialEq, Eq)]
 pub enum ApduFault {
     /// The octets end too early.
@@ -17,4 +20,13 @@ pub enum ApduFault {
     MorWithoutSeg = 7,
     /// The class or the code of an Error is whole, and no application Enumerated.
     BadError = 8,
+}
+
+impl ApduFault {
+    /// The number of the fault, 1 to 8 (own numbers of this profile).
+    pub fn number(self) -> u8
+        ensures { result ≡ fault_number self }
+    {
+        self as u8
+    }
 }

@@ -1,7 +1,8 @@
 ghost use Rattle.std.specs.Prelude.{◌≡◌, ℕ, List, IfOk, IfErr, Bool, ◌&&◌, not, ◌<◌, ◌%◌, ◌/◌};
 ghost use Rattle.bac_apdu.specs.Spelling.{SpellsApdu, IsNoApdu};
 ghost use Rattle.bac_apdu.specs.Views.{apdu_view};
-ghost use Rattle.bac_apdu.specs.Reading.{ReadsAll, confirmed_at, unconfirmed_at, simple_ack_at, complex_ack_at, segment_ack_at, reject_at, error_at, abort_at, has_bit, reserved_of, kind_at, apdu_at};
+ghost use Rattle.bac_apdu.specs.Reading.{ReadsAll, confirmed_at, unconfirmed_at, simple_ack_at, complex_ack_at, segment_ack_at, reject_at, error_at};
+ghost use Rattle.bac_apdu.specs.Reading.{abort_at, has_bit, reserved_of, kind_at, apdu_at};
 
 use crate::apdu::Apdu;
 use crate::error_reading::error;

@@ -70,9 +70,11 @@ fn append_request(
     service: &[u8],
     out: &mut Vec<u8>,
 ) -> Result<(), NoMemory>
-    ensures ok { OnOk result (out.new.items ≡ out.old.items ++ (first ∷ codes ∷ invoke ∷ (segment_octets (option_map segment_view segment) ++ choice ∷ service.now))) }
+    ensures ok { OnOk result (out.new.items ≡ out.old.items ++
+        (first ∷ codes ∷ invoke ∷ (segment_octets (option_map segment_view segment) ++ choice ∷ service.now))) }
     ensures err { OnErr result (out.new.items ≡ out.old.items) }
-    ensures full { OnErr result (vec_capacity out.old < vec_len out.old + length (first ∷ codes ∷ invoke ∷ (segment_octets (option_map segment_view segment) ++ choice ∷ service.now))) }
+    ensures full { OnErr result (vec_capacity out.old < vec_len out.old + length
+        (first ∷ codes ∷ invoke ∷ (segment_octets (option_map segment_view segment) ++ choice ∷ service.now))) }
 {
     match segment {
         None => append(&[first, codes, invoke, choice], service, out),
@@ -100,7 +102,8 @@ fn append_answer(
 ) -> Result<(), NoMemory>
     ensures ok { OnOk result (out.new.items ≡ out.old.items ++ (first ∷ invoke ∷ (segment_octets (option_map segment_view segment) ++ choice ∷ service.now))) }
     ensures err { OnErr result (out.new.items ≡ out.old.items) }
-    ensures full { OnErr result (vec_capacity out.old < vec_len out.old + length (first ∷ invoke ∷ (segment_octets (option_map segment_view segment) ++ choice ∷ service.now))) }
+    ensures full { OnErr result (vec_capacity out.old < vec_len out.old + length
+        (first ∷ invoke ∷ (segment_octets (option_map segment_view segment) ++ choice ∷ service.now))) }
 {
     match segment {
         None => append(&[first, invoke, choice], service, out),

@@ -1,5 +1,6 @@
 -- What datagrams mean.
-use Rattle.std.proofs.Common.{◌≡◌, ℕ, ◌+◌, ◌<◌, ◌≤◌, Bool, List, [], ◌∷◌, length, Option, Some, None, refl, sym, ap, subst, ◌∙◌, arith, IsTrue, Ordering, Less, Equal, Greater}
+use Rattle.std.proofs.Common.{◌≡◌, ℕ, ◌+◌, ◌<◌, ◌≤◌, Bool, List, [], ◌∷◌, length, Option, Some, None, refl, sym, ap, subst, ◌∙◌, arith, IsTrue, Ordering}
+use Rattle.std.proofs.Common.{Less, Equal, Greater}
 use Rattle.std.specs.Ordering.{nat_cmp, ordering_then}
 use Rattle.std.specs.Option.{option_cmp}
 use Rattle.std.specs.Cmp.Lexicographic.{slice_cmp}
@@ -46,11 +47,13 @@ cause_none octets NetworkMessage cause link p a c =
 abbrev peer_at : List ℕ → Option RouteView → PeerView
 peer_at link route = record { link = link; route = route }
 
-towards_fits : (route : Option RouteView) → IsTrue (all_of route_fits route) → IsTrue (all_of (λ d. destination_fits d.network (length d.address)) (towards route))
+towards_fits : (route : Option RouteView) → IsTrue (all_of route_fits route)
+    → IsTrue (all_of (λ d. destination_fits d.network (length d.address)) (towards route))
 towards_fits None fits = refl
 towards_fits (Some r) fits = grind (arith, nat_tests, fits)
 
-frame_len : (link : List ℕ) (route : Option RouteView) (expecting : Bool) (apdu : List ℕ) → IsTrue (all_of route_fits route) → length (npdu_spelling (npdu_to (peer_at link route) expecting apdu)) ≤ length apdu + 14
+frame_len : (link : List ℕ) (route : Option RouteView) (expecting : Bool) (apdu : List ℕ) → IsTrue (all_of route_fits route)
+    → length (npdu_spelling (npdu_to (peer_at link route) expecting apdu)) ≤ length apdu + 14
 unfolding npdu_spelling members_spelling
 frame_len link None expecting apdu fits = omega arith
 frame_len link (Some r) expecting apdu fits =
@@ -66,7 +69,8 @@ frame_is link route expecting apdu fits short = record {
   spelled = record { fits = record { destination = towards_fits route fits; source = refl; message = refl; priority = omega arith }; is = refl };
 }
 
-pub arrives : (from to : List ℕ) (expecting : Bool) (apdu : List ℕ) → length apdu ≤ 1476 → Carries from (frame (peer_at to None) expecting apdu) (peer_at from None) apdu
+pub arrives : (from to : List ℕ) (expecting : Bool) (apdu : List ℕ) → length apdu ≤ 1476
+    → Carries from (frame (peer_at to None) expecting apdu) (peer_at from None) apdu
 arrives from to expecting apdu short = record {
   npdu = npdu_to (peer_at to None) expecting apdu;
   frame_of = frame_is to None expecting apdu refl short;
@@ -76,10 +80,12 @@ arrives from to expecting apdu short = record {
   carried = refl;
 }
 
-pub routed_on : (from to : List ℕ) (route : RouteView) (expecting : Bool) (apdu : List ℕ) (p : PeerView) (a : List ℕ) → IsTrue (route_fits route) → length apdu ≤ 1476
+pub routed_on : (from to : List ℕ) (route : RouteView) (expecting : Bool) (apdu : List ℕ) (p : PeerView) (a : List ℕ) → IsTrue (route_fits route)
+    → length apdu ≤ 1476
     → Carries from (frame (peer_at to (Some route)) expecting apdu) p a → ⊥
 routed_on from to route expecting apdu p a fits short c =
-    let same = frame_one (npdu_to (peer_at to (Some route)) expecting apdu) c.npdu (frame (peer_at to (Some route)) expecting apdu) (frame_is to (Some route) expecting apdu fits short) c.frame_of in
+    let same = frame_one (npdu_to (peer_at to (Some route)) expecting apdu) c.npdu (frame (peer_at to (Some route)) expecting apdu)
+    (frame_is to (Some route) expecting apdu fits short) c.frame_of in
     let there : DestinationView = record { network = route.network; address = route.address; hops = 255 } in
     let some : Option DestinationView = Some there in
     let none : some ≡ None = ap (λ (n : NpduView). n.destination) same ∙ c.stays in

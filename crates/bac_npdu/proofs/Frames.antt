@@ -1,5 +1,6 @@
 -- The two laws of NPDU and BVLL: what is read is spelled so, and what is spelled so is read.
-use Rattle.std.proofs.Common.{◌≡◌, ℕ, ◌+◌, ◌*◌, ◌/◌, ◌%◌, ◌<◌, Bool, true, false, cond, ltb, eqb, List, [], ◌∷◌, ◌++◌, length, Result, Ok, Err, Option, Some, None, refl, sym, ap, subst, ◌∙◌, arith, IsTrue, ◌||◌}
+use Rattle.std.proofs.Common.{◌≡◌, ℕ, ◌+◌, ◌*◌, ◌/◌, ◌%◌, ◌<◌, Bool, true, false, cond, ltb, eqb, List, [], ◌∷◌, ◌++◌, length, Result, Ok, Err, Option, Some}
+use Rattle.std.proofs.Common.{None, refl, sym, ap, subst, ◌∙◌, arith, IsTrue, ◌||◌}
 use Rattle.std.specs.Prelude.{is_some}
 use Rattle.std.specs.Option.{option_map}
 use Rattle.std.specs.Int.{w16, from_be_bytes, to_be_bytes}
@@ -8,10 +9,12 @@ use Rattle.std.proofs.lemmas.Nat.{be_bytes_2, from_be_bytes-to_be_bytes_2}
 use Rattle.bac_npdu.specs.declared.fault.FrameFault.{FrameFault}
 use Rattle.bac_npdu.specs.declared.fault.FrameFault.TheVariants.{Truncated, Version, ReservedBits, BadLength, NotUnicast}
 use Rattle.bac_npdu.specs.Peers.{RouteView, route_fits}
-use Rattle.bac_npdu.specs.Npdu.{DestinationView, MessageView, NpduView, optional, all_of, bit, control_octet, address_spelling, message_spelling, destination_fits, message_fits, members_spelling, npdu_spelling, SpellsNpdu, bvll_spelling, SpellsBvll}
+use Rattle.bac_npdu.specs.Npdu.{DestinationView, MessageView, NpduView, optional, all_of, bit, control_octet, address_spelling, message_spelling}
+use Rattle.bac_npdu.specs.Npdu.{destination_fits, message_fits, members_spelling, npdu_spelling, SpellsNpdu, bvll_spelling, SpellsBvll}
 use Rattle.bac_npdu.specs.Reading.{◌>>=◌, IsBytes, place_at, optional_at, hops_at, message_at, has_bit, members_at, control_at, npdu_at, bvll_at}
 use Rattle.bac_npdu.proofs.Steps.{IsBytes-rest, IsBytes-take, bind_ok, unless_ok, where_ok, ok_is}
-use Rattle.bac_npdu.proofs.Members.{place_takes_destination, place_takes_source, destination_again, source_again, optional_takes, optional_again, place_of, hops_takes, hops_again, message_takes, message_again}
+use Rattle.bac_npdu.proofs.Members.{place_takes_destination, place_takes_source, destination_again, source_again, optional_takes, optional_again, place_of}
+use Rattle.bac_npdu.proofs.Members.{hops_takes, hops_again, message_takes, message_again}
 
 -- ---- the control octet
 
@@ -19,7 +22,8 @@ use Rattle.bac_npdu.proofs.Members.{place_takes_destination, place_takes_source,
 is_sum : ℕ → Bool
 is_sum c = (has_bit c 64 || has_bit c 16) || eqb c (bit (has_bit c 128) 128 + bit (has_bit c 32) 32 + bit (has_bit c 8) 8 + bit (has_bit c 4) 4 + c % 4)
 
-sum_is : (c : ℕ) → c < 256 → (has_bit c 64 || has_bit c 16) ≡ false → c ≡ bit (has_bit c 128) 128 + bit (has_bit c 32) 32 + bit (has_bit c 8) 8 + bit (has_bit c 4) 4 + c % 4
+sum_is : (c : ℕ) → c < 256 → (has_bit c 64 || has_bit c 16) ≡ false
+    → c ≡ bit (has_bit c 128) 128 + bit (has_bit c 32) 32 + bit (has_bit c 8) 8 + bit (has_bit c 4) 4 + c % 4
 unfolding is_sum
 sum_is c lt clear =
     let all : is_sum c ≡ true = agree_below_at is_sum (λ (n : ℕ). true) 256 c refl lt in
@@ -90,14 +94,23 @@ abbrev destination_in : RouteView → Bool
 destination_in r = destination_fits r.network (length r.address)
 
 abbrev npdu : ℕ → Option DestinationView → Option RouteView → Option MessageView → List ℕ → NpduView
-npdu control to from message contents = record { destination = to; source = from; expecting = has_bit control 4; priority = control % 4; message = message; contents = contents }
+npdu control to from message contents = record {
+  destination = to;
+  source = from;
+  expecting = has_bit control 4;
+  priority = control % 4;
+  message = message;
+  contents = contents;
+}
 
 -- a destination is a place with a hop count
-same_octets : (o : Option DestinationView) → optional (λ (r : RouteView). address_spelling r.network r.address) (option_map place_of o) ≡ optional (λ (d : DestinationView). address_spelling d.network d.address) o
+same_octets : (o : Option DestinationView) → optional (λ (r : RouteView). address_spelling r.network r.address) (option_map place_of o)
+    ≡ optional (λ (d : DestinationView). address_spelling d.network d.address) o
 same_octets None = refl
 same_octets (Some d) = refl
 
-same_limits : (o : Option DestinationView) → all_of (λ (r : RouteView). destination_fits r.network (length r.address)) (option_map place_of o) ≡ all_of (λ (d : DestinationView). destination_fits d.network (length d.address)) o
+same_limits : (o : Option DestinationView) → all_of (λ (r : RouteView). destination_fits r.network (length r.address)) (option_map place_of o)
+    ≡ all_of (λ (d : DestinationView). destination_fits d.network (length d.address)) o
 same_limits None = refl
 same_limits (Some d) = refl
 
@@ -123,10 +136,13 @@ members_takes control bytes n fits e =
     let t-from = optional_takes (place_at true) address_of route_fits place_takes_source (has_bit control 8) to.0.1 from.0 t-to.0.rest_fits from.1 in
     let hops = bind_ok (hops_at to.0.0 from.0.1) (after_hops control from.0.0) n from.2 in
     let t-hops = hops_takes to.0.0 from.0.1 hops.0 t-from.0.rest_fits hops.1 in
-    let message = bind_ok (optional_at message_at (has_bit control 128) hops.0.1) (λ message. Ok (npdu control hops.0.0 from.0.0 message.0 message.1)) n hops.2 in
-    let t-message = optional_takes message_at message_spelling (λ (m : MessageView). message_fits m.kind m.vendor) message_takes (has_bit control 128) hops.0.1 message.0 t-hops.0.rest_fits message.1 in
+    let message = bind_ok (optional_at message_at (has_bit control 128) hops.0.1) (λ message. Ok (npdu control hops.0.0 from.0.0 message.0 message.1)) n
+    hops.2 in
+    let t-message = optional_takes message_at message_spelling (λ (m : MessageView). message_fits m.kind m.vendor) message_takes (has_bit control 128)
+    hops.0.1 message.0 t-hops.0.rest_fits message.1 in
     let place-is = t-hops.1 in
-    let octets-are : optional address_of to.0.0 ≡ optional (λ (d : DestinationView). address_spelling d.network d.address) hops.0.0 = ap (optional address_of) place-is ∙ same_octets hops.0.0 in
+    let octets-are : optional address_of to.0.0 ≡ optional (λ (d : DestinationView). address_spelling d.network d.address) hops.0.0 =
+    ap (optional address_of) place-is ∙ same_octets hops.0.0 in
     let joined : bytes ≡ members_spelling (npdu control hops.0.0 from.0.0 message.0.0 message.0.1) =
     t-to.0.parts ∙ ap (λ (x : List ℕ). x ++ to.0.1) octets-are
     ∙ ap (λ (x : List ℕ). optional (λ (d : DestinationView). address_spelling d.network d.address) hops.0.0 ++ x)
@@ -145,7 +161,8 @@ members_takes control bytes n fits e =
       priority = refl;
     }
 
-control_takes : (control : ℕ) (bytes : List ℕ) (n : NpduView) → control < 256 → (has_bit control 64 || has_bit control 16) ≡ false → IsMembers control bytes n → SpellsNpdu n (1 ∷ control ∷ bytes)
+control_takes : (control : ℕ) (bytes : List ℕ) (n : NpduView) → control < 256 → (has_bit control 64 || has_bit control 16) ≡ false
+    → IsMembers control bytes n → SpellsNpdu n (1 ∷ control ∷ bytes)
 unfolding npdu_spelling
 control_takes control bytes n lt clear m =
     let octet : control ≡ control_octet n =
@@ -178,12 +195,16 @@ npdu_again n bytes s =
     let tail-message = optional message_spelling n.message ++ n.contents in
     let tail-hops = optional (λ (d : DestinationView). d.hops ∷ []) n.destination ++ tail-message in
     let tail-source = optional address_of n.source ++ tail-hops in
-    let to = optional_again (place_at false) address_of destination_in destination_again (option_map place_of n.destination) tail-source (same_limits n.destination ∙ s.fits.destination) in
-    let to-is : optional_at (place_at false) (is_some n.destination) (optional (λ (d : DestinationView). address_spelling d.network d.address) n.destination ++ tail-source) ≡ Ok (option_map place_of n.destination, tail-source) =
+    let to = optional_again (place_at false) address_of destination_in destination_again (option_map place_of n.destination) tail-source
+    (same_limits n.destination ∙ s.fits.destination) in
+    let to-is : optional_at (place_at false) (is_some n.destination)
+    (optional (λ (d : DestinationView). address_spelling d.network d.address) n.destination ++ tail-source)
+    ≡ Ok (option_map place_of n.destination, tail-source) =
     rw (same_presence n.destination, same_octets n.destination) at to in
     let from = optional_again (place_at true) address_of route_fits source_again n.source tail-hops s.fits.source in
     let hops = hops_again n.destination tail-message in
-    let message = optional_again message_at message_spelling (λ (m : MessageView). message_fits m.kind m.vendor) message_again n.message n.contents s.fits.message in
+    let message = optional_again message_at message_spelling (λ (m : MessageView). message_fits m.kind m.vendor) message_again n.message n.contents
+    s.fits.message in
     ap npdu_at s.is ∙ rw (b.clear, b.bit_5, to-is, b.bit_3, from, hops, b.bit_7, message, b.bit_2, b.low) refl
 
 -- ---- BVLL

@@ -1,5 +1,6 @@
 -- The two laws of each member of an NPDU: what is read is spelled so, and what is spelled so is read.
-use Rattle.std.proofs.Common.{◌≡◌, ℕ, ◌<◌, ◌^◌, Bool, true, false, cond, ltb, List, [], ◌∷◌, ◌++◌, length, take, drop, Result, Ok, Err, Option, Some, None, refl, sym, ap, subst, ◌∙◌, append_assoc, arith, inl, inr, IsTrue}
+use Rattle.std.proofs.Common.{◌≡◌, ℕ, ◌<◌, ◌^◌, Bool, true, false, cond, ltb, List, [], ◌∷◌, ◌++◌, length, take, drop, Result, Ok, Err, Option, Some, None}
+use Rattle.std.proofs.Common.{refl, sym, ap, subst, ◌∙◌, append_assoc, arith, inl, inr, IsTrue}
 use Rattle.std.specs.Prelude.{is_some}
 use Rattle.std.specs.Option.{option_map}
 use Rattle.std.specs.Int.{w16, from_be_bytes, to_be_bytes}
@@ -19,7 +20,8 @@ use Rattle.bac_npdu.proofs.Steps.{IsBytes-drop, IsBytes-take, IsBytes-rest, bind
 pub octet_takes : (bytes : List ℕ) (x : ℕ × List ℕ) → IsBytes bytes → octet_at bytes ≡ Ok x → Takes bytes (x.0 ∷ []) x.1 × (x.0 < 256)
 octet_takes [] x fits e = absurd cc
 octet_takes (b ∷ rest) x fits e =
-    subst (λ (y : ℕ × List ℕ). Takes (b ∷ rest) (y.0 ∷ []) y.1 × (y.0 < 256)) (ok_is (b, rest) x e) (record { parts = refl; rest_fits = IsBytes-rest b rest fits }, fits 0)
+    subst (λ (y : ℕ × List ℕ). Takes (b ∷ rest) (y.0 ∷ []) y.1 × (y.0 < 256)) (ok_is (b, rest) x e)
+    (record { parts = refl; rest_fits = IsBytes-rest b rest fits }, fits 0)
 
 pub word_takes : (bytes : List ℕ) (x : ℕ × List ℕ) → IsBytes bytes → word_at bytes ≡ Ok x → Takes bytes (to_be_bytes w16 x.0) x.1 × (x.0 < 2 ^ 16)
 unfolding word_at
@@ -28,12 +30,17 @@ word_takes bytes x fits e =
     let g = unless_ok (ltb (length bytes) 2) Truncated (Ok (n, drop 2 bytes)) x e in
     let front-fits = IsBytes-take 2 bytes fits in
     let front : to_be_bytes w16 n ≡ take 2 bytes = be_bytes_2 (take 2 bytes) _ (length-take-le 2 bytes (ltb-false _ _ g.0)) front-fits refl in
-    subst (λ (y : ℕ × List ℕ). Takes bytes (to_be_bytes w16 y.0) y.1 × (y.0 < 2 ^ 16)) (ok_is (n, drop 2 bytes) x g.1)
-    (record { parts = sym (take-append-drop 2 bytes) ∙ ap (λ (t : List ℕ). t ++ drop 2 bytes) (sym front); rest_fits = IsBytes-drop 2 bytes fits }, omega (arith, front-fits 0, front-fits 1))
+    subst (λ (y : ℕ × List ℕ). Takes bytes (to_be_bytes w16 y.0) y.1 × (y.0 < 2 ^ 16)) (ok_is (n, drop 2 bytes) x g.1) (
+      record { parts = sym (take-append-drop 2 bytes) ∙ ap (λ (t : List ℕ). t ++ drop 2 bytes) (sym front); rest_fits = IsBytes-drop 2 bytes fits },
+      omega (arith, front-fits 0, front-fits 1),
+    )
 
 pub word_again : (n : ℕ) (rest : List ℕ) → n < 2 ^ 16 → word_at (to_be_bytes w16 n ++ rest) ≡ Ok (n, rest)
 unfolding word_at
-word_again n rest lt = rw (le-ltb (length (to_be_bytes w16 n ++ rest)) 2 (omega (arith, length-append (to_be_bytes w16 n) rest)), from_be_bytes-to_be_bytes_2 n lt) refl
+word_again n rest lt = rw (
+  le-ltb (length (to_be_bytes w16 n ++ rest)) 2 (omega (arith, length-append (to_be_bytes w16 n) rest)),
+  from_be_bytes-to_be_bytes_2 n lt,
+) refl
 
 pub cut_takes : (count : ℕ) (bytes : List ℕ) (x : List ℕ × List ℕ) → IsBytes bytes → cut_at count bytes ≡ Ok x → Takes bytes x.0 x.1 × (length x.0 ≡ count)
 unfolding cut_at
@@ -44,7 +51,11 @@ cut_takes count bytes x fits e =
 
 pub cut_again : (xs rest : List ℕ) → cut_at (length xs) (xs ++ rest) ≡ Ok (xs, rest)
 unfolding cut_at
-cut_again xs rest = rw (le-ltb (length (xs ++ rest)) (length xs) (omega (arith, length-append xs rest)), take_at xs rest (length xs) refl, drop_at xs rest (length xs) refl) refl
+cut_again xs rest = rw (
+  le-ltb (length (xs ++ rest)) (length xs) (omega (arith, length-append xs rest)),
+  take_at xs rest (length xs) refl,
+  drop_at xs rest (length xs) refl,
+) refl
 
 -- ---- a network's number and an address
 
@@ -52,9 +63,11 @@ abbrev place : ℕ → List ℕ → RouteView
 place network address = record { network = network; address = address }
 
 IsAddress : Bool → ℕ → List ℕ → RouteView × List ℕ → Type 0
-IsAddress is_source network bytes x = Takes bytes (length x.0.address ∷ x.0.address) x.1 × (x.0.network ≡ network) × IsTrue (count_in is_source network (length x.0.address))
+IsAddress is_source network bytes x = Takes bytes (length x.0.address ∷ x.0.address) x.1 × (x.0.network ≡ network)
+    × IsTrue (count_in is_source network (length x.0.address))
 
-address_takes : (is_source : Bool) (network : ℕ) (bytes : List ℕ) (x : RouteView × List ℕ) → IsBytes bytes → address_at is_source network bytes ≡ Ok x → IsAddress is_source network bytes x
+address_takes : (is_source : Bool) (network : ℕ) (bytes : List ℕ) (x : RouteView × List ℕ) → IsBytes bytes → address_at is_source network bytes ≡ Ok x
+    → IsAddress is_source network bytes x
 unfolding address_at IsAddress
 address_takes is_source network bytes x fits e =
     let rest : ℕ × List ℕ → Result (RouteView × List ℕ) FrameFault = λ count. cut_at count.0 count.1 >>= λ address. Ok (place network address.0, address.1) in
@@ -68,7 +81,8 @@ address_takes is_source network bytes x fits e =
 
 IsPlace : Bool → List ℕ → RouteView × List ℕ → Type 0
 IsPlace is_source bytes x =
-    Takes bytes (address_spelling x.0.network x.0.address) x.1 × IsTrue (network_in is_source x.0.network) × IsTrue (count_in is_source x.0.network (length x.0.address)) × (x.0.network < 2 ^ 16)
+    Takes bytes (address_spelling x.0.network x.0.address) x.1 × IsTrue (network_in is_source x.0.network)
+    × IsTrue (count_in is_source x.0.network (length x.0.address)) × (x.0.network < 2 ^ 16)
 
 place_takes : (is_source : Bool) (bytes : List ℕ) (x : RouteView × List ℕ) → IsBytes bytes → place_at is_source bytes ≡ Ok x → IsPlace is_source bytes x
 unfolding place_at IsAddress IsPlace
@@ -80,27 +94,38 @@ place_takes is_source bytes x fits e =
     let both = Takes-then bytes (to_be_bytes w16 network.0.0) network.0.1 (length x.0.address ∷ x.0.address) x.1 tn.0 ta.0 in
     rw ta.1 (both, g.0, ta.2, tn.1)
 
-place_again : (is_source : Bool) (network : ℕ) (address rest : List ℕ) → network < 2 ^ 16 → IsTrue (network_in is_source network) → IsTrue (count_in is_source network (length address)) → place_at is_source (address_spelling network address ++ rest) ≡ Ok (place network address, rest)
+place_again : (is_source : Bool) (network : ℕ) (address rest : List ℕ) → network < 2 ^ 16 → IsTrue (network_in is_source network)
+    → IsTrue (count_in is_source network (length address)) → place_at is_source (address_spelling network address ++ rest) ≡ Ok (place network address, rest)
 unfolding place_at address_at
 place_again is_source network address rest lt network-in count-in =
-    rw (append_assoc (to_be_bytes w16 network) (length address ∷ address) rest, word_again network (length address ∷ (address ++ rest)) lt, network-in, count-in, cut_again address rest) refl
+    rw (
+      append_assoc (to_be_bytes w16 network) (length address ∷ address) rest,
+      word_again network (length address ∷ (address ++ rest)) lt,
+      network-in,
+      count-in,
+      cut_again address rest,
+    ) refl
 
 -- the limits of a place are those of a destination or a route
-pub destination_in : (r : RouteView) → IsTrue (network_in false r.network) → IsTrue (count_in false r.network (length r.address)) → r.network < 2 ^ 16 → IsTrue (destination_fits r.network (length r.address))
+pub destination_in : (r : RouteView) → IsTrue (network_in false r.network) → IsTrue (count_in false r.network (length r.address)) → r.network < 2 ^ 16
+    → IsTrue (destination_fits r.network (length r.address))
 destination_in r n c lt = grind (arith, nat_tests, n, c, lt)
 
 pub route_in : (r : RouteView) → IsTrue (network_in true r.network) → IsTrue (count_in true r.network (length r.address)) → IsTrue (route_fits r)
 route_in r n c = grind (arith, nat_tests, n, c)
 
-pub place_takes_destination : (bytes : List ℕ) (x : RouteView × List ℕ) → IsBytes bytes → place_at false bytes ≡ Ok x → Takes bytes (address_spelling x.0.network x.0.address) x.1 × IsTrue (destination_fits x.0.network (length x.0.address))
+pub place_takes_destination : (bytes : List ℕ) (x : RouteView × List ℕ) → IsBytes bytes → place_at false bytes ≡ Ok x
+    → Takes bytes (address_spelling x.0.network x.0.address) x.1 × IsTrue (destination_fits x.0.network (length x.0.address))
 unfolding IsPlace
 place_takes_destination bytes x fits e = let t = place_takes false bytes x fits e in (t.0, destination_in x.0 t.1 t.2 t.3)
 
-pub place_takes_source : (bytes : List ℕ) (x : RouteView × List ℕ) → IsBytes bytes → place_at true bytes ≡ Ok x → Takes bytes (address_spelling x.0.network x.0.address) x.1 × IsTrue (route_fits x.0)
+pub place_takes_source : (bytes : List ℕ) (x : RouteView × List ℕ) → IsBytes bytes → place_at true bytes ≡ Ok x
+    → Takes bytes (address_spelling x.0.network x.0.address) x.1 × IsTrue (route_fits x.0)
 unfolding IsPlace
 place_takes_source bytes x fits e = let t = place_takes true bytes x fits e in (t.0, route_in x.0 t.1 t.2)
 
-pub destination_again : (r : RouteView) (rest : List ℕ) → IsTrue (destination_fits r.network (length r.address)) → place_at false (address_spelling r.network r.address ++ rest) ≡ Ok (r, rest)
+pub destination_again : (r : RouteView) (rest : List ℕ) → IsTrue (destination_fits r.network (length r.address))
+    → place_at false (address_spelling r.network r.address ++ rest) ≡ Ok (r, rest)
 destination_again r rest fits =
     place_again false r.network r.address rest (grind (arith, nat_tests, fits)) (grind (arith, nat_tests, fits)) (grind (arith, nat_tests, fits))
 
@@ -120,7 +145,8 @@ optional_takes {A = A} read spelling test law false bytes x fits e =
 optional_takes {A = A} read spelling test law true bytes x fits e =
     let one = bind_ok (read bytes) (λ y. Ok (Some y.0, y.1)) x e in
     let t = law bytes one.0 fits one.1 in
-    subst (λ (y : Option A × List ℕ). Takes bytes (optional spelling y.0) y.1 × (is_some y.0 ≡ true) × IsTrue (all_of test y.0)) (ok_is (Some one.0.0, one.0.1) x one.2)
+    subst (λ (y : Option A × List ℕ). Takes bytes (optional spelling y.0) y.1 × (is_some y.0 ≡ true) × IsTrue (all_of test y.0))
+    (ok_is (Some one.0.0, one.0.1) x one.2)
     (t.0, refl, t.1)
 
 pub optional_again : {A : Type 0} (read : List ℕ → Result (A × List ℕ) FrameFault) (spelling : A → List ℕ) (test : A → Bool)
@@ -148,10 +174,12 @@ hops_takes None bytes x fits e =
 hops_takes (Some r) bytes x fits e =
     let one = bind_ok (octet_at bytes) (λ hops. Ok (Some (destination r hops.0), hops.1)) x e in
     let t = octet_takes bytes one.0 fits one.1 in
-    subst (λ (y : Option DestinationView × List ℕ). Takes bytes (optional hops_of y.0) y.1 × (Some r ≡ option_map place_of y.0)) (ok_is (Some (destination r one.0.0), one.0.1) x one.2)
+    subst (λ (y : Option DestinationView × List ℕ). Takes bytes (optional hops_of y.0) y.1 × (Some r ≡ option_map place_of y.0))
+    (ok_is (Some (destination r one.0.0), one.0.1) x one.2)
     (t.0, refl)
 
-pub hops_again : (o : Option DestinationView) (rest : List ℕ) → hops_at (option_map place_of o) (optional (λ (d : DestinationView). d.hops ∷ []) o ++ rest) ≡ Ok (o, rest)
+pub hops_again : (o : Option DestinationView) (rest : List ℕ) → hops_at (option_map place_of o) (optional (λ (d : DestinationView). d.hops ∷ []) o ++ rest)
+    ≡ Ok (o, rest)
 hops_again None rest = refl
 hops_again (Some d) rest = refl
 
@@ -166,10 +194,12 @@ message_in m = message_fits m.kind m.vendor
 IsMessage : List ℕ → MessageView × List ℕ → Type 0
 IsMessage bytes x = Takes bytes (message_spelling x.0) x.1 × IsTrue (message_in x.0)
 
-pub message_takes : (bytes : List ℕ) (x : MessageView × List ℕ) → IsBytes bytes → message_at bytes ≡ Ok x → Takes bytes (message_spelling x.0) x.1 × IsTrue (message_fits x.0.kind x.0.vendor)
+pub message_takes : (bytes : List ℕ) (x : MessageView × List ℕ) → IsBytes bytes → message_at bytes ≡ Ok x → Takes bytes (message_spelling x.0) x.1
+    × IsTrue (message_fits x.0.kind x.0.vendor)
 unfolding message_at IsMessage
 message_takes bytes x fits e =
-    let with_vendor : ℕ × List ℕ → Result (MessageView × List ℕ) FrameFault = λ kind. word_at kind.1 >>= λ vendor. Ok (message kind.0 (Some vendor.0), vendor.1) in
+    let with_vendor : ℕ × List ℕ → Result (MessageView × List ℕ) FrameFault = λ kind. word_at kind.1 >>=
+    λ vendor. Ok (message kind.0 (Some vendor.0), vendor.1) in
     let kind = bind_ok (octet_at bytes) (λ kind. cond (ltb kind.0 128) (Ok (message kind.0 None, kind.1)) (with_vendor kind)) x e in
     let tk = octet_takes bytes kind.0 fits kind.1 in
     elim (chosen (ltb kind.0.0 128) (Ok (message kind.0.0 None, kind.0.1)) (with_vendor kind.0) (Ok x) kind.2) [
@@ -182,7 +212,8 @@ message_takes bytes x fits e =
           (both, and_from (ltb 127 kind.0.0) (ltb vendor.0.0 65536) (lt-ltb 127 kind.0.0 (omega (arith, ltb-false _ _ c.0))) (lt-ltb vendor.0.0 65536 tv.1))
     ]
 
-message_again_by : (kind : ℕ) (vendor : Option ℕ) (rest : List ℕ) → IsTrue (message_fits kind vendor) → message_at (message_spelling (message kind vendor) ++ rest) ≡ Ok (message kind vendor, rest)
+message_again_by : (kind : ℕ) (vendor : Option ℕ) (rest : List ℕ) → IsTrue (message_fits kind vendor)
+    → message_at (message_spelling (message kind vendor) ++ rest) ≡ Ok (message kind vendor, rest)
 unfolding message_at
 message_again_by kind None rest fits = rw fits refl
 message_again_by kind (Some vendor) rest fits =

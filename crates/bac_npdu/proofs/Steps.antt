@@ -1,6 +1,7 @@
 -- What a chain of readings on lists took.
 use Rattle.std.specs.Prelude.{MatchResult, IfOk, IfErr}
-use Rattle.std.proofs.Common.{◌≡◌, ℕ, suc, ◌+◌, Bool, true, false, cond, List, ◌∷◌, ◌++◌, take, drop, Result, Ok, Err, refl, sym, ap, ◌∙◌, append_assoc, arith, inl, inr, ◌⊎◌}
+use Rattle.std.proofs.Common.{◌≡◌, ℕ, suc, ◌+◌, Bool, true, false, cond, List, ◌∷◌, ◌++◌, take, drop, Result, Ok, Err, refl, sym, ap, ◌∙◌, append_assoc}
+use Rattle.std.proofs.Common.{arith, inl, inr, ◌⊎◌}
 use Rattle.std.proofs.lemmas.Bool.{cases_lt}
 use Rattle.std.proofs.lemmas.List.{length-take, get_or-drop, get_or-take, get_or_past}
 use Rattle.bac_npdu.specs.declared.fault.FrameFault.{FrameFault}
@@ -57,6 +58,7 @@ pub ok_by : {A : Type 0} (r : Result A FrameFault) (P R : A → Type 0) (Q : Fra
 ok_by (Ok x) P R Q h f = f x h
 ok_by (Err e) P R Q h f = tt
 
-pub err_by : {A : Type 0} (r : Result A FrameFault) (P : A → Type 0) (Q R : FrameFault → Type 0) → MatchResult r P Q → ((e : FrameFault) → Q e → R e) → IfErr r R
+pub err_by : {A : Type 0} (r : Result A FrameFault) (P : A → Type 0) (Q R : FrameFault → Type 0) → MatchResult r P Q → ((e : FrameFault) → Q e → R e)
+    → IfErr r R
 err_by (Ok x) P Q R h f = tt
 err_by (Err e) P Q R h f = f e h

@@ -18,12 +18,14 @@ peer_at link route = record { link = link; route = route }
 abbrev head : PeerView → Bool → List ℕ
 head p e = npdu_spelling (npdu_to p e [])
 
-head_then : (link : List ℕ) (route : Option RouteView) (e : Bool) (apdu : List ℕ) → npdu_spelling (npdu_to (peer_at link route) e apdu) ≡ npdu_spelling (npdu_to (peer_at link route) e []) ++ apdu
+head_then : (link : List ℕ) (route : Option RouteView) (e : Bool) (apdu : List ℕ)
+    → npdu_spelling (npdu_to (peer_at link route) e apdu) ≡ npdu_spelling (npdu_to (peer_at link route) e []) ++ apdu
 unfolding npdu_spelling members_spelling
 head_then link None e apdu = refl
 head_then link (Some r) e apdu = simp append_assoc
 
-head_length : (link : List ℕ) (route : Option RouteView) (e : Bool) → length (npdu_spelling (npdu_to (peer_at link route) e [])) ≡ length (npdu_spelling (npdu_to (peer_at link route) true []))
+head_length : (link : List ℕ) (route : Option RouteView) (e : Bool)
+    → length (npdu_spelling (npdu_to (peer_at link route) e [])) ≡ length (npdu_spelling (npdu_to (peer_at link route) true []))
 unfolding npdu_spelling members_spelling
 head_length link None e = refl
 head_length link (Some r) e = refl
@@ -35,7 +37,9 @@ pub frame_length : (p : PeerView) (e : Bool) (apdu : List ℕ) → length (frame
 unfolding frame bvll_spelling
 frame_length p e apdu = rw (head_then p.link p.route e apdu) (omega (arith, length-append (npdu_spelling (npdu_to p e [])) apdu, same_head p e))
 
-pub frame_parts : (p : PeerView) (e : Bool) (apdu : List ℕ) → frame p e apdu ≡ 0x81 ∷ 0x0A ∷ (to_be_bytes w16 (4 + length (npdu_spelling (npdu_to p true [])) + length apdu) ++ (npdu_spelling (npdu_to p e []) ++ apdu))
+pub frame_parts : (p : PeerView) (e : Bool) (apdu : List ℕ)
+    → frame p e apdu ≡ 0x81 ∷ 0x0A ∷ (to_be_bytes w16 (4 + length (npdu_spelling (npdu_to p true [])) + length apdu) ++
+    (npdu_spelling (npdu_to p e []) ++ apdu))
 unfolding frame bvll_spelling
 frame_parts p e apdu =
     let len : length (npdu_spelling (npdu_to p e apdu)) + 4 ≡ 4 + length (npdu_spelling (npdu_to p true [])) + length apdu =
@@ -43,8 +47,10 @@ frame_parts p e apdu =
     rw (len, head_then p.link p.route e apdu) refl
 
 -- written one behind the other, they are the frame
-pub written : (p : PeerView) (e : Bool) (apdu old first second third all bytes : List ℕ) (n : ℕ) → n ≡ length (npdu_spelling (npdu_to p true [])) → bytes ≡ to_be_bytes w16 (4 + n + length apdu)
-    → first ≡ old ++ 0x81 ∷ 0x0A ∷ [] → second ≡ first ++ bytes → third ≡ second ++ npdu_spelling (npdu_to p e []) → all ≡ third ++ apdu → all ≡ old ++ frame p e apdu
+pub written : (p : PeerView) (e : Bool) (apdu old first second third all bytes : List ℕ) (n : ℕ) → n ≡ length (npdu_spelling (npdu_to p true []))
+    → bytes ≡ to_be_bytes w16 (4 + n + length apdu)
+    → first ≡ old ++ 0x81 ∷ 0x0A ∷ [] → second ≡ first ++ bytes → third ≡ second ++ npdu_spelling (npdu_to p e []) → all ≡ third ++ apdu
+    → all ≡ old ++ frame p e apdu
 written p e apdu old first second third all bytes n is-n is-bytes one two three four =
     let octets : bytes ≡ to_be_bytes w16 (4 + length (npdu_spelling (npdu_to p true [])) + length apdu) = rw is-n at is-bytes in
     let joined : all ≡ (((old ++ 0x81 ∷ 0x0A ∷ []) ++ bytes) ++ npdu_spelling (npdu_to p e [])) ++ apdu = rw (four, three, two, one) refl in

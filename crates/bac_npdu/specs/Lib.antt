@@ -6,3 +6,4 @@ pub mod Views
 pub mod Reading
 pub mod Causes
 pub mod Slots
+pub mod Faults

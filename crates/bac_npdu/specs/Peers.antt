@@ -32,4 +32,5 @@ pub route_cmp_total : IsTotalOrder route_cmp
 route_cmp_total = then_total (on_total (λ (r : RouteView). r.network) nat_cmp_total) (on_total (λ (r : RouteView). r.address) (lists_total nat_cmp_total))
 
 pub peer_cmp_total : IsTotalOrder peer_cmp
-peer_cmp_total = then_total (on_total (λ (p : PeerView). p.link) (lists_total nat_cmp_total)) (on_total (λ (p : PeerView). p.route) (options_total route_cmp_total))
+peer_cmp_total = then_total (on_total (λ (p : PeerView). p.link) (lists_total nat_cmp_total))
+    (on_total (λ (p : PeerView). p.route) (options_total route_cmp_total))

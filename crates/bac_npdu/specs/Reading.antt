@@ -1,5 +1,6 @@
 -- Reading from left to right, on lists alone.
-use Rattle.std.specs.Prelude.{◌≡◌, ℕ, ◌/◌, ◌%◌, ◌<◌, slice_index, List, [], ◌∷◌, length, take, drop, Result, Ok, Err, Option, Some, None, Bool, true, false, nat_lt, ◌==◌, ◌&&◌, ◌||◌, if◌then◌else◌}
+use Rattle.std.specs.Prelude.{◌≡◌, ℕ, ◌/◌, ◌%◌, ◌<◌, slice_index, List, [], ◌∷◌, length, take, drop, Result, Ok, Err, Option, Some, None, Bool, true, false}
+use Rattle.std.specs.Prelude.{nat_lt, ◌==◌, ◌&&◌, ◌||◌, if◌then◌else◌}
 use Rattle.std.specs.Int.{w16, from_be_bytes}
 use Rattle.bac_npdu.specs.declared.fault.FrameFault.{FrameFault}
 use Rattle.bac_npdu.specs.declared.fault.FrameFault.TheVariants.{Truncated, Version, ReservedBits, BadNet, BadLength, NotUnicast}
@@ -74,7 +75,14 @@ members_at control bytes = do
   source ← optional_at (place_at true) (has_bit control 8) place.1
   destination ← hops_at place.0 source.1
   message ← optional_at message_at (has_bit control 128) destination.1
-  Ok (record { destination = destination.0; source = source.0; expecting = has_bit control 4; priority = control % 4; message = message.0; contents = message.1 })
+  Ok (record {
+    destination = destination.0;
+    source = source.0;
+    expecting = has_bit control 4;
+    priority = control % 4;
+    message = message.0;
+    contents = message.1;
+  })
 
 unfoldable pub control_at : List ℕ → Result NpduView FrameFault
 control_at bytes = do

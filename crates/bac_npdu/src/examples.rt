@@ -1,5 +1,5 @@
 //! Octets of whole datagrams, computed from the definitions: each function's contract is an example.
-#![tactic(auto, unfolding(crate::specs::Datagram::frame, crate::specs::Npdu::npdu_spelling, crate::specs::Npdu::bvll_spelling, crate::specs::Npdu::members_spelling))]
+#![tactic(auto, unfolding(crate::specs::Datagram::frame, crate::specs::Npdu::npdu_spelling, crate::specs::Npdu::bvll_spelling, crate::specs::Npdu::members_spelling,))]
 
 ghost use Rattle.std.specs.Prelude.{◌≡◌, List, [], ◌∷◌, Some, None, true, false, IsTrue};
 ghost use Rattle.std.specs.declared.cmp.Ordering.TheVariants.{Less, Greater};
@@ -26,19 +26,41 @@ fn answer_to_a_route()
 
 // A request from device 2A of network 5, expecting a reply.
 fn request_from_a_route()
-    ensures { bvll_spelling (npdu_spelling (record { destination = None; source = Some (record { network = 5; address = 0x2A ∷ [] }); expecting = true; priority = 0; message = None; contents = 0x00 ∷ 0x05 ∷ 0x01 ∷ 0x0C ∷ [] }))
+    ensures { bvll_spelling (npdu_spelling (record {
+      destination = None;
+      source = Some (record { network = 5; address = 0x2A ∷ [] });
+      expecting = true;
+      priority = 0;
+      message = None;
+      contents = 0x00 ∷ 0x05 ∷ 0x01 ∷ 0x0C ∷ [];
+    }))
         ≡ 0x81 ∷ 0x0A ∷ 0x00 ∷ 0x0E ∷ 0x01 ∷ 0x0C ∷ 0x00 ∷ 0x05 ∷ 0x01 ∷ 0x2A ∷ 0x00 ∷ 0x05 ∷ 0x01 ∷ 0x0C ∷ [] }
 {}
 
 // A network message of a vendor: type 128, vendor 261.
 fn message_of_a_vendor()
-    ensures { bvll_spelling (npdu_spelling (record { destination = None; source = None; expecting = false; priority = 0; message = Some (record { kind = 128; vendor = Some 261 }); contents = 0xAA ∷ [] }))
+    ensures { bvll_spelling (npdu_spelling (record {
+      destination = None;
+      source = None;
+      expecting = false;
+      priority = 0;
+      message = Some (record { kind = 128; vendor = Some 261 });
+      contents = 0xAA ∷ [];
+    }))
         ≡ 0x81 ∷ 0x0A ∷ 0x00 ∷ 0x0A ∷ 0x01 ∷ 0x80 ∷ 0x80 ∷ 0x01 ∷ 0x05 ∷ 0xAA ∷ [] }
 {}
 
 // All members at once: the hop count stands behind the source.
 fn each_member_in_its_place()
-    ensures { npdu_spelling (record { destination = Some (record { network = 65535; address = []; hops = 9 }); source = Some (record { network = 258; address = 0x07 ∷ 0x08 ∷ [] }); expecting = true; priority = 3; message = Some (record { kind = 1; vendor = None }); contents = [] })
+    ensures { npdu_spelling (record {
+      destination = Some (record { network = 65535; address = []; hops = 9 });
+      source = Some (record { network = 258; address = 0x07 ∷ 0x08 ∷ [] });
+      expecting = true;
+      priority = 3;
+      message =
+          Some (record { kind = 1; vendor = None });
+      contents = [];
+    })
         ≡ 0x01 ∷ 0xAF ∷ 0xFF ∷ 0xFF ∷ 0x00 ∷ 0x01 ∷ 0x02 ∷ 0x02 ∷ 0x07 ∷ 0x08 ∷ 0x09 ∷ 0x01 ∷ [] }
 {}
 
@@ -62,18 +84,22 @@ fn link_before_route()
 {}
 
 fn no_route_before_a_route()
-    ensures { peer_cmp (record { link = 1 ∷ []; route = Some (record { network = 5; address = 0x01 ∷ [] }) }) (record { link = 1 ∷ []; route = None }) ≡ Greater }
+    ensures { peer_cmp (record { link = 1 ∷ []; route = Some (record { network = 5; address = 0x01 ∷ [] }) }) (record { link = 1 ∷ []; route = None })
+        ≡ Greater }
 {}
 
 fn network_before_address()
-    ensures { peer_cmp (record { link = []; route = Some (record { network = 5; address = 0x09 ∷ [] }) }) (record { link = []; route = Some (record { network = 6; address = 0x01 ∷ [] }) }) ≡ Less }
+    ensures { peer_cmp (record { link = []; route = Some (record { network = 5; address = 0x09 ∷ [] }) })
+        (record { link = []; route = Some (record { network = 6; address = 0x01 ∷ [] }) }) ≡ Less }
 {}
 
 // 01 00 and 01 and 02: a front stands first.
 fn a_front_first()
-    ensures { peer_cmp (record { link = []; route = Some (record { network = 5; address = 0x01 ∷ 0x00 ∷ [] }) }) (record { link = []; route = Some (record { network = 5; address = 0x01 ∷ [] }) }) ≡ Greater }
+    ensures { peer_cmp (record { link = []; route = Some (record { network = 5; address = 0x01 ∷ 0x00 ∷ [] }) })
+        (record { link = []; route = Some (record { network = 5; address = 0x01 ∷ [] }) }) ≡ Greater }
 {}
 
 fn octets_before_length()
-    ensures { peer_cmp (record { link = []; route = Some (record { network = 5; address = 0x01 ∷ 0x00 ∷ [] }) }) (record { link = []; route = Some (record { network = 5; address = 0x02 ∷ [] }) }) ≡ Less }
+    ensures { peer_cmp (record { link = []; route = Some (record { network = 5; address = 0x01 ∷ 0x00 ∷ [] }) })
+        (record { link = []; route = Some (record { network = 5; address = 0x02 ∷ [] }) }) ≡ Less }
 {}

@@ -1,4 +1,7 @@
-/// Why octets are no frame. `fault as u8` is the number by which it is printed.
+ghost use Rattle.std.specs.Prelude.{◌≡◌};
+ghost use Rattle.bac_npdu.specs.Faults.{fault_number};
+
+/// Why octets are no frame. `number` is the number by which it is printed.
 #[derive(Clone, Copy, Debug, PartialEq, Eq)]
 pub enum FrameFault {
     /// The octets end too early.
@@ -13,6 +16,15 @@ pub enum FrameFault {
     BadLength = 5,
     /// A BVLL function other than Original-Unicast-NPDU.
     NotUnicast = 6,
+}
+
+impl FrameFault {
+    /// The number of the fault, 1 to 6 (own numbers of this profile).
+    pub fn number(self) -> u8
+        ensures { result ≡ fault_number self }
+    {
+        self as u8
+    }
 }
 
 /// Why a datagram means no peer and no APDU: the first of these that holds.

@@ -29,7 +29,8 @@ pub fn frame_arrives()
 
 /// What is sent to a peer with a route means nothing to the node at its link, which is to route it on.
 pub fn routed_frame_means_nothing()
-    ensures { (from to : List ℕ) (route : RouteView) (expecting : Bool) (apdu : List ℕ) (p : PeerView) (a : List ℕ) → IsTrue (route_fits route) → length apdu ≤ 1476
+    ensures { (from to : List ℕ) (route : RouteView) (expecting : Bool) (apdu : List ℕ) (p : PeerView) (a : List ℕ) → IsTrue (route_fits route)
+        → length apdu ≤ 1476
         → Carries from (frame (record { link = to; route = Some route }) expecting apdu) p a → ⊥ }
 {}
 

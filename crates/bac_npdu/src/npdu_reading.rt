@@ -4,7 +4,8 @@ ghost use Rattle.bac_npdu.specs.Peers.{RouteView, route_fits};
 ghost use Rattle.bac_npdu.specs.Npdu.{NpduView, SpellsNpdu, destination_fits};
 ghost use Rattle.bac_npdu.specs.Addresses.{address_view};
 ghost use Rattle.bac_npdu.specs.Views.{place_view, route_view, destination_view, message_view, npdu_view};
-ghost use Rattle.bac_npdu.specs.Reading.{Reads, has_bit, network_in, count_in, address_at, place_at, optional_at, hops_at, message_at, members_at, control_at, npdu_at};
+ghost use Rattle.bac_npdu.specs.Reading.{Reads, has_bit, network_in, count_in, address_at, place_at, optional_at, hops_at, message_at, members_at};
+ghost use Rattle.bac_npdu.specs.Reading.{control_at, npdu_at};
 
 use crate::address::Address;
 use crate::fault::FrameFault;

@@ -49,7 +49,8 @@ forest_elements (leaf p f) d h = one_element p (spelling f) h.0.spelled (forest_
 forest_elements (pair n inside f) zero h = absurd h
 forest_elements (pair n inside f) (suc d) h =
     let within = forest_elements inside d h.1 in
-    opens n (spelling inside ++ (closing n ++ spelling f)) h.0 (then_elements within.0 (spelling inside) (closing n ++ spelling f) within.1 (closes n (spelling f) h.0 (forest_elements f (suc d) h.2)))
+    opens n (spelling inside ++ (closing n ++ spelling f)) h.0
+    (then_elements within.0 (spelling inside) (closing n ++ spelling f) within.1 (closes n (spelling f) h.0 (forest_elements f (suc d) h.2)))
 
 pub data_elements : (bytes : List ℕ) → IsData bytes → SomeElements bytes
 data_elements bytes h = rw h.1.is (forest_elements h.0 8 h.1.within)

@@ -30,7 +30,11 @@ unfolding raw_at
 raw_takes k bytes x fits e =
     let g = guard_ok (ltb (length bytes) k) Truncated (Ok (take k bytes, drop k bytes)) x e in
     subst (IsRawFront k bytes) (ok_is (take k bytes, drop k bytes) x g.1)
-    (record { took = record { parts = sym (take-append-drop k bytes); rest_fits = IsBytes-drop k bytes fits }; len = length-take-le k bytes (ltb-false _ _ g.0); fits = IsBytes-take k bytes fits })
+    (record {
+      took = record { parts = sym (take-append-drop k bytes); rest_fits = IsBytes-drop k bytes fits };
+      len = length-take-le k bytes (ltb-false _ _ g.0);
+      fits = IsBytes-take k bytes fits;
+    })
 
 pub raw_again : (k : ℕ) (xs rest : List ℕ) → length xs ≡ k → raw_at k (xs ++ rest) ≡ Ok (xs, rest)
 unfolding raw_at
@@ -75,7 +79,8 @@ right_again n k xs rest len h =
 IsBehind : Class → ℕ → Form → List ℕ → List ℕ × List ℕ → Type 0
 IsBehind c n f bytes x = Takes bytes x.0 x.1 × IsAnnounced c n f x.0
 
-class_takes : (c : Class) (n k : ℕ) (bytes : List ℕ) (x : List ℕ × List ℕ) → IsTrue (tag_fits n c (Length k)) → IsBytes bytes → class_at c n k bytes ≡ Ok x → IsBehind c n (Length k) bytes x
+class_takes : (c : Class) (n k : ℕ) (bytes : List ℕ) (x : List ℕ × List ℕ) → IsTrue (tag_fits n c (Length k)) → IsBytes bytes → class_at c n k bytes ≡ Ok x
+    → IsBehind c n (Length k) bytes x
 unfolding class_at IsBehind
 class_takes Application n k bytes x fit fits e =
     let h = kind_front n k bytes x fits e in
@@ -84,11 +89,13 @@ class_takes Context n k bytes x fit fits e =
     let h = raw_takes k bytes x fits e in
     (h.took, (h.len, tt))
 
-none_behind : (c : Class) (n : ℕ) (f : Form) (bytes : List ℕ) (x : List ℕ × List ℕ) → IsBytes bytes → ((xs : List ℕ) → xs ≡ [] → IsAnnounced c n f xs) → ([], bytes) ≡ x → IsBehind c n f bytes x
+none_behind : (c : Class) (n : ℕ) (f : Form) (bytes : List ℕ) (x : List ℕ × List ℕ) → IsBytes bytes → ((xs : List ℕ) → xs ≡ [] → IsAnnounced c n f xs)
+    → ([], bytes) ≡ x → IsBehind c n f bytes x
 unfolding IsBehind
 none_behind c n f bytes x fits h e = subst (IsBehind c n f bytes) e (record { parts = refl; rest_fits = fits }, h [] refl)
 
-contents_takes : (m : Mark) (f : Form) (bytes : List ℕ) (x : List ℕ × List ℕ) → IsTrue (tag_fits m.number m.class f) → IsBytes bytes → contents_at m f bytes ≡ Ok x → IsBehind m.class m.number f bytes x
+contents_takes : (m : Mark) (f : Form) (bytes : List ℕ) (x : List ℕ × List ℕ) → IsTrue (tag_fits m.number m.class f) → IsBytes bytes
+    → contents_at m f bytes ≡ Ok x → IsBehind m.class m.number f bytes x
 unfolding contents_at
 contents_takes m (Length k) bytes x fit fits e = class_takes m.class m.number k bytes x fit fits e
 contents_takes m (Boolean b) bytes x fit fits e = none_behind m.class m.number (Boolean b) bytes x fits (λ xs h. h) (ok_is ([], bytes) x e)
@@ -115,8 +122,12 @@ made m xs = record { mark = m; contents = xs }
 pub element_again : (p : Part) (text rest : List ℕ) → SpellsElement p text → element_at (text ++ rest) ≡ Ok (p, rest)
 unfolding element_at
 element_again p text rest s =
-    let whole : text ++ rest ≡ tag_spelling p.mark ++ (p.contents ++ rest) = ap (λ (x : List ℕ). x ++ rest) s.is ∙ append_assoc (tag_spelling p.mark) p.contents rest in
-    ap element_at whole ∙ rw (tag_again p.mark (tag_spelling p.mark) (p.contents ++ rest) s.tag, contents_again p.mark p.mark.form p.contents rest s.contents) refl
+    let whole : text ++ rest ≡ tag_spelling p.mark ++ (p.contents ++ rest) =
+    ap (λ (x : List ℕ). x ++ rest) s.is ∙ append_assoc (tag_spelling p.mark) p.contents rest in
+    ap element_at whole ∙ rw (
+      tag_again p.mark (tag_spelling p.mark) (p.contents ++ rest) s.tag,
+      contents_again p.mark p.mark.form p.contents rest s.contents,
+    ) refl
 
 IsElementFront : List ℕ → Part × List ℕ → Type 0
 IsElementFront bytes x = Takes bytes (tag_spelling x.0.mark ++ x.0.contents) x.1 × SpellsElement x.0 (tag_spelling x.0.mark ++ x.0.contents)
@@ -132,7 +143,8 @@ element_front bytes x fits e =
     subst (IsElementFront bytes) (ok_is (made m c.0.0, c.0.1) x c.2)
     (Takes-then bytes (tag_spelling m) t.0.1 c.0.0 c.0.1 took.0 b.0, record { tag = took.1; contents = b.1; is = refl })
 
-pub element_takes : (bytes : List ℕ) (x : Part × List ℕ) → IsBytes bytes → element_at bytes ≡ Ok x → Takes bytes (tag_spelling x.0.mark ++ x.0.contents) x.1 × SpellsElement x.0 (tag_spelling x.0.mark ++ x.0.contents)
+pub element_takes : (bytes : List ℕ) (x : Part × List ℕ) → IsBytes bytes → element_at bytes ≡ Ok x
+    → Takes bytes (tag_spelling x.0.mark ++ x.0.contents) x.1 × SpellsElement x.0 (tag_spelling x.0.mark ++ x.0.contents)
 unfolding IsElementFront
 element_takes bytes x fits e = element_front bytes x fits e
 

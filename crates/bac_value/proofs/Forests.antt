@@ -53,7 +53,8 @@ split_open n o text lt room s =
     let less : 8 - length (n ∷ o) ≡ 8 - length o - 1 = omega arith in
     let within = within_pair (8 - length o) n f t.0 lt (omega arith) (rw less at s.2) t.2 in
     let inner : text ≡ spelling f ++ (closing n ++ (spelling t.0 ++ t.1)) = s.3 ∙ ap (λ (x : List ℕ). spelling f ++ x) t.3 in
-    let whole : opening n ++ text ≡ (opening n ++ (spelling f ++ (closing n ++ spelling t.0))) ++ t.1 = ap (λ (x : List ℕ). opening n ++ x) inner ∙ sym (regroup (opening n) (spelling f) (closing n) (spelling t.0) t.1) in
+    let whole : opening n ++ text ≡ (opening n ++ (spelling f ++ (closing n ++ spelling t.0))) ++ t.1 =
+    ap (λ (x : List ℕ). opening n ++ x) inner ∙ sym (regroup (opening n) (spelling f) (closing n) (spelling t.0) t.1) in
     (pair n f t.0, t.1, within, whole, t.4)
 
 split_close : (n : ℕ) (o text : List ℕ) → Splits o text → Splits (n ∷ o) (closing n ++ text)
@@ -69,17 +70,21 @@ Goes o front (Some p) = (text : List ℕ) → Splits p text → Splits o (front 
 abbrev turned : Option (List ℕ) → Result (Option (List ℕ)) FaultKind
 turned t = Ok t
 
-turn_takes : (n : ℕ) (c : Class) (f : Form) (xs o : List ℕ) (t : Option (List ℕ)) → SpellsElement (made n c f xs) (part_spelling (made n c f xs)) → turn f n o ≡ Ok t → Goes o (part_spelling (made n c f xs)) t
+turn_takes : (n : ℕ) (c : Class) (f : Form) (xs o : List ℕ) (t : Option (List ℕ)) → SpellsElement (made n c f xs) (part_spelling (made n c f xs))
+    → turn f n o ≡ Ok t → Goes o (part_spelling (made n c f xs)) t
 unfolding turn Goes
 turn_takes n c (Length k) xs o t s e =
-    subst (Goes o (part_spelling (made n c (Length k) xs))) (ok_is (Some o) t e) (λ text h. split_leaf (made n c (Length k) xs) o text (record { form = tt; spelled = s }) h)
+    subst (Goes o (part_spelling (made n c (Length k) xs))) (ok_is (Some o) t e)
+    (λ text h. split_leaf (made n c (Length k) xs) o text (record { form = tt; spelled = s }) h)
 turn_takes n c (Boolean b) xs o t s e =
-    subst (Goes o (part_spelling (made n c (Boolean b) xs))) (ok_is (Some o) t e) (λ text h. split_leaf (made n c (Boolean b) xs) o text (record { form = tt; spelled = s }) h)
+    subst (Goes o (part_spelling (made n c (Boolean b) xs))) (ok_is (Some o) t e)
+    (λ text h. split_leaf (made n c (Boolean b) xs) o text (record { form = tt; spelled = s }) h)
 turn_takes n Application Opening xs o t s e = let no = s.tag.fits in absurd cc
 turn_takes n Context Opening xs o t s e =
     elim (chosen (ltb (length o) 8) (turned (Some (n ∷ o))) (Err TooDeep) (Ok t) e) [
       | inl c ↦ subst (Goes o (part_spelling (made n Context Opening xs))) (ok_is (Some (n ∷ o)) t c.1)
-          (λ text h. let whole : part_spelling (made n Context Opening xs) ≡ opening n = ap (λ (x : List ℕ). opening n ++ x) s.contents ∙ append-nil (opening n) in
+          (λ text h. let whole : part_spelling (made n Context Opening xs) ≡ opening n = ap (λ (x : List ℕ). opening n ++ x) s.contents
+          ∙ append-nil (opening n) in
           subst (λ (x : List ℕ). Splits o (x ++ text)) (sym whole) (split_open n o text (ltb-true _ _ s.tag.fits) (ltb-true _ _ c.0) h))
       | inr c ↦ absurd cc
     ]
@@ -90,7 +95,8 @@ turn_takes n Context Closing xs [] t s e =
 turn_takes n Context Closing xs (m ∷ o) t s e =
     elim (chosen (eqb m n) (turned (Some o)) (Err Unbalanced) (Ok t) e) [
       | inl c ↦ subst (Goes (m ∷ o) (part_spelling (made n Context Closing xs))) (ok_is (Some o) t c.1)
-          (λ text h. let whole : closing m ≡ part_spelling (made n Context Closing xs) = ap closing (eqb-true _ _ c.0) ∙ sym (ap (λ (x : List ℕ). closing n ++ x) s.contents ∙ append-nil (closing n)) in
+          (λ text h. let whole : closing m ≡ part_spelling (made n Context Closing xs) = ap closing (eqb-true _ _ c.0)
+          ∙ sym (ap (λ (x : List ℕ). closing n ++ x) s.contents ∙ append-nil (closing n)) in
           subst (λ (x : List ℕ). Splits (m ∷ o) (x ++ text)) whole (split_close m o text h))
       | inr c ↦ absurd cc
     ]
@@ -158,7 +164,8 @@ tag_some t = omega arith
 shorter : (front rest : List ℕ) → 0 < length front → length rest < length (front ++ rest)
 shorter front rest some = omega (arith, length-append front rest)
 
-step_part : (p : Part) (o q rest : List ℕ) → SpellsElement p (part_spelling p) → turn p.mark.form p.mark.number o ≡ Ok (Some q) → step_at o (part_spelling p ++ rest) ≡ Ok (Some (q, rest))
+step_part : (p : Part) (o q rest : List ℕ) → SpellsElement p (part_spelling p) → turn p.mark.form p.mark.number o ≡ Ok (Some q)
+    → step_at o (part_spelling p ++ rest) ≡ Ok (Some (q, rest))
 unfolding step_at
 step_part p o q rest s t = rw (element_again p (part_spelling p) rest s, t) refl
 
@@ -168,7 +175,8 @@ part_some p = omega (arith, tag_some p.mark, length-append (tag_spelling p.mark)
 abbrev mark_of : ℕ → Form → Mark
 mark_of n f = record { number = n; class = Context; form = f }
 
-bracket : (n : ℕ) (f : Form) → SpellsTag (mark_of n f) (tag_spelling (mark_of n f)) → ((xs : List ℕ) → xs ≡ [] → IsAnnounced Context n f xs) → SpellsElement (made n Context f []) (tag_spelling (mark_of n f))
+bracket : (n : ℕ) (f : Form) → SpellsTag (mark_of n f) (tag_spelling (mark_of n f)) → ((xs : List ℕ) → xs ≡ [] → IsAnnounced Context n f xs)
+    → SpellsElement (made n Context f []) (tag_spelling (mark_of n f))
 bracket n f s h = record { tag = s; contents = h [] refl; is = sym (append-nil (tag_spelling (mark_of n f))) }
 
 opens : (n : ℕ) → n < 255 → SpellsElement (made n Context Opening []) (opening n)
@@ -200,25 +208,29 @@ turn_primitive Closing n o h = absurd h
 Left : ℕ → List ℕ → List ℕ → List ℕ → List ℕ → Type 0
 Left steps o bytes p rest = (m : ℕ) × (length rest < m) × (data_at m p rest ≡ data_at steps o bytes)
 
-one_more : (steps : ℕ) (o p front rest : List ℕ) → 0 < length front → length (front ++ rest) < steps → step_at o (front ++ rest) ≡ Ok (Some (p, rest)) → Left steps o (front ++ rest) p rest
+one_more : (steps : ℕ) (o p front rest : List ℕ) → 0 < length front → length (front ++ rest) < steps → step_at o (front ++ rest) ≡ Ok (Some (p, rest))
+    → Left steps o (front ++ rest) p rest
 unfolding Left
 one_more steps o p front rest some enough e = at_more steps o (front ++ rest) p rest (data_at steps o (front ++ rest)) (shorter front rest some) enough e refl
 
-forest_again : (f : Forest) (d : ℕ) (o tail : List ℕ) (steps : ℕ) → d + length o ≡ 8 → IsWithin d f → length (spelling f ++ tail) < steps → Left steps o (spelling f ++ tail) o tail
+forest_again : (f : Forest) (d : ℕ) (o tail : List ℕ) (steps : ℕ) → d + length o ≡ 8 → IsWithin d f → length (spelling f ++ tail) < steps
+    → Left steps o (spelling f ++ tail) o tail
 unfolding spelling IsWithin Left
 forest_again none d o tail steps depth within enough = (steps, enough, refl)
 forest_again (leaf p f) d o tail steps depth within enough =
     let rest = spelling f ++ tail in
     let whole : (part_spelling p ++ spelling f) ++ tail ≡ part_spelling p ++ rest = append_assoc (part_spelling p) (spelling f) tail in
     let enough_here : length (part_spelling p ++ rest) < steps = subst (λ (x : List ℕ). length x < steps) whole enough in
-    let a = one_more steps o o (part_spelling p) rest (part_some p) enough_here (step_part p o o rest within.0.spelled (turn_primitive p.mark.form p.mark.number o within.0.form)) in
+    let a = one_more steps o o (part_spelling p) rest (part_some p) enough_here
+    (step_part p o o rest within.0.spelled (turn_primitive p.mark.form p.mark.number o within.0.form)) in
     let b = forest_again f d o tail a.0 depth within.1 a.1 in
     (b.0, b.1, b.2 ∙ a.2 ∙ ap (data_at steps o) (sym whole))
 forest_again (pair n i f) zero o tail steps depth within enough = absurd within
 forest_again (pair n i f) (suc d) o tail steps depth within enough =
     let last = spelling f ++ tail in
     let middle = spelling i ++ (closing n ++ last) in
-    let whole : (opening n ++ (spelling i ++ (closing n ++ spelling f))) ++ tail ≡ opening n ++ middle = regroup (opening n) (spelling i) (closing n) (spelling f) tail in
+    let whole : (opening n ++ (spelling i ++ (closing n ++ spelling f))) ++ tail ≡ opening n ++ middle =
+    regroup (opening n) (spelling i) (closing n) (spelling f) tail in
     let enough_here : length (opening n ++ middle) < steps = subst (λ (x : List ℕ). length x < steps) whole enough in
     let a = one_more steps o (n ∷ o) (opening n) middle (tag_some (mark_of n Opening)) enough_here (step_open n o middle within.0 (omega arith)) in
     let b = forest_again i d (n ∷ o) (closing n ++ last) a.0 (omega arith) within.1 a.1 in
@@ -231,7 +243,8 @@ unfolding data_at
 ends_again zero rest enough h = absurd (omega arith)
 ends_again (suc m) rest enough (inl nothing) = rw nothing refl
 ends_again (suc m) rest enough (inr (n, after, lt, is)) =
-    at_stop (suc m) [] rest (data_at (suc m) [] rest) (omega (arith, ap length is, shorter (closing n) after (tag_some (mark_of n Closing)))) enough (ap (step_at []) is ∙ step_stop n after lt) refl
+    at_stop (suc m) [] rest (data_at (suc m) [] rest) (omega (arith, ap length is, shorter (closing n) after (tag_some (mark_of n Closing)))) enough
+    (ap (step_at []) is ∙ step_stop n after lt) refl
 
 -- ---- the two laws
 
@@ -246,7 +259,8 @@ data_again f text rest s =
     let a = forest_again f 8 [] rest (suc (length (spelling f ++ rest))) refl s.spelled.within (omega arith) in
     ap data_of whole ∙ sym a.2 ∙ ends_again a.0 rest a.1 s.ends
 
-pub data_found : (bytes rest : List ℕ) → IsBytes bytes → data_of bytes ≡ Ok rest → (f : Forest) × (text : List ℕ) × (bytes ≡ text ++ rest) × SpellsHere f text rest
+pub data_found : (bytes rest : List ℕ) → IsBytes bytes → data_of bytes ≡ Ok rest → (f : Forest) × (text : List ℕ) × (bytes ≡ text ++ rest)
+    × SpellsHere f text rest
 unfolding IsTaken Splits Tail
 data_found bytes rest fits e =
     let t = data_takes (suc (length bytes)) [] bytes rest fits e in
@@ -254,13 +268,19 @@ data_found bytes rest fits e =
     let is : t.0 ≡ spelling s.0 = s.3 ∙ ap (λ (x : List ℕ). spelling s.0 ++ x) s.4 ∙ append-nil (spelling s.0) in
     (s.0, t.0, t.1, record { spelled = record { within = s.2; is = is }; ends = t.3 })
 
-pub data_taken : (bytes text rest : List ℕ) → IsBytes bytes → text ≡ take (length bytes - length rest) bytes → data_of bytes ≡ Ok rest → IsDataTaken bytes text rest
+pub data_taken : (bytes text rest : List ℕ) → IsBytes bytes → text ≡ take (length bytes - length rest) bytes → data_of bytes ≡ Ok rest
+    → IsDataTaken bytes text rest
 data_taken bytes text rest fits is e =
     let t = data_found bytes rest fits e in
     let k = length bytes - length rest in
     let len : length t.1 ≡ k = omega (arith, ap length t.2, length-append t.1 rest) in
     let front : text ≡ t.1 = is ∙ ap (take k) t.2 ∙ take_at t.1 rest k len in
-    record { parts = t.2 ∙ ap (λ (x : List ℕ). x ++ rest) (sym front); whole = (t.0, subst (SpellsData t.0) (sym front) t.3.spelled); ends = t.3.ends; exact = e }
+    record {
+      parts = t.2 ∙ ap (λ (x : List ℕ). x ++ rest) (sym front);
+      whole = (t.0, subst (SpellsData t.0) (sym front) t.3.spelled);
+      ends = t.3.ends;
+      exact = e;
+    }
 
 pub data_front : (bytes text rest : List ℕ) (k : ℕ) → length text ≡ k → IsDataTaken bytes text rest → IsDataFront bytes k
 data_front bytes text rest k len t =
@@ -279,7 +299,9 @@ data_text f text s = ap data_of (sym (append-nil text)) ∙ data_again f text []
 
 pub data_only : (bytes : List ℕ) (j k : ℕ) → j ≤ length bytes → k ≤ length bytes → IsDataFront bytes j → IsDataFront bytes k → j ≡ k
 data_only bytes j k jl kl p q =
-    let one : data_of bytes ≡ Ok (drop j bytes) = ap data_of (sym (take-append-drop j bytes)) ∙ data_again p.trees (take j bytes) (drop j bytes) (record { spelled = p.spelled; ends = p.ends }) in
-    let two : data_of bytes ≡ Ok (drop k bytes) = ap data_of (sym (take-append-drop k bytes)) ∙ data_again q.trees (take k bytes) (drop k bytes) (record { spelled = q.spelled; ends = q.ends }) in
+    let one : data_of bytes ≡ Ok (drop j bytes) =
+    ap data_of (sym (take-append-drop j bytes)) ∙ data_again p.trees (take j bytes) (drop j bytes) (record { spelled = p.spelled; ends = p.ends }) in
+    let two : data_of bytes ≡ Ok (drop k bytes) =
+    ap data_of (sym (take-append-drop k bytes)) ∙ data_again q.trees (take k bytes) (drop k bytes) (record { spelled = q.spelled; ends = q.ends }) in
     let same : drop j bytes ≡ drop k bytes = ok_is (drop j bytes) (drop k bytes) (sym one ∙ two) in
     omega (arith, ap length same, length-drop j bytes, length-drop k bytes)

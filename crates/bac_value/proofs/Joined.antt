@@ -13,7 +13,8 @@ joined-append [] b = refl
 joined-append (v ∷ a) b = ap (λ (x : List ℕ). v.items ++ x) (joined-append a b) ∙ sym (append_assoc v.items (joined a) (joined b))
 
 pub joined_more : (ps : List (Vec ℕ)) (i : ℕ) (d : Vec ℕ) → i < length ps → joined (take (i + 1) ps) ≡ joined (take i ps) ++ (get_or ps i d).items
-joined_more ps i d lt = ap joined (take_more ps i d lt) ∙ joined-append (take i ps) (get_or ps i d ∷ []) ∙ ap (λ (x : List ℕ). joined (take i ps) ++ x) (append-nil (get_or ps i d).items)
+joined_more ps i d lt = ap joined (take_more ps i d lt) ∙ joined-append (take i ps) (get_or ps i d ∷ [])
+    ∙ ap (λ (x : List ℕ). joined (take i ps) ++ x) (append-nil (get_or ps i d).items)
 
 pub joined_rest : (ps : List (Vec ℕ)) (i : ℕ) (d : Vec ℕ) → i < length ps → joined (drop i ps) ≡ (get_or ps i d).items ++ joined (drop (i + 1) ps)
 joined_rest ps i d lt = ap joined (drop_more ps i d lt)
@@ -35,9 +36,11 @@ drop_over (x ∷ p) r (suc skip) le = let e : suc skip - suc (length p) ≡ skip
 take_over : (p r : List ℕ) (n : ℕ) → length p ≤ n → take n (p ++ r) ≡ p ++ take (n - length p) r
 take_over [] r n le = ap (λ (i : ℕ). take i r) (omega arith)
 take_over (x ∷ p) r zero le = absurd (omega arith)
-take_over (x ∷ p) r (suc n) le = let e : suc n - suc (length p) ≡ n - length p = omega arith in rw e (ap (λ (l : List ℕ). x ∷ l) (take_over p r n (omega arith)))
+take_over (x ∷ p) r (suc n) le = let e : suc n - suc (length p) ≡ n - length p =
+    omega arith in rw e (ap (λ (l : List ℕ). x ∷ l) (take_over p r n (omega arith)))
 
-taken_part : (p r : List ℕ) (skip left here : ℕ) → skip ≤ length p → here ≡ min left (length p - skip) → take left (drop skip (p ++ r)) ≡ take here (drop skip p) ++ take (left - here) r
+taken_part : (p r : List ℕ) (skip left here : ℕ) → skip ≤ length p → here ≡ min left (length p - skip)
+    → take left (drop skip (p ++ r)) ≡ take here (drop skip p) ++ take (left - here) r
 taken_part p r skip left here le is =
     let len = length-drop skip p in
     elim (cases_lt left (length p - skip)) [
@@ -50,7 +53,8 @@ taken_part p r skip left here le is =
           rw (drop-append-le skip p r le, take_over (drop skip p) r left (omega arith), same, take_all (length (drop skip p)) (drop skip p) (omega arith)) refl
     ]
 
-part_of : (p r : List ℕ) (skip left over here : ℕ) → over ≡ min skip (length p) → here ≡ min left (length p - over) → take left (drop skip (p ++ r)) ≡ take here (drop over p) ++ take (left - here) (drop (skip - over) r)
+part_of : (p r : List ℕ) (skip left over here : ℕ) → over ≡ min skip (length p) → here ≡ min left (length p - over)
+    → take left (drop skip (p ++ r)) ≡ take here (drop over p) ++ take (left - here) (drop (skip - over) r)
 part_of p r skip left over here o h =
     elim (cases_lt skip (length p)) [
       | inl lt ↦
@@ -63,13 +67,17 @@ part_of p r skip left over here o h =
           rw (drop_over p r skip ge, zero_here, same) (ap (λ (n : ℕ). take n (drop (skip - length p) r)) (omega arith))
     ]
 
-pub copied : (ps : List (Vec ℕ)) (i : ℕ) (d : Vec ℕ) (old new total : List ℕ) (skip left over here : ℕ) → i < length ps → over ≡ min skip (length (get_or ps i d).items) → here ≡ min left (length (get_or ps i d).items - over)
-    → new ≡ old ++ take here (drop over (get_or ps i d).items) → old ++ take left (drop skip (joined (drop i ps))) ≡ total → new ++ take (left - here) (drop (skip - over) (joined (drop (i + 1) ps))) ≡ total
+pub copied : (ps : List (Vec ℕ)) (i : ℕ) (d : Vec ℕ) (old new total : List ℕ) (skip left over here : ℕ) → i < length ps
+    → over ≡ min skip (length (get_or ps i d).items) → here ≡ min left (length (get_or ps i d).items - over)
+    → new ≡ old ++ take here (drop over (get_or ps i d).items) → old ++ take left (drop skip (joined (drop i ps))) ≡ total
+    → new ++ take (left - here) (drop (skip - over) (joined (drop (i + 1) ps))) ≡ total
 copied ps i d old new total skip left over here lt o h is same =
     let p = (get_or ps i d).items in
     let r = joined (drop (i + 1) ps) in
-    let e : take left (drop skip (joined (drop i ps))) ≡ take here (drop over p) ++ take (left - here) (drop (skip - over) r) = ap (λ (l : List ℕ). take left (drop skip l)) (joined_rest ps i d lt) ∙ part_of p r skip left over here o h in
-    ap (λ (l : List ℕ). l ++ take (left - here) (drop (skip - over) r)) is ∙ append_assoc old (take here (drop over p)) (take (left - here) (drop (skip - over) r)) ∙ ap (λ (l : List ℕ). old ++ l) (sym e) ∙ same
+    let e : take left (drop skip (joined (drop i ps))) ≡ take here (drop over p) ++ take (left - here) (drop (skip - over) r) =
+    ap (λ (l : List ℕ). take left (drop skip l)) (joined_rest ps i d lt) ∙ part_of p r skip left over here o h in
+    ap (λ (l : List ℕ). l ++ take (left - here) (drop (skip - over) r)) is
+    ∙ append_assoc old (take here (drop over p)) (take (left - here) (drop (skip - over) r)) ∙ ap (λ (l : List ℕ). old ++ l) (sym e) ∙ same
 
 pub begins_more : (old out new x : List ℕ) → take (length old) out ≡ old → new ≡ out ++ x → take (length old) new ≡ old
 begins_more old out new x b e =
@@ -83,7 +91,8 @@ pub left_behind : (ps behind : List (Vec ℕ)) (v : Vec ℕ) (text total : List 
 left_behind ps behind v text total skip k len is same count le whole counted fits =
     let j : joined ps ≡ v.items ++ joined behind = ap joined is in
     let n : k ≡ length v.items = count ∙ ap length same in
-    let rest : joined behind ≡ drop (length v.items) (joined ps) = sym (ap (drop (length v.items)) j ∙ drop_at v.items (joined behind) (length v.items) refl) in (
+    let rest : joined behind ≡ drop (length v.items) (joined ps) =
+    sym (ap (drop (length v.items)) j ∙ drop_at v.items (joined behind) (length v.items) refl) in (
       ap (λ i. drop (skip - i) (joined behind)) n ∙ sym (drop_over v.items (joined behind) skip (omega (arith, n))) ∙ ap (drop skip) (sym j) ∙ whole,
       omega (arith, n, ap length j, length-append v.items (joined behind)),
       subst IsBytes (sym rest) (IsBytes-drop (length v.items) (joined ps) fits),
@@ -98,12 +107,15 @@ front_more xs skip (suc m) d lt some =
     rw less (ap (take (suc m)) (drop_more xs skip d lt))
 
 -- the first octet of what is left, and the rest of it
-pub first_of : (ps behind next : List (Vec ℕ)) (v : Vec ℕ) (skip len first next_skip next_len : ℕ) → ps ≡ v ∷ behind → skip < length v.items → 0 < len → first ≡ get_or v.items skip first
-    → next_len ≡ len - 1 → drop next_skip (joined next) ≡ drop (skip + 1) (joined ps) → take len (drop skip (joined ps)) ≡ first ∷ take next_len (drop next_skip (joined next))
+pub first_of : (ps behind next : List (Vec ℕ)) (v : Vec ℕ) (skip len first next_skip next_len : ℕ) → ps ≡ v ∷ behind → skip < length v.items → 0 < len
+    → first ≡ get_or v.items skip first
+    → next_len ≡ len - 1 → drop next_skip (joined next) ≡ drop (skip + 1) (joined ps)
+    → take len (drop skip (joined ps)) ≡ first ∷ take next_len (drop next_skip (joined next))
 first_of ps behind next v skip len first next_skip next_len is lt some one less same =
     let whole : joined ps ≡ v.items ++ joined behind = ap joined is in
     let room : skip < length (joined ps) = omega (arith, ap length whole, length-append v.items (joined behind)) in
-    let head : get_or (joined ps) skip first ≡ first = ap (λ (xs : List ℕ). get_or xs skip first) whole ∙ get_or_append_left v.items (joined behind) first skip lt ∙ sym one in
+    let head : get_or (joined ps) skip first ≡ first =
+    ap (λ (xs : List ℕ). get_or xs skip first) whole ∙ get_or_append_left v.items (joined behind) first skip lt ∙ sym one in
     front_more (joined ps) skip len first room some ∙ rw (head, less, same) refl
 
 pub behind_front : (xs : List ℕ) (skip len count : ℕ) → count ≤ len → drop count (take len (drop skip xs)) ≡ take (len - count) (drop (skip + count) xs)

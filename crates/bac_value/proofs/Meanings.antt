@@ -37,17 +37,20 @@ made n c f = record { number = n; class = c; form = f }
 not_boolean : (n k : ℕ) → IsTrue (tag_fits n Application (Length k)) → n ≡ 1 → ⊥
 not_boolean n k fits is = eqb-false n 1 (not-true (eqb n 1) (and_parts (ltb n 13) (not (eqb n 1)) fits).1) is
 
-pub meant_is : (n : ℕ) (c : Class) (f : Form) (xs : List ℕ) (d : Datum) (k : ℕ) → IsTrue (tag_fits n c f) → c ≡ Application → f ≡ Length k → k ≡ length xs → IsBytes xs → IsTrue (length_in n (length xs)) → flaw n xs ≡ None
+pub meant_is : (n : ℕ) (c : Class) (f : Form) (xs : List ℕ) (d : Datum) (k : ℕ) → IsTrue (tag_fits n c f) → c ≡ Application → f ≡ Length k → k ≡ length xs
+    → IsBytes xs → IsTrue (length_in n (length xs)) → flaw n xs ≡ None
     → d ≡ datum_in n xs → IsValueOf d (record { mark = made n c f; contents = xs })
 meant_is n c f xs d k fits is_class is_form len bytes right none same =
-    let fit : IsTrue (tag_fits n Application (Length k)) = subst (λ (y : Form). IsTrue (tag_fits n Application y)) is_form (subst (λ (y : Class). IsTrue (tag_fits n y f)) is_class fits) in
+    let fit : IsTrue (tag_fits n Application (Length k)) =
+    subst (λ (y : Form). IsTrue (tag_fits n Application y)) is_form (subst (λ (y : Class). IsTrue (tag_fits n y f)) is_class fits) in
     let h = kind_meant n xs (length_number-lt n k fit) bytes right none in
     let kind : kind_number d ≡ n = ap kind_number same ∙ h.0 in
     let form : form_of d (length xs) ≡ Length (length xs) = form_is d (length xs) (λ e. not_boolean n k fit (sym kind ∙ e)) in
     let number : n ≡ kind_number d = sym kind in
     let tail : f ≡ form_of d (length xs) = is_form ∙ ap Length len ∙ sym form in
     record {
-      tag = ap (λ (y : ℕ). made y c f) number ∙ ap (λ (y : Class). made (kind_number d) y f) is_class ∙ ap (λ (y : Form). made (kind_number d) Application y) tail;
+      tag = ap (λ (y : ℕ). made y c f) number ∙ ap (λ (y : Class). made (kind_number d) y f) is_class
+          ∙ ap (λ (y : Form). made (kind_number d) Application y) tail;
       contents = subst (λ (y : Datum). IsContents y xs) (sym same) h.1;
     }
 

@@ -24,11 +24,13 @@ number_in-lt (x ∷ xs) h =
 
 -- ---- a turn of the loop that reads
 
-pub number_turn : (number x : ℕ) (bytes next : List ℕ) (all : ℕ) → bytes ≡ x ∷ next → number * 256 ^ length bytes + number_in bytes ≡ all → (number * 256 + x) * 256 ^ length next + number_in next ≡ all
+pub number_turn : (number x : ℕ) (bytes next : List ℕ) (all : ℕ) → bytes ≡ x ∷ next → number * 256 ^ length bytes + number_in bytes ≡ all
+    → (number * 256 + x) * 256 ^ length next + number_in next ≡ all
 number_turn number x bytes next all is same =
     let p = 256 ^ length next in
     let power : 256 ^ length (x ∷ next) ≡ p * 256 = pow-suc 256 (length next) in
-    let opened : number * 256 ^ length (x ∷ next) + (x * p + number_in next) ≡ all = ap (λ (xs : List ℕ). number * 256 ^ length xs + number_in xs) (sym is) ∙ same in
+    let opened : number * 256 ^ length (x ∷ next) + (x * p + number_in next) ≡ all = ap (λ (xs : List ℕ). number * 256 ^ length xs + number_in xs) (sym is)
+    ∙ same in
     omega (arith, ap (λ n. number * n) power, opened)
 
 pub turn_small : (number k x : ℕ) → number < 256 ^ k → x < 256 → number * 256 + x < 256 ^ (k + 1)
@@ -195,7 +197,10 @@ width-le n k lt some fits =
 
 -- the two digits at the front of k + 2 octets, as digits of one number
 pub two_front : (k n : ℕ) → (get_or (big_bytes (suc (suc k)) n) 0 0 ≡ n / 256 ^ k / 256 % 256) × (get_or (big_bytes (suc (suc k)) n) 1 0 ≡ n / 256 ^ k % 256)
-two_front k n = (byte_at-pow (suc k) n ∙ ap (λ (x : ℕ). x % 256) (ap (λ (p : ℕ). n / p) (pow-suc 256 k) ∙ sym (div-div-eq-div-mul n (256 ^ k) 256)), byte_at-pow k n)
+two_front k n = (
+  byte_at-pow (suc k) n ∙ ap (λ (x : ℕ). x % 256) (ap (λ (p : ℕ). n / p) (pow-suc 256 k) ∙ sym (div-div-eq-div-mul n (256 ^ k) 256)),
+  byte_at-pow k n,
+)
 
 -- a quotient by a power
 pub quotient_between : (n k low high : ℕ) → low * 256 ^ k ≤ n → n < high * 256 ^ k → (low ≤ n / 256 ^ k) × (n / 256 ^ k < high)

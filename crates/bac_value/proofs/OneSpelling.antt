@@ -80,13 +80,15 @@ signed_low xs j len lt = rw (len, half_power j, lt-ltb (number_in xs) (128 * 256
 below_zero : (n whole : ℕ) → n < whole → pos n -ℤ pos whole ≡ negsuc (whole - 1 - n)
 below_zero n whole lt = omega (arith, ints)
 
-signed_high : (xs : List ℕ) (j : ℕ) → length xs ≡ suc j → 128 * 256 ^ j ≤ number_in xs → number_in xs < 256 * 256 ^ j → signed_in xs ≡ negsuc (256 * 256 ^ j - 1 - number_in xs)
+signed_high : (xs : List ℕ) (j : ℕ) → length xs ≡ suc j → 128 * 256 ^ j ≤ number_in xs → number_in xs < 256 * 256 ^ j
+    → signed_in xs ≡ negsuc (256 * 256 ^ j - 1 - number_in xs)
 signed_high xs j len le lt = rw (len, half_power j, whole_power j, le-ltb (number_in xs) (128 * 256 ^ j) le) (below_zero (number_in xs) (256 * 256 ^ j) lt)
 
 -- what the first two octets say of a number with more octets behind them
 front_low : (x y p r : ℕ) → (x ≡ 0 → 128 ≤ y) → 128 * p ≤ x * (p * 256) + (y * p + r)
 front_low zero y p r h = let two : 128 * p ≤ y * p = mul-le-mul_right p (h refl) in omega (arith, two)
-front_low (suc x) y p r h = let one : 1 * (p * 256) ≤ suc x * (p * 256) = (let le : 1 ≤ suc x = omega arith in mul-le-mul_right (p * 256) le) in omega (arith, one)
+front_low (suc x) y p r h = let one : 1 * (p * 256) ≤ suc x * (p * 256) =
+    (let le : 1 ≤ suc x = omega arith in mul-le-mul_right (p * 256) le) in omega (arith, one)
 
 front_high : (x y p r : ℕ) → x < 256 → y < 256 → r < p → (x ≡ 255 → y < 128) → x * (p * 256) + (y * p + r) < 65408 * p
 front_high x y p r xlt ylt rlt h =
@@ -107,7 +109,8 @@ record IsBetween (n j : ℕ) : Type 0 where
   low : (i : ℕ) → j ≡ suc i → 128 * 256 ^ i ≤ n
   high : (i : ℕ) → j ≡ suc i → n < 65408 * 256 ^ i
 
-between_of : (xs : List ℕ) (j : ℕ) → length xs ≡ suc j → IsBytes xs → (1 < length xs → get_or xs 0 0 ≡ 0 → 128 ≤ get_or xs 1 0) → (1 < length xs → get_or xs 0 0 ≡ 255 → get_or xs 1 0 < 128) → IsBetween (number_in xs) j
+between_of : (xs : List ℕ) (j : ℕ) → length xs ≡ suc j → IsBytes xs → (1 < length xs → get_or xs 0 0 ≡ 0 → 128 ≤ get_or xs 1 0)
+    → (1 < length xs → get_or xs 0 0 ≡ 255 → get_or xs 1 0 < 128) → IsBetween (number_in xs) j
 between_of [] j len fits zeros ones = absurd (omega arith)
 between_of (x ∷ []) j len fits zeros ones = record { low = λ i e. absurd (omega (arith, e)); high = λ i e. absurd (omega (arith, e)) }
 between_of (x ∷ y ∷ r) j len fits zeros ones =
@@ -116,7 +119,8 @@ between_of (x ∷ y ∷ r) j len fits zeros ones =
     let rest = number_in-lt r (IsBytes-rest y r (IsBytes-rest x (y ∷ r) fits)) in
     let l = front_low x y p (number_in r) (zeros (omega arith)) in
     let h = front_high x y p (number_in r) (fits 0) (fits 1) rest (ones (omega arith)) in
-    let number : x * 256 ^ suc (length r) + (y * p + number_in r) ≡ x * (p * 256) + (y * p + number_in r) = ap (λ (q : ℕ). x * q + (y * p + number_in r)) power in
+    let number : x * 256 ^ suc (length r) + (y * p + number_in r) ≡ x * (p * 256) + (y * p + number_in r) =
+    ap (λ (q : ℕ). x * q + (y * p + number_in r)) power in
     let at : (i : ℕ) → j ≡ suc i → length r ≡ i = λ i e. omega (arith, len, e) in
     record {
       low = λ i e. subst (λ (k : ℕ). 128 * 256 ^ k ≤ number_in (x ∷ y ∷ r)) (at i e) (omega (arith, l, number));
@@ -127,7 +131,12 @@ placed_low : (n j : ℕ) → n < 128 * 256 ^ j → IsBetween n j → IsPlaced (p
 unfolding placed
 placed_low n j lt b =
     let e : suc j - 1 ≡ j = omega arith in
-    record { some = omega arith; fits = rw e lt; least = λ more. let i : j ≡ suc (j - 1) = omega (arith, more) in let at : suc j - 2 ≡ j - 1 = omega arith in rw at (b.low (j - 1) i); number = refl }
+    record {
+      some = omega arith;
+      fits = rw e lt;
+      least = λ more. let i : j ≡ suc (j - 1) = omega (arith, more) in let at : suc j - 2 ≡ j - 1 = omega arith in rw at (b.low (j - 1) i);
+      number = refl;
+    }
 
 placed_high : (n j : ℕ) → 128 * 256 ^ j ≤ n → n < 256 * 256 ^ j → IsBetween n j → IsPlaced (negsuc (256 * 256 ^ j - 1 - n)) n (suc j)
 unfolding placed
@@ -159,7 +168,8 @@ is_placed : (z : ℤ) (xs : List ℕ) → IsSigned z xs → IsPlaced z (number_i
 is_placed z xs s =
     let len : length xs ≡ suc (length xs - 1) = let some = s.some in omega arith in
     let b = between_of xs (length xs - 1) len s.octets s.zeros s.ones in
-    subst (λ (k : ℕ). IsPlaced z (number_in xs) k) (sym len) (subst (λ (y : ℤ). IsPlaced y (number_in xs) (suc (length xs - 1))) s.sum (signed_placed xs (length xs - 1) len s.octets b))
+    subst (λ (k : ℕ). IsPlaced z (number_in xs) k) (sym len)
+    (subst (λ (y : ℤ). IsPlaced y (number_in xs) (suc (length xs - 1))) s.sum (signed_placed xs (length xs - 1) len s.octets b))
 
 wider : (z : ℤ) (n m k l : ℕ) → IsPlaced z n k → IsPlaced z m l → k < l → ⊥
 wider z n m k l p q lt =
@@ -282,6 +292,8 @@ value_back (object i) xs h = ap object (object_again i xs h)
 
 pub values_apart : (d e : Datum) (a b c f : List ℕ) → SpellsValue d a → SpellsValue e b → a ++ c ≡ b ++ f → (d ≡ e) × (a ≡ b)
 values_apart d e a b c f p q same =
-    let one = one_only element_at SpellsElement element_exact (value_part d p.contents) (value_part e q.contents) a b c f (value_element d a p) (value_element e b q) same in
-    let mid : value_by (form_of d (length p.contents)) (kind_number d) p.contents ≡ value_by (form_of e (length q.contents)) (kind_number e) q.contents = ap (λ (x : Part). value_by x.mark.form x.mark.number x.contents) one.0 in
+    let one = one_only element_at SpellsElement element_exact (value_part d p.contents) (value_part e q.contents) a b c f (value_element d a p)
+    (value_element e b q) same in
+    let mid : value_by (form_of d (length p.contents)) (kind_number d) p.contents ≡ value_by (form_of e (length q.contents)) (kind_number e) q.contents =
+    ap (λ (x : Part). value_by x.mark.form x.mark.number x.contents) one.0 in
     (sym (value_back d p.contents p.are) ∙ mid ∙ value_back e q.contents q.are, one.1)

@@ -52,12 +52,17 @@ not_longer_ones : (xs : List ℕ) → is_longer_signed xs ≡ false → 1 < leng
 not_longer_ones xs e more z = grind (arith, nat_tests)
 
 pub signed_of : (xs : List ℕ) → IsBytes xs → 0 < length xs → length xs ≤ 8 → is_longer_signed xs ≡ false → IsInteger 8 (signed_in xs) xs
-signed_of xs fits some few e = record { spelled = record { octets = fits; sum = refl; some = some; zeros = not_longer_zeros xs e; ones = not_longer_ones xs e }; few = few }
+signed_of xs fits some few e = record {
+  spelled = record
+      { octets = fits; sum = refl; some = some; zeros = not_longer_zeros xs e; ones = not_longer_ones xs e };
+  few = few;
+}
 
 raw_of : (size : ℕ) (xs : List ℕ) → IsTrue (eqb (length xs) size) → IsRaw size xs xs
 raw_of size xs e = record { is = refl; sized = eqb-true _ _ e }
 
-pub object_of : (xs : List ℕ) → IsBytes xs → length xs ≡ 4 → IsObject (record { kind = from_be_bytes w32 xs / 2 ^ 22; instance = from_be_bytes w32 xs % 2 ^ 22 }) xs
+pub object_of : (xs : List ℕ) → IsBytes xs → length xs ≡ 4
+    → IsObject (record { kind = from_be_bytes w32 xs / 2 ^ 22; instance = from_be_bytes w32 xs % 2 ^ 22 }) xs
 object_of xs fits four =
     let n = from_be_bytes w32 xs in
     let below : n < 2 ^ 32 = wide32.below xs fits in
@@ -98,7 +103,8 @@ kind_meant (suc (suc (suc (suc (suc (suc zero)))))) xs lt fits len e = (refl, re
 kind_meant (suc (suc (suc (suc (suc (suc (suc zero))))))) [] lt fits len e = absurd cc
 kind_meant (suc (suc (suc (suc (suc (suc (suc zero))))))) (x ∷ xs) lt fits len e = (refl, refl)
 kind_meant (suc (suc (suc (suc (suc (suc (suc (suc zero)))))))) [] lt fits len e = absurd cc
-kind_meant (suc (suc (suc (suc (suc (suc (suc (suc zero)))))))) (x ∷ xs) lt fits len e = (refl, record { is = refl; fits = fault_unless (bits_fit x xs) ReservedBits e })
+kind_meant (suc (suc (suc (suc (suc (suc (suc (suc zero)))))))) (x ∷ xs) lt fits len e =
+    (refl, record { is = refl; fits = fault_unless (bits_fit x xs) ReservedBits e })
 kind_meant (suc (suc (suc (suc (suc (suc (suc (suc (suc zero))))))))) xs lt fits len e =
     let k = between 0 5 (length xs) len in
     (refl, unsigned_of 4 xs fits k.0 (omega (arith, k.1)) (no_fault (is_longer_unsigned xs) NotShortest e))
@@ -115,7 +121,8 @@ kind_takes n xs lt fits len e = let h = kind_meant n xs lt fits len e in (datum_
 unsigned_right : (most n : ℕ) (xs : List ℕ) → IsNumber most n xs → is_longer_unsigned xs ≡ false
 unsigned_right most n xs h = let s = h.spelled.shortest in grind (arith, nat_tests)
 
-signed_right : (xs : List ℕ) → (1 < length xs → get_or xs 0 0 ≡ 0 → 128 ≤ get_or xs 1 0) → (1 < length xs → get_or xs 0 0 ≡ 255 → get_or xs 1 0 < 128) → is_longer_signed xs ≡ false
+signed_right : (xs : List ℕ) → (1 < length xs → get_or xs 0 0 ≡ 0 → 128 ≤ get_or xs 1 0) → (1 < length xs → get_or xs 0 0 ≡ 255 → get_or xs 1 0 < 128)
+    → is_longer_signed xs ≡ false
 signed_right xs p q = grind (arith, nat_tests)
 
 pub record IsRight (n : ℕ) (xs : List ℕ) : Type 0 where
@@ -132,7 +139,10 @@ pub kind_again : (d : Datum) (xs : List ℕ) → IsContents d xs → IsRight (ki
 kind_again null xs h = rw h (record { len = refl; none = refl })
 kind_again (boolean b) xs h = rw h (record { len = refl; none = refl })
 kind_again (unsigned n) xs h = record { len = between_from 0 9 (length xs) h.spelled.some (omega (arith, h.few)); none = rw (unsigned_right 8 n xs h) refl }
-kind_again (signed z) xs h = record { len = between_from 0 9 (length xs) h.spelled.some (omega (arith, h.few)); none = rw (signed_right xs h.spelled.zeros h.spelled.ones) refl }
+kind_again (signed z) xs h = record {
+  len = between_from 0 9 (length xs) h.spelled.some (omega (arith, h.few));
+  none = rw (signed_right xs h.spelled.zeros h.spelled.ones) refl;
+}
 kind_again (real a) xs h = record { len = raw_right 4 a xs h; none = refl }
 kind_again (double a) xs h = record { len = raw_right 8 a xs h; none = refl }
 kind_again (octets a) xs h = record { len = refl; none = refl }

@@ -40,11 +40,19 @@ below_half q low high = record { zeros = λ e. omega (arith, e); ones = λ e. om
 above_half : (q : ℕ) → 32768 ≤ q → q < 65408 → IsSignedFront (q / 256 % 256) (q % 256)
 above_half q low high = record { zeros = λ e. omega (arith, e); ones = λ e. omega (arith, e) }
 
-front_is : (i n : ℕ) → IsSignedFront (n / 256 ^ i / 256 % 256) (n / 256 ^ i % 256) → IsSignedFront (get_or (big_bytes (suc (suc i)) n) 0 0) (get_or (big_bytes (suc (suc i)) n) 1 0)
+front_is : (i n : ℕ) → IsSignedFront (n / 256 ^ i / 256 % 256) (n / 256 ^ i % 256)
+    → IsSignedFront (get_or (big_bytes (suc (suc i)) n) 0 0) (get_or (big_bytes (suc (suc i)) n) 1 0)
 front_is i n h = let f = two_front i n in rw (f.0, f.1) h
 
-signed_big : (z : ℤ) (j n : ℕ) → n < 256 ^ suc j → signed_in (big_bytes (suc j) n) ≡ z → ((i : ℕ) → j ≡ suc i → IsSignedFront (n / 256 ^ i / 256 % 256) (n / 256 ^ i % 256)) → IsSigned z (big_bytes (suc j) n)
-signed_big z zero n lt sum h = record { octets = IsBytes-big 1 n; sum = sum; some = omega arith; zeros = λ more e. absurd (omega (arith, more, length-big 1 n)); ones = λ more e. absurd (omega (arith, more, length-big 1 n)) }
+signed_big : (z : ℤ) (j n : ℕ) → n < 256 ^ suc j → signed_in (big_bytes (suc j) n) ≡ z
+    → ((i : ℕ) → j ≡ suc i → IsSignedFront (n / 256 ^ i / 256 % 256) (n / 256 ^ i % 256)) → IsSigned z (big_bytes (suc j) n)
+signed_big z zero n lt sum h = record {
+  octets = IsBytes-big 1 n;
+  sum = sum;
+  some = omega arith;
+  zeros = λ more e. absurd (omega (arith, more, length-big 1 n));
+  ones = λ more e. absurd (omega (arith, more, length-big 1 n));
+}
 signed_big z (suc i) n lt sum h =
     let f = front_is i n (h i refl) in
     record { octets = IsBytes-big (suc (suc i)) n; sum = sum; some = omega arith; zeros = λ more e. f.zeros e; ones = λ more e. f.ones e }

@@ -55,7 +55,8 @@ pub record IsExact {Y : Type 0} (read : List ℕ → Result (Y × List ℕ) Faul
   pub takes : (bytes : List ℕ) (x : Y × List ℕ) → IsBytes bytes → read bytes ≡ Ok x → (text : List ℕ) × (bytes ≡ text ++ x.1) × Spells x.0 text
   pub again : (y : Y) (text rest : List ℕ) → Spells y text → read (text ++ rest) ≡ Ok (y, rest)
 
-pub found : {Y : Type 0} (read : List ℕ → Result (Y × List ℕ) FaultKind) (Spells : Y → List ℕ → Type 0) → IsExact read Spells → (bytes rest : List ℕ) (k : ℕ) (y : Y) → IsBytes bytes
+pub found : {Y : Type 0} (read : List ℕ → Result (Y × List ℕ) FaultKind) (Spells : Y → List ℕ → Type 0) → IsExact read Spells
+    → (bytes rest : List ℕ) (k : ℕ) (y : Y) → IsBytes bytes
     → k ≡ length bytes - length rest → read bytes ≡ Ok (y, rest) → IsFound read Spells bytes y k
 found read Spells law bytes rest k y fits is e =
     let t = law.takes bytes (y, rest) fits e in
@@ -64,7 +65,8 @@ found read Spells law bytes rest k y fits is e =
     let behind : drop k bytes ≡ rest = ap (drop k) t.1 ∙ drop_at t.0 rest k len in
     record { in_range = omega (arith, ap length t.1, length-append t.0 rest); spelled = rw front t.2; exact = rw behind e }
 
-pub refused : {Y : Type 0} (read : List ℕ → Result (Y × List ℕ) FaultKind) (Spells : Y → List ℕ → Type 0) → IsExact read Spells → (bytes : List ℕ) (e : FaultKind) → read bytes ≡ Err e
+pub refused : {Y : Type 0} (read : List ℕ → Result (Y × List ℕ) FaultKind) (Spells : Y → List ℕ → Type 0) → IsExact read Spells
+    → (bytes : List ℕ) (e : FaultKind) → read bytes ≡ Err e
     → IsRefused read Spells bytes e
 refused read Spells law bytes e h = record {
   none = λ y k s.
@@ -74,7 +76,8 @@ refused read Spells law bytes e h = record {
   exact = h;
 }
 
-pub one_only : {Y : Type 0} (read : List ℕ → Result (Y × List ℕ) FaultKind) (Spells : Y → List ℕ → Type 0) → IsExact read Spells → (y z : Y) (a b c d : List ℕ) → Spells y a → Spells z b → a ++ c ≡ b ++ d → (y ≡ z) × (a ≡ b)
+pub one_only : {Y : Type 0} (read : List ℕ → Result (Y × List ℕ) FaultKind) (Spells : Y → List ℕ → Type 0) → IsExact read Spells
+    → (y z : Y) (a b c d : List ℕ) → Spells y a → Spells z b → a ++ c ≡ b ++ d → (y ≡ z) × (a ≡ b)
 one_only {Y = Y} read Spells law y z a b c d s t e =
     let both : done (y, c) ≡ done (z, d) = sym (law.again y a c s) ∙ ap read e ∙ law.again z b d t in
     let same = ok_is (y, c) (z, d) both in

@@ -43,23 +43,29 @@ wide32 = record {
   below = λ bytes fits. omega (arith, fits 0, fits 1, fits 2, fits 3);
 }
 
-pub wide_again : (w : Width) (limit least : ℕ) (wide : IsWide w limit) (n : ℕ) (rest : List ℕ) → least ≤ n → n < limit → wide_at w least (to_be_bytes w n ++ rest) ≡ Ok (n, rest)
+pub wide_again : (w : Width) (limit least : ℕ) (wide : IsWide w limit) (n : ℕ) (rest : List ℕ) → least ≤ n → n < limit
+    → wide_at w least (to_be_bytes w n ++ rest) ≡ Ok (n, rest)
 unfolding wide_at
 wide_again w limit least wide n rest le lt =
     let len = wide.len n in
     let long : ltb (length (to_be_bytes w n ++ rest)) (byte_len w) ≡ false = le-ltb _ _ (omega (arith, length-append (to_be_bytes w n) rest)) in
     rw (long, take_at (to_be_bytes w n) rest (byte_len w) len, drop_at (to_be_bytes w n) rest (byte_len w) len, wide.again n lt, le-ltb n least le) refl
 
-pub wide_takes : (w : Width) (limit least : ℕ) (wide : IsWide w limit) (bytes : List ℕ) (x : ℕ × List ℕ) → IsBytes bytes → wide_at w least bytes ≡ Ok x → Takes bytes (to_be_bytes w x.0) x.1 × (least ≤ x.0) × (x.0 < limit)
+pub wide_takes : (w : Width) (limit least : ℕ) (wide : IsWide w limit) (bytes : List ℕ) (x : ℕ × List ℕ) → IsBytes bytes → wide_at w least bytes ≡ Ok x
+    → Takes bytes (to_be_bytes w x.0) x.1 × (least ≤ x.0) × (x.0 < limit)
 unfolding wide_at
 wide_takes w limit least wide bytes x fits e =
     let n = from_be_bytes w (take (byte_len w) bytes) in
     let g = guard_ok (ltb (length bytes) (byte_len w)) Truncated (cond (ltb n least) (Err LongForm) (Ok (n, drop (byte_len w) bytes))) x e in
     let h = guard_ok (ltb n least) LongForm (Ok (n, drop (byte_len w) bytes)) x g.1 in
     let long : byte_len w ≤ length bytes = ltb-false _ _ g.0 in
-    let front : to_be_bytes w n ≡ take (byte_len w) bytes = wide.back (take (byte_len w) bytes) (omega (arith, length-take (byte_len w) bytes)) (IsBytes-take (byte_len w) bytes fits) in
-    subst (λ (y : ℕ × List ℕ). Takes bytes (to_be_bytes w y.0) y.1 × (least ≤ y.0) × (y.0 < limit)) (ok_is (n, drop (byte_len w) bytes) x h.1)
-    (record { parts = rw front (sym (take-append-drop (byte_len w) bytes)); rest_fits = IsBytes-drop (byte_len w) bytes fits }, ltb-false _ _ h.0, wide.below (take (byte_len w) bytes) (IsBytes-take (byte_len w) bytes fits))
+    let front : to_be_bytes w n ≡ take (byte_len w) bytes =
+    wide.back (take (byte_len w) bytes) (omega (arith, length-take (byte_len w) bytes)) (IsBytes-take (byte_len w) bytes fits) in
+    subst (λ (y : ℕ × List ℕ). Takes bytes (to_be_bytes w y.0) y.1 × (least ≤ y.0) × (y.0 < limit)) (ok_is (n, drop (byte_len w) bytes) x h.1) (
+      record { parts = rw front (sym (take-append-drop (byte_len w) bytes)); rest_fits = IsBytes-drop (byte_len w) bytes fits },
+      ltb-false _ _ h.0,
+      wide.below (take (byte_len w) bytes) (IsBytes-take (byte_len w) bytes fits),
+    )
 
 -- ---- the number of a tag
 
@@ -85,7 +91,8 @@ extended_takes (n ∷ rest) x fits e =
       | inr c ↦ absurd cc
     ]
 
-pub number_takes : (bits : ℕ) (bytes : List ℕ) (x : ℕ × List ℕ) → bits < 16 → IsBytes bytes → tag_number_at bits bytes ≡ Ok x → Takes bytes (number_octets x.0) x.1 × (bits ≡ number_bits x.0) × (x.0 < 255)
+pub number_takes : (bits : ℕ) (bytes : List ℕ) (x : ℕ × List ℕ) → bits < 16 → IsBytes bytes → tag_number_at bits bytes ≡ Ok x
+    → Takes bytes (number_octets x.0) x.1 × (bits ≡ number_bits x.0) × (x.0 < 255)
 unfolding tag_number_at extended
 number_takes bits bytes x in_range fits e =
     elim (chosen (ltb bits 15) (Ok (bits, bytes)) (extended bytes) (Ok x) e) [
@@ -114,7 +121,8 @@ length_again k rest lt =
     ]
 
 long : List ℕ → Result (ℕ × List ℕ) FaultKind
-long bytes = octet_at bytes >>= λ k. cond (ltb k.0 5) (Err LongForm) (cond (ltb k.0 254) (Ok (k.0, k.1)) (cond (eqb k.0 254) (wide_at w16 254 k.1) (wide_at w32 65536 k.1)))
+long bytes = octet_at bytes >>= λ k. cond (ltb k.0 5) (Err LongForm)
+    (cond (ltb k.0 254) (Ok (k.0, k.1)) (cond (eqb k.0 254) (wide_at w16 254 k.1) (wide_at w32 65536 k.1)))
 
 IsLong : List ℕ → ℕ × List ℕ → Type 0
 IsLong bytes x = Takes bytes (length_octets x.0) x.1 × (5 ≤ x.0) × (x.0 < 2 ^ 32)
@@ -132,16 +140,25 @@ long_takes (k ∷ rest) x fits e =
       | inr c ↦ elim (chosen (eqb k 254) (wide_at w16 254 rest) (wide_at w32 65536 rest) (Ok x) c.1) [
         | inl d ↦
             let t = wide_takes w16 (2 ^ 16) 254 wide16 rest x rest_fits d.1 in
-            let is : k ≡ 254 = eqb-true _ _ d.0 in
-            (rw (le-ltb x.0 5 (omega (arith, t.1)), le-ltb x.0 254 t.1, lt-ltb x.0 65536 t.2) (record { parts = rw is (ap (λ (r : List ℕ). 254 ∷ r) t.0.parts); rest_fits = t.0.rest_fits }), omega (arith, t.1), omega (arith, t.2))
+            let is : k ≡ 254 = eqb-true _ _ d.0 in (
+              rw (le-ltb x.0 5 (omega (arith, t.1)), le-ltb x.0 254 t.1, lt-ltb x.0 65536 t.2)
+                  (record { parts = rw is (ap (λ (r : List ℕ). 254 ∷ r) t.0.parts); rest_fits = t.0.rest_fits }),
+              omega (arith, t.1),
+              omega (arith, t.2),
+            )
         | inr d ↦
             let t = wide_takes w32 (2 ^ 32) 65536 wide32 rest x rest_fits d.1 in
-            let is : k ≡ 255 = omega (arith, fits 0, ltb-false _ _ c.0, eqb-false _ _ d.0) in
-            (rw (le-ltb x.0 5 (omega (arith, t.1)), le-ltb x.0 254 (omega (arith, t.1)), le-ltb x.0 65536 t.1) (record { parts = rw is (ap (λ (r : List ℕ). 255 ∷ r) t.0.parts); rest_fits = t.0.rest_fits }), omega (arith, t.1), t.2)
+            let is : k ≡ 255 = omega (arith, fits 0, ltb-false _ _ c.0, eqb-false _ _ d.0) in (
+              rw (le-ltb x.0 5 (omega (arith, t.1)), le-ltb x.0 254 (omega (arith, t.1)), le-ltb x.0 65536 t.1)
+                  (record { parts = rw is (ap (λ (r : List ℕ). 255 ∷ r) t.0.parts); rest_fits = t.0.rest_fits }),
+              omega (arith, t.1),
+              t.2,
+            )
       ]
     ]
 
-pub length_takes : (bits : ℕ) (bytes : List ℕ) (x : ℕ × List ℕ) → bits < 6 → IsBytes bytes → length_at bits bytes ≡ Ok x → Takes bytes (length_octets x.0) x.1 × (bits ≡ form_bits (Length x.0)) × (x.0 < 2 ^ 32)
+pub length_takes : (bits : ℕ) (bytes : List ℕ) (x : ℕ × List ℕ) → bits < 6 → IsBytes bytes → length_at bits bytes ≡ Ok x
+    → Takes bytes (length_octets x.0) x.1 × (bits ≡ form_bits (Length x.0)) × (x.0 < 2 ^ 32)
 unfolding length_at long IsLong
 length_takes bits bytes x in_range fits e =
     elim (chosen (ltb bits 5) (Ok (bits, bytes)) (long bytes) (Ok x) e) [
@@ -171,7 +188,8 @@ length_bits-le k = elim (cases_lt k 5) [ inl b ↦ rw (lt-ltb k 5 b) (omega arit
 abbrev made : ℕ → Class → Form → Mark
 made n c f = record { number = n; class = c; form = f }
 
-form_again : (n : ℕ) (c : Class) (f : Form) (rest : List ℕ) → IsTrue (tag_fits n c f) → length_fits f → form_at (form_bits f) (is_context c) n (form_octets f ++ rest) ≡ Ok (made n c f, rest)
+form_again : (n : ℕ) (c : Class) (f : Form) (rest : List ℕ) → IsTrue (tag_fits n c f) → length_fits f
+    → form_at (form_bits f) (is_context c) n (form_octets f ++ rest) ≡ Ok (made n c f, rest)
 unfolding form_at
 form_again n Application (Length k) rest fits lt =
     let p = and_parts (ltb n 13) (not (eqb n 1)) fits in
@@ -182,18 +200,24 @@ form_again n Application (Boolean false) rest fits lt = rw (eqb-true n 1 fits) r
 form_again n Application Opening rest fits lt = absurd cc
 form_again n Application Closing rest fits lt = absurd cc
 form_again n Context (Length k) rest fits lt =
-    rw (ne_eqb (form_bits (Length k)) 6 (λ e. absurd (omega (arith, length_bits-le k, e))), ne_eqb (form_bits (Length k)) 7 (λ e. absurd (omega (arith, length_bits-le k, e))), length_again k rest lt) refl
+    rw (
+      ne_eqb (form_bits (Length k)) 6 (λ e. absurd (omega (arith, length_bits-le k, e))),
+      ne_eqb (form_bits (Length k)) 7 (λ e. absurd (omega (arith, length_bits-le k, e))),
+      length_again k rest lt,
+    ) refl
 form_again n Context (Boolean b) rest fits lt = absurd cc
 form_again n Context Opening rest fits lt = refl
 form_again n Context Closing rest fits lt = refl
 
 IsForm : ℕ → Bool → ℕ → List ℕ → Mark × List ℕ → Type 0
-IsForm bits context n bytes x = Takes bytes (form_octets x.0.form) x.1 × (x.0.number ≡ n) × (is_context x.0.class ≡ context) × (bits ≡ form_bits x.0.form) × IsTrue (tag_fits x.0.number x.0.class x.0.form) × length_fits x.0.form
+IsForm bits context n bytes x = Takes bytes (form_octets x.0.form) x.1 × (x.0.number ≡ n) × (is_context x.0.class ≡ context) × (bits ≡ form_bits x.0.form)
+    × IsTrue (tag_fits x.0.number x.0.class x.0.form) × length_fits x.0.form
 
 with_length : ℕ → ℕ → Class → List ℕ → Result (Mark × List ℕ) FaultKind
 with_length bits n c bytes = length_at bits bytes >>= λ k. Ok (made n c (Length k.0), k.1)
 
-with_length_takes : (bits n : ℕ) (c : Class) (bytes : List ℕ) (x : Mark × List ℕ) → bits < 6 → ((k : ℕ) → IsTrue (tag_fits n c (Length k))) → IsBytes bytes → with_length bits n c bytes ≡ Ok x → IsForm bits (is_context c) n bytes x
+with_length_takes : (bits n : ℕ) (c : Class) (bytes : List ℕ) (x : Mark × List ℕ) → bits < 6 → ((k : ℕ) → IsTrue (tag_fits n c (Length k))) → IsBytes bytes
+    → with_length bits n c bytes ≡ Ok x → IsForm bits (is_context c) n bytes x
 unfolding with_length IsForm
 with_length_takes bits n c bytes x small ok fits e =
     let a = bind_ok (length_at bits bytes) (λ k. Ok (made n c (Length k.0), k.1)) x e in
@@ -205,13 +229,17 @@ bit_is zero lt = refl
 bit_is (suc zero) lt = refl
 bit_is (suc (suc n)) lt = absurd (omega arith)
 
-form_takes : (bits : ℕ) (context : Bool) (n : ℕ) (bytes : List ℕ) (x : Mark × List ℕ) → bits < 8 → n < 255 → IsBytes bytes → form_at bits context n bytes ≡ Ok x → IsForm bits context n bytes x
+form_takes : (bits : ℕ) (context : Bool) (n : ℕ) (bytes : List ℕ) (x : Mark × List ℕ) → bits < 8 → n < 255 → IsBytes bytes
+    → form_at bits context n bytes ≡ Ok x → IsForm bits context n bytes x
 unfolding form_at IsForm with_length
 form_takes bits true n bytes x small lt fits e =
-    elim (chosen (eqb bits 6) (Ok (made n Context Opening, bytes)) (cond (eqb bits 7) (Ok (made n Context Closing, bytes)) (with_length bits n Context bytes)) (Ok x) e) [
-      | inl c ↦ subst (IsForm bits true n bytes) (ok_is (made n Context Opening, bytes) x c.1) (record { parts = refl; rest_fits = fits }, refl, refl, eqb-true _ _ c.0, lt-ltb n 255 lt, tt)
+    elim (chosen (eqb bits 6) (Ok (made n Context Opening, bytes))
+    (cond (eqb bits 7) (Ok (made n Context Closing, bytes)) (with_length bits n Context bytes)) (Ok x) e) [
+      | inl c ↦ subst (IsForm bits true n bytes) (ok_is (made n Context Opening, bytes) x c.1)
+          (record { parts = refl; rest_fits = fits }, refl, refl, eqb-true _ _ c.0, lt-ltb n 255 lt, tt)
       | inr c ↦ elim (chosen (eqb bits 7) (Ok (made n Context Closing, bytes)) (with_length bits n Context bytes) (Ok x) c.1) [
-        | inl d ↦ subst (IsForm bits true n bytes) (ok_is (made n Context Closing, bytes) x d.1) (record { parts = refl; rest_fits = fits }, refl, refl, eqb-true _ _ d.0, lt-ltb n 255 lt, tt)
+        | inl d ↦ subst (IsForm bits true n bytes) (ok_is (made n Context Closing, bytes) x d.1)
+            (record { parts = refl; rest_fits = fits }, refl, refl, eqb-true _ _ d.0, lt-ltb n 255 lt, tt)
         | inr d ↦
             let h = eqb-false _ _ c.0 in
             let i = eqb-false _ _ d.0 in
@@ -219,16 +247,20 @@ form_takes bits true n bytes x small lt fits e =
       ]
     ]
 form_takes bits false n bytes x small lt fits e =
-    let g = guard_ok (ltb 12 n) ReservedTag (cond (eqb n 1) (cond (ltb bits 2) (Ok (made n Application (Boolean (eqb bits 1)), bytes)) (Err BadLength)) (cond (ltb 5 bits) (Err BadLength) (with_length bits n Application bytes))) x e in
-    elim (chosen (eqb n 1) (cond (ltb bits 2) (Ok (made n Application (Boolean (eqb bits 1)), bytes)) (Err BadLength)) (cond (ltb 5 bits) (Err BadLength) (with_length bits n Application bytes)) (Ok x) g.1) [
+    let g = guard_ok (ltb 12 n) ReservedTag (cond (eqb n 1) (cond (ltb bits 2) (Ok (made n Application (Boolean (eqb bits 1)), bytes)) (Err BadLength))
+    (cond (ltb 5 bits) (Err BadLength) (with_length bits n Application bytes))) x e in
+    elim (chosen (eqb n 1) (cond (ltb bits 2) (Ok (made n Application (Boolean (eqb bits 1)), bytes)) (Err BadLength))
+    (cond (ltb 5 bits) (Err BadLength) (with_length bits n Application bytes)) (Ok x) g.1) [
       | inl c ↦ elim (chosen (ltb bits 2) (Ok (made n Application (Boolean (eqb bits 1)), bytes)) (Err BadLength) (Ok x) c.1) [
-        | inl d ↦ subst (IsForm bits false n bytes) (ok_is (made n Application (Boolean (eqb bits 1)), bytes) x d.1) (record { parts = refl; rest_fits = fits }, refl, refl, bit_is bits (ltb-true _ _ d.0), c.0, tt)
+        | inl d ↦ subst (IsForm bits false n bytes) (ok_is (made n Application (Boolean (eqb bits 1)), bytes) x d.1)
+            (record { parts = refl; rest_fits = fits }, refl, refl, bit_is bits (ltb-true _ _ d.0), c.0, tt)
         | inr d ↦ absurd cc
       ]
       | inr c ↦
           let h = guard_ok (ltb 5 bits) BadLength (with_length bits n Application bytes) x c.1 in
           let low : n ≤ 12 = ltb-false _ _ g.0 in
-          with_length_takes bits n Application bytes x (omega (arith, ltb-false _ _ h.0)) (λ k. and_from (ltb n 13) (not (eqb n 1)) (lt-ltb n 13 (omega arith)) (rw c.0 refl)) fits h.1
+          with_length_takes bits n Application bytes x (omega (arith, ltb-false _ _ h.0))
+          (λ k. and_from (ltb n 13) (not (eqb n 1)) (lt-ltb n 13 (omega arith)) (rw c.0 refl)) fits h.1
     ]
 
 bit_of_class : (c : Class) → (class_bit c ≡ 0) ⊎ (class_bit c ≡ 8)
@@ -270,11 +302,20 @@ tag_again t text rest s =
     let f-lt = form_bits-lt t.form in
     let bits : (16 * n + class_bit t.class + f) % 8 ≡ f = elim (bit_of_class t.class) [ inl e ↦ rw e (omega arith) | inr e ↦ rw e (omega arith) ] in
     let high : (16 * n + class_bit t.class + f) / 16 ≡ n = elim (bit_of_class t.class) [ inl e ↦ rw e (omega arith) | inr e ↦ rw e (omega arith) ] in
-    let regrouped : (number_octets t.number ++ form_octets t.form) ++ rest ≡ number_octets t.number ++ (form_octets t.form ++ rest) = append_assoc (number_octets t.number) (form_octets t.form) rest in
-    let whole : text ++ rest ≡ (16 * n + class_bit t.class + f) ∷ (number_octets t.number ++ (form_octets t.form ++ rest)) = ap (λ (x : List ℕ). x ++ rest) s.is ∙ ap (λ (x : List ℕ). (16 * n + class_bit t.class + f) ∷ x) regrouped in
-    ap tag_at whole ∙ rw (high, number_again t.number (form_octets t.form ++ rest) (number_in t.number t.class t.form s.fits), bits, class_again t.class n f f-lt, form_again t.number t.class t.form rest s.fits s.length_in) refl
+    let regrouped : (number_octets t.number ++ form_octets t.form) ++ rest ≡ number_octets t.number ++ (form_octets t.form ++ rest) =
+    append_assoc (number_octets t.number) (form_octets t.form) rest in
+    let whole : text ++ rest ≡ (16 * n + class_bit t.class + f) ∷ (number_octets t.number ++ (form_octets t.form ++ rest)) =
+    ap (λ (x : List ℕ). x ++ rest) s.is ∙ ap (λ (x : List ℕ). (16 * n + class_bit t.class + f) ∷ x) regrouped in
+    ap tag_at whole ∙ rw (
+      high,
+      number_again t.number (form_octets t.form ++ rest) (number_in t.number t.class t.form s.fits),
+      bits,
+      class_again t.class n f f-lt,
+      form_again t.number t.class t.form rest s.fits s.length_in,
+    ) refl
 
-pub tag_takes : (bytes : List ℕ) (x : Mark × List ℕ) → IsBytes bytes → tag_at bytes ≡ Ok x → Takes bytes (tag_spelling x.0) x.1 × SpellsTag x.0 (tag_spelling x.0)
+pub tag_takes : (bytes : List ℕ) (x : Mark × List ℕ) → IsBytes bytes → tag_at bytes ≡ Ok x → Takes bytes (tag_spelling x.0) x.1
+    × SpellsTag x.0 (tag_spelling x.0)
 unfolding tag_at tag_spelling IsForm
 tag_takes [] x fits e = absurd cc
 tag_takes (b ∷ bytes) x fits e =
@@ -286,8 +327,13 @@ tag_takes (b ∷ bytes) x fits e =
     let head-is : b ≡ 16 * number_bits x.0.number + class_bit x.0.class + form_bits x.0.form = omega (arith, class-is, number-is, tf.3) in
     let octets-is : number_octets n.0.0 ≡ number_octets x.0.number = ap number_octets (sym tf.1) in
     let tail = Takes-then bytes (number_octets n.0.0) n.0.1 (form_octets x.0.form) x.1 tn.0 tf.0 in
-    let tail-is : bytes ≡ (number_octets x.0.number ++ form_octets x.0.form) ++ x.1 = tail.parts ∙ ap (λ (y : List ℕ). (y ++ form_octets x.0.form) ++ x.1) octets-is in (
-      record { parts = ap (λ (h : ℕ). h ∷ bytes) head-is ∙ ap (λ (y : List ℕ). (16 * number_bits x.0.number + class_bit x.0.class + form_bits x.0.form) ∷ y) tail-is; rest_fits = tail.rest_fits },
+    let tail-is : bytes ≡ (number_octets x.0.number ++ form_octets x.0.form) ++ x.1 =
+    tail.parts ∙ ap (λ (y : List ℕ). (y ++ form_octets x.0.form) ++ x.1) octets-is in (
+      record {
+        parts = ap (λ (h : ℕ). h ∷ bytes) head-is
+            ∙ ap (λ (y : List ℕ). (16 * number_bits x.0.number + class_bit x.0.class + form_bits x.0.form) ∷ y) tail-is;
+        rest_fits = tail.rest_fits;
+      },
       record { fits = tf.4; length_in = tf.5; is = refl },
     )
 

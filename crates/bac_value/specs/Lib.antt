@@ -8,4 +8,5 @@ pub mod Element
 pub mod Meaning
 pub mod Data
 pub mod Reading
+pub mod Faults
 pub mod Views

@@ -1,4 +1,4 @@
-ghost use Rattle.std.specs.Prelude.{◌≡◌, IfOk};
+ghost use Rattle.std.specs.Prelude.{◌≡◌, ◌<◌, length, IfOk, OnErr};
 ghost use Rattle.bac_value.specs.Data.{IsData};
 
 use crate::memory::NoMemory;
@@ -20,10 +20,11 @@ pub struct DataBuf {
 }
 
 impl DataBuf {
-    /// A copy of octets that are data, in one allocation.
+    /// A copy of octets that are data, in one allocation where there are octets, otherwise in none.
     pub fn copied<O: Octets>(alloc: Global, octets: O) -> Result<DataBuf, NoMemory>
         requires { ∥ IsData (O.octets octets) ∥₁ }
-        ensures { IfOk result (λ copy. copy.octets.items ≡ O.octets octets) }
+        ensures same { IfOk result (λ copy. copy.octets.items ≡ O.octets octets) }
+        ensures full { OnErr result (0 < length (O.octets octets)) }
     {
         let mut copy = Vec::new(alloc);
         octets.append_to(&mut copy)?;
@@ -48,9 +49,10 @@ impl DataBuf {
 }
 
 impl Data<'_> {
-    /// A copy with its own memory, in one allocation.
+    /// A copy with its own memory, in one allocation where there are octets, otherwise in none.
     pub fn to_owned(self, alloc: Global) -> Result<DataBuf, NoMemory>
-        ensures { IfOk result (λ copy. copy.octets.items ≡ self.entry.octets.now) }
+        ensures same { IfOk result (λ copy. copy.octets.items ≡ self.entry.octets.now) }
+        ensures full { OnErr result (0 < length self.entry.octets.now) }
     {
         DataBuf::copied(alloc, self.octets)
     }

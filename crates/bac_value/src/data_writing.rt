@@ -1,4 +1,4 @@
-ghost use Rattle.std.specs.Prelude.{◌≡◌, ◌++◌, OnOk, OnErr};
+ghost use Rattle.std.specs.Prelude.{◌≡◌, ◌++◌, ◌+◌, ◌<◌, length, OnOk, OnErr, vec_len, vec_capacity};
 
 use crate::data::Data;
 use crate::memory::NoMemory;
@@ -8,6 +8,7 @@ use crate::octets::Octets;
 pub fn write_data(elements: Data<'_>, out: &mut Vec<u8>) -> Result<(), NoMemory>
     ensures ok { OnOk result (out.new.items ≡ out.old.items ++ elements.entry.octets.now) }
     ensures err { OnErr result (out.new.items ≡ out.old.items) }
+    ensures full { OnErr result (vec_capacity out.old < vec_len out.old + length elements.entry.octets.now) }
 {
     elements.octets.append_to(out)
 }

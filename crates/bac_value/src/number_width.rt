@@ -3,7 +3,8 @@ ghost use Rattle.bac_value.specs.Number.{width_of, half_width_of, distance, comp
 
 /// How many octets a number needs, and at least one.
 pub(crate) fn octets_of(number: u64) -> usize
-    ensures { result ≡ width_of number }
+    ensures is { result ≡ width_of number }
+    ensures few { result ≤ 8 }
 {
     if number < 0x100 {
         1
@@ -26,7 +27,8 @@ pub(crate) fn octets_of(number: u64) -> usize
 
 /// How many octets a signed number needs, and at least one, by its distance from 0, or from -1 below 0.
 pub(crate) fn signed_octets_of(distance: u64) -> usize
-    ensures { result ≡ half_width_of distance }
+    ensures is { result ≡ half_width_of distance }
+    ensures few { result ≤ 8 }
 {
     if distance < 0x80 {
         1
@@ -94,14 +96,16 @@ pub(crate) fn complement_of(number: i64) -> u64
 
 /// How many octets the contents of an Unsigned or an Enumerated have (clause 20.2.4).
 pub fn unsigned_len(number: u64) -> usize
-    ensures { result ≡ length (unsigned_octets number) }
+    ensures len { result ≡ length (unsigned_octets number) }
+    ensures few { result ≤ 8 }
 {
     octets_of(number)
 }
 
 /// How many octets the contents of a Signed have (clause 20.2.5).
 pub fn signed_len(number: i64) -> usize
-    ensures { result ≡ length (signed_octets number) }
+    ensures len { result ≡ length (signed_octets number) }
+    ensures few { result ≤ 8 }
 {
     signed_octets_of(distance_of(number))
 }

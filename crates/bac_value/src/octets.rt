@@ -1,4 +1,4 @@
-ghost use Rattle.std.specs.Prelude.{◌≡◌, ◌<◌, ◌≤◌, ◌+◌, ◌++◌, ◌∷◌, ℕ, List, [], length, take, drop, MatchOption, OnOk, OnErr, IfOk};
+ghost use Rattle.std.specs.Prelude.{◌≡◌, ◌<◌, ◌≤◌, ◌+◌, ◌++◌, ◌∷◌, ℕ, List, [], length, take, drop, MatchOption, OnOk, OnErr, IfOk, vec_len, vec_capacity};
 ghost use Rattle.bac_value.specs.Octets.{IsBytes};
 ghost use Rattle.bac_value.specs.Reading.{Reads, octet_at};
 
@@ -27,7 +27,8 @@ pub trait Octets: Copy {
     /// Appends them, or changes nothing.
     fn append_to(self, out: &mut Vec<u8>) -> Result<(), NoMemory>
         ensures ok { OnOk result (out.new.items ≡ out.old.items ++ octets self) }
-        ensures err { OnErr result (out.new.items ≡ out.old.items) };
+        ensures err { OnErr result (out.new.items ≡ out.old.items) }
+        ensures full { OnErr result (vec_capacity out.old < vec_len out.old + length (octets self)) };
 }
 
 impl Octets for &[u8] {

@@ -1,4 +1,4 @@
-ghost use Rattle.std.specs.Prelude.{◌≡◌, ◌<◌, ◌≤◌, ◌+◌, ◌-◌, ◌++◌, ◌^◌, ◌↔◌, length, take, drop, min, IsSome, IfSome, IfOk, OnOk, OnErr};
+ghost use Rattle.std.specs.Prelude.{◌≡◌, ◌<◌, ◌≤◌, ◌+◌, ◌-◌, ◌++◌, ◌^◌, ◌↔◌, length, take, drop, min, IsSome, IfSome, IfOk, OnOk, OnErr, vec_len, vec_capacity};
 ghost use Rattle.bac_value.specs.Octets.{IsBytes, joined, Begins};
 ghost use Rattle.bac_value.specs.Views.{octets_in};
 
@@ -45,7 +45,10 @@ fn append_piece(part: &[u8], skip: usize, left: usize, out: &mut Vec<u8>) -> Res
     requires { skip ≤ length part.now }
     ensures count { IfOk result (λ here. here ≡ min left (length part.now - skip)) }
     ensures ok { IfOk result (λ here. out.new.items ≡ out.old.items ++ take here (drop skip part.now)) }
+    ensures len { IfOk result (λ here. vec_len out.new ≡ vec_len out.old + here) }
     ensures err { OnErr result (out.new.items ≡ out.old.items) }
+    ensures full { OnErr result (vec_capacity out.old < vec_len out.old + left) }
+    ensures grows { vec_capacity out.old ≤ vec_capacity out.new }
 {
     let here = left.min(part.len() - skip);
     out.extend_from_slice(&part[skip..skip + here])?;
@@ -62,6 +65,7 @@ fn append_pieces(
     requires { at + len ≤ length (joined parts.now) }
     ensures ok { OnOk result (out.new.items ≡ out.old.items ++ take len (drop at (joined parts.now))) }
     ensures kept { Begins out.old.items out.new.items }
+    ensures full { OnErr result (vec_capacity out.old < vec_len out.old + len) }
 {
     out.reserve(len)?;
     let mut skip = at;

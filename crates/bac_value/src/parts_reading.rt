@@ -1,4 +1,4 @@
-ghost use Rattle.std.specs.Prelude.{◌≡◌, ◌≤◌, ◌+◌, ◌++◌, ℕ, length, take, drop, IfOk, IfErr, OnOk, OnErr, MatchResult, Ok, Err};
+ghost use Rattle.std.specs.Prelude.{◌≡◌, ◌<◌, ◌≤◌, ◌+◌, ◌++◌, ℕ, length, take, drop, IfOk, IfErr, OnOk, OnErr, MatchResult, Ok, Err, vec_len, vec_capacity};
 ghost use Rattle.bac_value.specs.Data.{IsDataFront};
 ghost use Rattle.bac_value.specs.Reading.{tag_at, data_of};
 ghost use Rattle.bac_value.specs.Spelling.{Mark, SpellsTag};
@@ -51,6 +51,7 @@ pub fn copy_out(parts: &Parts<'_>, at: usize, len: usize, out: &mut Vec<u8>) -> 
     requires { at + len ≤ length (octets_in parts.now) }
     ensures ok { OnOk result (out.new.items ≡ out.old.items ++ take len (drop at (octets_in parts.now))) }
     ensures err { OnErr result (out.new.items ≡ out.old.items) }
+    ensures full { OnErr result (vec_capacity out.old < vec_len out.old + len) }
 {
     let (_, behind) = parts.split(at);
     let (octets, _) = behind.split(len);

@@ -1,4 +1,4 @@
-ghost use Rattle.std.specs.Prelude.{◌≡◌, ◌<◌, ◌≤◌, ◌+◌, ◌++◌, ◌^◌, OnOk, OnErr, length};
+ghost use Rattle.std.specs.Prelude.{◌≡◌, ◌<◌, ◌≤◌, ◌+◌, ◌++◌, ◌^◌, OnOk, OnErr, length, vec_len, vec_capacity};
 ghost use Rattle.bac_value.specs.Octets.{Begins};
 ghost use Rattle.bac_value.specs.Spelling.{class_bit, form_bits, form_octets, length_octets, number_octets, number_bits, tag_spelling};
 ghost use Rattle.bac_value.specs.Views.{mark};
@@ -20,7 +20,10 @@ fn bits_of(form: Form) -> u8
 
 fn put_length(len: u32, out: &mut Vec<u8>) -> Result<(), NoMemory>
     ensures ok { OnOk result (out.new.items ≡ out.old.items ++ length_octets len) }
+    ensures len { OnOk result (vec_len out.new ≡ vec_len out.old + length (length_octets len)) }
     ensures kept { Begins out.old.items out.new.items }
+    ensures full { OnErr result (vec_capacity out.old < vec_len out.old + length (length_octets len)) }
+    ensures grows { vec_capacity out.old ≤ vec_capacity out.new }
 {
     if len < 5 {
         return Ok(());
@@ -41,7 +44,10 @@ fn put_length(len: u32, out: &mut Vec<u8>) -> Result<(), NoMemory>
 #[tactic(auto, unfolding(crate::specs::Spelling::tag_spelling))]
 pub fn put_tag(tag: &Tag, out: &mut Vec<u8>) -> Result<(), NoMemory>
     ensures ok { OnOk result (out.new.items ≡ out.old.items ++ tag_spelling (mark tag.now)) }
+    ensures len { OnOk result (vec_len out.new ≡ vec_len out.old + length (tag_spelling (mark tag.now))) }
     ensures kept { Begins out.old.items out.new.items }
+    ensures full { OnErr result (vec_capacity out.old < vec_len out.old + length (tag_spelling (mark tag.now))) }
+    ensures grows { vec_capacity out.old ≤ vec_capacity out.new }
 {
     let number = if tag.number < 15 { tag.number } else { 15 };
     let class = match tag.class {
@@ -62,6 +68,7 @@ pub fn put_tag(tag: &Tag, out: &mut Vec<u8>) -> Result<(), NoMemory>
 pub fn write_tag(tag: &Tag, out: &mut Vec<u8>) -> Result<(), NoMemory>
     ensures ok { OnOk result (out.new.items ≡ out.old.items ++ tag_spelling (mark tag.now)) }
     ensures err { OnErr result (out.new.items ≡ out.old.items) }
+    ensures full { OnErr result (vec_capacity out.old < vec_len out.old + length (tag_spelling (mark tag.now))) }
 {
     let before = out.len();
     let written = put_tag(tag, out);

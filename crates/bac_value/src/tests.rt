@@ -28,17 +28,7 @@ fn octets_of(alloc: Global, text: &str) -> Result<Vec<u8>, NoMemory> {
 type Outcome = (u8, usize);
 
 fn outcome_of(fault: Fault) -> Outcome {
-    let number = match fault.kind {
-        FaultKind::Truncated => 1,
-        FaultKind::ReservedTag => 2,
-        FaultKind::LongForm => 3,
-        FaultKind::BadLength => 4,
-        FaultKind::NotShortest => 5,
-        FaultKind::Unbalanced => 6,
-        FaultKind::TooDeep => 7,
-        FaultKind::ReservedBits => 8,
-    };
-    (number, fault.at)
+    (fault.kind.number(), fault.at)
 }
 
 fn tag_outcome(octets: &[u8]) -> Outcome {

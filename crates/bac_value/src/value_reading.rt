@@ -1,4 +1,4 @@
-ghost use Rattle.std.specs.Prelude.{◌≡◌, ◌<◌, ◌≤◌, ◌+◌, ◌∷◌, ◌^◌, ◌≢◌, length, slice_index, drop, IsTrue, None, IfOk, MatchOption};
+ghost use Rattle.std.specs.Prelude.{◌≡◌, ◌<◌, ◌≤◌, ◌+◌, ◌∷◌, ◌^◌, ◌≢◌, length, slice_index, drop, IsTrue, None, IfOk, OnErr, MatchOption};
 ghost use Rattle.bac_value.specs.Element.{IsOfKind};
 ghost use Rattle.bac_value.specs.Meaning.{IsValueOf, datum_in};
 ghost use Rattle.bac_value.specs.Reading.{length_in, flaw};
@@ -31,7 +31,8 @@ fn array_of<O: Octets, const N: usize>(octets: O) -> [u8; N]
 }
 
 fn copy_of<O: Octets>(alloc: Global, octets: O) -> Result<Vec<u8>, NoMemory>
-    ensures { IfOk result (λ copy. copy.items ≡ O.octets octets) }
+    ensures same { IfOk result (λ copy. copy.items ≡ O.octets octets) }
+    ensures full { OnErr result (0 < length (O.octets octets)) }
 {
     let mut copy = Vec::new(alloc);
     octets.append_to(&mut copy)?;
@@ -40,7 +41,8 @@ fn copy_of<O: Octets>(alloc: Global, octets: O) -> Result<Vec<u8>, NoMemory>
 
 fn octet_string<O: Octets>(alloc: Global, contents: O) -> Result<Value, NoMemory>
     requires { length (O.octets contents) < 2 ^ 32 }
-    ensures { IfOk result (λ v. datum v ≡ datum_in 6 (O.octets contents)) }
+    ensures value { IfOk result (λ v. datum v ≡ datum_in 6 (O.octets contents)) }
+    ensures full { OnErr result (0 < length (O.octets contents)) }
 {
     let octets = copy_of(alloc, contents)?;
     Ok(Value::OctetString(OctetString { octets }))
@@ -49,7 +51,8 @@ fn octet_string<O: Octets>(alloc: Global, contents: O) -> Result<Value, NoMemory
 fn character_string<O: Octets>(alloc: Global, contents: O) -> Result<Value, NoMemory>
     requires some { 0 < length (O.octets contents) }
     requires fits { length (O.octets contents) < 2 ^ 32 }
-    ensures { IfOk result (λ v. datum v ≡ datum_in 7 (O.octets contents)) }
+    ensures value { IfOk result (λ v. datum v ≡ datum_in 7 (O.octets contents)) }
+    ensures full { OnErr result (0 < length (O.octets contents)) }
 {
     let Some((set, text)) = contents.first() else {
         unreachable!()
@@ -62,7 +65,8 @@ fn bit_string<O: Octets>(alloc: Global, contents: O) -> Result<Value, NoMemory>
     requires some { 0 < length (O.octets contents) }
     requires fits { length (O.octets contents) < 2 ^ 32 }
     requires right { flaw 8 (O.octets contents) ≡ None }
-    ensures { IfOk result (λ v. datum v ≡ datum_in 8 (O.octets contents)) }
+    ensures value { IfOk result (λ v. datum v ≡ datum_in 8 (O.octets contents)) }
+    ensures full { OnErr result (0 < length (O.octets contents)) }
 {
     let Some((unused, octets)) = contents.first() else {
         unreachable!()
@@ -78,7 +82,8 @@ fn value_of_kind<O: Octets>(alloc: Global, kind: u8, contents: O) -> Result<Valu
     requires fits { length (O.octets contents) < 2 ^ 32 }
     requires sized { IsTrue (length_in kind (length (O.octets contents))) }
     requires right { flaw kind (O.octets contents) ≡ None }
-    ensures { IfOk result (λ v. datum v ≡ datum_in kind (O.octets contents)) }
+    ensures value { IfOk result (λ v. datum v ≡ datum_in kind (O.octets contents)) }
+    ensures full { OnErr result (0 < length (O.octets contents)) }
 {
     match kind {
         0 => Ok(Value::Null),
@@ -100,8 +105,9 @@ fn value_of_kind<O: Octets>(alloc: Global, kind: u8, contents: O) -> Result<Valu
 ///
 /// An element that was read is a value exactly where its tag is of the application class.
 pub fn value_of<O: Octets>(alloc: Global, element: Element<O>) -> Result<Option<Value>, NoMemory>
-    ensures { IfOk result (λ o. MatchOption o ((d : Datum) → IsValueOf d (part O.octets element) → ⊥)
+    ensures value { IfOk result (λ o. MatchOption o ((d : Datum) → IsValueOf d (part O.octets element) → ⊥)
         (λ v. IsValueOf (datum v) (part O.octets element))) }
+    ensures full { OnErr result (0 < length (O.octets element.contents)) }
 {
     let len = element.contents.len();
     match (element.tag.class, element.tag.form) {

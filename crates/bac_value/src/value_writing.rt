@@ -1,4 +1,4 @@
-ghost use Rattle.std.specs.Prelude.{◌≡◌, ◌<◌, ◌≤◌, ◌+◌, ◌*◌, ◌++◌, ◌^◌, ◌∷◌, ℕ, List, [], length, IsTrue, OnOk, OnErr};
+ghost use Rattle.std.specs.Prelude.{◌≡◌, ◌<◌, ◌≤◌, ◌+◌, ◌*◌, ◌++◌, ◌^◌, ◌∷◌, ℕ, List, [], length, IsTrue, OnOk, OnErr, vec_len, vec_capacity};
 ghost use Rattle.byteorder.specs.Endian.{big_bytes};
 ghost use Rattle.bac_value.specs.Octets.{Begins};
 ghost use Rattle.bac_value.specs.Limits.{length_tag_fits};
@@ -28,7 +28,10 @@ pub fn put_primitive(
     requires tag { IsTrue (length_tag_fits number class) }
     requires fits { length contents.now < 2 ^ 32 }
     ensures ok { OnOk result (out.new.items ≡ out.old.items ++ primitive class number contents.now) }
+    ensures len { OnOk result (vec_len out.new ≡ vec_len out.old + length (primitive class number contents.now)) }
     ensures kept { Begins out.old.items out.new.items }
+    ensures full { OnErr result (vec_capacity out.old < vec_len out.old + length (primitive class number contents.now)) }
+    ensures grows { vec_capacity out.old ≤ vec_capacity out.new }
 {
     let form = Form::Length(contents.len() as u32);
     let tag = Tag {
@@ -54,7 +57,10 @@ fn put_number(
     requires most { count ≤ 8 }
     requires fits { number < 256 ^ count }
     ensures ok { OnOk result (out.new.items ≡ out.old.items ++ primitive class tag (big_bytes count number)) }
+    ensures len { OnOk result (vec_len out.new ≡ vec_len out.old + length (primitive class tag (big_bytes count number))) }
     ensures kept { Begins out.old.items out.new.items }
+    ensures full { OnErr result (vec_capacity out.old < vec_len out.old + length (primitive class tag (big_bytes count number))) }
+    ensures grows { vec_capacity out.old ≤ vec_capacity out.new }
 {
     let mut buffer = [0u8; 8];
     BigEndian::write_uint(&mut buffer, number, count);
@@ -66,7 +72,10 @@ fn put_number(
 pub fn put_unsigned(class: Class, tag: u8, number: u64, out: &mut Vec<u8>) -> Result<(), NoMemory>
     requires { IsTrue (length_tag_fits tag class) }
     ensures ok { OnOk result (out.new.items ≡ out.old.items ++ primitive class tag (unsigned_octets number)) }
+    ensures len { OnOk result (vec_len out.new ≡ vec_len out.old + length (primitive class tag (unsigned_octets number))) }
     ensures kept { Begins out.old.items out.new.items }
+    ensures full { OnErr result (vec_capacity out.old < vec_len out.old + length (primitive class tag (unsigned_octets number))) }
+    ensures grows { vec_capacity out.old ≤ vec_capacity out.new }
 {
     put_number(class, tag, octets_of(number), number, out)
 }
@@ -76,7 +85,10 @@ pub fn put_unsigned(class: Class, tag: u8, number: u64, out: &mut Vec<u8>) -> Re
 pub fn put_signed(class: Class, tag: u8, number: i64, out: &mut Vec<u8>) -> Result<(), NoMemory>
     requires { IsTrue (length_tag_fits tag class) }
     ensures ok { OnOk result (out.new.items ≡ out.old.items ++ primitive class tag (signed_octets number)) }
+    ensures len { OnOk result (vec_len out.new ≡ vec_len out.old + length (primitive class tag (signed_octets number))) }
     ensures kept { Begins out.old.items out.new.items }
+    ensures full { OnErr result (vec_capacity out.old < vec_len out.old + length (primitive class tag (signed_octets number))) }
+    ensures grows { vec_capacity out.old ≤ vec_capacity out.new }
 {
     let count = signed_octets_of(distance_of(number));
     put_number(class, tag, count, complement_of(number), out)
@@ -91,7 +103,10 @@ pub fn put_object_identifier(
 ) -> Result<(), NoMemory>
     requires { IsTrue (length_tag_fits tag class) }
     ensures ok { OnOk result (out.new.items ≡ out.old.items ++ primitive class tag (object_octets (object_id id))) }
+    ensures len { OnOk result (vec_len out.new ≡ vec_len out.old + length (primitive class tag (object_octets (object_id id)))) }
     ensures kept { Begins out.old.items out.new.items }
+    ensures full { OnErr result (vec_capacity out.old < vec_len out.old + length (primitive class tag (object_octets (object_id id)))) }
+    ensures grows { vec_capacity out.old ≤ vec_capacity out.new }
 {
     let number = u32::from(id.kind) * 0x40_0000 + id.instance;
     put_primitive(class, tag, &number.to_be_bytes(), out)
@@ -100,7 +115,10 @@ pub fn put_object_identifier(
 /// Appends an application Boolean, whose value stands in its tag (clause 20.2.3).
 pub fn put_boolean(value: bool, out: &mut Vec<u8>) -> Result<(), NoMemory>
     ensures ok { OnOk result (out.new.items ≡ out.old.items ++ tag_spelling (mark_for (boolean value) 0)) }
+    ensures len { OnOk result (vec_len out.new ≡ vec_len out.old + length (tag_spelling (mark_for (boolean value) 0))) }
     ensures kept { Begins out.old.items out.new.items }
+    ensures full { OnErr result (vec_capacity out.old < vec_len out.old + length (tag_spelling (mark_for (boolean value) 0))) }
+    ensures grows { vec_capacity out.old ≤ vec_capacity out.new }
 {
     let tag = Tag {
         number: 1,
@@ -115,7 +133,10 @@ fn put_with_octet(kind: u8, octet: u8, octets: &[u8], out: &mut Vec<u8>) -> Resu
     requires tag { IsTrue (length_tag_fits kind Class.Application) }
     requires fits { length octets.now + 1 < 2 ^ 32 }
     ensures ok { OnOk result (out.new.items ≡ out.old.items ++ primitive Class.Application kind (octet ∷ octets.now)) }
+    ensures len { OnOk result (vec_len out.new ≡ vec_len out.old + length (primitive Class.Application kind (octet ∷ octets.now))) }
     ensures kept { Begins out.old.items out.new.items }
+    ensures full { OnErr result (vec_capacity out.old < vec_len out.old + length (primitive Class.Application kind (octet ∷ octets.now))) }
+    ensures grows { vec_capacity out.old ≤ vec_capacity out.new }
 {
     let tag = Tag {
         number: kind,
@@ -131,7 +152,10 @@ fn put_with_octet(kind: u8, octet: u8, octets: &[u8], out: &mut Vec<u8>) -> Resu
 /// Appends the one spelling of a value.
 pub fn put_value(value: &Value, out: &mut Vec<u8>) -> Result<(), NoMemory>
     ensures ok { OnOk result (out.new.items ≡ out.old.items ++ value_spelling (datum value.now)) }
+    ensures len { OnOk result (vec_len out.new ≡ vec_len out.old + length (value_spelling (datum value.now))) }
     ensures kept { Begins out.old.items out.new.items }
+    ensures full { OnErr result (vec_capacity out.old < vec_len out.old + length (value_spelling (datum value.now))) }
+    ensures grows { vec_capacity out.old ≤ vec_capacity out.new }
     ensures value { IsValue (datum value.now) }
 {
     let class = Class::Application;
@@ -156,6 +180,7 @@ pub fn put_value(value: &Value, out: &mut Vec<u8>) -> Result<(), NoMemory>
 pub fn write_value(value: &Value, out: &mut Vec<u8>) -> Result<(), NoMemory>
     ensures ok { OnOk result (AppendsValue (datum value.now) out.old.items out.new.items) }
     ensures err { OnErr result (out.new.items ≡ out.old.items) }
+    ensures full { OnErr result (vec_capacity out.old < vec_len out.old + length (value_spelling (datum value.now))) }
 {
     let before = out.len();
     let written = put_value(value, out);

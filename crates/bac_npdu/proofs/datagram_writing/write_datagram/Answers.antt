@@ -66,9 +66,11 @@ returns-in_err-extend_from_slice-3-clause-full c =
 
 pub returns-clause-ok : goal.returns-clause-ok
 returns-clause-ok c =
-    written (peer_view c.args.peer.now) c.args.expecting c.args.apdu.now c.args.out.now.items c.extend_from_slice.new.self.items c.extend_from_slice-2.new.self.items c.put_head.new.out.items c.extend_from_slice-3.new.self.items
+    written (peer_view c.args.peer.now) c.args.expecting c.args.apdu.now c.args.out.now.items c.extend_from_slice.new.self.items
+    c.extend_from_slice-2.new.self.items c.put_head.new.out.items c.extend_from_slice-3.new.self.items
     c.to_be_bytes.result c.head_len.result c.head_len.ensures.head c.to_be_bytes.ensures
-    (c.in_ok-extend_from_slice.ensures.items ∙ ap (λ (x : List ℕ). x ++ 0x81 ∷ 0x0A ∷ []) c.in_ok-reserve.ensures.items) c.in_ok-extend_from_slice-2.ensures.items c.in_ok-put_head.ensures.ok c.in_ok-extend_from_slice-3.ensures.items
+    (c.in_ok-extend_from_slice.ensures.items ∙ ap (λ (x : List ℕ). x ++ 0x81 ∷ 0x0A ∷ []) c.in_ok-reserve.ensures.items)
+    c.in_ok-extend_from_slice-2.ensures.items c.in_ok-put_head.ensures.ok c.in_ok-extend_from_slice-3.ensures.items
 
 pub returns-in_err-reserve-clause-spelled : goal.returns-in_err-reserve-clause-spelled
 returns-in_err-reserve-clause-spelled c = frame_spelled c.args.peer.now c.args.expecting c.args.apdu.now c.requires

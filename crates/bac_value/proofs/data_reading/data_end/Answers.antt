@@ -12,7 +12,8 @@ loop-opened-preserved g c =
     let e = rw c.in-Ok-Some.field-0-is at c.in-Ok-Some.ensures in
     record {
       fewer = omega (arith, e.onward, inv.fewer);
-      same = at_more inv.same.0 (reverse c.loop-opened.opened.items) (octets c.loop-opened.rest) (reverse c.step.new.opened.items) (octets c.in-Ok-Some.next) (data_of (octets c.args.octets)) e.onward inv.same.1 e.reads inv.same.2;
+      same = at_more inv.same.0 (reverse c.loop-opened.opened.items) (octets c.loop-opened.rest) (reverse c.step.new.opened.items)
+          (octets c.in-Ok-Some.next) (data_of (octets c.args.octets)) e.onward inv.same.1 e.reads inv.same.2;
     }
 
 pub returns-in-Ok-None : goal.returns-in-Ok-None
@@ -20,26 +21,40 @@ returns-in-Ok-None g c =
     let octets = g.O.Octets.octets in
     let inv = c.loop-opened.invariant in
     let s = inv.same in
-    let h = rw c.in-Ok-None.field-0-is at c.in-Ok-None.ensures in
-    (inv.fewer, at_stop s.0 (reverse c.loop-opened.opened.items) (octets c.loop-opened.rest) (data_of (octets c.args.octets)) (omega (arith, c.len.ensures.count, c.loop-opened-test.true)) s.1 h.reads s.2)
+    let h = rw c.in-Ok-None.field-0-is at c.in-Ok-None.ensures in (
+      inv.fewer,
+      at_stop s.0 (reverse c.loop-opened.opened.items) (octets c.loop-opened.rest) (data_of (octets c.args.octets))
+          (omega (arith, c.len.ensures.count, c.loop-opened-test.true)) s.1 h.reads s.2,
+    )
 
 pub returns-in-Err : goal.returns-in-Err
 returns-in-Err g c =
     let octets = g.O.Octets.octets in
-    let s = c.loop-opened.invariant.same in
-    (omega arith, at_fault s.0 (reverse c.loop-opened.opened.items) (octets c.loop-opened.rest) (data_of (octets c.args.octets)) c.in-Err.kind (omega (arith, c.len.ensures.count, c.loop-opened-test.true)) s.1 c.in-Err.ensures.reads s.2)
+    let s = c.loop-opened.invariant.same in (
+      omega arith,
+      at_fault s.0 (reverse c.loop-opened.opened.items) (octets c.loop-opened.rest) (data_of (octets c.args.octets)) c.in-Err.kind
+          (omega (arith, c.len.ensures.count, c.loop-opened-test.true)) s.1 c.in-Err.ensures.reads s.2,
+    )
 
 pub returns-then-is_empty : goal.returns-then-is_empty
 returns-then-is_empty g c =
     let octets = g.O.Octets.octets in
     let inv = c.loop-opened.invariant in
     let s = inv.same in
-    let empty = eqb-true _ _ (sym c.if-is_empty.ensures) in
-    (inv.fewer, at_end s.0 (reverse c.loop-opened.opened.items) (octets c.loop-opened.rest) (data_of (octets c.args.octets)) (omega (arith, length-reverse c.loop-opened.opened.items, empty)) (omega (arith, c.len.ensures.count, c.loop-opened-test.false)) (omega (arith, s.1)) s.2)
+    let empty = eqb-true _ _ (sym c.if-is_empty.ensures) in (
+      inv.fewer,
+      at_end s.0 (reverse c.loop-opened.opened.items) (octets c.loop-opened.rest) (data_of (octets c.args.octets))
+          (omega (arith, length-reverse c.loop-opened.opened.items, empty)) (omega (arith, c.len.ensures.count, c.loop-opened-test.false))
+          (omega (arith, s.1)) s.2,
+    )
 
 pub returns-else-is_empty : goal.returns-else-is_empty
 returns-else-is_empty g c =
     let octets = g.O.Octets.octets in
     let s = c.loop-opened.invariant.same in
-    let some = eqb-false _ _ (sym c.if-is_empty.ensures) in
-    (omega arith, at_end_inside s.0 (reverse c.loop-opened.opened.items) (octets c.loop-opened.rest) (data_of (octets c.args.octets)) (omega (arith, length-reverse c.loop-opened.opened.items, some)) (omega (arith, c.len.ensures.count, c.loop-opened-test.false)) (omega (arith, s.1)) s.2)
+    let some = eqb-false _ _ (sym c.if-is_empty.ensures) in (
+      omega arith,
+      at_end_inside s.0 (reverse c.loop-opened.opened.items) (octets c.loop-opened.rest) (data_of (octets c.args.octets))
+          (omega (arith, length-reverse c.loop-opened.opened.items, some)) (omega (arith, c.len.ensures.count, c.loop-opened-test.false))
+          (omega (arith, s.1)) s.2,
+    )

@@ -5,7 +5,7 @@ use Rattle.bac_value.specs.Number.{half_width_of, distance}
 use Rattle.bac_value.proofs.Signs.{length-signed}
 use Rattle.bac_value.proofs.number_width.signed_len.Goals as goal
 
-pub returns : goal.returns
-returns c =
+pub returns-clause-len : goal.returns-clause-len
+returns-clause-len c =
     let back = to_z-of_z w64 c.args.number c.ranges.number in
-    c.signed_octets_of.ensures ∙ ap half_width_of c.distance_of.ensures.is ∙ ap (λ z. half_width_of (distance z)) back ∙ sym (length-signed c.args.number)
+    c.signed_octets_of.ensures.is ∙ ap half_width_of c.distance_of.ensures.is ∙ ap (λ z. half_width_of (distance z)) back ∙ sym (length-signed c.args.number)

@@ -18,9 +18,18 @@ loop-part-preserved c =
     let count : here ≡ min left (length c.deref.result.now - over) = c.in_ok-here.ensures.count in
     let o : over ≡ min skip (length (get_or ps i p).items) = omega (arith, ap length e, c.deref.ensures.len, c.len.ensures, c.min-over.ensures) in
     let h : here ≡ min left (length (get_or ps i p).items - over) = omega (arith, ap length e, count) in
-    let is : c.append_piece.new.out.items ≡ c.loop-part.out.items ++ take here (drop over (get_or ps i p).items) = c.in_ok-here.ensures.ok ∙ ap (λ x. c.loop-part.out.items ++ take here (drop over x)) e in
+    let is : c.append_piece.new.out.items ≡ c.loop-part.out.items ++ take here (drop over (get_or ps i p).items) =
+    c.in_ok-here.ensures.ok ∙ ap (λ x. c.loop-part.out.items ++ take here (drop over x)) e in
     record {
-      room = omega (arith, inv.room, o, h, ap length (joined_rest ps i p c.loop-part-test.true), length-append (get_or ps i p).items (joined (drop (i + 1) ps)));
+      room = omega (
+        arith,
+        inv.room,
+        o,
+        h,
+        ap length (joined_rest ps i p c.loop-part-test.true),
+        length-append (get_or ps i p).items (joined (drop (i + 1) ps)),
+      );
       same = copied ps i p c.loop-part.out.items c.append_piece.new.out.items _ skip left over here c.loop-part-test.true o h is inv.same;
       kept = begins_more c.args.out.now.items c.loop-part.out.items c.append_piece.new.out.items _ inv.kept is;
+      ample = omega (arith, inv.ample, h, c.in_ok-here.ensures.len, c.append_piece.ensures.grows);
     }

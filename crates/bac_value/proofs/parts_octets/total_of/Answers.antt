@@ -15,8 +15,17 @@ loop-part-preserved c =
     let e : c.deref.result.now ≡ (get_or ps i p).items = c.deref.ensures.value ∙ ap (λ (x : Vec ℕ). x.items) c.part-item.is in
     record {
       fits = omega (arith, c.in_ok-len.ensures.0, c.in_ok-len.ensures.1);
-      counted = omega (arith, ap length (joined_rest ps i p lt), length-append (get_or ps i p).items (joined (drop (i + 1) ps)), ap length e, here.count, c.in_ok-len.ensures.1, c.loop-part.invariant.counted);
-      each = let f : IsBytes (get_or ps i p).items = subst IsBytes e here.each in rw (joined_more ps i p lt) (IsBytes-append (joined (take i ps)) (get_or ps i p).items c.loop-part.invariant.each f);
+      counted = omega (
+        arith,
+        ap length (joined_rest ps i p lt),
+        length-append (get_or ps i p).items (joined (drop (i + 1) ps)),
+        ap length e,
+        here.count,
+        c.in_ok-len.ensures.1,
+        c.loop-part.invariant.counted,
+      );
+      each = let f : IsBytes (get_or ps i p).items =
+          subst IsBytes e here.each in rw (joined_more ps i p lt) (IsBytes-append (joined (take i ps)) (get_or ps i p).items c.loop-part.invariant.each f);
     }
 
 pub returns-clause-some : goal.returns-clause-some
@@ -28,5 +37,7 @@ pub returns-clause-all : goal.returns-clause-all
 returns-clause-all c =
     let i = c.loop-part.part-index in
     let ps = c.args.parts.now in
-    let none = drop_all i ps c.loop-part-test.false in
-    (omega (arith, c.loop-part.invariant.counted, ap (λ x. length (joined x)) none), subst (λ x. IsBytes (joined x)) (take_all i ps c.loop-part-test.false) c.loop-part.invariant.each)
+    let none = drop_all i ps c.loop-part-test.false in (
+      omega (arith, c.loop-part.invariant.counted, ap (λ x. length (joined x)) none),
+      subst (λ x. IsBytes (joined x)) (take_all i ps c.loop-part-test.false) c.loop-part.invariant.each,
+    )

@@ -15,11 +15,14 @@ loop-read-preserved g c =
     record {
       sized = length-set c.loop-read.array c.loop-read.at x ∙ inv.sized;
       count = omega (arith, ap length c.in-Some.ensures, inv.count);
-      same = ap (λ (xs : List ℕ). xs ++ next) (take_more_set c.loop-read.array c.loop-read.at x lt) ∙ append_assoc (take c.loop-read.at c.loop-read.array) (x ∷ []) next ∙ ap (λ (xs : List ℕ). take c.loop-read.at c.loop-read.array ++ xs) (sym c.in-Some.ensures) ∙ inv.same;
+      same = ap (λ (xs : List ℕ). xs ++ next) (take_more_set c.loop-read.array c.loop-read.at x lt)
+          ∙ append_assoc (take c.loop-read.at c.loop-read.array) (x ∷ []) next
+          ∙ ap (λ (xs : List ℕ). take c.loop-read.at c.loop-read.array ++ xs) (sym c.in-Some.ensures) ∙ inv.same;
     }
 
 pub returns : goal.returns
 returns g c =
     let inv = c.loop-read.invariant in
     let all = take_all c.loop-read.at c.loop-read.array (omega (arith, ap length c.in_default.ensures, inv.count, inv.sized)) in
-    sym all ∙ sym (append-nil (take c.loop-read.at c.loop-read.array)) ∙ ap (λ (xs : List ℕ). take c.loop-read.at c.loop-read.array ++ xs) (sym c.in_default.ensures) ∙ inv.same
+    sym all ∙ sym (append-nil (take c.loop-read.at c.loop-read.array))
+    ∙ ap (λ (xs : List ℕ). take c.loop-read.at c.loop-read.array ++ xs) (sym c.in_default.ensures) ∙ inv.same

@@ -13,5 +13,6 @@ invariant_of-self g c =
     let absent = rw (← c.self.view_is) at c.requires in (
       omega (arith, c.push.ensures.capacity, c.self.invariant.0),
       omega (arith, len, c.len.ensures),
-      subst (λ (l : List (Slot _ _)). IsDistinct g.K.PartialEq.eq l) (sym items) (IsDistinct-push g.K.PartialEq.eq c.self.inside.slots.items x c.self.invariant.2 absent),
+      subst (λ (l : List (Slot _ _)). IsDistinct g.K.PartialEq.eq l) (sym items)
+          (IsDistinct-push g.K.PartialEq.eq c.self.inside.slots.items x c.self.invariant.2 absent),
     )

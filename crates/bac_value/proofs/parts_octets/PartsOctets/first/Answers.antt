@@ -10,4 +10,5 @@ returns c =
     let v = c.in_ok-part.part.now in
     let is = c.in_ok-part.ensures.cases.0 in
     let begun : IsTrue (begins_in_first (v ∷ c.in_ok-part.field-0-1.now) p.skip) = subst (λ ps. IsTrue (begins_in_first ps p.skip)) is p.settled in
-    first_of p.parts.now c.in_ok-part.field-0-1.now c.settled.result.parts.now v p.skip p.len c.index-first.result.now c.settled.result.skip c.settled.result.len is (ltb-true _ _ begun) (omega (arith, c.if-self-eq0.false)) c.index-first.ensures c.settled.ensures.count c.settled.ensures.same
+    first_of p.parts.now c.in_ok-part.field-0-1.now c.settled.result.parts.now v p.skip p.len c.index-first.result.now c.settled.result.skip
+    c.settled.result.len is (ltb-true _ _ begun) (omega (arith, c.if-self-eq0.false)) c.index-first.ensures c.settled.ensures.count c.settled.ensures.same

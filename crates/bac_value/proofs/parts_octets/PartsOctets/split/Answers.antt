@@ -7,4 +7,5 @@ use Rattle.bac_value.proofs.parts_octets.PartsOctets.split.Goals as goal
 pub returns-clause-behind : goal.returns-clause-behind
 returns-clause-behind c =
     let p = c.args.self in
-    rw (c.settled.ensures.count, c.settled.ensures.same) (sym (behind_front (joined p.parts.now) p.skip p.len c.args.count (omega (arith, c.requires, length-take p.len (drop p.skip (joined p.parts.now))))))
+    rw (c.settled.ensures.count, c.settled.ensures.same)
+    (sym (behind_front (joined p.parts.now) p.skip p.len c.args.count (omega (arith, c.requires, length-take p.len (drop p.skip (joined p.parts.now))))))
