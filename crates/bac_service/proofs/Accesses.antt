@@ -1,5 +1,6 @@
 -- The laws of priorities, of what is read or written of a file, and of octet strings in a row.
-use Rattle.std.proofs.Common.{◌≡◌, ℕ, zero, suc, ◌+◌, ◌-◌, ◌<◌, ◌≤◌, ℤ, Bool, true, false, cond, nat_eq, [], ◌++◌, length, take, Option, Some, is_some, ◌⊎◌, inl, inr, refl, sym, ap, subst, ◌∙◌, append_assoc, arith, add-one, Ok, lit<}
+use Rattle.std.proofs.Common.{◌≡◌, ℕ, zero, suc, ◌+◌, ◌-◌, ◌<◌, ◌≤◌, ℤ, Bool, true, false, cond, nat_eq, [], ◌++◌, length, take, Option, Some, is_some, ◌⊎◌}
+use Rattle.std.proofs.Common.{inl, inr, refl, sym, ap, subst, ◌∙◌, append_assoc, arith, add-one, Ok, lit<}
 use Rattle.std.proofs.Math.Logic.{∥∥₁_elim}
 use Rattle.std.proofs.Props.{props}
 use Rattle.bac_value.proofs.Joined.{IsBytes-append}
@@ -17,9 +18,12 @@ use Rattle.bac_value.proofs.Tags.{tag_exact}
 use Rattle.bac_service.specs.Values.{ReadAccess, WriteAccess}
 use Rattle.bac_service.specs.Values.ReadAccess.{ReadStream, ReadRecords}
 use Rattle.bac_service.specs.Values.WriteAccess.{WriteStream, WriteRecords}
-use Rattle.bac_service.specs.Members.{Octets, ◌⨾◌, Enclosed, Tagged, mark_of, IsPriority, IsString, ApplicationObject, ApplicationSigned, ApplicationUnsigned, ApplicationString, AreStrings}
+use Rattle.bac_service.specs.Members.{Octets, ◌⨾◌, Enclosed, Tagged, mark_of, IsPriority, IsString, ApplicationObject, ApplicationSigned, ApplicationUnsigned}
+use Rattle.bac_service.specs.Members.{ApplicationString, AreStrings}
 use Rattle.bac_service.specs.Requests.{SpellsReadAccess, SpellsWriteAccess, AreRecords}
-use Rattle.bac_service.specs.Reading.{◌>>=◌, kept, both_at, made_at, announced, member_at, is_opened, enclosed_at, that_at, is_priority, priority_at, application_object, application_signed, application_unsigned, application_string, extent_at, content_at, read_access_at, strings_at, run_at, counted_at, are_counted, write_access_at}
+use Rattle.bac_service.specs.Reading.{◌>>=◌, kept, both_at, made_at, announced, member_at, is_opened, enclosed_at, that_at, is_priority, priority_at}
+use Rattle.bac_service.specs.Reading.{application_object, application_signed, application_unsigned, application_string, extent_at, content_at, read_access_at}
+use Rattle.bac_service.specs.Reading.{strings_at, run_at, counted_at, are_counted, write_access_at}
 use Rattle.bac_service.proofs.Exact.{IsExact, Anything, Made, That, bind_some, some_is, left_fits, both_exact, made_exact, same_exact, that_exact, either_exact}
 use Rattle.bac_service.proofs.Heads.{announced_again, member_exact}
 use Rattle.bac_service.proofs.Contents.{object_law, long_law, signed_law, string_law}
@@ -54,8 +58,14 @@ pub priority_exact : IsExact Anything priority_at Priority
 unfolding priority_at
 priority_exact =
     same_exact Anything priority_at (That is_priority (λ n. Tagged Context 4 (IsNumber 8 n))) Priority
-    (that_exact Anything is_priority (member_at Context 4 (number_at 2)) (λ n. Tagged Context 4 (IsNumber 8 n)) (member_exact Context 4 (number_at 2) (IsNumber 8) (λ k. refl) long_law))
-    (λ n text p. let r = in_range n p.0 in record { contents = p.1.contents; are = record { least = r.0; most = r.1; number = p.1.are }; fits = p.1.fits; is = p.1.is })
+    (that_exact Anything is_priority (member_at Context 4 (number_at 2)) (λ n. Tagged Context 4 (IsNumber 8 n))
+    (member_exact Context 4 (number_at 2) (IsNumber 8) (λ k. refl) long_law))
+    (λ n text p. let r = in_range n p.0 in record {
+      contents = p.1.contents;
+      are = record { least = r.0; most = r.1; number = p.1.are };
+      fits = p.1.fits;
+      is = p.1.is;
+    })
     (λ n text p. (range_in n p.are.least p.are.most, record { contents = p.contents; are = p.are.number; fits = p.fits; is = p.is }))
 
 -- ---- which access comes next
@@ -66,21 +76,25 @@ opened_pair number n rest lt =
     let tag : SpellsTag (pair_mark Opening n) (opening n) = record { fits = lt-ltb n 255 lt; length_in = tt; is = refl } in
     rw (tag_exact.again (pair_mark Opening n) (opening n) rest tag) refl
 
-opened_enclosed : (number n : ℕ) (P : Octets → Type 0) (text rest : Octets) → n < 255 → Enclosed n P text → is_opened number (text ++ rest) ≡ Some (nat_eq number n)
+opened_enclosed : (number n : ℕ) (P : Octets → Type 0) (text rest : Octets) → n < 255 → Enclosed n P text
+    → is_opened number (text ++ rest) ≡ Some (nat_eq number n)
 opened_enclosed number n P text rest lt s =
-    ap (λ (t : Octets). is_opened number (t ++ rest)) s.is ∙ ap (is_opened number) (append_assoc (opening n) (s.inside ++ closing n) rest) ∙ opened_pair number n ((s.inside ++ closing n) ++ rest) lt
+    ap (λ (t : Octets). is_opened number (t ++ rest)) s.is ∙ ap (is_opened number) (append_assoc (opening n) (s.inside ++ closing n) rest)
+    ∙ opened_pair number n ((s.inside ++ closing n) ++ rest) lt
 
 abbrev Extent : ℤ × ℕ → Octets → Type 0
 Extent t = ApplicationSigned t.0 ⨾ ApplicationUnsigned t.1
 
 extent_exact : IsExact Anything extent_at Extent
-extent_exact = both_exact Anything Anything application_signed application_unsigned ApplicationSigned ApplicationUnsigned signed_exact unsigned_exact (λ b text rest q f. tt)
+extent_exact = both_exact Anything Anything application_signed application_unsigned ApplicationSigned ApplicationUnsigned signed_exact unsigned_exact
+    (λ b text rest q f. tt)
 
 abbrev pub Content : ℤ × Octets → Octets → Type 0
 Content t = ApplicationSigned t.0 ⨾ ApplicationString t.1
 
 pub content_exact : IsExact Anything content_at Content
-content_exact = both_exact Anything Anything application_signed application_string ApplicationSigned ApplicationString signed_exact string_exact (λ b text rest q f. tt)
+content_exact = both_exact Anything Anything application_signed application_string ApplicationSigned ApplicationString signed_exact string_exact
+    (λ b text rest q f. tt)
 
 abbrev records_of : ℤ × ℕ → ReadAccess
 records_of t = ReadRecords t.0 t.1
@@ -94,17 +108,26 @@ ReadsRecords = Made records_of (λ t. Enclosed 1 (Extent t))
 abbrev ReadsStream : ReadAccess → Octets → Type 0
 ReadsStream = Made stream_of (λ t. Enclosed 0 (Extent t))
 
-read_told : (a : ReadAccess) (text rest : Octets) → SpellsReadAccess a text → Anything rest → (ReadsRecords a text × (is_opened 1 (text ++ rest) ≡ Some true) × Anything rest) ⊎ (ReadsStream a text × (is_opened 1 (text ++ rest) ≡ Some false) × Anything rest)
+read_told : (a : ReadAccess) (text rest : Octets) → SpellsReadAccess a text → Anything rest
+    → (ReadsRecords a text × (is_opened 1 (text ++ rest) ≡ Some true) × Anything rest) ⊎
+    (ReadsStream a text × (is_opened 1 (text ++ rest) ≡ Some false) × Anything rest)
 read_told (ReadStream z n) text rest s f = inr (((z, n), refl, s), opened_enclosed 1 0 (Extent (z, n)) text rest (lit< tt) s, tt)
 read_told (ReadRecords z n) text rest s f = inl (((z, n), refl, s), opened_enclosed 1 1 (Extent (z, n)) text rest (lit< tt) s, tt)
 
 pub read_access_exact : IsExact Anything read_access_at SpellsReadAccess
 unfolding read_access_at
 read_access_exact =
-    let one = made_exact Anything records_of (enclosed_at 1 extent_at) (λ t. Enclosed 1 (Extent t)) (enclosed_exact 1 (lit< tt) Anything extent_at Extent extent_exact (λ rest. tt)) in
-    let other = made_exact Anything stream_of (enclosed_at 0 extent_at) (λ t. Enclosed 0 (Extent t)) (enclosed_exact 0 (lit< tt) Anything extent_at Extent extent_exact (λ rest. tt)) in
-    either_exact Anything Anything Anything (is_opened 1) (made_at records_of (enclosed_at 1 extent_at)) (made_at stream_of (enclosed_at 0 extent_at)) ReadsRecords ReadsStream SpellsReadAccess
-    (record { one = λ a text p. subst (λ r. SpellsReadAccess r text) p.1 p.2; other = λ a text p. subst (λ r. SpellsReadAccess r text) p.1 p.2; told = read_told }) one other
+    let one = made_exact Anything records_of (enclosed_at 1 extent_at) (λ t. Enclosed 1 (Extent t))
+    (enclosed_exact 1 (lit< tt) Anything extent_at Extent extent_exact (λ rest. tt)) in
+    let other = made_exact Anything stream_of (enclosed_at 0 extent_at) (λ t. Enclosed 0 (Extent t))
+    (enclosed_exact 0 (lit< tt) Anything extent_at Extent extent_exact (λ rest. tt)) in
+    either_exact Anything Anything Anything (is_opened 1) (made_at records_of (enclosed_at 1 extent_at)) (made_at stream_of (enclosed_at 0 extent_at))
+    ReadsRecords ReadsStream SpellsReadAccess
+    (record {
+      one = λ a text p. subst (λ r. SpellsReadAccess r text) p.1 p.2;
+      other = λ a text p. subst (λ r. SpellsReadAccess r text) p.1 p.2;
+      told = read_told;
+    }) one other
 
 -- ---- octet strings in a row
 
@@ -128,7 +151,8 @@ Strings n bytes text rest = (bytes ≡ text ++ rest) × AreStrings n text
 StringsTaken : ℕ → Type 0
 StringsTaken most = (bytes : Octets) (x : ℕ × Octets) → IsBytes bytes → strings_at most bytes ≡ Some x → (text : Octets) × Strings x.0 bytes text x.1
 
-strings_went : (most : ℕ) → StringsTaken most → (bytes : Octets) (x : ℕ × Octets) → IsBytes bytes → (b : Bool) → cond b (application_string bytes >>= λ s. one_more s most) (Some (0, bytes)) ≡ Some x → (text : Octets) × Strings x.0 bytes text x.1
+strings_went : (most : ℕ) → StringsTaken most → (bytes : Octets) (x : ℕ × Octets) → IsBytes bytes → (b : Bool)
+    → cond b (application_string bytes >>= λ s. one_more s most) (Some (0, bytes)) ≡ Some x → (text : Octets) × Strings x.0 bytes text x.1
 unfolding StringsTaken one_more
 strings_went most taken bytes x fits true h =
     let s = bind_some (application_string bytes) (λ s. one_more s most) x h in
@@ -140,13 +164,15 @@ strings_went most taken bytes x fits true h =
     let strings : AreStrings (suc n.0.0) (u.0 ++ more.0) = record { front = u.0; back = more.0; first = string; second = more.1.1; is = refl } in
     subst (λ (y : ℕ × Octets). (text : Octets) × Strings y.0 bytes text y.1) (some_is (n.0.0 + 1, n.0.1) x n.2)
     (u.0 ++ more.0, (is, subst (λ (m : ℕ). AreStrings m (u.0 ++ more.0)) (sym (add-one n.0.0)) strings))
-strings_went most taken bytes x fits false h = subst (λ (y : ℕ × Octets). (text : Octets) × Strings y.0 bytes text y.1) (some_is (0, bytes) x h) ([], (refl, refl))
+strings_went most taken bytes x fits false h =
+    subst (λ (y : ℕ × Octets). (text : Octets) × Strings y.0 bytes text y.1) (some_is (0, bytes) x h) ([], (refl, refl))
 
 strings_takes : (most : ℕ) → StringsTaken most
 unfolding strings_at one_more StringsTaken
 strings_takes zero bytes x fits e = absurd cc
 strings_takes (suc most) bytes x fits e =
-    let t = bind_some (kept (tag_at bytes)) (λ t. cond (is_some (announced Application 6 t.0)) (application_string bytes >>= λ s. one_more s most) (Some (0, bytes))) x e in
+    let t = bind_some (kept (tag_at bytes)) (λ t. cond (is_some (announced Application 6 t.0)) (application_string bytes >>= λ s. one_more s most)
+    (Some (0, bytes))) x e in
     strings_went most (strings_takes most) bytes x fits (is_some (announced Application 6 t.0.0)) t.2
 
 -- strings in a row are at least as many octets
@@ -168,9 +194,17 @@ strings_again (suc most) (suc n) text rest lt s none =
     let string : ApplicationString s.first.contents s.front = record { contents = s.first.contents; are = refl; fits = s.first.fits; is = s.first.is } in
     let tag : SpellsTag head (tag_spelling head) = record { fits = refl; length_in = s.first.fits; is = refl } in
     let parts : text ++ rest ≡ s.front ++ more = ap (λ (t : Octets). t ++ rest) s.is ∙ append_assoc s.front s.back rest in
-    let tagged : tag_at (s.front ++ more) ≡ Ok (head, s.first.contents ++ more) = ap (λ (t : Octets). tag_at (t ++ more)) s.first.is ∙ ap tag_at (append_assoc (tag_spelling head) s.first.contents more) ∙ tag_exact.again head (tag_spelling head) (s.first.contents ++ more) tag in
+    let tagged : tag_at (s.front ++ more) ≡ Ok (head, s.first.contents ++ more) = ap (λ (t : Octets). tag_at (t ++ more)) s.first.is
+    ∙ ap tag_at (append_assoc (tag_spelling head) s.first.contents more) ∙ tag_exact.again head (tag_spelling head) (s.first.contents ++ more) tag in
     let read : application_string (s.front ++ more) ≡ Some (s.first.contents, more) = string_exact.again s.first.contents s.front more string tt in
-    rw (parts, tagged, announced_again Application 6 (length s.first.contents), read, strings_again most n s.back rest (omega arith) s.second none, add-one) refl
+    rw (
+      parts,
+      tagged,
+      announced_again Application 6 (length s.first.contents),
+      read,
+      strings_again most n s.back rest (omega arith) s.second none,
+      add-one,
+    ) refl
 
 abbrev pub Run : ℕ × Octets → Octets → Type 0
 Run t text = AreStrings t.0 t.1 × (text ≡ t.1)
@@ -182,7 +216,8 @@ run_exact = record {
       let n = bind_some (strings_at (suc (length bytes)) bytes) (λ n. Some ((n.0, take (length bytes - length n.1) bytes), n.1)) x e in
       let t = strings_takes (suc (length bytes)) bytes n.0 fits n.1 in
       let front : take (length bytes - length n.0.1) bytes ≡ t.0 = ap (λ (b : Octets). take (length b - length n.0.1) b) t.1.0 ∙ front_is t.0 n.0.1 in
-      subst (λ (y : (ℕ × Octets) × Octets). (text : Octets) × (bytes ≡ text ++ y.1) × Run y.0 text) (some_is ((n.0.0, take (length bytes - length n.0.1) bytes), n.0.1) x n.2)
+      subst (λ (y : (ℕ × Octets) × Octets). (text : Octets) × (bytes ≡ text ++ y.1) × Run y.0 text)
+      (some_is ((n.0.0, take (length bytes - length n.0.1) bytes), n.0.1) x n.2)
       (t.0, t.1.0, (subst (AreStrings n.0.0) (sym front) t.1.1, sym front));
   again = λ y text rest s none.
       let strings : AreStrings y.0 text = subst (AreStrings y.0) (sym s.1) s.0 in
@@ -197,7 +232,8 @@ counted_exact : IsExact NoString counted_at Counted
 unfolding counted_at
 counted_exact =
     let behind = both_exact Anything NoString application_unsigned run_at ApplicationUnsigned Run unsigned_exact run_exact (λ b text rest q f. tt) in
-    both_exact Anything NoString application_signed (both_at application_unsigned run_at) ApplicationSigned (λ (t : ℕ × (ℕ × Octets)). ApplicationUnsigned t.0 ⨾ Run t.1) signed_exact behind (λ b text rest q f. tt)
+    both_exact Anything NoString application_signed (both_at application_unsigned run_at) ApplicationSigned
+    (λ (t : ℕ × (ℕ × Octets)). ApplicationUnsigned t.0 ⨾ Run t.1) signed_exact behind (λ b text rest q f. tt)
 
 abbrev written_records : ℤ × (ℕ × (ℕ × Octets)) → WriteAccess
 written_records t = WriteRecords t.0 t.1.0 t.1.1.1
@@ -215,16 +251,45 @@ records_to : (a : WriteAccess) (text : Octets) → WritesRecords a text → Spel
 records_to a text (t, make, (counted, s)) =
     let e = s.are in
     let same : t.1.0 ≡ t.1.1.0 = eqb-true _ _ counted in
-    let run : AreRecords t.1.0 t.1.1.1 e.second.back = record { strings = subst (λ (m : ℕ). AreStrings m t.1.1.1) (sym same) e.second.second.0; is = e.second.second.1 } in
+    let run : AreRecords t.1.0 t.1.1.1 e.second.back =
+    record { strings = subst (λ (m : ℕ). AreStrings m t.1.1.1) (sym same) e.second.second.0; is = e.second.second.1 } in
     subst (λ r. SpellsWriteAccess r text) make
-    (record { inside = s.inside; are = record { front = e.front; back = e.back; first = e.first; second = record { front = e.second.front; back = e.second.back; first = e.second.first; second = run; is = e.second.is }; is = e.is }; is = s.is })
+    (record {
+      inside = s.inside;
+      are = record {
+        front = e.front;
+        back = e.back;
+        first = e.first;
+        second = record { front = e.second.front; back = e.second.back; first = e.second.first; second = run; is = e.second.is };
+        is = e.is;
+      };
+      is = s.is;
+    })
 
-write_told : (a : WriteAccess) (text rest : Octets) → SpellsWriteAccess a text → Anything rest → (WritesRecords a text × (is_opened 1 (text ++ rest) ≡ Some true) × Anything rest) ⊎ (WritesStream a text × (is_opened 1 (text ++ rest) ≡ Some false) × Anything rest)
+write_told : (a : WriteAccess) (text rest : Octets) → SpellsWriteAccess a text → Anything rest
+    → (WritesRecords a text × (is_opened 1 (text ++ rest) ≡ Some true) × Anything rest) ⊎
+    (WritesStream a text × (is_opened 1 (text ++ rest) ≡ Some false) × Anything rest)
 write_told (WriteStream z octets) text rest s f = inr (((z, octets), refl, s), opened_enclosed 1 0 (Content (z, octets)) text rest (lit< tt) s, tt)
 write_told (WriteRecords z n run) text rest s f =
     let e = s.are in
     let counted : Enclosed 1 (Counted (z, (n, (n, run)))) text =
-    record { inside = s.inside; are = record { front = e.front; back = e.back; first = e.first; second = record { front = e.second.front; back = e.second.back; first = e.second.first; second = (e.second.second.strings, e.second.second.is); is = e.second.is }; is = e.is }; is = s.is } in
+    record {
+      inside = s.inside;
+      are = record {
+        front = e.front;
+        back = e.back;
+        first = e.first;
+        second = record {
+          front = e.second.front;
+          back = e.second.back;
+          first = e.second.first;
+          second = (e.second.second.strings, e.second.second.is);
+          is = e.second.is;
+        };
+        is = e.is;
+      };
+      is = s.is;
+    } in
     inl (((z, (n, (n, run))), refl, (eq-eqb n n refl, counted)), opened_enclosed 1 1 (Counted (z, (n, (n, run)))) text rest (lit< tt) counted, tt)
 
 pub write_access_exact : IsExact Anything write_access_at SpellsWriteAccess
@@ -233,8 +298,10 @@ write_access_exact =
     let records = enclosed_exact 1 (lit< tt) NoString counted_at Counted counted_exact (λ rest. no_string_closing 1 rest (lit< tt)) in
     let counted = that_exact Anything are_counted (enclosed_at 1 counted_at) (λ t. Enclosed 1 (Counted t)) records in
     let one = made_exact Anything written_records (that_at are_counted (enclosed_at 1 counted_at)) (That are_counted (λ t. Enclosed 1 (Counted t))) counted in
-    let other = made_exact Anything written_stream (enclosed_at 0 content_at) (λ t. Enclosed 0 (Content t)) (enclosed_exact 0 (lit< tt) Anything content_at Content content_exact (λ rest. tt)) in
-    either_exact Anything Anything Anything (is_opened 1) (made_at written_records (that_at are_counted (enclosed_at 1 counted_at))) (made_at written_stream (enclosed_at 0 content_at)) WritesRecords WritesStream SpellsWriteAccess
+    let other = made_exact Anything written_stream (enclosed_at 0 content_at) (λ t. Enclosed 0 (Content t))
+    (enclosed_exact 0 (lit< tt) Anything content_at Content content_exact (λ rest. tt)) in
+    either_exact Anything Anything Anything (is_opened 1) (made_at written_records (that_at are_counted (enclosed_at 1 counted_at)))
+    (made_at written_stream (enclosed_at 0 content_at)) WritesRecords WritesStream SpellsWriteAccess
     (record { one = records_to; other = λ a text p. subst (λ r. SpellsWriteAccess r text) p.1 p.2; told = write_told }) one other
 
 -- ---- that octets are octet strings is known whole where it is known at all
@@ -251,6 +318,8 @@ pub whole_strings : (n : ℕ) (text : Octets) → IsBytes text → ∥ AreString
 whole_strings n text fits known =
     let rest = closing 1 in
     let bytes = IsBytes-append text rest fits (closing_bytes 1 (lit< tt)) in
-    let read : run_at (text ++ rest) ≡ Some ((n, text), rest) = ∥∥₁_elim known (read_run_prop (text ++ rest) n text rest) (λ s. run_exact.again (n, text) text rest (s, refl) (subst NoString (append-nil rest) (no_string_closing 1 [] (lit< tt)))) in
+    let read : run_at (text ++ rest) ≡ Some ((n, text), rest) =
+    ∥∥₁_elim known (read_run_prop (text ++ rest) n text rest)
+    (λ s. run_exact.again (n, text) text rest (s, refl) (subst NoString (append-nil rest) (no_string_closing 1 [] (lit< tt)))) in
     let t = run_exact.takes (text ++ rest) ((n, text), rest) bytes read in
     t.2.0

@@ -5,7 +5,8 @@ use Rattle.std.proofs.lemmas.Bool.{eqb-true}
 use Rattle.bac_value.proofs.Tags.{wide32}
 use Rattle.bac_value.specs.Octets.{IsBytes}
 use Rattle.bac_value.specs.Number.{number_in, signed_in}
-use Rattle.bac_value.specs.Value.{Datum, null, boolean, unsigned, signed, real, double, octets, characters, bits, enumerated, date, time, object, ObjectId, kind_number, IsContents, IsNumber, IsInteger, IsObject}
+use Rattle.bac_value.specs.Value.{Datum, null, boolean, unsigned, signed, real, double, octets, characters, bits, enumerated, date, time, object, ObjectId}
+use Rattle.bac_value.specs.Value.{kind_number, IsContents, IsNumber, IsInteger, IsObject}
 use Rattle.bac_value.specs.Reading.{kind_at, number_at, signed_at, object_at}
 use Rattle.bac_value.proofs.Steps.{bind_ok, ok_is}
 use Rattle.bac_value.proofs.Elements.{kind_front, kind_of, right_again}
@@ -74,17 +75,20 @@ front_of n k bytes x lt fits e =
     let o = kind_of n k bytes x lt f in
     record { is = f.raw.took.parts; len = f.raw.len; fits = f.raw.fits; value = o.0; kind = o.1; contents = o.2 }
 
-number_law : (n most : ℕ) → n < 13 → ((d : Datum) (xs : Octets) → kind_number d ≡ n → IsContents d xs → IsNumber most (number_in xs) xs) → ((y : ℕ) → (d : Datum) × (kind_number d ≡ n) × ((xs : Octets) → IsNumber most y xs → IsContents d xs))
+number_law : (n most : ℕ) → n < 13 → ((d : Datum) (xs : Octets) → kind_number d ≡ n → IsContents d xs → IsNumber most (number_in xs) xs)
+    → ((y : ℕ) → (d : Datum) × (kind_number d ≡ n) × ((xs : Octets) → IsNumber most y xs → IsContents d xs))
     → IsContentsLaw (number_at n) (IsNumber most)
 unfolding number_at
 number_law n most lt to back = record {
   takes = λ k bytes x fits e.
       let c = bind_ok (kind_at n k bytes) (λ c. Ok (number_in c.0, c.1)) x e in
       let f = front_of n k bytes c.0 lt fits c.1 in
-      subst (λ (z : ℕ × Octets). (text : Octets) × (bytes ≡ text ++ z.1) × (length text ≡ k) × IsNumber most z.0 text) (ok_is (number_in c.0.0, c.0.1) x c.2) (c.0.0, f.is, f.len, to f.value c.0.0 f.kind f.contents);
+      subst (λ (z : ℕ × Octets). (text : Octets) × (bytes ≡ text ++ z.1) × (length text ≡ k) × IsNumber most z.0 text)
+      (ok_is (number_in c.0.0, c.0.1) x c.2) (c.0.0, f.is, f.len, to f.value c.0.0 f.kind f.contents);
   again = λ y text rest s.
       let d = back y in
-      let right = subst (λ (m : ℕ). kind_at m (length text) (text ++ rest) ≡ Ok (text, rest)) d.1 (right_again (kind_number d.0) (length text) text rest refl (kind_again d.0 text (d.2 text s))) in
+      let right = subst (λ (m : ℕ). kind_at m (length text) (text ++ rest) ≡ Ok (text, rest)) d.1
+      (right_again (kind_number d.0) (length text) text rest refl (kind_again d.0 text (d.2 text s))) in
       rw (right, s.spelled.sum) refl;
 }
 
@@ -100,7 +104,8 @@ signed_law = record {
   takes = λ k bytes x fits e.
       let c = bind_ok (kind_at 3 k bytes) (λ c. Ok (signed_in c.0, c.1)) x e in
       let f = front_of 3 k bytes c.0 (lit< tt) fits c.1 in
-      subst (λ z. (text : Octets) × (bytes ≡ text ++ z.1) × (length text ≡ k) × IsInteger 8 z.0 text) (ok_is (signed_in c.0.0, c.0.1) x c.2) (c.0.0, f.is, f.len, integer_of f.value c.0.0 f.kind f.contents);
+      subst (λ z. (text : Octets) × (bytes ≡ text ++ z.1) × (length text ≡ k) × IsInteger 8 z.0 text) (ok_is (signed_in c.0.0, c.0.1) x c.2)
+      (c.0.0, f.is, f.len, integer_of f.value c.0.0 f.kind f.contents);
   again = λ y text rest s.
       rw (right_again 3 (length text) text rest refl (kind_again (signed y) text s), s.spelled.sum) refl;
 }

@@ -23,13 +23,15 @@ begins run fits = record {
 }
 
 -- what stands before the rest of at least one string
-string_front : (k : ℕ) (rest : Octets) → 0 < length rest → AreStrings k rest → (j : ℕ) × (back : Octets) × (contents : Octets) × (k ≡ suc j) × (application_string rest ≡ Some (contents, back)) × AreStrings j back
+string_front : (k : ℕ) (rest : Octets) → 0 < length rest → AreStrings k rest → (j : ℕ) × (back : Octets) × (contents : Octets) × (k ≡ suc j)
+    × (application_string rest ≡ Some (contents, back)) × AreStrings j back
 string_front zero rest some s = absurd (omega (arith, ap length s))
 string_front (suc j) rest some s =
     let string : ApplicationString s.first.contents s.front = record { contents = s.first.contents; are = refl; fits = s.first.fits; is = s.first.is } in
     (j, s.back, s.first.contents, refl, ap application_string s.is ∙ string_exact.again s.first.contents s.front s.back string tt, s.second)
 
-pub passes : (run rest contents next : Octets) (count : ℕ) → IsPassed run count rest → application_string rest ≡ Some (contents, next) → length next < length rest → IsPassed run (count + 1) next
+pub passes : (run rest contents next : Octets) (count : ℕ) → IsPassed run count rest → application_string rest ≡ Some (contents, next)
+    → length next < length rest → IsPassed run (count + 1) next
 passes run rest contents next count p e lt =
     let t = string_exact.takes rest (contents, next) p.bytes e in
     let first : Tagged Application 6 (λ xs. Unit {0}) t.0 = record { contents = t.2.contents; are = tt; fits = t.2.fits; is = t.2.is } in

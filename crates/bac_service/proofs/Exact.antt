@@ -1,5 +1,6 @@
 -- Readings on lists that take exactly what is spelled, and how they follow each other.
-use Rattle.std.proofs.Common.{◌≡◌, ℕ, ◌+◌, ◌<◌, Bool, true, false, [], ◌∷◌, ◌++◌, length, Option, Some, None, cond, ◌⊎◌, inl, inr, refl, sym, ap, subst, ◌∙◌, append_assoc}
+use Rattle.std.proofs.Common.{◌≡◌, ℕ, ◌+◌, ◌<◌, Bool, true, false, [], ◌∷◌, ◌++◌, length, Option, Some, None, cond, ◌⊎◌, inl, inr, refl, sym, ap, subst, ◌∙◌}
+use Rattle.std.proofs.Common.{append_assoc}
 use Rattle.std.proofs.lemmas.List.{get_or-append-add, append-nil}
 use Rattle.bac_value.specs.Octets.{IsBytes}
 use Rattle.bac_service.specs.Members.{Octets, ◌⨾◌, Optional}
@@ -28,13 +29,15 @@ pub some_is : {A : Type 0} (x y : A) → done x ≡ done y → x ≡ y
 some_is x y e = cc
 
 -- what is left of an input is octets
-pub left_fits : {A : Type 0} (read : Octets → Option (A × Octets)) (Spells : A → Octets → Type 0) {Follows : Octets → Type 0} → IsExact Follows read Spells → (bytes : Octets) (x : A × Octets) → IsBytes bytes → read bytes ≡ Some x → IsBytes x.1
+pub left_fits : {A : Type 0} (read : Octets → Option (A × Octets)) (Spells : A → Octets → Type 0) {Follows : Octets → Type 0} → IsExact Follows read Spells
+    → (bytes : Octets) (x : A × Octets) → IsBytes bytes → read bytes ≡ Some x → IsBytes x.1
 left_fits read Spells law bytes x fits e =
     let t = law.takes bytes x fits e in
     bytes_behind t.0 x.1 (subst IsBytes t.1 fits)
 
 -- one behind the other
-pub both_exact : {A B : Type 0} (F G : Octets → Type 0) (first : Octets → Option (A × Octets)) (second : Octets → Option (B × Octets)) (P : A → Octets → Type 0) (Q : B → Octets → Type 0)
+pub both_exact : {A B : Type 0} (F G : Octets → Type 0) (first : Octets → Option (A × Octets)) (second : Octets → Option (B × Octets))
+    (P : A → Octets → Type 0) (Q : B → Octets → Type 0)
     → IsExact F first P → IsExact G second Q → ((b : B) (text rest : Octets) → Q b text → G rest → F (text ++ rest))
     → IsExact G (both_at first second) (λ y. P y.0 ⨾ Q y.1)
 both_exact {A = A} {B = B} F G first second P Q one two link = record {
@@ -49,24 +52,30 @@ both_exact {A = A} {B = B} F G first second P Q one two link = record {
       (t.0 ++ u.0, whole_is, record { front = t.0; back = u.0; first = t.2; second = u.2; is = refl });
   again = λ y text rest s follows.
       let parts : text ++ rest ≡ s.front ++ (s.back ++ rest) = ap (λ (t : Octets). t ++ rest) s.is ∙ append_assoc s.front s.back rest in
-      ap (both_at first second) parts ∙ rw (one.again y.0 s.front (s.back ++ rest) s.first (link y.1 s.back rest s.second follows), two.again y.1 s.back rest s.second follows) refl;
+      ap (both_at first second) parts ∙ rw (
+        one.again y.0 s.front (s.back ++ rest) s.first (link y.1 s.back rest s.second follows),
+        two.again y.1 s.back rest s.second follows,
+      ) refl;
 }
 
 -- a value made of what was read
 abbrev pub Made : {A B : Type 0} → (A → B) → (A → Octets → Type 0) → B → Octets → Type 0
 Made {A = A} make P b text = (a : A) × (make a ≡ b) × P a text
 
-pub made_exact : {A B : Type 0} (F : Octets → Type 0) (make : A → B) (read : Octets → Option (A × Octets)) (P : A → Octets → Type 0) → IsExact F read P → IsExact F (made_at make read) (Made make P)
+pub made_exact : {A B : Type 0} (F : Octets → Type 0) (make : A → B) (read : Octets → Option (A × Octets)) (P : A → Octets → Type 0) → IsExact F read P
+    → IsExact F (made_at make read) (Made make P)
 made_exact {A = A} {B = B} F make read P law = record {
   takes = λ bytes x fits e.
       let a = bind_some (read bytes) (λ a. Some (make a.0, a.1)) x e in
       let t = law.takes bytes a.0 fits a.1 in
-      subst (λ (y : B × Octets). (text : Octets) × (bytes ≡ text ++ y.1) × Made make P y.0 text) (some_is (make a.0.0, a.0.1) x a.2) (t.0, t.1, (a.0.0, refl, t.2));
+      subst (λ (y : B × Octets). (text : Octets) × (bytes ≡ text ++ y.1) × Made make P y.0 text) (some_is (make a.0.0, a.0.1) x a.2)
+      (t.0, t.1, (a.0.0, refl, t.2));
   again = λ y text rest s follows. rw (law.again s.0 text rest s.2 follows, s.1) refl;
 }
 
 -- the same reading, of what is spelled in other words
-pub same_exact : {A : Type 0} (F : Octets → Type 0) (read : Octets → Option (A × Octets)) (P Q : A → Octets → Type 0) → IsExact F read P → ((a : A) (text : Octets) → P a text → Q a text) → ((a : A) (text : Octets) → Q a text → P a text) → IsExact F read Q
+pub same_exact : {A : Type 0} (F : Octets → Type 0) (read : Octets → Option (A × Octets)) (P Q : A → Octets → Type 0) → IsExact F read P
+    → ((a : A) (text : Octets) → P a text → Q a text) → ((a : A) (text : Octets) → Q a text → P a text) → IsExact F read Q
 same_exact F read P Q law to back = record {
   takes = λ bytes x fits e. let t = law.takes bytes x fits e in (t.0, t.1, to x.0 t.0 t.2);
   again = λ y text rest s follows. law.again y text rest (back y text s) follows;
@@ -80,7 +89,8 @@ that_is : {A : Type 0} (b : Bool) (x y : A) → cond b (Some x) None ≡ Some y 
 that_is true x y e = (refl, some_is x y e)
 that_is false x y e = absurd cc
 
-pub that_exact : {A : Type 0} (F : Octets → Type 0) (test : A → Bool) (read : Octets → Option (A × Octets)) (P : A → Octets → Type 0) → IsExact F read P → IsExact F (that_at test read) (That test P)
+pub that_exact : {A : Type 0} (F : Octets → Type 0) (test : A → Bool) (read : Octets → Option (A × Octets)) (P : A → Octets → Type 0) → IsExact F read P
+    → IsExact F (that_at test read) (That test P)
 unfolding that_at
 that_exact {A = A} F test read P law = record {
   takes = λ bytes x fits e.
@@ -95,14 +105,18 @@ that_exact {A = A} F test read P law = record {
 pub record IsOneOf {A : Type 0} (F : Octets → Type 0) (test : Octets → Option Bool) (G H : Octets → Type 0) (P Q Spells : A → Octets → Type 0) : Type 0 where
   pub one : (a : A) (text : Octets) → P a text → Spells a text
   pub other : (a : A) (text : Octets) → Q a text → Spells a text
-  pub told : (a : A) (text rest : Octets) → Spells a text → F rest → (P a text × (test (text ++ rest) ≡ Some true) × G rest) ⊎ (Q a text × (test (text ++ rest) ≡ Some false) × H rest)
+  pub told : (a : A) (text rest : Octets) → Spells a text → F rest
+      → (P a text × (test (text ++ rest) ≡ Some true) × G rest) ⊎ (Q a text × (test (text ++ rest) ≡ Some false) × H rest)
 
-chosen_takes : {A : Type 0} (F G H : Octets → Type 0) (test : Octets → Option Bool) (one other : Octets → Option (A × Octets)) (P Q Spells : A → Octets → Type 0) → IsOneOf F test G H P Q Spells → IsExact G one P → IsExact H other Q
-    → (bytes : Octets) (x : A × Octets) → IsBytes bytes → (b : Bool) → chosen_at b one other bytes ≡ Some x → (text : Octets) × (bytes ≡ text ++ x.1) × Spells x.0 text
+chosen_takes : {A : Type 0} (F G H : Octets → Type 0) (test : Octets → Option Bool) (one other : Octets → Option (A × Octets))
+    (P Q Spells : A → Octets → Type 0) → IsOneOf F test G H P Q Spells → IsExact G one P → IsExact H other Q
+    → (bytes : Octets) (x : A × Octets) → IsBytes bytes → (b : Bool) → chosen_at b one other bytes ≡ Some x → (text : Octets) × (bytes ≡ text ++ x.1)
+    × Spells x.0 text
 chosen_takes F G H test one other P Q Spells is p q bytes x fits true e = let t = p.takes bytes x fits e in (t.0, t.1, is.one x.0 t.0 t.2)
 chosen_takes F G H test one other P Q Spells is p q bytes x fits false e = let t = q.takes bytes x fits e in (t.0, t.1, is.other x.0 t.0 t.2)
 
-pub either_exact : {A : Type 0} (F G H : Octets → Type 0) (test : Octets → Option Bool) (one other : Octets → Option (A × Octets)) (P Q Spells : A → Octets → Type 0) → IsOneOf F test G H P Q Spells → IsExact G one P → IsExact H other Q
+pub either_exact : {A : Type 0} (F G H : Octets → Type 0) (test : Octets → Option Bool) (one other : Octets → Option (A × Octets))
+    (P Q Spells : A → Octets → Type 0) → IsOneOf F test G H P Q Spells → IsExact G one P → IsExact H other Q
     → IsExact F (either_at test one other) Spells
 either_exact F G H test one other P Q Spells is p q = record {
   takes = λ bytes x fits e.
@@ -118,7 +132,8 @@ either_exact F G H test one other P Q Spells is p q = record {
 abbrev pub Differs : ℕ → Octets → Type 0
 Differs number rest = is_next number rest ≡ Some false
 
-present_takes : {A : Type 0} (read : Octets → Option (A × Octets)) (P : A → Octets → Type 0) → IsExact Anything read P → (bytes : Octets) (x : Option A × Octets) → IsBytes bytes → (next : Bool) → present next read bytes ≡ Some x
+present_takes : {A : Type 0} (read : Octets → Option (A × Octets)) (P : A → Octets → Type 0) → IsExact Anything read P
+    → (bytes : Octets) (x : Option A × Octets) → IsBytes bytes → (next : Bool) → present next read bytes ≡ Some x
     → (text : Octets) × (bytes ≡ text ++ x.1) × Optional P x.0 text
 present_takes {A = A} read P law bytes x fits true e =
     let a = bind_some (read bytes) (λ a. Some (Some a.0, a.1)) x e in
@@ -146,7 +161,8 @@ optional_exact number read P law begins = record {
 }
 
 -- the whole input
-at_end : {A : Type 0} (Spells : A → Octets → Type 0) (bytes : Octets) (y z : A) (text rest : Octets) → bytes ≡ text ++ rest → Spells z text → ends z rest ≡ Some y → Spells y bytes
+at_end : {A : Type 0} (Spells : A → Octets → Type 0) (bytes : Octets) (y z : A) (text rest : Octets) → bytes ≡ text ++ rest → Spells z text
+    → ends z rest ≡ Some y → Spells y bytes
 at_end Spells bytes y z text [] is s ended = rw (is, append-nil text) (subst (λ a. Spells a text) (some_is z y ended) s)
 at_end Spells bytes y z text (b ∷ rest) is s ended = absurd cc
 

@@ -1,5 +1,6 @@
 -- The laws of members: a tag of a class and number, with contents behind it.
-use Rattle.std.proofs.Common.{◌≡◌, ℕ, ◌<◌, ◌^◌, Bool, true, false, cond, nat_eq, ◌++◌, length, Some, None, Result, Ok, Err, IsTrue, refl, sym, ap, subst, ◌∙◌, append_assoc}
+use Rattle.std.proofs.Common.{◌≡◌, ℕ, ◌<◌, ◌^◌, Bool, true, false, cond, nat_eq, ◌++◌, length, Some, None, Result, Ok, Err, IsTrue, refl, sym, ap, subst, ◌∙◌}
+use Rattle.std.proofs.Common.{append_assoc}
 use Rattle.std.proofs.lemmas.Bool.{eqb-true, eq-eqb}
 use Rattle.bac_value.specs.declared.fault.FaultKind.{FaultKind}
 use Rattle.bac_value.specs.declared.tag.Class.{Class}
@@ -28,11 +29,13 @@ length_is (Boolean b) k e = absurd cc
 length_is Opening k e = absurd cc
 length_is Closing k e = absurd cc
 
-numbered : (number : ℕ) (class : Class) (n : ℕ) (f : Form) (k : ℕ) (b : Bool) → nat_eq number n ≡ b → cond b (length_of f) None ≡ Some k → of n class f ≡ mark_of class number k
+numbered : (number : ℕ) (class : Class) (n : ℕ) (f : Form) (k : ℕ) (b : Bool) → nat_eq number n ≡ b → cond b (length_of f) None ≡ Some k
+    → of n class f ≡ mark_of class number k
 numbered number class n f k true t e = rw (← eqb-true number n t, length_is f k e) refl
 numbered number class n f k false t e = absurd cc
 
-announced_fields : (class : Class) (number : ℕ) (c : Class) (n : ℕ) (f : Form) (k : ℕ) → announced class number (of n c f) ≡ Some k → of n c f ≡ mark_of class number k
+announced_fields : (class : Class) (number : ℕ) (c : Class) (n : ℕ) (f : Form) (k : ℕ) → announced class number (of n c f) ≡ Some k
+    → of n c f ≡ mark_of class number k
 unfolding announced
 announced_fields Application number Application n f k e = numbered number Application n f k (nat_eq number n) refl e
 announced_fields Application number Context n f k e = absurd cc
@@ -57,7 +60,8 @@ pub record TookHead (class : Class) (number : ℕ) (bytes : Octets) (k : ℕ) (r
   pub is : bytes ≡ tag_spelling (mark_of class number k) ++ rest
   pub spelled : SpellsTag (mark_of class number k) (tag_spelling (mark_of class number k))
 
-pub head_takes : (class : Class) (number : ℕ) (bytes : Octets) (x : ℕ × Octets) → IsBytes bytes → head_at class number bytes ≡ Some x → TookHead class number bytes x.0 x.1
+pub head_takes : (class : Class) (number : ℕ) (bytes : Octets) (x : ℕ × Octets) → IsBytes bytes → head_at class number bytes ≡ Some x
+    → TookHead class number bytes x.0 x.1
 unfolding head_at
 head_takes class number bytes x fits e =
     let t = bind_some (kept (tag_at bytes)) (λ t. announced class number t.0 >>= λ k. Some (k, t.1)) x e in
@@ -66,11 +70,13 @@ head_takes class number bytes x fits e =
     let m = announced_is class number t.0.0 k.0 k.1 in
     let spelled : SpellsTag (mark_of class number k.0) took.0 = subst (λ (m : Mark). SpellsTag m took.0) m took.2 in
     let whole_is : bytes ≡ tag_spelling (mark_of class number k.0) ++ t.0.1 = took.1 ∙ ap (λ (s : Octets). s ++ t.0.1) spelled.is in
-    let alone : SpellsTag (mark_of class number k.0) (tag_spelling (mark_of class number k.0)) = record { fits = spelled.fits; length_in = spelled.length_in; is = refl } in
+    let alone : SpellsTag (mark_of class number k.0) (tag_spelling (mark_of class number k.0)) =
+    record { fits = spelled.fits; length_in = spelled.length_in; is = refl } in
     let made : TookHead class number bytes k.0 t.0.1 = record { is = whole_is; spelled = alone } in
     subst (λ (y : ℕ × Octets). TookHead class number bytes y.0 y.1) (some_is (k.0, t.0.1) x k.2) made
 
-pub head_again : (class : Class) (number k : ℕ) (rest : Octets) → IsTrue (tag_fits number class (Length k)) → k < 2 ^ 32 → head_at class number (tag_spelling (mark_of class number k) ++ rest) ≡ Some (k, rest)
+pub head_again : (class : Class) (number k : ℕ) (rest : Octets) → IsTrue (tag_fits number class (Length k)) → k < 2 ^ 32
+    → head_at class number (tag_spelling (mark_of class number k) ++ rest) ≡ Some (k, rest)
 unfolding head_at
 head_again class number k rest fits short =
     let s : SpellsTag (mark_of class number k) (tag_spelling (mark_of class number k)) = record { fits = fits; length_in = short; is = refl } in
@@ -78,21 +84,24 @@ head_again class number k rest fits short =
 
 -- contents that are read with their length
 pub record IsContentsLaw {A : Type 0} (read : ℕ → Octets → Result (A × Octets) FaultKind) (Is : A → Octets → Type 0) : Type 0 where
-  pub takes : (k : ℕ) (bytes : Octets) (x : A × Octets) → IsBytes bytes → read k bytes ≡ Ok x → (text : Octets) × (bytes ≡ text ++ x.1) × (length text ≡ k) × Is x.0 text
+  pub takes : (k : ℕ) (bytes : Octets) (x : A × Octets) → IsBytes bytes → read k bytes ≡ Ok x → (text : Octets) × (bytes ≡ text ++ x.1) × (length text ≡ k)
+      × Is x.0 text
   pub again : (y : A) (text rest : Octets) → Is y text → read (length text) (text ++ rest) ≡ Ok (y, rest)
 
 -- each length of contents may stand behind a tag of this class and number
 abbrev pub Tags : Class → ℕ → Type 0
 Tags class number = (k : ℕ) → IsTrue (tag_fits number class (Length k))
 
-pub member_exact : {A : Type 0} → (class : Class) (number : ℕ) (read : ℕ → Octets → Result (A × Octets) FaultKind) (Is : A → Octets → Type 0) → Tags class number → IsContentsLaw read Is
+pub member_exact : {A : Type 0} → (class : Class) (number : ℕ) (read : ℕ → Octets → Result (A × Octets) FaultKind) (Is : A → Octets → Type 0)
+    → Tags class number → IsContentsLaw read Is
     → IsExact Anything (member_at class number read) (λ y. Tagged class number (Is y))
 unfolding member_at
 member_exact {A = A} class number read Is fit law = record {
   takes = λ bytes x fits e.
       let h = bind_some (head_at class number bytes) (λ h. kept (read h.0 h.1)) x e in
       let took = head_takes class number bytes h.0 fits h.1 in
-      let c = law.takes h.0.0 h.0.1 x (bytes_behind (tag_spelling (mark_of class number h.0.0)) h.0.1 (subst IsBytes took.is fits)) (kept_some (read h.0.0 h.0.1) x h.2) in
+      let c = law.takes h.0.0 h.0.1 x (bytes_behind (tag_spelling (mark_of class number h.0.0)) h.0.1 (subst IsBytes took.is fits))
+      (kept_some (read h.0.0 h.0.1) x h.2) in
       let head = tag_spelling (mark_of class number h.0.0) in
       let is : bytes ≡ (head ++ c.0) ++ x.1 = took.is ∙ ap (λ (r : Octets). head ++ r) c.1 ∙ sym (append_assoc head c.0 x.1) in
       let short : length c.0 < 2 ^ 32 = subst (λ (k : ℕ). k < 2 ^ 32) (sym c.2) took.spelled.length_in in

@@ -1,11 +1,11 @@
 -- The lengths that are computed are those of the spellings.
-use Rattle.std.proofs.Common.{◌≡◌, ℕ, ℤ, ◌+◌, ◌*◌, ◌<◌, ◌++◌, ltb, length, Option, Some, None, inl, inr, refl, ap, ◌∙◌, arith, lit<}
+use Rattle.std.proofs.Common.{◌≡◌, ℕ, ℤ, ◌+◌, ◌<◌, ◌++◌, length, Option, Some, None, refl, ap, ◌∙◌, arith, lit<}
 use Rattle.std.proofs.lemmas.List.{length-append}
-use Rattle.std.proofs.lemmas.Bool.{lt-ltb, le-ltb, cases_lt}
+use Rattle.std.proofs.lemmas.Bool.{lt-ltb}
 use Rattle.bac_value.specs.declared.tag.Class.{Class}
 use Rattle.bac_value.specs.declared.tag.Class.TheVariants.{Application, Context}
 use Rattle.bac_value.specs.Spelling.{tag_spelling, length_octets}
-use Rattle.bac_value.specs.Number.{unsigned_octets, signed_octets, width_of, half_width_of}
+use Rattle.bac_value.specs.Number.{unsigned_octets, signed_octets, width_of}
 use Rattle.bac_value.specs.Value.{ObjectId}
 use Rattle.bac_value.specs.Data.{opening, closing}
 use Rattle.bac_value.specs.Writing.{length_mark, primitive, object_octets}
@@ -17,15 +17,18 @@ use Rattle.bac_service.specs.Values.ReadAccess.{ReadStream, ReadRecords}
 use Rattle.bac_service.specs.Values.WriteAccess.{WriteStream, WriteRecords}
 use Rattle.bac_service.specs.Values.Request.{ReadFile, WriteFile, ReadProperty, WriteProperty}
 use Rattle.bac_service.specs.Values.Complex.{FileRead, StreamWritten, RecordsWritten, PropertyRead}
-use Rattle.bac_service.specs.Spellings.{index_spelling, reference_spelling, enclosed_spelling, content_spelling, answer_spelling, extent_spelling, read_access_spelling, records_spelling, write_access_spelling, priority_spelling, request_spelling}
-use Rattle.bac_service.specs.Lengths.{member_length, unsigned_length, signed_length, OBJECT_LENGTH, index_length, reference_length, enclosed_length, content_length, extent_length, read_access_length, write_access_length, priority_length, request_length, answer_length}
+use Rattle.bac_service.specs.Spellings.{index_spelling, reference_spelling, enclosed_spelling, content_spelling, answer_spelling, extent_spelling}
+use Rattle.bac_service.specs.Spellings.{read_access_spelling, records_spelling, write_access_spelling, priority_spelling, request_spelling}
+use Rattle.bac_service.specs.Lengths.{member_length, unsigned_length, signed_length, OBJECT_LENGTH, index_length, reference_length, enclosed_length}
+use Rattle.bac_service.specs.Lengths.{content_length, extent_length, read_access_length, write_access_length, priority_length, request_length, answer_length}
 
 length-tag : (class : Class) (number k : ℕ) → number < 15 → length (tag_spelling (length_mark class number k)) ≡ 1 + length (length_octets k)
 unfolding tag_spelling
 length-tag class number k lt = rw (lt-ltb number 15 lt) (omega arith)
 
 length-primitive : (class : Class) (number : ℕ) (xs : Octets) → number < 15 → length (primitive class number xs) ≡ member_length (length xs)
-length-primitive class number xs lt = length-append (tag_spelling (length_mark class number (length xs))) xs ∙ ap (λ (n : ℕ). n + length xs) (length-tag class number (length xs) lt)
+length-primitive class number xs lt = length-append (tag_spelling (length_mark class number (length xs))) xs
+    ∙ ap (λ (n : ℕ). n + length xs) (length-tag class number (length xs) lt)
 
 length-number : (class : Class) (number n : ℕ) → number < 15 → length (primitive class number (unsigned_octets n)) ≡ unsigned_length n
 length-number class number n lt = length-primitive class number (unsigned_octets n) lt ∙ ap member_length (length-unsigned n)
@@ -97,7 +100,8 @@ length-priority : (priority : Option ℕ) → length (priority_spelling priority
 length-priority None = refl
 length-priority (Some n) = length-number Context 4 n (lit< tt)
 
-length-file : (file : ObjectId) (access : Octets) (k : ℕ) → length access ≡ k → length (primitive Application 12 (object_octets file) ++ access) ≡ OBJECT_LENGTH + k
+length-file : (file : ObjectId) (access : Octets) (k : ℕ) → length access ≡ k
+    → length (primitive Application 12 (object_octets file) ++ access) ≡ OBJECT_LENGTH + k
 length-file file access k e =
     let both = length-append (primitive Application 12 (object_octets file)) access in
     let object = length-object Application 12 file (lit< tt) in
@@ -126,14 +130,6 @@ length_answer (PropertyRead r values) =
     let all = length-append (reference_spelling r) (enclosed_spelling 3 values) in
     omega (arith, all, front, pair)
 
--- a signed number has a bit more
-double_test : (n c : ℕ) → ltb n c ≡ ltb (n * 2) (c * 2)
-double_test n c =
-    elim (cases_lt n c) [
-      | inl lt ↦ rw (lt-ltb n c lt, lt-ltb (n * 2) (c * 2) (omega arith)) refl
-      | inr le ↦ rw (le-ltb n c le, le-ltb (n * 2) (c * 2) (omega arith)) refl
-    ]
-
-pub half_width : (n : ℕ) → half_width_of n ≡ width_of (n * 2)
-half_width n =
-    rw (double_test n 0x80, double_test n 0x8000, double_test n 0x80_0000, double_test n 0x8000_0000, double_test n 0x80_0000_0000, double_test n 0x8000_0000_0000, double_test n 0x80_0000_0000_0000) refl
+-- how many octets a number has
+pub unsigned_width : (n : ℕ) → length (unsigned_octets n) ≡ width_of n
+unsigned_width = length-unsigned

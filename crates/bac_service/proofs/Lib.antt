@@ -10,3 +10,4 @@ pub mod Spelled
 pub mod LengthLaws
 pub mod OnlySpelling
 pub mod Counting
+pub mod Examples

@@ -6,7 +6,8 @@ use Rattle.bac_value.specs.Spelling.{tag_spelling}
 use Rattle.bac_value.specs.Value.{ObjectId, IsNumber, IsInteger, IsObject}
 use Rattle.bac_value.specs.Data.{opening, closing}
 use Rattle.bac_value.proofs.OneSpelling.{unsigned_only, signed_only}
-use Rattle.bac_service.specs.Members.{Octets, ◌⨾◌, Optional, Enclosed, Tagged, mark_of, IsPriority, IsString, ApplicationObject, ApplicationSigned, ApplicationUnsigned, ApplicationString, ApplicationBoolean, AreData}
+use Rattle.bac_service.specs.Members.{Octets, ◌⨾◌, Optional, Enclosed, Tagged, mark_of, IsPriority, IsString, ApplicationObject, ApplicationSigned}
+use Rattle.bac_service.specs.Members.{ApplicationUnsigned, ApplicationString, ApplicationBoolean, AreData}
 use Rattle.bac_service.specs.Values.{Reference, ReadAccess, WriteAccess, Request, Complex}
 use Rattle.bac_service.specs.Values.ReadAccess.{ReadStream, ReadRecords}
 use Rattle.bac_service.specs.Values.WriteAccess.{WriteStream, WriteRecords}
@@ -23,7 +24,8 @@ IsOnly P = (a b : Octets) → P a → P b → a ≡ b
 
 after_only : (P Q : Octets → Type 0) → IsOnly P → IsOnly Q → IsOnly (P ⨾ Q)
 after_only P Q p q a b s t =
-    s.is ∙ ap (λ (x : Octets). x ++ s.back) (p s.front t.front s.first t.first) ∙ ap (λ (x : Octets). t.front ++ x) (q s.back t.back s.second t.second) ∙ sym t.is
+    s.is ∙ ap (λ (x : Octets). x ++ s.back) (p s.front t.front s.first t.first) ∙ ap (λ (x : Octets). t.front ++ x) (q s.back t.back s.second t.second)
+    ∙ sym t.is
 
 optional_only : {A : Type 0} (Spells : A → Octets → Type 0) → ((x : A) → IsOnly (Spells x)) → (o : Option A) → IsOnly (Optional Spells o)
 optional_only Spells h None a b s t = s ∙ sym t
@@ -33,7 +35,8 @@ enclosed_only : (number : ℕ) (P : Octets → Type 0) → IsOnly P → IsOnly (
 enclosed_only number P p a b s t = s.is ∙ ap (λ (x : Octets). opening number ++ (x ++ closing number)) (p s.inside t.inside s.are t.are) ∙ sym t.is
 
 tagged_only : (class : Class) (number : ℕ) (C : Octets → Type 0) → IsOnly C → IsOnly (Tagged class number C)
-tagged_only class number C c a b s t = s.is ∙ ap (λ (x : Octets). tag_spelling (mark_of class number (length x)) ++ x) (c s.contents t.contents s.are t.are) ∙ sym t.is
+tagged_only class number C c a b s t = s.is
+    ∙ ap (λ (x : Octets). tag_spelling (mark_of class number (length x)) ++ x) (c s.contents t.contents s.are t.are) ∙ sym t.is
 
 number_only : (most n : ℕ) → IsOnly (IsNumber most n)
 number_only most n a b s t = unsigned_only n a b s.spelled t.spelled
@@ -74,16 +77,21 @@ string_member_only octets = tagged_only Application 6 (IsString octets) (string_
 reference_only : (r : Reference) → IsOnly (SpellsReference r)
 reference_only r =
     let index = optional_only (λ (i : ℕ). Tagged Context 2 (IsNumber 4 i)) (λ i. short_only 2 i) r.index in
-    let rest = after_only (Tagged Context 1 (IsNumber 4 r.property)) (Optional (λ (i : ℕ). Tagged Context 2 (IsNumber 4 i)) r.index) (short_only 1 r.property) index in
-    after_only (Tagged Context 0 (IsObject r.object)) (Tagged Context 1 (IsNumber 4 r.property) ⨾ Optional (λ (i : ℕ). Tagged Context 2 (IsNumber 4 i)) r.index) (tagged_only Context 0 (IsObject r.object) (object_only r.object)) rest
+    let rest = after_only (Tagged Context 1 (IsNumber 4 r.property)) (Optional (λ (i : ℕ). Tagged Context 2 (IsNumber 4 i)) r.index)
+    (short_only 1 r.property) index in
+    after_only (Tagged Context 0 (IsObject r.object))
+    (Tagged Context 1 (IsNumber 4 r.property) ⨾ Optional (λ (i : ℕ). Tagged Context 2 (IsNumber 4 i)) r.index)
+    (tagged_only Context 0 (IsObject r.object) (object_only r.object)) rest
 
 extent_only : (number : ℕ) (start : ℤ) (count : ℕ) → IsOnly (Enclosed number (ApplicationSigned start ⨾ ApplicationUnsigned count))
 extent_only number start count =
-    enclosed_only number (ApplicationSigned start ⨾ ApplicationUnsigned count) (after_only (ApplicationSigned start) (ApplicationUnsigned count) (signed_member_only start) (unsigned_member_only count))
+    enclosed_only number (ApplicationSigned start ⨾ ApplicationUnsigned count)
+    (after_only (ApplicationSigned start) (ApplicationUnsigned count) (signed_member_only start) (unsigned_member_only count))
 
 content_only : (start : ℤ) (octets : Octets) → IsOnly (Enclosed 0 (ApplicationSigned start ⨾ ApplicationString octets))
 content_only start octets =
-    enclosed_only 0 (ApplicationSigned start ⨾ ApplicationString octets) (after_only (ApplicationSigned start) (ApplicationString octets) (signed_member_only start) (string_member_only octets))
+    enclosed_only 0 (ApplicationSigned start ⨾ ApplicationString octets)
+    (after_only (ApplicationSigned start) (ApplicationString octets) (signed_member_only start) (string_member_only octets))
 
 values_only : (values : Octets) → IsOnly (Enclosed 3 (AreData values))
 values_only values = enclosed_only 3 (AreData values) (data_only values)
@@ -96,7 +104,8 @@ write_access_only : (a : WriteAccess) → IsOnly (SpellsWriteAccess a)
 write_access_only (WriteStream start octets) = content_only start octets
 write_access_only (WriteRecords start count run) =
     let counted = after_only (ApplicationUnsigned count) (AreRecords count run) (unsigned_member_only count) (records_only count run) in
-    enclosed_only 1 (ApplicationSigned start ⨾ (ApplicationUnsigned count ⨾ AreRecords count run)) (after_only (ApplicationSigned start) (ApplicationUnsigned count ⨾ AreRecords count run) (signed_member_only start) counted)
+    enclosed_only 1 (ApplicationSigned start ⨾ (ApplicationUnsigned count ⨾ AreRecords count run))
+    (after_only (ApplicationSigned start) (ApplicationUnsigned count ⨾ AreRecords count run) (signed_member_only start) counted)
 
 members_only : (r : Request) → IsOnly (SpellsMembers r)
 members_only (ReadFile file access) = after_only (ApplicationObject file) (SpellsReadAccess access) (file_only file) (read_access_only access)
@@ -109,7 +118,8 @@ members_only (WriteProperty r values priority) =
 
 answer_only : (c : Complex) → IsOnly (SpellsAnswer c)
 answer_only (FileRead end_of_file start octets) =
-    after_only (ApplicationBoolean end_of_file) (Enclosed 0 (ApplicationSigned start ⨾ ApplicationString octets)) (λ a b s t. s ∙ sym t) (content_only start octets)
+    after_only (ApplicationBoolean end_of_file) (Enclosed 0 (ApplicationSigned start ⨾ ApplicationString octets)) (λ a b s t. s ∙ sym t)
+    (content_only start octets)
 answer_only (StreamWritten start) = tagged_only Context 0 (IsInteger 8 start) (integer_only 8 start)
 answer_only (RecordsWritten start) = tagged_only Context 1 (IsInteger 8 start) (integer_only 8 start)
 answer_only (PropertyRead r values) = after_only (SpellsReference r) (Enclosed 3 (AreData values)) (reference_only r) (values_only values)

@@ -1,5 +1,6 @@
 -- The laws of pairs of tags, of data between them, and of what comes next.
-use Rattle.std.proofs.Common.{◌≡◌, ℕ, ◌-◌, ◌<◌, Bool, true, false, cond, ◌&&◌, nat_eq, [], ◌++◌, length, take, Option, Some, None, is_some, IsTrue, refl, sym, ap, subst, ◌∙◌, append_assoc, arith}
+use Rattle.std.proofs.Common.{◌≡◌, ℕ, ◌-◌, ◌<◌, Bool, true, false, cond, ◌&&◌, nat_eq, [], ◌++◌, length, take, Option, Some, None, is_some, IsTrue, refl, sym}
+use Rattle.std.proofs.Common.{ap, subst, ◌∙◌, append_assoc, arith}
 use Rattle.std.proofs.lemmas.Bool.{eqb-true, eq-eqb, lt-ltb}
 use Rattle.std.proofs.lemmas.List.{take_at, length-append}
 use Rattle.bac_value.specs.declared.tag.Class.{Class}
@@ -20,21 +21,29 @@ use Rattle.bac_service.proofs.Heads.{kept_some, announced_again, announced_other
 
 -- ---- what comes next
 
-pub next_tagged : (number : ℕ) (P : Octets → Type 0) (text rest : Octets) → IsTrue (tag_fits number Context (Length 0)) → Tagged Context number P text → is_next number (text ++ rest) ≡ Some true
+pub next_tagged : (number : ℕ) (P : Octets → Type 0) (text rest : Octets) → IsTrue (tag_fits number Context (Length 0)) → Tagged Context number P text
+    → is_next number (text ++ rest) ≡ Some true
 unfolding is_next tag_spelling
 next_tagged number P text rest fits s =
     let head = tag_spelling (mark_of Context number (length s.contents)) in
     let tag : SpellsTag (mark_of Context number (length s.contents)) head = record { fits = fits; length_in = s.fits; is = refl } in
     let parts : text ++ rest ≡ head ++ (s.contents ++ rest) = ap (λ (t : Octets). t ++ rest) s.is ∙ append_assoc head s.contents rest in
-    ap (is_next number) parts ∙ rw (tag_exact.again (mark_of Context number (length s.contents)) head (s.contents ++ rest) tag, announced_again Context number (length s.contents)) refl
+    ap (is_next number) parts ∙ rw (
+      tag_exact.again (mark_of Context number (length s.contents)) head (s.contents ++ rest) tag,
+      announced_again Context number (length s.contents),
+    ) refl
 
-pub next_other : (number n : ℕ) (P : Octets → Type 0) (text rest : Octets) → IsTrue (tag_fits n Context (Length 0)) → nat_eq number n ≡ false → Tagged Context n P text → is_next number (text ++ rest) ≡ Some false
+pub next_other : (number n : ℕ) (P : Octets → Type 0) (text rest : Octets) → IsTrue (tag_fits n Context (Length 0)) → nat_eq number n ≡ false
+    → Tagged Context n P text → is_next number (text ++ rest) ≡ Some false
 unfolding is_next tag_spelling
 next_other number n P text rest fits other s =
     let head = tag_spelling (mark_of Context n (length s.contents)) in
     let tag : SpellsTag (mark_of Context n (length s.contents)) head = record { fits = fits; length_in = s.fits; is = refl } in
     let parts : text ++ rest ≡ head ++ (s.contents ++ rest) = ap (λ (t : Octets). t ++ rest) s.is ∙ append_assoc head s.contents rest in
-    ap (is_next number) parts ∙ rw (tag_exact.again (mark_of Context n (length s.contents)) head (s.contents ++ rest) tag, announced_other number n (length s.contents) other) refl
+    ap (is_next number) parts ∙ rw (
+      tag_exact.again (mark_of Context n (length s.contents)) head (s.contents ++ rest) tag,
+      announced_other number n (length s.contents) other,
+    ) refl
 
 abbrev pub pair_mark : Form → ℕ → Mark
 pair_mark form number = record { number = number; class = Context; form = form }
@@ -71,7 +80,8 @@ tag_that_is : (test : Mark → Bool) (m : Mark) (rest x : Octets) (b : Bool) →
 tag_that_is test m rest x true t e = (t, some_is rest x e)
 tag_that_is test m rest x false t e = absurd cc
 
-pub tag_that_takes : (test : Mark → Bool) (bytes x : Octets) → IsBytes bytes → tag_that test bytes ≡ Some x → (m : Mark) × (test m ≡ true) × (bytes ≡ tag_spelling m ++ x) × IsTrue (tag_fits m.number m.class m.form)
+pub tag_that_takes : (test : Mark → Bool) (bytes x : Octets) → IsBytes bytes → tag_that test bytes ≡ Some x
+    → (m : Mark) × (test m ≡ true) × (bytes ≡ tag_spelling m ++ x) × IsTrue (tag_fits m.number m.class m.form)
 unfolding tag_that
 tag_that_takes test bytes x fits e =
     let t = bind_some (kept (tag_at bytes)) (λ t. cond (test t.0) (Some t.1) None) x e in
@@ -80,7 +90,8 @@ tag_that_takes test bytes x fits e =
     let is : bytes ≡ tag_spelling t.0.0 ++ x = took.1 ∙ ap (λ (s : Octets). s ++ t.0.1) took.2.is ∙ ap (λ (r : Octets). tag_spelling t.0.0 ++ r) c.1 in
     (t.0.0, c.0, is, took.2.fits)
 
-pub tag_that_again : (test : Mark → Bool) (m : Mark) (rest : Octets) → SpellsTag m (tag_spelling m) → test m ≡ true → tag_that test (tag_spelling m ++ rest) ≡ Some rest
+pub tag_that_again : (test : Mark → Bool) (m : Mark) (rest : Octets) → SpellsTag m (tag_spelling m) → test m ≡ true
+    → tag_that test (tag_spelling m ++ rest) ≡ Some rest
 unfolding tag_that
 tag_that_again test m rest s t = rw (tag_exact.again m (tag_spelling m) rest s, t) refl
 
@@ -115,17 +126,20 @@ closing_takes number bytes x fits e =
 
 opening_again : (number : ℕ) (rest : Octets) → number < 255 → opening_at number (opening number ++ rest) ≡ Some rest
 opening_again number rest lt =
-    tag_that_again (λ m. is_opening m.form && nat_eq number m.number) (pair_mark Opening number) rest (record { fits = lt-ltb number 255 lt; length_in = tt; is = refl }) (eq-eqb number number refl)
+    tag_that_again (λ m. is_opening m.form && nat_eq number m.number) (pair_mark Opening number) rest
+    (record { fits = lt-ltb number 255 lt; length_in = tt; is = refl }) (eq-eqb number number refl)
 
 closing_again : (number : ℕ) (rest : Octets) → number < 255 → closing_at number (closing number ++ rest) ≡ Some rest
 closing_again number rest lt =
-    tag_that_again (λ m. is_closing m.form && nat_eq number m.number) (pair_mark Closing number) rest (record { fits = lt-ltb number 255 lt; length_in = tt; is = refl }) (eq-eqb number number refl)
+    tag_that_again (λ m. is_closing m.form && nat_eq number m.number) (pair_mark Closing number) rest
+    (record { fits = lt-ltb number 255 lt; length_in = tt; is = refl }) (eq-eqb number number refl)
 
 regrouped : (a b c d : Octets) → (a ++ (b ++ c)) ++ d ≡ a ++ (b ++ (c ++ d))
 regrouped a b c d = simp append_assoc
 
 -- members between a pair of tags
-pub enclosed_exact : {A : Type 0} → (number : ℕ) → number < 255 → (F : Octets → Type 0) (read : Octets → Option (A × Octets)) (Spells : A → Octets → Type 0) → IsExact F read Spells
+pub enclosed_exact : {A : Type 0} → (number : ℕ) → number < 255
+    → (F : Octets → Type 0) (read : Octets → Option (A × Octets)) (Spells : A → Octets → Type 0) → IsExact F read Spells
     → ((rest : Octets) → F (closing number ++ rest)) → IsExact Anything (enclosed_at number read) (λ y. Enclosed number (Spells y))
 unfolding enclosed_at
 enclosed_exact {A = A} number lt F read Spells law link = record {
@@ -137,13 +151,20 @@ enclosed_exact {A = A} number lt F read Spells law link = record {
       let inside_fits : IsBytes o.0 = bytes_behind (opening number) o.0 (subst IsBytes front fits) in
       let t = law.takes o.0 y.0 inside_fits y.1 in
       let behind : y.0.1 ≡ closing number ++ c.0 = closing_takes number y.0.1 c.0 (left_fits read Spells law o.0 y.0 inside_fits y.1) c.1 in
-      let all : bytes ≡ opening number ++ (t.0 ++ (closing number ++ c.0)) = front ∙ ap (λ (r : Octets). opening number ++ r) (t.1 ∙ ap (λ (r : Octets). t.0 ++ r) behind) in
+      let all : bytes ≡ opening number ++ (t.0 ++ (closing number ++ c.0)) =
+      front ∙ ap (λ (r : Octets). opening number ++ r) (t.1 ∙ ap (λ (r : Octets). t.0 ++ r) behind) in
       let is : bytes ≡ (opening number ++ (t.0 ++ closing number)) ++ c.0 = all ∙ sym (regrouped (opening number) t.0 (closing number) c.0) in
       subst (λ (z : A × Octets). (text : Octets) × (bytes ≡ text ++ z.1) × Enclosed number (Spells z.0) text) (some_is (y.0.0, c.0) x c.2)
       (opening number ++ (t.0 ++ closing number), is, record { inside = t.0; are = t.2; is = refl });
   again = λ y text rest s follows.
-      let parts : text ++ rest ≡ opening number ++ (s.inside ++ (closing number ++ rest)) = ap (λ (t : Octets). t ++ rest) s.is ∙ regrouped (opening number) s.inside (closing number) rest in
-      rw (parts, opening_again number (s.inside ++ (closing number ++ rest)) lt, law.again y s.inside (closing number ++ rest) s.are (link rest), closing_again number rest lt) refl;
+      let parts : text ++ rest ≡ opening number ++ (s.inside ++ (closing number ++ rest)) =
+      ap (λ (t : Octets). t ++ rest) s.is ∙ regrouped (opening number) s.inside (closing number) rest in
+      rw (
+        parts,
+        opening_again number (s.inside ++ (closing number ++ rest)) lt,
+        law.again y s.inside (closing number ++ rest) s.are (link rest),
+        closing_again number rest lt,
+      ) refl;
 }
 
 -- ---- data

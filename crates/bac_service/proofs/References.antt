@@ -19,11 +19,15 @@ unfolding reference_at
 reference_exact =
     let object = member_exact Context 0 object_at IsObject (λ k. refl) object_law in
     let property = member_exact Context 1 (number_at 9) (IsNumber 4) (λ k. refl) short_law in
-    let index = optional_exact 2 (member_at Context 2 (number_at 9)) (λ i. Tagged Context 2 (IsNumber 4 i)) (member_exact Context 2 (number_at 9) (IsNumber 4) (λ k. refl) short_law)
+    let index = optional_exact 2 (member_at Context 2 (number_at 9)) (λ i. Tagged Context 2 (IsNumber 4 i))
+    (member_exact Context 2 (number_at 9) (IsNumber 4) (λ k. refl) short_law)
     (λ y text rest s. next_tagged 2 (IsNumber 4 y) text rest refl s) in
-    let rest = both_exact Anything (Differs 2) (member_at Context 1 (number_at 9)) (optional_at 2 (member_at Context 2 (number_at 9))) (λ p. Tagged Context 1 (IsNumber 4 p)) (Optional (λ i. Tagged Context 2 (IsNumber 4 i))) property index (λ b text rest q f. tt) in
-    let all = both_exact Anything (Differs 2) (member_at Context 0 object_at) (both_at (member_at Context 1 (number_at 9)) (optional_at 2 (member_at Context 2 (number_at 9)))) (λ o. Tagged Context 0 (IsObject o))
+    let rest = both_exact Anything (Differs 2) (member_at Context 1 (number_at 9)) (optional_at 2 (member_at Context 2 (number_at 9)))
+    (λ p. Tagged Context 1 (IsNumber 4 p)) (Optional (λ i. Tagged Context 2 (IsNumber 4 i))) property index (λ b text rest q f. tt) in
+    let all = both_exact Anything (Differs 2) (member_at Context 0 object_at)
+    (both_at (member_at Context 1 (number_at 9)) (optional_at 2 (member_at Context 2 (number_at 9)))) (λ o. Tagged Context 0 (IsObject o))
     (λ (t : ℕ × Option ℕ). Tagged Context 1 (IsNumber 4 t.0) ⨾ Optional (λ i. Tagged Context 2 (IsNumber 4 i)) t.1) object rest (λ b text rest q f. tt) in
     same_exact (Differs 2) reference_at (Made reference_of Named) SpellsReference
-    (made_exact (Differs 2) reference_of (both_at (member_at Context 0 object_at) (both_at (member_at Context 1 (number_at 9)) (optional_at 2 (member_at Context 2 (number_at 9))))) Named all)
+    (made_exact (Differs 2) reference_of (both_at (member_at Context 0 object_at)
+    (both_at (member_at Context 1 (number_at 9)) (optional_at 2 (member_at Context 2 (number_at 9))))) Named all)
     (λ a text p. subst (λ r. SpellsReference r text) p.1 p.2) (λ b text s. ((b.object, (b.property, b.index)), refl, s))

@@ -1,5 +1,6 @@
 -- Going over octet strings one by one.
-use Rattle.std.proofs.Common.{◌≡◌, ℕ, zero, suc, ◌+◌, ◌-◌, ◌<◌, ◌≤◌, Bool, true, false, cond, Option, Some, None, is_some, refl, sym, ap, ◌∙◌, length, take, zero-add, add-zero, arith}
+use Rattle.std.proofs.Common.{◌≡◌, ℕ, zero, suc, ◌+◌, ◌-◌, ◌<◌, ◌≤◌, Bool, true, false, cond, Option, Some, None, is_some, refl, sym, ap, ◌∙◌, length, take}
+use Rattle.std.proofs.Common.{zero-add, add-zero, arith}
 use Rattle.bac_value.specs.declared.tag.Class.TheVariants.{Application}
 use Rattle.bac_value.specs.Spelling.{Mark}
 use Rattle.bac_value.specs.Reading.{tag_at}
@@ -29,19 +30,22 @@ stepped most bytes None = None
 stepped most bytes (Some None) = Some (0, bytes)
 stepped most bytes (Some (Some next)) = one_more (strings_at most next)
 
-of_string : (most : ℕ) (bytes : Octets) (s : Option (Octets × Octets)) → (s >>= λ x. strings_at most x.1 >>= λ n. Some (n.0 + 1, n.1)) ≡ stepped most bytes (s >>= λ x. Some (Some x.1))
+of_string : (most : ℕ) (bytes : Octets) (s : Option (Octets × Octets))
+    → (s >>= λ x. strings_at most x.1 >>= λ n. Some (n.0 + 1, n.1)) ≡ stepped most bytes (s >>= λ x. Some (Some x.1))
 unfolding stepped one_more
 of_string most bytes None = refl
 of_string most bytes (Some s) = refl
 
 of_test : (most : ℕ) (bytes : Octets) (b : Bool)
-    → cond b (application_string bytes >>= λ s. strings_at most s.1 >>= λ n. Some (n.0 + 1, n.1)) (Some (0, bytes)) ≡ stepped most bytes (cond b (application_string bytes >>= λ s. Some (Some s.1)) (Some None))
+    → cond b (application_string bytes >>= λ s. strings_at most s.1 >>= λ n. Some (n.0 + 1, n.1)) (Some (0, bytes))
+    ≡ stepped most bytes (cond b (application_string bytes >>= λ s. Some (Some s.1)) (Some None))
 unfolding stepped
 of_test most bytes true = of_string most bytes (application_string bytes)
 of_test most bytes false = refl
 
 of_tag : (most : ℕ) (bytes : Octets) (t : Option (Mark × Octets))
-    → (t >>= λ t. cond (is_some (announced Application 6 t.0)) (application_string bytes >>= λ s. strings_at most s.1 >>= λ n. Some (n.0 + 1, n.1)) (Some (0, bytes)))
+    → (t >>= λ t. cond (is_some (announced Application 6 t.0)) (application_string bytes >>= λ s. strings_at most s.1 >>= λ n. Some (n.0 + 1, n.1))
+    (Some (0, bytes)))
     ≡ stepped most bytes (t >>= λ t. cond (is_some (announced Application 6 t.0)) (application_string bytes >>= λ s. Some (Some s.1)) (Some None))
 unfolding stepped
 of_tag most bytes None = refl
@@ -61,21 +65,25 @@ pub record IsUnderway (all : Octets) (count : ℕ) (bytes : Octets) : Type 0 whe
 pub begins : (all : Octets) → IsUnderway all 0 all
 begins all = record { most = suc (length all); enough = omega arith; few = omega arith; same = plus-zero (strings_at (suc (length all)) all) }
 
-from_steps : (all : Octets) (count : ℕ) (bytes : Octets) (o : Option (Option Octets)) → string_step bytes ≡ o → (n : ℕ) → length bytes < n → plus count (strings_at n bytes) ≡ strings_at (suc (length all)) all
+from_steps : (all : Octets) (count : ℕ) (bytes : Octets) (o : Option (Option Octets)) → string_step bytes ≡ o → (n : ℕ) → length bytes < n
+    → plus count (strings_at n bytes) ≡ strings_at (suc (length all)) all
     → (m : ℕ) × (n ≡ suc m) × (plus count (stepped m bytes o) ≡ strings_at (suc (length all)) all)
 from_steps all count bytes o e zero lt same = absurd (omega arith)
 from_steps all count bytes o e (suc m) lt same = (m, refl, ap (plus count) (sym (strings_step m bytes ∙ ap (stepped m bytes) e)) ∙ same)
 
-after_step : (all : Octets) (count : ℕ) (bytes : Octets) (o : Option (Option Octets)) (u : IsUnderway all count bytes) → string_step bytes ≡ o → (m : ℕ) × (u.most ≡ suc m) × (plus count (stepped m bytes o) ≡ strings_at (suc (length all)) all)
+after_step : (all : Octets) (count : ℕ) (bytes : Octets) (o : Option (Option Octets)) (u : IsUnderway all count bytes) → string_step bytes ≡ o
+    → (m : ℕ) × (u.most ≡ suc m) × (plus count (stepped m bytes o) ≡ strings_at (suc (length all)) all)
 after_step all count bytes o u e = from_steps all count bytes o e u.most u.enough u.same
 
-pub goes_on : (all : Octets) (count : ℕ) (bytes next : Octets) → IsUnderway all count bytes → string_step bytes ≡ Some (Some next) → length next < length bytes → IsUnderway all (count + 1) next
+pub goes_on : (all : Octets) (count : ℕ) (bytes next : Octets) → IsUnderway all count bytes → string_step bytes ≡ Some (Some next)
+    → length next < length bytes → IsUnderway all (count + 1) next
 unfolding stepped
 goes_on all count bytes next u e lt =
     let a = after_step all count bytes (Some (Some next)) u e in
     record { most = a.0; enough = omega (arith, u.enough, a.1); few = omega (arith, u.few); same = sym (plus-one_more count (strings_at a.0 next)) ∙ a.2 }
 
-pub stops : (all : Octets) (count : ℕ) (bytes : Octets) → IsUnderway all count bytes → string_step bytes ≡ Some None → strings_at (suc (length all)) all ≡ Some (count, bytes)
+pub stops : (all : Octets) (count : ℕ) (bytes : Octets) → IsUnderway all count bytes → string_step bytes ≡ Some None
+    → strings_at (suc (length all)) all ≡ Some (count, bytes)
 unfolding stepped
 stops all count bytes u e =
     let a = after_step all count bytes (Some None) u e in
@@ -89,6 +97,7 @@ pub none_of : {A : Type 0} (o : Option A) → ((x : A) → o ≡ Some x → ⊥)
 none_of None never = refl
 none_of (Some x) never = absurd (never x refl)
 
-pub run_is : (bytes text rest : Octets) (n k : ℕ) → strings_at (suc (length bytes)) bytes ≡ Some (n, rest) → k ≡ length bytes - length rest → text ≡ take k bytes → run_at bytes ≡ Some ((n, text), rest)
+pub run_is : (bytes text rest : Octets) (n k : ℕ) → strings_at (suc (length bytes)) bytes ≡ Some (n, rest) → k ≡ length bytes - length rest
+    → text ≡ take k bytes → run_at bytes ≡ Some ((n, text), rest)
 unfolding run_at
 run_is bytes text rest n k e is front = rw (e, front, is) refl

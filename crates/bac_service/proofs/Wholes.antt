@@ -1,5 +1,6 @@
 -- What is read of whole service data is exactly what they spell.
-use Rattle.std.proofs.Common.{◌≡◌, ℕ, ◌<◌, ℤ, Bool, true, false, cond, nat_eq, ◌++◌, Option, Some, None, ◌⊎◌, inl, inr, refl, sym, ap, subst, ◌∙◌, append_assoc, lit<, IsTrue, length, ◌^◌, Result, Ok, Err, MatchResult, IfOk, IfErr}
+use Rattle.std.proofs.Common.{◌≡◌, ℕ, ◌<◌, ℤ, Bool, true, false, cond, nat_eq, ◌++◌, Option, Some, None, ◌⊎◌, inl, inr, refl, sym, ap, subst, ◌∙◌}
+use Rattle.std.proofs.Common.{append_assoc, lit<, IsTrue, length, ◌^◌, Result, Ok, Err, MatchResult, IfOk, IfErr}
 use Rattle.std.proofs.lemmas.Bool.{eqb-true}
 use Rattle.bac_value.specs.declared.tag.Class.{Class}
 use Rattle.bac_value.specs.declared.tag.Class.TheVariants.{Application, Context}
@@ -19,8 +20,11 @@ use Rattle.bac_service.specs.Values.Complex.{FileRead, StreamWritten, RecordsWri
 use Rattle.bac_service.specs.Members.{Octets, ◌⨾◌, Optional, Enclosed, Tagged, IsPriority, ApplicationObject, ApplicationBoolean, AreData}
 use Rattle.bac_service.specs.Requests.{SpellsReference, SpellsReadAccess, SpellsWriteAccess, SpellsMembers, SpellsRequest, IsMade}
 use Rattle.bac_service.specs.Replies.{SpellsAnswer, SpellsComplex, IsMadeOf}
-use Rattle.bac_service.specs.Reading.{◌>>=◌, kept, both_at, made_at, member_at, is_next, optional_at, enclosed_at, values_at, priority_at, reference_at, write_property_of, write_property_at, application_object, content_at, read_access_at, write_access_at, file_at, whole, request_at, boolean_of, end_of_file_at, file_read_at, file_written_at, property_read_at, complex_at}
-use Rattle.bac_service.proofs.Exact.{IsExact, Anything, Differs, Made, bind_some, some_is, both_exact, made_exact, optional_exact, either_exact, whole_takes, whole_again}
+use Rattle.bac_service.specs.Reading.{◌>>=◌, kept, both_at, made_at, member_at, is_next, optional_at, enclosed_at, values_at, priority_at, reference_at}
+use Rattle.bac_service.specs.Reading.{write_property_of, write_property_at, application_object, content_at, read_access_at, write_access_at, file_at, whole}
+use Rattle.bac_service.specs.Reading.{request_at, boolean_of, end_of_file_at, file_read_at, file_written_at, property_read_at, complex_at}
+use Rattle.bac_service.proofs.Exact.{IsExact, Anything, Differs, Made, bind_some, some_is, both_exact, made_exact, optional_exact, either_exact, whole_takes}
+use Rattle.bac_service.proofs.Exact.{whole_again}
 use Rattle.bac_service.proofs.Heads.{kept_some, member_exact}
 use Rattle.bac_service.proofs.Contents.{signed_law}
 use Rattle.bac_service.proofs.Pairs.{next_tagged, next_other, next_opening, end_differs, enclosed_exact, values_exact}
@@ -41,7 +45,8 @@ enclosing_exact = enclosed_exact 3 (lit< tt) Ends values_at AreData values_exact
 -- behind a reference an opening tag may follow
 opened_differs : (number n : ℕ) (P : Octets → Type 0) (text rest : Octets) → n < 255 → Enclosed n P text → Differs number (text ++ rest)
 opened_differs number n P text rest lt s =
-    let parts : text ++ rest ≡ opening n ++ ((s.inside ++ closing n) ++ rest) = ap (λ (t : Octets). t ++ rest) s.is ∙ append_assoc (opening n) (s.inside ++ closing n) rest in
+    let parts : text ++ rest ≡ opening n ++ ((s.inside ++ closing n) ++ rest) =
+    ap (λ (t : Octets). t ++ rest) s.is ∙ append_assoc (opening n) (s.inside ++ closing n) rest in
     ap (is_next number) parts ∙ next_opening number n ((s.inside ++ closing n) ++ rest) lt
 
 abbrev Written : Reference × (Octets × Option ℕ) → Octets → Type 0
@@ -51,9 +56,12 @@ write_exact : IsExact (Differs 4) write_property_at (Made write_property_of Writ
 unfolding write_property_at
 write_exact =
     let priority = optional_exact 4 priority_at Priority priority_exact (λ y text rest s. next_tagged 4 (IsPriority y) text rest refl s) in
-    let behind = both_exact Anything (Differs 4) (enclosed_at 3 values_at) (optional_at 4 priority_at) Enclosing (Optional Priority) enclosing_exact priority (λ b text rest q f. tt) in
-    let all = both_exact (Differs 2) (Differs 4) reference_at (both_at (enclosed_at 3 values_at) (optional_at 4 priority_at)) SpellsReference (λ (t : Octets × Option ℕ). Enclosing t.0 ⨾ Optional Priority t.1) reference_exact behind
-    (λ b text rest q f. (ap (λ (t : Octets). is_next 2 (t ++ rest)) q.is ∙ ap (is_next 2) (append_assoc q.front q.back rest)) ∙ opened_differs 2 3 (AreData b.0) q.front (q.back ++ rest) (lit< tt) q.first) in
+    let behind = both_exact Anything (Differs 4) (enclosed_at 3 values_at) (optional_at 4 priority_at) Enclosing (Optional Priority) enclosing_exact
+    priority (λ b text rest q f. tt) in
+    let all = both_exact (Differs 2) (Differs 4) reference_at (both_at (enclosed_at 3 values_at) (optional_at 4 priority_at)) SpellsReference
+    (λ (t : Octets × Option ℕ). Enclosing t.0 ⨾ Optional Priority t.1) reference_exact behind
+    (λ b text rest q f. (ap (λ (t : Octets). is_next 2 (t ++ rest)) q.is ∙ ap (is_next 2) (append_assoc q.front q.back rest))
+    ∙ opened_differs 2 3 (AreData b.0) q.front (q.back ++ rest) (lit< tt) q.first) in
     made_exact (Differs 4) write_property_of (both_at reference_at (both_at (enclosed_at 3 values_at) (optional_at 4 priority_at))) Written all
 
 -- ---- files
@@ -61,7 +69,8 @@ write_exact =
 abbrev Filed : {A : Type 0} → (ObjectId → A → Request) → (A → Octets → Type 0) → Request → Octets → Type 0
 Filed {A = A} make Access = Made (λ (t : ObjectId × A). make t.0 t.1) (λ t. ApplicationObject t.0 ⨾ Access t.1)
 
-file_exact : {A : Type 0} (make : ObjectId → A → Request) (access : Octets → Option (A × Octets)) (Access : A → Octets → Type 0) → IsExact Anything access Access → IsExact Anything (file_at make access) (Filed make Access)
+file_exact : {A : Type 0} (make : ObjectId → A → Request) (access : Octets → Option (A × Octets)) (Access : A → Octets → Type 0)
+    → IsExact Anything access Access → IsExact Anything (file_at make access) (Filed make Access)
 file_exact {A = A} make access Access law =
     made_exact Anything (λ (t : ObjectId × A). make t.0 t.1) (both_at application_object access) (λ t. ApplicationObject t.0 ⨾ Access t.1)
     (both_exact Anything Anything application_object access ApplicationObject Access object_exact law (λ b text rest q f. tt))
@@ -85,38 +94,48 @@ request_takes choice bytes r fits e =
     let read_property = whole (made_at ReadProperty reference_at) bytes in
     let write_file = whole (file_at WriteFile write_access_at) bytes in
     let read_file = whole (file_at ReadFile read_access_at) bytes in
-    elim (chosen_is (nat_eq choice READ_FILE) read_file (cond (nat_eq choice WRITE_FILE) write_file (cond (nat_eq choice READ_PROPERTY) read_property (cond (nat_eq choice WRITE_PROPERTY) write_property None))) r e) [
+    elim (chosen_is (nat_eq choice READ_FILE) read_file
+    (cond (nat_eq choice WRITE_FILE) write_file
+    (cond (nat_eq choice READ_PROPERTY) read_property (cond (nat_eq choice WRITE_PROPERTY) write_property None))) r e) [
       | inl c ↦
-          let s = whole_takes Anything (file_at ReadFile read_access_at) (Filed ReadFile SpellsReadAccess) (file_exact ReadFile read_access_at SpellsReadAccess read_access_exact) bytes r fits c.1 in
+          let s = whole_takes Anything (file_at ReadFile read_access_at) (Filed ReadFile SpellsReadAccess)
+          (file_exact ReadFile read_access_at SpellsReadAccess read_access_exact) bytes r fits c.1 in
           subst (Spelled choice bytes) s.1 (spelled choice (ReadFile s.0.0 s.0.1) bytes c.0 s.2)
-      | inr n ↦ elim (chosen_is (nat_eq choice WRITE_FILE) write_file (cond (nat_eq choice READ_PROPERTY) read_property (cond (nat_eq choice WRITE_PROPERTY) write_property None)) r n.1) [
-        | inl c ↦
-            let s = whole_takes Anything (file_at WriteFile write_access_at) (Filed WriteFile SpellsWriteAccess) (file_exact WriteFile write_access_at SpellsWriteAccess write_access_exact) bytes r fits c.1 in
-            subst (Spelled choice bytes) s.1 (spelled choice (WriteFile s.0.0 s.0.1) bytes c.0 s.2)
-        | inr m ↦ elim (chosen_is (nat_eq choice READ_PROPERTY) read_property (cond (nat_eq choice WRITE_PROPERTY) write_property None) r m.1) [
-          | inl c ↦
-              let s = whole_takes (Differs 2) (made_at ReadProperty reference_at) (Made ReadProperty SpellsReference) (made_exact (Differs 2) ReadProperty reference_at SpellsReference reference_exact) bytes r fits c.1 in
-              subst (Spelled choice bytes) s.1 (spelled choice (ReadProperty s.0) bytes c.0 s.2)
-          | inr k ↦ elim (chosen_is (nat_eq choice WRITE_PROPERTY) write_property None r k.1) [
+      | inr n ↦ elim (chosen_is (nat_eq choice WRITE_FILE) write_file
+          (cond (nat_eq choice READ_PROPERTY) read_property (cond (nat_eq choice WRITE_PROPERTY) write_property None)) r n.1) [
             | inl c ↦
-                let s = whole_takes (Differs 4) write_property_at (Made write_property_of Written) write_exact bytes r fits c.1 in
-                subst (Spelled choice bytes) s.1 (spelled choice (WriteProperty s.0.0 s.0.1.0 s.0.1.1) bytes c.0 s.2)
-            | inr l ↦ let no = l.1 in absurd cc
+                let s = whole_takes Anything (file_at WriteFile write_access_at) (Filed WriteFile SpellsWriteAccess)
+                (file_exact WriteFile write_access_at SpellsWriteAccess write_access_exact) bytes r fits c.1 in
+                subst (Spelled choice bytes) s.1 (spelled choice (WriteFile s.0.0 s.0.1) bytes c.0 s.2)
+            | inr m ↦ elim (chosen_is (nat_eq choice READ_PROPERTY) read_property (cond (nat_eq choice WRITE_PROPERTY) write_property None) r m.1) [
+              | inl c ↦
+                  let s = whole_takes (Differs 2) (made_at ReadProperty reference_at) (Made ReadProperty SpellsReference)
+                  (made_exact (Differs 2) ReadProperty reference_at SpellsReference reference_exact) bytes r fits c.1 in
+                  subst (Spelled choice bytes) s.1 (spelled choice (ReadProperty s.0) bytes c.0 s.2)
+              | inr k ↦ elim (chosen_is (nat_eq choice WRITE_PROPERTY) write_property None r k.1) [
+                | inl c ↦
+                    let s = whole_takes (Differs 4) write_property_at (Made write_property_of Written) write_exact bytes r fits c.1 in
+                    subst (Spelled choice bytes) s.1 (spelled choice (WriteProperty s.0.0 s.0.1.0 s.0.1.1) bytes c.0 s.2)
+                | inr l ↦ let no = l.1 in absurd cc
+              ]
+            ]
           ]
-        ]
-      ]
     ]
 
 members_again : (r : Request) (bytes : Octets) → SpellsMembers r bytes → request_at (choice_of r) bytes ≡ Some r
 unfolding request_at
 members_again (ReadFile file access) bytes s =
-    whole_again Anything (file_at ReadFile read_access_at) (Filed ReadFile SpellsReadAccess) (file_exact ReadFile read_access_at SpellsReadAccess read_access_exact) tt bytes (ReadFile file access) ((file, access), refl, s)
+    whole_again Anything (file_at ReadFile read_access_at) (Filed ReadFile SpellsReadAccess)
+    (file_exact ReadFile read_access_at SpellsReadAccess read_access_exact) tt bytes (ReadFile file access) ((file, access), refl, s)
 members_again (WriteFile file access) bytes s =
-    whole_again Anything (file_at WriteFile write_access_at) (Filed WriteFile SpellsWriteAccess) (file_exact WriteFile write_access_at SpellsWriteAccess write_access_exact) tt bytes (WriteFile file access) ((file, access), refl, s)
+    whole_again Anything (file_at WriteFile write_access_at) (Filed WriteFile SpellsWriteAccess)
+    (file_exact WriteFile write_access_at SpellsWriteAccess write_access_exact) tt bytes (WriteFile file access) ((file, access), refl, s)
 members_again (ReadProperty r) bytes s =
-    whole_again (Differs 2) (made_at ReadProperty reference_at) (Made ReadProperty SpellsReference) (made_exact (Differs 2) ReadProperty reference_at SpellsReference reference_exact) (end_differs 2) bytes (ReadProperty r) (r, refl, s)
+    whole_again (Differs 2) (made_at ReadProperty reference_at) (Made ReadProperty SpellsReference)
+    (made_exact (Differs 2) ReadProperty reference_at SpellsReference reference_exact) (end_differs 2) bytes (ReadProperty r) (r, refl, s)
 members_again (WriteProperty r values priority) bytes s =
-    whole_again (Differs 4) write_property_at (Made write_property_of Written) write_exact (end_differs 4) bytes (WriteProperty r values priority) ((r, (values, priority)), refl, s)
+    whole_again (Differs 4) write_property_at (Made write_property_of Written) write_exact (end_differs 4) bytes (WriteProperty r values priority)
+    ((r, (values, priority)), refl, s)
 
 pub request_again : (choice : ℕ) (bytes : Octets) (r : Request) → SpellsRequest choice r bytes → request_at choice bytes ≡ Some r
 request_again choice bytes r s = rw s.choice_is (members_again r bytes s.members)
@@ -151,7 +170,8 @@ end_of_file_exact = record {
       let b = bind_some (boolean_of t.0.0.form) (λ b. Some (b, t.0.1)) x t.2 in
       let took = tag_exact.takes bytes t.0 fits (kept_some (tag_at bytes) t.0 t.1) in
       let m = boolean_fields t.0.0.number t.0.0.class t.0.0.form b.0 (boolean_is t.0.0.form b.0 b.1) took.2.fits in
-      subst (λ (y : Bool × Octets). (text : Octets) × (bytes ≡ text ++ y.1) × ApplicationBoolean y.0 text) (some_is (b.0, t.0.1) x b.2) (took.0, took.1, took.2.is ∙ ap tag_spelling m);
+      subst (λ (y : Bool × Octets). (text : Octets) × (bytes ≡ text ++ y.1) × ApplicationBoolean y.0 text) (some_is (b.0, t.0.1) x b.2)
+      (took.0, took.1, took.2.is ∙ ap tag_spelling m);
   again = λ y text rest s follows.
       let tag : SpellsTag (boolean_mark y) text = record { fits = refl; length_in = tt; is = s } in
       rw (tag_exact.again (boolean_mark y) text rest tag) refl;
@@ -168,7 +188,8 @@ unfolding file_read_at
 file_read_exact =
     let inside = enclosed_exact 0 (lit< tt) Anything content_at Content content_exact (λ rest. tt) in
     made_exact Anything file_read_of (both_at end_of_file_at (enclosed_at 0 content_at)) FileReads
-    (both_exact Anything Anything end_of_file_at (enclosed_at 0 content_at) ApplicationBoolean (λ t. Enclosed 0 (Content t)) end_of_file_exact inside (λ b text rest q f. tt))
+    (both_exact Anything Anything end_of_file_at (enclosed_at 0 content_at) ApplicationBoolean (λ t. Enclosed 0 (Content t)) end_of_file_exact inside
+    (λ b text rest q f. tt))
 
 abbrev PropertyReads : Reference × Octets → Octets → Type 0
 PropertyReads t = SpellsReference t.0 ⨾ Enclosing t.1
@@ -180,7 +201,8 @@ property_read_exact : IsExact Anything property_read_at (Made property_read_of P
 unfolding property_read_at
 property_read_exact =
     made_exact Anything property_read_of (both_at reference_at (enclosed_at 3 values_at)) PropertyReads
-    (both_exact (Differs 2) Anything reference_at (enclosed_at 3 values_at) SpellsReference Enclosing reference_exact enclosing_exact (λ b text rest q f. opened_differs 2 3 (AreData b) text rest (lit< tt) q))
+    (both_exact (Differs 2) Anything reference_at (enclosed_at 3 values_at) SpellsReference Enclosing reference_exact enclosing_exact
+    (λ b text rest q f. opened_differs 2 3 (AreData b) text rest (lit< tt) q))
 
 abbrev Position : ℕ → ℤ → Octets → Type 0
 Position number z = Tagged Context number (IsInteger 8 z)
@@ -193,16 +215,20 @@ next_stream : (z : ℤ) (text rest : Octets) → Position 0 z text → is_next 1
 next_stream z text rest s = next_other 1 0 (IsInteger 8 z) text rest refl refl s
 
 written_told : (c : Complex) (text rest : Octets) → IsWritten c text → Anything rest
-    → (Made RecordsWritten (Position 1) c text × (is_next 1 (text ++ rest) ≡ Some true) × Anything rest) ⊎ (Made StreamWritten (Position 0) c text × (is_next 1 (text ++ rest) ≡ Some false) × Anything rest)
+    → (Made RecordsWritten (Position 1) c text × (is_next 1 (text ++ rest) ≡ Some true) × Anything rest) ⊎
+    (Made StreamWritten (Position 0) c text × (is_next 1 (text ++ rest) ≡ Some false) × Anything rest)
 written_told c text rest (inl (z, make, s)) f = inl ((z, make, s), next_tagged 1 (IsInteger 8 z) text rest refl s, tt)
 written_told c text rest (inr (z, make, s)) f = inr ((z, make, s), next_stream z text rest s, tt)
 
 written_exact : IsExact Anything file_written_at IsWritten
 unfolding file_written_at
 written_exact =
-    let one = made_exact Anything RecordsWritten (member_at Context 1 signed_at) (Position 1) (member_exact Context 1 signed_at (IsInteger 8) (λ k. refl) signed_law) in
-    let other = made_exact Anything StreamWritten (member_at Context 0 signed_at) (Position 0) (member_exact Context 0 signed_at (IsInteger 8) (λ k. refl) signed_law) in
-    either_exact Anything Anything Anything (is_next 1) (made_at RecordsWritten (member_at Context 1 signed_at)) (made_at StreamWritten (member_at Context 0 signed_at)) (Made RecordsWritten (Position 1)) (Made StreamWritten (Position 0)) IsWritten
+    let one = made_exact Anything RecordsWritten (member_at Context 1 signed_at) (Position 1)
+    (member_exact Context 1 signed_at (IsInteger 8) (λ k. refl) signed_law) in
+    let other = made_exact Anything StreamWritten (member_at Context 0 signed_at) (Position 0)
+    (member_exact Context 0 signed_at (IsInteger 8) (λ k. refl) signed_law) in
+    either_exact Anything Anything Anything (is_next 1) (made_at RecordsWritten (member_at Context 1 signed_at))
+    (made_at StreamWritten (member_at Context 0 signed_at)) (Made RecordsWritten (Position 1)) (Made StreamWritten (Position 0)) IsWritten
     (record { one = λ a text p. inl p; other = λ a text p. inr p; told = written_told }) one other
 
 answered : (choice : ℕ) (c : Complex) (bytes : Octets) → nat_eq choice (complex_choice_of c) ≡ true → SpellsAnswer c bytes → SpellsComplex choice c bytes
@@ -238,10 +264,12 @@ complex_takes choice bytes c fits e =
 
 answer_again : (c : Complex) (bytes : Octets) → SpellsAnswer c bytes → complex_at (complex_choice_of c) bytes ≡ Some c
 unfolding complex_at
-answer_again (FileRead b z octets) bytes s = whole_again Anything file_read_at (Made file_read_of FileReads) file_read_exact tt bytes (FileRead b z octets) ((b, (z, octets)), refl, s)
+answer_again (FileRead b z octets) bytes s =
+    whole_again Anything file_read_at (Made file_read_of FileReads) file_read_exact tt bytes (FileRead b z octets) ((b, (z, octets)), refl, s)
 answer_again (StreamWritten z) bytes s = whole_again Anything file_written_at IsWritten written_exact tt bytes (StreamWritten z) (inr (z, refl, s))
 answer_again (RecordsWritten z) bytes s = whole_again Anything file_written_at IsWritten written_exact tt bytes (RecordsWritten z) (inl (z, refl, s))
-answer_again (PropertyRead r values) bytes s = whole_again Anything property_read_at (Made property_read_of PropertyReads) property_read_exact tt bytes (PropertyRead r values) ((r, values), refl, s)
+answer_again (PropertyRead r values) bytes s =
+    whole_again Anything property_read_at (Made property_read_of PropertyReads) property_read_exact tt bytes (PropertyRead r values) ((r, values), refl, s)
 
 pub complex_again : (choice : ℕ) (bytes : Octets) (c : Complex) → SpellsComplex choice c bytes → complex_at choice bytes ≡ Some c
 complex_again choice bytes c s = subst (λ (n : ℕ). complex_at n bytes ≡ Some c) (sym s.choice_is) (answer_again c bytes s.members)
@@ -251,29 +279,34 @@ complex_again choice bytes c s = subst (λ (n : ℕ). complex_at n bytes ≡ Som
 abbrev ReadAs : {X E : Type 0} → (X → Request) → ℕ → Octets → Result X E → Type 0
 ReadAs view choice bytes result = MatchResult result (λ f. request_at choice bytes ≡ Some (view f)) (λ e. request_at choice bytes ≡ None)
 
-pub request_found : {X E : Type 0} (view : X → Request) (choice : ℕ) (bytes : Octets) (result : Result X E) → IsBytes bytes → ReadAs view choice bytes result → IfOk result (λ f. SpellsRequest choice (view f) bytes)
+pub request_found : {X E : Type 0} (view : X → Request) (choice : ℕ) (bytes : Octets) (result : Result X E) → IsBytes bytes
+    → ReadAs view choice bytes result → IfOk result (λ f. SpellsRequest choice (view f) bytes)
 request_found view choice bytes (Ok f) fits e = request_takes choice bytes (view f) fits e
 request_found view choice bytes (Err d) fits e = tt
 
 made_of : (r : Request) (bytes : Octets) → SpellsMembers r bytes → IsMade r
 made_of (ReadFile file access) bytes s = tt
-made_of (WriteFile file (WriteStream start octets)) bytes s = let string = s.second.are.second in subst (λ (xs : Octets). length xs < 2 ^ 32) string.are string.fits
+made_of (WriteFile file (WriteStream start octets)) bytes s = let string =
+    s.second.are.second in subst (λ (xs : Octets). length xs < 2 ^ 32) string.are string.fits
 made_of (WriteFile file (WriteRecords start count run)) bytes s = ∣ s.second.are.second.second.strings ∣₁
 made_of (ReadProperty r) bytes s = tt
 made_of (WriteProperty r values priority) bytes s = ∣ s.second.first.are.spelled ∣₁
 
-pub request_made : {X E : Type 0} (view : X → Request) (choice : ℕ) (bytes : Octets) (result : Result X E) → IsBytes bytes → ReadAs view choice bytes result → IfOk result (λ f. IsMade (view f))
+pub request_made : {X E : Type 0} (view : X → Request) (choice : ℕ) (bytes : Octets) (result : Result X E) → IsBytes bytes
+    → ReadAs view choice bytes result → IfOk result (λ f. IsMade (view f))
 request_made view choice bytes (Ok f) fits e = made_of (view f) bytes (request_takes choice bytes (view f) fits e).members
 request_made view choice bytes (Err d) fits e = tt
 
-pub request_refused : {X E : Type 0} (view : X → Request) (choice : ℕ) (bytes : Octets) (result : Result X E) → ReadAs view choice bytes result → IfErr result (λ e. (r : Request) → SpellsRequest choice r bytes → ⊥)
+pub request_refused : {X E : Type 0} (view : X → Request) (choice : ℕ) (bytes : Octets) (result : Result X E) → ReadAs view choice bytes result
+    → IfErr result (λ e. (r : Request) → SpellsRequest choice r bytes → ⊥)
 request_refused view choice bytes (Ok f) e = tt
 request_refused view choice bytes (Err d) e = λ r s. let again = request_again choice bytes r s in absurd cc
 
 abbrev AnsweredAs : {X E : Type 0} → (X → Complex) → ℕ → Octets → Result X E → Type 0
 AnsweredAs view choice bytes result = MatchResult result (λ c. complex_at choice bytes ≡ Some (view c)) (λ e. complex_at choice bytes ≡ None)
 
-pub complex_found : {X E : Type 0} (view : X → Complex) (choice : ℕ) (bytes : Octets) (result : Result X E) → IsBytes bytes → AnsweredAs view choice bytes result → IfOk result (λ c. SpellsComplex choice (view c) bytes)
+pub complex_found : {X E : Type 0} (view : X → Complex) (choice : ℕ) (bytes : Octets) (result : Result X E) → IsBytes bytes
+    → AnsweredAs view choice bytes result → IfOk result (λ c. SpellsComplex choice (view c) bytes)
 complex_found view choice bytes (Ok c) fits e = complex_takes choice bytes (view c) fits e
 complex_found view choice bytes (Err d) fits e = tt
 
@@ -283,10 +316,12 @@ answer_made (StreamWritten z) bytes s = tt
 answer_made (RecordsWritten z) bytes s = tt
 answer_made (PropertyRead r values) bytes s = ∣ s.second.are.spelled ∣₁
 
-pub complex_made : {X E : Type 0} (view : X → Complex) (choice : ℕ) (bytes : Octets) (result : Result X E) → IsBytes bytes → AnsweredAs view choice bytes result → IfOk result (λ c. IsMadeOf (view c))
+pub complex_made : {X E : Type 0} (view : X → Complex) (choice : ℕ) (bytes : Octets) (result : Result X E) → IsBytes bytes
+    → AnsweredAs view choice bytes result → IfOk result (λ c. IsMadeOf (view c))
 complex_made view choice bytes (Ok c) fits e = answer_made (view c) bytes (complex_takes choice bytes (view c) fits e).members
 complex_made view choice bytes (Err d) fits e = tt
 
-pub complex_refused : {X E : Type 0} (view : X → Complex) (choice : ℕ) (bytes : Octets) (result : Result X E) → AnsweredAs view choice bytes result → IfErr result (λ e. (c : Complex) → SpellsComplex choice c bytes → ⊥)
+pub complex_refused : {X E : Type 0} (view : X → Complex) (choice : ℕ) (bytes : Octets) (result : Result X E) → AnsweredAs view choice bytes result
+    → IfErr result (λ e. (c : Complex) → SpellsComplex choice c bytes → ⊥)
 complex_refused view choice bytes (Ok c) e = tt
 complex_refused view choice bytes (Err d) e = λ c s. let again = complex_again choice bytes c s in absurd cc

@@ -1,6 +1,7 @@
 -- Reading members from left to right, on lists alone: the value and what is left behind it, or None where the octets are refused.
 -- That what is read is exactly what is spelled are laws beside the readers in code.
-use Rattle.std.specs.Prelude.{◌≡◌, ℕ, ℤ, zero, suc, ◌+◌, ◌-◌, ◌≤◌, Bool, true, false, ◌&&◌, ◌==◌, nat_lt, nat_le, [], ◌∷◌, length, take, Option, Some, None, is_some, Result, Ok, Err, if◌then◌else◌}
+use Rattle.std.specs.Prelude.{◌≡◌, ℕ, ℤ, zero, suc, ◌+◌, ◌-◌, ◌≤◌, Bool, true, false, ◌&&◌, ◌==◌, nat_lt, nat_le, [], ◌∷◌, length, take, Option, Some, None}
+use Rattle.std.specs.Prelude.{is_some, Result, Ok, Err, if◌then◌else◌}
 use Rattle.bac_value.specs.declared.fault.FaultKind.{FaultKind}
 use Rattle.bac_value.specs.declared.tag.Class.{Class}
 use Rattle.bac_value.specs.declared.tag.Class.TheVariants.{Application, Context}
@@ -169,7 +170,8 @@ reference_of t = record { object = t.0; property = t.1.0; index = t.1.1 }
 
 unfoldable pub reference_at : Octets → Option (Reference × Octets)
 reference_at =
-    made_at reference_of (both_at (member_at Context 0 object_at) (both_at (member_at Context 1 (number_at 9)) (optional_at 2 (member_at Context 2 (number_at 9)))))
+    made_at reference_of (both_at (member_at Context 0 object_at)
+    (both_at (member_at Context 1 (number_at 9)) (optional_at 2 (member_at Context 2 (number_at 9)))))
 
 abbrev pub is_priority : ℕ → Bool
 is_priority n = nat_lt 0 n && nat_le n 16
@@ -200,7 +202,8 @@ extent_at = both_at application_signed application_unsigned
 
 -- [1] where it comes next, [0] otherwise
 unfoldable pub read_access_at : Octets → Option (ReadAccess × Octets)
-read_access_at = either_at (is_opened 1) (made_at (λ t. ReadRecords t.0 t.1) (enclosed_at 1 extent_at)) (made_at (λ t. ReadStream t.0 t.1) (enclosed_at 0 extent_at))
+read_access_at = either_at (is_opened 1) (made_at (λ t. ReadRecords t.0 t.1) (enclosed_at 1 extent_at))
+    (made_at (λ t. ReadStream t.0 t.1) (enclosed_at 0 extent_at))
 
 -- octet strings one behind the other, as long as they come next, at most so many: how many they are
 unfoldable pub strings_at : ℕ → Octets → Option (ℕ × Octets)
@@ -230,7 +233,8 @@ content_at = both_at application_signed application_string
 
 unfoldable pub write_access_at : Octets → Option (WriteAccess × Octets)
 write_access_at =
-    either_at (is_opened 1) (made_at (λ t. WriteRecords t.0 t.1.0 t.1.1.1) (that_at are_counted (enclosed_at 1 counted_at))) (made_at (λ t. WriteStream t.0 t.1) (enclosed_at 0 content_at))
+    either_at (is_opened 1) (made_at (λ t. WriteRecords t.0 t.1.0 t.1.1.1) (that_at are_counted (enclosed_at 1 counted_at)))
+    (made_at (λ t. WriteStream t.0 t.1) (enclosed_at 0 content_at))
 
 abbrev pub file_at : {A : Type 0} → (ObjectId → A → Request) → (Octets → Option (A × Octets)) → Octets → Option (Request × Octets)
 file_at make access = made_at (λ t. make t.0 t.1) (both_at application_object access)

@@ -10,6 +10,11 @@ IfRefused (Ok x) P = Unit {0}
 IfRefused (Err (Refused e)) P = P e
 IfRefused (Err NoMemory) P = Unit {0}
 
+abbrev pub IfNoMemory : {A E : Type 0} → Result A (code.ReadError E) → Type 0 → Type 0
+IfNoMemory (Ok x) P = Unit {0}
+IfNoMemory (Err (Refused e)) P = Unit {0}
+IfNoMemory (Err NoMemory) P = P
+
 -- clause 18.9
 abbrev pub reason_number : Reject → ℕ
 reason_number reject.Other = 0

@@ -3,7 +3,7 @@ use Rattle.std.specs.Prelude.{◌≡◌, ℕ, ◌^◌, ◌<◌, length}
 use Rattle.bac_value.specs.declared.tag.Class.TheVariants.{Context}
 use Rattle.bac_value.specs.Value.{IsInteger}
 use Rattle.bac_value.specs.Data.{IsData}
-use Rattle.bac_service.specs.Values.{Complex, complex_choice_of}
+use Rattle.bac_service.specs.Values.{Complex, complex_choice_of, held_in}
 use Rattle.bac_service.specs.Values.Complex.{FileRead, StreamWritten, RecordsWritten, PropertyRead}
 use Rattle.bac_service.specs.Members.{Octets, ◌⨾◌, Enclosed, Tagged, ApplicationBoolean, ApplicationSigned, ApplicationString, AreData}
 use Rattle.bac_service.specs.Requests.{SpellsReference}
@@ -18,6 +18,12 @@ SpellsAnswer (PropertyRead r values) = SpellsReference r ⨾ Enclosed 3 (AreData
 pub record SpellsComplex (choice : ℕ) (c : Complex) (bytes : Octets) : Type 0 where
   pub choice_is : choice ≡ complex_choice_of c
   pub members : SpellsAnswer c bytes
+
+-- the octets are an answer that holds some of them, so that a copy of it needs memory
+pub record ReplyNeedsMemory (choice : ℕ) (bytes : Octets) : Type 0 where
+  pub complex : Complex
+  pub spelled : SpellsComplex choice complex bytes
+  pub holds : 0 < length (held_in complex)
 
 -- what an answer's content and data are, whatever else it says
 abbrev pub IsMadeOf : Complex → Type 0

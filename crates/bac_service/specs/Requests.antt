@@ -3,11 +3,12 @@ use Rattle.std.specs.Prelude.{◌≡◌, ◌≢◌, ℕ, ◌^◌, ◌<◌, lengt
 use Rattle.bac_value.specs.declared.tag.Class.TheVariants.{Context}
 use Rattle.bac_value.specs.Value.{IsNumber, IsObject}
 use Rattle.bac_value.specs.Data.{IsData}
-use Rattle.bac_service.specs.Values.{Reference, ReadAccess, WriteAccess, Request, choice_of, READ_FILE, WRITE_FILE, READ_PROPERTY, WRITE_PROPERTY}
+use Rattle.bac_service.specs.Values.{Reference, ReadAccess, WriteAccess, Request, choice_of, held, READ_FILE, WRITE_FILE, READ_PROPERTY, WRITE_PROPERTY}
 use Rattle.bac_service.specs.Values.ReadAccess.{ReadStream, ReadRecords}
 use Rattle.bac_service.specs.Values.WriteAccess.{WriteStream, WriteRecords}
 use Rattle.bac_service.specs.Values.Request.{ReadFile, WriteFile, ReadProperty, WriteProperty}
-use Rattle.bac_service.specs.Members.{Octets, ◌⨾◌, Optional, Enclosed, Tagged, IsPriority, ApplicationObject, ApplicationSigned, ApplicationUnsigned, ApplicationString, AreStrings, AreData}
+use Rattle.bac_service.specs.Members.{Octets, ◌⨾◌, Optional, Enclosed, Tagged, IsPriority, ApplicationObject, ApplicationSigned, ApplicationUnsigned}
+use Rattle.bac_service.specs.Members.{ApplicationString, AreStrings, AreData}
 
 -- [0] ObjectIdentifier, [1] Enumerated property, [2] Unsigned index of an array, where one is given; an index has at most 4 octets (own rule of this profile)
 abbrev pub SpellsReference : Reference → Octets → Type 0
@@ -50,6 +51,12 @@ IsMade (ReadFile file access) = Unit {0}
 IsMade (WriteFile file access) = IsWritten access
 IsMade (ReadProperty r) = Unit {0}
 IsMade (WriteProperty r values priority) = ∥ IsData values ∥₁
+
+-- the octets are a request that holds some of them, so that a copy of it needs memory
+pub record NeedsMemory (choice : ℕ) (bytes : Octets) : Type 0 where
+  pub request : Request
+  pub spelled : SpellsRequest choice request bytes
+  pub holds : 0 < length (held request)
 
 -- a choice of another service
 pub record IsUnknown (choice : ℕ) : Type 0 where

@@ -7,7 +7,8 @@ use Rattle.bac_service.specs.Values as plain
 use Rattle.bac_service.specs.Values.{READ_FILE, WRITE_FILE, READ_PROPERTY, WRITE_PROPERTY}
 use Rattle.bac_value.specs.declared.tag.Class.TheVariants.{Application}
 use Rattle.bac_value.specs.Reading.{tag_at}
-use Rattle.bac_service.specs.Reading.{◌>>=◌, kept, announced, application_string, made_at, file_at, read_access_at, write_access_at, reference_at, write_property_at, file_read_at, file_written_at, property_read_at}
+use Rattle.bac_service.specs.Reading.{◌>>=◌, kept, announced, application_string, made_at, file_at, read_access_at, write_access_at, reference_at}
+use Rattle.bac_service.specs.Reading.{write_property_at, file_read_at, file_written_at, property_read_at}
 
 abbrev pub service_at : ℕ → Option Service
 service_at choice =

@@ -1,5 +1,5 @@
 -- The requests and replies of the four services (clause 21), as plain values.
-use Rattle.std.specs.Prelude.{ℕ, ℤ, Bool, List, Option}
+use Rattle.std.specs.Prelude.{ℕ, ℤ, Bool, List, [], Option}
 use Rattle.bac_value.specs.Value.{ObjectId}
 
 -- which property of which object, and which element of it
@@ -37,6 +37,31 @@ pub data Reply : Type 0 where
   Whole : Complex → Reply
   Error : (class code : ℕ) → Reply
   Reject : (reason : ℕ) → Reply
+
+-- the octets for a file that a request holds, or its records with their tags
+abbrev pub for_file : WriteAccess → List ℕ
+for_file (WriteStream start octets) = octets
+for_file (WriteRecords start count run) = run
+
+-- the octets of data, for a file or of records that a request holds: what a copy needs memory for
+abbrev pub held : Request → List ℕ
+held (ReadFile file access) = []
+held (WriteFile file access) = for_file access
+held (ReadProperty reference) = []
+held (WriteProperty reference values priority) = values
+
+-- the octets of data or of a file that an answer holds
+abbrev pub held_in : Complex → List ℕ
+held_in (FileRead end_of_file start octets) = octets
+held_in (StreamWritten start) = []
+held_in (RecordsWritten start) = []
+held_in (PropertyRead reference values) = values
+
+abbrev pub held_by : Reply → List ℕ
+held_by Simple = []
+held_by (Whole c) = held_in c
+held_by (Error class code) = []
+held_by (Reject reason) = []
 
 -- the service choices (clause 21, BACnetConfirmedServiceChoice)
 abbrev pub READ_FILE : ℕ

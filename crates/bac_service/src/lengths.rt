@@ -1,12 +1,14 @@
 //! How many octets service data have, without writing them.
 ghost use Rattle.std.specs.Prelude.{◌≡◌, ◌+◌, ◌<◌, ◌≤◌, ◌^◌, length};
-ghost use Rattle.bac_value.specs.Number.{width_of, half_width_of, distance};
+ghost use Rattle.bac_value.specs.Number.{distance};
 ghost use Rattle.bac_value.specs.Views.{object_id};
-ghost use Rattle.bac_service.specs.Lengths.{member_length, unsigned_length, signed_length, reference_length, index_length, content_length, extent_length, read_access_length, write_access_length, priority_length, request_length, answer_length};
+ghost use Rattle.bac_service.specs.Lengths.{member_length, unsigned_length, signed_length, reference_length, index_length, content_length, extent_length};
+ghost use Rattle.bac_service.specs.Lengths.{read_access_length, write_access_length, priority_length, request_length, answer_length};
 ghost use Rattle.bac_service.specs.Members.{AreStrings};
 ghost use Rattle.bac_service.specs.Replies.{SpellsComplex};
 ghost use Rattle.bac_service.specs.Requests.{SpellsRequest};
-ghost use Rattle.bac_service.specs.Spellings.{request_spelling, answer_spelling, IsReference, IsExtent, IsReadAccess, IsWriteAccess, IsUrgency, IsFile, IsRequest, IsAnswer};
+ghost use Rattle.bac_service.specs.Spellings.{request_spelling, answer_spelling, IsReference, IsExtent, IsReadAccess, IsWriteAccess, IsUrgency, IsFile};
+ghost use Rattle.bac_service.specs.Spellings.{IsRequest, IsAnswer};
 ghost use Rattle.bac_service.specs.Values.{choice_of, complex_choice_of};
 ghost use Rattle.bac_service.specs.Values.Complex.{FileRead as PlainFileRead, PropertyRead as PlainPropertyRead};
 ghost use Rattle.bac_service.specs.Values.Request.{WriteProperty as PlainWriteProperty};
@@ -16,7 +18,7 @@ ghost use Rattle.bac_service.specs.Views.{reference, number_of, read_access, wri
 use crate::reply::{AnyComplex, Complex, FileRead, FileWritten, PropertyRead};
 use crate::request::{AnyRequest, ReadAccess, Request, WriteAccess, WriteProperty, WriteRecords};
 use crate::value::{Content, Priority, PropertyReference, Records};
-use bac_value::{Data, Octets};
+use bac_value::{Data, Octets, signed_len, unsigned_len};
 
 /// How many octets an ObjectIdentifier has with its tag.
 const OBJECT_LEN: usize = 5;
@@ -41,64 +43,28 @@ fn member_len(contents: usize) -> usize
     1 + length_octets + contents
 }
 
-/// How many octets a number needs, and at least one.
-fn width(number: u64) -> usize
-    ensures is { result ≡ width_of number }
-    ensures few { result ≤ 8 }
-{
-    if number < 0x100 {
-        1
-    } else if number < 0x1_0000 {
-        2
-    } else if number < 0x100_0000 {
-        3
-    } else if number < 0x1_0000_0000 {
-        4
-    } else if number < 0x100_0000_0000 {
-        5
-    } else if number < 0x1_0000_0000_0000 {
-        6
-    } else if number < 0x100_0000_0000_0000 {
-        7
-    } else {
-        8
-    }
-}
-
-/// How far a number is from 0, or from -1 below 0.
-fn distance_of(number: i64) -> u64
-    ensures is { result ≡ distance number }
-    ensures small { result < 2 ^ 63 }
-{
-    if number < 0 {
-        (-1 - number) as u64
-    } else {
-        number as u64
-    }
-}
-
 /// A number in the fewest octets (clause 20.2.4) behind a tag.
-fn unsigned_len(number: u64) -> usize
+#[tactic(auto, using(crate::proofs::LengthLaws::unsigned_width))]
+fn unsigned_member_len(number: u64) -> usize
     ensures is { result ≡ unsigned_length number }
     ensures few { result ≤ 10 }
 {
-    member_len(width(number))
+    member_len(unsigned_len(number))
 }
 
-/// A number in the fewest octets of two's complement (clause 20.2.5) behind a tag; the sign takes a bit.
-#[tactic(auto, using(crate::proofs::LengthLaws::half_width))]
-fn signed_len(number: i64) -> usize
+/// A number in the fewest octets of two's complement (clause 20.2.5) behind a tag.
+fn signed_member_len(number: i64) -> usize
     ensures is { result ≡ signed_length number }
     ensures few { result ≤ 10 }
 {
-    member_len(width(distance_of(number) * 2))
+    member_len(signed_len(number))
 }
 
 fn index_len(index: Option<u32>) -> usize
     ensures { result ≡ index_length index }
 {
     match index {
-        Some(index) => unsigned_len(u64::from(index)),
+        Some(index) => unsigned_member_len(u64::from(index)),
         None => 0,
     }
 }
@@ -107,7 +73,7 @@ fn reference_len(to: PropertyReference) -> usize
     ensures len { result ≡ reference_length (reference to) }
     ensures is { IsReference (reference to) }
 {
-    OBJECT_LEN + unsigned_len(u64::from(to.property)) + index_len(to.index)
+    OBJECT_LEN + unsigned_member_len(u64::from(to.property)) + index_len(to.index)
 }
 
 fn content_len(start: i64, content: Content<'_>) -> usize
@@ -116,7 +82,7 @@ fn content_len(start: i64, content: Content<'_>) -> usize
     ensures content_fits { length content.entry.octets.now < 2 ^ 32 }
     ensures few { result ≤ length content.entry.octets.now + 18 }
 {
-    signed_len(start) + member_len(content.octets.len()) + PAIR_LEN
+    signed_member_len(start) + member_len(content.octets.len()) + PAIR_LEN
 }
 
 fn extent_len(start: i64, count: u64) -> usize
@@ -124,7 +90,7 @@ fn extent_len(start: i64, count: u64) -> usize
     ensures is { IsExtent start count }
     ensures few { result ≤ 20 }
 {
-    signed_len(start) + unsigned_len(count)
+    signed_member_len(start) + unsigned_member_len(count)
 }
 
 fn read_access_len(access: ReadAccess) -> usize
@@ -164,13 +130,14 @@ fn priority_len(priority: Option<Priority>) -> usize
     ensures is { IsUrgency (number_of priority) }
 {
     match priority {
-        Some(priority) => unsigned_len(u64::from(priority.number)),
+        Some(priority) => unsigned_member_len(u64::from(priority.number)),
         None => 0,
     }
 }
 
 fn write_property_len(write: WriteProperty<Data<'_>>) -> usize
-    ensures len { result ≡ request_length (PlainWriteProperty (reference write.entry.reference) write.entry.values.octets.now (number_of write.entry.priority)) }
+    ensures len { result ≡ request_length (PlainWriteProperty (reference write.entry.reference) write.entry.values.octets.now
+        (number_of write.entry.priority)) }
     ensures is { IsRequest (PlainWriteProperty (reference write.entry.reference) write.entry.values.octets.now (number_of write.entry.priority)) }
 {
     let values = Octets::len(write.values.octets) + PAIR_LEN;
@@ -211,8 +178,8 @@ fn file_written_len(place: FileWritten) -> usize
     ensures is { IsAnswer (written place) }
 {
     match place {
-        FileWritten::Stream(start) => signed_len(start),
-        FileWritten::Records(start) => signed_len(start),
+        FileWritten::Stream(start) => signed_member_len(start),
+        FileWritten::Records(start) => signed_member_len(start),
     }
 }
 

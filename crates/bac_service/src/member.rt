@@ -2,7 +2,8 @@
 ghost use Rattle.std.specs.Prelude.{◌≡◌, ◌≤◌, ◌<◌, ◌==◌, ◌&&◌, ◌-◌, length, take, IfOk, MatchResult, Some, None, Ok};
 ghost use Rattle.bac_value.specs.Views.{mark, object_id};
 ghost use Rattle.bac_value.specs.Reading.{tag_at, number_at, signed_at, object_at, kind_at};
-ghost use Rattle.bac_service.specs.Reading.{Reads, kept, announced, head_at, member_at, is_next, is_opened, is_opening, is_closing, tag_that, opening_at, closing_at, values_at};
+ghost use Rattle.bac_service.specs.Reading.{Reads, kept, announced, head_at, member_at, is_next, is_opened, is_opening, is_closing, tag_that, opening_at};
+ghost use Rattle.bac_service.specs.Reading.{closing_at, values_at};
 
 use crate::stop::{Stop, Why};
 use bac_value::{Class, Form, Octets, Tag, take_data, take_tag};

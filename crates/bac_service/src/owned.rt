@@ -1,7 +1,8 @@
 //! Requests and answers with memory of their own.
-ghost use Rattle.std.specs.Prelude.{◌≡◌, ◌<◌, ◌^◌, length, IfOk};
+ghost use Rattle.std.specs.Prelude.{◌≡◌, ◌<◌, ◌^◌, length, IfOk, OnErr};
 ghost use Rattle.bac_service.specs.Replies.{IsMadeOf};
 ghost use Rattle.bac_service.specs.Requests.{IsMade, IsWritten};
+ghost use Rattle.bac_service.specs.Values.{for_file, held, held_in, held_by};
 ghost use Rattle.bac_service.specs.Views.{write_access, seen, lent, left, owned, answered, complex, owned_complex, replied};
 
 use crate::owned_records::OwnedRecords;
@@ -28,7 +29,8 @@ pub type OwnedReply = AnyReply<OwnedComplex>;
 
 fn string_copy<O: Octets>(alloc: Global, octets: O) -> Result<OctetString, NoMemory>
     requires { length (O.octets octets) < 2 ^ 32 }
-    ensures { IfOk result (λ s. s.octets.items ≡ O.octets octets) }
+    ensures same { IfOk result (λ s. s.octets.items ≡ O.octets octets) }
+    ensures full { OnErr result (0 < length (O.octets octets)) }
 {
     let mut copy = Vec::new(alloc);
     octets.append_to(&mut copy)?;
@@ -40,7 +42,8 @@ fn access_copy<O: Octets>(
     access: WriteAccess<O, Run<O>>,
 ) -> Result<WriteAccess<OctetString, OwnedRecords>, NoMemory>
     requires { IsWritten (write_access (left O.octets) access) }
-    ensures { IfOk result (λ a. write_access owned a ≡ write_access (left O.octets) access) }
+    ensures same { IfOk result (λ a. write_access owned a ≡ write_access (left O.octets) access) }
+    ensures full { OnErr result (0 < length (for_file (write_access (left O.octets) access))) }
 {
     match access {
         WriteAccess::Stream(write) => {
@@ -62,7 +65,8 @@ pub(crate) fn request_copy<O: Octets>(
     found: Found<O>,
 ) -> Result<OwnedRequest, NoMemory>
     requires { IsMade (seen (left O.octets) found) }
-    ensures { IfOk result (λ r. seen owned r ≡ seen (left O.octets) found) }
+    ensures same { IfOk result (λ r. seen owned r ≡ seen (left O.octets) found) }
+    ensures full { OnErr result (0 < length (held (seen (left O.octets) found))) }
 {
     match found {
         AnyRequest::ReadFile(read) => Ok(AnyRequest::ReadFile(read)),
@@ -89,7 +93,8 @@ pub(crate) fn complex_copy<O: Octets>(
     told: Told<O>,
 ) -> Result<OwnedComplex, NoMemory>
     requires { IsMadeOf (answered O.octets O.octets told) }
-    ensures { IfOk result (λ c. owned_complex c ≡ answered O.octets O.octets told) }
+    ensures same { IfOk result (λ c. owned_complex c ≡ answered O.octets O.octets told) }
+    ensures full { OnErr result (0 < length (held_in (answered O.octets O.octets told))) }
 {
     match told {
         AnyComplex::FileRead(read) => {
@@ -184,7 +189,8 @@ fn complex_found(reply: Complex<'_>) -> Told<&[u8]>
 impl Request<'_> {
     /// A copy with its own memory, in one allocation where the request has octets, otherwise in none.
     pub fn to_owned(self, alloc: Global) -> Result<OwnedRequest, NoMemory>
-        ensures { IfOk result (λ r. seen owned r ≡ seen lent self.entry) }
+        ensures same { IfOk result (λ r. seen owned r ≡ seen lent self.entry) }
+        ensures full { OnErr result (0 < length (held (seen lent self.entry))) }
     {
         request_copy(alloc, request_found(self))
     }
@@ -193,7 +199,8 @@ impl Request<'_> {
 impl Complex<'_> {
     /// A copy with its own memory, in one allocation where the answer has octets, otherwise in none.
     pub fn to_owned(self, alloc: Global) -> Result<OwnedComplex, NoMemory>
-        ensures { IfOk result (λ c. owned_complex c ≡ complex self.entry) }
+        ensures same { IfOk result (λ c. owned_complex c ≡ complex self.entry) }
+        ensures full { OnErr result (0 < length (held_in (complex self.entry))) }
     {
         complex_copy(alloc, complex_found(self))
     }
@@ -202,7 +209,8 @@ impl Complex<'_> {
 impl Reply<'_> {
     /// A copy with its own memory, in one allocation where the answer has octets, otherwise in none.
     pub fn to_owned(self, alloc: Global) -> Result<OwnedReply, NoMemory>
-        ensures { IfOk result (λ r. replied owned_complex r ≡ replied complex self.entry) }
+        ensures same { IfOk result (λ r. replied owned_complex r ≡ replied complex self.entry) }
+        ensures full { OnErr result (0 < length (held_by (replied complex self.entry))) }
     {
         match self {
             AnyReply::Simple => Ok(AnyReply::Simple),

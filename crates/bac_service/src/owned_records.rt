@@ -1,4 +1,4 @@
-ghost use Rattle.std.specs.Prelude.{◌≡◌, IfOk};
+ghost use Rattle.std.specs.Prelude.{◌≡◌, ◌<◌, length, IfOk, OnErr};
 ghost use Rattle.bac_service.specs.Members.{AreStrings};
 
 use crate::value::Records;
@@ -21,7 +21,8 @@ impl OwnedRecords {
         count: u64,
     ) -> Result<OwnedRecords, NoMemory>
         requires { ∥ AreStrings count (O.octets run) ∥₁ }
-        ensures { IfOk result (λ r. (r.run.items ≡ O.octets run) × (r.count ≡ count)) }
+        ensures same { IfOk result (λ r. (r.run.items ≡ O.octets run) × (r.count ≡ count)) }
+        ensures full { OnErr result (0 < length (O.octets run)) }
     {
         let mut copy = Vec::new(alloc);
         run.append_to(&mut copy)?;

@@ -1,5 +1,5 @@
 //! Writing answers.
-ghost use Rattle.std.specs.Prelude.{◌≡◌, ◌++◌, ◌<◌, ◌^◌, OnOk, OnErr, length};
+ghost use Rattle.std.specs.Prelude.{◌≡◌, ◌+◌, ◌++◌, ◌<◌, ◌≤◌, ◌^◌, OnOk, OnErr, length, vec_len, vec_capacity};
 ghost use Rattle.bac_value.specs.Octets.{Begins};
 ghost use Rattle.bac_value.specs.Data.{opening, closing};
 ghost use Rattle.bac_service.specs.Spellings.{index_spelling, reference_spelling, content_spelling, enclosed_spelling, answer_spelling, IsAnswer, IsReference};
@@ -19,7 +19,10 @@ use bac_value::{
 pub(crate) fn put_opening(number: u8, out: &mut Vec<u8>) -> Result<(), NoMemory>
     requires { number < 255 }
     ensures ok { OnOk result (out.new.items ≡ out.old.items ++ opening number) }
+    ensures len { OnOk result (vec_len out.new ≡ vec_len out.old + length (opening number)) }
     ensures kept { Begins out.old.items out.new.items }
+    ensures full { OnErr result (vec_capacity out.old < vec_len out.old + length (opening number)) }
+    ensures grows { vec_capacity out.old ≤ vec_capacity out.new }
 {
     let tag = Tag {
         number,
@@ -32,7 +35,10 @@ pub(crate) fn put_opening(number: u8, out: &mut Vec<u8>) -> Result<(), NoMemory>
 pub(crate) fn put_closing(number: u8, out: &mut Vec<u8>) -> Result<(), NoMemory>
     requires { number < 255 }
     ensures ok { OnOk result (out.new.items ≡ out.old.items ++ closing number) }
+    ensures len { OnOk result (vec_len out.new ≡ vec_len out.old + length (closing number)) }
     ensures kept { Begins out.old.items out.new.items }
+    ensures full { OnErr result (vec_capacity out.old < vec_len out.old + length (closing number)) }
+    ensures grows { vec_capacity out.old ≤ vec_capacity out.new }
 {
     let tag = Tag {
         number,
@@ -44,7 +50,10 @@ pub(crate) fn put_closing(number: u8, out: &mut Vec<u8>) -> Result<(), NoMemory>
 
 fn put_index(index: Option<u32>, out: &mut Vec<u8>) -> Result<(), NoMemory>
     ensures ok { OnOk result (out.new.items ≡ out.old.items ++ index_spelling index) }
+    ensures len { OnOk result (vec_len out.new ≡ vec_len out.old + length (index_spelling index)) }
     ensures kept { Begins out.old.items out.new.items }
+    ensures full { OnErr result (vec_capacity out.old < vec_len out.old + length (index_spelling index)) }
+    ensures grows { vec_capacity out.old ≤ vec_capacity out.new }
 {
     match index {
         Some(index) => put_unsigned(Class::Context, 2, u64::from(index), out),
@@ -55,7 +64,10 @@ fn put_index(index: Option<u32>, out: &mut Vec<u8>) -> Result<(), NoMemory>
 /// Appends what names a property.
 pub(crate) fn put_reference(to: PropertyReference, out: &mut Vec<u8>) -> Result<(), NoMemory>
     ensures ok { OnOk result (out.new.items ≡ out.old.items ++ reference_spelling (reference to)) }
+    ensures len { OnOk result (vec_len out.new ≡ vec_len out.old + length (reference_spelling (reference to))) }
     ensures kept { Begins out.old.items out.new.items }
+    ensures full { OnErr result (vec_capacity out.old < vec_len out.old + length (reference_spelling (reference to))) }
+    ensures grows { vec_capacity out.old ≤ vec_capacity out.new }
     ensures is { IsReference (reference to) }
 {
     put_object_identifier(Class::Context, 0, to.object, out)?;
@@ -66,7 +78,10 @@ pub(crate) fn put_reference(to: PropertyReference, out: &mut Vec<u8>) -> Result<
 /// Appends data between a pair of tags of number 3.
 pub(crate) fn put_values(values: &[u8], out: &mut Vec<u8>) -> Result<(), NoMemory>
     ensures ok { OnOk result (out.new.items ≡ out.old.items ++ enclosed_spelling 3 values.now) }
+    ensures len { OnOk result (vec_len out.new ≡ vec_len out.old + length (enclosed_spelling 3 values.now)) }
     ensures kept { Begins out.old.items out.new.items }
+    ensures full { OnErr result (vec_capacity out.old < vec_len out.old + length (enclosed_spelling 3 values.now)) }
+    ensures grows { vec_capacity out.old ≤ vec_capacity out.new }
 {
     put_opening(3, out)?;
     out.extend_from_slice(values)?;
@@ -75,7 +90,10 @@ pub(crate) fn put_values(values: &[u8], out: &mut Vec<u8>) -> Result<(), NoMemor
 
 fn put_start(start: i64, content: Content<'_>, out: &mut Vec<u8>) -> Result<(), NoMemory>
     ensures ok { OnOk result (out.new.items ≡ out.old.items ++ content_spelling start content.entry.octets.now) }
+    ensures len { OnOk result (vec_len out.new ≡ vec_len out.old + length (content_spelling start content.entry.octets.now)) }
     ensures kept { Begins out.old.items out.new.items }
+    ensures full { OnErr result (vec_capacity out.old < vec_len out.old + length (content_spelling start content.entry.octets.now)) }
+    ensures grows { vec_capacity out.old ≤ vec_capacity out.new }
     ensures start_fits { distance start < 2 ^ 63 }
     ensures content_fits { length content.entry.octets.now < 2 ^ 32 }
 {
@@ -90,7 +108,10 @@ pub(crate) fn put_content(
     out: &mut Vec<u8>,
 ) -> Result<(), NoMemory>
     ensures ok { OnOk result (out.new.items ≡ out.old.items ++ enclosed_spelling 0 (content_spelling start content.entry.octets.now)) }
+    ensures len { OnOk result (vec_len out.new ≡ vec_len out.old + length (enclosed_spelling 0 (content_spelling start content.entry.octets.now))) }
     ensures kept { Begins out.old.items out.new.items }
+    ensures full { OnErr result (vec_capacity out.old < vec_len out.old + length (enclosed_spelling 0 (content_spelling start content.entry.octets.now))) }
+    ensures grows { vec_capacity out.old ≤ vec_capacity out.new }
 {
     put_opening(0, out)?;
     put_start(start, content, out)?;
@@ -98,8 +119,14 @@ pub(crate) fn put_content(
 }
 
 fn put_file_read(read: FileRead<Content<'_>>, out: &mut Vec<u8>) -> Result<(), NoMemory>
-    ensures ok { OnOk result (out.new.items ≡ out.old.items ++ answer_spelling (PlainFileRead read.entry.end_of_file read.entry.start read.entry.content.octets.now)) }
+    ensures ok { OnOk result (out.new.items ≡ out.old.items ++ answer_spelling
+        (PlainFileRead read.entry.end_of_file read.entry.start read.entry.content.octets.now)) }
+    ensures len { OnOk result (vec_len out.new
+        ≡ vec_len out.old + length (answer_spelling (PlainFileRead read.entry.end_of_file read.entry.start read.entry.content.octets.now))) }
     ensures kept { Begins out.old.items out.new.items }
+    ensures full { OnErr result (vec_capacity out.old < vec_len out.old + length
+        (answer_spelling (PlainFileRead read.entry.end_of_file read.entry.start read.entry.content.octets.now))) }
+    ensures grows { vec_capacity out.old ≤ vec_capacity out.new }
     ensures is { IsAnswer (PlainFileRead read.entry.end_of_file read.entry.start read.entry.content.octets.now) }
 {
     put_boolean(read.end_of_file, out)?;
@@ -108,7 +135,10 @@ fn put_file_read(read: FileRead<Content<'_>>, out: &mut Vec<u8>) -> Result<(), N
 
 fn put_file_written(place: FileWritten, out: &mut Vec<u8>) -> Result<(), NoMemory>
     ensures ok { OnOk result (out.new.items ≡ out.old.items ++ answer_spelling (written place)) }
+    ensures len { OnOk result (vec_len out.new ≡ vec_len out.old + length (answer_spelling (written place))) }
     ensures kept { Begins out.old.items out.new.items }
+    ensures full { OnErr result (vec_capacity out.old < vec_len out.old + length (answer_spelling (written place))) }
+    ensures grows { vec_capacity out.old ≤ vec_capacity out.new }
     ensures is { IsAnswer (written place) }
 {
     match place {
@@ -118,8 +148,14 @@ fn put_file_written(place: FileWritten, out: &mut Vec<u8>) -> Result<(), NoMemor
 }
 
 fn put_property_read(read: PropertyRead<Data<'_>>, out: &mut Vec<u8>) -> Result<(), NoMemory>
-    ensures ok { OnOk result (out.new.items ≡ out.old.items ++ answer_spelling (PlainPropertyRead (reference read.entry.reference) read.entry.values.octets.now)) }
+    ensures ok { OnOk result (out.new.items ≡ out.old.items ++ answer_spelling
+        (PlainPropertyRead (reference read.entry.reference) read.entry.values.octets.now)) }
+    ensures len { OnOk result (vec_len out.new
+        ≡ vec_len out.old + length (answer_spelling (PlainPropertyRead (reference read.entry.reference) read.entry.values.octets.now))) }
     ensures kept { Begins out.old.items out.new.items }
+    ensures full { OnErr result (vec_capacity out.old < vec_len out.old + length
+        (answer_spelling (PlainPropertyRead (reference read.entry.reference) read.entry.values.octets.now))) }
+    ensures grows { vec_capacity out.old ≤ vec_capacity out.new }
     ensures is { IsAnswer (PlainPropertyRead (reference read.entry.reference) read.entry.values.octets.now) }
 {
     // from here on each of the data's octets is known to be one
@@ -130,7 +166,10 @@ fn put_property_read(read: PropertyRead<Data<'_>>, out: &mut Vec<u8>) -> Result<
 
 fn put_complex(reply: Complex<'_>, out: &mut Vec<u8>) -> Result<(), NoMemory>
     ensures ok { OnOk result (out.new.items ≡ out.old.items ++ answer_spelling (complex reply.entry)) }
+    ensures len { OnOk result (vec_len out.new ≡ vec_len out.old + length (answer_spelling (complex reply.entry))) }
     ensures kept { Begins out.old.items out.new.items }
+    ensures full { OnErr result (vec_capacity out.old < vec_len out.old + length (answer_spelling (complex reply.entry))) }
+    ensures grows { vec_capacity out.old ≤ vec_capacity out.new }
     ensures is { IsAnswer (complex reply.entry) }
 {
     match reply {
@@ -145,6 +184,7 @@ fn put_complex(reply: Complex<'_>, out: &mut Vec<u8>) -> Result<(), NoMemory>
 pub fn write_reply(reply: Complex<'_>, out: &mut Vec<u8>) -> Result<(), NoMemory>
     ensures ok { OnOk result (out.new.items ≡ out.old.items ++ answer_spelling (complex reply.entry)) }
     ensures err { OnErr result (out.new.items ≡ out.old.items) }
+    ensures full { OnErr result (vec_capacity out.old < vec_len out.old + length (answer_spelling (complex reply.entry))) }
     ensures spelled { SpellsComplex (complex_choice_of (complex reply.entry)) (complex reply.entry) (answer_spelling (complex reply.entry)) }
 {
     let before = out.len();

@@ -1,7 +1,8 @@
 //! Reading requests, from slices and from octets in pieces alike.
 ghost use Rattle.std.specs.Prelude.{◌≡◌, ◌≤◌, ◌<◌, ◌+◌, ◌-◌, ◌%◌, length, take, suc, MatchResult, IfOk, IfErr, IfSome, IsErrOf, ◌↔◌, Some, None};
 ghost use Rattle.bac_value.specs.Views.{object_id};
-ghost use Rattle.bac_service.specs.Reading.{Reads, read_access_at, write_access_at, extent_at, content_at, strings_at, run_at, counted_at, enclosed_at, file_at, write_property_at, made_at, reference_at, request_at, values_at, that_at};
+ghost use Rattle.bac_service.specs.Reading.{Reads, read_access_at, write_access_at, extent_at, content_at, strings_at, run_at, counted_at, enclosed_at};
+ghost use Rattle.bac_service.specs.Reading.{file_at, write_property_at, made_at, reference_at, request_at, values_at, that_at};
 ghost use Rattle.bac_service.specs.Requests.{SpellsRequest, IsMade, IsWritten, IsUnknown};
 ghost use Rattle.bac_service.specs.Values as plain;
 ghost use Rattle.bac_service.specs.Views.{read_access, write_access, seen, lent, left, request};

@@ -1,7 +1,8 @@
 //! Writing requests.
-ghost use Rattle.std.specs.Prelude.{◌≡◌, ◌++◌, ◌<◌, ◌^◌, OnOk, OnErr, length};
+ghost use Rattle.std.specs.Prelude.{◌≡◌, ◌+◌, ◌++◌, ◌<◌, ◌≤◌, ◌^◌, OnOk, OnErr, length, vec_len, vec_capacity};
 ghost use Rattle.bac_value.specs.Octets.{Begins};
-ghost use Rattle.bac_service.specs.Spellings.{enclosed_spelling, extent_spelling, read_access_spelling, records_spelling, write_access_spelling, priority_spelling, request_spelling};
+ghost use Rattle.bac_service.specs.Spellings.{enclosed_spelling, extent_spelling, read_access_spelling, records_spelling, write_access_spelling};
+ghost use Rattle.bac_service.specs.Spellings.{priority_spelling, request_spelling};
 ghost use Rattle.bac_service.specs.Requests.{SpellsRequest};
 ghost use Rattle.bac_service.specs.Values.{choice_of};
 ghost use Rattle.bac_value.specs.Views.{object_id};
@@ -19,7 +20,10 @@ use bac_value::{Class, Data, NoMemory, put_object_identifier, put_signed, put_un
 /// Appends a Signed and an Unsigned with application tags.
 fn put_extent(start: i64, count: u64, out: &mut Vec<u8>) -> Result<(), NoMemory>
     ensures ok { OnOk result (out.new.items ≡ out.old.items ++ extent_spelling start count) }
+    ensures len { OnOk result (vec_len out.new ≡ vec_len out.old + length (extent_spelling start count)) }
     ensures kept { Begins out.old.items out.new.items }
+    ensures full { OnErr result (vec_capacity out.old < vec_len out.old + length (extent_spelling start count)) }
+    ensures grows { vec_capacity out.old ≤ vec_capacity out.new }
 {
     put_signed(Class::Application, 3, start, out)?;
     put_unsigned(Class::Application, 2, count, out)
@@ -34,7 +38,10 @@ fn put_enclosed_extent(
 ) -> Result<(), NoMemory>
     requires { number < 255 }
     ensures ok { OnOk result (out.new.items ≡ out.old.items ++ enclosed_spelling number (extent_spelling start count)) }
+    ensures len { OnOk result (vec_len out.new ≡ vec_len out.old + length (enclosed_spelling number (extent_spelling start count))) }
     ensures kept { Begins out.old.items out.new.items }
+    ensures full { OnErr result (vec_capacity out.old < vec_len out.old + length (enclosed_spelling number (extent_spelling start count))) }
+    ensures grows { vec_capacity out.old ≤ vec_capacity out.new }
 {
     put_opening(number, out)?;
     put_extent(start, count, out)?;
@@ -43,7 +50,10 @@ fn put_enclosed_extent(
 
 fn put_read_access(access: ReadAccess, out: &mut Vec<u8>) -> Result<(), NoMemory>
     ensures ok { OnOk result (out.new.items ≡ out.old.items ++ read_access_spelling (read_access access)) }
+    ensures len { OnOk result (vec_len out.new ≡ vec_len out.old + length (read_access_spelling (read_access access))) }
     ensures kept { Begins out.old.items out.new.items }
+    ensures full { OnErr result (vec_capacity out.old < vec_len out.old + length (read_access_spelling (read_access access))) }
+    ensures grows { vec_capacity out.old ≤ vec_capacity out.new }
 {
     match access {
         ReadAccess::Stream { start, count } => put_enclosed_extent(0, start, count, out),
@@ -54,7 +64,10 @@ fn put_read_access(access: ReadAccess, out: &mut Vec<u8>) -> Result<(), NoMemory
 /// Appends a Signed, an Unsigned and octet strings, with application tags.
 fn put_run(start: i64, records: Records<'_>, out: &mut Vec<u8>) -> Result<(), NoMemory>
     ensures ok { OnOk result (out.new.items ≡ out.old.items ++ records_spelling start records.entry.count records.entry.run.now) }
+    ensures len { OnOk result (vec_len out.new ≡ vec_len out.old + length (records_spelling start records.entry.count records.entry.run.now)) }
     ensures kept { Begins out.old.items out.new.items }
+    ensures full { OnErr result (vec_capacity out.old < vec_len out.old + length (records_spelling start records.entry.count records.entry.run.now)) }
+    ensures grows { vec_capacity out.old ≤ vec_capacity out.new }
 {
     put_extent(start, records.count, out)?;
     out.extend_from_slice(records.run)?;
@@ -63,8 +76,14 @@ fn put_run(start: i64, records: Records<'_>, out: &mut Vec<u8>) -> Result<(), No
 
 /// Appends where records are written, their count, and the octet strings that they are, between tags of number 1.
 fn put_records(write: WriteRecords<Records<'_>>, out: &mut Vec<u8>) -> Result<(), NoMemory>
-    ensures ok { OnOk result (out.new.items ≡ out.old.items ++ enclosed_spelling 1 (records_spelling write.entry.start write.entry.records.count write.entry.records.run.now)) }
+    ensures ok { OnOk result (out.new.items ≡ out.old.items ++ enclosed_spelling 1
+        (records_spelling write.entry.start write.entry.records.count write.entry.records.run.now)) }
+    ensures len { OnOk result (vec_len out.new
+        ≡ vec_len out.old + length (enclosed_spelling 1 (records_spelling write.entry.start write.entry.records.count write.entry.records.run.now))) }
     ensures kept { Begins out.old.items out.new.items }
+    ensures full { OnErr result (vec_capacity out.old < vec_len out.old + length
+        (enclosed_spelling 1 (records_spelling write.entry.start write.entry.records.count write.entry.records.run.now))) }
+    ensures grows { vec_capacity out.old ≤ vec_capacity out.new }
 {
     put_opening(1, out)?;
     put_run(write.start, write.records, out)?;
@@ -76,7 +95,10 @@ fn put_write_access(
     out: &mut Vec<u8>,
 ) -> Result<(), NoMemory>
     ensures ok { OnOk result (out.new.items ≡ out.old.items ++ write_access_spelling (write_access lent access.entry)) }
+    ensures len { OnOk result (vec_len out.new ≡ vec_len out.old + length (write_access_spelling (write_access lent access.entry))) }
     ensures kept { Begins out.old.items out.new.items }
+    ensures full { OnErr result (vec_capacity out.old < vec_len out.old + length (write_access_spelling (write_access lent access.entry))) }
+    ensures grows { vec_capacity out.old ≤ vec_capacity out.new }
 {
     match access {
         WriteAccess::Stream(write) => put_content(write.start, write.content, out),
@@ -86,7 +108,10 @@ fn put_write_access(
 
 fn put_priority(priority: Option<Priority>, out: &mut Vec<u8>) -> Result<(), NoMemory>
     ensures ok { OnOk result (out.new.items ≡ out.old.items ++ priority_spelling (number_of priority)) }
+    ensures len { OnOk result (vec_len out.new ≡ vec_len out.old + length (priority_spelling (number_of priority))) }
     ensures kept { Begins out.old.items out.new.items }
+    ensures full { OnErr result (vec_capacity out.old < vec_len out.old + length (priority_spelling (number_of priority))) }
+    ensures grows { vec_capacity out.old ≤ vec_capacity out.new }
 {
     match priority {
         Some(priority) => put_unsigned(Class::Context, 4, u64::from(priority.number), out),
@@ -96,7 +121,11 @@ fn put_priority(priority: Option<Priority>, out: &mut Vec<u8>) -> Result<(), NoM
 
 fn put_read_file(read: ReadFile, out: &mut Vec<u8>) -> Result<(), NoMemory>
     ensures ok { OnOk result (out.new.items ≡ out.old.items ++ request_spelling (PlainReadFile (object_id read.file) (read_access read.access))) }
+    ensures len { OnOk result (vec_len out.new ≡ vec_len out.old + length (request_spelling (PlainReadFile (object_id read.file) (read_access read.access)))) }
     ensures kept { Begins out.old.items out.new.items }
+    ensures full { OnErr result (vec_capacity out.old < vec_len out.old + length
+        (request_spelling (PlainReadFile (object_id read.file) (read_access read.access)))) }
+    ensures grows { vec_capacity out.old ≤ vec_capacity out.new }
 {
     put_object_identifier(Class::Application, 12, read.file, out)?;
     put_read_access(read.access, out)
@@ -106,16 +135,29 @@ fn put_write_file(
     write: WriteFile<Content<'_>, Records<'_>>,
     out: &mut Vec<u8>,
 ) -> Result<(), NoMemory>
-    ensures ok { OnOk result (out.new.items ≡ out.old.items ++ request_spelling (PlainWriteFile (object_id write.entry.file) (write_access lent write.entry.access))) }
+    ensures ok { OnOk result (out.new.items ≡ out.old.items ++ request_spelling
+        (PlainWriteFile (object_id write.entry.file) (write_access lent write.entry.access))) }
+    ensures len { OnOk result (vec_len out.new
+        ≡ vec_len out.old + length (request_spelling (PlainWriteFile (object_id write.entry.file) (write_access lent write.entry.access)))) }
     ensures kept { Begins out.old.items out.new.items }
+    ensures full { OnErr result (vec_capacity out.old < vec_len out.old + length
+        (request_spelling (PlainWriteFile (object_id write.entry.file) (write_access lent write.entry.access)))) }
+    ensures grows { vec_capacity out.old ≤ vec_capacity out.new }
 {
     put_object_identifier(Class::Application, 12, write.file, out)?;
     put_write_access(write.access, out)
 }
 
 fn put_write_property(write: WriteProperty<Data<'_>>, out: &mut Vec<u8>) -> Result<(), NoMemory>
-    ensures ok { OnOk result (out.new.items ≡ out.old.items ++ request_spelling (PlainWriteProperty (reference write.entry.reference) write.entry.values.octets.now (number_of write.entry.priority))) }
+    ensures ok { OnOk result (out.new.items ≡ out.old.items ++ request_spelling
+        (PlainWriteProperty (reference write.entry.reference) write.entry.values.octets.now (number_of write.entry.priority))) }
+    ensures len { OnOk result (vec_len out.new
+        ≡ vec_len out.old + length (request_spelling
+        (PlainWriteProperty (reference write.entry.reference) write.entry.values.octets.now (number_of write.entry.priority)))) }
     ensures kept { Begins out.old.items out.new.items }
+    ensures full { OnErr result (vec_capacity out.old < vec_len out.old + length
+        (request_spelling (PlainWriteProperty (reference write.entry.reference) write.entry.values.octets.now (number_of write.entry.priority)))) }
+    ensures grows { vec_capacity out.old ≤ vec_capacity out.new }
 {
     put_reference(write.reference, out)?;
     put_values(write.values.octets, out)?;
@@ -124,7 +166,10 @@ fn put_write_property(write: WriteProperty<Data<'_>>, out: &mut Vec<u8>) -> Resu
 
 fn put_request(request: Request<'_>, out: &mut Vec<u8>) -> Result<(), NoMemory>
     ensures ok { OnOk result (out.new.items ≡ out.old.items ++ request_spelling (seen lent request.entry)) }
+    ensures len { OnOk result (vec_len out.new ≡ vec_len out.old + length (request_spelling (seen lent request.entry))) }
     ensures kept { Begins out.old.items out.new.items }
+    ensures full { OnErr result (vec_capacity out.old < vec_len out.old + length (request_spelling (seen lent request.entry))) }
+    ensures grows { vec_capacity out.old ≤ vec_capacity out.new }
 {
     match request {
         AnyRequest::ReadFile(read) => put_read_file(read, out),
@@ -138,6 +183,7 @@ fn put_request(request: Request<'_>, out: &mut Vec<u8>) -> Result<(), NoMemory>
 pub fn write_request(request: Request<'_>, out: &mut Vec<u8>) -> Result<(), NoMemory>
     ensures ok { OnOk result (out.new.items ≡ out.old.items ++ request_spelling (seen lent request.entry)) }
     ensures err { OnErr result (out.new.items ≡ out.old.items) }
+    ensures full { OnErr result (vec_capacity out.old < vec_len out.old + length (request_spelling (seen lent request.entry))) }
     ensures spelled { SpellsRequest (choice_of (seen lent request.entry)) (seen lent request.entry) (request_spelling (seen lent request.entry)) }
 {
     out.reserve(request_len(request))?;

@@ -2,7 +2,7 @@
 ghost use Rattle.std.specs.Prelude.{◌<◌};
 
 use super::*;
-use bac_value::{Data, Fault, FaultKind, NoMemory, ObjectIdentifier, Parts};
+use bac_value::{Data, Fault, NoMemory, ObjectIdentifier, Parts};
 use std::alloc::Global;
 use std::test::Fail;
 
@@ -40,17 +40,7 @@ fn request_outcome(choice: u8, octets: &[u8]) -> Option<u8> {
 
 /// The number of a fault and its place.
 fn numbers_of(fault: Fault) -> (u8, usize) {
-    let number = match fault.kind {
-        FaultKind::Truncated => 1,
-        FaultKind::ReservedTag => 2,
-        FaultKind::LongForm => 3,
-        FaultKind::BadLength => 4,
-        FaultKind::NotShortest => 5,
-        FaultKind::Unbalanced => 6,
-        FaultKind::TooDeep => 7,
-        FaultKind::ReservedBits => 8,
-    };
-    (number, fault.at)
+    (fault.kind.number(), fault.at)
 }
 
 /// None where the answer is read, otherwise the number of the fault and its place.

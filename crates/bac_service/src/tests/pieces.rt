@@ -144,10 +144,10 @@ fn pieces_of_answers_give_what_the_octets_give(rt: HostRuntime) -> Result<(), Fa
     Ok(())
 }
 
-/// Run with each allocation refused in turn, too: a copy takes one allocation or none, so where it is refused the next call
-/// has its memory.
+/// For runs in which one allocation is refused: only a request that holds octets wants memory in vain, and then the next call
+/// has it. How many allocations a call takes is counted in bench/growths.
 #[test]
-fn copies_take_one_allocation_or_none(rt: HostRuntime) -> Result<(), Fail> {
+fn only_copies_of_octets_want_memory(rt: HostRuntime) -> Result<(), Fail> {
     let alloc = rt.alloc();
     let rows = [
         (6, "C4028000010E3100210A0F", false),

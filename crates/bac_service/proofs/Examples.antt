@@ -1,0 +1,197 @@
+-- Worked examples of the definitions, by computing.
+use Rattle.std.proofs.Common.{◌≡◌, ℕ, ◌<◌, zero, suc, [], ◌∷◌, ◌++◌, Option, Some, None, true, refl, subst, arith, pos, replicate}
+use Rattle.bac_value.specs.declared.tag.Class.TheVariants.{Application}
+use Rattle.bac_value.specs.declared.tag.Form.TheVariants.{Length}
+use Rattle.bac_value.specs.Data.{Forest, none, leaf, pair, spelling, IsWithin, IsPrimitive, IsData}
+use Rattle.bac_value.specs.Element.{Part, SpellsElement}
+use Rattle.bac_value.specs.Number.{unsigned_octets, signed_octets}
+use Rattle.bac_value.specs.Spelling.{tag_spelling}
+use Rattle.bac_value.specs.Value.{ObjectId, real}
+use Rattle.bac_value.specs.Reading.{tag_at, tag_number_at, form_at, length_at, raw_at, kind_at, class_at, contents_at, element_at}
+use Rattle.bac_value.specs.Reading.{number_at, signed_at, object_at, turn, step_at, data_at}
+use Rattle.bac_service.specs.Members.{Octets, Tagged, AreStrings}
+use Rattle.bac_service.specs.Reading.{announced, head_at, member_at, is_next, optional_at, is_opened, tag_that, enclosed_at, values_at, that_at}
+use Rattle.bac_service.specs.Reading.{reference_at, priority_at, write_property_at, read_access_at, strings_at, run_at, counted_at, write_access_at}
+use Rattle.bac_service.specs.Reading.{request_at, end_of_file_at, file_read_at, file_written_at, property_read_at, complex_at}
+use Rattle.bac_service.specs.Values.{Reference, Request, Complex, choice_of, complex_choice_of}
+use Rattle.bac_service.specs.Values.ReadAccess.{ReadStream, ReadRecords}
+use Rattle.bac_service.specs.Values.WriteAccess.{WriteStream, WriteRecords}
+use Rattle.bac_service.specs.Values.Request.{ReadFile, WriteFile, ReadProperty, WriteProperty}
+use Rattle.bac_service.specs.Values.Complex.{FileRead, StreamWritten, RecordsWritten, PropertyRead}
+use Rattle.bac_service.specs.Requests.{SpellsRequest}
+use Rattle.bac_service.specs.Replies.{SpellsComplex}
+use Rattle.bac_service.specs.Spellings.{request_spelling, answer_spelling, IsReference, IsFile, IsRequest, IsAnswer}
+use Rattle.bac_service.proofs.Spelled.{request_spelled, complex_spelled}
+use Rattle.bac_service.proofs.Wholes.{request_again, complex_again}
+
+-- octets that are the spelling of a request spell it
+spelled : (r : Request) (bytes : Octets) → IsRequest r → request_spelling r ≡ bytes → SpellsRequest (choice_of r) r bytes
+spelled r bytes is same = subst (SpellsRequest (choice_of r) r) same (request_spelled r is)
+
+answered : (c : Complex) (bytes : Octets) → IsAnswer c → answer_spelling c ≡ bytes → SpellsComplex (complex_choice_of c) c bytes
+answered c bytes is same = subst (SpellsComplex (complex_choice_of c) c) same (complex_spelled c is)
+
+abbrev IsRefused : ℕ → Octets → Type 0
+IsRefused choice bytes = (r : Request) → SpellsRequest choice r bytes → ⊥
+
+-- octets that are not read are no request
+refused : (choice : ℕ) (bytes : Octets) → request_at choice bytes ≡ None → IsRefused choice bytes
+refused choice bytes none_read r s =
+    let read = request_again choice bytes r s in
+    absurd cc
+
+-- ---- what the requests and answers below are of
+
+abbrev object : ℕ → ℕ → ObjectId
+object kind instance = record { kind = kind; instance = instance }
+
+abbrev present_value : ObjectId → Option ℕ → Reference
+present_value of index = record { object = of; property = 85; index = index }
+
+-- of analog-input 5 and of analog-value 1
+abbrev input_5 : Option ℕ → Reference
+input_5 index = present_value (object 0 5) index
+
+abbrev value_1 : Reference
+value_1 = present_value (object 2 1) None
+
+is_value_1 : IsReference value_1
+is_value_1 = record { kind_fits = omega arith; instance_fits = omega arith; property_fits = omega arith; index_fits = tt }
+
+is_input_5 : IsReference (input_5 None)
+is_input_5 = record { kind_fits = omega arith; instance_fits = omega arith; property_fits = omega arith; index_fits = tt }
+
+abbrev file_1 : ObjectId
+file_1 = object 10 1
+
+is_file_1 : IsFile file_1
+is_file_1 = record { kind_fits = omega arith; instance_fits = omega arith }
+
+abbrev a_run : Octets
+a_run = 0x62 ∷ 0xAB ∷ 0xCD ∷ []
+
+one_string : AreStrings 1 a_run
+unfolding tag_spelling
+one_string =
+    let string : Tagged Application 6 (λ xs. Unit {0}) a_run = record { contents = 0xAB ∷ 0xCD ∷ []; are = tt; fits = omega arith; is = refl } in
+    record { front = a_run; back = []; first = string; second = refl; is = refl }
+
+abbrev real_of : Octets → Part
+real_of octets = record { mark = record { number = 4; class = Application; form = Length 4 }; contents = octets }
+
+abbrev a_real : Octets
+a_real = 0x44 ∷ 0x43 ∷ 0x34 ∷ 0x00 ∷ 0x00 ∷ []
+
+real_is_data : IsData a_real
+unfolding spelling tag_spelling IsWithin
+real_is_data =
+    let octets = 0x43 ∷ 0x34 ∷ 0x00 ∷ 0x00 ∷ [] in
+    let element : SpellsElement (real_of octets) a_real =
+    record {
+      tag = record { fits = refl; length_in = omega arith; is = refl };
+      contents = (refl, (real octets, refl, record { is = refl; sized = refl }));
+      is = refl;
+    } in
+    (leaf (real_of octets) none, record { within = (record { form = tt; spelled = element }, tt); is = refl })
+
+-- so many pairs of tags of number 0, each inside the one before
+nested : ℕ → Forest
+nested zero = none
+nested (suc n) = pair 0 (nested n) none
+
+eight_pairs_are_data : IsData (replicate 8 0x0E ++ replicate 8 0x0F)
+unfolding spelling tag_spelling IsWithin nested
+eight_pairs_are_data =
+    let lt : 0 < 255 = omega arith in
+    (nested 8, record { within = (lt, (lt, (lt, (lt, (lt, (lt, (lt, (lt, tt, tt), tt), tt), tt), tt), tt), tt), tt); is = refl })
+
+-- ---- requests
+
+octets_of_a_file : SpellsRequest 6 (ReadFile file_1 (ReadStream (pos 0) 10)) (0xC4 ∷ 0x02 ∷ 0x80 ∷ 0x00 ∷ 0x01 ∷ 0x0E ∷ 0x31 ∷ 0x00 ∷ 0x21 ∷ 0x0A ∷ 0x0F ∷ [])
+unfolding tag_spelling unsigned_octets signed_octets
+octets_of_a_file = spelled _ _ (is_file_1, record { start_fits = omega arith; count_fits = omega arith }) refl
+
+records_of_a_file : SpellsRequest 6 (ReadFile file_1 (ReadRecords (pos 0) 1)) (0xC4 ∷ 0x02 ∷ 0x80 ∷ 0x00 ∷ 0x01 ∷ 0x1E ∷ 0x31 ∷ 0x00 ∷ 0x21 ∷ 0x01 ∷ 0x1F ∷ [])
+unfolding tag_spelling unsigned_octets signed_octets
+records_of_a_file = spelled _ _ (is_file_1, record { start_fits = omega arith; count_fits = omega arith }) refl
+
+octets_for_a_file : SpellsRequest 7 (WriteFile file_1 (WriteStream (pos 0) (0xAA ∷ 0xBB ∷ 0xCC ∷ [])))
+    (0xC4 ∷ 0x02 ∷ 0x80 ∷ 0x00 ∷ 0x01 ∷ 0x0E ∷ 0x31 ∷ 0x00 ∷ 0x63 ∷ 0xAA ∷ 0xBB ∷ 0xCC ∷ 0x0F ∷ [])
+unfolding tag_spelling unsigned_octets signed_octets
+octets_for_a_file = spelled _ _ (is_file_1, (omega arith, omega arith)) refl
+
+one_record_for_a_file : SpellsRequest 7 (WriteFile file_1 (WriteRecords (pos 0) 1 a_run))
+    (0xC4 ∷ 0x02 ∷ 0x80 ∷ 0x00 ∷ 0x01 ∷ 0x1E ∷ 0x31 ∷ 0x00 ∷ 0x21 ∷ 0x01 ∷ 0x62 ∷ 0xAB ∷ 0xCD ∷ 0x1F ∷ [])
+unfolding tag_spelling unsigned_octets signed_octets
+one_record_for_a_file = spelled _ _ (is_file_1, (record { start_fits = omega arith; count_fits = omega arith }, one_string)) refl
+
+index_0 : SpellsRequest 12 (ReadProperty (input_5 (Some 0))) (0x0C ∷ 0x00 ∷ 0x00 ∷ 0x00 ∷ 0x05 ∷ 0x19 ∷ 0x55 ∷ 0x29 ∷ 0x00 ∷ [])
+unfolding tag_spelling unsigned_octets signed_octets
+index_0 = spelled _ _ (record { kind_fits = omega arith; instance_fits = omega arith; property_fits = omega arith; index_fits = omega arith }) refl
+
+no_index : SpellsRequest 12 (ReadProperty (input_5 None)) (0x0C ∷ 0x00 ∷ 0x00 ∷ 0x00 ∷ 0x05 ∷ 0x19 ∷ 0x55 ∷ [])
+unfolding tag_spelling unsigned_octets signed_octets
+no_index = spelled _ _ is_input_5 refl
+
+priority_16 : SpellsRequest 15 (WriteProperty value_1 a_real (Some 16))
+    (0x0C ∷ 0x00 ∷ 0x80 ∷ 0x00 ∷ 0x01 ∷ 0x19 ∷ 0x55 ∷ 0x3E ∷ 0x44 ∷ 0x43 ∷ 0x34 ∷ 0x00 ∷ 0x00 ∷ 0x3F ∷ 0x49 ∷ 0x10 ∷ [])
+unfolding tag_spelling unsigned_octets signed_octets
+priority_16 = spelled _ _ (is_value_1, real_is_data, (omega arith, omega arith)) refl
+
+no_priority : SpellsRequest 15 (WriteProperty value_1 a_real None)
+    (0x0C ∷ 0x00 ∷ 0x80 ∷ 0x00 ∷ 0x01 ∷ 0x19 ∷ 0x55 ∷ 0x3E ∷ 0x44 ∷ 0x43 ∷ 0x34 ∷ 0x00 ∷ 0x00 ∷ 0x3F ∷ [])
+unfolding tag_spelling unsigned_octets signed_octets
+no_priority = spelled _ _ (is_value_1, real_is_data, tt) refl
+
+eight_pairs : SpellsRequest 15 (WriteProperty value_1 (replicate 8 0x0E ++ replicate 8 0x0F) None)
+    (0x0C ∷ 0x00 ∷ 0x80 ∷ 0x00 ∷ 0x01 ∷ 0x19 ∷ 0x55 ∷ 0x3E ∷ (replicate 8 0x0E ++ (replicate 8 0x0F ++ (0x3F ∷ []))))
+unfolding tag_spelling unsigned_octets signed_octets
+eight_pairs = spelled _ _ (is_value_1, eight_pairs_are_data, tt) refl
+
+-- ---- octets that are no request
+
+-- two records counted where one is there; an index of five octets; no property; a member of another service; an object of three octets;
+-- a value cut short; unbalanced data; priority 0; another service
+refused_requests :
+    IsRefused 7 (0xC4 ∷ 0x02 ∷ 0x80 ∷ 0x00 ∷ 0x01 ∷ 0x1E ∷ 0x31 ∷ 0x00 ∷ 0x21 ∷ 0x02 ∷ 0x62 ∷ 0xAB ∷ 0xCD ∷ 0x1F ∷ [])
+    × IsRefused 12 (0x0C ∷ 0x00 ∷ 0x00 ∷ 0x00 ∷ 0x05 ∷ 0x19 ∷ 0x55 ∷ 0x2D ∷ 0x05 ∷ 0x01 ∷ 0x00 ∷ 0x00 ∷ 0x00 ∷ 0x00 ∷ [])
+    × IsRefused 12 (0x0C ∷ 0x00 ∷ 0x00 ∷ 0x00 ∷ 0x05 ∷ 0x29 ∷ 0x55 ∷ [])
+    × IsRefused 12 (0x0C ∷ 0x00 ∷ 0x00 ∷ 0x00 ∷ 0x05 ∷ 0x19 ∷ 0x55 ∷ 0x39 ∷ 0x00 ∷ [])
+    × IsRefused 12 (0x0B ∷ 0x00 ∷ 0x00 ∷ 0x05 ∷ 0x19 ∷ 0x55 ∷ [])
+    × IsRefused 15 (0x0C ∷ 0x00 ∷ 0x80 ∷ 0x00 ∷ 0x01 ∷ 0x19 ∷ 0x55 ∷ 0x3E ∷ 0x44 ∷ 0x43 ∷ 0x34 ∷ 0x00 ∷ [])
+    × IsRefused 15 (0x0C ∷ 0x00 ∷ 0x80 ∷ 0x00 ∷ 0x01 ∷ 0x19 ∷ 0x55 ∷ 0x3E ∷ 0x2E ∷ 0x3F ∷ 0x3F ∷ [])
+    × IsRefused 15 (0x0C ∷ 0x00 ∷ 0x80 ∷ 0x00 ∷ 0x01 ∷ 0x19 ∷ 0x55 ∷ 0x3E ∷ 0x44 ∷ 0x43 ∷ 0x34 ∷ 0x00 ∷ 0x00 ∷ 0x3F ∷ 0x49 ∷ 0x00 ∷ [])
+    × IsRefused 9 (0x0C ∷ 0x00 ∷ 0x00 ∷ 0x00 ∷ 0x05 ∷ 0x19 ∷ 0x55 ∷ [])
+unfolding tag_at tag_number_at form_at length_at raw_at kind_at class_at contents_at element_at number_at signed_at object_at turn step_at data_at
+    announced head_at member_at is_next optional_at is_opened tag_that enclosed_at values_at that_at reference_at priority_at write_property_at
+    read_access_at strings_at run_at counted_at write_access_at request_at
+refused_requests = (
+  refused _ _ refl,
+  refused _ _ refl,
+  refused _ _ refl,
+  refused _ _ refl,
+  refused _ _ refl,
+  refused _ _ refl,
+  refused _ _ refl,
+  refused _ _ refl,
+  refused _ _ refl,
+)
+
+-- ---- answers
+
+end_of_a_file : SpellsComplex 6 (FileRead true (pos 0) (0x4F ∷ 0x4B ∷ [])) (0x11 ∷ 0x0E ∷ 0x31 ∷ 0x00 ∷ 0x62 ∷ 0x4F ∷ 0x4B ∷ 0x0F ∷ [])
+unfolding tag_spelling unsigned_octets signed_octets
+end_of_a_file = answered _ _ (omega arith, omega arith) refl
+
+written_at_position_2 : SpellsComplex 7 (StreamWritten (pos 2)) (0x09 ∷ 0x02 ∷ [])
+unfolding tag_spelling unsigned_octets signed_octets
+written_at_position_2 = answered _ _ (omega arith) refl
+
+written_at_record_2 : SpellsComplex 7 (RecordsWritten (pos 2)) (0x19 ∷ 0x02 ∷ [])
+unfolding tag_spelling unsigned_octets signed_octets
+written_at_record_2 = answered _ _ (omega arith) refl
+
+value_of_input_5 : SpellsComplex 12 (PropertyRead (input_5 None) a_real)
+    (0x0C ∷ 0x00 ∷ 0x00 ∷ 0x00 ∷ 0x05 ∷ 0x19 ∷ 0x55 ∷ 0x3E ∷ 0x44 ∷ 0x43 ∷ 0x34 ∷ 0x00 ∷ 0x00 ∷ 0x3F ∷ [])
+unfolding tag_spelling unsigned_octets signed_octets
+value_of_input_5 = answered _ _ (is_input_5, real_is_data) refl
