@@ -16,6 +16,7 @@ use Rattle.bac_protocol.proofs.Sound.{IsBelow, IsOrderly, Up, Down, Says, Fits, 
 use Rattle.bac_protocol.proofs.Sound.Up.{Reading}
 use Rattle.bac_protocol.proofs.Sound.Down.{Unsent}
 use Rattle.bac_protocol.proofs.Facts.{below_more, below_unperformed, below_unended, all_map, each_sent, says_time, pieces_all}
+use Rattle.bac_protocol.proofs.Transfer.{piece_at_is}
 use Rattle.bac_protocol.proofs.ClientKeeps.{SoundOf}
 
 -- what there is of asks before it is of no account
@@ -53,11 +54,11 @@ asked_sound W some x key w spent choice front rest true = let ask : Ask = record
     orderly = (spent.counted, spent.orderly);
     asked = inl refl;
     unended = below_unended w.asks w.log spent.numbers;
-    client = (refl, tt);
+    client = (inl refl, tt);
     passes = inl refl;
     server = asked_server W w ask 0 (Asked w.asks key.client key.server (request_of ask) ∷ w.log) refl
         (below_unperformed w.asks w.log spent.numbers) w.entry spent.dead;
-    upload = record { behind = omega arith; near = omega arith; within = omega arith; unfinished = omega arith };
+    upload = record { behind = omega arith; near = omega arith; within = omega arith; some = omega arith };
     download = tt;
     arriving = asked_copies W w ask (Asked w.asks key.client key.server (request_of ask) ∷ w.log) (Reading 0 0)
         (client.request_apdu (x.settings key.client) key.id ask ∷ []) spent refl ((λ k. (omega arith, refl, refl, refl)), tt);
@@ -78,7 +79,7 @@ asked_sound W some x key w spent choice front rest false = let ask : Ask =
         passes = inr refl;
         server = asked_server W w ask 1 (Asked w.asks key.client key.server (request_of ask) ∷ w.log) refl
             (below_unperformed w.asks w.log spent.numbers) w.entry spent.dead;
-        upload = record { behind = omega arith; near = omega arith; within = omega arith; unfinished = omega arith };
+        upload = record { behind = omega arith; near = omega arith; within = omega arith; some = omega arith };
         download = tt;
         arriving = asked_copies W w ask (Asked w.asks key.client key.server (request_of ask) ∷ w.log) (Reading 0 1)
             (client.request_window (x.settings key.client) key.id choice (outgoing ask.pieces)) spent refl
@@ -88,15 +89,7 @@ asked_sound W some x key w spent choice front rest false = let ask : Ask =
               omega arith,
               refl,
               refl,
-              record {
-                piece = p;
-                number_is = refl;
-                more_is = refl;
-                octets_is = refl;
-                below = omega arith;
-                near =
-                    omega arith;
-              },
+              record { piece = p; is = piece_at_is (x.settings key.client).window ask.pieces p (omega arith); below = omega arith; near = omega arith },
             )));
       },
     )

@@ -5,6 +5,7 @@ use Rattle.std.proofs.lemmas.Bool.Decides.{nat_tests}
 use Rattle.bac_apdu.specs.Apdu.{Apdu, Segment}
 use Rattle.bac_apdu.specs.Apdu.Apdu.{SimpleAck, ComplexAck, SegmentAck, Error, Reject, Abort}
 use Rattle.bac_segment.specs.Numbers.{ahead}
+use Rattle.bac_segment.specs.Limits.{RETRIES}
 use Rattle.bac_segment.specs.Pieces.{join}
 use Rattle.bac_segment.specs.Window.{Outgoing, outgoing, in_window, is_finished, acknowledged, again, Incoming, incoming, takes}
 use Rattle.bac_segment.specs.Window.Taking.{Taken}
@@ -22,16 +23,16 @@ use Rattle.bac_protocol.specs.Server.State.{Receiving, Done, Giving, Dropped}
 use Rattle.bac_protocol.specs.Log.{Fact, IsUnended, MayEnd, WasAsked}
 use Rattle.bac_protocol.specs.Log.Fact.{Asked, Ended}
 use Rattle.bac_protocol.specs.Transaction.{Key, Transaction, sent, client_does}
-use Rattle.bac_protocol.specs.Claims.{IsPiece, IsAck}
-use Rattle.bac_protocol.proofs.Sound.{IsUnderway, IsFront, Up, Down, IsAckUp, IsPieceDown, client_until, WasPerformed, Says, SendsUp, IsUntaken}
-use Rattle.bac_protocol.proofs.Sound.{IsSendingFor, IsReadIfPieces, IsReadIfRepeated, CollectsDown, ClientFits, IsKeptFor, IsUnbegun, SendsDown}
-use Rattle.bac_protocol.proofs.Sound.{StateFits, ServerFits, UpFits, DownFits, IsOpenIn, Sound, IsSound}
-use Rattle.bac_protocol.proofs.Sound.Up.{Reading, Read}
-use Rattle.bac_protocol.proofs.Sound.Down.{Unsent, Sent, Closed}
-use Rattle.bac_protocol.proofs.Facts.{below_has, UpGoes, DownGoes, up_same, down_same, closed, down_closed, grows_same, grows_more}
-use Rattle.bac_protocol.proofs.Facts.{copies_go, pieces_all, pieces_length}
+use Rattle.bac_protocol.specs.Claims.{IsPieceOf, WasPerformed, IsPiece, IsAck}
+use Rattle.bac_protocol.proofs.Sound.{IsUnderway, IsFront, Up, Down, IsAckUp, IsPieceDown, client_until, Says, SendsUp, IsUntaken, IsSendingFor}
+use Rattle.bac_protocol.proofs.Sound.{IsRead, PassFits, CollectsDown, ClientFits, IsKeptFor, IsUnbegun, SendsDown, StateFits, ServerFits, UpFits, DownFits}
+use Rattle.bac_protocol.proofs.Sound.{IsOpenIn, Sound, IsSound}
+use Rattle.bac_protocol.proofs.Sound.Up.{Reading, Repeated}
+use Rattle.bac_protocol.proofs.Sound.Down.{Unsent, Sent}
+use Rattle.bac_protocol.proofs.Facts.{below_has, UpGoes, DownGoes, up_same, up_repeated, down_same, grows_same, grows_more, copies_go}
+use Rattle.bac_protocol.proofs.Facts.{pieces_all, pieces_length}
 use Rattle.bac_protocol.proofs.Transfer.{moved, acknowledged_cases, acknowledges_taken, moved_sender, sent_to, window_underway, window_sender}
-use Rattle.bac_protocol.proofs.Transfer.{window_grows, window_piece, with_piece, takes_cases, takes_below, takes_left, takes_front, takes_all}
+use Rattle.bac_protocol.proofs.Transfer.{window_grows, piece_at_is, window_piece, with_piece, takes_cases, takes_below, takes_left, takes_front, takes_all}
 
 abbrev pub SoundOf : ℕ → Key → Transaction → Ticket → Up → Down → Type 0
 SoundOf W key w t up down = Sound W key w.now w.asks w.number t w.entry w.copies w.log up down
@@ -52,35 +53,30 @@ is_open Over n log e h = absurd cc
 
 kept_ends : (number : ℕ) (ask : Ask) (how : Ending) (log : List Fact) (a : Apdu) → IsKeptFor number ask a log
     → IsKeptFor number ask a (Ended number how ∷ log)
-kept_ends number ask how log (SimpleAck id choice) h = inr h
-kept_ends number ask how log (ComplexAck id None choice o) h = inr h
-kept_ends number ask how log (Error id choice class code) h = inr h
+kept_ends number ask how log (SimpleAck id choice) h = (inr h.0, h.1)
+kept_ends number ask how log (ComplexAck id None choice o) h = (inr h.0, h.1)
+kept_ends number ask how log (Error id choice class code) h = (inr h.0, h.1)
 kept_ends number ask how log (Reject id r) h = h
 kept_ends number ask how log (Abort true id r) h = h
 kept_ends number ask how log _ h = absurd h
 
 unbegun_ends : (number : ℕ) (how : Ending) (log : List Fact) (up : Up) (down : Down) → IsUnbegun number up down log
-    → IsUnbegun number up (closed down) (Ended number how ∷ log)
+    → IsUnbegun number up down (Ended number how ∷ log)
 unbegun_ends number how log (Reading t s) Unsent h = h
 unbegun_ends number how log _ _ h = absurd h
 
-sends_closed : (W : ℕ) (out : Outgoing) (down : Down) → SendsDown W out down → SendsDown W out (closed down)
-sends_closed W out Unsent h = h
-sends_closed W out (Sent ps t s) h = tt
-sends_closed W out Closed h = h
-
 state_ends : (W number : ℕ) (ask : Ask) (how : Ending) (log : List Fact) (st : State) (up : Up) (down : Down) → StateFits W number ask st up down log
-    → StateFits W number ask st up (closed down) (Ended number how ∷ log)
+    → StateFits W number ask st up down (Ended number how ∷ log)
 state_ends W number ask how log (Receiving inc since) (Reading t s) Unsent h =
     record { in_pieces = h.in_pieces; front = h.front; unperformed = h.unperformed }
-state_ends W number ask how log (Done kept) Read Unsent h = kept_ends number ask how log kept h
-state_ends W number ask how log (Giving out transfer since) Read down h =
-    record { window = h.window; performed = inr h.performed; sends = sends_closed W out down h.sends }
+state_ends W number ask how log (Done kept) up Unsent h = (h.0, kept_ends number ask how log kept h.1)
+state_ends W number ask how log (Giving out transfer since) up down h =
+    record { read = h.read; window = h.window; performed = inr h.performed; sends = h.sends }
 state_ends W number ask how log Dropped (Reading t s) Unsent h = h
 state_ends W number ask how log _ _ _ h = absurd h
 
 server_ends : (W number : ℕ) (ask : Ask) (how : Ending) (log : List Fact) (up : Up) (down : Down) (o : Option Entry)
-    → ServerFits W number ask o up down log → ServerFits W number ask o up (closed down) (Ended number how ∷ log)
+    → ServerFits W number ask o up down log → ServerFits W number ask o up down (Ended number how ∷ log)
 server_ends W number ask how log up down None h = unbegun_ends number how log up down h
 server_ends W number ask how log up down (Some e) (inl h) = inl (record { dead = h.dead; unbegun = unbegun_ends number how log up down h.unbegun })
 server_ends W number ask how log up down (Some e) (inr h) = inr
@@ -89,7 +85,11 @@ server_ends W number ask how log up down (Some e) (inr h) = inr
 -- the ghost after the window is sent
 abbrev pub widened : Outgoing → Up → Up
 widened out (Reading t s) = Reading t (sent_to out s)
-widened out Read = Read
+widened out Repeated = Repeated
+
+read_widened : (ask : Ask) (out : Outgoing) (up : Up) → IsRead ask up → IsRead ask (widened out up)
+read_widened ask out (Reading t s) h = h
+read_widened ask out Repeated h = h
 
 unbegun_widened : (number : ℕ) (out : Outgoing) (log : List Fact) (up : Up) (down : Down) → IsUnbegun number up down log
     → IsUnbegun number (widened out up) down log
@@ -99,8 +99,9 @@ unbegun_widened number out log _ _ h = absurd h
 state_widened : (W number : ℕ) (ask : Ask) (out : Outgoing) (log : List Fact) (st : State) (up : Up) (down : Down) → StateFits W number ask st up down log
     → StateFits W number ask st (widened out up) down log
 state_widened W number ask out log (Receiving inc since) (Reading t s) Unsent h = h
-state_widened W number ask out log (Done kept) Read Unsent h = h
-state_widened W number ask out log (Giving out' transfer since) Read down h = h
+state_widened W number ask out log (Done kept) up Unsent h = (read_widened ask out up h.0, h.1)
+state_widened W number ask out log (Giving out' transfer since) up down h =
+    record { read = read_widened ask out up h.read; window = h.window; performed = h.performed; sends = h.sends }
 state_widened W number ask out log Dropped (Reading t s) Unsent h = h
 state_widened W number ask out log _ _ _ h = absurd h
 
@@ -111,9 +112,37 @@ server_widened W number ask out log up down (Some e) (inl h) = inl (record { dea
 server_widened W number ask out log up down (Some e) (inr h) = inr
     (record { after = h.after; before = h.before; choice = h.choice; state = state_widened W number ask out log e.state up down h.state })
 
-repeated_widened : (ask : Ask) (repeats : ℕ) (out : Outgoing) (up : Up) → IsReadIfRepeated ask repeats up → IsReadIfRepeated ask repeats (widened out up)
-repeated_widened ask repeats out (Reading t s) h = h
-repeated_widened ask repeats out Read h = h
+passes_widened : (ask : Ask) (repeats : ℕ) (out : Outgoing) (up : Up) → PassFits ask repeats up → PassFits ask repeats (widened out up)
+passes_widened ask repeats out (Reading t s) h = h
+passes_widened ask repeats out Repeated h = h
+
+-- A later pass of a request in pieces begins.
+
+pub unread : (W : ℕ) (ask : Ask) (t s : ℕ) → ask.whole ≡ false → t < length ask.pieces → IsRead ask (Reading t s) → ⊥
+unread W ask t s whole lt (inl is) = cc
+unread W ask t s whole lt (inr is) = omega arith
+
+pub unbegun_unread : (W number : ℕ) (ask : Ask) (log : List Fact) (up : Up) (down : Down) → ask.whole ≡ false → UpFits W ask up → IsRead ask up
+    → IsUnbegun number up down log → ⊥
+unbegun_unread W number ask log (Reading t s) Unsent whole u read h = let some = u.some in let is = h.0 in unread W ask t s whole (omega arith) read
+unbegun_unread W number ask log (Reading t s) (Sent ps a b) whole u read h = h
+unbegun_unread W number ask log Repeated down whole u read h = h
+
+state_repeated : (W number : ℕ) (ask : Ask) (log : List Fact) (st : State) (up : Up) (down : Down) → ask.whole ≡ false → IsRead ask up
+    → StateFits W number ask st up down log → StateFits W number ask st Repeated down log
+state_repeated W number ask log (Receiving inc since) (Reading t s) Unsent whole read h = absurd (unread W ask t s whole (h.front).left read)
+state_repeated W number ask log (Done kept) up Unsent whole read h = (tt, h.1)
+state_repeated W number ask log (Giving out transfer since) up down whole read h =
+    record { read = tt; window = h.window; performed = h.performed; sends = h.sends }
+state_repeated W number ask log Dropped (Reading t s) Unsent whole read h = absurd (unread W ask t s whole h.0 read)
+state_repeated W number ask log _ _ _ whole read h = absurd h
+
+server_repeated : (W number : ℕ) (ask : Ask) (log : List Fact) (up : Up) (down : Down) (o : Option Entry) → ask.whole ≡ false → UpFits W ask up
+    → IsRead ask up → ServerFits W number ask o up down log → ServerFits W number ask o Repeated down log
+server_repeated W number ask log up down None whole u read h = absurd (unbegun_unread W number ask log up down whole u read h)
+server_repeated W number ask log up down (Some e) whole u read (inl h) = absurd (unbegun_unread W number ask log up down whole u read h.unbegun)
+server_repeated W number ask log up down (Some e) whole u read (inr h) = inr
+    (record { after = h.after; before = h.before; choice = h.choice; state = state_repeated W number ask log e.state up down whole read h.state })
 
 -- the ghost after a piece of the reply was taken
 sends_taken : (W : ℕ) (out : Outgoing) (ps : List Octets) (t s : ℕ) → SendsDown W out (Sent ps t s) → SendsDown W out (Sent ps (t + 1) s)
@@ -121,19 +150,17 @@ sends_taken W out ps t s h = (h.0, record { behind = omega (arith, h.1.behind); 
 
 state_taken : (W number : ℕ) (ask : Ask) (log : List Fact) (ps : List Octets) (t s : ℕ) (st : State) (up : Up)
     → StateFits W number ask st up (Sent ps t s) log → StateFits W number ask st up (Sent ps (t + 1) s) log
-state_taken W number ask log ps t s (Giving out transfer since) Read h =
-    record { window = h.window; performed = h.performed; sends = sends_taken W out ps t s h.sends }
-state_taken W number ask log ps t s (Giving out transfer since) (Reading a b) h = absurd h
+state_taken W number ask log ps t s (Giving out transfer since) up h =
+    record { read = h.read; window = h.window; performed = h.performed; sends = sends_taken W out ps t s h.sends }
 state_taken W number ask log ps t s (Receiving inc since) (Reading a b) h = absurd h
-state_taken W number ask log ps t s (Receiving inc since) Read h = absurd h
-state_taken W number ask log ps t s (Done kept) (Reading a b) h = absurd h
-state_taken W number ask log ps t s (Done kept) Read h = absurd h
+state_taken W number ask log ps t s (Receiving inc since) Repeated h = absurd h
+state_taken W number ask log ps t s (Done kept) up h = absurd h
 state_taken W number ask log ps t s Dropped (Reading a b) h = absurd h
-state_taken W number ask log ps t s Dropped Read h = absurd h
+state_taken W number ask log ps t s Dropped Repeated h = absurd h
 
-unbegun_unsent : (number : ℕ) (log : List Fact) (up : Up) (ps : List Octets) (t s : ℕ) → IsUnbegun number up (Sent ps t s) log → ⊥
+pub unbegun_unsent : (number : ℕ) (log : List Fact) (up : Up) (ps : List Octets) (t s : ℕ) → IsUnbegun number up (Sent ps t s) log → ⊥
 unbegun_unsent number log (Reading a b) ps t s h = h
-unbegun_unsent number log Read ps t s h = h
+unbegun_unsent number log Repeated ps t s h = h
 
 server_taken : (W number : ℕ) (ask : Ask) (log : List Fact) (up : Up) (ps : List Octets) (t s : ℕ) (o : Option Entry)
     → ServerFits W number ask o up (Sent ps t s) log → ServerFits W number ask o up (Sent ps (t + 1) s) log
@@ -145,26 +172,19 @@ server_taken W number ask log up ps t s (Some e) (inr h) = inr
 -- where pieces of a reply are sent, the request was performed with that reply
 state_performed : (W number : ℕ) (ask : Ask) (log : List Fact) (ps : List Octets) (t s : ℕ) (st : State) (up : Up)
     → StateFits W number ask st up (Sent ps t s) log → WasPerformed number ask (reply.Complex (join ps)) log
-state_performed W number ask log ps t s (Giving out transfer since) Read h = subst
+state_performed W number ask log ps t s (Giving out transfer since) up h = subst
     (λ (xs : List Octets). WasPerformed number ask (reply.Complex (join xs)) log) h.sends.0 h.performed
-state_performed W number ask log ps t s (Giving out transfer since) (Reading a b) h = absurd h
 state_performed W number ask log ps t s (Receiving inc since) (Reading a b) h = absurd h
-state_performed W number ask log ps t s (Receiving inc since) Read h = absurd h
-state_performed W number ask log ps t s (Done kept) (Reading a b) h = absurd h
-state_performed W number ask log ps t s (Done kept) Read h = absurd h
+state_performed W number ask log ps t s (Receiving inc since) Repeated h = absurd h
+state_performed W number ask log ps t s (Done kept) up h = absurd h
 state_performed W number ask log ps t s Dropped (Reading a b) h = absurd h
-state_performed W number ask log ps t s Dropped Read h = absurd h
+state_performed W number ask log ps t s Dropped Repeated h = absurd h
 
-server_performed : (W number : ℕ) (ask : Ask) (log : List Fact) (up : Up) (ps : List Octets) (t s : ℕ) (o : Option Entry)
+pub server_performed : (W number : ℕ) (ask : Ask) (log : List Fact) (up : Up) (ps : List Octets) (t s : ℕ) (o : Option Entry)
     → ServerFits W number ask o up (Sent ps t s) log → WasPerformed number ask (reply.Complex (join ps)) log
 server_performed W number ask log up ps t s None h = absurd (unbegun_unsent number log up ps t s h)
 server_performed W number ask log up ps t s (Some e) (inl h) = absurd (unbegun_unsent number log up ps t s h.unbegun)
 server_performed W number ask log up ps t s (Some e) (inr h) = state_performed W number ask log ps t s e.state up h.state
-
-down_fits_closed : (W : ℕ) (down : Down) → DownFits W down → DownFits W (closed down)
-down_fits_closed W Unsent h = tt
-down_fits_closed W (Sent ps t s) h = tt
-down_fits_closed W Closed h = tt
 
 -- One transaction, whose ticket is t.
 module _ (W V : ℕ) (some : 0 < W) (room : V + 2 * W ≤ 255) (c : Settings) (own : c.window ≤ W) (readable : Readable) (key : Key) (w : Transaction)
@@ -183,7 +203,7 @@ module _ (W V : ℕ) (some : 0 < W) (room : V + 2 * W ≤ 255) (c : Settings) (o
   goes : (up : Up) (down : Down) → SoundOf W key w t up down → IsUnended w.number w.log
       → (phase : Phase) (repeats since : ℕ) (sends : List Apdu) (up' : Up) (down' : Down)
       → UpGoes (length sends) up up' → DownGoes (length sends) down down'
-      → ClientFits W t.ask phase up' down' → IsReadIfRepeated t.ask repeats up' → ServerFits W w.number t.ask w.entry up' down' w.log → UpFits W t.ask up'
+      → ClientFits W t.ask phase up' down' → PassFits t.ask repeats up' → ServerFits W w.number t.ask w.entry up' down' w.log → UpFits W t.ask up'
       → DownFits W down'
       → Each (SaysNow up' down') sends
       → Goes (record t { phase = phase; repeats = repeats; since = since }) sends
@@ -208,20 +228,22 @@ module _ (W V : ℕ) (some : 0 < W) (room : V + 2 * W ≤ 255) (c : Settings) (o
 
   -- the ticket goes on, and no ghost moves
   goes_same : (up : Up) (down : Down) → SoundOf W key w t up down → IsUnended w.number w.log → (phase : Phase) (repeats since : ℕ) (sends : List Apdu)
-      → ClientFits W t.ask phase up down → IsReadIfRepeated t.ask repeats up
+      → ClientFits W t.ask phase up down → PassFits t.ask repeats up
       → Each (SaysNow up down) sends
       → Goes (record t { phase = phase; repeats = repeats; since = since }) sends
   goes_same up down s opened phase repeats since sends client passes says =
       goes up down s opened phase repeats since sends up down (up_same (length sends) up)
       (down_same (length sends) down) client passes s.server s.upload s.download says
 
-  -- the ticket ends
-  ends : (up : Up) (down : Down) → SoundOf W key w t up down → IsUnended w.number w.log → (sends : List Apdu) (how : Ending) → MayEnd w.number how w.log
-      → Each (λ a. (k : ℕ) → Says W w.number t.ask (Ended w.number how ∷ w.log) up (closed down) w.now k a) sends
+  -- the ticket ends, and what was taken of the reply may have grown
+  ends_with : (up : Up) (down : Down) → SoundOf W key w t up down → IsUnended w.number w.log → (sends : List Apdu) (how : Ending)
+      → MayEnd w.number how w.log → (down' : Down) → DownGoes (length sends) down down' → ServerFits W w.number t.ask w.entry up down' w.log
+      → DownFits W down'
+      → Each (λ a. (k : ℕ) → Says W w.number t.ask (Ended w.number how ∷ w.log) up down' w.now k a) sends
       → IsKept (Ends sends how)
-  ends up down s opened sends how may says = (
+  ends_with up down s opened sends how may down' gd server download says = (
     up,
-    closed down,
+    down',
     record {
       clock = s.clock;
       numbers = (below_has w.asks (Asked w.number key.client key.server (request_of t.ask)) w.log s.numbers s.asked, s.numbers);
@@ -231,13 +253,20 @@ module _ (W V : ℕ) (some : 0 < W) (room : V + 2 * W ≤ 255) (c : Settings) (o
       unended = tt;
       client = tt;
       passes = s.passes;
-      server = server_ends W w.number t.ask how w.log up down w.entry s.server;
+      server = server_ends W w.number t.ask how w.log up down' w.entry server;
       upload = s.upload;
-      download = down_fits_closed W down s.download;
-      arriving = copies_go W w.now w.number t.ask w.log (Ended w.number how ∷ w.log) up up down (closed down) sends w.copies
-          (grows_more (Ended w.number how) w.log) (up_same (length sends) up) (down_closed (length sends) down) s.clock says s.arriving;
+      download = download;
+      arriving = copies_go W w.now w.number t.ask w.log (Ended w.number how ∷ w.log) up up down down' sends w.copies
+          (grows_more (Ended w.number how) w.log) (up_same (length sends) up) gd s.clock says s.arriving;
     },
   )
+
+  -- the ticket ends, and no ghost moves
+  ends : (up : Up) (down : Down) → SoundOf W key w t up down → IsUnended w.number w.log → (sends : List Apdu) (how : Ending) → MayEnd w.number how w.log
+      → Each (λ a. (k : ℕ) → Says W w.number t.ask (Ended w.number how ∷ w.log) up down w.now k a) sends
+      → IsKept (Ends sends how)
+  ends up down s opened sends how may says =
+      ends_with up down s opened sends how may down (down_same (length sends) down) s.server s.download says
 
   was_asked : (up : Up) (down : Down) → SoundOf W key w t up down → WasAsked w.number w.log
   was_asked up down s = (key.client, key.server, request_of t.ask, s.asked)
@@ -255,21 +284,23 @@ module _ (W V : ℕ) (some : 0 < W) (room : V + 2 * W ≤ 255) (c : Settings) (o
     -- whole service data came, of a reply with which the ask was performed
     answered_kept : (up : Up) (down : Down) → SoundOf W key w t up down → (choice : ℕ) (acks : List Apdu) (octets : Octets)
         → WasPerformed w.number t.ask (reply.Complex octets) w.log
-        → ((log : List Fact) → Each (λ a. (k : ℕ) → Says W w.number t.ask log up (closed down) w.now k a) acks)
-        → ((log : List Fact) → Each (λ a. (k : ℕ) → Says W w.number t.ask log up (closed down) w.now k a) (acks ++ Abort false key.id 0 ∷ []))
+        → (down' : Down) → ((d : ℕ) → DownGoes d down down') → ServerFits W w.number t.ask w.entry up down' w.log → DownFits W down'
+        → ((log : List Fact) → Each (λ a. (k : ℕ) → Says W w.number t.ask log up down' w.now k a) acks)
+        → ((log : List Fact) → Each (λ a. (k : ℕ) → Says W w.number t.ask log up down' w.now k a) (acks ++ Abort false key.id 0 ∷ []))
         → IsKept (client.answered_with readable key.id choice acks octets)
-    answered_kept up down s choice acks octets h says aborts = go (readable choice octets)
+    answered_kept up down s choice acks octets h down' gd server download says aborts = go (readable choice octets)
       where
         go : (b : Bool) → IsKept (if b then Ends acks (Answered (reply.Complex octets)) else Ends (acks ++ Abort false key.id 0 ∷ []) (Aborted 0))
-        go true = ends up down s opened acks (Answered (reply.Complex octets)) (may_answer (reply.Complex octets) h)
-            (says (Ended w.number (Answered (reply.Complex octets)) ∷ w.log))
-        go false = ends up down s opened (acks ++ Abort false key.id 0 ∷ []) (Aborted 0) (was_asked up down s) (aborts (Ended w.number (Aborted 0) ∷ w.log))
+        go true = ends_with up down s opened acks (Answered (reply.Complex octets)) (may_answer (reply.Complex octets) h) down' (gd (length acks)) server
+            download (says (Ended w.number (Answered (reply.Complex octets)) ∷ w.log))
+        go false = ends_with up down s opened (acks ++ Abort false key.id 0 ∷ []) (Aborted 0) (was_asked up down s) down'
+            (gd (length (acks ++ Abort false key.id 0 ∷ []))) server download (aborts (Ended w.number (Aborted 0) ∷ w.log))
 
     -- a piece of the reply comes, of which tk were taken
     module _ (up : Up) (ps : List Octets) (tk sn : ℕ) (s : SoundOf W key w t up (Sent ps tk sn)) (inc : Incoming) (taken : length inc.parts ≡ tk)
         (parts : inc.parts ≡ take tk ps)
-        (k : ℕ) (late : k ≤ V) (g : Segment) (o : Octets) (piece : IsPiece W ps sn k g o) (first : g.number ≢ length inc.parts % 256 → 0 < tk)
-        (choice : ℕ) where
+        (left : tk < length ps) (k : ℕ) (late : k ≤ V) (g : Segment) (o : Octets) (piece : IsPiece W ps sn k g o)
+        (first : g.number ≢ length inc.parts % 256 → 0 < tk) (choice : ℕ) where
       number_is : g.number ≡ length inc.parts % 256 → g.number ≡ tk % 256
       number_is e = e ∙ ap (λ x. x % 256) taken
 
@@ -280,18 +311,17 @@ module _ (W V : ℕ) (some : 0 < W) (room : V + 2 * W ≤ 255) (c : Settings) (o
       all : g.number ≡ length inc.parts % 256 → g.more ≡ false → join (inc.parts ++ o ∷ []) ≡ join ps
       all e m = ap join (takes_all V W some room ps tk sn k late s.download g o piece (number_is e) inc.parts parts m)
 
-      under : g.number ≡ length inc.parts % 256 → g.more ≡ true → IsUnderway W (tk + 1) sn (length ps)
-      under e m =
+      under : g.number ≡ length inc.parts % 256 → IsUnderway W (tk + 1) sn (length ps)
+      under e =
           let lt = takes_below V W some room ps tk sn k late s.download g o piece (number_is e) in
-          let left = takes_left V W some room ps tk sn k late s.download g o piece (number_is e) m in
           let near = s.download.near in
-          record { behind = omega arith; near = omega arith; within = s.download.within; unfinished = left }
+          record { behind = omega arith; near = omega arith; within = s.download.within; some = s.download.some }
 
-      front : g.number ≡ length inc.parts % 256 → (n : ℕ) → IsFront ps (with_piece inc o n) (tk + 1)
-      front e n =
+      front : g.number ≡ length inc.parts % 256 → g.more ≡ true → (n : ℕ) → IsFront ps (with_piece inc o n) (tk + 1)
+      front e m n =
           let is = takes_front V W some room ps tk sn k late s.download g o piece (number_is e) inc.parts parts in
-          let left = s.download.unfinished in
-          record { taken_is = length_more inc.parts o ∙ ap (λ x. x + 1) taken; some = omega arith; parts_are = is }
+          let more = takes_left V W some room ps tk sn k late s.download g o piece (number_is e) m in
+          record { taken_is = length_more inc.parts o ∙ ap (λ x. x + 1) taken; some = omega arith; left = more; parts_are = is }
         where
           length_more : (xs : List Octets) (y : Octets) → length (xs ++ y ∷ []) ≡ length xs + 1
           length_more [] y = refl
@@ -303,8 +333,8 @@ module _ (W V : ℕ) (some : 0 < W) (room : V + 2 * W ≤ 255) (c : Settings) (o
       next : (sends : List Apdu) → g.number ≡ length inc.parts % 256 → g.more ≡ true → (n : ℕ) → Each (SaysNow up (Sent ps (tk + 1) sn)) sends
           → IsKept (GoesOn (Collecting (with_piece inc o n)) sends)
       next sends e m n says = goes up (Sent ps tk sn) s opened (Collecting (with_piece inc o n)) t.repeats w.now sends up (Sent ps (tk + 1) sn)
-          (up_same (length sends) up) (refl, omega arith, omega arith, omega arith) (front e n) s.passes
-          (server_taken W w.number t.ask w.log up ps tk sn w.entry s.server) s.upload (under e m) says
+          (up_same (length sends) up) (refl, omega arith, omega arith, omega arith) (front e m n) s.passes
+          (server_taken W w.number t.ask w.log up ps tk sn w.entry s.server) s.upload (under e) says
 
       goes_on : g.number ≡ length inc.parts % 256 → g.more ≡ true → (ack : Bool) (n : ℕ)
           → IsKept (client.collects readable key.id choice g.number inc.window (Taken ack (with_piece inc o n)))
@@ -316,32 +346,34 @@ module _ (W V : ℕ) (some : 0 < W) (room : V + 2 * W ≤ 255) (c : Settings) (o
           takes_cases inc g.number g.more o (λ x. IsKept (client.collects readable key.id choice g.number inc.window x))
           (λ ne. goes_same up (Sent ps tk sn) s opened (Collecting (record inc { unacknowledged = 0 })) t.repeats w.now
           (client.client_ack true key.id ((length inc.parts - 1) % 256) inc.window ∷ [])
-          (record { taken_is = taken; some = first ne; parts_are = parts }) s.passes
+          (record { taken_is = taken; some = first ne; left = left; parts_are = parts }) s.passes
           (λ j. (early, nak_ack (first ne) j), tt))
           (ends up (Sent ps tk sn) s opened (Abort false key.id 1 ∷ []) (Aborted 1) (was_asked up (Sent ps tk sn) s) (λ j. early, tt))
           (λ e m. answered_kept up (Sent ps tk sn) s choice (client.client_ack false key.id g.number inc.window ∷ []) (join (inc.parts ++ o ∷ []))
           (subst (λ (x : Octets). WasPerformed w.number t.ask (reply.Complex x) w.log) (sym (all e m))
           (server_performed W w.number t.ask w.log up ps tk sn w.entry s.server))
-          (λ log. (λ j. (early, tt), tt))
-          (λ log. (λ j. (early, tt), (λ j. early, tt))))
+          (Sent ps (tk + 1) sn) (λ d. (refl, omega arith, omega arith, omega arith))
+          (server_taken W w.number t.ask w.log up ps tk sn w.entry s.server) (under e)
+          (λ log. (λ j. (early, next_ack e j), tt))
+          (λ log. (λ j. (early, next_ack e j), (λ j. early, tt))))
           (λ e m ack n. goes_on e m ack n)
 
     -- The request's pieces.
 
     up_widens : (out : Outgoing) (up : Up) → UpFits W t.ask up → SendsUp W out up → UpGoes (in_window out) up (widened out up)
     up_widens out (Reading tk sn) u h = let g = window_grows W out tk sn u.behind h in (omega arith, g.0, g.1)
-    up_widens out Read u h = tt
+    up_widens out Repeated u h = tt
 
     up_fits_widened : (out : Outgoing) (up : Up) → out.window ≤ W → out.pieces ≡ t.ask.pieces → UpFits W t.ask up → SendsUp W out up
         → UpFits W t.ask (widened out up)
     up_fits_widened out (Reading tk sn) small is u h =
         subst (λ (ps : List Octets). IsUnderway W tk (sent_to out sn) (length ps)) is
         (window_underway W out tk sn small (subst (λ (ps : List Octets). IsUnderway W tk sn (length ps)) (sym is) u) h)
-    up_fits_widened out Read small is u h = tt
+    up_fits_widened out Repeated small is u h = tt
 
     sends_up_widened : (out : Outgoing) (up : Up) → out.window ≤ W → SendsUp W out up → SendsUp W out (widened out up)
     sends_up_widened out (Reading tk sn) small h = window_sender W out tk sn small h
-    sends_up_widened out Read small h = tt
+    sends_up_widened out Repeated small h = tt
 
     piece_says : (k p : ℕ) (log : List Fact) (out : Outgoing) (up : Up) (down : Down) → t.ask.whole ≡ false → out.window ≤ W → out.pieces ≡ t.ask.pieces
         → SendsUp W out up → out.first ≤ p → p < out.first + in_window out
@@ -353,10 +385,16 @@ module _ (W V : ℕ) (some : 0 < W) (room : V + 2 * W ≤ 255) (c : Settings) (o
       subst (λ (ps : List Octets). IsPiece W ps (sent_to out sn) k (segment_of c.window out.pieces p) (get_or out.pieces p [])) is
           (window_piece W c.window out tk sn k p small h lo hi),
     )
-    piece_says k p log out Read down whole small is h lo hi = (early, whole, refl, tt)
+    piece_says k p log out Repeated down whole small is h lo hi = (
+      early,
+      whole,
+      refl,
+      subst (λ (ps : List Octets). IsPieceOf ps (segment_of c.window out.pieces p) (get_or out.pieces p [])) is
+          (p, piece_at_is c.window out.pieces p (omega arith)),
+    )
 
     -- the window is sent
-    window_goes : (up : Up) (down : Down) → SoundOf W key w t up down → (repeats : ℕ) → IsReadIfRepeated t.ask repeats up
+    window_goes : (up : Up) (down : Down) → SoundOf W key w t up down → (repeats : ℕ) → PassFits t.ask repeats up
         → (out : Outgoing) (all_sent : Bool) → IsSendingFor W t.ask out up down
         → Goes (record t { phase = Sending out all_sent; repeats = repeats; since = w.now }) (client.request_window c key.id t.ask.choice out)
     window_goes up down s repeats passes out all_sent h =
@@ -364,7 +402,7 @@ module _ (W V : ℕ) (some : 0 < W) (room : V + 2 * W ≤ 255) (c : Settings) (o
         (rw pieces_length (up_widens out up s.upload h.sends))
         (down_same (length (client.request_window c key.id t.ask.choice out)) down)
         (record { in_pieces = h.in_pieces; pieces = h.pieces; window = h.window; sends = sends_up_widened out up h.window h.sends; untaken = h.untaken })
-        (repeated_widened t.ask repeats out up passes)
+        (passes_widened t.ask repeats out up passes)
         (server_widened W w.number t.ask out w.log up down w.entry s.server)
         (up_fits_widened out up h.window h.pieces s.upload h.sends)
         s.download
@@ -381,17 +419,18 @@ module _ (W V : ℕ) (some : 0 < W) (room : V + 2 * W ≤ 255) (c : Settings) (o
         → ahead number out.first < in_window out → SendsUp W (moved c.window out number window) up
     moved_up out (Reading tk sn) k number window late small u h ack lt =
         moved_sender c.window W out tk sn number window h (acknowledges_taken V W out tk sn k number room late small u.behind h ack lt)
-    moved_up out Read k number window late small u h ack lt = tt
+    moved_up out Repeated k number window late small u h ack lt = tt
 
     finished_up : (out : Outgoing) (up : Up) → out.pieces ≡ t.ask.pieces → UpFits W t.ask up → SendsUp W out up → is_finished out ≡ true
-        → IsReadIfPieces t.ask up
+        → IsRead t.ask up
     finished_up out (Reading tk sn) is u h e =
         let all : length out.pieces ≤ out.first = grind (arith, nat_tests) in
         let same : length out.pieces ≡ length t.ask.pieces = ap length is in
-        let lt = u.unfinished in
+        let a = u.behind in
+        let b = u.within in
         let le = h.behind in
-        absurd (omega arith)
-    finished_up out Read is u h e = tt
+        inr (omega arith)
+    finished_up out Repeated is u h e = tt
 
     moves_kept : (up : Up) (down : Down) → SoundOf W key w t up down → (out : Outgoing) (all_sent : Bool) → IsSendingFor W t.ask out up down
         → (k number window : ℕ) → k ≤ V → IsAckUp W up k number
@@ -422,9 +461,9 @@ module _ (W V : ℕ) (some : 0 < W) (room : V + 2 * W ≤ 255) (c : Settings) (o
         → IsKept (client.collects readable key.id choice g.number (incoming c.window proposed).window (takes (incoming c.window proposed) g.number g.more o))
     first_piece up Unsent s untaken k late g o e piece choice proposed = absurd piece
     first_piece up (Sent ps tk sn) s untaken k late g o e piece choice proposed =
-        collects_kept up ps tk sn s (incoming c.window proposed) (sym untaken) (ap (λ n. take n ps) (sym untaken)) k late g o piece
+        let some = s.download.some in
+        collects_kept up ps tk sn s (incoming c.window proposed) (sym untaken) (ap (λ n. take n ps) (sym untaken)) (omega arith) k late g o piece
         (λ ne. absurd (ne e)) choice
-    first_piece up Closed s untaken k late g o e piece choice proposed = absurd untaken
 
     -- an answer, where its choice and kind fit
     answer_kept : (up : Up) (down : Down) → SoundOf W key w t up down → (p : reply) → WasPerformed w.number t.ask p w.log → (b : Bool)
@@ -434,7 +473,8 @@ module _ (W V : ℕ) (some : 0 < W) (room : V + 2 * W ≤ 255) (c : Settings) (o
 
     complex_kept : (up : Up) (down : Down) → SoundOf W key w t up down → (octets : Octets) → WasPerformed w.number t.ask (reply.Complex octets) w.log
         → (b : Bool) → IsKept (if b then client.answered_with readable key.id t.ask.choice [] octets else Stays)
-    complex_kept up down s octets h true = answered_kept up down s t.ask.choice [] octets h (λ log. tt) (λ log. (λ j. early, tt))
+    complex_kept up down s octets h true = answered_kept up down s t.ask.choice [] octets h down (λ d. down_same d down) s.server s.download (λ log. tt)
+        (λ log. (λ j. early, tt))
     complex_kept up down s octets h false = (up, down, s)
 
     first_kept : (up : Up) (down : Down) → SoundOf W key w t up down → IsUntaken down → (k : ℕ) → k ≤ V → (g : Segment) (choice : ℕ) (o : Octets)
@@ -475,9 +515,8 @@ module _ (W V : ℕ) (some : 0 < W) (room : V + 2 * W ≤ 255) (c : Settings) (o
         → (g : Segment) (o : Octets) → IsPieceDown W down k g o → (choice : ℕ)
         → IsKept (client.collects readable key.id choice g.number inc.window (takes inc g.number g.more o))
     next_piece up Unsent s inc h k late g o piece choice = absurd h
-    next_piece up (Sent ps tk sn) s inc h k late g o piece choice = collects_kept up ps tk sn s inc h.taken_is h.parts_are k late g o piece
+    next_piece up (Sent ps tk sn) s inc h k late g o piece choice = collects_kept up ps tk sn s inc h.taken_is h.parts_are h.left k late g o piece
         (λ ne. h.some) choice
-    next_piece up Closed s inc h k late g o piece choice = absurd h
 
     next_kept : (up : Up) (down : Down) → SoundOf W key w t up down → (inc : Incoming) → CollectsDown inc down → (k : ℕ) → k ≤ V
         → (g : Segment) (o : Octets) → IsPieceDown W down k g o → (b : Bool)
@@ -502,41 +541,47 @@ module _ (W V : ℕ) (some : 0 < W) (room : V + 2 * W ≤ 255) (c : Settings) (o
     repeats_whole_kept : (up : Up) (down : Down) → SoundOf W key w t up down → t.ask.whole ≡ true → IsKept (client.repeats_whole c key.id t)
     repeats_whole_kept up down s whole = go (nat_eq t.repeats 0)
       where
-        passes : (up : Up) → IsReadIfRepeated t.ask (t.repeats - 1) up
-        passes (Reading tk sn) = inl whole
-        passes Read = tt
+        passes : (up : Up) → PassFits t.ask t.repeats up → PassFits t.ask (t.repeats - 1) up
+        passes (Reading tk sn) h = inl whole
+        passes Repeated h = omega (arith, h)
 
         go : (b : Bool) → IsKept (if b then Ends [] TimedOut else Repeats t.phase (client.request_apdu c key.id t.ask ∷ []))
         go true = ends up down s opened [] TimedOut (was_asked up down s) tt
-        go false = goes_same up down s opened t.phase (t.repeats - 1) w.now (client.request_apdu c key.id t.ask ∷ []) s.client (passes up)
+        go false = goes_same up down s opened t.phase (t.repeats - 1) w.now (client.request_apdu c key.id t.ask ∷ []) s.client (passes up s.passes)
             (λ k. (early, whole, refl, refl), tt)
 
-    repeats_pieces_kept : (up : Up) (down : Down) → SoundOf W key w t up down → IsReadIfPieces t.ask up → IsUntaken down → t.ask.whole ≡ false
+    repeats_pieces_kept : (up : Up) (down : Down) → SoundOf W key w t up down → IsRead t.ask up → IsUntaken down → t.ask.whole ≡ false
         → IsKept (client.repeats_pieces c key.id t)
-    repeats_pieces_kept up down s read untaken whole = go (nat_eq t.repeats 0)
+    repeats_pieces_kept up down s read untaken whole = go (nat_eq t.repeats 0) refl
       where
-        restarts : (up : Up) → IsReadIfPieces t.ask up → SendsUp W (outgoing t.ask.pieces) up
-        restarts (Reading tk sn) h = absurd (cc (whole, h))
-        restarts Read h = tt
+        passes : (up : Up) → PassFits t.ask t.repeats up → nat_eq t.repeats 0 ≡ false → t.repeats - 1 < RETRIES
+        passes (Reading tk sn) (inl is) e = absurd (cc (whole, is))
+        passes (Reading tk sn) (inr is) e = omega arith
+        passes Repeated h e = omega (arith, h)
 
-        passes : (up : Up) → IsReadIfPieces t.ask up → IsReadIfRepeated t.ask (t.repeats - 1) up
-        passes (Reading tk sn) h = inl h
-        passes Read h = tt
+        out : Outgoing
+        out = outgoing t.ask.pieces
 
-        go : (b : Bool) → IsKept (if b then Ends [] TimedOut else Repeats (Sending (outgoing t.ask.pieces) true)
-            (client.request_window c key.id t.ask.choice (outgoing t.ask.pieces)))
-        go true = ends up down s opened [] TimedOut (was_asked up down s) tt
-        go false = window_goes up down s (t.repeats - 1) (passes up read) (outgoing t.ask.pieces) true
-            (record { in_pieces = whole; pieces = refl; window = omega arith; sends = restarts up read; untaken = untaken })
+        sends : List Apdu
+        sends = client.request_window c key.id t.ask.choice out
 
-    repeats_kept : (up : Up) (down : Down) → SoundOf W key w t up down → IsReadIfPieces t.ask up → IsUntaken down → (b : Bool) → t.ask.whole ≡ b
+        go : (b : Bool) → nat_eq t.repeats 0 ≡ b → IsKept (if b then Ends [] TimedOut else Repeats (Sending out true) sends)
+        go true e = ends up down s opened [] TimedOut (was_asked up down s) tt
+        go false e = goes up down s opened (Sending out true) (t.repeats - 1) w.now sends Repeated down (up_repeated (length sends) up)
+            (down_same (length sends) down)
+            (record { in_pieces = whole; pieces = refl; window = omega arith; sends = tt; untaken = untaken }) (passes up s.passes e)
+            (server_repeated W w.number t.ask w.log up down w.entry whole s.upload read s.server) tt s.download
+            (pieces_all (SaysNow Repeated down) (client.request_piece c key.id t.ask.choice out.pieces) out.first (in_window out)
+            (λ p lo hi k. piece_says k p w.log out Repeated down whole (omega arith) refl tt lo hi))
+
+    repeats_kept : (up : Up) (down : Down) → SoundOf W key w t up down → IsRead t.ask up → IsUntaken down → (b : Bool) → t.ask.whole ≡ b
         → IsKept (if b then client.repeats_whole c key.id t else client.repeats_pieces c key.id t)
     repeats_kept up down s read untaken true whole = repeats_whole_kept up down s whole
     repeats_kept up down s read untaken false whole = repeats_pieces_kept up down s read untaken whole
 
     again_up : (out : Outgoing) (n : ℕ) (up : Up) → SendsUp W out up → SendsUp W (record out { retries = n }) up
     again_up out n (Reading tk sn) h = record { behind = h.behind; near = h.near }
-    again_up out n Read h = tt
+    again_up out n Repeated h = tt
 
     sends_again_kept : (up : Up) (down : Down) → SoundOf W key w t up down → (out : Outgoing) (all_sent : Bool) → IsSendingFor W t.ask out up down
         → IsKept (client.sends_again c key.id t.ask.choice all_sent (again out))

@@ -3,7 +3,8 @@ use Rattle.std.proofs.Common.{refl}
 use Rattle.bac_protocol.specs.Examples.{LongReply, LongRequest}
 use Rattle.bac_protocol.specs.Examples.{FourCopies, LostAnswer, LastMoment, TooLate, NothingDelivered, HeldLong, NoSlot, OldCopy, OlderCopy}
 use Rattle.bac_protocol.specs.Examples.{Unreadable, LostAck, OutOfOrder, InTime, OutOfTime, LaterPass, StoppedReply, Sizes, OddAcks, OtherAnswers}
-use Rattle.bac_protocol.specs.Examples.{KeptReply, DroppedEntry}
+use Rattle.bac_protocol.specs.Examples.{KeptReply, DroppedEntry, RequestSizes, LongestRequest, OvertakenCopy, OtherCopies, TwoClients}
+use Rattle.bac_protocol.specs.Examples.{LostAckOfPut, TwoSegments, RefusedReplies, KeptSegments, LongestReassembly, TooLongTransfers}
 
 pub four_copies : FourCopies
 four_copies = refl
@@ -73,3 +74,36 @@ long_reply = (refl, refl, refl)
 
 pub long_request : LongRequest
 long_request = (refl, refl, refl)
+
+pub request_sizes : RequestSizes
+request_sizes = (refl, refl, refl, refl, refl, refl)
+
+pub longest_request : LongestRequest
+longest_request = (refl, refl, refl)
+
+pub overtaken_copy : OvertakenCopy
+overtaken_copy = (refl, refl, refl)
+
+pub other_copies : OtherCopies
+other_copies = (refl, refl)
+
+pub two_clients : TwoClients
+two_clients = (refl, refl, refl, refl, refl, refl, refl)
+
+pub lost_ack_of_put : LostAckOfPut
+lost_ack_of_put = (refl, refl)
+
+pub two_segments : TwoSegments
+two_segments = refl
+
+pub refused_replies : RefusedReplies
+refused_replies = (refl, refl)
+
+pub kept_segments : KeptSegments
+kept_segments = (refl, refl, refl)
+
+pub longest_reassembly : LongestReassembly
+longest_reassembly = (refl, refl, refl, refl, refl)
+
+pub too_long_transfers : TooLongTransfers
+too_long_transfers = (refl, refl)

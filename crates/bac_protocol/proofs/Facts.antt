@@ -11,8 +11,8 @@ use Rattle.bac_protocol.specs.Log.Fact.{Asked, Performed, Ended}
 use Rattle.bac_protocol.specs.Transaction.{Copy, sent}
 use Rattle.bac_protocol.specs.Claims.{EachCopy, IsPiece, IsAck}
 use Rattle.bac_protocol.proofs.Sound.{number_of, IsBelow, Up, Down, IsPieceUp, IsAckUp, IsPieceDown, IsAckDown, server_until, Says, Fits}
-use Rattle.bac_protocol.proofs.Sound.Up.{Reading, Read}
-use Rattle.bac_protocol.proofs.Sound.Down.{Unsent, Sent, Closed}
+use Rattle.bac_protocol.proofs.Sound.Up.{Reading, Repeated}
+use Rattle.bac_protocol.proofs.Sound.Down.{Unsent, Sent}
 
 -- The log.
 
@@ -61,53 +61,29 @@ each_sent P now (a ∷ more) copies h old =
 
 abbrev pub UpGoes : ℕ → Up → Up → Type 0
 UpGoes d (Reading t s) (Reading u r) = (t ≤ u) × (s ≤ r) × (r ≤ s + d)
-UpGoes d (Reading t s) Read = Unit {0}
-UpGoes d Read (Reading u r) = ⊥
-UpGoes d Read Read = Unit {0}
+UpGoes d (Reading t s) Repeated = Unit {0}
+UpGoes d Repeated (Reading u r) = ⊥
+UpGoes d Repeated Repeated = Unit {0}
 
 abbrev pub DownGoes : ℕ → Down → Down → Type 0
 DownGoes d Unsent down = Unit {0}
 DownGoes d (Sent ps t s) Unsent = ⊥
 DownGoes d (Sent ps t s) (Sent qs u r) = (ps ≡ qs) × (t ≤ u) × (s ≤ r) × (r ≤ s + d)
-DownGoes d (Sent ps t s) Closed = Unit {0}
-DownGoes d Closed Unsent = ⊥
-DownGoes d Closed (Sent qs u r) = ⊥
-DownGoes d Closed Closed = Unit {0}
 
 pub up_same : (d : ℕ) (up : Up) → UpGoes d up up
 up_same d (Reading t s) = (omega arith, omega arith, omega arith)
-up_same d Read = tt
+up_same d Repeated = tt
 
-pub up_read : (d : ℕ) (up : Up) → UpGoes d up Read
-up_read d (Reading t s) = tt
-up_read d Read = tt
+pub up_repeated : (d : ℕ) (up : Up) → UpGoes d up Repeated
+up_repeated d (Reading t s) = tt
+up_repeated d Repeated = tt
 
 pub down_same : (d : ℕ) (down : Down) → DownGoes d down down
 down_same d Unsent = tt
 down_same d (Sent ps t s) = (refl, omega arith, omega arith, omega arith)
-down_same d Closed = tt
-
--- no piece of the reply is taken any more
-abbrev pub closed : Down → Down
-closed Unsent = Unsent
-closed (Sent ps t s) = Closed
-closed Closed = Closed
-
-pub down_closed : (d : ℕ) (down : Down) → DownGoes d down (closed down)
-down_closed d Unsent = tt
-down_closed d (Sent ps t s) = tt
-down_closed d Closed = tt
 
 piece_goes : (W d s r k : ℕ) (ps : List Octets) (g : Segment) (o : Octets) → s ≤ r → r ≤ s + d → IsPiece W ps s k g o → IsPiece W ps r (d + k) g o
-piece_goes W d s r k ps g o le far h = record {
-  piece = h.piece;
-  number_is = h.number_is;
-  more_is = h.more_is;
-  octets_is = h.octets_is;
-  below = omega
-      (arith, h.below);
-  near = omega (arith, h.near);
-}
+piece_goes W d s r k ps g o le far h = record { piece = h.piece; is = h.is; below = omega (arith, h.below); near = omega (arith, h.near) }
 
 ack_goes : (W d t u s r k n : ℕ) → t ≤ u → r ≤ s + d → IsAck W t s k n → IsAck W u r (d + k) n
 ack_goes W d t u s r k n le far h = record { piece = h.piece; number_is = h.number_is; below = omega (arith, h.below); near = omega (arith, h.near) }
@@ -115,15 +91,15 @@ ack_goes W d t u s r k n le far h = record { piece = h.piece; number_is = h.numb
 piece_up_goes : (W d k : ℕ) (ask : Ask) (up up' : Up) (g : Segment) (o : Octets) → UpGoes d up up' → IsPieceUp W ask up k g o
     → IsPieceUp W ask up' (d + k) g o
 piece_up_goes W d k ask (Reading t s) (Reading u r) g o go h = piece_goes W d s r k ask.pieces g o go.1 go.2 h
-piece_up_goes W d k ask (Reading t s) Read g o go h = tt
-piece_up_goes W d k ask Read (Reading u r) g o go h = absurd go
-piece_up_goes W d k ask Read Read g o go h = tt
+piece_up_goes W d k ask (Reading t s) Repeated g o go h = (h.piece, h.is)
+piece_up_goes W d k ask Repeated (Reading u r) g o go h = absurd go
+piece_up_goes W d k ask Repeated Repeated g o go h = h
 
 ack_up_goes : (W d k n : ℕ) (up up' : Up) → UpGoes d up up' → IsAckUp W up k n → IsAckUp W up' (d + k) n
 ack_up_goes W d k n (Reading t s) (Reading u r) g h = ack_goes W d t u s r k n g.0 g.2 h
-ack_up_goes W d k n (Reading t s) Read g h = tt
-ack_up_goes W d k n Read (Reading u r) g h = absurd g
-ack_up_goes W d k n Read Read g h = tt
+ack_up_goes W d k n (Reading t s) Repeated g h = tt
+ack_up_goes W d k n Repeated (Reading u r) g h = absurd g
+ack_up_goes W d k n Repeated Repeated g h = tt
 
 piece_down_goes : (W d k : ℕ) (down down' : Down) (g : Segment) (o : Octets) → DownGoes d down down' → IsPieceDown W down k g o
     → IsPieceDown W down' (d + k) g o
@@ -131,19 +107,11 @@ piece_down_goes W d k Unsent down' g o go h = absurd h
 piece_down_goes W d k (Sent ps t s) Unsent g o go h = absurd go
 piece_down_goes W d k (Sent ps t s) (Sent qs u r) g o go h = subst (λ (xs : List Octets). IsPiece W xs r (d + k) g o) go.0
     (piece_goes W d s r k ps g o go.2 go.3 h)
-piece_down_goes W d k (Sent ps t s) Closed g o go h = tt
-piece_down_goes W d k Closed Unsent g o go h = absurd go
-piece_down_goes W d k Closed (Sent qs u r) g o go h = absurd go
-piece_down_goes W d k Closed Closed g o go h = tt
 
 ack_down_goes : (W d k n : ℕ) (down down' : Down) → DownGoes d down down' → IsAckDown W down k n → IsAckDown W down' (d + k) n
 ack_down_goes W d k n Unsent down' g h = absurd h
 ack_down_goes W d k n (Sent ps t s) Unsent g h = absurd g
 ack_down_goes W d k n (Sent ps t s) (Sent qs u r) g h = ack_goes W d t u s r k n g.1 g.3 h
-ack_down_goes W d k n (Sent ps t s) Closed g h = tt
-ack_down_goes W d k n Closed Unsent g h = absurd g
-ack_down_goes W d k n Closed (Sent qs u r) g h = absurd g
-ack_down_goes W d k n Closed Closed g h = tt
 
 -- the log grows
 abbrev pub Grows : List Fact → List Fact → Type 0
@@ -162,14 +130,15 @@ says_goes W d m k number ask log log' up up' down down' grows gu gd (ConfirmedRe
     (h.0, h.1, h.2, piece_up_goes W d k ask up up' g o gu h.3)
 says_goes W d m k number ask log log' up up' down down' grows gu gd (UnconfirmedRequest choice o) h = h
 says_goes W d m k number ask log log' up up' down down' grows gu gd (SimpleAck id choice) h =
-    (h.0, grows (Performed number (request_of ask) reply.Simple) h.1)
+    (h.0, grows (Performed number (request_of ask) reply.Simple) h.1, h.2)
 says_goes W d m k number ask log log' up up' down down' grows gu gd (ComplexAck id None choice o) h =
-    (h.0, grows (Performed number (request_of ask) (reply.Complex o)) h.1)
-says_goes W d m k number ask log log' up up' down down' grows gu gd (ComplexAck id (Some g) choice o) h = (h.0, piece_down_goes W d k down down' g o gd h.1)
+    (h.0, grows (Performed number (request_of ask) (reply.Complex o)) h.1, h.2)
+says_goes W d m k number ask log log' up up' down down' grows gu gd (ComplexAck id (Some g) choice o) h =
+    (h.0, piece_down_goes W d k down down' g o gd h.1, h.2)
 says_goes W d m k number ask log log' up up' down down' grows gu gd (SegmentAck nak true id n win) h = (h.0, ack_up_goes W d k n up up' gu h.1)
 says_goes W d m k number ask log log' up up' down down' grows gu gd (SegmentAck nak false id n win) h = (h.0, ack_down_goes W d k n down down' gd h.1)
 says_goes W d m k number ask log log' up up' down down' grows gu gd (Error id choice class code) h =
-    (h.0, grows (Performed number (request_of ask) (reply.Error class code)) h.1)
+    (h.0, grows (Performed number (request_of ask) (reply.Error class code)) h.1, h.2)
 says_goes W d m k number ask log log' up up' down down' grows gu gd (Reject id r) h = h
 says_goes W d m k number ask log log' up up' down down' grows gu gd (Abort true id r) h = h
 says_goes W d m k number ask log log' up up' down down' grows gu gd (Abort false id r) h = h

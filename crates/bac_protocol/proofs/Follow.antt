@@ -15,7 +15,8 @@ use Rattle.bac_protocol.specs.World.{World, Post, count_of, later, post_of, stor
 use Rattle.bac_protocol.specs.World.Event.{Deliver}
 use Rattle.bac_protocol.specs.Straight.{live_entry, IsLike, Steps, IsMachine, is_ended, is_none_live, Straight, Stops}
 use Rattle.bac_protocol.proofs.Keys.{same_key_self, set_same}
-use Rattle.bac_protocol.proofs.Dead.{IsSameReaction, gets_same, same_of, same_then, same_back}
+use Rattle.bac_protocol.specs.Steps.{IsSameReaction}
+use Rattle.bac_protocol.proofs.Dead.{gets_same, same_of, same_then, same_back}
 use Rattle.bac_protocol.proofs.Queue.{Duo, Leads, Starts, step, served, reacted}
 
 -- Lists of copies.

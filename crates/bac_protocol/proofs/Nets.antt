@@ -17,7 +17,7 @@ use Rattle.bac_protocol.specs.Log.Fact.{Asked, Performed, Ended}
 use Rattle.bac_protocol.specs.Transaction.{Key, Rules, Transaction, ended, performed, client_does, server_does, asked_by}
 use Rattle.bac_protocol.specs.World.{Net, one, set_at, client_acts, server_acts, asked_at, is_key_held, net_start}
 use Rattle.bac_protocol.proofs.Sound.{number_of, IsBelow, IsOrderly, Up, Down, IsKeptFor, IsUnbegun, StateFits, ServerFits, IsOpenIn, IsSoundAt, IsSound}
-use Rattle.bac_protocol.proofs.Sound.Up.{Reading, Read}
+use Rattle.bac_protocol.proofs.Sound.Up.{Reading}
 use Rattle.bac_protocol.proofs.Sound.Down.{Unsent}
 use Rattle.bac_protocol.proofs.Facts.{below_has, says_goes, up_same, down_same, grows_more}
 use Rattle.bac_protocol.proofs.Asks.{IsSpent, spent_fresh, asked_sound, spent_of}
@@ -43,9 +43,9 @@ open_more Over n f log ne h = tt
 
 kept_more : (number : ℕ) (ask : Ask) (f : Fact) (log : List Fact) (a : Apdu) → number_of f ≢ number → IsKeptFor number ask a log
     → IsKeptFor number ask a (f ∷ log)
-kept_more number ask f log (SimpleAck id choice) ne h = inr h
-kept_more number ask f log (ComplexAck id None choice o) ne h = inr h
-kept_more number ask f log (Error id choice class code) ne h = inr h
+kept_more number ask f log (SimpleAck id choice) ne h = (inr h.0, h.1)
+kept_more number ask f log (ComplexAck id None choice o) ne h = (inr h.0, h.1)
+kept_more number ask f log (Error id choice class code) ne h = (inr h.0, h.1)
 kept_more number ask f log (Reject id r) ne h = unperformed_more number f log ne h
 kept_more number ask f log (Abort true id r) ne h = unperformed_more number f log ne h
 kept_more number ask f log _ ne h = absurd h
@@ -59,9 +59,10 @@ state_more : (W number : ℕ) (ask : Ask) (f : Fact) (log : List Fact) (st : Sta
     → StateFits W number ask st up down log → StateFits W number ask st up down (f ∷ log)
 state_more W number ask f log (Receiving inc since) (Reading t s) Unsent ne h =
     record { in_pieces = h.in_pieces; front = h.front; unperformed = unperformed_more number f log ne h.unperformed }
-state_more W number ask f log (Done kept) Read Unsent ne h = kept_more number ask f log kept ne h
-state_more W number ask f log (Giving out transfer since) Read down ne h = record { window = h.window; performed = inr h.performed; sends = h.sends }
-state_more W number ask f log Dropped (Reading t s) Unsent ne h = unperformed_more number f log ne h
+state_more W number ask f log (Done kept) up Unsent ne h = (h.0, kept_more number ask f log kept ne h.1)
+state_more W number ask f log (Giving out transfer since) up down ne h =
+    record { read = h.read; window = h.window; performed = inr h.performed; sends = h.sends }
+state_more W number ask f log Dropped (Reading t s) Unsent ne h = (h.0, unperformed_more number f log ne h.1)
 state_more W number ask f log _ _ _ ne h = absurd h
 
 server_more : (W number : ℕ) (ask : Ask) (f : Fact) (log : List Fact) (up : Up) (down : Down) (o : Option Entry) → number_of f ≢ number

@@ -1,11 +1,12 @@
--- A server's effect has the reply that its service gives, and a tick has none.
-use Rattle.std.proofs.Common.{◌≡◌, ℕ, ◌-◌, Bool, true, false, not, List, [], ◌∷◌, Option, Some, None, if◌then◌else◌, nat_le, nat_eq, refl}
+-- What a step of the server can do: its effect has the reply that its service gives, its entry keeps it, and a live entry stays.
+use Rattle.std.proofs.Common.{◌≡◌, ℕ, ◌-◌, ◌⊎◌, Bool, true, false, not, List, [], ◌∷◌, Option, Some, None, if◌then◌else◌, nat_le, nat_eq, refl, sym, subst}
+use Rattle.std.proofs.Common.{inl, inr, arith, ◌++◌}
 use Rattle.std.specs.Prelude.{is_some}
 use Rattle.bac_apdu.specs.Apdu.{Apdu, Segment}
-use Rattle.bac_apdu.specs.Apdu.Apdu.{ConfirmedRequest, SegmentAck, Abort}
+use Rattle.bac_apdu.specs.Apdu.Apdu.{ConfirmedRequest, SegmentAck, Reject, Abort}
 use Rattle.bac_segment.specs.Pieces.{join}
-use Rattle.bac_segment.specs.Window.{Outgoing, is_finished, acknowledged, again, Incoming, incoming, Taking, takes}
-use Rattle.bac_segment.specs.Window.Taking.{Taken, Complete, Nak, TooLong}
+use Rattle.bac_segment.specs.Window.{Outgoing, outgoing, is_finished, again, resume, Incoming, incoming, takes}
+use Rattle.bac_segment.specs.Window.Taking.{Taken}
 use Rattle.bac_protocol.specs.Times.{WAIT_SEG, T_SEG}
 use Rattle.bac_protocol.specs.Sizes.{Settings}
 use Rattle.bac_protocol.specs.Service.{Octets, Reply, Outcome}
@@ -15,152 +16,331 @@ use Rattle.bac_protocol.specs.Server.{Terms, Transfer, State, Entry, Effect, Rea
 use Rattle.bac_protocol.specs.Server.Transfer.{Running, Stopped, Finished}
 use Rattle.bac_protocol.specs.Server.State.{Receiving, Done, Giving, Dropped}
 use Rattle.bac_protocol.specs.Server.Way.{AtOnce, InPieces, Unsendable}
+use Rattle.bac_protocol.specs.Steps.{IsSameEntry, TransferGoesOn, StateStays, StaysIn, LiveStays}
+use Rattle.bac_protocol.specs.Steps.{IsReceiving, MayPerform, held_by, held_in, IsWholeWith, begin_of, KeepsReply, IsEffect, EffectsAreKept}
+use Rattle.bac_protocol.proofs.Transfer.{moved, acknowledged_cases, with_piece, takes_cases}
+use Rattle.bac_protocol.proofs.Ways.{way_cut}
 
 abbrev pub IsServed : Service → Option Effect → Type 0
 IsServed service None = Unit {0}
 IsServed service (Some x) = service x.request.choice x.request.service ≡ Replies x.reply
 
+-- an effect, of service data of which that holds, in an entry that began then
+pub record IsPerformed (id : ℕ) (service : Service) (P : Octets → Type 0) (begin : ℕ) (x : Effect) (d : Entry) : Type 0 where
+  pub whole : P x.request.service
+  pub began : d.begin ≡ begin
+  pub outcome : service x.request.choice x.request.service ≡ Replies x.reply
+  pub choice : x.request.choice ≡ d.terms.choice
+  pub kept : KeepsReply id d.terms.choice x.reply d.state
+
+-- an effect is kept in the entry
+abbrev pub PerformsIn : (id : ℕ) → Service → (Octets → Type 0) → (begin : ℕ) → Option Effect → Option Entry → Type 0
+PerformsIn id service P begin None new = Unit {0}
+PerformsIn id service P begin (Some x) None = ⊥
+PerformsIn id service P begin (Some x) (Some d) = IsPerformed id service P begin x d
+
+-- How an entry stays.
+
+abbrev SameIn : Entry → Option Entry → Type 0
+SameIn e None = ⊥
+SameIn e (Some d) = IsSameEntry e d
+
+abbrev StaysAs : Entry → State → Option Entry → Type 0
+StaysAs e st None = ⊥
+StaysAs e st (Some d) = IsSameEntry e d × StateStays st d.state
+
+same : (e : Entry) → IsSameEntry e e
+same e = record { begin = refl; terms = refl; request = refl }
+
+becomes : (e : Entry) (st : State) → IsSameEntry e (record e { state = st })
+becomes e st = record { begin = refl; terms = refl; request = refl }
+
+stays : (st : State) → StateStays st st
+stays (Receiving inc since) = tt
+stays (Done kept) = refl
+stays (Giving out transfer since) = (refl, omega arith)
+stays Dropped = refl
+
+receiving_stays : (e : Entry) (inc : Incoming) (since : ℕ) (o : Option Entry) → SameIn e o → StaysAs e (Receiving inc since) o
+receiving_stays e inc since None h = absurd h
+receiving_stays e inc since (Some d) h = (h, tt)
+
+stays_in : (e : Entry) (o : Option Entry) → StaysAs e e.state o → StaysIn e o
+stays_in e None h = absurd h
+stays_in e (Some d) h = h
+
+-- What comes.
 module _ (c : Settings) (id now : ℕ) (service : Service) where
-  abbrev Serves : Reaction → Type 0
-  Serves v = IsServed service v.effect
+  abbrev Performs : (Octets → Type 0) → (begin : ℕ) → Reaction → Type 0
+  Performs P begin v = PerformsIn id service P begin v.effect v.entry
 
-  gives_served : (e : Entry) (sends : List Apdu) (octets : Octets) (p : Reply) → service e.terms.choice octets ≡ Replies p → (way : Way)
-      → Serves (server.gives c id now e sends octets p way)
-  gives_served e sends octets p is AtOnce = is
-  gives_served e sends octets p is (InPieces pieces) = is
-  gives_served e sends octets p is (Unsendable reason) = tt
+  -- the entry stays, and may perform
+  abbrev Serves : (Octets → Type 0) → Entry → Reaction → Type 0
+  Serves P e v = Performs P e.begin v × SameIn e v.entry
 
-  performs_served : (e : Entry) (sends : List Apdu) (octets : Octets) → Serves (server.performs c id now service e sends octets)
-  performs_served e sends octets = go (service e.terms.choice octets) refl
+  -- the entry stays, also as to its state, and performs nothing
+  abbrev Rests : Entry → State → Reaction → Type 0
+  Rests e st v = (v.effect ≡ None) × StaysAs e st v.entry
+
+  gives_served : (P : Octets → Type 0) (e : Entry) (sends : List Apdu) (octets : Octets) → P octets → (p : Reply)
+      → service e.terms.choice octets ≡ Replies p → (way : Way) → server.way_of c e.terms p ≡ way
+      → Serves P e (server.gives c id now e sends octets p way)
+  gives_served P e sends octets h p is AtOnce by = (
+    record { whole = h; began = refl; outcome = is; choice = refl; kept = refl },
+    becomes e (Done (server.reply_apdu id e.terms.choice p)),
+  )
+  gives_served P e sends octets h p is (InPieces pieces) by = (
+    record { whole = h; began = refl; outcome = is; choice = refl; kept = (way_cut c e.terms p pieces by).is },
+    becomes e (Giving (outgoing pieces) Running now),
+  )
+  gives_served P e sends octets h p is (Unsendable reason) by = (tt, becomes e (Done (Abort true id reason)))
+
+  performs_served : (P : Octets → Type 0) (e : Entry) (sends : List Apdu) (octets : Octets) → P octets
+      → Serves P e (server.performs c id now service e sends octets)
+  performs_served P e sends octets h = go (service e.terms.choice octets) refl
     where
-      go : (o : Outcome) → service e.terms.choice octets ≡ o → Serves (server.performs_so c id now e sends octets o)
-      go (Replies p) is = gives_served e sends octets p is (server.way_of c e.terms p)
-      go (Rejects r) is = tt
+      go : (o : Outcome) → service e.terms.choice octets ≡ o → Serves P e (server.performs_so c id now e sends octets o)
+      go (Replies p) is = gives_served P e sends octets h p is (server.way_of c e.terms p) refl
+      go (Rejects r) is = (tt, becomes e (Done (Reject id r)))
 
-  receives_served : (e : Entry) (number window : ℕ) (x : Taking) → Serves (server.receives c id now service e number window x)
-  receives_served e number window (Taken true inc) = tt
-  receives_served e number window (Taken false inc) = tt
-  receives_served e number window (Complete parts) = performs_served e (server.server_ack false id number window ∷ []) (join parts)
-  receives_served e number window (Nak inc) = tt
-  receives_served e number window TooLong = tt
-
-  new_request_served : (dead : Option Entry) (free : Bool) (terms : Terms) (octets : Octets)
-      → Serves (server.new_request c id now service dead free terms octets)
-  new_request_served dead true terms octets = performs_served (server.begins now terms (Some octets)) [] octets
-  new_request_served dead false terms octets = tt
-
-  new_segment_served : (dead : Option Entry) (free : Bool) (terms : Terms) (g : Segment) (octets : Octets)
-      → Serves (server.new_segment c id now service dead free terms g octets)
-  new_segment_served dead free terms g octets = go (nat_eq g.number 0) free
+  receives_served : (P : Octets → Type 0) (e : Entry) (inc : Incoming) (number window : ℕ) (more : Bool) (octets : Octets)
+      → (more ≡ false → P (join (inc.parts ++ octets ∷ []))) → Serves P e (server.receives c id now service e number window (takes inc number more octets))
+  receives_served P e inc number window more octets h =
+      takes_cases inc number more octets (λ x. Serves P e (server.receives c id now service e number window x))
+      (λ ne. (tt, becomes e (Receiving (record inc { unacknowledged = 0 }) now)))
+      (tt, becomes e Dropped)
+      (λ is m. performs_served P e (server.server_ack false id number window ∷ []) (join (inc.parts ++ octets ∷ [])) (h m))
+      (λ is m ack n. by_ack ack n)
     where
-      go : (b d : Bool) → Serves (if not b then server.rests dead [] else if d then server.receives c id now service
+      by_ack : (ack : Bool) (n : ℕ) → Serves P e (server.receives c id now service e number window (Taken ack (with_piece inc octets n)))
+      by_ack true n = (tt, becomes e (Receiving (with_piece inc octets n) now))
+      by_ack false n = (tt, becomes e (Receiving (with_piece inc octets n) now))
+
+  -- no entry is live
+  new_request_served : (P : Octets → Type 0) (dead : Option Entry) (free : Bool) (terms : Terms) (octets : Octets) → P octets
+      → Performs P now (server.new_request c id now service dead free terms octets)
+  new_request_served P dead true terms octets h = (performs_served P (server.begins now terms (Some octets)) [] octets h).0
+  new_request_served P dead false terms octets h = tt
+
+  new_segment_served : (P : Octets → Type 0) (dead : Option Entry) (free : Bool) (terms : Terms) (g : Segment) (octets : Octets)
+      → (g.more ≡ false → P (join (octets ∷ []))) → Performs P now (server.new_segment c id now service dead free terms g octets)
+  new_segment_served P dead free terms g octets h = go (nat_eq g.number 0) free
+    where
+      go : (b d : Bool) → Performs P now (if not b then server.rests dead [] else if d then server.receives c id now service
           (server.begins now terms None) g.number (incoming c.window g.window).window (takes (incoming c.window g.window) g.number g.more octets)
           else server.rests dead (server.abort_0 id ∷ []))
-      go true true = receives_served (server.begins now terms None) g.number (incoming c.window g.window).window
-          (takes (incoming c.window g.window) g.number g.more octets)
+      go true true = (receives_served P (server.begins now terms None) (incoming c.window g.window) g.number (incoming c.window g.window).window g.more
+          octets h).0
       go true false = tt
       go false d = tt
 
-  new_served : (dead : Option Entry) (free : Bool) (a : Apdu) → Serves (server.new_gets c id now service dead free a)
-  new_served dead free (ConfirmedRequest sa ms ma i None choice octets) = new_request_served dead free
-      (record { choice = choice; takes_segments = sa; max_segments = ms; max_apdu = ma }) octets
-  new_served dead free (ConfirmedRequest sa ms ma i (Some g) choice octets) = new_segment_served dead free
-      (record { choice = choice; takes_segments = sa; max_segments = ms; max_apdu = ma }) g octets
+  new_served : (dead : Option Entry) (free : Bool) (a : Apdu) → Performs (IsWholeWith [] a) now (server.new_gets c id now service dead free a)
+  new_served dead free (ConfirmedRequest sa ms ma i None choice octets) =
+      new_request_served (IsWholeWith [] (ConfirmedRequest sa ms ma i None choice octets)) dead free
+      (record { choice = choice; takes_segments = sa; max_segments = ms; max_apdu = ma }) octets refl
+  new_served dead free (ConfirmedRequest sa ms ma i (Some g) choice octets) =
+      new_segment_served (IsWholeWith [] (ConfirmedRequest sa ms ma i (Some g) choice octets)) dead free
+      (record { choice = choice; takes_segments = sa; max_segments = ms; max_apdu = ma }) g octets (λ m. (m, refl))
   new_served dead free _ = tt
 
-  receiving_served : (e : Entry) (inc : Incoming) (since : ℕ) (a : Apdu) → Serves (server.receiving_gets c id now service e inc since a)
+  -- a live one is receiving
+  receiving_served : (e : Entry) (inc : Incoming) (since : ℕ) (a : Apdu)
+      → Serves (IsWholeWith inc.parts a) e (server.receiving_gets c id now service e inc since a)
   receiving_served e inc since (ConfirmedRequest sa ms ma i (Some g) choice octets) = go (nat_le WAIT_SEG (now - since))
     where
-      go : (b : Bool) → Serves (if b then server.becomes e Dropped (server.abort_0 id ∷ []) else server.receives c id now service e g.number inc.window
+      go : (b : Bool) → Serves (IsWholeWith inc.parts (ConfirmedRequest sa ms ma i (Some g) choice octets)) e
+          (if b then server.becomes e Dropped (server.abort_0 id ∷ []) else server.receives c id now service e g.number inc.window
           (takes inc g.number g.more octets))
-      go true = tt
-      go false = receives_served e g.number inc.window (takes inc g.number g.more octets)
-  receiving_served e inc since (Abort false i reason) = tt
-  receiving_served e inc since _ = tt
+      go true = (tt, becomes e Dropped)
+      go false = receives_served (IsWholeWith inc.parts (ConfirmedRequest sa ms ma i (Some g) choice octets)) e inc g.number inc.window g.more octets
+          (λ m. (m, refl))
+  receiving_served e inc since (Abort false i reason) = (tt, becomes e Dropped)
+  receiving_served e inc since _ = (tt, same e)
 
-  done_served : (e : Entry) (kept a : Apdu) → Serves (server.done_gets id e kept a)
-  done_served e kept (ConfirmedRequest sa ms ma i None choice octets) = tt
-  done_served e kept (ConfirmedRequest sa ms ma i (Some g) choice octets) = tt
-  done_served e kept _ = tt
+  -- or it is done or was dropped
+  done_rests : (e : Entry) (kept a : Apdu) → e.state ≡ Done kept → Rests e (Done kept) (server.done_gets id e kept a)
+  done_rests e kept (ConfirmedRequest sa ms ma i None choice octets) is = (refl, (same e, is))
+  done_rests e kept (ConfirmedRequest sa ms ma i (Some g) choice octets) is = (refl, (same e, is))
+  done_rests e kept _ is = (refl, (same e, is))
 
-  resumes_served : (e : Entry) (out : Outgoing) (transfer : Transfer) → Serves (server.resumes c id now e out transfer)
-  resumes_served e out Running = tt
-  resumes_served e out Stopped = tt
-  resumes_served e out Finished = tt
+  dropped_rests : (e : Entry) (a : Apdu) → e.state ≡ Dropped → Rests e Dropped (server.dropped_gets id e a)
+  dropped_rests e (ConfirmedRequest sa ms ma i g choice octets) is = (refl, (same e, is))
+  dropped_rests e _ is = (refl, (same e, is))
 
-  gives_on_served : (e : Entry) (o : Option Outgoing) → Serves (server.gives_on c id now e o)
-  gives_on_served e None = tt
-  gives_on_served e (Some out) = go (is_finished out)
+  -- or it gives its reply
+  module _ (e : Entry) (out : Outgoing) (transfer : Transfer) (since : ℕ) (is : TransferGoesOn out e.state) where
+    resumes_rests : (other : Transfer) → Rests e (Giving out transfer since) (server.resumes c id now e out other)
+    resumes_rests Running = (refl, (same e, is))
+    resumes_rests Stopped = (refl, (becomes e (Giving (resume out) Running now), (refl, omega arith)))
+    resumes_rests Finished = (refl, (same e, is))
+
+    moved_rests : (number window : ℕ)
+        → Rests e (Giving out transfer since) (server.gives_on c id now e (Some (moved c.window out number window)))
+    moved_rests number window = go (is_finished (moved c.window out number window))
+      where
+        go : (b : Bool) → Rests e (Giving out transfer since) (if b then server.becomes e (Giving (moved c.window out number window) Finished now) []
+            else server.gives_window c id now e (moved c.window out number window))
+        go true = (refl, (becomes e (Giving (moved c.window out number window) Finished now), (refl, omega arith)))
+        go false = (refl, (becomes e (Giving (moved c.window out number window) Running now), (refl, omega arith)))
+
+    ack_rests : (other : Transfer) (number window : ℕ)
+        → Rests e (Giving out transfer since) (server.giving_gets_ack c id now e out other number window)
+    ack_rests Running number window = acknowledged_cases c.window out number window
+        (λ x. Rests e (Giving out transfer since) (server.gives_on c id now e x)) (refl, (same e, is)) (λ lt. moved_rests number window)
+    ack_rests Stopped number window = (refl, (same e, is))
+    ack_rests Finished number window = (refl, (same e, is))
+
+    giving_rests : (a : Apdu) → Rests e (Giving out transfer since) (server.giving_gets c id now e out transfer since a)
+    giving_rests (ConfirmedRequest sa ms ma i None choice octets) = go (server.is_kept e e.request choice octets)
+      where
+        go : (b : Bool) → Rests e (Giving out transfer since) (if b then server.resumes c id now e out transfer
+            else server.rests (Some e) (server.abort_0 id ∷ []))
+        go true = resumes_rests transfer
+        go false = (refl, (same e, is))
+    giving_rests (ConfirmedRequest sa ms ma i (Some g) choice octets) = go (is_some e.request)
+      where
+        go : (b : Bool) → Rests e (Giving out transfer since) (if b then server.rests (Some e) (server.abort_0 id ∷ [])
+            else server.resumes c id now e out transfer)
+        go true = (refl, (same e, is))
+        go false = resumes_rests transfer
+    giving_rests (SegmentAck nak false i number window) = ack_rests transfer number window
+    giving_rests (Abort false i reason) = (refl, (becomes e (Giving out Finished since), (refl, omega arith)))
+    giving_rests _ = (refl, (same e, is))
+
+  -- a live entry performs only where it is receiving
+  live_rests : (e : Entry) (st : State) (a : Apdu) → StateStays st e.state → IsReceiving st ⊎ Rests e st (server.live_gets c id now service e st a)
+  live_rests e (Receiving inc since) a is = inl tt
+  live_rests e (Done kept) a is = inr (done_rests e kept a is)
+  live_rests e (Giving out transfer since) a is = inr (giving_rests e out transfer since is a)
+  live_rests e Dropped a is = inr (dropped_rests e a is)
+
+  rests_performs : (P : Octets → Type 0) (e : Entry) (st : State) (v : Reaction) → Rests e st v → Performs P e.begin v × StaysAs e st v.entry
+  rests_performs P e st v h = (subst (λ (o : Option Effect). PerformsIn id service P e.begin o v.entry) (sym h.0) tt, h.1)
+
+  live_served : (e : Entry) (st : State) (a : Apdu) → StateStays st e.state
+      → Performs (IsWholeWith (held_by st) a) e.begin (server.live_gets c id now service e st a)
+      × StaysAs e st (server.live_gets c id now service e st a).entry
+  live_served e (Receiving inc since) a is = let h = receiving_served e inc since a in
+      (h.0, receiving_stays e inc since (server.receiving_gets c id now service e inc since a).entry h.1)
+  live_served e (Done kept) a is = rests_performs (IsWholeWith [] a) e (Done kept) (server.done_gets id e kept a) (done_rests e kept a is)
+  live_served e (Giving out transfer since) a is = rests_performs (IsWholeWith [] a) e (Giving out transfer since)
+      (server.giving_gets c id now e out transfer since a) (giving_rests e out transfer since is a)
+  live_served e Dropped a is = rests_performs (IsWholeWith [] a) e Dropped (server.dropped_gets id e a) (dropped_rests e a is)
+
+  gets_performs : (entry : Option Entry) (free : Bool) (a : Apdu)
+      → Performs (IsWholeWith (held_in now entry) a) (begin_of now entry) (server.server_gets c id now service entry free a)
+  gets_performs None free a = new_served None free a
+  gets_performs (Some e) free a = go (is_live now e)
     where
-      go : (b : Bool) → Serves (if b then server.becomes e (Giving out Finished now) [] else server.gives_window c id now e out)
-      go true = tt
-      go false = tt
-
-  giving_ack_served : (e : Entry) (out : Outgoing) (transfer : Transfer) (number window : ℕ)
-      → Serves (server.giving_gets_ack c id now e out transfer number window)
-  giving_ack_served e out Running number window = gives_on_served e (acknowledged c.window out number window)
-  giving_ack_served e out Stopped number window = tt
-  giving_ack_served e out Finished number window = tt
-
-  giving_served : (e : Entry) (out : Outgoing) (transfer : Transfer) (since : ℕ) (a : Apdu) → Serves (server.giving_gets c id now e out transfer since a)
-  giving_served e out transfer since (ConfirmedRequest sa ms ma i None choice octets) = go (server.is_kept e e.request choice octets)
-    where
-      go : (b : Bool) → Serves (if b then server.resumes c id now e out transfer else server.rests (Some e) (server.abort_0 id ∷ []))
-      go true = resumes_served e out transfer
-      go false = tt
-  giving_served e out transfer since (ConfirmedRequest sa ms ma i (Some g) choice octets) = go (is_some e.request)
-    where
-      go : (b : Bool) → Serves (if b then server.rests (Some e) (server.abort_0 id ∷ []) else server.resumes c id now e out transfer)
-      go true = tt
-      go false = resumes_served e out transfer
-  giving_served e out transfer since (SegmentAck nak false i number window) = giving_ack_served e out transfer number window
-  giving_served e out transfer since (Abort false i reason) = tt
-  giving_served e out transfer since _ = tt
-
-  dropped_served : (e : Entry) (a : Apdu) → Serves (server.dropped_gets id e a)
-  dropped_served e (ConfirmedRequest sa ms ma i g choice octets) = tt
-  dropped_served e _ = tt
-
-  live_served : (e : Entry) (st : State) (a : Apdu) → Serves (server.live_gets c id now service e st a)
-  live_served e (Receiving inc since) a = receiving_served e inc since a
-  live_served e (Done kept) a = done_served e kept a
-  live_served e (Giving out transfer since) a = giving_served e out transfer since a
-  live_served e Dropped a = dropped_served e a
-
-  pub gets_served : (entry : Option Entry) (free : Bool) (a : Apdu) → Serves (server.server_gets c id now service entry free a)
-  gets_served None free a = new_served None free a
-  gets_served (Some e) free a = go (is_live now e)
-    where
-      go : (b : Bool) → Serves (if b then server.live_gets c id now service e e.state a else server.new_gets c id now service (Some e) free a)
-      go true = live_served e e.state a
+      go : (b : Bool) → Performs (IsWholeWith (if b then held_by e.state else []) a) (if b then e.begin else now)
+          (if b then server.live_gets c id now service e e.state a else server.new_gets c id now service (Some e) free a)
+      go true = (live_served e e.state a (stays e.state)).0
       go false = new_served (Some e) free a
+
+  pub live_stays : (e : Entry) (free : Bool) (a : Apdu) → is_live now e ≡ true → StaysIn e (server.server_gets c id now service (Some e) free a).entry
+  live_stays e free a live = go (is_live now e) live
+    where
+      go : (b : Bool) → b ≡ true
+          → StaysIn e (if b then server.live_gets c id now service e e.state a else server.new_gets c id now service (Some e) free a).entry
+      go true is = stays_in e (server.live_gets c id now service e e.state a).entry (live_served e e.state a (stays e.state)).1
+      go false is = absurd cc
+
+  -- who may perform
+  may_perform : (entry : Option Entry) (free : Bool) (a : Apdu) → MayPerform now entry ⊎ ((server.server_gets c id now service entry free a).effect ≡ None)
+  may_perform None free a = inl tt
+  may_perform (Some e) free a = go (is_live now e) refl (live_rests e e.state a (stays e.state))
+    where
+      go : (b : Bool) → is_live now e ≡ b → IsReceiving e.state ⊎ Rests e e.state (server.live_gets c id now service e e.state a)
+          → ((is_live now e ≡ false) ⊎ IsReceiving e.state)
+          ⊎ ((if b then server.live_gets c id now service e e.state a else server.new_gets c id now service (Some e) free a).effect ≡ None)
+      go true is (inl receiving) = inl (inr receiving)
+      go true is (inr rests) = inr rests.0
+      go false is h = inl (inl is)
+
+  is_effect : (entry : Option Entry) (a : Apdu) (x : Effect) (new : Option Entry) → MayPerform now entry
+      → PerformsIn id service (IsWholeWith (held_in now entry) a) (begin_of now entry) (Some x) new → IsEffect id now service entry a x new
+  is_effect entry a x None may h = absurd h
+  is_effect entry a x (Some d) may h = record {
+    before = may;
+    whole = h.whole;
+    outcome = h.outcome;
+    entry = d;
+    after = refl;
+    begin = h.began;
+    choice = h.choice;
+    kept = h.kept;
+  }
+
+  pub effect_kept : (entry : Option Entry) (free : Bool) (a : Apdu) (x : Effect) → (server.server_gets c id now service entry free a).effect ≡ Some x
+      → IsEffect id now service entry a x (server.server_gets c id now service entry free a).entry
+  effect_kept entry free a x is = go (may_perform entry free a)
+    where
+      go : MayPerform now entry ⊎ ((server.server_gets c id now service entry free a).effect ≡ None)
+          → IsEffect id now service entry a x (server.server_gets c id now service entry free a).entry
+      go (inl may) = is_effect entry a x (server.server_gets c id now service entry free a).entry may
+          (subst (λ (o : Option Effect). PerformsIn id service (IsWholeWith (held_in now entry) a) (begin_of now entry) o
+          (server.server_gets c id now service entry free a).entry) is (gets_performs entry free a))
+      go (inr quiet) = absurd cc
+
+  served : (P : Octets → Type 0) (begin : ℕ) (o : Option Effect) (new : Option Entry) → PerformsIn id service P begin o new → IsServed service o
+  served P begin None new h = tt
+  served P begin (Some x) None h = absurd h
+  served P begin (Some x) (Some d) h = h.outcome
+
+  pub gets_served : (entry : Option Entry) (free : Bool) (a : Apdu) → IsServed service (server.server_gets c id now service entry free a).effect
+  gets_served entry free a = served (IsWholeWith (held_in now entry) a) (begin_of now entry) (server.server_gets c id now service entry free a).effect
+      (server.server_gets c id now service entry free a).entry (gets_performs entry free a)
 
 -- A tick.
 module _ (c : Settings) (id now : ℕ) where
-  again_quiet : (e : Entry) (out : Outgoing) (since : ℕ) (o : Option Outgoing) → (server.gives_again c id now e out since o).effect ≡ None
-  again_quiet e out since None = refl
-  again_quiet e out since (Some next) = refl
+  -- the entry stays, also as to its state, and performs nothing
+  abbrev Ticks : Entry → State → Reaction → Type 0
+  Ticks e st v = (v.effect ≡ None) × StaysAs e st v.entry
 
-  live_ticks_quiet : (e : Entry) (st : State) → (server.live_ticks c id now e st).effect ≡ None
-  live_ticks_quiet e (Receiving inc since) = go (nat_le WAIT_SEG (now - since))
+  again_ticks : (e : Entry) (out : Outgoing) (since : ℕ) → Ticks e (Giving out Running since) (server.gives_again c id now e out since (again out))
+  again_ticks e out since = go (nat_eq out.retries 0)
     where
-      go : (b : Bool) → (if b then server.becomes e Dropped [] else server.rests (Some e) []).effect ≡ None
-      go true = refl
-      go false = refl
-  live_ticks_quiet e (Giving out Running since) = go (nat_le T_SEG (now - since))
+      go : (b : Bool) → Ticks e (Giving out Running since)
+          (server.gives_again c id now e out since (if b then None else Some (record out { retries = out.retries - 1 })))
+      go true = (refl, (becomes e (Giving out Stopped since), (refl, omega arith)))
+      go false = (refl, (becomes e (Giving (record out { retries = out.retries - 1 }) Running now), (refl, omega arith)))
+
+  live_ticks : (e : Entry) (st : State) → StateStays st e.state → Ticks e st (server.live_ticks c id now e st)
+  live_ticks e (Receiving inc since) is = go (nat_le WAIT_SEG (now - since))
     where
-      go : (b : Bool) → (if b then server.gives_again c id now e out since (again out) else server.rests (Some e) []).effect ≡ None
-      go true = again_quiet e out since (again out)
-      go false = refl
-  live_ticks_quiet e (Giving out Stopped since) = refl
-  live_ticks_quiet e (Giving out Finished since) = refl
-  live_ticks_quiet e (Done kept) = refl
-  live_ticks_quiet e Dropped = refl
+      go : (b : Bool) → Ticks e (Receiving inc since) (if b then server.becomes e Dropped [] else server.rests (Some e) [])
+      go true = (refl, (becomes e Dropped, tt))
+      go false = (refl, (same e, tt))
+  live_ticks e (Giving out Running since) is = go (nat_le T_SEG (now - since))
+    where
+      go : (b : Bool) → Ticks e (Giving out Running since)
+          (if b then server.gives_again c id now e out since (again out) else server.rests (Some e) [])
+      go true = again_ticks e out since
+      go false = (refl, (same e, is))
+  live_ticks e (Giving out Stopped since) is = (refl, (same e, is))
+  live_ticks e (Giving out Finished since) is = (refl, (same e, is))
+  live_ticks e (Done kept) is = (refl, (same e, is))
+  live_ticks e Dropped is = (refl, (same e, is))
+
+  entry_ticks : (e : Entry) → Ticks e e.state (server.server_ticks c id now (Some e))
+  entry_ticks e = go (is_live now e)
+    where
+      go : (b : Bool) → Ticks e e.state (if b then server.live_ticks c id now e e.state else server.rests (Some e) [])
+      go true = live_ticks e e.state (stays e.state)
+      go false = (refl, (same e, stays e.state))
 
   pub ticks_quiet : (entry : Option Entry) → (server.server_ticks c id now entry).effect ≡ None
   ticks_quiet None = refl
-  ticks_quiet (Some e) = go (is_live now e)
-    where
-      go : (b : Bool) → (if b then server.live_ticks c id now e e.state else server.rests (Some e) []).effect ≡ None
-      go true = live_ticks_quiet e e.state
-      go false = refl
+  ticks_quiet (Some e) = (entry_ticks e).0
+
+pub live_stays_law : LiveStays
+live_stays_law = record {
+  gets = λ c id now service e free a live. live_stays c id now service e free a live;
+  ticks = λ c id now e live. stays_in e (server.server_ticks c id now (Some e)).entry (entry_ticks c id now e).1;
+}
+
+pub effects_are_kept : EffectsAreKept
+effects_are_kept = record {
+  gets = λ c id now service entry free a x is. effect_kept c id now service entry free a x is;
+  ticks = λ c id now entry. ticks_quiet c id now entry;
+}

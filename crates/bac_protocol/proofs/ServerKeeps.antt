@@ -25,16 +25,16 @@ use Rattle.bac_protocol.specs.Server.Way.{AtOnce, InPieces, Unsendable}
 use Rattle.bac_protocol.specs.Log.{Fact, Has, IsUnperformed}
 use Rattle.bac_protocol.specs.Log.Fact.{Asked, Performed}
 use Rattle.bac_protocol.specs.Transaction.{Key, Transaction, server_does}
-use Rattle.bac_protocol.specs.Claims.{IsPiece, IsAck}
-use Rattle.bac_protocol.proofs.Sound.{IsUnderway, IsFront, Up, Down, IsAckDown, server_until, WasPerformed, Says, IsUntaken, ClientFits}
-use Rattle.bac_protocol.proofs.Sound.{IsReadIfRepeated, IsKeptFor, IsUnbegun, IsReceivingFor, SendsDown, IsGivingFor, StateFits, ServerFits, UpFits}
-use Rattle.bac_protocol.proofs.Sound.{DownFits, IsOpenIn, Sound, IsSound}
-use Rattle.bac_protocol.proofs.Sound.Up.{Reading, Read}
-use Rattle.bac_protocol.proofs.Sound.Down.{Unsent, Sent, Closed}
-use Rattle.bac_protocol.proofs.Facts.{below_has, UpGoes, DownGoes, up_same, up_read, down_same, grows_same, grows_more, copies_go}
+use Rattle.bac_protocol.specs.Claims.{WasPerformed, IsPiece, IsAck}
+use Rattle.bac_protocol.proofs.Sound.{IsUnderway, IsFront, Up, Down, IsAckDown, server_until, Says, IsUntaken, IsRead, PassFits, ClientFits, IsKeptFor}
+use Rattle.bac_protocol.proofs.Sound.{IsUnbegun, IsReceivingFor, SendsDown, IsGivingFor, StateFits, ServerFits, UpFits, DownFits, IsOpenIn, Sound, IsSound}
+use Rattle.bac_protocol.proofs.Sound.Up.{Reading}
+use Rattle.bac_protocol.proofs.Sound.Down.{Unsent, Sent}
+use Rattle.bac_protocol.proofs.Facts.{below_has, UpGoes, DownGoes, up_same, down_same, grows_same, grows_more, copies_go}
 use Rattle.bac_protocol.proofs.Facts.{pieces_all, pieces_length}
 use Rattle.bac_protocol.proofs.Transfer.{moved, acknowledged_cases, acknowledges_taken, moved_sender, sent_to, window_underway, window_sender}
-use Rattle.bac_protocol.proofs.Transfer.{window_grows, window_piece, with_piece, takes_cases, takes_below, takes_left, takes_front, takes_all}
+use Rattle.bac_protocol.proofs.Transfer.{window_grows, piece_at_is, window_piece, with_piece, takes_cases, takes_below, takes_left}
+use Rattle.bac_protocol.proofs.Transfer.{takes_end, takes_front, takes_all}
 use Rattle.bac_protocol.proofs.Ways.{way_cut}
 
 all_join : (Q : Apdu → Type 0) (xs ys : List Apdu) → Each Q xs → Each Q ys → Each Q (xs ++ ys)
@@ -43,17 +43,10 @@ all_join Q (x ∷ xs) ys h k = (h.0, all_join Q xs ys h.1 k)
 
 -- The client's side as the server's ghosts move.
 
--- nothing is read of the request any more
-client_read : (W : ℕ) (ask : Ask) (phase : Phase) (up : Up) (down : Down) → ClientFits W ask phase up down → ClientFits W ask phase Read down
-client_read W ask (Sending out all_sent) up down h = record { in_pieces = h.in_pieces; pieces = h.pieces; window = h.window; sends = tt; untaken = h.untaken }
-client_read W ask Awaiting up down h = (tt, h.1)
-client_read W ask (Collecting inc) up down h = h
-client_read W ask Over up down h = h
-
 -- the next piece of the request was taken
-client_up : (W : ℕ) (ask : Ask) (tk sn : ℕ) (phase : Phase) (down : Down) → ClientFits W ask phase (Reading tk sn) down
+client_up : (W : ℕ) (ask : Ask) (tk sn : ℕ) (phase : Phase) (down : Down) → tk < length ask.pieces → ClientFits W ask phase (Reading tk sn) down
     → ClientFits W ask phase (Reading (tk + 1) sn) down
-client_up W ask tk sn (Sending out all_sent) down h =
+client_up W ask tk sn (Sending out all_sent) down lt h =
     record {
       in_pieces = h.in_pieces;
       pieces = h.pieces;
@@ -61,48 +54,28 @@ client_up W ask tk sn (Sending out all_sent) down h =
       sends = record { behind = omega (arith, h.sends.behind); near = h.sends.near };
       untaken = h.untaken;
     }
-client_up W ask tk sn Awaiting down h = h
-client_up W ask tk sn (Collecting inc) down h = h
-client_up W ask tk sn Over down h = h
+client_up W ask tk sn Awaiting down lt h = (read h.0, h.1)
+  where
+    read : IsRead ask (Reading tk sn) → IsRead ask (Reading (tk + 1) sn)
+    read (inl whole) = inl whole
+    read (inr is) = absurd (omega arith)
+client_up W ask tk sn (Collecting inc) down lt h = h
+client_up W ask tk sn Over down lt h = h
 
--- a reply in pieces begins, for a ticket in that phase
-abbrev pub opened : Phase → List Octets → Down
-opened (Sending out all_sent) ps = Sent ps 0 1
-opened Awaiting ps = Sent ps 0 1
-opened (Collecting inc) ps = Sent ps 0 1
-opened Over ps = Closed
-
+-- a reply in pieces begins
 client_opened : (W : ℕ) (ask : Ask) (ps : List Octets) (phase : Phase) (up : Up) → ClientFits W ask phase up Unsent
-    → ClientFits W ask phase Read (opened phase ps)
-client_opened W ask ps (Sending out all_sent) up h = record { in_pieces = h.in_pieces; pieces = h.pieces; window = h.window; sends = tt; untaken = refl }
-client_opened W ask ps Awaiting up h = (tt, refl)
+    → ClientFits W ask phase up (Sent ps 0 1)
+client_opened W ask ps (Sending out all_sent) up h =
+    record { in_pieces = h.in_pieces; pieces = h.pieces; window = h.window; sends = h.sends; untaken = refl }
+client_opened W ask ps Awaiting up h = (h.0, refl)
 client_opened W ask ps (Collecting inc) up h = absurd h
 client_opened W ask ps Over up h = h
 
 begins_underway : (W n : ℕ) → 0 < W → 0 < n → IsUnderway W 0 1 n
-begins_underway W n some any = record { behind = omega arith; near = omega arith; within = omega arith; unfinished = omega arith }
+begins_underway W n some any = record { behind = omega arith; near = omega arith; within = omega arith; some = any }
 
-down_opened : (W : ℕ) → 0 < W → (phase : Phase) (ps : List Octets) → 0 < length ps → DownFits W (opened phase ps)
-down_opened W some (Sending out all_sent) ps any = begins_underway W (length ps) some any
-down_opened W some Awaiting ps any = begins_underway W (length ps) some any
-down_opened W some (Collecting inc) ps any = begins_underway W (length ps) some any
-down_opened W some Over ps any = tt
-
-sends_opened : (W : ℕ) → 0 < W → (phase : Phase) (ps : List Octets) → SendsDown W (outgoing ps) (opened phase ps)
-sends_opened W some (Sending out all_sent) ps = (refl, record { behind = omega arith; near = omega arith })
-sends_opened W some Awaiting ps = (refl, record { behind = omega arith; near = omega arith })
-sends_opened W some (Collecting inc) ps = (refl, record { behind = omega arith; near = omega arith })
-sends_opened W some Over ps = tt
-
-first_piece : (W own k : ℕ) (ps : List Octets) → IsPiece W ps 1 k (segment_of own ps 0) (piece_at ps 0)
-first_piece W own k ps = record { piece = 0; number_is = refl; more_is = refl; octets_is = refl; below = omega arith; near = omega arith }
-
-piece_opened : (W number now k id choice : ℕ) (c : Settings) (ask : Ask) (log : List Fact) (phase : Phase) (ps : List Octets) → now ≤ server_until ask
-    → Says W number ask log Read (opened phase ps) now k (server.reply_piece c id choice ps 0)
-piece_opened W number now k id choice c ask log (Sending out all_sent) ps late = (late, first_piece W c.window k ps)
-piece_opened W number now k id choice c ask log Awaiting ps late = (late, first_piece W c.window k ps)
-piece_opened W number now k id choice c ask log (Collecting inc) ps late = (late, first_piece W c.window k ps)
-piece_opened W number now k id choice c ask log Over ps late = (late, tt)
+first_piece : (W own k : ℕ) (ps : List Octets) → 0 < length ps → IsPiece W ps 1 k (segment_of own ps 0) (piece_at ps 0)
+first_piece W own k ps some = record { piece = 0; is = piece_at_is own ps 0 some; below = omega arith; near = omega arith }
 
 unended_performed : (phase : Phase) (n : ℕ) (f : Fact) (log : List Fact) → (x : Effect) → f ≡ Performed n x.request x.reply → IsOpenIn phase n log
     → IsOpenIn phase n (Performed n x.request x.reply ∷ log)
@@ -114,47 +87,42 @@ unended_performed Over n f log x e h = h
 -- what is kept is said again
 kept_says : (W number now k : ℕ) (ask : Ask) (a : Apdu) (log : List Fact) (up : Up) (down : Down) → now ≤ server_until ask → IsKeptFor number ask a log
     → Says W number ask log up down now k a
-kept_says W number now k ask (SimpleAck id choice) log up down late h = (late, h)
-kept_says W number now k ask (ComplexAck id None choice o) log up down late h = (late, h)
-kept_says W number now k ask (Error id choice class code) log up down late h = (late, h)
+kept_says W number now k ask (SimpleAck id choice) log up down late h = (late, h.0, h.1)
+kept_says W number now k ask (ComplexAck id None choice o) log up down late h = (late, h.0, h.1)
+kept_says W number now k ask (Error id choice class code) log up down late h = (late, h.0, h.1)
 kept_says W number now k ask (Reject id r) log up down late h = late
 kept_says W number now k ask (Abort true id r) log up down late h = late
 kept_says W number now k ask _ log up down late h = absurd h
 
-reply_kept : (number id choice : ℕ) (ask : Ask) (log : List Fact) (p : reply) → WasPerformed number ask p log
+reply_kept : (number id choice : ℕ) (ask : Ask) (log : List Fact) (p : reply) → choice ≡ ask.choice → WasPerformed number ask p log
     → IsKeptFor number ask (server.reply_apdu id choice p) log
-reply_kept number id choice ask log reply.Simple h = h
-reply_kept number id choice ask log (reply.Complex o) h = h
-reply_kept number id choice ask log (reply.Error class code) h = h
+reply_kept number id choice ask log reply.Simple is h = (h, is)
+reply_kept number id choice ask log (reply.Complex o) is h = (h, is)
+reply_kept number id choice ask log (reply.Error class code) is h = (h, is)
 
 -- The reply in pieces.
 
 abbrev pub down_widened : Outgoing → Down → Down
 down_widened out Unsent = Unsent
 down_widened out (Sent ps t s) = Sent ps t (sent_to out s)
-down_widened out Closed = Closed
 
 down_widens : (W : ℕ) (out : Outgoing) (down : Down) → DownFits W down → SendsDown W out down → DownGoes (in_window out) down (down_widened out down)
 down_widens W out Unsent u h = absurd h
 down_widens W out (Sent ps t s) u h = let g = window_grows W out t s u.behind h.1 in (refl, omega arith, g.0, g.1)
-down_widens W out Closed u h = tt
 
 down_fits_widened : (W : ℕ) (out : Outgoing) (down : Down) → out.window ≤ W → DownFits W down → SendsDown W out down → DownFits W (down_widened out down)
 down_fits_widened W out Unsent small u h = tt
 down_fits_widened W out (Sent ps t s) small u h =
     subst (λ (qs : List Octets). IsUnderway W t (sent_to out s) (length qs)) h.0
     (window_underway W out t s small (subst (λ (qs : List Octets). IsUnderway W t s (length qs)) (sym h.0) u) h.1)
-down_fits_widened W out Closed small u h = tt
 
 sends_down_widened : (W : ℕ) (out : Outgoing) (down : Down) → out.window ≤ W → SendsDown W out down → SendsDown W out (down_widened out down)
 sends_down_widened W out Unsent small h = h
 sends_down_widened W out (Sent ps t s) small h = (h.0, window_sender W out t s small h.1)
-sends_down_widened W out Closed small h = tt
 
 untaken_widened : (out : Outgoing) (down : Down) → IsUntaken down → IsUntaken (down_widened out down)
 untaken_widened out Unsent h = h
 untaken_widened out (Sent ps t s) h = h
-untaken_widened out Closed h = h
 
 client_down_widened : (W : ℕ) (ask : Ask) (out : Outgoing) (phase : Phase) (up : Up) (down : Down) → ClientFits W ask phase up down
     → ClientFits W ask phase up (down_widened out down)
@@ -163,7 +131,6 @@ client_down_widened W ask out (Sending out' all_sent) up down h =
 client_down_widened W ask out Awaiting up down h = (h.0, untaken_widened out down h.1)
 client_down_widened W ask out (Collecting inc) up Unsent h = h
 client_down_widened W ask out (Collecting inc) up (Sent ps t s) h = h
-client_down_widened W ask out (Collecting inc) up Closed h = h
 client_down_widened W ask out Over up down h = tt
 
 -- One transaction, whose ticket is t.
@@ -182,7 +149,7 @@ module _ (W V : ℕ) (some : 0 < W) (room : V + 2 * W ≤ 255) (c : Settings) (o
   -- an entry is as it is, or new, and nothing was performed
   serves : (o : Option Entry) (up : Up) (down : Down) → SoundWith o up down → (entry : Option Entry) (sends : List Apdu) (up' : Up) (down' : Down)
       → UpGoes (length sends) up up' → DownGoes (length sends) down down'
-      → ClientFits W t.ask t.phase up' down' → IsReadIfRepeated t.ask t.repeats up' → ServerFits W w.number t.ask entry up' down' w.log
+      → ClientFits W t.ask t.phase up' down' → PassFits t.ask t.repeats up' → ServerFits W w.number t.ask entry up' down' w.log
       → UpFits W t.ask up' → DownFits W down'
       → Each (SaysNow w.log up' down') sends
       → IsKept (server.rests entry sends)
@@ -217,8 +184,9 @@ module _ (W V : ℕ) (some : 0 < W) (room : V + 2 * W ≤ 255) (c : Settings) (o
     -- The request is performed, in the entry e.
     module _ (o : Option Entry) (up : Up) (s : SoundWith o up Unsent) (un : IsUnperformed w.number w.log) (e : Entry) (after : t.ask.first ≤ e.begin)
         (before : e.begin ≤ t.ask.first + DEADLINE + LIFE) (chosen : e.terms.choice ≡ t.ask.choice)
-        (octets : Octets) (same : octets ≡ join t.ask.pieces) (acks : List Apdu)
-        (acks_say : (log : List Fact) (down : Down) → Each (SaysNow log Read down) acks) where
+        (octets : Octets) (same : octets ≡ join t.ask.pieces) (up' : Up) (gu : (d : ℕ) → UpGoes d up up') (read : IsRead t.ask up')
+        (client' : ClientFits W t.ask t.phase up' Unsent) (passes' : PassFits t.ask t.repeats up') (upload' : UpFits W t.ask up') (acks : List Apdu)
+        (acks_say : (log : List Fact) (down : Down) → Each (SaysNow log up' down) acks) where
       abbrev effect : reply → Effect
       effect p = record { request = record { choice = e.terms.choice; service = octets }; reply = p }
 
@@ -233,12 +201,12 @@ module _ (W V : ℕ) (some : 0 < W) (room : V + 2 * W ≤ 255) (c : Settings) (o
 
       -- it goes on as down'
       effect_kept : (p : reply) (state : State) (sends : List Apdu) (down' : Down)
-          → StateFits W w.number t.ask state Read down' (log_with p)
-          → ClientFits W t.ask t.phase Read down' → DownFits W down'
-          → Each (SaysNow (log_with p) Read down') sends
+          → StateFits W w.number t.ask state up' down' (log_with p)
+          → ClientFits W t.ask t.phase up' down' → DownFits W down'
+          → Each (SaysNow (log_with p) up' down') sends
           → IsKept (record { entry = Some (record e { state = state }); sends = sends; effect = Some (effect p) })
       effect_kept p state sends down' fits client download says = (
-        Read,
+        up',
         down',
         record {
           clock = s.clock;
@@ -248,46 +216,44 @@ module _ (W V : ℕ) (some : 0 < W) (room : V + 2 * W ≤ 255) (c : Settings) (o
           asked = inr s.asked;
           unended = unended_performed t.phase w.number (Performed w.number (effect p).request p) w.log (effect p) refl s.unended;
           client = client;
-          passes = tt;
+          passes = passes';
           server = inr (record { after = after; before = before; choice = chosen; state = fits });
-          upload = tt;
+          upload = upload';
           download = download;
-          arriving = copies_go W w.now w.number t.ask w.log (log_with p) up Read Unsent down' sends w.copies
-              (grows_more (Performed w.number (effect p).request p) w.log) (up_read (length sends) up) tt s.clock says s.arriving;
+          arriving = copies_go W w.now w.number t.ask w.log (log_with p) up up' Unsent down' sends w.copies
+              (grows_more (Performed w.number (effect p).request p) w.log) (gu (length sends)) tt s.clock says s.arriving;
         },
       )
 
       -- an Abort or a Reject is kept, and nothing was performed
       refusal_kept : (a : Apdu) → IsKeptFor w.number t.ask a w.log → IsKept (server.becomes e (Done a) (acks ++ a ∷ []))
       refusal_kept a h =
-          serves o up Unsent s (Some (record e { state = Done a })) (acks ++ a ∷ []) Read Unsent (up_read (length (acks ++ a ∷ [])) up) tt
-          (client_read W t.ask t.phase up Unsent s.client) tt
-          (inr (record { after = after; before = before; choice = chosen; state = h })) tt tt
-          (all_join (SaysNow w.log Read Unsent) acks (a ∷ []) (acks_say w.log Unsent)
-          ((λ k. kept_says W w.number w.now k t.ask a w.log Read Unsent late h), tt))
+          serves o up Unsent s (Some (record e { state = Done a })) (acks ++ a ∷ []) up' Unsent (gu (length (acks ++ a ∷ []))) tt client' passes'
+          (inr (record { after = after; before = before; choice = chosen; state = (read, h) })) upload' tt
+          (all_join (SaysNow w.log up' Unsent) acks (a ∷ []) (acks_say w.log Unsent)
+          ((λ k. kept_says W w.number w.now k t.ask a w.log up' Unsent late h), tt))
 
       gives_kept : (p : reply) (way : Way) → server.way_of c e.terms p ≡ way → IsKept (server.gives c key.id w.now e acks octets p way)
       gives_kept p AtOnce is =
           let a = server.reply_apdu key.id e.terms.choice p in
-          let kept = reply_kept w.number key.id e.terms.choice t.ask (log_with p) p (performed_is p) in
-          effect_kept p (Done a) (acks ++ a ∷ []) Unsent kept (client_read W t.ask t.phase up Unsent s.client) tt
-          (all_join (SaysNow (log_with p) Read Unsent) acks (a ∷ []) (acks_say (log_with p) Unsent)
-          ((λ k. kept_says W w.number w.now k t.ask a (log_with p) Read Unsent late kept), tt))
+          let kept = reply_kept w.number key.id e.terms.choice t.ask (log_with p) p chosen (performed_is p) in
+          effect_kept p (Done a) (acks ++ a ∷ []) Unsent (read, kept) client' tt
+          (all_join (SaysNow (log_with p) up' Unsent) acks (a ∷ []) (acks_say (log_with p) Unsent)
+          ((λ k. kept_says W w.number w.now k t.ask a (log_with p) up' Unsent late kept), tt))
       gives_kept p (InPieces ps) is =
           let a = server.reply_piece c key.id e.terms.choice ps 0 in
           let cut = way_cut c e.terms p ps is in
-          let down' = opened t.phase ps in
-          effect_kept p (Giving (outgoing ps) Running w.now) (acks ++ a ∷ []) down'
+          effect_kept p (Giving (outgoing ps) Running w.now) (acks ++ a ∷ []) (Sent ps 0 1)
           (record {
+            read = read;
             window = omega arith;
             performed = subst (λ q. WasPerformed w.number t.ask q (log_with p)) cut.is (performed_is p);
-            sends =
-                sends_opened W some t.phase ps;
+            sends = (refl, record { behind = omega arith; near = omega arith });
           })
-          (client_opened W t.ask ps t.phase up s.client)
-          (down_opened W some t.phase ps cut.some)
-          (all_join (SaysNow (log_with p) Read down') acks (a ∷ []) (acks_say (log_with p) down')
-          ((λ k. piece_opened W w.number w.now k key.id e.terms.choice c t.ask (log_with p) t.phase ps late), tt))
+          (client_opened W t.ask ps t.phase up' client')
+          (begins_underway W (length ps) some cut.some)
+          (all_join (SaysNow (log_with p) up' (Sent ps 0 1)) acks (a ∷ []) (acks_say (log_with p) (Sent ps 0 1))
+          ((λ k. (late, first_piece W c.window k ps cut.some, chosen)), tt))
       gives_kept p (Unsendable reason) is = refusal_kept (Abort true key.id reason) un
 
       so_kept : (x : Outcome) → IsKept (server.performs_so c key.id w.now e acks octets x)
@@ -300,8 +266,9 @@ module _ (W V : ℕ) (some : 0 < W) (room : V + 2 * W ≤ 255) (c : Settings) (o
     -- A piece of the request comes to the entry e, which has taken tk of them.
     module _ (o : Option Entry) (tk sn : ℕ) (s : SoundWith o (Reading tk sn) Unsent) (un : IsUnperformed w.number w.log) (whole : t.ask.whole ≡ false)
         (e : Entry) (after : t.ask.first ≤ e.begin) (before : e.begin ≤ t.ask.first + DEADLINE + LIFE) (chosen : e.terms.choice ≡ t.ask.choice)
-        (inc : Incoming) (taken : length inc.parts ≡ tk) (parts : inc.parts ≡ take tk t.ask.pieces) (k : ℕ) (soon : k ≤ V) (g : Segment) (octets : Octets)
-        (piece : IsPiece W t.ask.pieces sn k g octets) (first : g.number ≢ length inc.parts % 256 → 0 < tk) where
+        (inc : Incoming) (taken : length inc.parts ≡ tk) (parts : inc.parts ≡ take tk t.ask.pieces) (left : tk < length t.ask.pieces) (k : ℕ)
+        (soon : k ≤ V) (g : Segment) (octets : Octets) (piece : IsPiece W t.ask.pieces sn k g octets)
+        (first : g.number ≢ length inc.parts % 256 → 0 < tk) where
       number_is : g.number ≡ length inc.parts % 256 → g.number ≡ tk % 256
       number_is eq = eq ∙ ap (λ x. x % 256) taken
 
@@ -309,12 +276,11 @@ module _ (W V : ℕ) (some : 0 < W) (room : V + 2 * W ≤ 255) (c : Settings) (o
       nak_ack pos j = let near = s.upload.near in record
           { piece = tk - 1; number_is = ap (λ x. (x - 1) % 256) taken; below = omega arith; near = omega arith }
 
-      under : g.number ≡ length inc.parts % 256 → g.more ≡ true → IsUnderway W (tk + 1) sn (length t.ask.pieces)
-      under eq m =
+      under : g.number ≡ length inc.parts % 256 → IsUnderway W (tk + 1) sn (length t.ask.pieces)
+      under eq =
           let lt = takes_below V W some room t.ask.pieces tk sn k soon s.upload g octets piece (number_is eq) in
-          let left = takes_left V W some room t.ask.pieces tk sn k soon s.upload g octets piece (number_is eq) m in
           let near = s.upload.near in
-          record { behind = omega arith; near = omega arith; within = s.upload.within; unfinished = left }
+          record { behind = omega arith; near = omega arith; within = s.upload.within; some = s.upload.some }
 
       next_ack : g.number ≡ length inc.parts % 256 → (j : ℕ) → IsAck W (tk + 1) sn j g.number
       next_ack eq j = let near = s.upload.near in record { piece = tk; number_is = number_is eq; below = omega arith; near = omega arith }
@@ -323,10 +289,11 @@ module _ (W V : ℕ) (some : 0 < W) (room : V + 2 * W ≤ 255) (c : Settings) (o
       length_more [] y = refl
       length_more (x ∷ xs) y = let h = length_more xs y in omega arith
 
-      front : g.number ≡ length inc.parts % 256 → (n : ℕ) → IsFront t.ask.pieces (with_piece inc octets n) (tk + 1)
-      front eq n = record {
+      front : g.number ≡ length inc.parts % 256 → g.more ≡ true → (n : ℕ) → IsFront t.ask.pieces (with_piece inc octets n) (tk + 1)
+      front eq m n = record {
         taken_is = length_more inc.parts octets ∙ ap (λ x. x + 1) taken;
         some = omega arith;
+        left = takes_left V W some room t.ask.pieces tk sn k soon s.upload g octets piece (number_is eq) m;
         parts_are = takes_front V W some room t.ask.pieces tk sn k soon s.upload g octets piece (number_is eq) inc.parts parts;
       }
 
@@ -334,9 +301,9 @@ module _ (W V : ℕ) (some : 0 < W) (room : V + 2 * W ≤ 255) (c : Settings) (o
           → Each (SaysNow w.log (Reading (tk + 1) sn) Unsent) sends → IsKept (server.becomes e (Receiving (with_piece inc octets n) w.now) sends)
       next sends eq m n says = serves o (Reading tk sn) Unsent s (Some (record e { state = Receiving (with_piece inc octets n) w.now })) sends
           (Reading (tk + 1) sn) Unsent
-          (omega arith, omega arith, omega arith) tt (client_up W t.ask tk sn t.phase Unsent s.client) s.passes
-          (inr (record { after = after; before = before; choice = chosen; state = record { in_pieces = whole; front = front eq n; unperformed = un } }))
-          (under eq m) tt says
+          (omega arith, omega arith, omega arith) tt (client_up W t.ask tk sn t.phase Unsent left s.client) s.passes
+          (inr (record { after = after; before = before; choice = chosen; state = record { in_pieces = whole; front = front eq m n; unperformed = un } }))
+          (under eq) tt says
 
       goes_on : g.number ≡ length inc.parts % 256 → g.more ≡ true → (ack : Bool) (n : ℕ)
           → IsKept (server.receives c key.id w.now service e g.number inc.window (Taken ack (with_piece inc octets n)))
@@ -353,14 +320,17 @@ module _ (W V : ℕ) (some : 0 < W) (room : V + 2 * W ≤ 255) (c : Settings) (o
             before = before;
             choice = chosen;
             state =
-                record { in_pieces = whole; front = record { taken_is = taken; some = first ne; parts_are = parts }; unperformed = un };
+                record { in_pieces = whole; front = record { taken_is = taken; some = first ne; left = left; parts_are = parts }; unperformed = un };
           }))
           (λ j. (late, nak_ack (first ne) j), tt))
           (serves_same o (Reading tk sn) Unsent s (Some (record e { state = Dropped })) (Abort true key.id 1 ∷ [])
-          (inr (record { after = after; before = before; choice = chosen; state = un })) (λ j. late, tt))
+          (inr (record { after = after; before = before; choice = chosen; state = (left, un) })) (λ j. late, tt))
           (λ eq m. performs_kept o (Reading tk sn) s un e after before chosen (join (inc.parts ++ octets ∷ []))
           (ap join (takes_all V W some room t.ask.pieces tk sn k soon s.upload g octets piece (number_is eq) inc.parts parts m))
-          (server.server_ack false key.id g.number inc.window ∷ []) (λ log down. (λ j. (late, tt), tt)))
+          (Reading (tk + 1) sn) (λ d. (omega arith, omega arith, omega arith))
+          (inr (takes_end V W some room t.ask.pieces tk sn k soon s.upload g octets piece (number_is eq) m))
+          (client_up W t.ask tk sn t.phase Unsent left s.client) s.passes (under eq)
+          (server.server_ack false key.id g.number inc.window ∷ []) (λ log down. (λ j. (late, next_ack eq j), tt)))
           (λ eq m ack n. goes_on eq m ack n)
 
   -- What comes to the server.
@@ -374,11 +344,12 @@ module _ (W V : ℕ) (some : 0 < W) (room : V + 2 * W ≤ 255) (c : Settings) (o
     no_slot : IsKept (server.rests o (server.abort_0 key.id ∷ []))
     no_slot = serves_same o (Reading tk sn) Unsent s o (server.abort_0 key.id ∷ []) s.server (λ j. omega (arith, soon), tt)
 
-    new_request_kept : (terms : Terms) (octets : Octets) → terms.choice ≡ t.ask.choice → octets ≡ join t.ask.pieces → (free : Bool)
+    new_request_kept : t.ask.whole ≡ true → (terms : Terms) (octets : Octets) → terms.choice ≡ t.ask.choice → octets ≡ join t.ask.pieces → (free : Bool)
         → IsKept (server.new_request c key.id w.now service o free terms octets)
-    new_request_kept terms octets chosen same true = performs_kept in_time o (Reading tk sn) s un.1
-        (server.begins w.now terms (Some octets)) s.clock soon chosen octets same [] (λ log down. tt)
-    new_request_kept terms octets chosen same false = no_slot
+    new_request_kept whole terms octets chosen same true = performs_kept in_time o (Reading tk sn) s un.1
+        (server.begins w.now terms (Some octets)) s.clock soon chosen octets same (Reading tk sn) (λ d. up_same d (Reading tk sn)) (inl whole) s.client s.passes
+        s.upload [] (λ log down. tt)
+    new_request_kept whole terms octets chosen same false = no_slot
 
     new_segment_kept : t.ask.whole ≡ false → (terms : Terms) (g : Segment) (octets : Octets) → terms.choice ≡ t.ask.choice → (k : ℕ) → k ≤ V
         → IsPiece W t.ask.pieces sn k g octets → (free : Bool) → IsKept (server.new_segment c key.id w.now service o free terms g octets)
@@ -390,15 +361,17 @@ module _ (W V : ℕ) (some : 0 < W) (room : V + 2 * W ≤ 255) (c : Settings) (o
             (server.abort_0 key.id ∷ []))
         by_number true is true =
             let zero_is : g.number ≡ 0 = grind (arith, nat_tests) in
+            let any = s.upload.some in
+            let none = un.0 in
             receives_kept in_time o tk sn s un.1 whole (server.begins w.now terms None) s.clock soon chosen (incoming c.window g.window) (sym un.0)
-            (ap (λ n. take n t.ask.pieces) (sym un.0)) k late g octets piece (λ ne. absurd (ne zero_is))
+            (ap (λ n. take n t.ask.pieces) (sym un.0)) (omega arith) k late g octets piece (λ ne. absurd (ne zero_is))
         by_number true is false = no_slot
         by_number false is d = (Reading tk sn, Unsent, s)
 
   new_kept : (o : Option Entry) (up : Up) (down : Down) → SoundWith o up down → IsUnbegun w.number up down w.log → (free : Bool) (m k : ℕ) → k ≤ V
       → w.now - m ≤ LIFE → (a : Apdu) → Says W w.number t.ask w.log up down m k a → IsKept (server.new_gets c key.id w.now service o free a)
   new_kept o (Reading tk sn) Unsent s un free m k late young (ConfirmedRequest sa ms ma id None choice octets) says =
-      let le = says.0 in new_request_kept o tk sn s un (omega arith)
+      let le = says.0 in new_request_kept o tk sn s un (omega arith) says.1
       (record { choice = choice; takes_segments = sa; max_segments = ms; max_apdu = ma }) octets says.2 says.3 free
   new_kept o (Reading tk sn) Unsent s un free m k late young (ConfirmedRequest sa ms ma id (Some g) choice octets) says =
       let le = says.0 in new_segment_kept o tk sn s un (omega arith) says.1
@@ -449,34 +422,34 @@ module _ (W V : ℕ) (some : 0 < W) (room : V + 2 * W ≤ 255) (c : Settings) (o
       late,
       subst (λ (qs : List Octets). IsPiece W qs (sent_to out sn) k (segment_of c.window out.pieces p) (get_or out.pieces p [])) h.0
           (window_piece W c.window out tk sn k p small h.1 lo hi),
+      chosen,
     )
-    reply_says k p log out up Closed small h lo hi = (late, tt)
 
-    gives_window_kept : (down : Down) → SoundWith (Some e) Read down → (out : Outgoing) → IsGivingFor W w.number t.ask out down w.log
+    gives_window_kept : (up : Up) (down : Down) → SoundWith (Some e) up down → (out : Outgoing) → IsGivingFor W w.number t.ask out up down w.log
         → IsKept (server.gives_window c key.id w.now e out)
-    gives_window_kept down s out h =
-        serves (Some e) Read down s (Some (record e { state = Giving out Running w.now })) (server.reply_window c key.id e.terms.choice out) Read
+    gives_window_kept up down s out h =
+        serves (Some e) up down s (Some (record e { state = Giving out Running w.now })) (server.reply_window c key.id e.terms.choice out) up
         (down_widened out down)
-        tt
+        (up_same (length (server.reply_window c key.id e.terms.choice out)) up)
         (rw pieces_length (down_widens W out down s.download h.sends))
-        (client_down_widened W t.ask out t.phase Read down s.client)
-        tt
+        (client_down_widened W t.ask out t.phase up down s.client)
+        s.passes
         (inr (record {
           after = after;
           before = before;
           choice = chosen;
           state =
-              record { window = h.window; performed = h.performed; sends = sends_down_widened W out down h.window h.sends };
+              record { read = h.read; window = h.window; performed = h.performed; sends = sends_down_widened W out down h.window h.sends };
         }))
-        tt
+        s.upload
         (down_fits_widened W out down h.window s.download h.sends)
-        (pieces_all (SaysNow w.log Read (down_widened out down)) (server.reply_piece c key.id e.terms.choice out.pieces) out.first (in_window out)
-        (λ p lo hi k. reply_says k p w.log out Read down h.window h.sends lo hi))
+        (pieces_all (SaysNow w.log up (down_widened out down)) (server.reply_piece c key.id e.terms.choice out.pieces) out.first (in_window out)
+        (λ p lo hi k. reply_says k p w.log out up down h.window h.sends lo hi))
 
     -- the transfer changes, and nothing is sent
-    rests_giving : (down : Down) → SoundWith (Some e) Read down → (out : Outgoing) (transfer : Transfer) (since : ℕ)
-        → IsGivingFor W w.number t.ask out down w.log → IsKept (server.becomes e (Giving out transfer since) [])
-    rests_giving down s out transfer since h = serves_same (Some e) Read down s (Some (record e { state = Giving out transfer since })) []
+    rests_giving : (up : Up) (down : Down) → SoundWith (Some e) up down → (out : Outgoing) (transfer : Transfer) (since : ℕ)
+        → IsGivingFor W w.number t.ask out up down w.log → IsKept (server.becomes e (Giving out transfer since) [])
+    rests_giving up down s out transfer since h = serves_same (Some e) up down s (Some (record e { state = Giving out transfer since })) []
         (inr (record { after = after; before = before; choice = chosen; state = h })) tt
 
     moved_down : (out : Outgoing) (down : Down) (k number window : ℕ) → k ≤ V → out.window ≤ W → DownFits W down → SendsDown W out down
@@ -484,64 +457,67 @@ module _ (W V : ℕ) (some : 0 < W) (room : V + 2 * W ≤ 255) (c : Settings) (o
     moved_down out Unsent k number window soon small u h ack lt = h
     moved_down out (Sent ps tk sn) k number window soon small u h ack lt =
         (h.0, moved_sender c.window W out tk sn number window h.1 (acknowledges_taken V W out tk sn k number room soon small u.behind h.1 ack lt))
-    moved_down out Closed k number window soon small u h ack lt = tt
 
-    giving_ack_kept : (down : Down) → SoundWith (Some e) Read down → (out : Outgoing) → IsGivingFor W w.number t.ask out down w.log
+    giving_ack_kept : (up : Up) (down : Down) → SoundWith (Some e) up down → (out : Outgoing) → IsGivingFor W w.number t.ask out up down w.log
         → (transfer : Transfer) (k number window : ℕ) → k ≤ V → IsAckDown W down k number
         → IsKept (server.giving_gets_ack c key.id w.now e out transfer number window)
-    giving_ack_kept down s out h Running k number window soon ack =
-        acknowledged_cases c.window out number window (λ x. IsKept (server.gives_on c key.id w.now e x)) (Read, down, s)
+    giving_ack_kept up down s out h Running k number window soon ack =
+        acknowledged_cases c.window out number window (λ x. IsKept (server.gives_on c key.id w.now e x)) (up, down, s)
         (λ lt. by_end lt (is_finished (moved c.window out number window)))
       where
-        on : ahead number out.first < in_window out → IsGivingFor W w.number t.ask (moved c.window out number window) down w.log
-        on lt = record { window = omega arith; performed = h.performed; sends = moved_down out down k number window soon h.window s.download h.sends ack lt }
+        on : ahead number out.first < in_window out → IsGivingFor W w.number t.ask (moved c.window out number window) up down w.log
+        on lt = record {
+          read = h.read;
+          window = omega arith;
+          performed = h.performed;
+          sends = moved_down out down k number window soon h.window s.download h.sends ack lt;
+        }
 
         by_end : ahead number out.first < in_window out → (b : Bool)
             → IsKept (if b then server.becomes e (Giving (moved c.window out number window) Finished w.now) [] else server.gives_window c key.id w.now e
             (moved c.window out number window))
-        by_end lt true = rests_giving down s (moved c.window out number window) Finished w.now (on lt)
-        by_end lt false = gives_window_kept down s (moved c.window out number window) (on lt)
-    giving_ack_kept down s out h Stopped k number window soon ack = (Read, down, s)
-    giving_ack_kept down s out h Finished k number window soon ack = (Read, down, s)
+        by_end lt true = rests_giving up down s (moved c.window out number window) Finished w.now (on lt)
+        by_end lt false = gives_window_kept up down s (moved c.window out number window) (on lt)
+    giving_ack_kept up down s out h Stopped k number window soon ack = (up, down, s)
+    giving_ack_kept up down s out h Finished k number window soon ack = (up, down, s)
 
     retries_down : (out : Outgoing) (n : ℕ) (down : Down) → SendsDown W out down → SendsDown W (record out { retries = n }) down
     retries_down out n Unsent h = h
     retries_down out n (Sent ps tk sn) h = (h.0, record { behind = h.1.behind; near = h.1.near })
-    retries_down out n Closed h = h
 
-    with_retries : (out : Outgoing) (n : ℕ) (down : Down) (log : List Fact) → IsGivingFor W w.number t.ask out down log
-        → IsGivingFor W w.number t.ask (record out { retries = n }) down log
-    with_retries out n down log h = record { window = h.window; performed = h.performed; sends = retries_down out n down h.sends }
+    with_retries : (out : Outgoing) (n : ℕ) (up : Up) (down : Down) (log : List Fact) → IsGivingFor W w.number t.ask out up down log
+        → IsGivingFor W w.number t.ask (record out { retries = n }) up down log
+    with_retries out n up down log h = record { read = h.read; window = h.window; performed = h.performed; sends = retries_down out n down h.sends }
 
-    resumes_kept : (down : Down) → SoundWith (Some e) Read down → (out : Outgoing) → IsGivingFor W w.number t.ask out down w.log → (transfer : Transfer)
-        → IsKept (server.resumes c key.id w.now e out transfer)
-    resumes_kept down s out h Stopped = gives_window_kept down s (resume out) (with_retries out RETRIES down w.log h)
-    resumes_kept down s out h Running = (Read, down, s)
-    resumes_kept down s out h Finished = (Read, down, s)
+    resumes_kept : (up : Up) (down : Down) → SoundWith (Some e) up down → (out : Outgoing) → IsGivingFor W w.number t.ask out up down w.log
+        → (transfer : Transfer) → IsKept (server.resumes c key.id w.now e out transfer)
+    resumes_kept up down s out h Stopped = gives_window_kept up down s (resume out) (with_retries out RETRIES up down w.log h)
+    resumes_kept up down s out h Running = (up, down, s)
+    resumes_kept up down s out h Finished = (up, down, s)
 
-    giving_kept : (down : Down) → SoundWith (Some e) Read down → (out : Outgoing) → IsGivingFor W w.number t.ask out down w.log
-        → (transfer : Transfer) (since m k : ℕ) → k ≤ V → (a : Apdu) → Says W w.number t.ask w.log Read down m k a
+    giving_kept : (up : Up) (down : Down) → SoundWith (Some e) up down → (out : Outgoing) → IsGivingFor W w.number t.ask out up down w.log
+        → (transfer : Transfer) (since m k : ℕ) → k ≤ V → (a : Apdu) → Says W w.number t.ask w.log up down m k a
         → IsKept (server.giving_gets c key.id w.now e out transfer since a)
-    giving_kept down s out h transfer since m k soon (ConfirmedRequest sa ms ma id None choice octets) says = go (server.is_kept e e.request choice octets)
+    giving_kept up down s out h transfer since m k soon (ConfirmedRequest sa ms ma id None choice octets) says = go (server.is_kept e e.request choice octets)
       where
         go : (b : Bool) → IsKept (if b then server.resumes c key.id w.now e out transfer else server.rests (Some e) (server.abort_0 key.id ∷ []))
-        go true = resumes_kept down s out h transfer
-        go false = aborts Read down s
-    giving_kept down s out h transfer since m k soon (ConfirmedRequest sa ms ma id (Some g) choice octets) says = go (is_some e.request)
+        go true = resumes_kept up down s out h transfer
+        go false = aborts up down s
+    giving_kept up down s out h transfer since m k soon (ConfirmedRequest sa ms ma id (Some g) choice octets) says = go (is_some e.request)
       where
         go : (b : Bool) → IsKept (if b then server.rests (Some e) (server.abort_0 key.id ∷ []) else server.resumes c key.id w.now e out transfer)
-        go true = aborts Read down s
-        go false = resumes_kept down s out h transfer
-    giving_kept down s out h transfer since m k soon (SegmentAck nak false id number window) says =
-        giving_ack_kept down s out h transfer k number window soon says.1
-    giving_kept down s out h transfer since m k soon (Abort false id reason) says = rests_giving down s out Finished since h
-    giving_kept down s out h transfer since m k soon _ says = (Read, down, s)
+        go true = aborts up down s
+        go false = resumes_kept up down s out h transfer
+    giving_kept up down s out h transfer since m k soon (SegmentAck nak false id number window) says =
+        giving_ack_kept up down s out h transfer k number window soon says.1
+    giving_kept up down s out h transfer since m k soon (Abort false id reason) says = rests_giving up down s out Finished since h
+    giving_kept up down s out h transfer since m k soon _ says = (up, down, s)
 
     -- an entry that receives is dropped
-    drops : (tk sn : ℕ) → SoundWith (Some e) (Reading tk sn) Unsent → IsUnperformed w.number w.log → (sends : List Apdu)
+    drops : (tk sn : ℕ) → SoundWith (Some e) (Reading tk sn) Unsent → tk < length t.ask.pieces → IsUnperformed w.number w.log → (sends : List Apdu)
         → Each (SaysNow w.log (Reading tk sn) Unsent) sends → IsKept (server.becomes e Dropped sends)
-    drops tk sn s un sends says = serves_same (Some e) (Reading tk sn) Unsent s (Some (record e { state = Dropped })) sends
-        (inr (record { after = after; before = before; choice = chosen; state = un })) says
+    drops tk sn s left un sends says = serves_same (Some e) (Reading tk sn) Unsent s (Some (record e { state = Dropped })) sends
+        (inr (record { after = after; before = before; choice = chosen; state = (left, un) })) says
 
     receiving_kept : (tk sn : ℕ) → SoundWith (Some e) (Reading tk sn) Unsent → (inc : Incoming) (since : ℕ) → IsReceivingFor w.number t.ask inc tk w.log
         → (m k : ℕ) → k ≤ V → (a : Apdu) → Says W w.number t.ask w.log (Reading tk sn) Unsent m k a
@@ -551,46 +527,47 @@ module _ (W V : ℕ) (some : 0 < W) (room : V + 2 * W ≤ 255) (c : Settings) (o
       where
         by_time : (b : Bool) → IsKept (if b then server.becomes e Dropped (server.abort_0 key.id ∷ [])
             else server.receives c key.id w.now service e g.number inc.window (takes inc g.number g.more octets))
-        by_time true = drops tk sn s h.unperformed (server.abort_0 key.id ∷ []) (λ j. late, tt)
-        by_time false = receives_kept late (Some e) tk sn s h.unperformed h.in_pieces e after before chosen inc h.front.taken_is h.front.parts_are k soon g
-            octets says.3 (λ ne. h.front.some)
-    receiving_kept tk sn s inc since h m k soon (Abort false id reason) says = drops tk sn s h.unperformed [] tt
+        by_time true = drops tk sn s h.front.left h.unperformed (server.abort_0 key.id ∷ []) (λ j. late, tt)
+        by_time false = receives_kept late (Some e) tk sn s h.unperformed h.in_pieces e after before chosen inc h.front.taken_is h.front.parts_are
+            h.front.left k soon g octets says.3 (λ ne. h.front.some)
+    receiving_kept tk sn s inc since h m k soon (Abort false id reason) says = drops tk sn s h.front.left h.unperformed [] tt
     receiving_kept tk sn s inc since h m k soon _ says = (Reading tk sn, Unsent, s)
 
     live_kept : (st : State) (up : Up) (down : Down) → SoundWith (Some e) up down → StateFits W w.number t.ask st up down w.log → (m k : ℕ) → k ≤ V
         → (a : Apdu) → Says W w.number t.ask w.log up down m k a
         → IsKept (server.live_gets c key.id w.now service e st a)
     live_kept (Receiving inc since) (Reading tk sn) Unsent s h m k soon a says = receiving_kept tk sn s inc since h m k soon a says
-    live_kept (Done kept) Read Unsent s h m k soon a says = done_kept Read Unsent s kept h a
-    live_kept (Giving out transfer since) Read down s h m k soon a says = giving_kept down s out h transfer since m k soon a says
+    live_kept (Done kept) up Unsent s h m k soon a says = done_kept up Unsent s kept h.1 a
+    live_kept (Giving out transfer since) up down s h m k soon a says = giving_kept up down s out h transfer since m k soon a says
     live_kept Dropped (Reading tk sn) Unsent s h m k soon a says = dropped_kept (Reading tk sn) Unsent s a
     live_kept _ _ _ s h m k soon a says = absurd h
 
     -- What the server does in time.
 
-    gives_again_kept : (down : Down) → SoundWith (Some e) Read down → (out : Outgoing) → IsGivingFor W w.number t.ask out down w.log → (since : ℕ)
+    gives_again_kept : (up : Up) (down : Down) → SoundWith (Some e) up down → (out : Outgoing) → IsGivingFor W w.number t.ask out up down w.log
+        → (since : ℕ)
         → IsKept (server.gives_again c key.id w.now e out since (again out))
-    gives_again_kept down s out h since = go (nat_eq out.retries 0)
+    gives_again_kept up down s out h since = go (nat_eq out.retries 0)
       where
         go : (b : Bool) → IsKept (server.gives_again c key.id w.now e out since (if b then None else Some (record out { retries = out.retries - 1 })))
-        go true = rests_giving down s out Stopped since h
-        go false = gives_window_kept down s (record out { retries = out.retries - 1 }) (with_retries out (out.retries - 1) down w.log h)
+        go true = rests_giving up down s out Stopped since h
+        go false = gives_window_kept up down s (record out { retries = out.retries - 1 }) (with_retries out (out.retries - 1) up down w.log h)
 
     live_ticks_kept : (st : State) (up : Up) (down : Down) → SoundWith (Some e) up down → StateFits W w.number t.ask st up down w.log
         → IsKept (server.live_ticks c key.id w.now e st)
     live_ticks_kept (Receiving inc since) (Reading tk sn) Unsent s h = by_due (nat_le WAIT_SEG (w.now - since))
       where
         by_due : (b : Bool) → IsKept (if b then server.becomes e Dropped [] else server.rests (Some e) [])
-        by_due true = drops tk sn s h.unperformed [] tt
+        by_due true = drops tk sn s h.front.left h.unperformed [] tt
         by_due false = (Reading tk sn, Unsent, s)
-    live_ticks_kept (Giving out Running since) Read down s h = by_due (nat_le T_SEG (w.now - since))
+    live_ticks_kept (Giving out Running since) up down s h = by_due (nat_le T_SEG (w.now - since))
       where
         by_due : (b : Bool) → IsKept (if b then server.gives_again c key.id w.now e out since (again out) else server.rests (Some e) [])
-        by_due true = gives_again_kept down s out h since
-        by_due false = (Read, down, s)
-    live_ticks_kept (Giving out Stopped since) Read down s h = (Read, down, s)
-    live_ticks_kept (Giving out Finished since) Read down s h = (Read, down, s)
-    live_ticks_kept (Done kept) Read Unsent s h = (Read, Unsent, s)
+        by_due true = gives_again_kept up down s out h since
+        by_due false = (up, down, s)
+    live_ticks_kept (Giving out Stopped since) up down s h = (up, down, s)
+    live_ticks_kept (Giving out Finished since) up down s h = (up, down, s)
+    live_ticks_kept (Done kept) up Unsent s h = (up, Unsent, s)
     live_ticks_kept Dropped (Reading tk sn) Unsent s h = (Reading tk sn, Unsent, s)
     live_ticks_kept _ _ _ s h = absurd h
 

@@ -14,7 +14,7 @@ use Rattle.bac_protocol.specs.Server.State.{Receiving, Done, Giving, Dropped}
 use Rattle.bac_protocol.specs.Log.{Fact, Has, asks_in, IsUnperformed, IsUnended, MayEnd}
 use Rattle.bac_protocol.specs.Log.Fact.{Asked, Performed, Ended}
 use Rattle.bac_protocol.specs.Transaction.{Key, Copy, Transaction}
-use Rattle.bac_protocol.specs.Claims.{EachCopy, IsPiece, IsAck}
+use Rattle.bac_protocol.specs.Claims.{EachCopy, IsPieceOf, WasPerformed, IsPiece, IsAck}
 
 -- The log.
 
@@ -42,47 +42,45 @@ pub record IsUnderway (W taken sent total : ℕ) : Type 0 where
   pub behind : taken ≤ sent
   pub near : sent ≤ taken + W
   pub within : sent ≤ total
-  pub unfinished : taken < total
+  pub some : 0 < total
 
 -- where its sender stands
 pub record IsSender (W : ℕ) (out : Outgoing) (taken sent : ℕ) : Type 0 where
   pub behind : out.first ≤ taken
   pub near : sent ≤ out.first + W
 
--- what was taken are the first pieces of these, at least one
+-- what was taken are the first pieces of these, at least one and not all
 pub record IsFront (pieces : List Octets) (inc : Incoming) (taken : ℕ) : Type 0 where
   pub taken_is : length inc.parts ≡ taken
   pub some : 0 < taken
+  pub left : taken < length pieces
   pub parts_are : inc.parts ≡ take taken pieces
 
--- the pieces of the request: those of the first pass are being read (or the entry was dropped), or all were taken
+-- the pieces of the request: how far the first pass has come, or a later one was begun
 pub data Up : Type 0 where
   Reading : (taken sent : ℕ) → Up
-  Read : Up
+  Repeated : Up
 
--- the pieces of the reply: there are none, or they are being read, or none is taken any more
+-- the pieces of the reply: there are none, or how far their pass has come
 pub data Down : Type 0 where
   Unsent : Down
   Sent : (pieces : List Octets) (taken sent : ℕ) → Down
-  Closed : Down
 
 abbrev pub IsPieceUp : ℕ → Ask → Up → ℕ → Segment → Octets → Type 0
 IsPieceUp W ask (Reading taken sent) k segment octets = IsPiece W ask.pieces sent k segment octets
-IsPieceUp W ask Read k segment octets = Unit {0}
+IsPieceUp W ask Repeated k segment octets = IsPieceOf ask.pieces segment octets
 
 abbrev pub IsAckUp : ℕ → Up → ℕ → ℕ → Type 0
 IsAckUp W (Reading taken sent) k number = IsAck W taken sent k number
-IsAckUp W Read k number = Unit {0}
+IsAckUp W Repeated k number = Unit {0}
 
 abbrev pub IsPieceDown : ℕ → Down → ℕ → Segment → Octets → Type 0
 IsPieceDown W Unsent k segment octets = ⊥
 IsPieceDown W (Sent pieces taken sent) k segment octets = IsPiece W pieces sent k segment octets
-IsPieceDown W Closed k segment octets = Unit {0}
 
 abbrev pub IsAckDown : ℕ → Down → ℕ → ℕ → Type 0
 IsAckDown W Unsent k number = ⊥
 IsAckDown W (Sent pieces taken sent) k number = IsAck W taken sent k number
-IsAckDown W Closed k number = Unit {0}
 
 -- the last moments at which the two ends send for an ask
 abbrev pub client_until : Ask → ℕ
@@ -90,10 +88,6 @@ client_until ask = ask.first + DEADLINE
 
 abbrev pub server_until : Ask → ℕ
 server_until ask = ask.first + DEADLINE + LIFE + KEEP
-
--- the ask was performed with that reply
-abbrev pub WasPerformed : ℕ → Ask → reply → List Fact → Type 0
-WasPerformed number ask p log = Has (Performed number (request_of ask) p) log
 
 -- a copy with k later ones is of this ask, and was sent in time
 abbrev pub Says : ℕ → ℕ → Ask → List Fact → Up → Down → ℕ → ℕ → Apdu → Type 0
@@ -103,11 +97,15 @@ Says W number ask log up down moment k (ConfirmedRequest sa ms ma id (Some segme
     × (choice ≡ ask.choice) × IsPieceUp W ask up k segment octets
 Says W number ask log up down moment k (UnconfirmedRequest choice octets) = ⊥
 Says W number ask log up down moment k (SimpleAck id choice) = (moment ≤ server_until ask) × WasPerformed number ask reply.Simple log
-Says W number ask log up down moment k (ComplexAck id None choice octets) = (moment ≤ server_until ask) × WasPerformed number ask (reply.Complex octets) log
-Says W number ask log up down moment k (ComplexAck id (Some segment) choice octets) = (moment ≤ server_until ask) × IsPieceDown W down k segment octets
+    × (choice ≡ ask.choice)
+Says W number ask log up down moment k (ComplexAck id None choice octets) = (moment ≤ server_until ask)
+    × WasPerformed number ask (reply.Complex octets) log × (choice ≡ ask.choice)
+Says W number ask log up down moment k (ComplexAck id (Some segment) choice octets) = (moment ≤ server_until ask)
+    × IsPieceDown W down k segment octets × (choice ≡ ask.choice)
 Says W number ask log up down moment k (SegmentAck nak true id n window) = (moment ≤ server_until ask) × IsAckUp W up k n
 Says W number ask log up down moment k (SegmentAck nak false id n window) = (moment ≤ client_until ask) × IsAckDown W down k n
-Says W number ask log up down moment k (Error id choice class code) = (moment ≤ server_until ask) × WasPerformed number ask (reply.Error class code) log
+Says W number ask log up down moment k (Error id choice class code) = (moment ≤ server_until ask)
+    × WasPerformed number ask (reply.Error class code) log × (choice ≡ ask.choice)
 Says W number ask log up down moment k (Reject id reason) = moment ≤ server_until ask
 Says W number ask log up down moment k (Abort true id reason) = moment ≤ server_until ask
 Says W number ask log up down moment k (Abort false id reason) = moment ≤ client_until ask
@@ -120,13 +118,12 @@ Fits W now number ask log up down k c = now - c.moment ≤ LIFE → (ask.first �
 
 abbrev pub SendsUp : ℕ → Outgoing → Up → Type 0
 SendsUp W out (Reading taken sent) = IsSender W out taken sent
-SendsUp W out Read = Unit {0}
+SendsUp W out Repeated = Unit {0}
 
 -- no piece of a reply was taken
 abbrev pub IsUntaken : Down → Type 0
 IsUntaken Unsent = Unit {0}
 IsUntaken (Sent pieces taken sent) = taken ≡ 0
-IsUntaken Closed = ⊥
 
 pub record IsSendingFor (W : ℕ) (ask : Ask) (out : Outgoing) (up : Up) (down : Down) : Type 0 where
   pub in_pieces : ask.whole ≡ false
@@ -135,24 +132,24 @@ pub record IsSendingFor (W : ℕ) (ask : Ask) (out : Outgoing) (up : Up) (down :
   pub sends : SendsUp W out up
   pub untaken : IsUntaken down
 
--- a request in pieces is waited for only when its first pass was read
-abbrev pub IsReadIfPieces : Ask → Up → Type 0
-IsReadIfPieces ask (Reading taken sent) = ask.whole ≡ true
-IsReadIfPieces ask Read = Unit {0}
+-- all pieces of the first pass were taken, where the request goes in pieces
+abbrev pub IsRead : Ask → Up → Type 0
+IsRead ask (Reading taken sent) = (ask.whole ≡ true) ⊎ (taken ≡ length ask.pieces)
+IsRead ask Repeated = Unit {0}
 
--- a later pass of a request in pieces begins only when its first pass was read
-abbrev pub IsReadIfRepeated : Ask → (repeats : ℕ) → Up → Type 0
-IsReadIfRepeated ask repeats (Reading taken sent) = (ask.whole ≡ true) ⊎ (repeats ≡ RETRIES)
-IsReadIfRepeated ask repeats Read = Unit {0}
+-- a request in pieces is in its first pass until a repeat is made
+abbrev pub PassFits : Ask → (repeats : ℕ) → Up → Type 0
+PassFits ask repeats (Reading taken sent) = (ask.whole ≡ true) ⊎ (repeats ≡ RETRIES)
+PassFits ask repeats Repeated = repeats < RETRIES
 
 abbrev pub CollectsDown : Incoming → Down → Type 0
 CollectsDown inc Unsent = ⊥
 CollectsDown inc (Sent pieces taken sent) = IsFront pieces inc taken
-CollectsDown inc Closed = ⊥
 
+-- a request in pieces is waited for only when its first pass was read
 abbrev pub ClientFits : ℕ → Ask → Phase → Up → Down → Type 0
 ClientFits W ask (Sending out all_sent) up down = IsSendingFor W ask out up down
-ClientFits W ask Awaiting up down = IsReadIfPieces ask up × IsUntaken down
+ClientFits W ask Awaiting up down = IsRead ask up × IsUntaken down
 ClientFits W ask (Collecting inc) up down = CollectsDown inc down
 ClientFits W ask Over up down = Unit {0}
 
@@ -160,9 +157,9 @@ ClientFits W ask Over up down = Unit {0}
 
 -- what a server keeps for an ask fits the log
 abbrev pub IsKeptFor : ℕ → Ask → Apdu → List Fact → Type 0
-IsKeptFor number ask (SimpleAck id choice) log = WasPerformed number ask reply.Simple log
-IsKeptFor number ask (ComplexAck id None choice octets) log = WasPerformed number ask (reply.Complex octets) log
-IsKeptFor number ask (Error id choice class code) log = WasPerformed number ask (reply.Error class code) log
+IsKeptFor number ask (SimpleAck id choice) log = WasPerformed number ask reply.Simple log × (choice ≡ ask.choice)
+IsKeptFor number ask (ComplexAck id None choice octets) log = WasPerformed number ask (reply.Complex octets) log × (choice ≡ ask.choice)
+IsKeptFor number ask (Error id choice class code) log = WasPerformed number ask (reply.Error class code) log × (choice ≡ ask.choice)
 IsKeptFor number ask (Reject id reason) log = IsUnperformed number log
 IsKeptFor number ask (Abort true id reason) log = IsUnperformed number log
 IsKeptFor number ask _ log = ⊥
@@ -179,18 +176,18 @@ pub record IsReceivingFor (number : ℕ) (ask : Ask) (inc : Incoming) (taken : �
 abbrev pub SendsDown : ℕ → Outgoing → Down → Type 0
 SendsDown W out Unsent = ⊥
 SendsDown W out (Sent pieces taken sent) = (out.pieces ≡ pieces) × IsSender W out taken sent
-SendsDown W out Closed = Unit {0}
 
-pub record IsGivingFor (W number : ℕ) (ask : Ask) (out : Outgoing) (down : Down) (log : List Fact) : Type 0 where
+pub record IsGivingFor (W number : ℕ) (ask : Ask) (out : Outgoing) (up : Up) (down : Down) (log : List Fact) : Type 0 where
+  pub read : IsRead ask up
   pub window : out.window ≤ W
   pub performed : WasPerformed number ask (reply.Complex (join out.pieces)) log
   pub sends : SendsDown W out down
 
 abbrev pub StateFits : ℕ → ℕ → Ask → State → Up → Down → List Fact → Type 0
 StateFits W number ask (Receiving inc since) (Reading taken sent) Unsent log = IsReceivingFor number ask inc taken log
-StateFits W number ask (Done kept) Read Unsent log = IsKeptFor number ask kept log
-StateFits W number ask (Giving out transfer since) Read down log = IsGivingFor W number ask out down log
-StateFits W number ask Dropped (Reading taken sent) Unsent log = IsUnperformed number log
+StateFits W number ask (Done kept) up Unsent log = IsRead ask up × IsKeptFor number ask kept log
+StateFits W number ask (Giving out transfer since) up down log = IsGivingFor W number ask out up down log
+StateFits W number ask Dropped (Reading taken sent) Unsent log = (taken < length ask.pieces) × IsUnperformed number log
 StateFits W number ask _ _ _ log = ⊥
 
 -- the entry was begun for the ask
@@ -213,12 +210,11 @@ ServerFits W number ask (Some e) up down log = IsPastFor number ask e up down lo
 
 abbrev pub UpFits : ℕ → Ask → Up → Type 0
 UpFits W ask (Reading taken sent) = IsUnderway W taken sent (length ask.pieces)
-UpFits W ask Read = Unit {0}
+UpFits W ask Repeated = Unit {0}
 
 abbrev pub DownFits : ℕ → Down → Type 0
 DownFits W Unsent = Unit {0}
 DownFits W (Sent pieces taken sent) = IsUnderway W taken sent (length pieces)
-DownFits W Closed = Unit {0}
 
 abbrev pub IsOpenIn : Phase → ℕ → List Fact → Type 0
 IsOpenIn (Sending out all_sent) n log = IsUnended n log
@@ -235,7 +231,7 @@ pub record Sound (W : ℕ) (key : Key) (now asks number : ℕ) (t : Ticket) (ent
   pub asked : Has (Asked number key.client key.server (request_of t.ask)) log
   pub unended : IsOpenIn t.phase number log
   pub client : ClientFits W t.ask t.phase up down
-  pub passes : IsReadIfRepeated t.ask t.repeats up
+  pub passes : PassFits t.ask t.repeats up
   pub server : ServerFits W number t.ask entry up down log
   pub upload : UpFits W t.ask up
   pub download : DownFits W down

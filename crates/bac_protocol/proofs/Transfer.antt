@@ -10,7 +10,7 @@ use Rattle.bac_segment.specs.Window.{Outgoing, in_window, acknowledged, Incoming
 use Rattle.bac_segment.specs.Window.Taking.{Taken, Complete, Nak, TooLong}
 use Rattle.bac_protocol.specs.Service.{Octets}
 use Rattle.bac_protocol.specs.Wire.{segment_of}
-use Rattle.bac_protocol.specs.Claims.{IsPiece, IsAck}
+use Rattle.bac_protocol.specs.Claims.{IsPieceAt, IsPiece, IsAck}
 use Rattle.bac_protocol.proofs.Sound.{IsUnderway, IsSender}
 use Rattle.bac_protocol.proofs.Readings.{reads_segment, reads_ack, ahead_is}
 
@@ -55,8 +55,8 @@ sent_to out s = max s (out.first + in_window out)
 pub window_underway : (W : ℕ) (out : Outgoing) (t s : ℕ) → out.window ≤ W → IsUnderway W t s (length out.pieces) → IsSender W out t s
     → IsUnderway W t (sent_to out s) (length out.pieces)
 window_underway W out t s small u sender =
-    let a = u.behind in let b = u.near in let c = u.within in let d = u.unfinished in let e = sender.behind in let f = sender.near in
-    record { behind = omega arith; near = omega arith; within = omega arith; unfinished = d }
+    let a = u.behind in let b = u.near in let c = u.within in let e = sender.behind in let f = sender.near in
+    record { behind = omega arith; near = omega arith; within = omega arith; some = u.some }
 
 pub window_sender : (W : ℕ) (out : Outgoing) (t s : ℕ) → out.window ≤ W → IsSender W out t s → IsSender W out t (sent_to out s)
 window_sender W out t s small sender = let e = sender.behind in let f = sender.near in record { behind = e; near = omega arith }
@@ -64,11 +64,15 @@ window_sender W out t s small sender = let e = sender.behind in let f = sender.n
 pub window_grows : (W : ℕ) (out : Outgoing) (t s : ℕ) → t ≤ s → IsSender W out t s → (s ≤ sent_to out s) × (sent_to out s ≤ s + in_window out)
 window_grows W out t s le sender = let e = sender.behind in (omega arith, omega arith)
 
+-- a piece, as it is sent
+pub piece_at_is : (own : ℕ) (ps : List Octets) (p : ℕ) → p < length ps → IsPieceAt ps p (segment_of own ps p) (get_or ps p [])
+piece_at_is own ps p lt = record { within = lt; number_is = refl; more_is = refl; octets_is = refl }
+
 -- a piece of the window, as it is sent
 pub window_piece : (W own : ℕ) (out : Outgoing) (t s k p : ℕ) → out.window ≤ W → IsSender W out t s → out.first ≤ p → p < out.first + in_window out
     → IsPiece W out.pieces (sent_to out s) k (segment_of own out.pieces p) (get_or out.pieces p [])
-window_piece W own out t s k p small sender lo hi = let f =
-    sender.near in record { piece = p; number_is = refl; more_is = refl; octets_is = refl; below = omega arith; near = omega arith }
+window_piece W own out t s k p small sender lo hi =
+    let f = sender.near in record { piece = p; is = piece_at_is own out.pieces p (omega arith); below = omega arith; near = omega arith }
 
 -- The receiver.
 
@@ -107,7 +111,7 @@ module _ (V W : ℕ) (some : 0 < W) (room : V + 2 * W ≤ 255) (ps : List Octets
   -- what is taken is the next piece
   pub takes_piece : h.piece ≡ t
   takes_piece =
-      let is = h.number_is in let below = h.below in let near = h.near in let a = u.behind in let b = u.near in
+      let is = (h.is).number_is in let below = h.below in let near = h.near in let a = u.behind in let b = u.near in
       reads_segment V W h.piece t some room (omega arith) (omega arith) (cc)
 
   pub takes_below : t < s
@@ -117,22 +121,29 @@ module _ (V W : ℕ) (some : 0 < W) (room : V + 2 * W ≤ 255) (ps : List Octets
   pub takes_left : g.more ≡ true → t + 1 < length ps
   takes_left m =
       let is = takes_piece in
-      let test : nat_lt (h.piece + 1) (length ps) ≡ true = cc (h.more_is, m) in
+      let more = (h.is).more_is in
+      let test : nat_lt (h.piece + 1) (length ps) ≡ true = cc in
       let lt : h.piece + 1 < length ps = grind (arith, nat_tests) in
+      omega arith
+
+  -- where no more follows, it is the last
+  pub takes_end : g.more ≡ false → t + 1 ≡ length ps
+  takes_end m =
+      let is = takes_piece in
+      let more = (h.is).more_is in
+      let within = (h.is).within in
+      let test : nat_lt (h.piece + 1) (length ps) ≡ false = cc in
+      let le : length ps ≤ h.piece + 1 = grind (arith, nat_tests) in
       omega arith
 
   -- the front goes on by the next piece
   pub takes_front : (parts : List Octets) → parts ≡ take t ps → parts ++ octets ∷ [] ≡ take (t + 1) ps
   takes_front parts j =
       let is = takes_piece in
-      let lt = u.unfinished in
-      let o : octets ≡ get_or ps t [] = h.octets_is ∙ ap (λ i. get_or ps i []) is in
-      (λ i. j i ++ o i ∷ []) ∙ sym (take_more ps t [] lt)
+      let within = (h.is).within in
+      let o : octets ≡ get_or ps t [] = (h.is).octets_is ∙ ap (λ i. get_or ps i []) is in
+      (λ i. j i ++ o i ∷ []) ∙ sym (take_more ps t [] (omega arith))
 
-  -- where no more follows, all are there
+  -- and then all are there
   pub takes_all : (parts : List Octets) → parts ≡ take t ps → g.more ≡ false → parts ++ octets ∷ [] ≡ ps
-  takes_all parts j m =
-      let is = takes_piece in
-      let test : nat_lt (h.piece + 1) (length ps) ≡ false = cc (h.more_is, m) in
-      let le : length ps ≤ h.piece + 1 = grind (arith, nat_tests) in
-      takes_front parts j ∙ take_all (t + 1) ps (omega arith)
+  takes_all parts j m = let le = takes_end m in takes_front parts j ∙ take_all (t + 1) ps (omega arith)

@@ -16,7 +16,7 @@ wide = record (rules 64) { overtake = 300 }
 -- then the SegmentACK of segment 256, copy 261, and of the window behind it all but segment 257, copy 262
 abbrev pub misreading : List Event
 misreading =
-    MakeAsk key 7 false (0 ∷ []) (pieces 299 1) ∷ in_order 0 261 ++ Deliver 2 true ∷ Deliver 261 true ∷ in_order 263 42
+    MakeAsk key 7 false (0 ∷ 0 ∷ []) (pieces 299 1) ∷ in_order 0 261 ++ Deliver 2 true ∷ Deliver 261 true ∷ in_order 263 42
 
 -- whether a log of one ask, performed, has the request that was asked
 abbrev pub performs_asked : List Fact → Bool

@@ -1,18 +1,23 @@
 -- What is said of each moment of a run beside the log: whose copies may arrive, and that no number among them is misread.
-use Rattle.std.specs.Prelude.{◌≡◌, ℕ, ◌+◌, ◌-◌, ◌*◌, ◌%◌, ◌<◌, ◌≤◌, ◌⊎◌, Bool, true, false, List, length, Option, Some, None, slice_get, nat_lt}
+use Rattle.std.specs.Prelude.{◌≡◌, ℕ, ◌+◌, ◌-◌, ◌*◌, ◌%◌, ◌<◌, ◌≤◌, ◌⊎◌, true, false, List, [], length, take, Option, Some, None, slice_get}
+use Rattle.std.specs.Prelude.{if◌then◌else◌, nat_lt}
 use Rattle.bac_apdu.specs.Apdu.{Apdu, Segment}
-use Rattle.bac_apdu.specs.Apdu.Apdu.{ConfirmedRequest, ComplexAck, SegmentAck}
+use Rattle.bac_apdu.specs.Apdu.Apdu.{ConfirmedRequest, UnconfirmedRequest, SimpleAck, ComplexAck, SegmentAck, Error}
 use Rattle.bac_segment.specs.Limits.{RETRIES}
-use Rattle.bac_segment.specs.Pieces.{piece_at}
-use Rattle.bac_segment.specs.Window.{Outgoing, Incoming}
-use Rattle.bac_protocol.specs.Times.{LIFE}
-use Rattle.bac_protocol.specs.Service.{Octets}
-use Rattle.bac_protocol.specs.Client.{Ask, Phase, Ticket, is_over}
+use Rattle.bac_segment.specs.Numbers.{ahead}
+use Rattle.bac_segment.specs.Pieces.{join, piece_at}
+use Rattle.bac_segment.specs.Window.{Outgoing, in_window, Incoming}
+use Rattle.bac_protocol.specs.Times.{LIFE, DEADLINE, KEEP}
+use Rattle.bac_protocol.specs.Service.{Octets, Reply as reply}
+use Rattle.bac_protocol.specs.Wire.{is_from_client}
+use Rattle.bac_protocol.specs.Client.{Ask, request_of, Phase, Ticket}
 use Rattle.bac_protocol.specs.Client.Phase.{Sending, Awaiting, Collecting, Over}
-use Rattle.bac_protocol.specs.Server.{Transfer, State, Entry, is_live}
+use Rattle.bac_protocol.specs.Server.{State, Entry, is_live}
 use Rattle.bac_protocol.specs.Server.State.{Receiving, Done, Giving, Dropped}
+use Rattle.bac_protocol.specs.Log.{Fact, Has}
+use Rattle.bac_protocol.specs.Log.Fact.{Asked, Performed}
 use Rattle.bac_protocol.specs.Transaction.{Key, Rules, Copy}
-use Rattle.bac_protocol.specs.World.{Net, copies_of}
+use Rattle.bac_protocol.specs.World.{Net, Post, later, is_deliverable, copies_of}
 
 -- the windows of all nodes are at most W, and few enough later copies may overtake one
 pub record IsBounded (W : ℕ) (x : Rules) : Type 0 where
@@ -28,17 +33,89 @@ EachCopy P copies = (k : ℕ) (c : Copy) → slice_get copies k ≡ Some c → P
 abbrev pub MayArrive : (overtake now : ℕ) → ℕ → Copy → Type 0
 MayArrive overtake now k c = (now - c.moment ≤ LIFE) × (k ≤ overtake)
 
--- every copy of the transaction that may arrive was sent since its newest ask was made
-abbrev pub AreOfNewest : Rules → Net → Type 0
-AreOfNewest x n = (key : Key) (t : Ticket) → n.tickets key ≡ Some t
-    → EachCopy (λ k c. MayArrive x.overtake n.now k c → t.ask.first ≤ c.moment) (copies_of key n.posts)
+-- the world's copy of that number stands among those of its transaction at the number of later ones, and is deliverable exactly where it may arrive
+pub record IsInPlace (x : Rules) (n : Net) (number : ℕ) (p : Post) : Type 0 where
+  pub place : slice_get (copies_of p.key n.posts) (later p.key number n.posts) ≡ Some p.copy
+  pub arrives : is_deliverable x n.now number n.posts p ≡ true → MayArrive x.overtake n.now (later p.key number n.posts) p.copy
+  pub only : MayArrive x.overtake n.now (later p.key number n.posts) p.copy → is_deliverable x n.now number n.posts p ≡ true
 
--- a segment, with k later copies, is a piece of these, whose whole number is not far behind
+-- piece p of these, as a segment carries it
+pub record IsPieceAt (pieces : List Octets) (p : ℕ) (segment : Segment) (octets : Octets) : Type 0 where
+  pub within : p < length pieces
+  pub number_is : segment.number ≡ p % 256
+  pub more_is : segment.more ≡ nat_lt (p + 1) (length pieces)
+  pub octets_is : octets ≡ piece_at pieces p
+
+abbrev pub IsPieceOf : List Octets → Segment → Octets → Type 0
+IsPieceOf pieces segment octets = (p : ℕ) × IsPieceAt pieces p segment octets
+
+-- Whose copies may arrive.
+
+-- the ask of that number was performed with that reply
+abbrev pub WasPerformed : ℕ → Ask → reply → List Fact → Type 0
+WasPerformed number ask p log = Has (Performed number (request_of ask) p) log
+
+-- an APDU is of the ask: its request, or a piece of it; the reply with which it was performed, or a piece of it, for its service choice; or a
+-- SegmentACK, Reject or Abort
+abbrev pub IsOfAsk : ℕ → Ask → List Fact → Apdu → Type 0
+IsOfAsk number ask log (ConfirmedRequest takes_segments max_segments max_apdu invoke None choice service) =
+    (ask.whole ≡ true) × (choice ≡ ask.choice) × (service ≡ join ask.pieces)
+IsOfAsk number ask log (ConfirmedRequest takes_segments max_segments max_apdu invoke (Some segment) choice service) =
+    (ask.whole ≡ false) × (choice ≡ ask.choice) × IsPieceOf ask.pieces segment service
+IsOfAsk number ask log (UnconfirmedRequest choice service) = ⊥
+IsOfAsk number ask log (SimpleAck invoke choice) = (choice ≡ ask.choice) × WasPerformed number ask reply.Simple log
+IsOfAsk number ask log (ComplexAck invoke None choice service) = (choice ≡ ask.choice) × WasPerformed number ask (reply.Complex service) log
+IsOfAsk number ask log (ComplexAck invoke (Some segment) choice service) =
+    (choice ≡ ask.choice) × ((pieces : List Octets) × WasPerformed number ask (reply.Complex (join pieces)) log × IsPieceOf pieces segment service)
+IsOfAsk number ask log (Error invoke choice class code) = (choice ≡ ask.choice) × WasPerformed number ask (reply.Error class code) log
+IsOfAsk number ask log _ = Unit {0}
+
+-- the last moment at which an APDU of the ask is sent: its client sends for DEADLINE; a copy that it sent then may arrive a LIFE later, and begin
+-- an entry, for which its server sends while it is live
+abbrev pub sent_until : Ask → Apdu → ℕ
+sent_until ask apdu = if is_from_client apdu then ask.first + DEADLINE else ask.first + DEADLINE + LIFE + KEEP
+
+pub record IsCopyOf (number : ℕ) (ask : Ask) (log : List Fact) (c : Copy) : Type 0 where
+  pub after : ask.first ≤ c.moment
+  pub before : c.moment ≤ sent_until ask c.apdu
+  pub is_of : IsOfAsk number ask log c.apdu
+
+-- an entry was begun for the ask
+pub record IsEntryOf (ask : Ask) (e : Entry) : Type 0 where
+  pub after : ask.first ≤ e.begin
+  pub before : e.begin ≤ ask.first + DEADLINE + LIFE
+  pub choice : e.terms.choice ≡ ask.choice
+
+abbrev pub LiveIsOf : ℕ → Ask → Option Entry → Type 0
+LiveIsOf now ask None = Unit {0}
+LiveIsOf now ask (Some e) = is_live now e ≡ true → IsEntryOf ask e
+
+-- each copy of the transaction that may arrive is of its newest ask, and so is its entry, where it is live
+pub record IsOfNewest (x : Rules) (n : Net) (key : Key) (t : Ticket) : Type 0 where
+  pub asked : Has (Asked (n.numbers key) key.client key.server (request_of t.ask)) n.log
+  pub copies : EachCopy (λ k c. MayArrive x.overtake n.now k c → IsCopyOf (n.numbers key) t.ask n.log c) (copies_of key n.posts)
+  pub entry : LiveIsOf n.now t.ask (n.entries key)
+
+-- where there was no ask, there is nothing
+pub record IsUnasked (n : Net) (key : Key) : Type 0 where
+  pub copies : copies_of key n.posts ≡ []
+  pub entry : n.entries key ≡ None
+
+abbrev pub IsOfTicket : Rules → Net → Key → Option Ticket → Type 0
+IsOfTicket x n key None = IsUnasked n key
+IsOfTicket x n key (Some t) = IsOfNewest x n key t
+
+-- a ticket is that of the newest ask of its transaction
+abbrev pub AreOfNewest : Rules → Net → Type 0
+AreOfNewest x n = (key : Key) → IsOfTicket x n key (n.tickets key)
+
+-- Windows. Pieces have whole numbers from 0 on: all that were sent are below `sent`, the receiver has taken those below `taken`, in order, and those
+-- below `acknowledged` were acknowledged to the sender.
+
+-- a segment, with k later copies, is a piece of these that was sent, whose whole number is not far behind
 pub record IsPiece (W : ℕ) (pieces : List Octets) (sent k : ℕ) (segment : Segment) (octets : Octets) : Type 0 where
   pub piece : ℕ
-  pub number_is : segment.number ≡ piece % 256
-  pub more_is : segment.more ≡ nat_lt (piece + 1) (length pieces)
-  pub octets_is : octets ≡ piece_at pieces piece
+  pub is : IsPieceAt pieces piece segment octets
   pub below : piece < sent
   pub near : sent ≤ piece + 1 + W + k
 
@@ -49,51 +126,128 @@ pub record IsAck (W taken sent k number : ℕ) : Type 0 where
   pub below : piece < taken
   pub near : sent ≤ piece + 1 + W + k
 
--- the same of the APDUs of a request's transfer
+-- where the sender of a pass stands: acknowledged ≤ taken, sent ≤ acknowledged + W, and its window is at most W
+pub record IsInWindow (W : ℕ) (out : Outgoing) (taken sent : ℕ) : Type 0 where
+  pub window : out.window ≤ W
+  pub acknowledged_taken : out.first ≤ taken
+  pub sent_window : sent ≤ out.first + W
+
+-- No number is misread.
+
+-- a segment that has the number of the next piece is the next piece
+abbrev pub IsReadAsNext : List Octets → (taken : ℕ) → Segment → Octets → Type 0
+IsReadAsNext pieces taken segment octets = segment.number ≡ taken % 256 → IsPieceAt pieces taken segment octets
+
+-- what a SegmentACK acknowledges to the sender was taken
+abbrev pub IsReadAsTaken : (W taken sent number : ℕ) → Type 0
+IsReadAsTaken W taken sent number = (out : Outgoing) → IsInWindow W out taken sent → ahead number out.first < in_window out
+    → out.first + ahead number out.first < taken
+
+-- all this of the APDUs of a request's transfer
 abbrev pub IsNearUp : (W : ℕ) → List Octets → (taken sent : ℕ) → ℕ → Apdu → Type 0
 IsNearUp W pieces taken sent k (ConfirmedRequest takes_segments max_segments max_apdu invoke (Some segment) choice service) =
-    IsPiece W pieces sent k segment service
-IsNearUp W pieces taken sent k (SegmentAck nak true invoke number window) = IsAck W taken sent k number
+    IsPiece W pieces sent k segment service × IsReadAsNext pieces taken segment service
+IsNearUp W pieces taken sent k (SegmentAck nak true invoke number window) = IsAck W taken sent k number × IsReadAsTaken W taken sent number
 IsNearUp W pieces taken sent k _ = Unit {0}
 
 -- and of a reply's
 abbrev pub IsNearDown : (W : ℕ) → List Octets → (taken sent : ℕ) → ℕ → Apdu → Type 0
-IsNearDown W pieces taken sent k (ComplexAck invoke (Some segment) choice service) = IsPiece W pieces sent k segment service
-IsNearDown W pieces taken sent k (SegmentAck nak false invoke number window) = IsAck W taken sent k number
+IsNearDown W pieces taken sent k (ComplexAck invoke (Some segment) choice service) =
+    IsPiece W pieces sent k segment service × IsReadAsNext pieces taken segment service
+IsNearDown W pieces taken sent k (SegmentAck nak false invoke number window) = IsAck W taken sent k number × IsReadAsTaken W taken sent number
 IsNearDown W pieces taken sent k _ = Unit {0}
 
--- in a pass, acknowledged ≤ taken ≤ sent ≤ acknowledged + W, and no copy that may arrive is far behind
-pub record IsInWindow (W overtake now acknowledged taken : ℕ) (near : (sent : ℕ) → ℕ → Apdu → Type 0) (copies : List Copy) : Type 0 where
-  pub sent : ℕ
-  pub acknowledged_taken : acknowledged ≤ taken
+-- in a pass over so many pieces, taken ≤ sent ≤ taken + W; the whole number p of each copy that may arrive has p < sent ≤ p + 1 + W + k, and it is
+-- read as it was meant
+pub record IsNearPass (W overtake now total taken sent : ℕ) (near : ℕ → Apdu → Type 0) (copies : List Copy) : Type 0 where
   pub taken_sent : taken ≤ sent
-  pub sent_window : sent ≤ acknowledged + W
-  pub copies_near : EachCopy (λ k c. MayArrive overtake now k c → near sent k c.apdu) copies
+  pub sent_taken : sent ≤ taken + W
+  pub sent_total : sent ≤ total
+  pub copies_near : EachCopy (λ k c. MayArrive overtake now k c → near k c.apdu) copies
 
--- the first pass of each request: its client sends segments, and its server, whose entry was begun for this ask, is receiving them
+-- so many pieces were taken: the first of them
+pub record HasFront (pieces : List Octets) (inc : Incoming) (taken : ℕ) : Type 0 where
+  pub taken_is : length inc.parts ≡ taken
+  pub parts_are : inc.parts ≡ take taken pieces
+
+-- how many pieces an entry that was begun for the ask has taken of its request: those that it holds, or all, or, where it was dropped, not all
+abbrev pub StateHasTaken : List Octets → State → ℕ → Type 0
+StateHasTaken pieces (Receiving inc since) taken = HasFront pieces inc taken
+StateHasTaken pieces (Done kept) taken = taken ≡ length pieces
+StateHasTaken pieces (Giving out transfer since) taken = taken ≡ length pieces
+StateHasTaken pieces Dropped taken = taken < length pieces
+
+-- and it has taken none, where no entry was begun for the ask
+abbrev pub ServerHasTaken : Ask → Option Entry → ℕ → Type 0
+ServerHasTaken ask None taken = taken ≡ 0
+ServerHasTaken ask (Some e) taken = ((e.begin < ask.first) × (taken ≡ 0)) ⊎ ((ask.first ≤ e.begin) × StateHasTaken ask.pieces e.state taken)
+
+-- where the request's sender stands: it sends; all was acknowledged; a segment of its answer came; or its ticket is over, and it sends no more
+abbrev pub ClientIsInWindow : ℕ → Ask → Phase → (taken sent : ℕ) → Type 0
+ClientIsInWindow W ask (Sending out all_sent) taken sent = IsInWindow W out taken sent
+ClientIsInWindow W ask Awaiting taken sent = taken ≡ length ask.pieces
+ClientIsInWindow W ask (Collecting inc) taken sent = taken ≡ length ask.pieces
+ClientIsInWindow W ask Over taken sent = Unit {0}
+
+-- the first pass of a request in segments
+pub record IsRequestPass (W : ℕ) (x : Rules) (n : Net) (key : Key) (t : Ticket) : Type 0 where
+  pub taken : ℕ
+  pub sent : ℕ
+  pub server : ServerHasTaken t.ask (n.entries key) taken
+  pub client : ClientIsInWindow W t.ask t.phase taken sent
+  pub pass : IsNearPass W x.overtake n.now (length t.ask.pieces) taken sent (IsNearUp W t.ask.pieces taken sent) (copies_of key n.posts)
+
+-- a request in segments is in its first pass until a repeat is made
 abbrev pub RequestsAreInWindow : ℕ → Rules → Net → Type 0
 RequestsAreInWindow W x n =
-    (key : Key) (t : Ticket) (e : Entry) (out : Outgoing) (all_sent : Bool) (inc : Incoming) (since : ℕ)
-    → n.tickets key ≡ Some t → n.entries key ≡ Some e → t.phase ≡ Sending out all_sent → e.state ≡ Receiving inc since → t.ask.first ≤ e.begin
-    → IsInWindow W x.overtake n.now out.first (length inc.parts) (IsNearUp W t.ask.pieces (length inc.parts)) (copies_of key n.posts)
+    (key : Key) (t : Ticket) → n.tickets key ≡ Some t → t.ask.whole ≡ false → t.repeats ≡ RETRIES → IsRequestPass W x n key t
 
--- how many pieces of its reply an open ticket has taken
-abbrev pub taken_of : Phase → ℕ
-taken_of (Sending out all_sent) = 0
-taken_of Awaiting = 0
-taken_of (Collecting inc) = length inc.parts
-taken_of Over = 0
+-- how many pieces of its reply a ticket has taken: none yet; those that it holds; where it is over, that is not known any more
+abbrev pub ClientHasTaken : List Octets → Phase → ℕ → Type 0
+ClientHasTaken pieces (Sending out all_sent) taken = taken ≡ 0
+ClientHasTaken pieces Awaiting taken = taken ≡ 0
+ClientHasTaken pieces (Collecting inc) taken = HasFront pieces inc taken
+ClientHasTaken pieces Over taken = taken ≤ length pieces
 
--- the pass of each reply: its server, whose entry was begun for this ask, gives segments, and its client's ticket is open
+-- the one pass of a reply in segments
+pub record IsReplyPass (W : ℕ) (x : Rules) (n : Net) (key : Key) (t : Ticket) (out : Outgoing) : Type 0 where
+  pub taken : ℕ
+  pub sent : ℕ
+  pub performed : WasPerformed (n.numbers key) t.ask (reply.Complex (join out.pieces)) n.log
+  pub client : ClientHasTaken out.pieces t.phase taken
+  pub server : IsInWindow W out taken sent
+  pub pass : IsNearPass W x.overtake n.now (length out.pieces) taken sent (IsNearDown W out.pieces taken sent) (copies_of key n.posts)
+
+-- where no reply was begun in segments, no segment of one may arrive, and no SegmentACK of its client
+abbrev pub IsOfNoPass : Apdu → Type 0
+IsOfNoPass (ComplexAck invoke (Some segment) choice service) = ⊥
+IsOfNoPass (SegmentAck nak false invoke number window) = ⊥
+IsOfNoPass _ = Unit {0}
+
+abbrev pub IsUnsent : Rules → Net → Key → Type 0
+IsUnsent x n key = EachCopy (λ k c. MayArrive x.overtake n.now k c → IsOfNoPass c.apdu) (copies_of key n.posts)
+
+abbrev pub StateGives : (W : ℕ) → Rules → Net → Key → Ticket → State → Type 0
+StateGives W x n key t (Giving out transfer since) = IsReplyPass W x n key t out
+StateGives W x n key t _ = IsUnsent x n key
+
+abbrev pub ServerGives : (W : ℕ) → Rules → Net → Key → Ticket → Option Entry → Type 0
+ServerGives W x n key t None = IsUnsent x n key
+ServerGives W x n key t (Some e) =
+    ((e.begin < t.ask.first) × IsUnsent x n key) ⊎ ((t.ask.first ≤ e.begin) × StateGives W x n key t e.state)
+
+-- a reply in segments is given in one pass by the entry that was begun for the ask, also after the ticket's end
 abbrev pub RepliesAreInWindow : ℕ → Rules → Net → Type 0
-RepliesAreInWindow W x n =
-    (key : Key) (t : Ticket) (e : Entry) (out : Outgoing) (transfer : Transfer) (since : ℕ)
-    → n.tickets key ≡ Some t → n.entries key ≡ Some e → is_over t.phase ≡ false → e.state ≡ Giving out transfer since → t.ask.first ≤ e.begin
-    → IsInWindow W x.overtake n.now out.first (taken_of t.phase) (IsNearDown W out.pieces (taken_of t.phase)) (copies_of key n.posts)
+RepliesAreInWindow W x n = (key : Key) (t : Ticket) → n.tickets key ≡ Some t → ServerGives W x n key t (n.entries key)
 
--- a later pass of a request was begun, or its first has been acknowledged
+-- Later passes.
+
+-- a later pass of a request was begun, or its first was acknowledged, or a segment of its answer came
 abbrev pub IsPastFirstPass : Phase → (repeats : ℕ) → Type 0
-IsPastFirstPass phase repeats = (phase ≡ Awaiting) ⊎ (repeats < RETRIES)
+IsPastFirstPass (Sending out all_sent) repeats = repeats < RETRIES
+IsPastFirstPass Awaiting repeats = Unit {0}
+IsPastFirstPass (Collecting inc) repeats = Unit {0}
+IsPastFirstPass Over repeats = repeats < RETRIES
 
 abbrev pub IsDone : State → Type 0
 IsDone (Receiving inc since) = ⊥

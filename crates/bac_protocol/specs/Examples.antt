@@ -1,23 +1,27 @@
 -- Runs that are computed: what is sent, logged and stored. Each type here is an equation that a law proves.
 use Rattle.bac_segment.specs.Pieces.{join}
-use Rattle.std.specs.Prelude.{◌≡◌, ℕ, zero, suc, ◌+◌, length, Bool, true, false, List, [], ◌∷◌, ◌++◌, map, Option, Some, None}
+use Rattle.bac_segment.specs.Window.{Incoming, outgoing, is_too_long}
+use Rattle.std.specs.Prelude.{◌≡◌, ℕ, zero, suc, ◌+◌, ◌/◌, ◌%◌, length, Bool, true, false, List, [], ◌∷◌, ◌++◌, map, take, drop, Option, Some, None}
 use Rattle.bac_apdu.specs.Apdu.{Apdu}
 use Rattle.bac_apdu.specs.Apdu.Apdu.{ConfirmedRequest, SimpleAck, ComplexAck, SegmentAck, Error, Abort}
-use Rattle.bac_protocol.specs.Service.{Octets, Reply, Reply as reply}
+use Rattle.bac_protocol.specs.Service.{Octets, Request, Reply, Reply as reply}
 use Rattle.bac_protocol.specs.Service.Reply.{Complex}
 use Rattle.bac_protocol.specs.Service.Outcome.{Replies}
 use Rattle.bac_protocol.specs.Service.Ending.{Answered, Aborted, TimedOut, Expired}
 use Rattle.bac_protocol.specs.Client.{Ticket, Reaction, client_gets, asked_ticket}
-use Rattle.bac_protocol.specs.Client.Phase.{Sending, Awaiting}
+use Rattle.bac_protocol.specs.Client.Phase.{Sending, Awaiting, Collecting}
 use Rattle.bac_protocol.specs.Client.Reaction.{Stays, GoesOn, Ends}
+use Rattle.bac_protocol.specs.Sizes.{Limits, RequestWay, request_way_of}
+use Rattle.bac_protocol.specs.Sizes.RequestWay.{InOne, InSegments, NeedsSegments, TooLong}
 use Rattle.bac_protocol.specs.Server as server
-use Rattle.bac_protocol.specs.Server.{Terms, Entry, Way, way_of, server_gets}
-use Rattle.bac_protocol.specs.Server.State.{Receiving, Done, Dropped}
+use Rattle.bac_protocol.specs.Server.{Terms, Entry, Way, way_of, server_gets, is_live}
+use Rattle.bac_protocol.specs.Server.State.{Receiving, Done, Giving, Dropped}
+use Rattle.bac_protocol.specs.Server.Transfer.{Running, Stopped}
 use Rattle.bac_protocol.specs.Server.Way.{AtOnce, InPieces, Unsendable}
 use Rattle.bac_protocol.specs.Log.{Fact, Shop}
 use Rattle.bac_protocol.specs.Log.Fact.{Asked, Performed, Ended}
 use Rattle.bac_protocol.specs.Transaction.{Key, Rules}
-use Rattle.bac_protocol.specs.World.{Post, World, Event, run, start}
+use Rattle.bac_protocol.specs.World.{Post, World, Event, run, start, post_of, is_deliverable}
 use Rattle.bac_protocol.specs.World.Event.{MakeAsk, Deliver, Tick, Advance}
 
 -- what is seen of a world whose server's store counts its effects
@@ -138,6 +142,92 @@ OldCopy = shows 32 position (ask_append ∷ Advance 5000 ∷ Deliver 0 true ∷ 
 abbrev pub OlderCopy : Type 0
 OlderCopy = shows 32 position (ask_append ∷ Advance 5001 ∷ Deliver 0 true ∷ []) ≡ record { sent = append_apdu ∷ []; log = asked append ∷ []; effects = 0 }
 
+-- so many of that event
+abbrev pub times : ℕ → Event → List Event
+times zero event = []
+times (suc n) event = event ∷ times n event
+
+-- a copy with 128 later ones of its transaction arrives and is answered, one with 129 is lost
+abbrev pub OvertakenCopy : Type 0
+OvertakenCopy =
+    (length (shows 32 position (ask_append ∷ times 128 (Deliver 0 true))).sent ≡ 129)
+    × (length (shows 32 position (ask_append ∷ times 129 (Deliver 0 true))).sent ≡ 130)
+    × (length (shows 32 position (ask_append ∷ times 130 (Deliver 0 true))).sent ≡ 130)
+
+-- so many copies of a transaction
+abbrev pub posts_of : Key → ℕ → List Post
+posts_of name zero = []
+posts_of name (suc n) = post_of name 0 append_apdu ∷ posts_of name n
+
+abbrev pub other_key : ℕ → Key
+other_key id = record { client = 2; server = 1; id = id }
+
+abbrev pub is_first_deliverable : List Post → Bool
+is_first_deliverable later = is_deliverable (rules 32) 0 0 (post_of key 0 append_apdu ∷ later) (post_of key 0 append_apdu)
+
+-- copies of other transactions overtake none
+abbrev pub OtherCopies : Type 0
+OtherCopies =
+    (is_first_deliverable (posts_of (other_key 0) 129 ++ posts_of key 128) ≡ true)
+    × (is_first_deliverable (posts_of key 128 ++ posts_of (other_key 0) 129 ++ posts_of key 1) ≡ false)
+
+-- One reply slot and two clients.
+
+abbrev pub read : Octets
+read = 12 ∷ 0 ∷ 0 ∷ 0 ∷ 5 ∷ 25 ∷ 85 ∷ []
+
+abbrev pub read_request : Request
+read_request = record { choice = 12; service = read }
+
+abbrev pub value : Octets
+value = 12 ∷ 0 ∷ 0 ∷ 0 ∷ 5 ∷ 25 ∷ 85 ∷ 62 ∷ 68 ∷ 66 ∷ 144 ∷ 153 ∷ 154 ∷ 63 ∷ []
+
+abbrev pub ask_read : Key → Event
+ask_read name = MakeAsk name 12 true read []
+
+abbrev pub read_apdu : ℕ → Apdu
+read_apdu id = ConfirmedRequest true 7 0 id None 12 read
+
+abbrev pub value_apdu : ℕ → Apdu
+value_apdu id = ComplexAck id None 12 value
+
+-- the first client asks at 0; the other at 0, at 65,000 and at 65,001
+abbrev pub of_two_clients : World ℕ
+of_two_clients = run ℕ (shop (Complex value)) (rules 32)
+    (ask_read key ∷ Deliver 0 true ∷ ask_read (other_key 0) ∷ Deliver 2 false ∷ Deliver 3 true ∷ Advance 65000 ∷ ask_read (other_key 1) ∷ Deliver 4 false
+    ∷ Deliver 5 true ∷ Advance 1 ∷ ask_read (other_key 2) ∷ Deliver 6 true ∷ [])
+    (start ℕ (λ node. 0))
+
+-- what the first client's request leaves in the one slot
+abbrev pub slot : Entry
+slot = record {
+  begin = 0;
+  terms = record { choice = 12; takes_segments = true; max_segments = 7; max_apdu = 0 };
+  request = Some read;
+  state =
+      Done (value_apdu 0);
+}
+
+-- while the first client's entry is live no slot is free: the other client gets Abort 0 twice, without an effect; its third request is performed
+abbrev pub TwoClients : Type 0
+TwoClients =
+    (seen of_two_clients ≡ record {
+      sent =
+          read_apdu 0 ∷ value_apdu 0 ∷ read_apdu 0 ∷ Abort true 0 0 ∷ read_apdu 1 ∷ Abort true 1 0 ∷ read_apdu 2 ∷ value_apdu 2 ∷ [];
+      log =
+          (Performed 3 read_request (Complex value) ∷ Asked 3 2 1 read_request ∷ [])
+          ++ (Ended 2 (Aborted 0) ∷ Asked 2 2 1 read_request ∷ [])
+          ++ (Ended 1 (Aborted 0) ∷ Asked 1 2 1 read_request ∷ [])
+          ++ (Performed 0 read_request (Complex value) ∷ Asked 0 0 1 read_request ∷ []);
+      effects = 2;
+    })
+    × (of_two_clients.net.entries key ≡ Some slot)
+    × (is_live 0 slot ≡ true)
+    × (is_live 65000 slot ≡ true)
+    × (is_live 65001 slot ≡ false)
+    × (of_two_clients.net.entries (other_key 0) ≡ None)
+    × (of_two_clients.net.entries (other_key 1) ≡ None)
+
 -- an answer whose service data can't be read is answered by Abort 0
 abbrev pub Unreadable : Type 0
 Unreadable =
@@ -189,6 +279,41 @@ LostAck =
       log = Ended 0 (Answered position) ∷ performed whole position ∷ asked whole ∷ [];
       effects = 1;
     }
+
+-- so many octets, counting up from that one
+abbrev pub counting : ℕ → ℕ → Octets
+counting zero octet = []
+counting (suc n) octet = octet ∷ counting n (suc octet)
+
+-- 100 octets are written to a file at position 0: 111 octets of service data, in pieces of 44, 44 and 23
+abbrev pub put : Octets
+put = (196 ∷ 2 ∷ 128 ∷ 0 ∷ 1 ∷ 14 ∷ 49 ∷ 0 ∷ 101 ∷ 100 ∷ []) ++ counting 100 0 ++ (15 ∷ [])
+
+abbrev pub put_1 : Octets
+put_1 = take 44 (drop 44 put)
+
+abbrev pub put_2 : Octets
+put_2 = drop 88 put
+
+abbrev pub at_0 : Reply
+at_0 = Complex (9 ∷ 0 ∷ [])
+
+abbrev pub at_0_apdu : Apdu
+at_0_apdu = ComplexAck 0 None 7 (9 ∷ 0 ∷ [])
+
+-- the same with pieces of the sizes of APDUs of 50 octets
+abbrev pub LostAckOfPut : Type 0
+LostAckOfPut =
+    (length put_2 ≡ 23)
+    × (shows 32 at_0 (MakeAsk key 7 false (take 44 put) (put_1 ∷ put_2 ∷ []) ∷ Deliver 0 true ∷ Deliver 1 true ∷ Deliver 2 true ∷ Deliver 3 true
+    ∷ Advance 2000 ∷ tick ∷ Deliver 6 true ∷ Deliver 8 true ∷ [])
+    ≡ record {
+      sent =
+          (segment_apdu 0 true (take 44 put) ∷ ack_of false 0 ∷ segment_apdu 1 true put_1 ∷ segment_apdu 2 false put_2 ∷ ack_of false 2 ∷ at_0_apdu ∷ [])
+          ++ (segment_apdu 1 true put_1 ∷ segment_apdu 2 false put_2 ∷ at_0_apdu ∷ []);
+      log = Ended 0 (Answered at_0) ∷ performed put at_0 ∷ asked put ∷ [];
+      effects = 1;
+    })
 
 -- segments 2, 2, 1, 1 arrive in this order
 abbrev pub OutOfOrder : Type 0
@@ -265,6 +390,46 @@ StoppedReply =
       effects = 1;
     }
 
+-- a reply of 48 octets goes in two segments, and the ask is answered with it, whole
+abbrev pub TwoSegments : Type 0
+TwoSegments =
+    shows 32 (Complex (zeros 48)) (ask_append ∷ Deliver 0 true ∷ Deliver 1 true ∷ Deliver 2 true ∷ Deliver 3 true ∷ Deliver 4 true ∷ [])
+    ≡ record {
+      sent =
+          (append_apdu ∷ ComplexAck 0 (Some (record { more = true; number = 0; window = 32 })) 7 (zeros 45) ∷ SegmentAck false false 0 0 32 ∷ [])
+          ++ (ComplexAck 0 (Some (record { more = false; number = 1; window = 32 })) 7 (zeros 3) ∷ SegmentAck false false 0 1 32 ∷ []);
+      log = Ended 0 (Answered (Complex (zeros 48))) ∷ performed append (Complex (zeros 48)) ∷ asked append ∷ [];
+      effects = 1;
+    }
+
+-- all nodes take replies in segments so
+abbrev pub rules_of : Bool → ℕ → Rules
+rules_of takes_segments max_segments = record {
+  settings = λ node. record { window = 32; takes_segments = takes_segments; max_segments = max_segments; max_apdu = 0 };
+  readable =
+      λ choice octets. true;
+  overtake = 128;
+}
+
+-- the request arrives twice, and the second answer before the first; the reply has so many octets
+abbrev pub refuses : Bool → ℕ → ℕ → Seen
+refuses takes_segments max_segments octets = seen
+    (run ℕ (shop (Complex (zeros octets))) (rules_of takes_segments max_segments)
+    (ask_append ∷ Deliver 0 true ∷ Deliver 0 true ∷ Deliver 2 true ∷ Deliver 1 true ∷ []) (start ℕ (λ node. 0)))
+
+-- that reason is kept and sent to each copy of the request; nothing is performed or stored, and the ask ends with it
+abbrev pub IsRefused : Bool → ℕ → (reason : ℕ) → Seen → Type 0
+IsRefused takes_segments max_segments reason s =
+    s ≡ record {
+      sent = ConfirmedRequest takes_segments max_segments 0 0 None 7 append ∷ Abort true 0 reason ∷ Abort true 0 reason ∷ [];
+      log = Ended 0 (Aborted reason) ∷ asked append ∷ [];
+      effects = 0;
+    }
+
+-- a reply of 48 octets to one who takes no segments gets Abort 4; one of three pieces to one who takes two gets Abort 1
+abbrev pub RefusedReplies : Type 0
+RefusedReplies = IsRefused false 7 4 (refuses false 7 48) × IsRefused true 1 1 (refuses true 1 91)
+
 -- Sizes: how a reply of so many octets goes, at 50 octets an APDU.
 
 abbrev pub terms_of : Bool → ℕ → Terms
@@ -282,6 +447,28 @@ Sizes =
     × (way true 1 90 ≡ InPieces (zeros 45 ∷ zeros 45 ∷ []))
     × (way true 1 91 ≡ Unsendable 1)
     × (way true 0 91 ≡ InPieces (zeros 45 ∷ zeros 45 ∷ zeros 1 ∷ []))
+
+-- how a request of so many octets goes
+abbrev pub limits : Bool → ℕ → Limits
+limits takes_segments max_segments = record { max_apdu = 0; takes_segments = takes_segments; max_segments = max_segments }
+
+abbrev pub request_way : Bool → ℕ → ℕ → RequestWay
+request_way takes_segments max_segments octets = request_way_of ((rules 32).settings 0) (limits takes_segments max_segments) (zeros octets)
+
+-- 46 octets go in one APDU; 47 go in pieces of 44 and 3 to one who takes segments, and otherwise not; 111 octets need three segments:
+-- code 2 allows four, code 1 two
+abbrev pub RequestSizes : Type 0
+RequestSizes =
+    (request_way false 7 46 ≡ InOne)
+    × (request_way false 7 47 ≡ NeedsSegments)
+    × (request_way true 7 47 ≡ InSegments (zeros 44 ∷ zeros 3 ∷ []))
+    × (request_way true 2 111 ≡ InSegments (zeros 44 ∷ zeros 44 ∷ zeros 23 ∷ []))
+    × (request_way true 1 111 ≡ NeedsSegments)
+    × (request_way false 2 111 ≡ NeedsSegments)
+
+-- 65,536 octets are too long, whatever the peer takes; 65,535 are not
+abbrev pub LongestRequest : Type 0
+LongestRequest = (request_way false 0 65535 ≡ NeedsSegments) × (request_way false 0 65536 ≡ TooLong) × (request_way true 0 65536 ≡ TooLong)
 
 -- Single steps of the two machines.
 
@@ -356,12 +543,54 @@ DroppedEntry =
     × (serves 0 (Some dropped) segment_1 ≡ record { entry = Some dropped; sends = Abort true 0 0 ∷ []; effect = None })
     × (serves 0 None segment_1 ≡ record { entry = None; sends = []; effect = None })
 
+-- an entry with a kept reply of two segments, whose transfer has stopped
+abbrev pub stopped : Entry
+stopped = record done { state = Giving (outgoing (zeros 45 ∷ zeros 3 ∷ [])) Stopped 0 }
+
+-- a kept reply in segments is given to the kept request alone: another choice or other data get Abort 0, without an effect
+abbrev pub KeptSegments : Type 0
+KeptSegments =
+    (serves 65000 (Some stopped) append_apdu ≡ record {
+      entry = Some (record stopped { state = Giving (outgoing (zeros 45 ∷ zeros 3 ∷ [])) Running 65000 });
+      sends = ComplexAck 0 (Some (record { more = true; number = 0; window = 32 })) 7 (zeros 45) ∷ [];
+      effect = None;
+    })
+    × (serves 65000 (Some stopped) (ConfirmedRequest true 7 0 0 None 12 append) ≡ record
+    { entry = Some stopped; sends = Abort true 0 0 ∷ []; effect = None })
+    × (serves 65000 (Some stopped) (ConfirmedRequest true 7 0 0 None 7 one) ≡ record { entry = Some stopped; sends = Abort true 0 0 ∷ []; effect = None })
+
+-- so many segments without octets
+abbrev pub empties : ℕ → List Octets
+empties zero = []
+empties (suc n) = [] ∷ empties n
+
+abbrev pub holding : List Octets → Incoming
+holding parts = record { parts = parts; unacknowledged = 0; window = 32 }
+
+-- a reassembly takes 65,535 octets, and 65,535 segments, and no more
+abbrev pub LongestReassembly : Type 0
+LongestReassembly =
+    (is_too_long (holding (zeros 65534 ∷ [])) one ≡ false)
+    × (is_too_long (holding (zeros 65535 ∷ [])) [] ≡ false)
+    × (is_too_long (holding (zeros 65535 ∷ [])) one ≡ true)
+    × (is_too_long (holding (empties 65534)) [] ≡ false)
+    × (is_too_long (holding (empties 65535)) [] ≡ true)
+
+-- one octet more: the server sends Abort 1 and drops what was received, and the client sends Abort 1 and ends its ticket
+abbrev pub TooLongTransfers : Type 0
+TooLongTransfers =
+    (serves 0 (Some (record receiving { state = Receiving (holding (zeros 65535 ∷ [])) 0 })) segment_1 ≡ record
+    { entry = Some dropped; sends = Abort true 0 1 ∷ []; effect = None })
+    × (hears (record awaiting { phase = Collecting (holding (zeros 65535 ∷ [])) })
+    (ComplexAck 0 (Some (record { more = false; number = 1; window = 32 })) 7 one)
+    ≡ Ends (Abort false 0 1 ∷ []) (Aborted 1))
+
 -- Straight runs past a window and past 256 segments.
 
--- so many pieces of one octet each, which counts up
+-- so many pieces of two octets each, whose number counts up
 abbrev pub pieces : ℕ → ℕ → List Octets
 pieces zero k = []
-pieces (suc n) k = (k ∷ []) ∷ pieces n (suc k)
+pieces (suc n) k = (k / 256 ∷ k % 256 ∷ []) ∷ pieces n (suc k)
 
 -- so many copies are delivered, from that number on
 abbrev pub in_order : ℕ → ℕ → List Event
@@ -378,4 +607,5 @@ LongReply = IsAnsweredAfter 95 append (Complex (zeros 4013)) (shows 32 (Complex 
 
 -- 312 deliveries for a request of 300 pieces: 300 segments, 11 SegmentACKs and the answer
 abbrev pub LongRequest : Type 0
-LongRequest = IsAnsweredAfter 312 (join ((0 ∷ []) ∷ pieces 299 1)) position (shows 32 position (MakeAsk key 7 false (0 ∷ []) (pieces 299 1) ∷ in_order 0 312))
+LongRequest =
+    IsAnsweredAfter 312 (join ((0 ∷ 0 ∷ []) ∷ pieces 299 1)) position (shows 32 position (MakeAsk key 7 false (0 ∷ 0 ∷ []) (pieces 299 1) ∷ in_order 0 312))

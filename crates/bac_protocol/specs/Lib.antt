@@ -10,5 +10,6 @@ pub mod World
 pub mod Claims
 pub mod Own
 pub mod Straight
+pub mod Steps
 pub mod Examples
 pub mod Beyond

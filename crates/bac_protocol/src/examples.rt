@@ -4,6 +4,8 @@ ghost use Rattle.bac_protocol.specs.Examples.{LongReply, LongRequest};
 ghost use Rattle.bac_protocol.specs.Examples.{FourCopies, LostAnswer, Unreadable, NoSlot, OldCopy, OlderCopy, LastMoment, TooLate, NothingDelivered};
 ghost use Rattle.bac_protocol.specs.Examples.{HeldLong, LostAck};
 ghost use Rattle.bac_protocol.specs.Examples.{OutOfOrder, LaterPass, InTime, OutOfTime, StoppedReply, Sizes, OddAcks, OtherAnswers, KeptReply, DroppedEntry};
+ghost use Rattle.bac_protocol.specs.Examples.{RequestSizes, LongestRequest, OvertakenCopy, OtherCopies, TwoClients, LostAckOfPut};
+ghost use Rattle.bac_protocol.specs.Examples.{TwoSegments, RefusedReplies, KeptSegments, LongestReassembly, TooLongTransfers};
 
 /// Whole requests: a request that is delivered four times, a lost answer, and one that can't be read.
 #[tactic(auto, using(crate::proofs::Computed::four_copies, crate::proofs::Computed::lost_answer, crate::proofs::Computed::unreadable))]
@@ -19,6 +21,19 @@ pub fn lost_requests()
     ensures no_slot { NoSlot }
     ensures old_copy { OldCopy }
     ensures older_copy { OlderCopy }
+{}
+
+/// How many later copies of its transaction may overtake a copy.
+#[tactic(auto, using(crate::proofs::Computed::overtaken_copy, crate::proofs::Computed::other_copies))]
+pub fn overtaken_copies()
+    ensures of_its_transaction { OvertakenCopy }
+    ensures of_others { OtherCopies }
+{}
+
+/// Two clients of a server with one reply slot.
+#[tactic(auto, using(crate::proofs::Computed::two_clients))]
+pub fn one_reply_slot()
+    ensures { TwoClients }
 {}
 
 /// How long a client repeats its request.
@@ -43,6 +58,12 @@ pub fn requests_in_segments()
     ensures later_pass { LaterPass }
 {}
 
+/// A request in segments of the sizes of 50-octet APDUs, with a lost SegmentACK.
+#[tactic(auto, using(crate::proofs::Computed::lost_ack_of_put))]
+pub fn request_of_111_octets()
+    ensures { LostAckOfPut }
+{}
+
 /// How long a server waits for more segments.
 #[tactic(auto, using(crate::proofs::Computed::in_time, crate::proofs::Computed::out_of_time))]
 pub fn time_of_a_reassembly()
@@ -57,6 +78,20 @@ pub fn replies_in_segments()
     ensures sizes { Sizes }
 {}
 
+/// A reply in two segments, and replies that need more segments than their client takes.
+#[tactic(auto, using(crate::proofs::Computed::two_segments, crate::proofs::Computed::refused_replies))]
+pub fn replies_and_their_clients()
+    ensures two_segments { TwoSegments }
+    ensures refused { RefusedReplies }
+{}
+
+/// Which requests go in one APDU, in segments, or not at all.
+#[tactic(auto, using(crate::proofs::Computed::request_sizes, crate::proofs::Computed::longest_request))]
+pub fn sizes_of_requests()
+    ensures sizes { RequestSizes }
+    ensures longest { LongestRequest }
+{}
+
 /// Single steps of the client's machine.
 #[tactic(auto, using(crate::proofs::Computed::odd_acks, crate::proofs::Computed::other_answers))]
 pub fn client_steps()
@@ -69,6 +104,19 @@ pub fn client_steps()
 pub fn server_steps()
     ensures kept_reply { KeptReply }
     ensures dropped_entry { DroppedEntry }
+{}
+
+/// A kept reply in segments is not given to another request.
+#[tactic(auto, using(crate::proofs::Computed::kept_segments))]
+pub fn kept_reply_in_segments()
+    ensures { KeptSegments }
+{}
+
+/// The longest reassembly, and what both ends do past it.
+#[tactic(auto, using(crate::proofs::Computed::longest_reassembly, crate::proofs::Computed::too_long_transfers))]
+pub fn longest_reassembly()
+    ensures limit { LongestReassembly }
+    ensures past_it { TooLongTransfers }
 {}
 
 /// Straight runs past a window and past 256 segments, with their counts of deliveries.

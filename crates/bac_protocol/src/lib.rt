@@ -5,16 +5,17 @@
 #![tactic(auto)]
 
 pub mod examples;
+pub mod steps;
 pub mod straight;
 
-ghost use Rattle.std.specs.Prelude.{◌≡◌, ℕ, ◌+◌, ◌*◌, ◌%◌, ◌<◌, ◌≤◌, List, length, take};
+ghost use Rattle.std.specs.Prelude.{◌≡◌, ℕ, ◌+◌, ◌*◌, ◌%◌, ◌<◌, ◌≤◌, List, Some, length, take, slice_get};
 ghost use Rattle.bac_segment.specs.Numbers.{ahead};
 ghost use Rattle.bac_protocol.specs.Log.{Shop, IsOnce};
 ghost use Rattle.bac_protocol.specs.Transaction.{Key, Rules};
-ghost use Rattle.bac_protocol.specs.World.{Post, Event, count_of, later, run, start};
+ghost use Rattle.bac_protocol.specs.World.{Post, Event, Net, count_of, later, run, start};
 ghost use Rattle.bac_protocol.specs.Beyond.{Misread};
 ghost use Rattle.bac_protocol.specs.Own.{ClientSendsOwn, ServerSendsOwn, AreOwn};
-ghost use Rattle.bac_protocol.specs.Claims.{IsBounded, AreOfNewest, RequestsAreInWindow, RepliesAreInWindow, LaterPassesFindDone};
+ghost use Rattle.bac_protocol.specs.Claims.{IsBounded, IsInPlace, AreOfNewest, RequestsAreInWindow, RepliesAreInWindow, LaterPassesFindDone};
 
 /// No number that can arrive is misread modulo 256, where windows are at most W, at most V later copies may overtake one, and V + 2W <= 255:
 /// what a receiver takes for its next piece is that piece, and what a sender takes for one of its pieces in flight is one.
@@ -32,28 +33,32 @@ pub fn at_most_once<S>()
         → (let w = run S shop rules events (start S opening) in IsOnce S shop opening w.net.log w.stores) }
 {}
 
-/// In every run, each copy that may arrive was sent no earlier than the newest ask of its transaction was made.
+/// In every run, each copy that may arrive belongs to the newest ask of its client, server and invoke ID: it was sent since that ask was made and
+/// while its ends send for it; a request is the one asked, or a piece of it; an answer is the reply with which the ask was performed, or a piece of
+/// it, for its service choice; of a SegmentACK, a Reject and an Abort only the time of sending is said. An entry that is live was begun for that ask.
 pub fn only_newest_arrives<S>()
     ensures { (shop : Shop S) (opening : ℕ → S) (W : ℕ) (rules : Rules) → IsBounded W rules → (events : List Event)
         → AreOfNewest rules (run S shop rules events (start S opening)).net }
 {}
 
-/// In every run, while a client sends the pieces of a request and its server takes them, acknowledged <= taken <= sent <= acknowledged + W, and
-/// each segment and SegmentACK that may arrive is near enough to be read as it was meant.
+/// In every run, in the first pass of each request in segments, whatever state its client and its server are in: taken <= sent <= taken + W; while
+/// the client sends, acknowledged <= taken and sent <= acknowledged + W; and each segment and SegmentACK that may arrive, with k later copies of
+/// its transaction, is of a whole number p with p < sent <= p + 1 + W + k and is read as it was meant: where it has the number of the next piece, it
+/// is the next piece; what it acknowledges was taken.
 #[tactic(auto, using(crate::proofs::Claimed::requests_in_run))]
 pub fn requests_in_window<S>()
     ensures { (shop : Shop S) (opening : ℕ → S) (W : ℕ) (rules : Rules) → IsBounded W rules → (events : List Event)
         → RequestsAreInWindow W rules (run S shop rules events (start S opening)).net }
 {}
 
-/// The same in the one pass of a reply, from its first segment on, while the ticket is open.
-#[tactic(auto, using(crate::proofs::Claimed::replies_in_run))]
+/// The same in the one pass of a reply, from its first segment on and beyond the ticket's end; before it, no segment of a reply may arrive.
 pub fn replies_in_window<S>()
     ensures { (shop : Shop S) (opening : ℕ → S) (W : ℕ) (rules : Rules) → IsBounded W rules → (events : List Event)
         → RepliesAreInWindow W rules (run S shop rules events (start S opening)).net }
 {}
 
-/// In every run, once the first pass of a request in segments is over, a segment of it that may still arrive finds its entry live and done.
+/// In every run, once the first pass of a request in segments was acknowledged, or a repeat was made, or a segment of the answer came, a segment of
+/// the request that may still arrive finds its entry live and done.
 pub fn later_passes_find_done<S>()
     ensures { (shop : Shop S) (opening : ℕ → S) (W : ℕ) (rules : Rules) → IsBounded W rules → (events : List Event)
         → LaterPassesFindDone rules (run S shop rules events (start S opening)).net }
@@ -83,4 +88,10 @@ pub fn each_copy_is_its_own<S>()
 pub fn later_copies_are_counted()
     ensures { (key : Key) (number : ℕ) (posts : List Post) → number < length posts
         → count_of key (take (number + 1) posts) + later key number posts ≡ count_of key posts }
+{}
+
+/// The claims' measure is the world's: a copy stands among those of its transaction, newest first, at the number of later ones, and it is
+/// deliverable exactly where the claims say that it may arrive.
+pub fn deliverable_copies_may_arrive()
+    ensures { (rules : Rules) (net : Net) (number : ℕ) (post : Post) → slice_get net.posts number ≡ Some post → IsInPlace rules net number post }
 {}

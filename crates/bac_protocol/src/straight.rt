@@ -10,7 +10,8 @@ ghost use Rattle.bac_protocol.specs.Straight.{AreStraight, StraightAnswers, Stra
 /// Each straight run of a transaction answers its ask: with an invoke ID that is free, no live entry, a free slot at the server, and a reply that
 /// can reach its client, the ask is performed once and its ticket ends with the service's reply, after at most 2n + 2m deliveries for n datagrams
 /// of the request and m of the reply, past 256 segments too. It holds of every world that does what the machines say, but for entries that are
-/// not live.
+/// not live. Windows are from 1, and the client's is no greater than the overtaking limit and 256; a transfer in segments has at most 65,535 octets
+/// and as many segments; the reply's kind is that of the service choice, and its client can read it.
 pub fn straight_run_answers<S>()
     ensures { (shop : Shop S) (rules : Rules) (key : Key) → AreStraight rules key → StraightAnswers S shop rules key (like_machine S shop rules key) }
 {}

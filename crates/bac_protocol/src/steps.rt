@@ -1,0 +1,38 @@
+//! What any single step of an end can do and can't, for whoever keeps tickets and entries in tables.
+
+ghost use Rattle.bac_protocol.specs.Steps.{DeadIsNone, EndedIsSilent, NothingIsSentLate, LiveStays, EffectsAreKept};
+
+/// An entry that is not live is as none: with and without it a server sends and performs the same and leaves the same live entry, now and later. So
+/// a reply table may drop it at any moment.
+#[tactic(auto, using(crate::proofs::Dead::dead_is_none))]
+pub fn dead_entries_are_none()
+    ensures { DeadIsNone }
+{}
+
+/// A ticket that has ended stays as it is and sends nothing, whatever comes and on any tick: it ends at most once. So has each ticket that is not
+/// held, and it is not held later: a client may drop it at any moment.
+#[tactic(auto, using(crate::proofs::Dead::ended_is_silent))]
+pub fn ended_tickets_are_silent()
+    ensures { EndedIsSilent }
+{}
+
+/// A client sends nothing later than 60,000 ms after its first sending, whatever comes.
+#[tactic(auto, using(crate::proofs::Dead::nothing_is_sent_late))]
+pub fn nothing_is_sent_late()
+    ensures { NothingIsSentLate }
+{}
+
+/// An entry leaves a server's reply table only after more than 65,000 ms: while it is live, each step leaves it there, with its beginning, its
+/// terms and its request. One that is done keeps its reply, whose transfer goes on with the same pieces and never back; one that was dropped stays so.
+#[tactic(auto, using(crate::proofs::Served::live_stays_law))]
+pub fn live_entries_stay()
+    ensures { LiveStays }
+{}
+
+/// A server performs a request only where no entry was live, or one was receiving it, and the APDU that came makes its service data whole: it carries
+/// them, or their last piece behind those that the entry holds. The reply is the one that the service gives, and then that entry, or one that begins
+/// now, is done and keeps that reply. A tick performs nothing.
+#[tactic(auto, using(crate::proofs::Served::effects_are_kept))]
+pub fn effects_are_kept()
+    ensures { EffectsAreKept }
+{}
