@@ -1,0 +1,177 @@
+-- The tables' rows, computed on the definitions.
+use Rattle.std.specs.Prelude.{◌≡◌, ℕ, pos, negsuc, true, false, List, [], ◌∷◌, Option, Some, None}
+use Rattle.std.specs.Option.{option_map}
+use Rattle.std.proofs.Common.{refl}
+use Rattle.bac_value.specs.Value.{ObjectId}
+use Rattle.bac_value.specs.Spelling.{tag_spelling}
+use Rattle.bac_value.specs.Number.{unsigned_octets}
+use Rattle.bac_value.specs.Reading.{element_at, tag_at, tag_number_at, form_at, length_at, contents_at, class_at, kind_at, raw_at}
+use Rattle.bac_service.specs.Values.{Reference, ReadAccess, WriteAccess, Request}
+use Rattle.bac_service.specs.Values.ReadAccess.{ReadStream, ReadRecords}
+use Rattle.bac_service.specs.Values.WriteAccess.{WriteStream, WriteRecords}
+use Rattle.bac_service.specs.Values.Request.{ReadFile, WriteFile, ReadProperty, WriteProperty}
+use Rattle.bac_service.specs.Values.Complex.{FileRead, StreamWritten, PropertyRead}
+use Rattle.bac_service.specs.Values.Reply.{Simple, Whole, Error}
+use Rattle.bac_store.specs.Stores.{Store, object_in, kind_of}
+use Rattle.bac_store.specs.Replies.{reply_to, file_of}
+use Rattle.bac_store.specs.Changes.{after}
+use Rattle.bac_store.specs.House.{house}
+
+abbrev id : ℕ → ℕ → ObjectId
+id kind instance = record { kind = kind; instance = instance }
+
+abbrev to : ℕ → ℕ → ℕ → Reference
+to kind instance number = record { object = id kind instance; property = number; index = None }
+
+abbrev real_of : ℕ → ℕ → List ℕ
+real_of a b = 0x44 ∷ a ∷ b ∷ 0 ∷ 0 ∷ []
+
+-- ---- properties of the house
+
+reads_flow : reply_to house (ReadProperty (to 0 5 85)) ≡ Whole (PropertyRead (to 0 5 85) (0x44 ∷ 0x42 ∷ 0x90 ∷ 0x99 ∷ 0x9A ∷ []))
+unfolding tag_spelling
+reads_flow = refl
+
+reads_name : reply_to house (ReadProperty (to 8 1 77)) ≡ Whole (PropertyRead (to 8 1 77) (0x75 ∷ 6 ∷ 0 ∷ 0x68 ∷ 0x6F ∷ 0x75 ∷ 0x73 ∷ 0x65 ∷ []))
+unfolding tag_spelling
+reads_name = refl
+
+reads_size : reply_to house (ReadProperty (to 10 1 42)) ≡ Whole (PropertyRead (to 10 1 42) (0x21 ∷ 2 ∷ []))
+unfolding tag_spelling unsigned_octets
+reads_size = refl
+
+reads_access_method : reply_to house (ReadProperty (to 10 1 41)) ≡ Whole (PropertyRead (to 10 1 41) (0x91 ∷ 1 ∷ []))
+unfolding tag_spelling unsigned_octets
+reads_access_method = refl
+
+reads_identifier : reply_to house (ReadProperty (to 0 5 75)) ≡ Whole (PropertyRead (to 0 5 75) (0xC4 ∷ 0 ∷ 0 ∷ 0 ∷ 5 ∷ []))
+unfolding tag_spelling
+reads_identifier = refl
+
+reads_type : reply_to house (ReadProperty (to 5 1 79)) ≡ Whole (PropertyRead (to 5 1 79) (0x91 ∷ 5 ∷ []))
+unfolding tag_spelling unsigned_octets
+reads_type = refl
+
+no_object : reply_to house (ReadProperty (to 0 9 85)) ≡ Error 1 31
+no_object = refl
+
+no_property : reply_to house (ReadProperty (to 0 5 28)) ≡ Error 2 32
+no_property = refl
+
+no_file_size : reply_to house (ReadProperty (to 0 5 42)) ≡ Error 2 32
+no_file_size = refl
+
+no_array : reply_to house (ReadProperty (record { object = id 0 5; property = 85; index = Some 0 })) ≡ Error 2 50
+no_array = refl
+
+not_writable : reply_to house (WriteProperty (to 0 5 85) (real_of 0 0) None) ≡ Error 2 40
+not_writable = refl
+
+computed_not_writable : reply_to house (WriteProperty (to 0 5 77) (real_of 0 0) None) ≡ Error 2 40
+computed_not_writable = refl
+
+out_of_range : reply_to house (WriteProperty (to 5 1 85) (0x91 ∷ 2 ∷ []) None) ≡ Error 2 37
+unfolding element_at tag_at tag_number_at form_at length_at contents_at class_at kind_at raw_at
+out_of_range = refl
+
+other_kind : reply_to house (WriteProperty (to 5 1 85) (0x21 ∷ 1 ∷ []) None) ≡ Error 2 9
+unfolding element_at tag_at tag_number_at form_at length_at contents_at class_at kind_at raw_at
+other_kind = refl
+
+two_values : reply_to house (WriteProperty (to 5 1 85) (0x91 ∷ 1 ∷ 0x91 ∷ 1 ∷ []) None) ≡ Error 2 9
+unfolding element_at tag_at tag_number_at form_at length_at contents_at class_at kind_at raw_at
+two_values = refl
+
+writes_setpoint : reply_to house (WriteProperty (to 2 1 85) (real_of 0x43 0x34) None) ≡ Simple
+unfolding element_at tag_at tag_number_at form_at length_at contents_at class_at kind_at raw_at
+writes_setpoint = refl
+
+setpoint_is_written : reply_to (after house (WriteProperty (to 2 1 85) (real_of 0x43 0x34) None)) (ReadProperty (to 2 1 85)) ≡ Whole
+    (PropertyRead (to 2 1 85) (real_of 0x43 0x34))
+unfolding element_at tag_at tag_number_at form_at length_at contents_at class_at kind_at raw_at
+setpoint_is_written = refl
+
+refused_write_changes_nothing : after house (WriteProperty (to 0 5 85) (real_of 0 0) None) ≡ house
+refused_write_changes_nothing = refl
+
+read_changes_nothing : after house (ReadProperty (to 0 5 85)) ≡ house
+read_changes_nothing = refl
+
+-- ---- the file of the house
+
+abbrev octets_of : Store → Option (List ℕ)
+octets_of s = option_map (λ f. f.octets) (file_of (object_in s (id 10 1)))
+
+abbrev write : WriteAccess → Request
+write access = WriteFile (id 10 1) access
+
+abbrev read : ReadAccess → Request
+read access = ReadFile (id 10 1) access
+
+writes_records : reply_to house (write (WriteRecords (pos 0) 1 (0x62 ∷ 0xAB ∷ 0xCD ∷ []))) ≡ Error 5 10
+writes_records = refl
+
+writes_behind_the_end : reply_to house (write (WriteStream (pos 3) (0xAA ∷ []))) ≡ Error 5 11
+writes_behind_the_end = refl
+
+writes_below : reply_to house (write (WriteStream (negsuc 1) (0xAA ∷ []))) ≡ Error 5 11
+writes_below = refl
+
+appends_nothing : reply_to house (write (WriteStream (negsuc 0) [])) ≡ Whole (StreamWritten (pos 2))
+appends_nothing = refl
+
+nothing_appended : octets_of (after house (write (WriteStream (negsuc 0) []))) ≡ Some (0x4F ∷ 0x4B ∷ [])
+nothing_appended = refl
+
+overwrites : reply_to house (write (WriteStream (pos 1) (0xAA ∷ 0xBB ∷ []))) ≡ Whole (StreamWritten (pos 1))
+overwrites = refl
+
+overwritten_and_longer : octets_of (after house (write (WriteStream (pos 1) (0xAA ∷ 0xBB ∷ [])))) ≡ Some (0x4F ∷ 0xAA ∷ 0xBB ∷ [])
+overwritten_and_longer = refl
+
+never_shorter : octets_of (after house (write (WriteStream (pos 0) (0xAA ∷ [])))) ≡ Some (0xAA ∷ 0x4B ∷ [])
+never_shorter = refl
+
+appended : octets_of (after house (write (WriteStream (negsuc 0) (0xAA ∷ 0xBB ∷ 0xCC ∷ [])))) ≡ Some (0x4F ∷ 0x4B ∷ 0xAA ∷ 0xBB ∷ 0xCC ∷ [])
+appended = refl
+
+no_file : reply_to house (WriteFile (id 0 5) (WriteStream (pos 0) (0xAA ∷ []))) ≡ Error 1 31
+no_file = refl
+
+reads_all : reply_to house (read (ReadStream (pos 0) 10)) ≡ Whole (FileRead true (pos 0) (0x4F ∷ 0x4B ∷ []))
+reads_all = refl
+
+reads_front : reply_to house (read (ReadStream (pos 0) 1)) ≡ Whole (FileRead false (pos 0) (0x4F ∷ []))
+reads_front = refl
+
+reads_to_the_end : reply_to house (read (ReadStream (pos 0) 2)) ≡ Whole (FileRead true (pos 0) (0x4F ∷ 0x4B ∷ []))
+reads_to_the_end = refl
+
+reads_at_the_end : reply_to house (read (ReadStream (pos 2) 1)) ≡ Whole (FileRead true (pos 2) [])
+reads_at_the_end = refl
+
+reads_behind_the_end : reply_to house (read (ReadStream (pos 3) 1)) ≡ Error 5 11
+reads_behind_the_end = refl
+
+reads_below : reply_to house (read (ReadStream (negsuc 0) 1)) ≡ Error 5 11
+reads_below = refl
+
+reads_records : reply_to house (read (ReadRecords (pos 0) 1)) ≡ Error 5 10
+reads_records = refl
+
+reads_no_file : reply_to house (ReadFile (id 2 1) (ReadStream (pos 0) 1)) ≡ Error 1 31
+reads_no_file = refl
+
+-- ---- kinds
+
+kind_of_real : kind_of (real_of 0 0) ≡ Some 4
+unfolding element_at tag_at tag_number_at form_at length_at contents_at class_at kind_at raw_at
+kind_of_real = refl
+
+kind_of_nothing : kind_of [] ≡ None
+unfolding element_at tag_at tag_number_at form_at length_at contents_at class_at kind_at raw_at
+kind_of_nothing = refl
+
+kind_of_a_pair : kind_of (0x0E ∷ 0x0F ∷ []) ≡ None
+unfolding element_at tag_at tag_number_at form_at length_at contents_at class_at kind_at raw_at
+kind_of_a_pair = refl

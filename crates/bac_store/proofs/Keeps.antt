@@ -1,0 +1,89 @@
+-- Changes keep what a store's fields keep.
+use Rattle.std.proofs.Common.{◌≡◌, ℕ, ◌<◌, ◌≤◌, Bool, true, false, List, length, map, get_or, Option, Some, None}
+use Rattle.std.proofs.Common.{sym, subst, refl, arith, if◌then◌else◌}
+use Rattle.std.specs.List.{All, AllPairs}
+use Rattle.std.specs.Option.{option_map, IfSome}
+use Rattle.std.proofs.lemmas.List.{length-map, get_or-map}
+use Rattle.std.proofs.lemmas.List.{with_items_is}
+use Rattle.std.specs.Global.{Vec}
+use Rattle.std.specs.Vec.{with_items}
+use Rattle.bac_store.specs.declared.entry.Entry.{Entry}
+use Rattle.bac_store.specs.Views.{entry}
+use Rattle.bac_store.specs.Changes.{where_that, with_own_values, with_values, with_contents, with_octets}
+use Rattle.bac_store.specs.Kept.{object_number, IsShort, IsKept, IsInOrder, Fits}
+use Rattle.bac_store.specs.Limits.{VALUE_LIMIT, FILE_LIMIT}
+use Rattle.bac_store.specs.Plans.{Change, changed}
+use Rattle.bac_store.specs.Stores.{Store, Object, File, is_object, is_number}
+
+module _ {A : Type 0} (change : A → A) (test : A → Bool) where
+  one : A → A
+  one x = if test x then change x else x
+
+  pub All-where_that : (P : A → Type 0) → ((x : A) → P x → P (change x)) → (xs : List A) → All P xs → All P (where_that test change xs)
+  All-where_that P keeps xs all i d l =
+      let within : i < length xs = omega (arith, length-map xs (λ x. if test x then change x else x)) in
+      rw (get_or-map (λ x. if test x then change x else x) xs i d d within) (by_case (get_or xs i d) (all i d within))
+    where
+      by_case : (x : A) → P x → P (if test x then change x else x)
+      by_case x p = go (test x)
+        where
+          go : (b : Bool) → P (if b then change x else x)
+          go true = keeps x p
+          go false = p
+
+  pub rise-where_that : (key : A → ℕ) → ((x : A) → key (change x) ≡ key x) → (xs : List A) → AllPairs (λ a b. key a < key b) xs
+      → AllPairs (λ a b. key a < key b) (where_that test change xs)
+  rise-where_that key keeps xs rise i j d l within =
+      let inside : j < length xs = omega (arith, length-map xs (λ x. if test x then change x else x)) in
+      let before : i < length xs = omega arith in
+      rw (get_or-map (λ x. if test x then change x else x) xs i d d before, get_or-map (λ x. if test x then change x else x) xs j d d inside)
+      (rw (same (get_or xs i d), same (get_or xs j d)) (rise i j d l inside))
+    where
+      same : (x : A) → key (if test x then change x else x) ≡ key x
+      same x = go (test x)
+        where
+          go : (b : Bool) → key (if b then change x else x) ≡ key x
+          go true = keeps x
+          go false = refl
+
+values_kept : (n : ℕ) (values : List ℕ) → length values ≤ VALUE_LIMIT → (o : Object) → IsKept o → IsKept (with_values n values o)
+values_kept n values short o k = record {
+  kind_fits = k.kind_fits;
+  instance_fits = k.instance_fits;
+  named = k.named;
+  rise = rise-where_that (with_own_values values) (is_number n) (λ p. p.number) (λ p. refl) o.properties k.rise;
+  short = All-where_that (with_own_values values) (is_number n) IsShort (λ p old. short) o.properties k.short;
+  file_fits = k.file_fits;
+}
+
+octets_fit : (octets : List ℕ) → length octets ≤ FILE_LIMIT → (f : Option File) → IfSome f (λ g. length g.octets ≤ FILE_LIMIT)
+    → IfSome (option_map (with_contents (λ old. octets)) f) (λ g. length g.octets ≤ FILE_LIMIT)
+octets_fit octets short None h = tt
+octets_fit octets short (Some f) h = short
+
+octets_kept : (octets : List ℕ) → length octets ≤ FILE_LIMIT → (o : Object) → IsKept o → IsKept (with_octets (λ old. octets) o)
+octets_kept octets short o k = record {
+  kind_fits = k.kind_fits;
+  instance_fits = k.instance_fits;
+  named = k.named;
+  rise = k.rise;
+  short = k.short;
+  file_fits = octets_fit octets short o.file k.file_fits;
+}
+
+pub changed_in_order : (c : Change) → Fits c → (s : Store) → IsInOrder s → IsInOrder (changed c s)
+changed_in_order Change.Nothing f s o = o
+changed_in_order (Change.Values id n values) f s o = record {
+  rise = rise-where_that (with_values n values) (is_object id) (λ x. object_number x.id) (λ x. refl) s o.rise;
+  each = All-where_that (with_values n values) (is_object id) IsKept (values_kept n values f) s o.each;
+}
+changed_in_order (Change.Octets id octets) f s o = record {
+  rise = rise-where_that (with_octets (λ old. octets)) (is_object id) (λ x. object_number x.id) (λ x. refl) s o.rise;
+  each = All-where_that (with_octets (λ old. octets)) (is_object id) IsKept (octets_kept octets f) s o.each;
+}
+
+-- what a change of the objects in their vector leaves
+pub vector_in_order : (v : Vec Entry) (ws : List Entry) (c : Change) → Fits c → IsInOrder (map entry v.items) → length ws ≡ v.len
+    → map entry ws ≡ changed c (map entry v.items) → IsInOrder (map entry (with_items v ws).items)
+vector_in_order v ws c f o kept is =
+    subst (λ xs. IsInOrder (map entry xs)) (sym (with_items_is v ws kept)) (subst IsInOrder (sym is) (changed_in_order c f (map entry v.items) o))

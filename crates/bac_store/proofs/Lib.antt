@@ -1,0 +1,13 @@
+mod Examples
+pub mod Places
+pub mod Orders
+pub mod ValueData
+pub mod Keeps
+pub mod PlanLaws
+pub mod Rising
+pub mod Distinct
+pub mod Sorting
+pub mod Stored
+pub mod HouseLaws
+pub mod ReplySizes
+pub mod KindLaws

@@ -1,0 +1,153 @@
+-- Objects that were put in order are a store.
+use Rattle.std.proofs.Common.{◌≡◌, ◌≢◌, ℕ, suc, ◌+◌, ◌*◌, ◌^◌, ◌<◌, ◌≤◌, Bool, true, false, List, [], ◌∷◌, length, map, get_or}
+use Rattle.std.proofs.Common.{Option, Some, None, Result, Ok, Err, MatchResult, refl, sym, ap, subst, arith}
+use Rattle.std.specs.Bool.{IsTrue}
+use Rattle.std.specs.List.{All, AllPairs}
+use Rattle.std.specs.List.Sorted.{IsPermutation}
+use Rattle.std.specs.Option.{IfSome}
+use Rattle.std.specs.Result.{IsErrAnd}
+use Rattle.bac_store.specs.declared.new_fault.NewFault.{NewFault}
+use Rattle.bac_store.specs.declared.new_fault.NewFault.TheVariants as fault
+use Rattle.std.proofs.lemmas.Bool.Decides.{nat_tests}
+use Rattle.std.proofs.lemmas.List.Elements.{All-map}
+use Rattle.std.proofs.lemmas.List.Sorted.{IsPermutation-map, IsPermutation-sym, All-permutation}
+use Rattle.bac_value.specs.declared.value.ObjectIdentifier.{ObjectIdentifier}
+use Rattle.bac_value.specs.Value.{ObjectId}
+use Rattle.bac_value.specs.Views.{object_id}
+use Rattle.bac_store.specs.declared.object.Object as thing
+use Rattle.bac_store.specs.Kept.{object_number, IsInOrder, IsKept, IsShort}
+use Rattle.bac_store.specs.Limits.{FILE_LIMIT}
+use Rattle.bac_store.specs.Made.{IsBad, IsGood, IsMadeOf, IsRefused}
+use Rattle.bac_store.specs.Objects.{AreDistinct, AreLike, IsLike, IsRight, IsStoreOf, is_right_file, is_right_property}
+use Rattle.bac_store.specs.Ordered.{AreSorted, IsSorting}
+use Rattle.bac_store.specs.Stores.{Store, File, Object, Property, is_number, is_object, is_same, object_in}
+use Rattle.bac_store.specs.Views.{object}
+use Rattle.bac_store.proofs.Distinct.{AllPairs-map, AllPairs-unmap, apart_from_rise, first_permuted, keys_permute}
+use Rattle.bac_store.proofs.PlanLaws.{same_numbers}
+use Rattle.bac_store.proofs.ValueData.{fits_name}
+
+abbrev number : thing.Object → ℕ
+number o = object_number (object_id o.id)
+
+same_parts : (a b c d : ℕ) → b < 2 ^ 22 → d < 2 ^ 22 → a * 2 ^ 22 + b ≡ c * 2 ^ 22 + d → record { kind : a ≡ c; instance : b ≡ d }
+same_parts a b c d p q e = record { kind = omega arith; instance = omega arith }
+
+same_id : (a b : ObjectIdentifier) → object_number (object_id a) ≡ object_number (object_id b) → object_id a ≡ object_id b
+same_id a b e =
+    let p = same_parts a.kind a.instance b.kind b.instance a.instance_fits b.instance_fits e in
+    λ i. record { kind = p.kind i; instance = p.instance i }
+
+-- ---- what is right is kept
+
+right_is_short : (k : ℕ) (p : Property) → IsTrue (is_right_property k p) → IsShort p
+right_is_short k p h = grind (arith, nat_tests)
+
+right_file_fits : (k : ℕ) (f : Option File) → IsTrue (is_right_file k f) → IfSome f (λ g. length g.octets ≤ FILE_LIMIT)
+right_file_fits k None h = tt
+right_file_fits k (Some f) h = grind (arith, nat_tests)
+
+All-weaker : {A : Type 0} (P Q : A → Type 0) → ((x : A) → P x → Q x) → (xs : List A) → All P xs → All Q xs
+All-weaker P Q f xs all i d l = f (get_or xs i d) (all i d l)
+
+kept_from_sorting : (old : Object) (new : thing.Object) → IsSorting old (object new) → IsKept (object new)
+kept_from_sorting old new s = record {
+  kind_fits = new.id.kind_fits;
+  instance_fits = new.id.instance_fits;
+  named = let short = fits_name old.name s.right.name in rw s.reordered.name (omega arith);
+  rise = s.rise;
+  short = All-permutation IsShort old.properties (object new).properties s.reordered.properties
+      (All-weaker (λ p. IsTrue (is_right_property old.id.kind p)) IsShort (right_is_short old.id.kind) old.properties s.right.each);
+  file_fits = subst (λ f. IfSome f (λ g. length g.octets ≤ FILE_LIMIT)) (sym s.reordered.file) (right_file_fits old.id.kind old.file s.right.file);
+}
+
+-- ---- look-ups
+
+one_number : (m : ℕ) (ps : List Property) → AllPairs (λ p q. p.number < q.number) ps → AllPairs (λ p q. is_number m p ≡ true → is_number m q ≡ true → ⊥) ps
+one_number m ps rise i j d l within a b = grind (arith, nat_tests, rise i j d l within)
+
+one_object : (id : ObjectId) (os : List Object) → AllPairs (λ a b. object_number a.id < object_number b.id) os
+    → AllPairs (λ a b. is_object id a ≡ true → is_object id b ≡ true → ⊥) os
+one_object id os rise i j d l within a b = same_numbers id (get_or os i d).id (get_or os j d).id a b (rise i j d l within)
+
+like_from_sorting : (old new : Object) → IsSorting old new → IsLike new old
+like_from_sorting old new s = record {
+  id = s.reordered.id;
+  name = s.reordered.name;
+  listed = λ n. first_permuted (is_number n) old.properties new.properties (one_number n new.properties s.rise) s.reordered.properties;
+  file = s.reordered.file;
+}
+
+likes : (id : ObjectId) (olds news : List thing.Object) → length news ≡ length olds
+    → ((i : ℕ) (d : thing.Object) → i < length olds → IsSorting (object (get_or olds i d)) (object (get_or news i d)))
+    → AreLike (object_in (map object news) id) (object_in (map object olds) id)
+likes id [] [] same each = tt
+likes id [] (n ∷ news) same each = absurd (omega arith)
+likes id (o ∷ olds) [] same each = absurd (omega arith)
+likes id (o ∷ olds) (n ∷ news) same each =
+    go (is_object id (object o)) (ap (is_same id) head.reordered.id) refl (likes id olds news (omega arith) (λ i d l. each (suc i) d (omega arith)))
+  where
+    head : IsSorting (object o) (object n)
+    head = each 0 o (omega arith)
+
+    go : (b : Bool) → is_object id (object n) ≡ is_object id (object o) → is_object id (object o) ≡ b
+        → AreLike (object_in (map object news) id) (object_in (map object olds) id)
+        → AreLike (object_in (map object (n ∷ news)) id) (object_in (map object (o ∷ olds)) id)
+    go true same e rest = rw (same, e) (like_from_sorting (object o) (object n) head)
+    go false same e rest = rw (same, e) rest
+
+-- ---- all of it
+
+module _ (old sorted : List thing.Object) (moved : IsPermutation old sorted) where
+  pub not_distinct : (AllPairs (λ a b. object_number (object_id a.id) ≢ object_number (object_id b.id)) sorted → ⊥) → AreDistinct (map object old) → ⊥
+  not_distinct twice apart =
+      let ids = AllPairs-unmap object (λ a b. a.id ≢ b.id) old apart in
+      twice (keys_permute number old sorted moved (λ i j d l within e. ids i j d l within (same_id (get_or old i d).id (get_or old j d).id e)))
+
+  distinct : AllPairs (λ a b. object_number (object_id a.id) < object_number (object_id b.id)) sorted → AreDistinct (map object old)
+  distinct rise =
+      let numbers = keys_permute number sorted old (IsPermutation-sym old sorted moved) (apart_from_rise number sorted rise) in
+      AllPairs-map object (λ a b. a.id ≢ b.id) old (λ i j d l within e. numbers i j d l within (ap object_number e))
+
+  pub bad : AllPairs (λ a b. object_number (object_id a.id) < object_number (object_id b.id)) sorted → (All IsRight (map object sorted) → ⊥)
+      → IsBad (map object old)
+  bad rise wrong = record {
+    distinct = distinct rise;
+    wrong = λ all. wrong (All-permutation IsRight (map object old) (map object sorted) (IsPermutation-map object old sorted moved) all);
+  }
+
+  module _ (new : List thing.Object) (rise : AllPairs (λ a b. object_number (object_id a.id) < object_number (object_id b.id)) sorted)
+      (all : AreSorted sorted new) where
+    pub good : IsGood (map object old)
+    good = record {
+      distinct = distinct rise;
+      right = All-permutation IsRight (map object sorted) (map object old)
+          (IsPermutation-sym (map object old) (map object sorted) (IsPermutation-map object old sorted moved))
+          (All-map IsRight object sorted (λ i d l. (all.each i d l).right));
+    }
+
+    pub in_order : IsInOrder (map object new)
+    in_order = record {
+      rise = AllPairs-map object (λ a b. object_number a.id < object_number b.id) new (λ i j d l within.
+          let inside : j < length sorted = omega (arith, all.same_length) in
+          let before : i < length sorted = omega arith in
+          subst (λ x. object_number x < object_number (object (get_or new j d)).id) (sym (all.each i d before).reordered.id)
+          (subst (λ x. object_number (object (get_or sorted i d)).id < object_number x) (sym (all.each j d inside).reordered.id) (rise i j d l inside)));
+      each = All-map IsKept object new (λ i d l.
+          let inside : i < length sorted = omega (arith, all.same_length) in
+          kept_from_sorting (object (get_or sorted i d)) (get_or new i d) (all.each i d inside));
+    }
+
+    store_of : IsStoreOf (map object old) (map object new)
+    store_of id =
+        let one = one_object id (map object sorted) (AllPairs-map object (λ a b. object_number a.id < object_number b.id) sorted rise) in
+        let same = first_permuted (is_object id) (map object old) (map object sorted) one (IsPermutation-map object old sorted moved) in
+        subst (AreLike (object_in (map object new) id)) same (likes id sorted new all.same_length all.each)
+
+    pub made : IsMadeOf (map object old) (map object new)
+    made = record { distinct = good.distinct; right = good.right; store = store_of }
+
+-- want of memory comes last
+pub refused : (objects : List Object) (r : Result Store NewFault) → IsErrAnd r (λ e. e ≡ fault.NoMemory) → IsGood objects
+    → MatchResult r (IsMadeOf objects) (IsRefused objects)
+refused objects (Ok s) h g = absurd h
+refused objects (Err e) h g = subst (IsRefused objects) (sym h) g

@@ -1,0 +1,7 @@
+use Rattle.std.proofs.Common.{arith}
+use Rattle.std.proofs.lemmas.Grind.{common_steps}
+use Rattle.bac_store.proofs.HouseLaws.{kind_of_flow}
+use Rattle.bac_store.proofs.house_objects.flow.Goals as goal
+
+pub returns : goal.returns
+returns c = grind (arith, common_steps, kind_of_flow)

@@ -1,0 +1,32 @@
+-- What contracts see of plans and of refusals in code.
+use Rattle.std.specs.Prelude.{Option, Some, None}
+use Rattle.bac_value.specs.Views.{object_id}
+use Rattle.bac_service.specs.Values.{Reply}
+use Rattle.bac_store.specs.declared.planned.Change as code
+use Rattle.bac_store.specs.declared.planned.Change.TheVariants as variant
+use Rattle.bac_store.specs.declared.refusal.Refusal.{Refusal}
+use Rattle.bac_store.specs.declared.refusal.Refusal.TheVariants as case
+use Rattle.bac_store.specs.Plans.{Change}
+use Rattle.bac_store.specs.Replies as reply
+
+abbrev pub change_view : code.Change → Change
+change_view variant.Nothing = Change.Nothing
+change_view (variant.Values id n values) = Change.Values (object_id id) n values.octets.items
+change_view (variant.Octets id octets) = Change.Octets (object_id id) octets.items
+
+abbrev pub refused : Refusal → Reply
+refused case.UnknownObject = reply.UNKNOWN_OBJECT
+refused case.UnknownProperty = reply.UNKNOWN_PROPERTY
+refused case.PropertyIsNotAnArray = reply.PROPERTY_IS_NOT_AN_ARRAY
+refused case.WriteAccessDenied = reply.WRITE_ACCESS_DENIED
+refused case.InvalidDataType = reply.INVALID_DATA_TYPE
+refused case.ValueOutOfRange = reply.VALUE_OUT_OF_RANGE
+refused case.NoSpaceToWrite = reply.NO_SPACE_TO_WRITE
+refused case.InvalidFileAccessMethod = reply.INVALID_FILE_ACCESS_METHOD
+refused case.FileAccessDenied = reply.FILE_ACCESS_DENIED
+refused case.InvalidFileStartPosition = reply.INVALID_FILE_START_POSITION
+
+-- the Error of a refusal, or this reply where there is none
+abbrev pub refused_or : Reply → Option Refusal → Reply
+refused_or reply None = reply
+refused_or reply (Some r) = refused r

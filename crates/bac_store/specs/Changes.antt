@@ -1,0 +1,51 @@
+-- What a request makes of a store.
+use Rattle.std.specs.Prelude.{ℕ, Bool, true, false, List, map, if◌then◌else◌}
+use Rattle.std.specs.Option.{option_map}
+use Rattle.bac_value.specs.Value.{ObjectId}
+use Rattle.bac_service.specs.Values.{Request, Reply}
+use Rattle.bac_service.specs.Values.WriteAccess.{WriteStream, WriteRecords}
+use Rattle.bac_service.specs.Values.Request.{ReadFile, WriteFile, ReadProperty, WriteProperty}
+use Rattle.bac_service.specs.Values.Reply.{Simple, Whole, Error, Reject}
+use Rattle.bac_store.specs.Stores.{Store, Object, Property, File, is_object, is_number}
+use Rattle.bac_store.specs.Replies.{reply_to, written}
+
+-- the list with a change to each element that a test takes
+abbrev pub where_that : {A : Type 0} → (A → Bool) → (A → A) → List A → List A
+where_that test change xs = map (λ x. if test x then change x else x) xs
+
+-- that object changed, the others as they are
+abbrev pub with_object : ObjectId → (Object → Object) → Store → Store
+with_object id change s = where_that (is_object id) change s
+
+-- other values for a listed property
+abbrev pub with_own_values : List ℕ → Property → Property
+with_own_values values p = record p { values = values }
+
+abbrev pub with_values : ℕ → List ℕ → Object → Object
+with_values n values o = record o { properties = where_that (is_number n) (with_own_values values) o.properties }
+
+-- other octets for a file
+abbrev pub with_contents : (List ℕ → List ℕ) → File → File
+with_contents change f = record f { octets = change f.octets }
+
+abbrev pub with_octets : (List ℕ → List ℕ) → Object → Object
+with_octets change o = record o { file = option_map (with_contents change) o.file }
+
+-- an Error changes nothing
+abbrev pub is_done : Reply → Bool
+is_done Simple = true
+is_done (Whole c) = true
+is_done (Error class code) = false
+is_done (Reject reason) = false
+
+-- what a request is for, where it is done
+abbrev pub done : Request → Store → Store
+done (ReadFile id access) s = s
+done (WriteFile id (WriteRecords start count run)) s = s
+done (WriteFile id (WriteStream start octets)) s = with_object id (with_octets (written start octets)) s
+done (ReadProperty r) s = s
+done (WriteProperty r values priority) s = with_object r.object (with_values r.property values) s
+
+-- the store after a request
+abbrev pub after : Store → Request → Store
+after s r = if is_done (reply_to s r) then done r s else s

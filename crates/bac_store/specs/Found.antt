@@ -1,0 +1,41 @@
+-- What look-ups in code give: the one place whose element a test takes.
+use Rattle.std.specs.Prelude.{◌≡◌, ◌≢◌, ℕ, ◌<◌, Bool, true, false, List, length, Option, Some, slice_get, slice_index_or}
+use Rattle.std.specs.Option.{MatchOption}
+use Rattle.std.specs.List.{All}
+use Rattle.bac_value.specs.Value.{Datum, object, characters, enumerated, unsigned}
+use Rattle.bac_store.specs.declared.found.Computed.{Computed}
+use Rattle.bac_store.specs.declared.found.Computed.TheVariants as own
+use Rattle.bac_store.specs.declared.found.Found.{Found}
+use Rattle.bac_store.specs.declared.found.Found.TheVariants as found
+use Rattle.bac_store.specs.Limits.{FILE_ACCESS_METHOD, FILE_SIZE, OBJECT_IDENTIFIER, OBJECT_NAME, OBJECT_TYPE}
+use Rattle.bac_store.specs.Stores.{Object, Property, computed}
+
+-- seen by a view, the element at a place passes the test, and no other does
+pub record IsOnly {A B : Type 0} (view : A → B) (test : B → Bool) (xs : List A) (i : ℕ) : Type 0 where
+  pub within : i < length xs
+  pub passes : (d : A) → test (view (slice_index_or xs i d)) ≡ true
+  pub others : (j : ℕ) (d : A) → j < length xs → j ≢ i → test (view (slice_index_or xs j d)) ≡ false
+
+-- a search answered the one place, or that there is none
+abbrev pub IsPlaceOf : {A B : Type 0} → (A → B) → (B → Bool) → List A → Option ℕ → Type 0
+IsPlaceOf view test xs result = MatchOption result (All (λ x. test (view x) ≡ false) xs) (IsOnly view test xs)
+
+-- the number and the value of a computed property
+abbrev pub computed_number : Computed → ℕ
+computed_number own.Identifier = OBJECT_IDENTIFIER
+computed_number own.Name = OBJECT_NAME
+computed_number own.Type = OBJECT_TYPE
+computed_number own.AccessMethod = FILE_ACCESS_METHOD
+computed_number (own.Size len) = FILE_SIZE
+
+abbrev pub computed_value : Object → Computed → Datum
+computed_value o own.Identifier = object o.id
+computed_value o own.Name = characters 0 o.name
+computed_value o own.Type = enumerated o.id.kind
+computed_value o own.AccessMethod = enumerated 1
+computed_value o (own.Size len) = unsigned len
+
+-- the property that code found in an object
+abbrev pub found_in : Object → Found → Option Property
+found_in o (found.Computed c) = Some (computed (computed_number c) (computed_value o c))
+found_in o (found.Listed at) = slice_get o.properties at

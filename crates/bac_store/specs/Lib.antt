@@ -1,0 +1,15 @@
+pub mod Limits
+pub mod Stores
+pub mod Replies
+pub mod Changes
+pub mod Plans
+pub mod Objects
+pub mod Views
+pub mod Kept
+pub mod Answers
+pub mod Found
+pub mod Made
+pub mod Ordered
+pub mod ReplyLengths
+pub mod Kinds
+pub mod House

@@ -1,0 +1,27 @@
+-- When a store is made of objects.
+use Rattle.std.specs.Prelude.{List}
+use Rattle.std.specs.List.{All}
+use Rattle.bac_store.specs.declared.new_fault.NewFault.{NewFault}
+use Rattle.bac_store.specs.declared.new_fault.NewFault.TheVariants as fault
+use Rattle.bac_store.specs.Stores.{Store, Object}
+use Rattle.bac_store.specs.Objects.{AreDistinct, IsRight, IsStoreOf}
+
+-- the objects can be a store, and this is it
+pub record IsMadeOf (objects : List Object) (s : Store) : Type 0 where
+  pub distinct : AreDistinct objects
+  pub right : All IsRight objects
+  pub store : IsStoreOf objects s
+
+pub record IsBad (objects : List Object) : Type 0 where
+  pub distinct : AreDistinct objects
+  pub wrong : All IsRight objects → ⊥
+
+pub record IsGood (objects : List Object) : Type 0 where
+  pub distinct : AreDistinct objects
+  pub right : All IsRight objects
+
+-- why no store is made of the objects
+abbrev pub IsRefused : List Object → NewFault → Type 0
+IsRefused objects fault.Duplicate = AreDistinct objects → ⊥
+IsRefused objects fault.BadObject = IsBad objects
+IsRefused objects fault.NoMemory = IsGood objects

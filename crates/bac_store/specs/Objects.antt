@@ -1,0 +1,68 @@
+-- Which lists of objects a store is made of, and which store that is.
+use Rattle.std.specs.Prelude.{◌≡◌, ◌≢◌, ◌≤◌, ℕ, Bool, true, not, ◌==◌, ◌&&◌, ◌||◌, nat_le, IsTrue, List, length, Option, Some, None}
+use Rattle.std.specs.Prelude.{if◌then◌else◌}
+use Rattle.std.specs.List.{All, AllPairs}
+use Rattle.bac_value.specs.Value.{ObjectId, characters}
+use Rattle.bac_value.specs.Writing.{value_spelling}
+use Rattle.bac_store.specs.Limits.{ANALOG_INPUT, ANALOG_VALUE, BINARY_VALUE, DEVICE, FILE, DESCRIPTION, PRESENT_VALUE, REAL, CHARACTERS, VALUE_LIMIT}
+use Rattle.bac_store.specs.Limits.{FILE_LIMIT}
+use Rattle.bac_store.specs.Stores.{Store, Object, Property, File, object_in, listed_in, is_state}
+use Rattle.bac_store.specs.Replies.{is_of_kind}
+
+-- no two objects have one identifier
+abbrev pub AreDistinct : List Object → Type 0
+AreDistinct = AllPairs (λ a b. a.id ≢ b.id)
+
+-- ---- right objects; the limits are this profile's own
+
+-- five types of the standard, and vendors' own
+abbrev pub is_right_type : ℕ → Bool
+is_right_type k =
+    (k == ANALOG_INPUT) || (k == ANALOG_VALUE) || (k == BINARY_VALUE) || (k == DEVICE) || (k == FILE) || (nat_le 128 k && nat_le k 1023)
+
+-- the greatest instance stands for any device, and no object has it
+abbrev pub is_right_id : ObjectId → Bool
+is_right_id id = is_right_type id.kind && not (id.instance == 4194303)
+
+-- two properties of the standard, and vendors' own
+abbrev pub is_right_number : ℕ → Bool
+is_right_number n = (n == DESCRIPTION) || (n == PRESENT_VALUE) || (nat_le 512 n && nat_le n 4194303)
+
+-- a description is a CharacterString; the present-value is a Real of the analog types, a state of a binary-value
+abbrev pub are_right_values : (kind number : ℕ) → List ℕ → Bool
+are_right_values k n values =
+    if n == DESCRIPTION then is_of_kind (Some CHARACTERS) values else
+    (if (n == PRESENT_VALUE) && ((k == ANALOG_INPUT) || (k == ANALOG_VALUE)) then is_of_kind (Some REAL) values else
+    (if (n == PRESENT_VALUE) && (k == BINARY_VALUE) then is_state values else true))
+
+abbrev pub is_right_property : ℕ → Property → Bool
+is_right_property k p = is_right_number p.number && nat_le (length p.values) VALUE_LIMIT && are_right_values k p.number p.values
+
+-- a file has octets, and nothing else has
+abbrev pub is_right_file : ℕ → Option File → Bool
+is_right_file k None = not (k == FILE)
+is_right_file k (Some f) = (k == FILE) && nat_le (length f.octets) FILE_LIMIT
+
+pub record IsRight (o : Object) : Type 0 where
+  pub id : IsTrue (is_right_id o.id)
+  pub name : length (value_spelling (characters 0 o.name)) ≤ VALUE_LIMIT
+  pub each : All (λ p. IsTrue (is_right_property o.id.kind p)) o.properties
+  pub distinct : AllPairs (λ a b. a.number ≢ b.number) o.properties
+  pub file : IsTrue (is_right_file o.id.kind o.file)
+
+-- ---- the store of some objects: whatever is looked up is what the objects say
+
+pub record IsLike (a b : Object) : Type 0 where
+  pub id : a.id ≡ b.id
+  pub name : a.name ≡ b.name
+  pub listed : (n : ℕ) → listed_in a n ≡ listed_in b n
+  pub file : a.file ≡ b.file
+
+abbrev pub AreLike : Option Object → Option Object → Type 0
+AreLike None None = Unit {0}
+AreLike None (Some b) = ⊥
+AreLike (Some a) None = ⊥
+AreLike (Some a) (Some b) = IsLike a b
+
+abbrev pub IsStoreOf : List Object → Store → Type 0
+IsStoreOf objects s = (id : ObjectId) → AreLike (object_in s id) (object_in objects id)

@@ -1,0 +1,32 @@
+-- Objects and properties put in order.
+use Rattle.std.specs.Prelude.{◌≡◌, ℕ, ◌<◌, Bool, List, length, map, MatchBool, slice_index_or}
+use Rattle.std.specs.List.{All, AllPairs}
+use Rattle.std.specs.List.Sorted.{IsPermutation}
+use Rattle.bac_store.specs.declared.object.Object as thing
+use Rattle.bac_store.specs.Objects.{IsRight}
+use Rattle.bac_store.specs.Stores.{Object}
+use Rattle.bac_store.specs.Views.{object}
+
+-- the object with its properties in another order
+pub record IsReordered (old new : Object) : Type 0 where
+  pub id : new.id ≡ old.id
+  pub name : new.name ≡ old.name
+  pub properties : IsPermutation old.properties new.properties
+  pub file : new.file ≡ old.file
+
+pub record IsSorting (old new : Object) : Type 0 where
+  pub reordered : IsReordered old new
+  pub right : IsRight old
+  pub rise : AllPairs (λ p q. p.number < q.number) new.properties
+
+-- whether an object is right; where it is, its properties are in order now
+abbrev pub SortsObject : Bool → Object → Object → Type 0
+SortsObject sorted old new = MatchBool sorted (IsSorting old new) (IsRight old → ⊥)
+
+pub record AreSorted (old new : List thing.Object) : Type 0 where
+  pub same_length : length new ≡ length old
+  pub each : (i : ℕ) (d : thing.Object) → i < length old → IsSorting (object (slice_index_or old i d)) (object (slice_index_or new i d))
+
+-- whether all objects are right
+abbrev pub SortsObjects : Bool → List thing.Object → List thing.Object → Type 0
+SortsObjects sorted old new = MatchBool sorted (AreSorted old new) (All IsRight (map object old) → ⊥)

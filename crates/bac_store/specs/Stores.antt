@@ -1,0 +1,98 @@
+-- A store: objects with their properties and files (clause 12), as plain values.
+use Rattle.std.specs.Prelude.{ℕ, Bool, false, ◌==◌, ◌&&◌, List, [], ◌∷◌, length, Option, Some, None, Result, Ok, Err, if◌then◌else◌, nat_lt}
+use Rattle.std.specs.Option.{option_map}
+use Rattle.bac_value.specs.declared.fault.FaultKind.{FaultKind}
+use Rattle.bac_value.specs.declared.tag.Class.{Class}
+use Rattle.bac_value.specs.declared.tag.Class.TheVariants.{Application, Context}
+use Rattle.bac_value.specs.Element.{Part}
+use Rattle.bac_value.specs.Reading.{element_at}
+use Rattle.bac_value.specs.Value.{ObjectId, Datum, kind_number, object, characters, enumerated, unsigned}
+use Rattle.bac_value.specs.Writing.{value_spelling}
+use Rattle.bac_store.specs.Limits.{FILE_ACCESS_METHOD, FILE_SIZE, OBJECT_IDENTIFIER, OBJECT_NAME, OBJECT_TYPE}
+
+-- values are octets of data; the kind is the application tag that they must have, or None where any data will do
+pub record Property : Type 0 where
+  pub number : ℕ
+  pub values : List ℕ
+  pub writable : Bool
+  pub kind : Option ℕ
+
+pub record File : Type 0 where
+  pub octets : List ℕ
+  pub writable : Bool
+
+-- the name is a text of character set 0; the properties are those that are not computed; only a file has octets
+pub record Object : Type 0 where
+  pub id : ObjectId
+  pub name : List ℕ
+  pub properties : List Property
+  pub file : Option File
+
+-- no two objects have one identifier, and no two properties of an object have one number; their order says nothing
+abbrev pub Store : Type 0
+Store = List Object
+
+-- ---- looking up
+
+abbrev pub first_that : {A : Type 0} → (A → Bool) → List A → Option A
+first_that test [] = None
+first_that test (x ∷ xs) = if test x then Some x else first_that test xs
+
+abbrev pub is_same : ObjectId → ObjectId → Bool
+is_same a b = (a.kind == b.kind) && (a.instance == b.instance)
+
+abbrev pub is_object : ObjectId → Object → Bool
+is_object id o = is_same id o.id
+
+abbrev pub is_number : ℕ → Property → Bool
+is_number n p = p.number == n
+
+abbrev pub object_in : Store → ObjectId → Option Object
+object_in s id = first_that (is_object id) s
+
+abbrev pub listed_in : Object → ℕ → Option Property
+listed_in o n = first_that (is_number n) o.properties
+
+-- ---- computed properties: one application value each, never writable
+
+abbrev pub computed : ℕ → Datum → Property
+computed n d = record { number = n; values = value_spelling d; writable = false; kind = Some (kind_number d) }
+
+-- the access method of every file is a stream of octets (BACnetFileAccessMethod 1)
+abbrev pub access_method : File → Property
+access_method f = computed FILE_ACCESS_METHOD (enumerated 1)
+
+abbrev pub file_size : File → Property
+file_size f = computed FILE_SIZE (unsigned (length f.octets))
+
+-- clause 12: the identifier, the name and the type of every object, access method and size of every file; all else is listed
+abbrev pub property_in : Object → ℕ → Option Property
+property_in o n =
+    if n == OBJECT_IDENTIFIER then Some (computed n (object o.id)) else
+    (if n == OBJECT_NAME then Some (computed n (characters 0 o.name)) else
+    (if n == OBJECT_TYPE then Some (computed n (enumerated o.id.kind)) else
+    (if n == FILE_ACCESS_METHOD then option_map access_method o.file else
+    (if n == FILE_SIZE then option_map file_size o.file else listed_in o n))))
+
+-- ---- kinds
+
+abbrev pub application_number : Class → ℕ → Option ℕ
+application_number Application n = Some n
+application_number Context n = None
+
+abbrev pub kind_before : Part → List ℕ → Option ℕ
+kind_before p [] = application_number p.mark.class p.mark.number
+kind_before p (x ∷ xs) = None
+
+abbrev pub kind_read : Result (Part × List ℕ) FaultKind → Option ℕ
+kind_read (Ok r) = kind_before r.0 r.1
+kind_read (Err e) = None
+
+-- the tag of values that are one application element; None where they are not one
+abbrev pub kind_of : List ℕ → Option ℕ
+kind_of values = kind_read (element_at values)
+
+-- Enumerated 0 or 1, the states of a binary object
+abbrev pub is_state : List ℕ → Bool
+is_state (tag ∷ n ∷ []) = (tag == 0x91) && nat_lt n 2
+is_state _ = false

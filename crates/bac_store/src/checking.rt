@@ -1,0 +1,85 @@
+//! Which objects a store can have.
+ghost use Rattle.std.specs.Prelude.{◌≡◌, ◌≤◌, ◌↔◌, true, IsTrue, length};
+ghost use Rattle.std.specs.List.{All};
+ghost use Rattle.std.specs.Option.{option_map};
+ghost use Rattle.bac_value.specs.Value.{characters};
+ghost use Rattle.bac_value.specs.Views.{object_id};
+ghost use Rattle.bac_value.specs.Writing.{value_spelling};
+ghost use Rattle.bac_store.specs.Limits.{VALUE_LIMIT as VALUE_MOST};
+ghost use Rattle.bac_store.specs.Objects.{are_right_values as values_in, is_right_file as file_in, is_right_id as id_in};
+ghost use Rattle.bac_store.specs.Objects.{is_right_number as number_in, is_right_property as property_in};
+ghost use Rattle.bac_store.specs.Views.{property as property_view, file as file_view};
+
+use crate::kind::{is_of_kind, is_state};
+use crate::limits::{
+    ANALOG_INPUT, ANALOG_VALUE, BINARY_VALUE, CHARACTERS, DESCRIPTION, DEVICE, FILE, FILE_LIMIT,
+    PRESENT_VALUE, REAL, VALUE_LIMIT,
+};
+use crate::object::{File, Property};
+use bac_value::ObjectIdentifier;
+
+/// The octets of a name's spelling beside the text: a tag, a long length and the character set.
+const NAME_OVERHEAD: usize = 5;
+
+/// Whether an object may have the identifier: a type of the profile, and an instance that does not stand for any device.
+pub(crate) fn is_right_id(id: ObjectIdentifier) -> bool
+    ensures { result ≡ id_in (object_id id) }
+{
+    let is_right_type = match id.kind {
+        ANALOG_INPUT | ANALOG_VALUE | BINARY_VALUE | DEVICE | FILE | 128..=1023 => true,
+        _ => false,
+    };
+    is_right_type && id.instance != 4_194_303
+}
+
+/// Whether a name is short enough.
+pub(crate) fn is_right_name(name: &str) -> bool
+    ensures { IsTrue result ↔ (length (value_spelling (characters 0 name.now)) ≤ VALUE_MOST) }
+{
+    name.len() <= VALUE_LIMIT - NAME_OVERHEAD
+}
+
+/// Whether the values are those that a type of object has at a property.
+fn are_right_values(kind: u16, number: u32, values: &[u8]) -> bool
+    ensures { result ≡ values_in kind number values.now }
+{
+    match (number, kind) {
+        (DESCRIPTION, _) => is_of_kind(Some(CHARACTERS), values),
+        (PRESENT_VALUE, ANALOG_INPUT | ANALOG_VALUE) => is_of_kind(Some(REAL), values),
+        (PRESENT_VALUE, BINARY_VALUE) => is_state(values),
+        _ => true,
+    }
+}
+
+/// Whether a type of object may have the property, with these values.
+fn is_right_property(kind: u16, property: &Property) -> bool
+    ensures { result ≡ property_in kind (property_view property.now) }
+{
+    let is_right_number = match property.number {
+        DESCRIPTION | PRESENT_VALUE | 512..=4_194_303 => true,
+        _ => false,
+    };
+    let values = property.values.octets.as_slice();
+    is_right_number
+        && values.len() <= VALUE_LIMIT
+        && are_right_values(kind, property.number, values)
+}
+
+/// Whether a type of object may have each of these properties.
+pub(crate) fn are_right_properties(kind: u16, properties: &[Property]) -> bool
+    ensures { IsTrue result ↔ All (λ p. IsTrue (property_in kind (property_view p))) properties.now }
+{
+    properties
+        .iter()
+        .all(|property| is_right_property(kind, property))
+}
+
+/// Whether a type of object may have the octets of a file, or none.
+pub(crate) fn is_right_file(kind: u16, file: &Option<File>) -> bool
+    ensures { result ≡ file_in kind (option_map file_view file.now) }
+{
+    match file {
+        None => kind != FILE,
+        Some(file) => kind == FILE && file.octets.len() <= FILE_LIMIT,
+    }
+}

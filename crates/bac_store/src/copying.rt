@@ -1,0 +1,70 @@
+//! Copies.
+ghost use Rattle.std.specs.Prelude.{◌≡◌, map, IfOk};
+ghost use Rattle.std.specs.Option.{option_map};
+ghost use Rattle.bac_store.specs.Views.{entry as entry_view, file as file_view, slot as slot_view};
+
+use crate::entry::{Entry, Slot};
+use crate::object::File;
+use bac_value::NoMemory;
+use std::alloc::Global;
+
+fn copied_slot(alloc: Global, slot: &Slot) -> Result<Slot, NoMemory>
+    ensures { IfOk result (λ s. slot_view s ≡ slot_view slot.now) }
+{
+    let values = slot.values.as_data().to_owned(alloc)?;
+    Ok(Slot {
+        number: slot.number,
+        values,
+        writable: slot.writable,
+        kind: slot.kind,
+    })
+}
+
+fn copied_slots(alloc: Global, slots: &[Slot]) -> Result<Vec<Slot>, NoMemory>
+    ensures { IfOk result (λ v. map slot_view v.items ≡ map slot_view slots.now) }
+{
+    let mut copies = Vec::with_capacity(alloc, slots.len())?;
+    for slot in slots {
+        copies.push(copied_slot(alloc, slot)?)?;
+    }
+    Ok(copies)
+}
+
+fn copied_file(alloc: Global, file: Option<&File>) -> Result<Option<File>, NoMemory>
+    ensures { IfOk result (λ f. option_map file_view f ≡ option_map (λ g. file_view g.now) file.entry) }
+{
+    match file {
+        None => Ok(None),
+        Some(file) => {
+            let octets = Vec::from_slice(alloc, &file.octets)?;
+            let writable = file.writable;
+            Ok(Some(File { octets, writable }))
+        }
+    }
+}
+
+fn copied_entry(alloc: Global, entry: &Entry) -> Result<Entry, NoMemory>
+    ensures { IfOk result (λ e. entry_view e ≡ entry_view entry.now) }
+{
+    let name = String::from_str(alloc, &entry.name)?;
+    let slots = copied_slots(alloc, &entry.slots)?;
+    let file = copied_file(alloc, entry.file.as_ref())?;
+    let id = entry.id;
+    Ok(Entry {
+        id,
+        name,
+        slots,
+        file,
+    })
+}
+
+/// Equal objects.
+pub(crate) fn copied(alloc: Global, objects: &[Entry]) -> Result<Vec<Entry>, NoMemory>
+    ensures { IfOk result (λ v. map entry_view v.items ≡ map entry_view objects.now) }
+{
+    let mut copies = Vec::with_capacity(alloc, objects.len())?;
+    for entry in objects {
+        copies.push(copied_entry(alloc, entry)?)?;
+    }
+    Ok(copies)
+}

@@ -1,0 +1,21 @@
+//! Objects as a store holds them.
+use crate::object::File;
+use bac_value::{DataBuf, ObjectIdentifier};
+
+/// A listed property, with the application tag that its values must have, if they must have one.
+#[derive(Debug, Drop)]
+pub(crate) struct Slot {
+    pub number: u32,
+    pub values: DataBuf,
+    pub writable: bool,
+    pub kind: Option<u8>,
+}
+
+/// An object whose properties stand in ascending order.
+#[derive(Debug, Drop)]
+pub(crate) struct Entry {
+    pub id: ObjectIdentifier,
+    pub name: String,
+    pub slots: Vec<Slot>,
+    pub file: Option<File>,
+}

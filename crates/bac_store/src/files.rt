@@ -1,0 +1,112 @@
+//! Reading and writing files (clauses 14.1 and 14.2).
+ghost use Rattle.std.specs.Prelude.{◌≡◌, ◌≤◌, ◌+◌, ℕ, pos, true, false, List, length, IfOk, MatchOption, MatchResult};
+ghost use Rattle.bac_service.specs.Values.Complex.{StreamWritten};
+ghost use Rattle.bac_service.specs.Values.Reply.{Whole};
+ghost use Rattle.bac_service.specs.Views.{owned_complex, read_access as access_view, replied};
+ghost use Rattle.bac_store.specs.Answers.{refused};
+ghost use Rattle.bac_store.specs.Limits.{FILE_LIMIT as FILE_MOST};
+ghost use Rattle.bac_store.specs.Replies.{file_read, is_no_write_start, overwritten as overwritten_by, read_file_reply, write_start, write_stream_reply};
+ghost use Rattle.bac_store.specs.Views.{file as file_view};
+
+use crate::limits::FILE_LIMIT;
+use crate::object::File;
+use crate::refusal::Refusal;
+use bac_service::{AnyComplex, AnyReply, FileRead, OwnedReply, ReadAccess};
+use bac_value::{NoMemory, OctetString};
+use std::alloc::Global;
+
+/// The octets of a file from a place on, so many or as many as are left, and whether they reach the end.
+fn octets_read(
+    alloc: Global,
+    octets: &[u8],
+    start: usize,
+    count: u64,
+) -> Result<OwnedReply, NoMemory>
+    requires within { start ≤ length octets.now }
+    requires short { length octets.now ≤ FILE_MOST }
+    ensures { IfOk result (λ r. replied owned_complex r ≡ file_read start count octets.now) }
+{
+    let left = octets.len() - start;
+    let end_of_file = left as u64 <= count;
+    let len = if end_of_file { left } else { count as usize };
+    let octets = Vec::from_slice(alloc, &octets[start..start + len])?;
+    let read = FileRead {
+        end_of_file,
+        start: start as i64,
+        content: OctetString { octets },
+    };
+    Ok(AnyReply::Complex(AnyComplex::FileRead(read)))
+}
+
+/// The reply to a read of this file.
+pub(crate) fn read_file(
+    alloc: Global,
+    file: &File,
+    access: ReadAccess,
+) -> Result<OwnedReply, NoMemory>
+    requires { length file.now.octets.items ≤ FILE_MOST }
+    ensures { IfOk result (λ r. replied owned_complex r ≡ read_file_reply (access_view access) (file_view file.now)) }
+{
+    match access {
+        ReadAccess::Records { .. } => Ok(Refusal::InvalidFileAccessMethod.reply()),
+        ReadAccess::Stream { start, count } => {
+            if start < 0 || start as u64 > file.octets.len() as u64 {
+                return Ok(Refusal::InvalidFileStartPosition.reply());
+            }
+            octets_read(alloc, &file.octets, start as usize, count)
+        }
+    }
+}
+
+/// The octet that a position to write at is; None where it is below -1 or behind the end.
+fn start_place(octets: &[u8], start: i64) -> Option<usize>
+    ensures { MatchOption result (is_no_write_start start octets.now ≡ true)
+        (λ at. (is_no_write_start start octets.now ≡ false) × (at ≡ write_start start octets.now) × (at ≤ length octets.now)) }
+{
+    if start == -1 {
+        return Some(octets.len());
+    }
+    if start < 0 || start as u64 > octets.len() as u64 {
+        return None;
+    }
+    Some(start as usize)
+}
+
+/// The octet that a write to this file begins with, or why it is refused.
+pub(crate) fn write_place(file: &File, start: i64, new: &[u8]) -> Result<usize, Refusal>
+    requires { length file.now.octets.items ≤ FILE_MOST }
+    ensures { MatchResult result
+        (λ at. (at ≡ write_start start file.now.octets.items) × (at ≤ length file.now.octets.items) × (at + length new.now ≤ FILE_MOST)
+        × (write_stream_reply start new.now (file_view file.now) ≡ Whole (StreamWritten (pos at))))
+        (λ e. write_stream_reply start new.now (file_view file.now) ≡ refused e) }
+{
+    if !file.writable {
+        return Err(Refusal::FileAccessDenied);
+    }
+    match start_place(&file.octets, start) {
+        None => Err(Refusal::InvalidFileStartPosition),
+        Some(at) if new.len() > FILE_LIMIT - at => Err(Refusal::NoSpaceToWrite),
+        Some(at) => Ok(at),
+    }
+}
+
+/// Octets with new ones from a place on, and what lies behind those.
+pub(crate) fn overwritten(
+    alloc: Global,
+    octets: &[u8],
+    at: usize,
+    new: &[u8],
+) -> Result<Vec<u8>, NoMemory>
+    requires within { at ≤ length octets.now }
+    requires short { at + length new.now ≤ FILE_MOST }
+    ensures { IfOk result (λ v. v.items ≡ overwritten_by at new.now octets.now) }
+{
+    let end = at + new.len();
+    let mut whole = Vec::with_capacity(alloc, octets.len().max(end))?;
+    whole.extend_from_slice(&octets[..at])?;
+    whole.extend_from_slice(new)?;
+    if end < octets.len() {
+        whole.extend_from_slice(&octets[end..])?;
+    }
+    Ok(whole)
+}

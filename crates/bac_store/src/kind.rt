@@ -1,0 +1,50 @@
+//! What the values of a property may be.
+ghost use Rattle.std.specs.Prelude.{◌≡◌};
+ghost use Rattle.bac_service.specs.Views.{reference as reference_view};
+ghost use Rattle.bac_store.specs.Stores.{kind_of as kind_in, is_state as is_state_in};
+ghost use Rattle.bac_store.specs.Replies.{is_of_kind as is_of_kind_in, is_binary_state as is_binary};
+
+use crate::limits::{BINARY_VALUE, PRESENT_VALUE};
+use bac_service::PropertyReference;
+use bac_value::{Class, Octets, take_element};
+
+/// The application tag of data that are one element; None where they are not one.
+pub(crate) fn kind_of(values: &[u8]) -> Option<u8>
+    ensures { result ≡ kind_in values.now }
+{
+    match take_element(values) {
+        Ok(read) if Octets::len(read.1) == 0 => match read.0.tag.class {
+            Class::Application => Some(read.0.tag.number),
+            Class::Context => None,
+        },
+        _ => None,
+    }
+}
+
+/// Whether data are of the kind that a property asks for.
+pub(crate) fn is_of_kind(kind: Option<u8>, values: &[u8]) -> bool
+    ensures { result ≡ is_of_kind_in kind values.now }
+{
+    match (kind, kind_of(values)) {
+        (None, _) => true,
+        (Some(_), None) => false,
+        (Some(tag), Some(other)) => tag == other,
+    }
+}
+
+/// Whether data are Enumerated 0 or 1.
+pub(crate) fn is_state(values: &[u8]) -> bool
+    ensures { result ≡ is_state_in values.now }
+{
+    match values {
+        [tag, number] => *tag == 0x91 && *number < 2,
+        _ => false,
+    }
+}
+
+/// Whether a property is the present-value of a binary-value.
+pub(crate) fn is_binary_state(of: PropertyReference) -> bool
+    ensures { result ≡ is_binary (reference_view of) }
+{
+    of.object.kind == BINARY_VALUE && of.property == PRESENT_VALUE
+}

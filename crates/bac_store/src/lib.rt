@@ -1,0 +1,39 @@
+//! The store of a device: objects, properties and files, read and written by the four services (clauses 12, 14 and 15).
+//!
+//! A request is performed in two steps. [`Store::prepare`] makes a plan: the reply, and the change with all its memory.
+//! [`Store::commit`] makes the change; it takes no memory and always succeeds.
+#![tactic(auto)]
+
+mod changing;
+mod checking;
+mod copying;
+mod entry;
+mod files;
+mod finding;
+mod found;
+mod house_objects;
+mod kind;
+mod laws;
+mod limits;
+mod making;
+mod new_fault;
+mod object;
+mod ordering;
+mod planned;
+mod preparing;
+mod properties;
+mod refusal;
+mod searching;
+mod spelled;
+mod store;
+
+pub use house_objects::house;
+pub use laws::kinds_are_values;
+pub use limits::{FILE_LIMIT, VALUE_LIMIT};
+pub use new_fault::NewFault;
+pub use object::{File, Object, Property};
+pub use planned::Planned;
+pub use store::Store;
+
+#[cfg(test)]
+mod tests;

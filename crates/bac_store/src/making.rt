@@ -1,0 +1,65 @@
+//! A store's objects, made of objects in order.
+ghost use Rattle.std.specs.Prelude.{◌≡◌, map, IfOk};
+ghost use Rattle.bac_store.specs.Views.{entry as entry_view, object as object_view, property as property_view, slot as slot_view};
+
+use crate::entry::{Entry, Slot};
+use crate::kind::kind_of;
+use crate::object::{Object, Property};
+use bac_value::NoMemory;
+use std::alloc::Global;
+
+fn slot_made(property: Property) -> Slot
+    ensures { slot_view result ≡ property_view property }
+{
+    let kind = kind_of(&property.values.octets);
+    let Property {
+        number,
+        values,
+        writable,
+    } = property;
+    Slot {
+        number,
+        values,
+        writable,
+        kind,
+    }
+}
+
+fn slots_made(alloc: Global, properties: Vec<Property>) -> Result<Vec<Slot>, NoMemory>
+    ensures { IfOk result (λ v. map slot_view v.items ≡ map property_view properties.items) }
+{
+    let mut slots = Vec::with_capacity(alloc, properties.len())?;
+    for property in properties {
+        slots.push(slot_made(property))?;
+    }
+    Ok(slots)
+}
+
+fn entry_made(alloc: Global, object: Object) -> Result<Entry, NoMemory>
+    ensures { IfOk result (λ e. entry_view e ≡ object_view object) }
+{
+    let Object {
+        id,
+        name,
+        properties,
+        file,
+    } = object;
+    let slots = slots_made(alloc, properties)?;
+    Ok(Entry {
+        id,
+        name,
+        slots,
+        file,
+    })
+}
+
+/// The same objects, with the kinds of their properties.
+pub(crate) fn entries_made(alloc: Global, objects: Vec<Object>) -> Result<Vec<Entry>, NoMemory>
+    ensures { IfOk result (λ v. map entry_view v.items ≡ map object_view objects.items) }
+{
+    let mut entries = Vec::with_capacity(alloc, objects.len())?;
+    for object in objects {
+        entries.push(entry_made(alloc, object)?)?;
+    }
+    Ok(entries)
+}

@@ -1,0 +1,88 @@
+//! The order of objects and of their properties.
+ghost use Rattle.std.specs.Prelude.{◌≡◌, ◌≢◌, ◌<◌, map, length, MatchBool};
+ghost use Rattle.std.specs.List.{AllPairs};
+ghost use Rattle.std.specs.List.Sorted.{IsNonDecreasingBy, IsPermutation};
+ghost use Rattle.bac_value.specs.Views.{object_id};
+ghost use Rattle.bac_store.specs.Kept.{object_number};
+ghost use Rattle.bac_store.specs.Ordered.{SortsObject, SortsObjects};
+ghost use Rattle.bac_store.specs.Views.{object as object_view};
+
+use crate::checking::{are_right_properties, is_right_file, is_right_id, is_right_name};
+use crate::object::{Object, Property};
+use crate::searching::number_of;
+
+/// Puts objects in the order of their identifiers.
+pub(crate) fn sort_objects(objects: &mut [Object])
+    ensures same { IsPermutation objects.old objects.new }
+    ensures sorted { IsNonDecreasingBy (λ o. object_number (object_id o.id)) objects.new }
+{
+    objects.sort_unstable_by_key(|object| number_of(object.id));
+}
+
+/// Whether objects in order have each an identifier of their own.
+pub(crate) fn are_distinct(objects: &[Object]) -> bool
+    requires { IsNonDecreasingBy (λ o. object_number (object_id o.id)) objects.now }
+    ensures { MatchBool result (AllPairs (λ a b. object_number (object_id a.id) < object_number (object_id b.id)) objects.now)
+        (AllPairs (λ a b. object_number (object_id a.id) ≢ object_number (object_id b.id)) objects.now → ⊥) }
+{
+    for at in 1..objects.len() {
+        if number_of(objects[at - 1].id) == number_of(objects[at].id) {
+            return false;
+        }
+    }
+    true
+}
+
+/// Puts properties in the order of their numbers.
+fn sort_properties(properties: &mut [Property])
+    ensures same { IsPermutation properties.old properties.new }
+    ensures sorted { IsNonDecreasingBy (λ p. p.number) properties.new }
+{
+    properties.sort_unstable_by_key(|property| property.number);
+}
+
+/// Whether properties in order have each a number of their own.
+fn are_listed_once(properties: &[Property]) -> bool
+    requires { IsNonDecreasingBy (λ p. p.number) properties.now }
+    ensures { MatchBool result (AllPairs (λ p q. p.number < q.number) properties.now)
+        (AllPairs (λ p q. p.number ≢ q.number) properties.now → ⊥) }
+{
+    for at in 1..properties.len() {
+        if properties[at - 1].number == properties[at].number {
+            return false;
+        }
+    }
+    true
+}
+
+/// Puts the properties of an object in order; whether a store can have the object.
+fn sort_object(object: &mut Object) -> bool
+    ensures { SortsObject result (object_view object.old) (object_view object.new) }
+{
+    sort_properties(&mut object.properties);
+    if !is_right_id(object.id) {
+        return false;
+    }
+    if !is_right_name(&object.name) {
+        return false;
+    }
+    if !is_right_file(object.id.kind, &object.file) {
+        return false;
+    }
+    if !are_listed_once(&object.properties) {
+        return false;
+    }
+    are_right_properties(object.id.kind, &object.properties)
+}
+
+/// Puts the properties of each object in order; whether a store can have all of them.
+pub(crate) fn sort_each(objects: &mut [Object]) -> bool
+    ensures { SortsObjects result objects.old objects.new }
+{
+    for object in objects.iter_mut() {
+        if !sort_object(object) {
+            return false;
+        }
+    }
+    true
+}

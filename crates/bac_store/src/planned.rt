@@ -1,0 +1,52 @@
+//! A plan: the reply to a request, and the change that it makes.
+ghost use Rattle.std.specs.Prelude.{◌≡◌};
+ghost use Rattle.bac_service.specs.Views.{complex, replied};
+
+use bac_service::{OwnedReply, Reply};
+use bac_value::{DataBuf, ObjectIdentifier};
+use std::marker::Model;
+
+/// What a request changes: nothing, the values of one listed property, or the whole octets of one file.
+#[derive(Debug, Drop)]
+pub(crate) enum Change {
+    Nothing,
+    Values {
+        object: ObjectIdentifier,
+        property: u32,
+        values: DataBuf,
+    },
+    Octets {
+        object: ObjectIdentifier,
+        octets: Vec<u8>,
+    },
+}
+
+/// What a store does on a request, before it is done: the reply, and the change with all its memory.
+#[derive(Drop)]
+pub struct Planned {
+    pub(crate) reply: OwnedReply,
+    pub(crate) change: Change,
+}
+
+impl Model for Planned {
+    ghost use Rattle.bac_store.specs.Plans.{Plan};
+
+    ghost Value = { Plan };
+
+    ghost use Rattle.bac_service.specs.Views.{owned_complex, replied};
+    ghost use Rattle.bac_store.specs.Answers.{change_view};
+    ghost use Rattle.bac_store.specs.Kept.{Fits};
+
+    ghost view = { λ p. record { reply = replied owned_complex p.reply; change = change_view p.change } };
+
+    ghost invariant = { λ p. Fits (change_view p.change) };
+}
+
+impl Planned {
+    /// Lends the reply. It takes no memory.
+    pub fn reply(&self) -> Reply<'_>
+        ensures { replied complex result ≡ self.now.reply }
+    {
+        self.reply.as_reply()
+    }
+}

@@ -1,0 +1,156 @@
+//! Plans for each request.
+ghost use Rattle.std.specs.Prelude.{◌≡◌, ◌≤◌, map, length, IfOk, IfSome};
+ghost use Rattle.std.specs.Option.{option_map};
+ghost use Rattle.bac_service.specs.Values.Request.{ReadFile as FileReading, WriteFile as FileWriting, ReadProperty as PropertyReading};
+ghost use Rattle.bac_service.specs.Values.Request.{WriteProperty as PropertyWriting};
+ghost use Rattle.bac_service.specs.Views.{lent, number_of, owned_complex, read_access as read_access_view, reference as reference_view, replied};
+ghost use Rattle.bac_service.specs.Views.{write_access as write_access_view};
+ghost use Rattle.bac_store.specs.Kept.{IsInOrder};
+ghost use Rattle.bac_store.specs.Limits.{FILE_LIMIT as FILE_MOST};
+ghost use Rattle.bac_store.specs.Plans.{Change as ChangeView, IsPlanFor, IsStreamPlan};
+ghost use Rattle.bac_store.specs.Replies.{file_of as file_in};
+ghost use Rattle.bac_store.specs.Stores.{object_in};
+ghost use Rattle.bac_store.specs.Views.{entry as entry_view, file as file_view};
+ghost use Rattle.bac_value.specs.Views.{object_id};
+
+use crate::entry::Entry;
+use crate::files::{overwritten, read_file, write_place};
+use crate::object::File;
+use crate::planned::{Change, Planned};
+use crate::properties::{read_property, write_refusal};
+use crate::refusal::Refusal;
+use crate::searching::entry_of;
+use bac_service::{
+    AnyComplex, AnyReply, Content, FileWritten, OwnedReply, PropertyReference, ReadFile, Records,
+    WriteAccess, WriteFile, WriteProperty, WriteStream,
+};
+use bac_value::{Data, NoMemory, ObjectIdentifier};
+use std::alloc::Global;
+
+/// A plan that changes nothing.
+fn answered(reply: OwnedReply) -> Planned
+    ensures { result ≡ record { reply = replied owned_complex reply; change = ChangeView.Nothing } }
+{
+    Planned {
+        reply,
+        change: Change::Nothing,
+    }
+}
+
+/// A plan for a read of a property (clause 15.5).
+pub(crate) fn plan_read_property(
+    alloc: Global,
+    objects: &[Entry],
+    reference: PropertyReference,
+) -> Result<Planned, NoMemory>
+    requires { IsInOrder (map entry_view objects.now) }
+    ensures { IfOk result (λ p. IsPlanFor (map entry_view objects.now) (PropertyReading (reference_view reference)) p) }
+{
+    match entry_of(objects, reference.object) {
+        None => Ok(answered(Refusal::UnknownObject.reply())),
+        Some(entry) => {
+            let reply = read_property(alloc, entry, reference)?;
+            Ok(answered(reply))
+        }
+    }
+}
+
+/// A plan for a write of a property (clause 15.9).
+pub(crate) fn plan_write_property(
+    alloc: Global,
+    objects: &[Entry],
+    write: WriteProperty<Data<'_>>,
+) -> Result<Planned, NoMemory>
+    requires { IsInOrder (map entry_view objects.now) }
+    ensures { IfOk result (λ p. IsPlanFor (map entry_view objects.now)
+        (PropertyWriting (reference_view write.entry.reference) write.entry.values.octets.now (number_of write.entry.priority)) p) }
+{
+    let reference = write.reference;
+    let Some(entry) = entry_of(objects, reference.object) else {
+        return Ok(answered(Refusal::UnknownObject.reply()));
+    };
+    if let Some(refusal) = write_refusal(entry, reference, write.values.octets) {
+        return Ok(answered(refusal.reply()));
+    }
+    let values = write.values.to_owned(alloc)?;
+    let change = Change::Values {
+        object: reference.object,
+        property: reference.property,
+        values,
+    };
+    Ok(Planned {
+        reply: AnyReply::Simple,
+        change,
+    })
+}
+
+/// The file of an identifier.
+fn file_of(objects: &[Entry], id: ObjectIdentifier) -> Option<&File>
+    requires { IsInOrder (map entry_view objects.now) }
+    ensures found { option_map (λ f. file_view f.now) result ≡ file_in (object_in (map entry_view objects.now) (object_id id)) }
+    ensures short { IfSome result (λ f. length f.now.octets.items ≤ FILE_MOST) }
+{
+    match entry_of(objects, id) {
+        None => None,
+        Some(entry) => entry.file.as_ref(),
+    }
+}
+
+/// A plan for a read of a file (clause 14.1).
+pub(crate) fn plan_read_file(
+    alloc: Global,
+    objects: &[Entry],
+    read: ReadFile,
+) -> Result<Planned, NoMemory>
+    requires { IsInOrder (map entry_view objects.now) }
+    ensures { IfOk result (λ p. IsPlanFor (map entry_view objects.now) (FileReading (object_id read.file) (read_access_view read.access)) p) }
+{
+    match file_of(objects, read.file) {
+        None => Ok(answered(Refusal::UnknownObject.reply())),
+        Some(file) => {
+            let reply = read_file(alloc, file, read.access)?;
+            Ok(answered(reply))
+        }
+    }
+}
+
+/// A plan for a write of octets to a file that is there.
+fn plan_write_stream(
+    alloc: Global,
+    id: ObjectIdentifier,
+    file: &File,
+    write: WriteStream<Content<'_>>,
+) -> Result<Planned, NoMemory>
+    requires { length file.now.octets.items ≤ FILE_MOST }
+    ensures { IfOk result (λ p. IsStreamPlan (object_id id) write.entry.start write.entry.content.octets.now (file_view file.now) p) }
+{
+    let new = write.content.octets;
+    match write_place(file, write.start, new) {
+        Err(refusal) => Ok(answered(refusal.reply())),
+        Ok(at) => {
+            let octets = overwritten(alloc, &file.octets, at, new)?;
+            let reply = AnyReply::Complex(AnyComplex::FileWritten(FileWritten::Stream(at as i64)));
+            let change = Change::Octets { object: id, octets };
+            Ok(Planned { reply, change })
+        }
+    }
+}
+
+/// A plan for a write of a file (clause 14.2).
+pub(crate) fn plan_write_file(
+    alloc: Global,
+    objects: &[Entry],
+    write: WriteFile<Content<'_>, Records<'_>>,
+) -> Result<Planned, NoMemory>
+    requires { IsInOrder (map entry_view objects.now) }
+    ensures { IfOk result (λ p. IsPlanFor (map entry_view objects.now)
+        (FileWriting (object_id write.entry.file) (write_access_view lent write.entry.access)) p) }
+{
+    let Some(file) = file_of(objects, write.file) else {
+        return Ok(answered(Refusal::UnknownObject.reply()));
+    };
+    match write.access {
+        WriteAccess::Records(_) => Ok(answered(Refusal::InvalidFileAccessMethod.reply())),
+        WriteAccess::Stream(stream) => plan_write_stream(alloc, write.file, file, stream),
+    }
+}

@@ -1,0 +1,90 @@
+//! Reading and writing properties (clauses 15.5 and 15.9).
+ghost use Rattle.std.specs.Prelude.{◌≡◌, ℕ, List, IfOk};
+ghost use Rattle.bac_value.specs.Value.{Datum};
+ghost use Rattle.bac_service.specs.Values.Reply.{Simple};
+ghost use Rattle.bac_service.specs.Views.{owned_complex, reference as reference_view, replied};
+ghost use Rattle.bac_store.specs.Answers.{refused, refused_or};
+ghost use Rattle.bac_store.specs.Kept.{IsKept};
+ghost use Rattle.bac_store.specs.Replies.{at_property, read_reply, write_reply};
+ghost use Rattle.bac_store.specs.Stores.{computed, property_in};
+ghost use Rattle.bac_store.specs.Views.{entry as entry_view, slot as slot_view};
+
+use crate::entry::{Entry, Slot};
+use crate::finding::{find, values_of};
+use crate::found::Found;
+use crate::kind::{is_binary_state, is_of_kind, is_state};
+use crate::limits::VALUE_LIMIT;
+use crate::refusal::Refusal;
+use bac_service::{AnyComplex, AnyReply, OwnedReply, PropertyRead, PropertyReference};
+use bac_value::NoMemory;
+use std::alloc::Global;
+
+/// The reply to a read of a property of this object.
+pub(crate) fn read_property(
+    alloc: Global,
+    entry: &Entry,
+    reference: PropertyReference,
+) -> Result<OwnedReply, NoMemory>
+    requires { IsKept (entry_view entry.now) }
+    ensures { IfOk result (λ r. replied owned_complex r
+        ≡ at_property (property_in (entry_view entry.now) reference.property) (read_reply (reference_view reference))) }
+{
+    let Some(found) = find(entry, reference.property) else {
+        return Ok(Refusal::UnknownProperty.reply());
+    };
+    if reference.index.is_some() {
+        return Ok(Refusal::PropertyIsNotAnArray.reply());
+    }
+    let values = values_of(alloc, entry, found)?;
+    Ok(AnyReply::Complex(AnyComplex::PropertyRead(PropertyRead { reference, values })))
+}
+
+/// Why a listed property is not written; None where it is.
+fn slot_refusal(slot: &Slot, reference: PropertyReference, values: &[u8]) -> Option<Refusal>
+    ensures { refused_or Simple result ≡ write_reply (reference_view reference) values.now (slot_view slot.now) }
+{
+    if reference.index.is_some() {
+        return Some(Refusal::PropertyIsNotAnArray);
+    }
+    if !slot.writable {
+        return Some(Refusal::WriteAccessDenied);
+    }
+    if !is_of_kind(slot.kind, values) {
+        return Some(Refusal::InvalidDataType);
+    }
+    if is_binary_state(reference) && !is_state(values) {
+        return Some(Refusal::ValueOutOfRange);
+    }
+    if values.len() > VALUE_LIMIT {
+        return Some(Refusal::NoSpaceToWrite);
+    }
+    None
+}
+
+/// Why a computed property is not written.
+fn computed_refusal(reference: PropertyReference) -> Refusal
+    ensures { (values : List ℕ) (n : ℕ) (d : Datum) → refused result ≡ write_reply (reference_view reference) values (computed n d) }
+{
+    if reference.index.is_some() {
+        Refusal::PropertyIsNotAnArray
+    } else {
+        Refusal::WriteAccessDenied
+    }
+}
+
+/// Why a property of this object is not written; None where it is.
+pub(crate) fn write_refusal(
+    entry: &Entry,
+    reference: PropertyReference,
+    values: &[u8],
+) -> Option<Refusal>
+    requires { IsKept (entry_view entry.now) }
+    ensures { refused_or Simple result
+        ≡ at_property (property_in (entry_view entry.now) reference.property) (write_reply (reference_view reference) values.now) }
+{
+    match find(entry, reference.property) {
+        None => Some(Refusal::UnknownProperty),
+        Some(Found::Computed(_)) => Some(computed_refusal(reference)),
+        Some(Found::Listed(at)) => slot_refusal(&entry.slots[at], reference, values),
+    }
+}

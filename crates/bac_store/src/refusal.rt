@@ -1,0 +1,41 @@
+ghost use Rattle.std.specs.Prelude.{◌≡◌};
+ghost use Rattle.bac_service.specs.Views.{owned_complex, replied};
+ghost use Rattle.bac_store.specs.Answers.{refused};
+
+use bac_service::{AnyReply, OwnedReply};
+
+/// Why a request is answered with an Error (clause 18).
+#[derive(Clone, Copy, Debug, PartialEq, Eq)]
+pub(crate) enum Refusal {
+    UnknownObject,
+    UnknownProperty,
+    PropertyIsNotAnArray,
+    WriteAccessDenied,
+    InvalidDataType,
+    ValueOutOfRange,
+    NoSpaceToWrite,
+    InvalidFileAccessMethod,
+    FileAccessDenied,
+    InvalidFileStartPosition,
+}
+
+impl Refusal {
+    /// The Error's class and code.
+    pub(crate) fn reply(self) -> OwnedReply
+        ensures { replied owned_complex result ≡ refused self }
+    {
+        let (class, code) = match self {
+            Refusal::UnknownObject => (1, 31),
+            Refusal::UnknownProperty => (2, 32),
+            Refusal::PropertyIsNotAnArray => (2, 50),
+            Refusal::WriteAccessDenied => (2, 40),
+            Refusal::InvalidDataType => (2, 9),
+            Refusal::ValueOutOfRange => (2, 37),
+            Refusal::NoSpaceToWrite => (3, 20),
+            Refusal::InvalidFileAccessMethod => (5, 10),
+            Refusal::FileAccessDenied => (5, 5),
+            Refusal::InvalidFileStartPosition => (5, 11),
+        };
+        AnyReply::Error { class, code }
+    }
+}

@@ -1,0 +1,135 @@
+//! The store.
+ghost use Rattle.std.specs.Prelude.{◌≡◌, ◌≤◌, map, IfOk, MatchResult, OnOk, OnErr};
+ghost use Rattle.bac_service.specs.Values.{Request as RequestView};
+ghost use Rattle.bac_service.specs.Views.{owned_complex, replied, request as request_view};
+ghost use Rattle.bac_store.specs.Changes.{after};
+ghost use Rattle.bac_store.specs.Kept.{IsInOrder};
+ghost use Rattle.bac_store.specs.Made.{IsMadeOf, IsRefused};
+ghost use Rattle.bac_store.specs.Plans.{changed, IsPlanFor, IsPlanOn};
+ghost use Rattle.bac_store.specs.Replies.{reply_to};
+ghost use Rattle.bac_store.specs.ReplyLengths.{DATA_LIMIT, reply_length};
+ghost use Rattle.bac_store.specs.Views.{object as object_view};
+
+use crate::changing::{set_octets, set_values};
+use crate::copying::copied;
+use crate::entry::Entry;
+use crate::making::entries_made;
+use crate::new_fault::NewFault;
+use crate::object::Object;
+use crate::ordering::{are_distinct, sort_each, sort_objects};
+use crate::planned::{Change, Planned};
+use crate::preparing::{plan_read_file, plan_read_property, plan_write_file, plan_write_property};
+use bac_service::{AnyRequest, OwnedReply, Request};
+use bac_value::NoMemory;
+use std::alloc::Global;
+use std::marker::Model;
+
+/// Objects, their properties and their files, in ascending order of object and property, so that look-ups halve what is left.
+#[derive(Drop)]
+pub struct Store {
+    pub(crate) objects: Vec<Entry>,
+}
+
+impl Model for Store {
+    ghost use Rattle.bac_store.specs.Stores as spec;
+
+    ghost Value = { spec.Store };
+
+    ghost use Rattle.std.specs.Prelude.{map};
+    ghost use Rattle.bac_store.specs.Kept.{IsInOrder};
+    ghost use Rattle.bac_store.specs.Views.{entry};
+
+    ghost view = { λ s. map entry s.objects.items };
+
+    ghost invariant = { λ s. IsInOrder (map entry s.objects.items) };
+}
+
+impl Store {
+    /// The store of some objects, in any order.
+    ///
+    /// `Duplicate` exactly where two objects have one identifier; otherwise `BadObject` exactly where one is not right: a type
+    /// that is none of this profile's (0, 2, 5, 8, 10 and 128 to 1,023), instance 4,194,303, a name, a listed property or a file
+    /// that it may not have, or that is too long. `NoMemory` is tested last.
+    pub fn new(alloc: Global, objects: Vec<Object>) -> Result<Store, NewFault>
+        ensures { MatchResult result (λ s. IsMadeOf (map object_view objects.items) s) (λ e. IsRefused (map object_view objects.items) e) }
+    {
+        let mut objects = objects;
+        sort_objects(&mut objects);
+        if !are_distinct(&objects) {
+            return Err(NewFault::Duplicate);
+        }
+        if !sort_each(&mut objects) {
+            return Err(NewFault::BadObject);
+        }
+        Ok(Store::of_ordered(alloc, objects)?)
+    }
+
+    /// The store of objects that are right and in order.
+    pub(crate) fn of_ordered(alloc: Global, objects: Vec<Object>) -> Result<Store, NoMemory>
+        requires { IsInOrder (map object_view objects.items) }
+        ensures { IfOk result (λ s. s ≡ map object_view objects.items) }
+    {
+        let objects = entries_made(alloc, objects)?;
+        Ok(Store { objects })
+    }
+
+    /// The plan for a request, with all the memory that its reply and its change take. The store is as before.
+    ///
+    /// The reply is an Error in the cases of the store's table; then, and on a read, the plan changes nothing.
+    pub fn prepare(&self, alloc: Global, request: &Request<'_>) -> Result<Planned, NoMemory>
+        ensures { IfOk result (λ p. IsPlanFor self.now (request_view request.now) p) }
+    {
+        let objects = self.objects.as_slice();
+        match *request {
+            AnyRequest::ReadFile(read) => plan_read_file(alloc, objects, read),
+            AnyRequest::WriteFile(write) => plan_write_file(alloc, objects, write),
+            AnyRequest::ReadProperty(reference) => plan_read_property(alloc, objects, reference),
+            AnyRequest::WriteProperty(write) => plan_write_property(alloc, objects, write),
+        }
+    }
+
+    /// Makes the change of a plan that was prepared on the store as it now is. It takes no memory.
+    pub fn commit(&mut self, plan: Planned)
+        requires prepared { IsPlanOn self.old plan }
+        ensures change { self.new ≡ changed plan.change self.old }
+        ensures after { (r : RequestView) → IsPlanFor self.old r plan → self.new ≡ after self.old r }
+    {
+        let Planned { reply: _, change } = plan;
+        match change {
+            Change::Nothing => {}
+            Change::Values {
+                object,
+                property,
+                values,
+            } => set_values(&mut self.objects, object, property, values),
+            Change::Octets { object, octets } => set_octets(&mut self.objects, object, octets),
+        }
+    }
+
+    /// Prepares a request and commits its plan; the reply. After an Err the store is as before.
+    pub fn perform(&mut self, alloc: Global, request: &Request<'_>) -> Result<OwnedReply, NoMemory>
+        ensures reply { IfOk result (λ r. replied owned_complex r ≡ reply_to self.old (request_view request.now)) }
+        ensures after { OnOk result (self.new ≡ after self.old (request_view request.now)) }
+        ensures err { OnErr result (self.new ≡ self.old) }
+    {
+        let plan = self.prepare(alloc, request)?;
+        let reply = plan.reply().to_owned(alloc)?;
+        self.commit(plan);
+        Ok(reply)
+    }
+
+    /// A law: no reply of a store has more service data than can be sent in segments. The call does nothing.
+    pub fn replies_can_be_sent(&self)
+        ensures { (r : RequestView) → reply_length (reply_to self.now r) ≤ DATA_LIMIT }
+    {
+        let _objects = &self.objects;
+    }
+
+    /// An equal store.
+    pub fn copy(&self, alloc: Global) -> Result<Store, NoMemory>
+        ensures { IfOk result (λ s. s ≡ self.now) }
+    {
+        let objects = copied(alloc, &self.objects)?;
+        Ok(Store { objects })
+    }
+}

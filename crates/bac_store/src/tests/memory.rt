@@ -1,0 +1,146 @@
+//! Run with each allocation refused in turn, too: `rt try --test --fail-alloc N`.
+use super::*;
+
+const WRITE: [u8; 14] = [
+    0x0C, 0x00, 0x80, 0x00, 0x01, 0x19, 0x55, 0x3E, 0x44, 0x43, 0x34, 0x00, 0x00, 0x3F,
+];
+
+/// The values of the only slot whose number is 85, of an object.
+fn present_value(store: &Store, place: usize) -> Option<&[u8]> {
+    let entry = store.objects.get(place)?;
+    let slot = entry.slots.iter().find(|slot| slot.number == 85)?;
+    Some(slot.values.octets.as_slice())
+}
+
+/// Where the plan's memory was found, the change needs none.
+#[test]
+fn commits_without_memory(rt: HostRuntime) -> Result<(), Fail> {
+    let Ok(mut store) = house(rt.alloc()) else {
+        return Ok(());
+    };
+    let Ok(request) = read_request(15, &WRITE) else {
+        return Err(Fail::from("no request"));
+    };
+    let plan = match store.prepare(rt.alloc(), &request) {
+        Ok(plan) => plan,
+        Err(NoMemory) => {
+            let kept = present_value(&store, 1) == Some([0x44, 0, 0, 0, 0].as_slice());
+            assert!(rt; kept, "a refused plan");
+            return Ok(());
+        }
+    };
+    let simple = matches!(plan.reply(), AnyReply::Simple);
+    assert!(rt; simple, "the reply");
+    store.commit(plan);
+    let written = present_value(&store, 1) == Some([0x44, 0x43, 0x34, 0, 0].as_slice());
+    assert!(rt; written, "a committed plan");
+    Ok(())
+}
+
+/// A refused copy leaves the store, which can be copied then; a copy is a store of its own.
+#[test]
+fn copies_or_refuses(rt: HostRuntime) -> Result<(), Fail> {
+    let Ok(mut store) = house(rt.alloc()) else {
+        return Ok(());
+    };
+    let copy = match store.copy(rt.alloc()) {
+        Ok(copy) => copy,
+        // one allocation alone is refused
+        Err(NoMemory) => store.copy(rt.alloc())?,
+    };
+    let Ok(request) = read_request(15, &WRITE) else {
+        return Err(Fail::from("no request"));
+    };
+    if let Ok(plan) = store.prepare(rt.alloc(), &request) {
+        store.commit(plan);
+        let written = present_value(&store, 1) == Some([0x44, 0x43, 0x34, 0, 0].as_slice());
+        assert!(rt; written, "the store");
+    }
+    let kept = present_value(&copy, 1) == Some([0x44, 0, 0, 0, 0].as_slice());
+    assert!(rt; kept, "the copy");
+    Ok(())
+}
+
+/// A list that is refused for itself is refused so whatever memory there is.
+#[test]
+fn tells_duplicates_without_memory(rt: HostRuntime) -> Result<(), Fail> {
+    let id = ObjectIdentifier::new(0, 5).ok_or("no such identifier")?;
+    let mut objects = Vec::new(rt.alloc());
+    for _ in 0..2 {
+        match named(rt.alloc(), id) {
+            Ok(object) => {
+                if objects.push(object).is_err() {
+                    return Ok(());
+                }
+            }
+            Err(_) => return Ok(()),
+        }
+    }
+    assert_eq!(rt;
+        Store::new(rt.alloc(), objects).err(),
+        Some(NewFault::Duplicate)
+    );
+    Ok(())
+}
+
+/// Whether a reply is the wanted one, where one allocation alone is refused.
+fn is_told(alloc: Global, plan: &Planned, want: Want<'_>) -> Result<bool, NoMemory> {
+    match is_wanted(alloc, plan.reply(), want) {
+        Ok(is) => Ok(is),
+        Err(NoMemory) => is_wanted(alloc, plan.reply(), want),
+    }
+}
+
+/// Each reply is told; where its memory is refused, the next call finds the store as it was. An Error takes no memory.
+#[test]
+fn prepares_or_refuses(rt: HostRuntime) -> Result<(), Fail> {
+    let Ok(store) = house(rt.alloc()) else {
+        return Ok(());
+    };
+    let requests: [(u8, &[u8], Want<'_>); 5] = [
+        (
+            12,
+            &[0x0C, 0x02, 0x00, 0x00, 0x01, 0x19, 0x4D],
+            Want::Complex("0C02000001194D3E750600686F7573653F"),
+        ),
+        (
+            12,
+            &[0x0C, 0x00, 0x00, 0x00, 0x05, 0x19, 0x55],
+            Want::Complex("0C0000000519553E444290999A3F"),
+        ),
+        (
+            6,
+            &[
+                0xC4, 0x02, 0x80, 0x00, 0x01, 0x0E, 0x31, 0x00, 0x21, 0x0A, 0x0F,
+            ],
+            Want::Complex("110E3100624F4B0F"),
+        ),
+        (
+            7,
+            &[
+                0xC4, 0x02, 0x80, 0x00, 0x01, 0x0E, 0x31, 0xFF, 0x61, 0xAA, 0x0F,
+            ],
+            Want::Complex("0902"),
+        ),
+        (
+            12,
+            &[0x0C, 0x00, 0x00, 0x00, 0x09, 0x19, 0x55],
+            Want::Error(1, 31),
+        ),
+    ];
+    for (choice, octets, want) in requests {
+        let Ok(request) = read_request(choice, octets) else {
+            return Err(Fail::from("no request"));
+        };
+        let plan = match store.prepare(rt.alloc(), &request) {
+            Ok(plan) => plan,
+            Err(NoMemory) => {
+                let is_error = matches!(want, Want::Error(_, _));
+                assert!(rt; !is_error, "memory for an Error");
+                store.prepare(rt.alloc(), &request)?
+            }
+        };
+        assert!(rt; is_told(rt.alloc(), &plan, want)?, "{choice}");
+    }
+    Ok(())
+}
