@@ -1,0 +1,27 @@
+-- The exit statuses of the program.
+use Rattle.std.specs.Prelude.{◌≡◌, ◌<◌, ℕ}
+use Rattle.bac_text.specs.declared.status.Status.{Status}
+use Rattle.bac_text.specs.declared.status.Status.TheVariants.{Done, Faulty, CommandLine, Output, Memory}
+
+abbrev pub exit_status : Status → ℕ
+exit_status Done = 0
+exit_status Faulty = 1
+exit_status CommandLine = 2
+exit_status Output = 3
+exit_status Memory = 4
+
+-- the output or the memory failed
+abbrev pub IsFailure : Status → Type 0
+IsFailure Done = ⊥
+IsFailure Faulty = ⊥
+IsFailure CommandLine = ⊥
+IsFailure Output = Unit {0}
+IsFailure Memory = Unit {0}
+
+-- what the status says of a capture: the good lines among all
+abbrev pub IsTallied : ℕ → ℕ → Status → Type 0
+IsTallied lines good Done = good ≡ lines
+IsTallied lines good Faulty = good < lines
+IsTallied lines good CommandLine = ⊥
+IsTallied lines good Output = ⊥
+IsTallied lines good Memory = ⊥

@@ -1,0 +1,204 @@
+//! The line of an APDU.
+ghost use Rattle.std.specs.Prelude.{OnOk};
+ghost use Rattle.std.specs.Option.{option_map};
+ghost use Rattle.std.specs.Io.KnownBytes.{Appends};
+ghost use Rattle.bac_apdu.specs.Views.{segment_view, apdu_view};
+ghost use Rattle.bac_text.specs.Texts.{optional, segment_text, service_text, request_head_text, segment_ack_head_text, segment_ack_text, unconfirmed_text, simple_ack_text, complex_ack_head_text, body_text, error_text, abort_text, reject_text, members_text, apdu_text};
+
+use crate::member::{print_end, print_octets};
+use bac_apdu::{Apdu, Codes, Segment, Window};
+use std::alloc::Global;
+use std::io;
+use std::io::Write;
+
+/// What a segment says of itself, where the APDU is one.
+fn print_segment<W: Write>(segment: Option<Segment>, out: &mut W) -> io::Result<()>
+    ensures { OnOk result (Appends (W.contents out.old) (W.contents out.new) (optional segment_text (option_map segment_view segment))) }
+{
+    let Some(segment) = segment else {
+        return Ok(());
+    };
+    let number = segment.number;
+    let window = segment.window.size;
+    let more = u8::from(segment.more);
+    write!(out, " seq={number} win={window} more={more}")
+}
+
+/// The service choice and the service data.
+fn print_service<W: Write>(alloc: Global, choice: u8, service: &[u8], out: &mut W) -> io::Result<()>
+    ensures { OnOk result (Appends (W.contents out.old) (W.contents out.new) (service_text choice service.now)) }
+{
+    write!(out, " choice={choice}")?;
+    print_octets(alloc, "data", service, out)
+}
+
+fn print_request_head<W: Write>(
+    takes_segments: bool,
+    codes: Codes,
+    invoke: u8,
+    out: &mut W,
+) -> io::Result<()>
+    ensures { OnOk result (Appends (W.contents out.old) (W.contents out.new) (request_head_text takes_segments codes.max_segments codes.max_apdu invoke)) }
+{
+    let takes = u8::from(takes_segments);
+    let segments = codes.max_segments;
+    let octets = codes.max_apdu;
+    write!(
+        out,
+        "confirmed-request sa={takes} segs={segments} apdu={octets} id={invoke}"
+    )
+}
+
+fn print_segment_ack_head<W: Write>(
+    nak: bool,
+    server: bool,
+    invoke: u8,
+    out: &mut W,
+) -> io::Result<()>
+    ensures { OnOk result (Appends (W.contents out.old) (W.contents out.new) (segment_ack_head_text nak server invoke)) }
+{
+    let negative = u8::from(nak);
+    let sender = u8::from(server);
+    write!(out, "segment-ack nak={negative} srv={sender} id={invoke}")
+}
+
+fn print_segment_ack<W: Write>(
+    nak: bool,
+    server: bool,
+    invoke: u8,
+    number: u8,
+    window: Window,
+    out: &mut W,
+) -> io::Result<()>
+    ensures { OnOk result (Appends (W.contents out.old) (W.contents out.new) (segment_ack_text nak server invoke number window.size)) }
+{
+    print_segment_ack_head(nak, server, invoke, out)?;
+    let window = window.size;
+    write!(out, " seq={number} win={window}")
+}
+
+fn print_unconfirmed<W: Write>(
+    alloc: Global,
+    choice: u8,
+    service: &[u8],
+    out: &mut W,
+) -> io::Result<()>
+    ensures { OnOk result (Appends (W.contents out.old) (W.contents out.new) (unconfirmed_text choice service.now)) }
+{
+    out.write_all(b"unconfirmed-request")?;
+    print_service(alloc, choice, service, out)
+}
+
+fn print_simple_ack<W: Write>(invoke: u8, choice: u8, out: &mut W) -> io::Result<()>
+    ensures { OnOk result (Appends (W.contents out.old) (W.contents out.new) (simple_ack_text invoke choice)) }
+{
+    write!(out, "simple-ack id={invoke} choice={choice}")
+}
+
+fn print_complex_ack_head<W: Write>(invoke: u8, out: &mut W) -> io::Result<()>
+    ensures { OnOk result (Appends (W.contents out.old) (W.contents out.new) (complex_ack_head_text invoke)) }
+{
+    write!(out, "complex-ack id={invoke}")
+}
+
+/// A segment's place, where the APDU is one, and the service data.
+fn print_body<W: Write>(
+    alloc: Global,
+    segment: Option<Segment>,
+    choice: u8,
+    service: &[u8],
+    out: &mut W,
+) -> io::Result<()>
+    ensures { OnOk result (Appends (W.contents out.old) (W.contents out.new) (body_text (option_map segment_view segment) choice service.now)) }
+{
+    print_segment(segment, out)?;
+    print_service(alloc, choice, service, out)
+}
+
+fn print_error<W: Write>(
+    invoke: u8,
+    choice: u8,
+    class: u32,
+    code: u32,
+    out: &mut W,
+) -> io::Result<()>
+    ensures { OnOk result (Appends (W.contents out.old) (W.contents out.new) (error_text invoke choice class code)) }
+{
+    write!(
+        out,
+        "error id={invoke} choice={choice} class={class} code={code}"
+    )
+}
+
+fn print_abort<W: Write>(server: bool, invoke: u8, reason: u8, out: &mut W) -> io::Result<()>
+    ensures { OnOk result (Appends (W.contents out.old) (W.contents out.new) (abort_text server invoke reason)) }
+{
+    let server = u8::from(server);
+    write!(out, "abort srv={server} id={invoke} reason={reason}")
+}
+
+fn print_reject<W: Write>(invoke: u8, reason: u8, out: &mut W) -> io::Result<()>
+    ensures { OnOk result (Appends (W.contents out.old) (W.contents out.new) (reject_text invoke reason)) }
+{
+    write!(out, "reject id={invoke} reason={reason}")
+}
+
+#[tactic(auto, unfolding(crate::specs::Texts::members_text))]
+fn print_members<W: Write>(alloc: Global, apdu: Apdu<'_>, out: &mut W) -> io::Result<()>
+    ensures { OnOk result (Appends (W.contents out.old) (W.contents out.new) (members_text (apdu_view apdu.entry))) }
+{
+    match apdu {
+        Apdu::ConfirmedRequest {
+            takes_segments,
+            codes,
+            invoke,
+            segment,
+            choice,
+            service,
+        } => {
+            print_request_head(takes_segments, codes, invoke, out)?;
+            print_body(alloc, segment, choice, service, out)
+        }
+        Apdu::UnconfirmedRequest { choice, service } => {
+            print_unconfirmed(alloc, choice, service, out)
+        }
+        Apdu::SimpleAck { invoke, choice } => print_simple_ack(invoke, choice, out),
+        Apdu::ComplexAck {
+            invoke,
+            segment,
+            choice,
+            service,
+        } => {
+            print_complex_ack_head(invoke, out)?;
+            print_body(alloc, segment, choice, service, out)
+        }
+        Apdu::SegmentAck {
+            nak,
+            server,
+            invoke,
+            number,
+            window,
+        } => print_segment_ack(nak, server, invoke, number, window, out),
+        Apdu::Error {
+            invoke,
+            choice,
+            class,
+            code,
+        } => print_error(invoke, choice, class, code, out),
+        Apdu::Reject { invoke, reason } => print_reject(invoke, reason, out),
+        Apdu::Abort {
+            server,
+            invoke,
+            reason,
+        } => print_abort(server, invoke, reason, out),
+    }
+}
+
+/// Prints an APDU: its kind and its members, as docs/PROTOCOL.md lists them.
+#[tactic(auto, unfolding(crate::specs::Texts::apdu_text))]
+pub(crate) fn print_apdu<W: Write>(alloc: Global, apdu: Apdu<'_>, out: &mut W) -> io::Result<()>
+    ensures { OnOk result (Appends (W.contents out.old) (W.contents out.new) (apdu_text (apdu_view apdu.entry))) }
+{
+    print_members(alloc, apdu, out)?;
+    print_end(out)
+}

@@ -1,0 +1,60 @@
+ghost use Rattle.std.specs.Prelude.{◌≡◌, Some};
+ghost use Rattle.bac_text.specs.Faults.{layer_number, layer_name, fault_text};
+
+use bac_apdu::ApduFault;
+use bac_npdu::FrameFault;
+use bac_service::Reject;
+use bac_value::FaultKind;
+use std::fmt;
+
+/// Which layer of a datagram is at fault, from the outside in, and how.
+#[derive(Clone, Copy, Debug, PartialEq, Eq)]
+pub enum LayerFault {
+    /// The datagram is no BVLL.
+    Bvll(FrameFault),
+    /// It is one, of octets that are no NPDU.
+    Npdu(FrameFault),
+    /// The NPDU's contents are no APDU.
+    Apdu(ApduFault),
+    /// The APDU is a request of one of the four services, and its data are none such.
+    Request(Reject),
+    /// The APDU is an answer of one of the services, and its data are none such.
+    Answer(FaultKind),
+}
+
+impl LayerFault {
+    /// The name of the layer, as it is printed.
+    pub fn name(self) -> &'static str
+        ensures { result.now ≡ layer_name self }
+    {
+        match self {
+            LayerFault::Bvll(_) => "bvll",
+            LayerFault::Npdu(_) => "npdu",
+            LayerFault::Apdu(_) => "apdu",
+            LayerFault::Request(_) => "reject",
+            LayerFault::Answer(_) => "data",
+        }
+    }
+
+    /// The number of the fault in its layer: 1 to 8, and for a request the reason of its Reject, 0 to 9.
+    pub fn number(self) -> u8
+        ensures { result ≡ layer_number self }
+    {
+        match self {
+            LayerFault::Bvll(fault) | LayerFault::Npdu(fault) => fault.number(),
+            LayerFault::Apdu(fault) => fault.number(),
+            LayerFault::Request(reject) => reject.reason(),
+            LayerFault::Answer(kind) => kind.number(),
+        }
+    }
+}
+
+impl fmt::Display for LayerFault {
+    ghost output = { λ x. Some (fault_text x) };
+
+    fn fmt<W: fmt::Write>(&self, f: &mut fmt::Formatter<W>) -> fmt::Result {
+        let name = self.name();
+        let number = self.number();
+        write!(f, "fault {name} {number}")
+    }
+}

@@ -1,0 +1,111 @@
+//! Reading a datagram from the outside in.
+ghost use Rattle.std.specs.Prelude.{◌≡◌, IfOk, IfErr, MatchResult};
+ghost use Rattle.std.specs.Option.{option_map};
+ghost use Rattle.bac_apdu.specs.Views.{apdu_view};
+ghost use Rattle.bac_npdu.specs.Views.{npdu_view};
+ghost use Rattle.bac_npdu.specs.Datagram.{IsFrameOf};
+ghost use Rattle.bac_service.specs.Views.{request, complex};
+ghost use Rattle.bac_text.specs.Layers.{asked_in, answered_in, IsRequestIn, IsAnswerIn, HasNoRequest, HasNoAnswer, IsFine, IsAtFault};
+
+use crate::fault::LayerFault;
+use bac_apdu::{Apdu, ApduFault};
+use bac_npdu::{Npdu, read_bvll, read_npdu};
+use bac_service::{Complex, Reject, Request, read_reply, read_request};
+use bac_value::FaultKind;
+
+/// The NPDU in a datagram.
+pub(crate) fn npdu_in(octets: &[u8]) -> Result<Npdu<'_>, LayerFault>
+    ensures found { IfOk result (λ n. IsFrameOf (npdu_view n) octets.now) }
+    ensures refused { IfErr result (IsAtFault octets.now) }
+{
+    let npdu = match read_bvll(octets) {
+        Ok(npdu) => npdu,
+        Err(fault) => return Err(LayerFault::Bvll(fault)),
+    };
+    match read_npdu(npdu) {
+        Ok(npdu) => Ok(npdu),
+        Err(fault) => Err(LayerFault::Npdu(fault)),
+    }
+}
+
+/// The choice and the service data of a request of one of the four services that is no segment.
+fn asked(apdu: Apdu<'_>) -> Option<(u8, &[u8])>
+    ensures { option_map (λ t. (t.0, t.1.now)) result ≡ asked_in (apdu_view apdu.entry) }
+{
+    match apdu {
+        Apdu::ConfirmedRequest {
+            segment: None,
+            choice,
+            service,
+            ..
+        } if choice == 6 || choice == 7 || choice == 12 || choice == 15 => Some((choice, service)),
+        _ => None,
+    }
+}
+
+/// The choice and the service data of an answer of one of the services that is no segment.
+fn answered(apdu: Apdu<'_>) -> Option<(u8, &[u8])>
+    ensures { option_map (λ t. (t.0, t.1.now)) result ≡ answered_in (apdu_view apdu.entry) }
+{
+    match apdu {
+        Apdu::ComplexAck {
+            segment: None,
+            choice,
+            service,
+            ..
+        } if choice == 6 || choice == 7 || choice == 12 => Some((choice, service)),
+        _ => None,
+    }
+}
+
+/// The request that an APDU carries whole, if it carries one of the four services'.
+pub(crate) fn request_in(apdu: Apdu<'_>) -> Result<Option<Request<'_>>, Reject>
+    ensures found { IfOk result (λ r. IsRequestIn (asked_in (apdu_view apdu.entry)) (option_map request r)) }
+    ensures refused { IfErr result (λ e. HasNoRequest (asked_in (apdu_view apdu.entry))) }
+{
+    match asked(apdu) {
+        None => Ok(None),
+        Some((choice, service)) => match read_request(choice, service) {
+            Ok(request) => Ok(Some(request)),
+            Err(reject) => Err(reject),
+        },
+    }
+}
+
+/// The answer that an APDU carries whole, if it carries one of the services'.
+pub(crate) fn answer_in(apdu: Apdu<'_>) -> Result<Option<Complex<'_>>, FaultKind>
+    ensures found { IfOk result (λ c. IsAnswerIn (answered_in (apdu_view apdu.entry)) (option_map complex c)) }
+    ensures refused { IfErr result (λ e. HasNoAnswer (answered_in (apdu_view apdu.entry))) }
+{
+    match answered(apdu) {
+        None => Ok(None),
+        Some((choice, service)) => match read_reply(choice, service) {
+            Ok(answer) => Ok(Some(answer)),
+            Err(fault) => Err(fault.kind),
+        },
+    }
+}
+
+/// Whether a datagram has a fault, and which: the first from the outside in.
+///
+/// A datagram is read as a BVLL (clause J.2), an NPDU (clause 6.2), an APDU (clause 20.1) and the data of a service (clause 21).
+/// A network message is read by its number alone, and so are segments and services other than the four.
+pub fn check_datagram(octets: &[u8]) -> Result<(), LayerFault>
+    ensures { MatchResult result (λ _. IsFine octets.now) (IsAtFault octets.now) }
+{
+    let npdu = npdu_in(octets)?;
+    if npdu.message.is_some() {
+        return Ok(());
+    }
+    let apdu = match bac_apdu::read(npdu.contents) {
+        Ok(apdu) => apdu,
+        Err(fault) => return Err(LayerFault::Apdu(fault)),
+    };
+    if let Err(reject) = request_in(apdu) {
+        return Err(LayerFault::Request(reject));
+    }
+    match answer_in(apdu) {
+        Ok(_) => Ok(()),
+        Err(kind) => Err(LayerFault::Answer(kind)),
+    }
+}

@@ -1,0 +1,24 @@
+//! What `bac decode` and `bac check` print: the layers of a datagram, and which lines of a capture are good.
+#![tactic(auto)]
+
+mod apdu_line;
+mod capture;
+mod check;
+mod decode;
+mod fault;
+mod frame_lines;
+mod layers;
+mod line_fault;
+mod member;
+mod service_line;
+mod status;
+
+pub use capture::{CaptureLine, read_capture_line};
+pub use check::check_over;
+pub use decode::decode_over;
+pub use fault::LayerFault;
+pub use layers::check_datagram;
+pub use status::{Status, complain, output_failed};
+
+#[cfg(test)]
+mod tests;

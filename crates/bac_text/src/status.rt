@@ -1,0 +1,48 @@
+ghost use Rattle.std.specs.Prelude.{◌≡◌};
+ghost use Rattle.bac_text.specs.Statuses.{exit_status, IsFailure};
+
+use std::io;
+use std::io::Write;
+
+/// How a command ended. `status as u8` is the exit status of the program.
+#[derive(Clone, Copy, Debug, PartialEq, Eq)]
+pub enum Status {
+    /// What was asked for was printed.
+    Done = 0,
+    /// What was asked for was printed, and it has a fault.
+    Faulty = 1,
+    /// The words of the command line are of no form, or what they name cannot be read.
+    CommandLine = 2,
+    /// Standard output could not be written.
+    Output = 3,
+    /// An allocation was refused.
+    Memory = 4,
+}
+
+impl Status {
+    /// The exit status of the program.
+    pub fn code(self) -> u8
+        ensures { result ≡ exit_status self }
+    {
+        self as u8
+    }
+}
+
+/// Prints a complaint; where even that fails, the status alone tells.
+pub fn complain<E: Write>(err: &mut E, message: &str, status: Status) -> Status
+    ensures { result ≡ status }
+{
+    let _ = err.writeln(message);
+    status
+}
+
+/// The status of a command whose output failed: want of memory is told apart from what could not be written.
+pub fn output_failed<E: Write>(err: &mut E, error: &io::Error) -> Status
+    ensures { IsFailure result }
+{
+    if error.kind() == io::ErrorKind::OutOfMemory {
+        complain(err, "no memory", Status::Memory)
+    } else {
+        Status::Output
+    }
+}

@@ -1,0 +1,410 @@
+//! What `bac decode` and `bac check` print.
+use crate::capture::read_capture_line;
+use crate::check::check_over;
+use crate::decode::decode_over;
+use crate::status::Status;
+use std::alloc::Global;
+use std::io;
+use std::io::{BufReader, Read};
+use std::process::Abort;
+use std::test::Fail;
+
+/// What a command printed and how it ended.
+#[derive(Drop)]
+struct Printed {
+    status: Status,
+    out: Vec<u8>,
+    err: Vec<u8>,
+}
+
+fn decoded(alloc: Global, text: &str) -> Printed {
+    let mut out = Vec::new(alloc);
+    let mut err = Vec::new(alloc);
+    let status = decode_over(alloc, text, &mut out, &mut err);
+    Printed { status, out, err }
+}
+
+fn checked(alloc: Global, text: &[u8]) -> Printed {
+    let mut out = Vec::new(alloc);
+    let mut err = Vec::new(alloc);
+    let mut input = text;
+    let status = check_over(alloc, &mut input, &mut out, &mut err);
+    Printed { status, out, err }
+}
+
+/// The status and what is printed are these, and nothing goes to standard error.
+fn prints(rt: &impl Abort, printed: &Printed, status: Status, lines: &str, about: &str) {
+    let out = printed.out.as_slice();
+    assert_eq!(rt; out, lines.as_bytes(), "{about}");
+    assert_eq!(rt; printed.status, status, "{about}");
+    assert_eq!(rt; printed.err.len(), 0, "{about}");
+}
+
+/// Standard error has this line, the output is empty, and the status is this.
+fn complains(rt: &impl Abort, printed: &Printed, status: Status, line: &[u8]) {
+    assert_eq!(rt; printed.err.as_slice(), line);
+    assert_eq!(rt; printed.out.len(), 0);
+    assert_eq!(rt; printed.status, status);
+}
+
+/// Behind `bvll len=N` and `npdu expecting=E priority=0`, each kind of APDU and of service data.
+#[test]
+fn decodes_apdus(rt: HostRuntime) -> Result<(), Fail> {
+    let table = [
+        (
+            12,
+            1,
+            "01040E120100010F",
+            "confirmed-request sa=1 segs=1 apdu=2 id=1 seq=0 win=1 more=1 choice=15 data=\n",
+        ),
+        (8, 0, "01001013", "unconfirmed-request choice=19 data=\n"),
+        (
+            12,
+            0,
+            "010010085BBAD858",
+            "unconfirmed-request choice=8 data=5BBAD858\n",
+        ),
+        (9, 0, "010020000C", "simple-ack id=0 choice=12\n"),
+        (
+            13,
+            0,
+            "01003C0000010718FF",
+            "complex-ack id=0 seq=0 win=1 more=1 choice=7 data=18FF\n",
+        ),
+        (
+            10,
+            0,
+            "010030FFF00A",
+            "complex-ack id=255 choice=240 data=0A\n",
+        ),
+        (
+            10,
+            0,
+            "010042002820",
+            "segment-ack nak=1 srv=0 id=0 seq=40 win=32\n",
+        ),
+        (
+            10,
+            0,
+            "010043013901",
+            "segment-ack nak=1 srv=1 id=1 seq=57 win=1\n",
+        ),
+        (
+            14,
+            0,
+            "010050010C9101920100",
+            "error id=1 choice=12 class=1 code=256\n",
+        ),
+        (9, 0, "0100600009", "reject id=0 reason=9\n"),
+        (9, 0, "0100710104", "abort srv=1 id=1 reason=4\n"),
+        (
+            19,
+            1,
+            "01040063FF0C0C00000005192A2901",
+            "confirmed-request sa=0 segs=6 apdu=3 id=255 choice=12 data=0C00000005192A2901\nread-property object=0:5 property=42 index=1\n",
+        ),
+        (
+            20,
+            1,
+            "0104000500070C0000000519553E443F",
+            "confirmed-request sa=0 segs=0 apdu=5 id=0 choice=7 data=0C0000000519553E443F\nfault reject 4\n",
+        ),
+        (
+            20,
+            1,
+            "010402450107C4028000010E3102600F",
+            "confirmed-request sa=1 segs=4 apdu=5 id=1 choice=7 data=C4028000010E3102600F\nwrite-file object=10:1 position=2 octets=\n",
+        ),
+        (
+            36,
+            1,
+            "010400744807C4028000011E31042103639C1F616505F61399149B637236511F",
+            "confirmed-request sa=0 segs=7 apdu=4 id=72 choice=7 data=C4028000011E31042103639C1F616505F61399149B637236511F\nwrite-records object=10:1 record=4 count=3 octets=9C1F61,F61399149B,723651\n",
+        ),
+        (
+            22,
+            1,
+            "010400230006C4028000010E32008021010F",
+            "confirmed-request sa=0 segs=2 apdu=3 id=0 choice=6 data=C4028000010E32008021010F\nread-file object=10:1 position=128 count=1\n",
+        ),
+        (
+            21,
+            1,
+            "010402000006C4028000011E3104210A1F",
+            "confirmed-request sa=1 segs=0 apdu=0 id=0 choice=6 data=C4028000011E3104210A1F\nread-records object=10:1 record=4 count=10\n",
+        ),
+        (
+            21,
+            0,
+            "010030220C0C00800002190029FF3E113F",
+            "complex-ack id=34 choice=12 data=0C00800002190029FF3E113F\nread-property-ack object=2:2 property=0 index=255 values=11\n",
+        ),
+        (
+            19,
+            0,
+            "01003001070D088000000000000600",
+            "complex-ack id=1 choice=7 data=0D088000000000000600\nwrite-file-ack position=-9223372036854774272\n",
+        ),
+        (
+            11,
+            0,
+            "010030010719FF",
+            "complex-ack id=1 choice=7 data=19FF\nwrite-file-ack record=-1\n",
+        ),
+        (
+            16,
+            0,
+            "010030FA06110E31FF61290F",
+            "complex-ack id=250 choice=6 data=110E31FF61290F\nread-file-ack end=1 position=-1 octets=29\n",
+        ),
+    ];
+    for (len, expecting, npdu, lines) in table {
+        let datagram = format!(in rt.alloc(); "810A{len:04X}{npdu}")?;
+        let want = format!(in rt.alloc();
+            "bvll len={len}\nnpdu expecting={expecting} priority=0\n{lines}"
+        )?;
+        let printed = decoded(rt.alloc(), datagram.as_str());
+        let status = if lines.contains("fault") {
+            Status::Faulty
+        } else {
+            Status::Done
+        };
+        prints(&rt, &printed, status, want.as_str(), npdu);
+    }
+    Ok(())
+}
+
+#[test]
+fn decodes_frames(rt: HostRuntime) {
+    let table = [
+        (
+            "810A001C01200005012AFF30010C0C0000000519553E444290999A3F",
+            "bvll len=28\nnpdu expecting=0 priority=0 to=5:2A hops=255\ncomplex-ack id=1 choice=12 data=0C0000000519553E444290999A3F\nread-property-ack object=0:5 property=85 values=444290999A\n",
+        ),
+        // lower-case hexadecimal, and a source
+        (
+            "810a0015010c0005012a0005010c0c000000051955",
+            "bvll len=21\nnpdu expecting=1 priority=0 from=5:2A\nconfirmed-request sa=0 segs=0 apdu=5 id=1 choice=12 data=0C000000051955\nread-property object=0:5 property=85\n",
+        ),
+        (
+            "810A000A0180800105AA",
+            "bvll len=10\nnpdu expecting=0 priority=0 message=128 vendor=261 raw=AA\n",
+        ),
+        (
+            "810A00130188FFFE07DBAE40276B4423001092",
+            "bvll len=19\nnpdu expecting=0 priority=0 from=65534:DBAE40276B4423 message=0 raw=1092\n",
+        ),
+        (
+            "810A000F0122FFFF009C10643B6B04",
+            "bvll len=15\nnpdu expecting=0 priority=2 to=65535: hops=156\nunconfirmed-request choice=100 data=3B6B04\n",
+        ),
+        (
+            "810A001A01010225FF0F0C0000000519553E44F5A8145B3F4910",
+            "bvll len=26\nnpdu expecting=0 priority=1\nconfirmed-request sa=1 segs=2 apdu=5 id=255 choice=15 data=0C0000000519553E44F5A8145B3F4910\nwrite-property object=0:5 property=85 values=44F5A8145B priority=16\n",
+        ),
+    ];
+    for (datagram, lines) in table {
+        let printed = decoded(rt.alloc(), datagram);
+        prints(&rt, &printed, Status::Done, lines, datagram);
+    }
+}
+
+/// A layer with a fault prints it behind the layers around it.
+#[test]
+fn decodes_up_to_a_fault(rt: HostRuntime) {
+    let table = [
+        ("", "fault bvll 1\n"),
+        ("800A0004", "fault bvll 2\n"),
+        ("810A000D01040005010C0C000000051955", "fault bvll 5\n"),
+        ("810B0004", "fault bvll 6\n"),
+        ("810A0008F90E2707", "bvll len=8\nfault npdu 2\n"),
+        ("810A000B011410090EB0FA", "bvll len=11\nfault npdu 3\n"),
+        (
+            "810A00060100",
+            "bvll len=6\nnpdu expecting=0 priority=0\nfault apdu 1\n",
+        ),
+        (
+            "810A00090100300107",
+            "bvll len=9\nnpdu expecting=0 priority=0\ncomplex-ack id=1 choice=7 data=\nfault data 2\n",
+        ),
+        ("810A000E01003001070A0002", "fault bvll 5\n"),
+        (
+            "810A000C01003001070A0002",
+            "bvll len=12\nnpdu expecting=0 priority=0\ncomplex-ack id=1 choice=7 data=0A0002\nfault data 5\n",
+        ),
+    ];
+    for (datagram, lines) in table {
+        let printed = decoded(rt.alloc(), datagram);
+        prints(&rt, &printed, Status::Faulty, lines, datagram);
+    }
+}
+
+/// APDUs with hostile octets, and the number of their fault; 0 where they are read.
+#[test]
+fn names_the_fault_of_an_apdu(rt: HostRuntime) -> Result<(), Fail> {
+    let table = [
+        ("", 1),
+        ("80", 5),
+        ("0105010C", 2),
+        ("0405010C", 7),
+        ("0006010C", 3),
+        ("0085010C", 2),
+        ("08050100000C", 4),
+        ("080501007F0C", 0),
+        ("20010F00", 6),
+        ("21010F", 2),
+        ("41000000", 4),
+        ("41000080", 4),
+        ("50030C9101", 1),
+        ("50030C91012105", 8),
+    ];
+    for (apdu, fault) in table {
+        let len = apdu.len() / 2 + 6;
+        let text = format!(in rt.alloc(); "810A{len:04X}0100{apdu}")?;
+        let line = format!(in rt.alloc(); "fault apdu {fault}\n")?;
+        let printed = decoded(rt.alloc(), text.as_str());
+        let has_fault = printed.out.ends_with(line.as_bytes());
+        assert_eq!(rt; has_fault, fault > 0, "{apdu}");
+        assert_eq!(rt; printed.status.code() == 1, fault > 0, "{apdu}");
+    }
+    Ok(())
+}
+
+#[test]
+fn checks_captures(rt: HostRuntime) {
+    let table = [
+        ("", "lines=0 good=0 bad=0\n"),
+        (
+            "0 7F000001BAC1 7F000001BAC0 810A001101040005010C0C000000051955\n5 7F000001BAC0 7F000001BAC1 810A0008010060\n3 7F000001BAC0 7F000001BAC1 810A0007010060\n6 7F000001BAC0 7F000001BAC1 810A0007010060\nx\n",
+            "line 2: fault bvll 5\nline 3: moment goes back\nline 4: fault apdu 1\nline 5: not a capture line\nlines=5 good=1 bad=4\n",
+        ),
+        // the last line has no end, and digits are of either case
+        (
+            "18446744073709551615 7f000001bac1 7F000001BAC0 810a000801001013",
+            "lines=1 good=1 bad=0\n",
+        ),
+        // no lines: an empty one, two spaces, a sign, a moment that is too great, short addresses, half an octet, one word more
+        (
+            "\n0 7F000001BAC1  7F000001BAC0 00\n",
+            "line 1: not a capture line\nline 2: not a capture line\nlines=2 good=0 bad=2\n",
+        ),
+        (
+            "+1 7F000001BAC1 7F000001BAC0 00\n18446744073709551616 7F000001BAC1 7F000001BAC0 00",
+            "line 1: not a capture line\nline 2: not a capture line\nlines=2 good=0 bad=2\n",
+        ),
+        (
+            "1 7F000001BAC 7F000001BAC0 00\n1 7F000001BAC1 7F000001BAC0 0",
+            "line 1: not a capture line\nline 2: not a capture line\nlines=2 good=0 bad=2\n",
+        ),
+        (
+            "1 7F000001BAC1 7F000001BAC0 00 00\n 7F000001BAC1 7F000001BAC0 00",
+            "line 1: not a capture line\nline 2: not a capture line\nlines=2 good=0 bad=2\n",
+        ),
+        // a carriage return is part of the line; leading zeros are taken, and the same moment twice
+        (
+            "1 7F000001BAC1 7F000001BAC0 810A000801001013\r\n007 7F000001BAC1 7F000001BAC0 810A000801001013\n7 7F000001BAC1 7F000001BAC0 810A000801001013\n",
+            "line 1: not a capture line\nlines=3 good=2 bad=1\n",
+        ),
+        // a moment that goes back does not lower the greatest one
+        (
+            "9 7F000001BAC1 7F000001BAC0 810A000801001013\n3 7F000001BAC1 7F000001BAC0 810A000801001013\n5 7F000001BAC1 7F000001BAC0 810A000801001013\n",
+            "line 2: moment goes back\nline 3: moment goes back\nlines=3 good=1 bad=2\n",
+        ),
+        // an empty datagram has its own fault
+        (
+            "1 7F000001BAC1 7F000001BAC0 ",
+            "line 1: fault bvll 1\nlines=1 good=0 bad=1\n",
+        ),
+    ];
+    for (capture, lines) in table {
+        let status = if lines.ends_with("bad=0\n") {
+            Status::Done
+        } else {
+            Status::Faulty
+        };
+        let printed = checked(rt.alloc(), capture.as_bytes());
+        prints(&rt, &printed, status, lines, capture);
+    }
+}
+
+/// An overlong line is no capture line, and the line behind it is read as ever.
+#[test]
+fn skips_overlong_lines(rt: HostRuntime) -> Result<(), Fail> {
+    let mut capture = vec![in rt.alloc(); b'0'; 132_001]?;
+    capture.extend_from_slice(b"\n7 7F000001BAC1 7F000001BAC0 810A000801001013\n")?;
+    let printed = checked(rt.alloc(), &capture);
+    let want = "line 1: not a capture line\nlines=2 good=1 bad=1\n";
+    prints(&rt, &printed, Status::Faulty, want, "overlong");
+    Ok(())
+}
+
+#[test]
+fn reads_the_longest_datagram(rt: HostRuntime) -> Result<(), Fail> {
+    let mut line = String::from_str(rt.alloc(), "1 7F000001BAC1 7F000001BAC0 ")?;
+    let octets = vec![in rt.alloc(); 0u8; 65_535]?;
+    line.push_str(hex::encode(rt.alloc(), octets)?.as_str())?;
+    match read_capture_line(rt.alloc(), line.as_bytes())? {
+        Some(captured) => {
+            assert_eq!(rt; captured.moment, 1);
+            assert_eq!(rt; captured.datagram.len(), 65_535);
+        }
+        None => panic!(rt; "no capture line"),
+    }
+    Ok(())
+}
+
+#[test]
+fn refuses_what_is_not_hexadecimal(rt: HostRuntime) {
+    for text in ["8", "8G", "81 0A", "0x81"] {
+        let printed = decoded(rt.alloc(), text);
+        complains(&rt, &printed, Status::CommandLine, b"bad hex\n");
+    }
+}
+
+#[test]
+fn tells_that_output_failed(rt: HostRuntime) {
+    let mut room = [0u8; 3];
+    let mut out = room.as_mut_slice();
+    let mut err = Vec::new(rt.alloc());
+    let decoded = decode_over(rt.alloc(), "", &mut out, &mut err);
+    assert_eq!(rt; decoded.code(), 3);
+    let mut input: &[u8] = b"x\n";
+    let mut room = [0u8; 30];
+    let mut out = room.as_mut_slice();
+    let checked = check_over(rt.alloc(), &mut input, &mut out, &mut err);
+    assert_eq!(rt; checked.code(), 3);
+    assert_eq!(rt; err.len(), 0);
+}
+
+/// A file that cannot be read.
+#[derive(Drop)]
+struct Broken;
+
+impl Read for Broken {
+    fn read(&mut self, _buf: &mut [u8]) -> io::Result<usize> {
+        Err(io::Error::from(io::ErrorKind::PermissionDenied))
+    }
+}
+
+#[test]
+fn tells_that_the_input_failed(rt: HostRuntime) -> Result<(), Fail> {
+    let mut input = BufReader::new(rt.alloc(), Broken)?;
+    let mut out = Vec::new(rt.alloc());
+    let mut err = Vec::new(rt.alloc());
+    let status = check_over(rt.alloc(), &mut input, &mut out, &mut err);
+    complains(
+        &rt,
+        &Printed { status, out, err },
+        Status::CommandLine,
+        b"cannot read\n",
+    );
+    Ok(())
+}
+
+#[test]
+fn statuses_have_their_numbers(rt: HostRuntime) {
+    assert_eq!(rt; Status::Done.code(), 0);
+    assert_eq!(rt; Status::Faulty.code(), 1);
+    assert_eq!(rt; Status::CommandLine.code(), 2);
+    assert_eq!(rt; Status::Memory.code(), 4);
+}
