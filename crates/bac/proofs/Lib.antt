@@ -1,4 +1,3 @@
-pub mod Literals
 pub mod Short
-pub mod Replies
+pub mod HouseReplies
 pub mod Asking

@@ -1,41 +1,67 @@
--- The answers of the house are short.
-use Rattle.std.proofs.Common.{◌≡◌, ℕ, ◌+◌, ◌<◌, ◌≤◌, ◌^◌, List, [], ◌∷◌, ◌++◌, length, Option, Some, None, refl, sym, ap, ◌∙◌, inl, inr, arith}
+-- Which replies are short, and that their APDUs are.
+use Rattle.std.proofs.Common.{◌≡◌, ℕ, ℤ, ◌+◌, ◌<◌, ◌≤◌, Bool, true, false, List, length, None, if◌then◌else◌, nat_lt, refl, inl, inr, arith}
 use Rattle.std.proofs.lemmas.List.{length-append}
 use Rattle.std.proofs.lemmas.Bool.{lt-ltb, le-ltb, cases_lt}
-use Rattle.bac_value.specs.declared.tag.Class.TheVariants.{Context}
-use Rattle.bac_value.specs.Spelling.{tag_spelling}
-use Rattle.bac_value.specs.Number.{unsigned_octets}
-use Rattle.bac_value.specs.Value.{enumerated, IsNumber}
-use Rattle.bac_value.specs.Data.{opening, closing}
-use Rattle.bac_value.specs.Writing.{primitive, object_octets}
-use Rattle.bac_value.proofs.Values.{IsContents-of}
+use Rattle.bac_value.specs.Number.{width_of, half_width_of, distance}
 use Rattle.bac_apdu.specs.Spelling.{apdu_spelling, enumerated_spelling}
 use Rattle.bac_service.specs.Values.{Reference, Reply}
 use Rattle.bac_service.specs.Values.Reply.{Simple, Whole, Error, Reject}
-use Rattle.bac.specs.Answers.{reply_apdu, IsShort}
-use Rattle.bac_service.specs.Values.Complex.{PropertyRead}
-use Rattle.bac_service.specs.Spellings.{reference_spelling, enclosed_spelling, answer_spelling, index_spelling}
+use Rattle.bac_service.specs.Values.Complex.{FileRead, StreamWritten, PropertyRead}
+use Rattle.bac_service.specs.Lengths.{member_length, unsigned_length, signed_length, index_length}
+use Rattle.bac_service.specs.Spellings.{answer_spelling}
+use Rattle.bac_service.proofs.LengthLaws.{length_answer}
+use Rattle.bac.specs.Replies.{reply_apdu, IsShort}
 
-primitive_len : (n : ℕ) (xs : List ℕ) → n < 15 → length xs < 5 → length (primitive Context n xs) ≤ 5
-unfolding tag_spelling
-primitive_len n xs small few = rw (lt-ltb n 15 small, lt-ltb (length xs) 5 few) (omega arith)
+-- a width is one of eight
+steps : (a b c d e f g : Bool)
+    → (if a then 1 else (if b then 2 else (if c then 3 else (if d then 4 else (if e then 5 else (if f then 6 else (if g then 7 else 8))))))) ≤ 8
+steps true b c d e f g = omega arith
+steps false true c d e f g = omega arith
+steps false false true d e f g = omega arith
+steps false false false true e f g = omega arith
+steps false false false false true f g = omega arith
+steps false false false false false true g = omega arith
+steps false false false false false false true = omega arith
+steps false false false false false false false = omega arith
 
-number_len : (n : ℕ) → n < 2 ^ 32 → length (unsigned_octets n) < 5
-number_len n lt = let is : IsNumber 4 n (unsigned_octets n) = IsContents-of (enumerated n) lt in omega (arith, is.few)
+pub width_few : (n : ℕ) → width_of n ≤ 8
+width_few n =
+    steps (nat_lt n 0x100) (nat_lt n 0x1_0000) (nat_lt n 0x100_0000) (nat_lt n 0x1_0000_0000) (nat_lt n 0x100_0000_0000) (nat_lt n 0x1_0000_0000_0000)
+    (nat_lt n 0x100_0000_0000_0000)
 
-enclosed_len : (values : List ℕ) → length (enclosed_spelling 3 values) ≤ length values + 2
-unfolding tag_spelling
-enclosed_len values = omega (arith, length-append values (closing 3))
+half_width_few : (n : ℕ) → half_width_of n ≤ 8
+half_width_few n =
+    steps (nat_lt n 0x80) (nat_lt n 0x8000) (nat_lt n 0x80_0000) (nat_lt n 0x8000_0000) (nat_lt n 0x80_0000_0000) (nat_lt n 0x8000_0000_0000)
+    (nat_lt n 0x80_0000_0000_0000)
 
-pub read_short : (r : Reference) (values : List ℕ) → r.index ≡ None → r.property < 2 ^ 32 → length values ≤ 5 → length (answer_spelling (PropertyRead r values)) ≤ 100
-read_short r values none lt few =
-    let object = object_octets r.object in
-    let property = unsigned_octets r.property in
-    let a = primitive_len 0 object (omega arith) (omega arith) in
-    let b = primitive_len 1 property (omega arith) (number_len r.property lt) in
-    let c = enclosed_len values in
-    let index : length (index_spelling r.index) ≡ 0 = rw none refl in
-    omega (arith, length-append (reference_spelling r) (enclosed_spelling 3 values), length-append (primitive Context 0 object) (primitive Context 1 property ++ index_spelling r.index), length-append (primitive Context 1 property) (index_spelling r.index), a, b, c, index)
+member_short : (k : ℕ) → k < 254 → member_length k ≤ k + 2
+member_short k few =
+    elim (cases_lt k 5) [
+      | inl a ↦ rw (lt-ltb k 5 a) (omega arith)
+      | inr b ↦ rw (le-ltb k 5 b, lt-ltb k 254 few) (omega arith)
+    ]
+
+number_short : (n : ℕ) → unsigned_length n ≤ 10
+number_short n = let few = width_few n in omega (arith, few, member_short (width_of n) (omega (arith, few)))
+
+integer_short : (z : ℤ) → signed_length z ≤ 10
+integer_short z = let few = half_width_few (distance z) in omega (arith, few, member_short (half_width_of (distance z)) (omega (arith, few)))
+
+-- ---- answers
+
+pub read_short : (r : Reference) (values : List ℕ) → r.index ≡ None → length values ≤ 30 → length (answer_spelling (PropertyRead r values)) ≤ 47
+read_short r values none few =
+    let index : index_length r.index ≡ 0 = rw none refl in
+    omega (arith, length_answer (PropertyRead r values), number_short r.property, index, few)
+
+pub file_short : (end_of_file : Bool) (start : ℤ) (octets : List ℕ) → length octets ≤ 30 → length (answer_spelling (FileRead end_of_file start octets)) ≤ 47
+file_short end_of_file start octets few =
+    omega (arith, length_answer (FileRead end_of_file start octets), integer_short start, member_short (length octets) (omega (arith, few)), few)
+
+pub written_short : (start : ℤ) → length (answer_spelling (StreamWritten start)) ≤ 47
+written_short start = omega (arith, length_answer (StreamWritten start), integer_short start)
+
+-- ---- APDUs
 
 enumerated_len : (n : ℕ) → length (enumerated_spelling n) ≤ 5
 enumerated_len n =
@@ -50,9 +76,10 @@ enumerated_len n =
       ]
     ]
 
-pub apdu_short : (invoke : ℕ) (r : Reply) → IsShort r → length (apdu_spelling (reply_apdu invoke r)) ≤ 1476
+pub apdu_short : (invoke choice : ℕ) (r : Reply) → IsShort r → length (apdu_spelling (reply_apdu invoke choice r)) ≤ 50
 unfolding apdu_spelling
-apdu_short invoke Simple h = omega arith
-apdu_short invoke (Whole c) h = omega (arith, h)
-apdu_short invoke (Error class code) h = omega (arith, length-append (enumerated_spelling class) (enumerated_spelling code), enumerated_len class, enumerated_len code)
-apdu_short invoke (Reject reason) h = omega arith
+apdu_short invoke choice Simple h = omega arith
+apdu_short invoke choice (Whole c) h = omega (arith, h)
+apdu_short invoke choice (Error class code) h =
+    omega (arith, length-append (enumerated_spelling class) (enumerated_spelling code), enumerated_len class, enumerated_len code)
+apdu_short invoke choice (Reject reason) h = omega arith

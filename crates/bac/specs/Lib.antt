@@ -1,2 +1,3 @@
-pub mod House
+pub mod Replies
+pub mod Rejections
 pub mod Answers

@@ -1,116 +1,29 @@
 //! One datagram in, at most one out.
-ghost use Rattle.std.specs.Prelude.{◌≡◌, ◌++◌, ◌≤◌, ◌^◌, ◌<◌, ℕ, List, length, None, Some, MatchOption, IfOk, IfErr, IfSome, OnOk};
+ghost use Rattle.std.specs.Prelude.{◌≡◌, ℕ, List, None, Some, MatchOption, Ok, IfOk};
 ghost use Rattle.std.specs.Option.{option_map};
-ghost use Rattle.bac_apdu.specs.Spelling.{apdu_spelling};
+ghost use Rattle.bac_apdu.specs.Views.{apdu_view};
 ghost use Rattle.bac_npdu.specs.Peers.{PeerView};
 ghost use Rattle.bac_npdu.specs.Views.{peer_view};
 ghost use Rattle.bac_service.specs.Requests.{SpellsRequest};
-ghost use Rattle.bac_service.specs.Values.{Reference};
-ghost use Rattle.bac_service.specs.Values.Request.{ReadProperty};
-ghost use Rattle.bac_service.specs.Values.Reply.{Reject as RejectReply};
-ghost use Rattle.bac_service.specs.Views.{reference};
-ghost use Rattle.bac.specs.Answers.{Asks, answer_frame, reply as reply_view, reply_apdu, reply_to, unsegmented_in, IsShort};
-ghost use Rattle.bac_apdu.specs.Views.{apdu_view};
+ghost use Rattle.bac_service.specs.Values.{Request};
+ghost use Rattle.bac_service.specs.Views.{complex, replied};
+ghost use Rattle.bac_store.specs.House.{house as the_house};
+ghost use Rattle.bac_store.specs.Replies.{reply_to};
+ghost use Rattle.bac.specs.Answers.{Asks, IsRejected, answer_frame, unsegmented_in};
+ghost use Rattle.bac.specs.Rejections.{IsNoRequest};
+ghost use Rattle.bac.specs.Replies.{IsShort};
 
-use crate::house::present_value_of;
+use crate::performing::perform;
+use crate::reply_writing::put_reply;
 use bac_apdu::Apdu;
 use bac_npdu::{Peer, read_datagram, write_datagram};
-use bac_service::{
-    AnyComplex, AnyReply, AnyRequest, PropertyRead, PropertyReference, Reject, Reply, read_request,
-    write_reply,
-};
+use bac_service::Reply;
+use bac_store::house;
 use bac_value::NoMemory;
 use std::alloc::Global;
 
 /// The link that a datagram is taken to come from: 127.0.0.1, port 47,809.
 pub const CLIENT: [u8; 6] = [0x7F, 0, 0, 1, 0xBA, 0xC1];
-
-/// The service choice of ReadProperty.
-const READ_PROPERTY: u8 = 12;
-
-const PRESENT_VALUE: u32 = 85;
-
-/// What the house answers to a read of a property.
-fn reply_of(to: PropertyReference) -> Reply<'static>
-    ensures is { reply_view result ≡ reply_to (reference to) }
-    ensures short { IsShort (reply_view result) }
-{
-    let Some(values) = present_value_of(to.object) else {
-        return AnyReply::Error { class: 1, code: 31 };
-    };
-    if to.property != PRESENT_VALUE {
-        return AnyReply::Error { class: 2, code: 32 };
-    }
-    match to.index {
-        Some(_) => AnyReply::Error { class: 2, code: 50 },
-        None => {
-            let read = PropertyRead {
-                reference: to,
-                values,
-            };
-            AnyReply::Complex(AnyComplex::PropertyRead(read))
-        }
-    }
-}
-
-/// The property that a request asks for, or why it is rejected.
-fn property_asked(choice: u8, service: &[u8]) -> Result<PropertyReference, Reject>
-    ensures found { IfOk result (λ r. SpellsRequest choice (ReadProperty (reference r)) service.now) }
-    ensures refused { IfErr result (λ e. (r : Reference) → SpellsRequest choice (ReadProperty r) service.now → ⊥) }
-{
-    // the other services are not performed here, so their requests are not read
-    if choice != READ_PROPERTY {
-        return Err(Reject::UnrecognizedService);
-    }
-    match read_request(choice, service) {
-        Ok(AnyRequest::ReadProperty(reference)) => Ok(reference),
-        Ok(_) => Err(Reject::UnrecognizedService),
-        Err(reject) => Err(reject),
-    }
-}
-
-/// What a request is answered with.
-fn reply_for(choice: u8, service: &[u8]) -> Reply<'static>
-    ensures found { (r : Reference) → SpellsRequest choice (ReadProperty r) service.now → reply_view result ≡ reply_to r }
-    ensures rejected { ((r : Reference) → SpellsRequest choice (ReadProperty r) service.now → ⊥) → (reason : ℕ) × (reply_view result ≡ RejectReply reason) }
-    ensures short { IsShort (reply_view result) }
-{
-    match property_asked(choice, service) {
-        Ok(reference) => reply_of(reference),
-        Err(reject) => AnyReply::Reject(reject.reason()),
-    }
-}
-
-/// Appends the APDU that carries a reply to a read of a property.
-fn put_reply(alloc: Global, invoke: u8, reply: Reply<'_>, out: &mut Vec<u8>) -> Result<(), NoMemory>
-    ensures { OnOk result (out.new.items ≡ out.old.items ++ apdu_spelling (reply_apdu invoke (reply_view reply.entry))) }
-{
-    let choice = READ_PROPERTY;
-    match reply {
-        AnyReply::Simple => bac_apdu::write(&Apdu::SimpleAck { invoke, choice }, out),
-        AnyReply::Complex(complex) => {
-            let mut service = Vec::new(alloc);
-            write_reply(complex, &mut service)?;
-            let apdu = Apdu::ComplexAck {
-                invoke,
-                segment: None,
-                choice,
-                service: &service,
-            };
-            bac_apdu::write(&apdu, out)
-        }
-        AnyReply::Error { class, code } => {
-            let apdu = Apdu::Error {
-                invoke,
-                choice,
-                class,
-                code,
-            };
-            bac_apdu::write(&apdu, out)
-        }
-        AnyReply::Reject(reason) => bac_apdu::write(&Apdu::Reject { invoke, reason }, out),
-    }
-}
 
 /// A Confirmed-Request that is no segment, and its client.
 #[derive(Clone, Copy)]
@@ -158,36 +71,38 @@ fn request_in(octets: &[u8]) -> Option<Asking<'_>>
     })
 }
 
-/// The frame that carries a reply to a peer.
-fn framed(alloc: Global, peer: &Peer, invoke: u8, to_carry: Reply<'_>) -> Result<Vec<u8>, NoMemory>
-    requires { IsShort (reply_view to_carry) }
-    ensures { IfOk result (λ v. v.items ≡ answer_frame (peer_view peer.now) invoke (reply_view to_carry.entry)) }
+/// The frame that carries a reply to who asked.
+fn framed(alloc: Global, to: &Asking<'_>, to_carry: Reply<'_>) -> Result<Vec<u8>, NoMemory>
+    requires { IsShort (replied complex to_carry) }
+    ensures { IfOk result (λ v. v.items ≡ answer_frame (peer_view to.now.peer) to.now.invoke to.now.choice (replied complex to_carry.entry)) }
 {
     let mut apdu = Vec::new(alloc);
-    put_reply(alloc, invoke, to_carry, &mut apdu)?;
+    put_reply(alloc, to.invoke, to.choice, to_carry, &mut apdu)?;
     let mut frame = Vec::new(alloc);
-    write_datagram(peer, false, &apdu, &mut frame)?;
+    write_datagram(&to.peer, false, &apdu, &mut frame)?;
     Ok(frame)
 }
 
 /// The one datagram that answers a datagram from 127.0.0.1, port 47,809, or None.
 ///
-/// A ReadProperty request (clause 15.5) that is no segment gets the house's reply, in one ComplexACK or Error. A Confirmed-Request
-/// that is no segment and no ReadProperty request gets a Reject. Any other datagram gets nothing.
+/// A request of one of the four services (clauses 14.1, 14.2, 15.5 and 15.9) that is no segment is performed on a house store of
+/// its own and gets its reply, in one SimpleACK, ComplexACK or Error. A Confirmed-Request that is no segment and whose service
+/// data spell no request gets a Reject, with reason 9 exactly where the service choice is another. Any other datagram gets nothing.
 pub fn answer_datagram(alloc: Global, octets: &[u8]) -> Result<Option<Vec<u8>>, NoMemory>
-    ensures answered { (peer : PeerView) (invoke choice : ℕ) (service : List ℕ) (r : Reference)
-        → Asks octets.now peer invoke choice service → SpellsRequest choice (ReadProperty r) service
-        → IfOk result (λ a. option_map (λ v. v.items) a ≡ Some (answer_frame peer invoke (reply_to r))) }
+    ensures answered { (peer : PeerView) (invoke choice : ℕ) (service : List ℕ) (r : Request)
+        → Asks octets.now peer invoke choice service → SpellsRequest choice r service
+        → IfOk result (λ a. option_map (λ v. v.items) a ≡ Some (answer_frame peer invoke choice (reply_to the_house r))) }
     ensures rejected { (peer : PeerView) (invoke choice : ℕ) (service : List ℕ)
-        → Asks octets.now peer invoke choice service → ((r : Reference) → SpellsRequest choice (ReadProperty r) service → ⊥)
-        → IfOk result (λ a. (reason : ℕ) × (option_map (λ v. v.items) a ≡ Some (answer_frame peer invoke (RejectReply reason)))) }
+        → Asks octets.now peer invoke choice service → IsNoRequest choice service
+        → IfOk result (λ a. IsRejected peer invoke choice (option_map (λ v. v.items) a)) }
     ensures silent { ((peer : PeerView) (invoke choice : ℕ) (service : List ℕ) → Asks octets.now peer invoke choice service → ⊥)
-        → IfOk result (λ a. option_map (λ v. v.items) a ≡ None) }
+        → result ≡ Ok None }
 {
     let Some(asked) = request_in(octets) else {
         return Ok(None);
     };
-    let reply = reply_for(asked.choice, asked.service);
-    let frame = framed(alloc, &asked.peer, asked.invoke, reply)?;
+    let mut store = house(alloc)?;
+    let reply = perform(alloc, &mut store, asked.choice, asked.service)?;
+    let frame = framed(alloc, &asked, reply.as_reply())?;
     Ok(Some(frame))
 }

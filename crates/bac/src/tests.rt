@@ -1,6 +1,9 @@
 //! What `bac answer` prints.
-use crate::status::Status;
+use crate::performing::perform;
+use crate::reply_writing::put_reply;
 use crate::text::answer_over;
+use bac_store::{Store, house};
+use bac_text::Status;
 use std::alloc::Global;
 use std::process::Abort;
 use std::test::Fail;
@@ -64,10 +67,14 @@ fn answers_requests(rt: HostRuntime) -> Result<(), Fail> {
             "810A0013010400050A0C0C0000000519552900",
             "810A000D0100500A0C91029132",
         ),
-        // an object without its property, and services that are not performed
+        // an object without its property, and another service
         ("810A000F01040005040C0C00000005", "810A00090100600405"),
         ("810A001101040005040E0C000000051955", "810A00090100600409"),
-        ("810A000A010400050506", "810A00090100600509"),
+        // priority 1 of the network layer
+        (
+            "810A001101050005010C0C000000051955",
+            "810A0017010030010C0C0000000519553E444290999A3F",
+        ),
         // behind a router
         (
             "810A0015010C0005012A0005010C0C000000051955",
@@ -78,6 +85,119 @@ fn answers_requests(rt: HostRuntime) -> Result<(), Fail> {
         answers(&rt, rt.alloc(), datagram, answer)?;
     }
     Ok(())
+}
+
+/// An APDU in the datagram of a client without a route, and its answer likewise.
+fn answers_apdu(rt: &impl Abort, alloc: Global, apdu: &str, answer: &str) -> Result<(), Fail> {
+    let datagram = format!(in alloc; "810A00{:02X}0104{apdu}", 6 + apdu.len() / 2)?;
+    let frame = format!(in alloc; "810A00{:02X}0100{answer}", 6 + answer.len() / 2)?;
+    answers(rt, alloc, &datagram, &frame)
+}
+
+#[test]
+fn answers_properties(rt: HostRuntime) -> Result<(), Fail> {
+    let table = [
+        // computed properties, and an empty text
+        (
+            "0005060C0C02000001194D",
+            "30060C0C02000001194D3E750600686F7573653F",
+        ),
+        ("0005070C0C02800001192A", "30070C0C02800001192A3E21023F"),
+        ("0005070C0C00800001191C", "30070C0C00800001191C3E71003F"),
+        // written, whatever the priority
+        ("0004590F0C0080000119553E44433400003F", "20590F"),
+        ("0004590F0C0080000119553E44433400003F4910", "20590F"),
+        // a state that there is not, another kind, not writable
+        ("0005080F0C0140000119553E91023F", "50080F91029125"),
+        ("0005090F0C0140000119553E21013F", "50090F91029109"),
+        ("0005020F0C0000000519553E44000000003F", "50020F91029128"),
+        // an index, no such object
+        ("00050A0C0C0000000519552900", "500A0C91029132"),
+        ("0005030C0C000000091955", "50030C9101911F"),
+        // refused requests
+        ("0005040C0C00000005", "600405"),
+        ("0005060F0C0080000119553E44433400003F4911", "600606"),
+        ("0005070E", "600709"),
+    ];
+    for (apdu, answer) in table {
+        answers_apdu(&rt, rt.alloc(), apdu, answer)?;
+    }
+    Ok(())
+}
+
+#[test]
+fn answers_files(rt: HostRuntime) -> Result<(), Fail> {
+    let table = [
+        // reads: all of it, its first octet, behind its last, too far, records
+        ("00050D06C4028000010E3100210A0F", "300D06110E3100624F4B0F"),
+        ("00050E06C4028000010E310021010F", "300E06100E3100614F0F"),
+        ("00050F06C4028000010E310221010F", "300F06110E3102600F"),
+        ("00051006C4028000010E310321010F", "5010069105910B"),
+        ("00051106C4028000011E310021011F", "5011069105910A"),
+        // writes: records, too far, at the end, over octets, to what is no file
+        ("00050B07C4028000011E3100210162ABCD1F", "500B079105910A"),
+        ("00050C07C4028000010E310361AA0F", "500C079105910B"),
+        ("00050D07C4028000010E31FF600F", "300D070902"),
+        ("00050E07C4028000010E310162AABB0F", "300E070901"),
+        ("00050F07C4000000050E310061AA0F", "500F079101911F"),
+        // no member of the request
+        ("00050506", "600505"),
+    ];
+    for (apdu, answer) in table {
+        answers_apdu(&rt, rt.alloc(), apdu, answer)?;
+    }
+    Ok(())
+}
+
+/// The APDU with invoke ID 0 that service data get from a store, in hexadecimal.
+fn performed(alloc: Global, store: &mut Store, choice: u8, service: &str) -> Result<String, Fail> {
+    let service = hex::decode(alloc, service)?;
+    let reply = perform(alloc, store, choice, &service)?;
+    let mut apdu = Vec::new(alloc);
+    put_reply(alloc, 0, choice, reply.as_reply(), &mut apdu)?;
+    let text = hex::encode_upper(alloc, apdu)?;
+    Ok(text)
+}
+
+#[test]
+fn a_store_keeps_what_is_written(rt: HostRuntime) -> Result<(), Fail> {
+    let mut store = house(rt.alloc())?;
+    let table = [
+        // present-value of analog-value 1
+        (15, "0C0080000119553E44433400003F", "20000F"),
+        (12, "0C008000011955", "30000C0C0080000119553E44433400003F"),
+        // a Reject and an Error change nothing
+        (15, "0C0080000119553E44433400003F4900", "600006"),
+        (15, "0C0080000119553E21013F", "50000F91029109"),
+        (12, "0C008000011955", "30000C0C0080000119553E44433400003F"),
+        // file 1: nothing appended, two octets from the second on
+        (7, "C4028000010E31FF600F", "3000070902"),
+        (6, "C4028000010E3100210A0F", "300006110E3100624F4B0F"),
+        (7, "C4028000010E310162AABB0F", "3000070901"),
+        (6, "C4028000010E3100210A0F", "300006110E3100634FAABB0F"),
+        (12, "0C02800001192A", "30000C0C02800001192A3E21033F"),
+    ];
+    for (choice, service, answer) in table {
+        let apdu = performed(rt.alloc(), &mut store, choice, service)?;
+        assert_eq!(rt; apdu.as_str(), answer, "{service}");
+    }
+    Ok(())
+}
+
+#[test]
+fn each_datagram_has_its_own_house(rt: HostRuntime) -> Result<(), Fail> {
+    answers_apdu(
+        &rt,
+        rt.alloc(),
+        "0005000F0C0080000119553E44433400003F",
+        "20000F",
+    )?;
+    answers_apdu(
+        &rt,
+        rt.alloc(),
+        "0005010C0C008000011955",
+        "30010C0C0080000119553E44000000003F",
+    )
 }
 
 #[test]

@@ -1,15 +1,9 @@
 //! The texts that commands take and print.
 use crate::answer::answer_datagram;
-use crate::status::Status;
+use bac_text::{Status, complain, output_failed};
 use hex::FromHexError;
 use std::alloc::Global;
 use std::io::Write;
-
-/// Prints a complaint; where even that fails, the status alone tells.
-fn complain<E: Write>(err: &mut E, message: &str, status: Status) -> Status {
-    let _ = err.writeln(message);
-    status
-}
 
 /// Prints the datagrams that answer a datagram given in hexadecimal, in capitals, one a line, or `none`.
 ///
@@ -37,6 +31,6 @@ pub fn answer_over<O: Write, E: Write>(
     };
     match printed {
         Ok(()) => Status::Done,
-        Err(_) => Status::Output,
+        Err(error) => output_failed(err, &error),
     }
 }

@@ -1,11 +1,14 @@
-use Rattle.std.proofs.Common.{◌≡◌, ◌≤◌, List, ℕ, length, subst, sym, ◌∙◌, ap, ◌++◌}
+use Rattle.std.proofs.Common.{◌≡◌, List, ℕ, length, ◌++◌, ap, ◌∙◌, arith}
 use Rattle.bac_apdu.specs.Spelling.{apdu_spelling}
-use Rattle.bac.specs.Answers.{reply_apdu, reply as reply_view}
+use Rattle.bac_service.specs.Views.{complex, replied}
+use Rattle.bac.specs.Replies.{reply_apdu}
 use Rattle.bac.proofs.Short.{apdu_short}
 use Rattle.bac.proofs.answer.framed.Goals as goal
 
 pub write_datagram-requires : goal.write_datagram-requires
 write_datagram-requires c =
-    let short = apdu_short c.args.invoke (reply_view c.args.to_carry) c.requires in
-    let items : c.deref.result.now ≡ apdu_spelling (reply_apdu c.args.invoke (reply_view c.args.to_carry)) = c.deref.ensures.value ∙ c.in_ok-put_reply.ensures ∙ ap (λ (xs : List ℕ). xs ++ apdu_spelling (reply_apdu c.args.invoke (reply_view c.args.to_carry))) c.new-apdu.ensures.items in
-    subst (λ (xs : List ℕ). length xs ≤ 1476) (sym items) short
+    let reply = replied complex c.args.to_carry in
+    let spelling = apdu_spelling (reply_apdu c.args.to.now.invoke c.args.to.now.choice reply) in
+    let items : c.deref.result.now ≡ spelling = c.deref.ensures.value ∙ c.in_ok-put_reply.ensures
+    ∙ ap (λ (xs : List ℕ). xs ++ spelling) c.new-apdu.ensures.items in
+    omega (arith, ap (λ (xs : List ℕ). length xs) items, apdu_short c.args.to.now.invoke c.args.to.now.choice reply c.requires)

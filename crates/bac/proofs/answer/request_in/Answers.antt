@@ -12,10 +12,13 @@ returns-in_default-read c = asks_nothing c.args.octets.now (peer_view c.in-Ok.pe
 
 pub returns-in_err-invoke : goal.returns-in_err-invoke
 returns-in_err-invoke c =
-    rw c.from_residual.ensures
-    (asks_other c.args.octets.now (peer_view c.in-Ok.peer) c.in-Ok.apdu.now (apdu_view c.in-Ok-read.apdu) c.in-Ok.ensures.carried c.in-Ok-read.ensures.found (sym c.in_err-invoke.ensures))
+    let found = c.in-Ok-read.ensures.found in
+    let other = asks_other c.args.octets.now (peer_view c.in-Ok.peer) c.in-Ok.apdu.now (apdu_view c.in-Ok-read.apdu) c.in-Ok.ensures.carried found in
+    rw c.from_residual.ensures (other (sym c.in_err-invoke.ensures))
 
 pub returns : goal.returns
 returns c =
-    asks_this c.args.octets.now (peer_view c.in-Ok.peer) c.in-Ok.apdu.now (apdu_view c.in-Ok-read.apdu) c.in_ok-invoke.invoke c.in_ok-invoke.choice c.in_ok-invoke.service.now c.in-Ok.ensures.carried c.in-Ok-read.ensures.found
-    (sym c.in_ok-invoke.ensures)
+    let asked = c.in_ok-invoke in
+    let found = c.in-Ok-read.ensures.found in
+    asks_this c.args.octets.now (peer_view c.in-Ok.peer) c.in-Ok.apdu.now (apdu_view c.in-Ok-read.apdu) asked.invoke asked.choice asked.service.now
+    c.in-Ok.ensures.carried found (sym asked.ensures)

@@ -1,0 +1,21 @@
+-- The APDU that carries a reply (clauses 20.1.4, 20.1.5, 20.1.7 and 20.1.8).
+use Rattle.std.specs.Prelude.{ℕ, ◌≤◌, length, None}
+use Rattle.bac_apdu.specs.Apdu.{Apdu, SimpleAck, ComplexAck}
+use Rattle.bac_apdu.specs.Apdu as apdu
+use Rattle.bac_service.specs.Values.{Reply}
+use Rattle.bac_service.specs.Values.Reply.{Simple, Whole, Error, Reject}
+use Rattle.bac_service.specs.Spellings.{answer_spelling}
+
+-- to a request with this invoke ID and service choice, where one APDU is enough
+abbrev pub reply_apdu : (invoke choice : ℕ) → Reply → Apdu
+reply_apdu invoke choice Simple = SimpleAck invoke choice
+reply_apdu invoke choice (Whole c) = ComplexAck invoke None choice (answer_spelling c)
+reply_apdu invoke choice (Error class code) = apdu.Apdu.Error invoke choice class code
+reply_apdu invoke choice (Reject reason) = apdu.Apdu.Reject invoke reason
+
+-- its service data fit the least size of an APDU, 50 octets, behind the three in front of them
+abbrev pub IsShort : Reply → Type 0
+IsShort Simple = Unit {0}
+IsShort (Whole c) = length (answer_spelling c) ≤ 47
+IsShort (Error class code) = Unit {0}
+IsShort (Reject reason) = Unit {0}
