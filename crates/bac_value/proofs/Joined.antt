@@ -79,11 +79,6 @@ copied ps i d old new total skip left over here lt o h is same =
     ap (λ (l : List ℕ). l ++ take (left - here) (drop (skip - over) r)) is
     ∙ append_assoc old (take here (drop over p)) (take (left - here) (drop (skip - over) r)) ∙ ap (λ (l : List ℕ). old ++ l) (sym e) ∙ same
 
-pub begins_more : (old out new x : List ℕ) → take (length old) out ≡ old → new ≡ out ++ x → take (length old) new ≡ old
-begins_more old out new x b e =
-    let len : length old ≤ length out = omega (arith, ap length b, length-take (length old) out) in
-    ap (take (length old)) e ∙ take-append-le (length old) out x len ∙ b
-
 -- a part that is left behind
 pub left_behind : (ps behind : List (Vec ℕ)) (v : Vec ℕ) (text total : List ℕ) (skip k len : ℕ) → ps ≡ v ∷ behind → text ≡ v.items → k ≡ length text → k ≤ skip
     → drop skip (joined ps) ≡ total → skip + len ≤ length (joined ps) → IsBytes (joined ps)

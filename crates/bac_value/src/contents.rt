@@ -1,7 +1,9 @@
-ghost use Rattle.std.specs.Prelude.{◌≡◌, ◌<◌, ◌≤◌, ◌+◌, ◌-◌, ◌%◌, ◌^◌, ◌==◌, ◌&&◌, ◌∷◌, length, drop, take, slice_index, MatchOption, IfOk};
+ghost use Rattle.std.specs.Prelude.{◌≡◌, ℕ, ◌<◌, ◌≤◌, ◌+◌, ◌-◌, ◌%◌, ◌^◌, ◌==◌, ◌&&◌, ◌∷◌, length, drop, take, slice_index, MatchOption, IfOk};
 ghost use Rattle.std.specs.Prelude.{IsTrue, true};
+ghost use Rattle.bac_value.specs.Element.{AreOfKind, HasContents};
 ghost use Rattle.bac_value.specs.Limits.{bits_fit};
-ghost use Rattle.bac_value.specs.Reading.{Reads, raw_at, kind_at, class_at, contents_at, length_in, flaw, is_longer_unsigned, is_longer_signed};
+ghost use Rattle.bac_value.specs.Reading.{Reads, IsExact, number_at, signed_at, object_at, raw_at, kind_at, class_at, contents_at, length_in, flaw, is_longer_unsigned, is_longer_signed};
+ghost use Rattle.bac_value.specs.Value.{unsigned, enumerated, signed, object};
 ghost use Rattle.bac_value.specs.Views.{mark};
 
 use crate::fault::FaultKind;
@@ -130,6 +132,18 @@ pub fn take_contents<O: Octets>(octets: O, kind: u8, len: usize) -> Result<(O, O
         None => Ok((contents, rest)),
     }
 }
+
+/// What reading contents takes: octets that values of a kind have as contents, and no others (clauses 20.2.2 to 20.2.14).
+///
+/// `take_contents` is `kinds`; `take_unsigned`, `take_enumerated`, `take_signed` and `take_object_identifier` are the others,
+/// which give the value that has these contents.
+pub fn exact_contents()
+    ensures kinds { (n len : ℕ) → n < 13 → IsExact (kind_at n len) (AreOfKind n len) }
+    ensures unsigned { (len : ℕ) → IsExact (number_at 2 len) (HasContents unsigned len) }
+    ensures enumerated { (len : ℕ) → IsExact (number_at 9 len) (HasContents enumerated len) }
+    ensures signed { (len : ℕ) → IsExact (signed_at len) (HasContents signed len) }
+    ensures object { (len : ℕ) → IsExact (object_at len) (HasContents object len) }
+{}
 
 #[tactic(auto, unfolding(crate::specs::Reading::class_at))]
 fn contents_of_class<O: Octets>(

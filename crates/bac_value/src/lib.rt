@@ -27,7 +27,7 @@ mod value_writing;
 mod walking;
 mod walking_on;
 
-pub use contents::take_contents;
+pub use contents::{exact_contents, take_contents};
 pub use data::{Data, DataBuf};
 pub use data_reading::{one_data_front, read_data, take_data};
 pub use data_writing::write_data;
@@ -37,7 +37,7 @@ pub use fault::{Fault, FaultKind};
 pub use memory::NoMemory;
 pub use number_reading::{take_enumerated, take_object_identifier, take_signed, take_unsigned};
 pub use number_width::{signed_len, unsigned_len};
-pub use octets::Octets;
+pub use octets::{Octets, copy_of};
 pub use parts::Parts;
 pub use parts_reading::{check_data_at, copy_out, read_tag_at};
 pub use tag::{Class, Form, Tag};

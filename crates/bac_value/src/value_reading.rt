@@ -1,6 +1,6 @@
 ghost use Rattle.std.specs.Prelude.{◌≡◌, ◌<◌, ◌≤◌, ◌+◌, ◌∷◌, ◌^◌, ◌≢◌, length, slice_index, drop, IsTrue, None, IfOk, OnErr, MatchOption};
 ghost use Rattle.bac_value.specs.Element.{IsOfKind};
-ghost use Rattle.bac_value.specs.Meaning.{IsValueOf, datum_in};
+ghost use Rattle.bac_value.specs.Meaning.{IsValueOf, copied, datum_in};
 ghost use Rattle.bac_value.specs.Reading.{length_in, flaw};
 ghost use Rattle.bac_value.specs.Value.{Datum, kind_number, IsContents};
 ghost use Rattle.bac_value.specs.Views.{datum, part};
@@ -9,7 +9,7 @@ use crate::contents::{flaw_in, is_length_in};
 use crate::element::Element;
 use crate::memory::NoMemory;
 use crate::number_reading::{number_of, object_of, signed_of};
-use crate::octets::Octets;
+use crate::octets::{Octets, copy_of};
 use crate::tag::{Class, Form};
 use crate::value::{BitString, CharacterString, OctetString, Value};
 use std::alloc::Global;
@@ -30,19 +30,10 @@ fn array_of<O: Octets, const N: usize>(octets: O) -> [u8; N]
     array
 }
 
-fn copy_of<O: Octets>(alloc: Global, octets: O) -> Result<Vec<u8>, NoMemory>
-    ensures same { IfOk result (λ copy. copy.items ≡ O.octets octets) }
-    ensures full { OnErr result (0 < length (O.octets octets)) }
-{
-    let mut copy = Vec::new(alloc);
-    octets.append_to(&mut copy)?;
-    Ok(copy)
-}
-
 fn octet_string<O: Octets>(alloc: Global, contents: O) -> Result<Value, NoMemory>
     requires { length (O.octets contents) < 2 ^ 32 }
     ensures value { IfOk result (λ v. datum v ≡ datum_in 6 (O.octets contents)) }
-    ensures full { OnErr result (0 < length (O.octets contents)) }
+    ensures full { OnErr result (0 < length (copied (datum_in 6 (O.octets contents)))) }
 {
     let octets = copy_of(alloc, contents)?;
     Ok(Value::OctetString(OctetString { octets }))
@@ -52,7 +43,7 @@ fn character_string<O: Octets>(alloc: Global, contents: O) -> Result<Value, NoMe
     requires some { 0 < length (O.octets contents) }
     requires fits { length (O.octets contents) < 2 ^ 32 }
     ensures value { IfOk result (λ v. datum v ≡ datum_in 7 (O.octets contents)) }
-    ensures full { OnErr result (0 < length (O.octets contents)) }
+    ensures full { OnErr result (0 < length (copied (datum_in 7 (O.octets contents)))) }
 {
     let Some((set, text)) = contents.first() else {
         unreachable!()
@@ -66,7 +57,7 @@ fn bit_string<O: Octets>(alloc: Global, contents: O) -> Result<Value, NoMemory>
     requires fits { length (O.octets contents) < 2 ^ 32 }
     requires right { flaw 8 (O.octets contents) ≡ None }
     ensures value { IfOk result (λ v. datum v ≡ datum_in 8 (O.octets contents)) }
-    ensures full { OnErr result (0 < length (O.octets contents)) }
+    ensures full { OnErr result (0 < length (copied (datum_in 8 (O.octets contents)))) }
 {
     let Some((unused, octets)) = contents.first() else {
         unreachable!()
@@ -83,7 +74,7 @@ fn value_of_kind<O: Octets>(alloc: Global, kind: u8, contents: O) -> Result<Valu
     requires sized { IsTrue (length_in kind (length (O.octets contents))) }
     requires right { flaw kind (O.octets contents) ≡ None }
     ensures value { IfOk result (λ v. datum v ≡ datum_in kind (O.octets contents)) }
-    ensures full { OnErr result (0 < length (O.octets contents)) }
+    ensures full { OnErr result (0 < length (copied (datum_in kind (O.octets contents)))) }
 {
     match kind {
         0 => Ok(Value::Null),
@@ -107,7 +98,7 @@ fn value_of_kind<O: Octets>(alloc: Global, kind: u8, contents: O) -> Result<Valu
 pub fn value_of<O: Octets>(alloc: Global, element: Element<O>) -> Result<Option<Value>, NoMemory>
     ensures value { IfOk result (λ o. MatchOption o ((d : Datum) → IsValueOf d (part O.octets element) → ⊥)
         (λ v. IsValueOf (datum v) (part O.octets element))) }
-    ensures full { OnErr result (0 < length (O.octets element.contents)) }
+    ensures full { OnErr result ((d : Datum) × IsValueOf d (part O.octets element) × (0 < length (copied d))) }
 {
     let len = element.contents.len();
     match (element.tag.class, element.tag.form) {
