@@ -5,7 +5,7 @@ use Rattle.std.proofs.lemmas.Bool.{eqb-true}
 use Rattle.bac_value.specs.Octets.{IsBytes}
 use Rattle.bac_value.specs.Number.{number_in, signed_in}
 use Rattle.bac_value.specs.Value.{Datum, unsigned, signed, enumerated, object, ObjectId, kind_number, IsContents, IsNumber, IsObject}
-use Rattle.bac_value.specs.Element.{IsOfKind, AreOfKind, HasContents}
+use Rattle.bac_value.specs.Element.{AreOfKind, HasContents}
 use Rattle.bac_value.specs.Reading.{◌>>=◌, IsExact, kind_at, number_at, signed_at, object_at}
 use Rattle.bac_value.proofs.Steps.{bind_ok, ok_is}
 use Rattle.bac_value.proofs.Tags.{wide32}

@@ -4,7 +4,7 @@ use Rattle.std.proofs.Common.{◌∙◌, append_assoc, arith, subst, inl, inr}
 use Rattle.std.specs.Global.{Vec}
 use Rattle.std.proofs.lemmas.Bool.{cases_lt}
 use Rattle.std.proofs.lemmas.List.{take_more, drop_more, append-nil, get_or_append_left, get_or-append_right, take_all, length-drop}
-use Rattle.std.proofs.lemmas.List.{drop-append-le, take-append-le, length-take, drop_at, length-append, drop-take, drop-drop}
+use Rattle.std.proofs.lemmas.List.{drop-append-le, take-append-le, drop_at, length-append, drop-take, drop-drop}
 use Rattle.bac_value.specs.Octets.{IsBytes, joined}
 use Rattle.bac_value.proofs.Steps.{IsBytes-drop}
 

@@ -25,8 +25,7 @@ pub on_more : (steps : ℕ) (o bytes p rest : List ℕ) (total : Result (List �
     → length rest < length bytes → length bytes < steps → step_at o bytes ≡ Ok (Some (p, rest)) → data_at steps o bytes ≡ total
     → fault_rest steps o bytes ≡ place → (m : ℕ) × (length rest < m) × (data_at m p rest ≡ total) × (fault_rest m p rest ≡ place)
 on_more steps o bytes p rest total place less enough e same there =
-    let s = at_step steps o bytes (Ok (Some (p, rest))) total (omega arith) enough e same in
-    (
+    let s = at_step steps o bytes (Ok (Some (p, rest))) total (omega arith) enough e same in (
       s.0,
       omega (arith, s.1),
       s.2,

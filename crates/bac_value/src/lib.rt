@@ -11,6 +11,7 @@ mod data_writing;
 mod element;
 mod element_reading;
 mod fault;
+pub mod kinds;
 mod memory;
 mod number_reading;
 mod number_width;

@@ -7,6 +7,7 @@ ghost use Rattle.bac_value.specs.Views.{datum, part};
 
 use crate::contents::{flaw_in, is_length_in};
 use crate::element::Element;
+use crate::kinds;
 use crate::memory::NoMemory;
 use crate::number_reading::{number_of, object_of, signed_of};
 use crate::octets::{Octets, copy_of};
@@ -77,17 +78,17 @@ fn value_of_kind<O: Octets>(alloc: Global, kind: u8, contents: O) -> Result<Valu
     ensures full { OnErr result (0 < length (copied (datum_in kind (O.octets contents)))) }
 {
     match kind {
-        0 => Ok(Value::Null),
-        2 => Ok(Value::Unsigned(number_of(contents))),
-        3 => Ok(Value::Signed(signed_of(contents))),
-        4 => Ok(Value::Real(array_of(contents))),
-        5 => Ok(Value::Double(array_of(contents))),
-        6 => octet_string(alloc, contents),
-        7 => character_string(alloc, contents),
-        8 => bit_string(alloc, contents),
-        9 => Ok(Value::Enumerated(number_of(contents) as u32)),
-        10 => Ok(Value::Date(array_of(contents))),
-        11 => Ok(Value::Time(array_of(contents))),
+        kinds::NULL => Ok(Value::Null),
+        kinds::UNSIGNED => Ok(Value::Unsigned(number_of(contents))),
+        kinds::SIGNED => Ok(Value::Signed(signed_of(contents))),
+        kinds::REAL => Ok(Value::Real(array_of(contents))),
+        kinds::DOUBLE => Ok(Value::Double(array_of(contents))),
+        kinds::OCTET_STRING => octet_string(alloc, contents),
+        kinds::CHARACTER_STRING => character_string(alloc, contents),
+        kinds::BIT_STRING => bit_string(alloc, contents),
+        kinds::ENUMERATED => Ok(Value::Enumerated(number_of(contents) as u32)),
+        kinds::DATE => Ok(Value::Date(array_of(contents))),
+        kinds::TIME => Ok(Value::Time(array_of(contents))),
         _ => Ok(Value::ObjectIdentifier(object_of(contents))),
     }
 }
