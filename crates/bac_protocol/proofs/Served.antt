@@ -12,13 +12,12 @@ use Rattle.bac_protocol.specs.Sizes.{Settings}
 use Rattle.bac_protocol.specs.Service.{Octets, Reply, Outcome}
 use Rattle.bac_protocol.specs.Service.Outcome.{Replies, Rejects}
 use Rattle.bac_protocol.specs.Server as server
-use Rattle.bac_protocol.specs.Server.{Terms, Transfer, State, Entry, Effect, Reaction, Service, Way, is_live}
+use Rattle.bac_protocol.specs.Server.{Terms, Transfer, State, Entry, Effect, Reaction, Service, Way, is_live, live_entry}
 use Rattle.bac_protocol.specs.Server.Transfer.{Running, Stopped, Finished}
 use Rattle.bac_protocol.specs.Server.State.{Receiving, Done, Giving, Dropped}
 use Rattle.bac_protocol.specs.Server.Way.{AtOnce, InPieces, Unsendable}
 use Rattle.bac_protocol.specs.Steps.{IsSameEntry, TransferGoesOn, StateStays, StaysIn, LiveStays}
 use Rattle.bac_protocol.specs.Steps.{IsReceiving, MayPerform, held_by, held_in, IsWholeWith, BeginsWith, IsEntryFor, KeepsReply, IsEffect, EffectsAreKept}
-use Rattle.bac_protocol.specs.Straight.{live_entry}
 use Rattle.bac_protocol.proofs.Transfer.{moved, acknowledged_cases, with_piece, takes_cases}
 use Rattle.bac_protocol.proofs.Ways.{way_cut}
 
@@ -284,7 +283,8 @@ module _ (c : Settings) (id now : ℕ) (service : Service) where
       go false is h = inl (inl is)
 
   is_effect : (entry : Option Entry) (a : Apdu) (x : Effect) (new : Option Entry) → MayPerform now entry
-      → PerformsIn id service (IsWholeWith (held_in now entry) a) (IsEntryFor now (live_entry now entry) a) (Some x) new → IsEffect id now service entry a x new
+      → PerformsIn id service (IsWholeWith (held_in now entry) a) (IsEntryFor now (live_entry now entry) a) (Some x) new
+      → IsEffect id now service entry a x new
   is_effect entry a x None may h = absurd h
   is_effect entry a x (Some d) may h = record {
     before = may;

@@ -12,9 +12,8 @@ use Rattle.bac_protocol.specs.Service.Outcome.{Replies}
 use Rattle.bac_protocol.specs.Client as client
 use Rattle.bac_protocol.specs.Client.{Ticket, is_over, is_held, client_gets, client_ticks}
 use Rattle.bac_protocol.specs.Client.Reaction.{Stays}
-use Rattle.bac_protocol.specs.Server.{Terms, State, Entry, Effect, Reaction, Service, is_live, reply_apdu, server_gets, server_ticks}
+use Rattle.bac_protocol.specs.Server.{Terms, State, Entry, Effect, Reaction, Service, is_live, live_entry, reply_apdu, server_gets, server_ticks}
 use Rattle.bac_protocol.specs.Server.State.{Receiving, Done, Giving, Dropped}
-use Rattle.bac_protocol.specs.Straight.{live_entry}
 
 -- An entry that is not live is as none.
 

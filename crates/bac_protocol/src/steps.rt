@@ -9,8 +9,8 @@ pub fn dead_entries_are_none()
     ensures { DeadIsNone }
 {}
 
-/// A ticket that has ended stays as it is and sends nothing, whatever comes and on any tick: it ends at most once. So has each ticket that is not
-/// held, and it is not held later: a client may drop it at any moment.
+/// A ticket that has ended stays as it is and sends nothing, whatever comes and on any tick: it ends at most once. Each ticket that is
+/// not held has ended, and is not held later either: a client may drop it at any moment.
 #[tactic(auto, using(crate::proofs::Dead::ended_is_silent))]
 pub fn ended_tickets_are_silent()
     ensures { EndedIsSilent }
