@@ -96,7 +96,7 @@ fn run<O: Octets>(octets: O) -> Result<((u64, O), O), Stop>
 {
     let all = octets.len();
     let (count, rest) = strings(octets)?;
-    let (run, _) = octets.split(all - rest.len());
+    let run = octets.front(all - rest.len());
     Ok(((count, run), rest))
 }
 
