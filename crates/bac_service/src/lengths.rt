@@ -12,10 +12,10 @@ ghost use Rattle.bac_service.specs.Values.{choice_of, complex_choice_of};
 ghost use Rattle.bac_service.specs.Values.WriteAccess.{WriteRecords as PlainWriteRecords};
 ghost use Rattle.bac_service.specs.Views.{reference, number_of, read_access, write_access, seen, lent, complex, request};
 
-use crate::reply::{AnyComplex, Complex, FileRead, FileWritten, PropertyRead};
-use crate::request::{AnyRequest, ReadAccess, Request, WriteAccess, WriteProperty, WriteRecords};
+use crate::reply::{AnyComplex, Complex, FileWritten};
+use crate::request::{AnyRequest, ReadAccess, Request, WriteAccess, WriteRecords};
 use crate::value::{Content, Priority, PropertyReference, Records};
-use bac_value::{Data, Octets, signed_len, unsigned_len};
+use bac_value::{Octets, signed_len, unsigned_len};
 
 /// How many octets an ObjectIdentifier has with its tag.
 const OBJECT_LEN: usize = 5;

@@ -7,11 +7,11 @@ ghost use Rattle.bac_service.specs.Values.{complex_choice_of};
 ghost use Rattle.bac_service.specs.Views.{reference, complex};
 
 use crate::lengths::reply_len;
-use crate::reply::{AnyComplex, Complex, FileRead, FileWritten, PropertyRead};
+use crate::reply::{AnyComplex, Complex, FileWritten};
 use crate::value::{Content, PropertyReference};
 use bac_value::{
-    Class, Data, Form, NoMemory, Tag, put_boolean, put_object_identifier, put_primitive,
-    put_signed, put_tag, put_unsigned,
+    Class, Form, NoMemory, Tag, put_boolean, put_object_identifier, put_primitive, put_signed,
+    put_tag, put_unsigned,
 };
 
 pub(crate) fn put_opening(number: u8, out: &mut Vec<u8>) -> Result<(), NoMemory>

@@ -8,11 +8,9 @@ ghost use Rattle.bac_service.specs.Views.{reference, number_of, read_access, wri
 
 use crate::lengths::request_len;
 use crate::reply_writing::{put_closing, put_content, put_opening, put_reference, put_values};
-use crate::request::{
-    AnyRequest, ReadAccess, ReadFile, Request, WriteAccess, WriteFile, WriteProperty, WriteRecords,
-};
+use crate::request::{AnyRequest, ReadAccess, Request, WriteAccess, WriteRecords};
 use crate::value::{Content, Priority, Records};
-use bac_value::{Class, Data, NoMemory, put_object_identifier, put_signed, put_unsigned};
+use bac_value::{Class, NoMemory, put_object_identifier, put_signed, put_unsigned};
 
 /// Appends a Signed and an Unsigned with application tags.
 fn put_extent(start: i64, count: u64, out: &mut Vec<u8>) -> Result<(), NoMemory>
