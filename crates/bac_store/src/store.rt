@@ -2,8 +2,9 @@
 ghost use Rattle.std.specs.Prelude.{◌≡◌, ◌≤◌, map, IfOk, MatchResult, OnOk, OnErr};
 ghost use Rattle.bac_service.specs.Values.{Request as RequestView};
 ghost use Rattle.bac_service.specs.Views.{owned_complex, replied, request as request_view};
-ghost use Rattle.bac_store.specs.Changes.{after};
-ghost use Rattle.bac_store.specs.Kept.{IsInOrder};
+ghost use Rattle.bac_store.specs.Answers.{change_view};
+ghost use Rattle.bac_store.specs.Changes.{after, IsGranted};
+ghost use Rattle.bac_store.specs.Kept.{Fits, IsInOrder};
 ghost use Rattle.bac_store.specs.Made.{IsMadeOf, IsRefused};
 ghost use Rattle.bac_store.specs.Plans.{changed, IsPlanFor, IsPlanOn};
 ghost use Rattle.bac_store.specs.Replies.{reply_to};
@@ -75,9 +76,11 @@ impl Store {
 
     /// The plan for a request, with all the memory that its reply and its change take. The store is as before.
     ///
-    /// The reply is an Error in the cases of the store's table; then, and on a read, the plan changes nothing.
+    /// The reply is an Error in the cases of the store's table; then, and on a read, the plan changes nothing. `NoMemory` comes
+    /// last: where the reply would be an Error, no memory is taken.
     pub fn prepare(&self, alloc: Global, request: &Request<'_>) -> Result<Planned, NoMemory>
-        ensures { IfOk result (λ p. IsPlanFor self.now (request_view request.now) p) }
+        ensures plan { IfOk result (λ p. IsPlanFor self.now (request_view request.now) p) }
+        ensures last { OnErr result (IsGranted self.now (request_view request.now)) }
     {
         let objects = self.objects.as_slice();
         match *request {
@@ -95,6 +98,14 @@ impl Store {
         ensures after { (r : RequestView) → IsPlanFor self.old r plan → self.new ≡ after self.old r }
     {
         let Planned { reply: _, change } = plan;
+        self.make(change);
+    }
+
+    /// Makes a change.
+    fn make(&mut self, change: Change)
+        requires { Fits (change_view change) }
+        ensures { self.new ≡ changed (change_view change) self.old }
+    {
         match change {
             Change::Nothing => {}
             Change::Values {
@@ -106,15 +117,16 @@ impl Store {
         }
     }
 
-    /// Prepares a request and commits its plan; the reply. After an Err the store is as before.
+    /// Prepares a request and makes the change of its plan; the plan's reply. It takes the memory of the plan alone. After an Err
+    /// the store is as before; `NoMemory` comes last, as of [`Store::prepare`].
     pub fn perform(&mut self, alloc: Global, request: &Request<'_>) -> Result<OwnedReply, NoMemory>
         ensures reply { IfOk result (λ r. replied owned_complex r ≡ reply_to self.old (request_view request.now)) }
         ensures after { OnOk result (self.new ≡ after self.old (request_view request.now)) }
         ensures err { OnErr result (self.new ≡ self.old) }
+        ensures last { OnErr result (IsGranted self.old (request_view request.now)) }
     {
-        let plan = self.prepare(alloc, request)?;
-        let reply = plan.reply().to_owned(alloc)?;
-        self.commit(plan);
+        let Planned { reply, change } = self.prepare(alloc, request)?;
+        self.make(change);
         Ok(reply)
     }
 
