@@ -16,8 +16,8 @@ use bac_service::{AnyComplex, AnyReply, FileRead, OwnedReply, ReadAccess};
 use bac_value::{NoMemory, OctetString};
 use std::alloc::Global;
 
-/// The octets of a file from a place on, so many or as many as are left, and whether they reach the end.
-fn octets_read(
+/// The reply with the octets of a file from a place on, so many or as many as are left, and whether they reach the end.
+fn stream_reply(
     alloc: Global,
     octets: &[u8],
     start: usize,
@@ -55,7 +55,7 @@ pub(crate) fn read_file(
             if start < 0 || start as u64 > file.octets.len() as u64 {
                 return Ok(Refusal::InvalidFileStartPosition.reply());
             }
-            octets_read(alloc, &file.octets, start as usize, count)
+            stream_reply(alloc, &file.octets, start as usize, count)
         }
     }
 }
