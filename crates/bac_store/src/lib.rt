@@ -28,7 +28,9 @@ mod store;
 mod store_fault;
 
 pub use house_objects::house;
-pub use laws::{kinds_are_values, replies_can_be_sent};
+pub use laws::{
+    kinds_are_values, order_says_nothing, replies_can_be_sent, writes_change_one_thing,
+};
 pub use limits::{FILE_LIMIT, VALUE_LIMIT};
 pub use object::{File, Object, Property};
 pub use planned::Planned;
