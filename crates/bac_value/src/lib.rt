@@ -1,7 +1,10 @@
 //! Tags, values and data of BACnet (clause 20.2), read from and written as octets.
 //!
-//! Each tag, value and element has exactly one spelling. Readers accept exactly the spellings, name a [`FaultKind`] for all
-//! else, and take no memory. Writers append the one spelling, or answer [`NoMemory`] and change nothing.
+//! Each tag, value and element has exactly one spelling. Readers accept exactly the spellings and name a [`FaultKind`] for all
+//! else. Memory is taken only by calls that are given an allocator, and by a vector that is written to and has to grow.
+//!
+//! Writers append the one spelling, or answer [`NoMemory`]. A `write_` call changes nothing then; after an `Err` of a `put_`
+//! call the old octets are a front of what is there, so that a caller who appends more than once cuts off only once.
 #![tactic(auto)]
 
 mod contents;
@@ -11,6 +14,7 @@ mod data_writing;
 mod element;
 mod element_reading;
 mod fault;
+pub mod kinds;
 mod memory;
 mod number_reading;
 mod number_width;
@@ -27,7 +31,7 @@ mod value_writing;
 mod walking;
 mod walking_on;
 
-pub use contents::take_contents;
+pub use contents::{exact_contents, take_contents};
 pub use data::{Data, DataBuf};
 pub use data_reading::{one_data_front, read_data, take_data};
 pub use data_writing::write_data;
@@ -37,7 +41,7 @@ pub use fault::{Fault, FaultKind};
 pub use memory::NoMemory;
 pub use number_reading::{take_enumerated, take_object_identifier, take_signed, take_unsigned};
 pub use number_width::{signed_len, unsigned_len};
-pub use octets::Octets;
+pub use octets::{Octets, copy_of};
 pub use parts::Parts;
 pub use parts_reading::{check_data_at, copy_out, read_tag_at};
 pub use tag::{Class, Form, Tag};

@@ -8,6 +8,7 @@ ghost use Rattle.bac_value.specs.Value.{Datum, boolean, mark_for, IsValue, Spell
 ghost use Rattle.bac_value.specs.Writing.{primitive, object_octets, value_spelling, AppendsValue};
 ghost use Rattle.bac_value.specs.Views.{datum, object_id};
 
+use crate::kinds;
 use crate::memory::NoMemory;
 use crate::number_width::{complement_of, distance_of, octets_of, signed_octets_of};
 use crate::tag::{Class, Form, Tag};
@@ -15,10 +16,9 @@ use crate::tag_writing::put_tag;
 use crate::value::{ObjectIdentifier, Value};
 use byteorder::{BigEndian, ByteOrder};
 
-// The functions `put_` append. After an `Err` of theirs the old octets are a front of what is there, so that a caller who appends
-// more than once cuts off what was written only once.
-
-/// Appends a tag with the length of some contents, and the contents.
+/// Appends a tag with the length of some contents, and the contents. After an `Err` the old octets are a front of what is there.
+///
+/// Tag numbers: application 0 to 12 but 1, context 0 to 254. That the contents are of the tag's kind is the caller's to know.
 pub fn put_primitive(
     class: Class,
     number: u8,
@@ -68,6 +68,9 @@ fn put_number(
 }
 
 /// Appends a tag, and a number in the fewest octets (clause 20.2.4): an Unsigned or an Enumerated.
+///
+/// Tag numbers: application 0 to 12 but 1, context 0 to 254; that an Enumerated has at most 32 bits is the caller's to know.
+/// After an `Err` the old octets are a front of what is there.
 #[tactic(auto, unfolding(crate::specs::Number::unsigned_octets))]
 pub fn put_unsigned(class: Class, tag: u8, number: u64, out: &mut Vec<u8>) -> Result<(), NoMemory>
     requires { IsTrue (length_tag_fits tag class) }
@@ -81,6 +84,8 @@ pub fn put_unsigned(class: Class, tag: u8, number: u64, out: &mut Vec<u8>) -> Re
 }
 
 /// Appends a tag, and a number in the fewest octets of two's complement (clause 20.2.5).
+///
+/// Tag numbers: application 0 to 12 but 1, context 0 to 254. After an `Err` the old octets are a front of what is there.
 #[tactic(auto, unfolding(crate::specs::Number::signed_octets))]
 pub fn put_signed(class: Class, tag: u8, number: i64, out: &mut Vec<u8>) -> Result<(), NoMemory>
     requires { IsTrue (length_tag_fits tag class) }
@@ -95,6 +100,8 @@ pub fn put_signed(class: Class, tag: u8, number: i64, out: &mut Vec<u8>) -> Resu
 }
 
 /// Appends a tag, and the octets of an object's type and instance (clause 20.2.14).
+///
+/// Tag numbers: application 0 to 12 but 1, context 0 to 254. After an `Err` the old octets are a front of what is there.
 pub fn put_object_identifier(
     class: Class,
     tag: u8,
@@ -113,6 +120,8 @@ pub fn put_object_identifier(
 }
 
 /// Appends an application Boolean, whose value stands in its tag (clause 20.2.3).
+///
+/// After an `Err` the old octets are a front of what is there.
 pub fn put_boolean(value: bool, out: &mut Vec<u8>) -> Result<(), NoMemory>
     ensures ok { OnOk result (out.new.items ≡ out.old.items ++ tag_spelling (mark_for (boolean value) 0)) }
     ensures len { OnOk result (vec_len out.new ≡ vec_len out.old + length (tag_spelling (mark_for (boolean value) 0))) }
@@ -121,7 +130,7 @@ pub fn put_boolean(value: bool, out: &mut Vec<u8>) -> Result<(), NoMemory>
     ensures grows { vec_capacity out.old ≤ vec_capacity out.new }
 {
     let tag = Tag {
-        number: 1,
+        number: kinds::BOOLEAN,
         class: Class::Application,
         form: Form::Boolean(value),
     };
@@ -149,7 +158,7 @@ fn put_with_octet(kind: u8, octet: u8, octets: &[u8], out: &mut Vec<u8>) -> Resu
     Ok(())
 }
 
-/// Appends the one spelling of a value.
+/// Appends the one spelling of a value. After an `Err` the old octets are a front of what is there.
 pub fn put_value(value: &Value, out: &mut Vec<u8>) -> Result<(), NoMemory>
     ensures ok { OnOk result (out.new.items ≡ out.old.items ++ value_spelling (datum value.now)) }
     ensures len { OnOk result (vec_len out.new ≡ vec_len out.old + length (value_spelling (datum value.now))) }
@@ -160,19 +169,29 @@ pub fn put_value(value: &Value, out: &mut Vec<u8>) -> Result<(), NoMemory>
 {
     let class = Class::Application;
     match value {
-        Value::Null => put_primitive(class, 0, &[], out),
+        Value::Null => put_primitive(class, kinds::NULL, &[], out),
         Value::Boolean(value) => put_boolean(*value, out),
-        Value::Unsigned(number) => put_unsigned(class, 2, *number, out),
-        Value::Signed(number) => put_signed(class, 3, *number, out),
-        Value::Real(octets) => put_primitive(class, 4, octets, out),
-        Value::Double(octets) => put_primitive(class, 5, octets, out),
-        Value::OctetString(string) => put_primitive(class, 6, &string.octets, out),
-        Value::CharacterString(string) => put_with_octet(7, string.set, &string.text, out),
-        Value::BitString(string) => put_with_octet(8, string.unused, &string.octets, out),
-        Value::Enumerated(number) => put_unsigned(class, 9, u64::from(*number), out),
-        Value::Date(octets) => put_primitive(class, 10, octets, out),
-        Value::Time(octets) => put_primitive(class, 11, octets, out),
-        Value::ObjectIdentifier(id) => put_object_identifier(class, 12, *id, out),
+        Value::Unsigned(number) => put_unsigned(class, kinds::UNSIGNED, *number, out),
+        Value::Signed(number) => put_signed(class, kinds::SIGNED, *number, out),
+        Value::Real(octets) => put_primitive(class, kinds::REAL, octets, out),
+        Value::Double(octets) => put_primitive(class, kinds::DOUBLE, octets, out),
+        Value::OctetString(string) => {
+            put_primitive(class, kinds::OCTET_STRING, &string.octets, out)
+        }
+        Value::CharacterString(string) => {
+            put_with_octet(kinds::CHARACTER_STRING, string.set, &string.text, out)
+        }
+        Value::BitString(string) => {
+            put_with_octet(kinds::BIT_STRING, string.unused, &string.octets, out)
+        }
+        Value::Enumerated(number) => {
+            put_unsigned(class, kinds::ENUMERATED, u64::from(*number), out)
+        }
+        Value::Date(octets) => put_primitive(class, kinds::DATE, octets, out),
+        Value::Time(octets) => put_primitive(class, kinds::TIME, octets, out),
+        Value::ObjectIdentifier(id) => {
+            put_object_identifier(class, kinds::OBJECT_IDENTIFIER, *id, out)
+        }
     }
 }
 
