@@ -9,7 +9,7 @@ mod reply_writing;
 mod tests;
 mod text;
 
-use bac_text::{Status, check_over, complain, decode_over};
+use bac_text::{Status, check_over, complain, decode_over, no_memory};
 use clap::error::ErrorKind;
 use clap::{Arg, ArgAction, ArgMatches, Command};
 use std::alloc::{AllocError, Global};
@@ -121,12 +121,11 @@ fn start(rt: &HostRuntime) -> io::Result<Status> {
 fn main(rt: HostRuntime) -> ExitCode {
     // a law is proved where it is reached
     laws::one_meaning();
+    laws::one_frame();
     laws::replies_fit();
     let status = match start(&rt) {
         Ok(status) => status,
-        Err(error) if error.kind() == io::ErrorKind::OutOfMemory => {
-            complain(&mut rt.stderr(), "no memory", Status::Memory)
-        }
+        Err(error) if error.kind() == io::ErrorKind::OutOfMemory => no_memory(&mut rt.stderr()),
         Err(error) => {
             let _ = eprintln!(rt; "{error}");
             Status::CommandLine
