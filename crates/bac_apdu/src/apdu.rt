@@ -2,15 +2,20 @@ ghost use Rattle.std.specs.Prelude.{◌≡◌};
 
 use crate::limits::{Codes, Segment, Window};
 
-/// An APDU (clause 20.1). Service data run to its end and may be empty.
+/// An APDU (clause 20.1).
+///
+/// `invoke` is the invoke ID, `choice` the service choice, and `service` the octets of service data, or of one segment of them:
+/// they run to the end of the APDU and may be empty.
 #[derive(Clone, Copy, Debug)]
 pub enum Apdu<'a> {
     /// A request that is to be answered (clause 20.1.2).
     ConfirmedRequest {
         /// Whether the sender takes an answer in segments.
         takes_segments: bool,
+        /// What the sender takes of an answer.
         codes: Codes,
         invoke: u8,
+        /// None where the APDU has the whole request.
         segment: Option<Segment>,
         choice: u8,
         service: &'a [u8],
@@ -28,6 +33,7 @@ pub enum Apdu<'a> {
     /// An answer with data (clause 20.1.5).
     ComplexAck {
         invoke: u8,
+        /// None where the APDU has the whole answer.
         segment: Option<Segment>,
         choice: u8,
         service: &'a [u8],
@@ -39,19 +45,24 @@ pub enum Apdu<'a> {
         /// Whether the sender is the server.
         server: bool,
         invoke: u8,
+        /// The number of the last segment taken in order, modulo 256.
         number: u8,
+        /// The actual window.
         window: Window,
     },
     /// The request failed (clause 20.1.7).
     Error {
         invoke: u8,
         choice: u8,
+        /// The class of the error, a number of clause 18.
         class: u32,
+        /// Its code, a number of the same clause.
         code: u32,
     },
     /// The request was not understood (clause 20.1.8).
     Reject {
         invoke: u8,
+        /// Any octet; those in use are numbered in clause 18.9.
         reason: u8,
     },
     /// The transaction is given up (clause 20.1.9).
@@ -59,6 +70,7 @@ pub enum Apdu<'a> {
         /// Whether the sender is the server.
         server: bool,
         invoke: u8,
+        /// Any octet; those in use are numbered in clause 18.10.
         reason: u8,
     },
 }

@@ -150,7 +150,7 @@ fn whole(octets: &[u8]) -> Result<Apdu<'_>, ApduFault>
     kind(rest, first / 16, first % 16)
 }
 
-/// The APDU that the octets are, to their end (clause 20.1). What an Error holds are its class and its code.
+/// The APDU that the octets are, to their end (clause 20.1). Of several faults the first from the left is answered.
 pub fn read(octets: &[u8]) -> Result<Apdu<'_>, ApduFault>
     ensures found { IfOk result (λ a. SpellsApdu (apdu_view a) octets.now) }
     ensures refused { IfErr result (λ e. IsNoApdu octets.now) }

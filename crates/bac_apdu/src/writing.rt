@@ -1,4 +1,4 @@
-ghost use Rattle.std.specs.Prelude.{◌≡◌, ◌+◌, ◌*◌, ◌/◌, ◌%◌, ◌≤◌, ◌<◌, ◌++◌, ◌∷◌, [], length, OnOk, OnErr, vec_len, vec_capacity, Bool};
+ghost use Rattle.std.specs.Prelude.{◌≡◌, ◌+◌, ◌*◌, ◌/◌, ◌%◌, ◌≤◌, ◌<◌, ◌++◌, ◌∷◌, [], length, slice_index, OnOk, OnErr, vec_len, vec_capacity, Bool};
 ghost use Rattle.std.specs.Option.{option_map};
 ghost use Rattle.bac_value.specs.Octets.{Begins};
 ghost use Rattle.bac_apdu.specs.Spelling.{SpellsApdu, apdu_spelling, enumerated_spelling, bit, segment_bits, segment_octets};
@@ -60,7 +60,7 @@ fn put_enumerated(number: u32, out: &mut Vec<u8>) -> Result<(), NoMemory>
     Ok(())
 }
 
-/// The four or six octets in front of the service data of a request, or three or five of an answer, and the service data.
+/// Appends a Confirmed-Request: four or six octets, then its service data; or changes nothing.
 fn append_request(
     first: u8,
     codes: u8,
@@ -92,6 +92,7 @@ fn append_request(
     }
 }
 
+/// The same of a ComplexACK: three or five octets, then its service data.
 fn append_answer(
     first: u8,
     invoke: u8,
@@ -114,39 +115,64 @@ fn append_answer(
     }
 }
 
+/// Appends an Error. After an `Err` the old octets are a front of what is there.
 fn put_error(
+    first: u8,
     invoke: u8,
     choice: u8,
     class: u32,
     code: u32,
     out: &mut Vec<u8>,
 ) -> Result<(), NoMemory>
-    ensures ok { OnOk result (out.new.items ≡ out.old.items ++ (0x50 ∷ invoke ∷ choice ∷ (enumerated_spelling class ++ enumerated_spelling code))) }
+    ensures ok { OnOk result (out.new.items ≡ out.old.items ++ (first ∷ invoke ∷ choice ∷ (enumerated_spelling class ++ enumerated_spelling code))) }
     ensures kept { Begins out.old.items out.new.items }
     ensures full { OnErr result (vec_capacity out.old < vec_len out.old + (3 + length (enumerated_spelling class) + length (enumerated_spelling code))) }
 {
-    out.extend_from_slice(&[0x50, invoke, choice])?;
+    out.extend_from_slice(&[first, invoke, choice])?;
     put_enumerated(class, out)?;
     put_enumerated(code, out)
 }
 
+/// Appends an Error, or changes nothing.
 fn append_error(
+    first: u8,
     invoke: u8,
     choice: u8,
     class: u32,
     code: u32,
     out: &mut Vec<u8>,
 ) -> Result<(), NoMemory>
-    ensures ok { OnOk result (out.new.items ≡ out.old.items ++ (0x50 ∷ invoke ∷ choice ∷ (enumerated_spelling class ++ enumerated_spelling code))) }
+    ensures ok { OnOk result (out.new.items ≡ out.old.items ++ (first ∷ invoke ∷ choice ∷ (enumerated_spelling class ++ enumerated_spelling code))) }
     ensures err { OnErr result (out.new.items ≡ out.old.items) }
     ensures full { OnErr result (vec_capacity out.old < vec_len out.old + (3 + length (enumerated_spelling class) + length (enumerated_spelling code))) }
 {
     let len = out.len();
-    let written = put_error(invoke, choice, class, code, out);
+    let written = put_error(first, invoke, choice, class, code, out);
     if written.is_err() {
         out.truncate(len);
     }
     written
+}
+
+/// The type in bits 7 to 4, and below it the bits that the kind of APDU names.
+#[tactic(auto, unfolding(crate::specs::Spelling::apdu_spelling))]
+fn first_octet(apdu: &Apdu) -> u8
+    ensures { result ≡ slice_index (apdu_spelling (apdu_view apdu.now)) 0 }
+{
+    match *apdu {
+        Apdu::ConfirmedRequest {
+            takes_segments,
+            segment,
+            ..
+        } => bits_of(segment) + weight(takes_segments, 2),
+        Apdu::UnconfirmedRequest { .. } => 0x10,
+        Apdu::SimpleAck { .. } => 0x20,
+        Apdu::ComplexAck { segment, .. } => 0x30 + bits_of(segment),
+        Apdu::SegmentAck { nak, server, .. } => 0x40 + weight(nak, 2) + weight(server, 1),
+        Apdu::Error { .. } => 0x50,
+        Apdu::Reject { .. } => 0x60,
+        Apdu::Abort { server, .. } => 0x70 + weight(server, 1),
+    }
 }
 
 /// Appends the one spelling of an APDU (clause 20.1). Want of memory changes nothing.
@@ -157,55 +183,40 @@ pub fn write(apdu: &Apdu, out: &mut Vec<u8>) -> Result<(), NoMemory>
     ensures err { OnErr result (out.new.items ≡ out.old.items) }
     ensures full { OnErr result (vec_capacity out.old < vec_len out.old + length (apdu_spelling (apdu_view apdu.now))) }
 {
+    let first = first_octet(apdu);
     match *apdu {
         Apdu::ConfirmedRequest {
-            takes_segments,
             codes,
             invoke,
             segment,
             choice,
             service,
+            ..
         } => {
-            let first = bits_of(segment) + weight(takes_segments, 2);
             let codes = 16 * codes.max_segments + codes.max_apdu;
             append_request(first, codes, invoke, segment, choice, service, out)
         }
-        Apdu::UnconfirmedRequest { choice, service } => append(&[0x10, choice], service, out),
-        Apdu::SimpleAck { invoke, choice } => append(&[0x20, invoke, choice], &[], out),
+        Apdu::UnconfirmedRequest { choice, service } => append(&[first, choice], service, out),
+        Apdu::SimpleAck { invoke, choice } => append(&[first, invoke, choice], &[], out),
         Apdu::ComplexAck {
             invoke,
             segment,
             choice,
             service,
-        } => append_answer(
-            0x30 + bits_of(segment),
-            invoke,
-            segment,
-            choice,
-            service,
-            out,
-        ),
+        } => append_answer(first, invoke, segment, choice, service, out),
         Apdu::SegmentAck {
-            nak,
-            server,
             invoke,
             number,
             window,
-        } => {
-            let first = 0x40 + weight(nak, 2) + weight(server, 1);
-            append(&[first, invoke, number, window.size], &[], out)
-        }
+            ..
+        } => append(&[first, invoke, number, window.size], &[], out),
         Apdu::Error {
             invoke,
             choice,
             class,
             code,
-        } => append_error(invoke, choice, class, code, out),
-        Apdu::Reject { invoke, reason } => append(&[0x60, invoke, reason], &[], out),
-        Apdu::Abort {
-            server,
-            invoke,
-            reason,
-        } => append(&[0x70 + weight(server, 1), invoke, reason], &[], out),
+        } => append_error(first, invoke, choice, class, code, out),
+        Apdu::Reject { invoke, reason } => append(&[first, invoke, reason], &[], out),
+        Apdu::Abort { invoke, reason, .. } => append(&[first, invoke, reason], &[], out),
     }
 }

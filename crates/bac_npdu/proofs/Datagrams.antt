@@ -33,10 +33,10 @@ carries_one link octets p q a b s t =
     (s.sender ∙ ap peer same ∙ sym t.sender, s.carried ∙ ap (λ (n : NpduView). n.contents) same ∙ sym t.carried)
 
 pub cause_none : (octets : List ℕ) (d : Dropped) → IsCause octets d → (link : List ℕ) (p : PeerView) (a : List ℕ) → Carries link octets p a → ⊥
-cause_none octets (Bvll fault) none link p a c = none c.frame_of.npdu_octets c.frame_of.framed
+cause_none octets (Bvll fault) cause link p a c = cause.1 c.frame_of.npdu_octets c.frame_of.framed
 cause_none octets (Npdu fault) cause link p a c =
     let same : c.frame_of.npdu_octets ≡ cause.0 = bvll_one c.frame_of.npdu_octets cause.0 octets c.frame_of.framed cause.1.0 in
-    cause.1.1 c.npdu (subst (SpellsNpdu c.npdu) same c.frame_of.spelled)
+    cause.1.2 c.npdu (subst (SpellsNpdu c.npdu) same c.frame_of.spelled)
 cause_none octets Routed cause link p a c =
     cause.1.1 (ap (λ (n : NpduView). n.destination) (frame_one cause.0 c.npdu octets cause.1.0 c.frame_of) ∙ c.stays)
 cause_none octets NetworkMessage cause link p a c =

@@ -23,6 +23,8 @@ fn npdu_in(octets: &[u8]) -> Result<&[u8], FrameFault>
 }
 
 /// The octets of the NPDU in a datagram: a BVLL with function Original-Unicast-NPDU (clause J.2.11).
+///
+/// Fewer than four octets are `Truncated`; then `Version`, `NotUnicast` and `BadLength` are found in this order.
 pub fn read_bvll(octets: &[u8]) -> Result<&[u8], FrameFault>
     ensures found { IfOk result (λ n. SpellsBvll n.now octets.now) }
     ensures refused { IfErr result (λ e. (n : List ℕ) → SpellsBvll n octets.now → ⊥) }

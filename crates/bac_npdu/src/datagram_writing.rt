@@ -53,8 +53,8 @@ fn put_head(peer: &Peer, expecting: bool, out: &mut Vec<u8>) -> Result<(), Alloc
     }
 }
 
-/// Appends the one frame that carries the octets of an APDU to a peer; `expecting` says that a reply is expected, as it is of Confirmed-Requests alone.
-/// Want of memory changes nothing.
+/// Appends the one frame that carries the octets of an APDU, at most 1,476, to a peer; `expecting` says that a reply is expected,
+/// as it is of Confirmed-Requests alone. Want of memory changes nothing.
 #[tactic(auto, using(crate::proofs::Writing::frame_length, crate::proofs::Writing::same_head, crate::proofs::Writing::frame_parts))]
 pub fn write_datagram(
     peer: &Peer,

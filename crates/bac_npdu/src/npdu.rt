@@ -5,10 +5,12 @@ ghost use Rattle.bac_npdu.specs.Addresses.{address_view};
 use crate::address::Address;
 use crate::route::Route;
 
-/// Where an NPDU is to be routed to: network 65,535 is the global broadcast, and an address of no octets a broadcast on the network.
+/// Where an NPDU is to be routed to (clause 6.2.2): network 65,535 is the global broadcast, and an address of no octets a broadcast on the network.
 #[derive(Clone, Copy, Debug)]
 pub struct Destination {
+    /// 1 to 65,535.
     pub network: u16,
+    /// 0 to 8 octets, and none on network 65,535 (own limits of this profile).
     pub address: Address,
     /// How many routers it may pass still.
     pub hops: u8,
@@ -19,6 +21,7 @@ pub struct Destination {
 #[derive(Clone, Copy, Debug)]
 pub struct Message {
     pub kind: u8,
+    /// None below type 128 alone.
     pub vendor: Option<u16>,
     pub ghost fits: { IsTrue (message_fits kind vendor) },
 }

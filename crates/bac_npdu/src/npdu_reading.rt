@@ -21,7 +21,7 @@ fn has(octet: u8, weight: u8) -> bool
     octet / weight % 2 == 1
 }
 
-/// The network and address of a message type.
+/// The type of a network message, and from type 128 on the vendor's identifier.
 #[tactic(auto, unfolding(crate::specs::Reading::message_at))]
 fn message(octets: &[u8]) -> Result<(Message, &[u8]), FrameFault>
     ensures { Reads message_view (λ r. r.now) octets.now result message_at }
@@ -182,7 +182,7 @@ fn whole(octets: &[u8]) -> Result<Npdu<'_>, FrameFault>
     members(rest, control)
 }
 
-/// The NPDU that the octets are, to their end (clause 6.2).
+/// The NPDU that the octets are, to their end (clause 6.2). Of several faults the first from the left is answered.
 pub fn read_npdu(octets: &[u8]) -> Result<Npdu<'_>, FrameFault>
     ensures found { IfOk result (λ n. SpellsNpdu (npdu_view n) octets.now) }
     ensures refused { IfErr result (λ e. (n : NpduView) → SpellsNpdu n octets.now → ⊥) }

@@ -27,7 +27,7 @@ pub trait SlotTable<K: Ord + Copy, T> {
 
     ghost capacity: { Self → ℕ };
 
-    /// An empty table that can have so many slots.
+    /// An empty table that can have so many slots; an Err where the memory for them is refused.
     fn new(alloc: Global, room: usize) -> Result<Self, AllocError>
         ensures { IfOk result (λ t. (slots t ≡ []) × (capacity t ≡ room)) };
 
@@ -41,27 +41,27 @@ pub trait SlotTable<K: Ord + Copy, T> {
     fn room(&self) -> usize
         ensures { result ≡ capacity self.now };
 
-    /// The key's place in the order of the keys; the keys that are compared are counted.
+    /// The key's place in the order of the keys, from 0 on, or None where it is absent; the keys that are compared are counted.
     fn find(&self, key: &K, count: &mut Count) -> Option<usize>
         ensures counted { count.old.comparisons ≤ count.new.comparisons }
         ensures place { MatchOption result (value_at K.eq key.now (slots self.now) ≡ None)
             (λ n. (value_at K.eq key.now (slots self.now) ≢ None) × (n ≡ rank K.cmp key.now (slots self.now))) };
 
-    /// The n-th slot in the order of the keys.
+    /// The n-th slot, from 0 on, in the order of the keys: its key, the moment at which its life began, and its value.
     fn at(&self, n: usize) -> Option<(K, u64, &T)>
         ensures { MatchOption result (nth_by_key K.cmp n (slots self.now) ≡ None)
             (λ x. nth_by_key K.cmp n (slots self.now) ≡ Some (record { key = x.0; begin = x.1; value = x.2.now })) };
 
-    /// The n-th slot in the order of putting.
+    /// The n-th slot, from 0 on, in the order of putting.
     fn by_age(&self, n: usize) -> Option<(K, u64, &T)>
         ensures { MatchOption result (slice_get (slots self.now) n ≡ None)
             (λ x. slice_get (slots self.now) n ≡ Some (record { key = x.0; begin = x.1; value = x.2.now })) };
 
-    /// The value at a key.
+    /// The value at a key; None where it is absent.
     fn get(&self, key: &K) -> Option<&T>
         ensures { MatchOption result (value_at K.eq key.now (slots self.now) ≡ None) (λ x. value_at K.eq key.now (slots self.now) ≡ Some x.now) };
 
-    /// Adds a slot last; key and value are handed back exactly where the table is full.
+    /// Adds a slot last, whose key is absent; key and value are handed back exactly where the table is full.
     fn put(&mut self, key: K, begin: u64, value: T) -> Result<(), (K, T)>
         requires { value_at K.eq key (slots self.old) ≡ None }
         ensures slots { MatchResult result
@@ -77,7 +77,7 @@ pub trait SlotTable<K: Ord + Copy, T> {
         ensures slots { slots self.new ≡ with_value K.eq key.now value (slots self.old) }
         ensures same { capacity self.new ≡ capacity self.old };
 
-    /// Takes the slot out and gives its value.
+    /// Takes the slot out and gives its value; None, with nothing changed, where the key is absent.
     fn remove(&mut self, key: &K) -> Option<T>
         ensures value { result ≡ value_at K.eq key.now (slots self.old) }
         ensures slots { slots self.new ≡ without K.eq key.now (slots self.old) }

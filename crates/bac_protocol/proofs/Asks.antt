@@ -10,7 +10,8 @@ use Rattle.bac_protocol.specs.Client.{Ask, request_of, Ticket}
 use Rattle.bac_protocol.specs.Server.{Entry}
 use Rattle.bac_protocol.specs.Log.{Fact, asks_in, IsUnperformed}
 use Rattle.bac_protocol.specs.Log.Fact.{Asked}
-use Rattle.bac_protocol.specs.Transaction.{Key, Rules, Copy, Transaction, sent, asked_by}
+use Rattle.bac_protocol.specs.Transaction.{Key, Rules, Copy}
+use Rattle.bac_protocol.proofs.Alone.{Transaction, sent, asked_by}
 use Rattle.bac_protocol.specs.Claims.{EachCopy}
 use Rattle.bac_protocol.proofs.Sound.{IsBelow, IsOrderly, Up, Down, Says, Fits, ServerFits, IsSound}
 use Rattle.bac_protocol.proofs.Sound.Up.{Reading}

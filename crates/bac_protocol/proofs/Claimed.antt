@@ -16,7 +16,8 @@ use Rattle.bac_protocol.specs.Server.{Transfer, State, Entry}
 use Rattle.bac_protocol.specs.Server.State.{Receiving, Done, Giving, Dropped}
 use Rattle.bac_protocol.specs.Log.{Fact, Shop}
 use Rattle.bac_protocol.specs.Transaction.{Key, Rules}
-use Rattle.bac_protocol.specs.World.{Net, Post, Event, later, is_deliverable, one, copies_of, run, start}
+use Rattle.bac_protocol.specs.World.{Net, Post, Event, later, is_deliverable, copies_of, run, start}
+use Rattle.bac_protocol.proofs.Alone.{one}
 use Rattle.bac_protocol.specs.Claims.{IsPieceAt, IsPiece, IsAck, IsReadAsNext, IsReadAsTaken}
 use Rattle.bac_protocol.specs.Claims.{MayArrive, IsInPlace}
 use Rattle.bac_protocol.specs.Claims.{IsBounded, IsPieceOf, WasPerformed, IsOfAsk, sent_until, LiveIsOf, IsOfTicket, AreOfNewest}
@@ -211,8 +212,8 @@ client_has_taken W ask up ps tk sn Awaiting h u = h.1
 client_has_taken W ask up ps tk sn (Collecting inc) h u = record { taken_is = h.taken_is; parts_are = h.parts_are }
 client_has_taken W ask up ps tk sn Over h u = let a = u.behind in let b = u.within in omega arith
 
-reply_pass : (W : ℕ) (x : Rules) → IsBounded W x → (n : Net) (key : Key) (t : Ticket) (out : Outgoing) (transfer : Transfer) (since : ℕ) (up : Up) (down : Down)
-    → Sound W key n.now n.asks (n.numbers key) t (n.entries key) (copies_of key n.posts) n.log up down
+reply_pass : (W : ℕ) (x : Rules) → IsBounded W x → (n : Net) (key : Key) (t : Ticket) (out : Outgoing) (transfer : Transfer) (since : ℕ) (up : Up)
+    (down : Down) → Sound W key n.now n.asks (n.numbers key) t (n.entries key) (copies_of key n.posts) n.log up down
     → StateFits W (n.numbers key) t.ask (Giving out transfer since) up down n.log → IsReplyPass W x n key t out
 reply_pass W x bound n key t out transfer since up Unsent s st = absurd st.sends
 reply_pass W x bound n key t out transfer since up (Sent ps tk sn) s st = record {

@@ -22,7 +22,8 @@ use Rattle.bac_protocol.specs.Server.{State, Entry}
 use Rattle.bac_protocol.specs.Server.State.{Receiving, Done, Giving, Dropped}
 use Rattle.bac_protocol.specs.Log.{Fact, IsUnended, MayEnd, WasAsked}
 use Rattle.bac_protocol.specs.Log.Fact.{Asked, Ended}
-use Rattle.bac_protocol.specs.Transaction.{Key, Transaction, sent, client_does}
+use Rattle.bac_protocol.specs.Transaction.{Key}
+use Rattle.bac_protocol.proofs.Alone.{Transaction, sent, client_does}
 use Rattle.bac_protocol.specs.Claims.{IsPieceOf, WasPerformed, IsPiece, IsAck}
 use Rattle.bac_protocol.proofs.Sound.{IsUnderway, IsFront, Up, Down, IsAckUp, IsPieceDown, client_until, Says, SendsUp, IsUntaken, IsSendingFor}
 use Rattle.bac_protocol.proofs.Sound.{IsRead, PassFits, CollectsDown, ClientFits, IsKeptFor, IsUnbegun, SendsDown, StateFits, ServerFits, UpFits, DownFits}

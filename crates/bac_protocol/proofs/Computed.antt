@@ -5,6 +5,8 @@ use Rattle.bac_protocol.specs.Examples.{FourCopies, LostAnswer, LastMoment, TooL
 use Rattle.bac_protocol.specs.Examples.{Unreadable, LostAck, OutOfOrder, InTime, OutOfTime, LaterPass, StoppedReply, Sizes, OddAcks, OtherAnswers}
 use Rattle.bac_protocol.specs.Examples.{KeptReply, DroppedEntry, RequestSizes, LongestRequest, OvertakenCopy, OtherCopies, TwoClients}
 use Rattle.bac_protocol.specs.Examples.{LostAckOfPut, TwoSegments, RefusedReplies, KeptSegments, LongestReassembly, TooLongTransfers}
+use Rattle.bac_protocol.specs.Examples.{ApduSizes, SegmentLimits, RequestsOfAllSizes, ReceivingSteps, SegmentedEntry, GivingSteps, Refusals}
+use Rattle.bac_protocol.specs.Examples.{UnreadableSegments, TimeOuts}
 
 pub four_copies : FourCopies
 four_copies = refl
@@ -107,3 +109,30 @@ longest_reassembly = (refl, refl, refl, refl, refl)
 
 pub too_long_transfers : TooLongTransfers
 too_long_transfers = (refl, refl)
+
+pub apdu_sizes : ApduSizes
+apdu_sizes = (refl, refl, refl, refl)
+
+pub segment_limits : SegmentLimits
+segment_limits = (refl, refl, refl, refl, refl, refl)
+
+pub requests_of_all_sizes : RequestsOfAllSizes
+requests_of_all_sizes = (refl, refl, refl, refl)
+
+pub receiving_steps : ReceivingSteps
+receiving_steps = (refl, refl, refl)
+
+pub segmented_entry : SegmentedEntry
+segmented_entry = (refl, refl, refl)
+
+pub giving_steps : GivingSteps
+giving_steps = (refl, refl, refl, refl, refl, refl, refl, refl)
+
+pub refusals : Refusals
+refusals = (refl, refl, refl, refl)
+
+pub time_outs : TimeOuts
+time_outs = (refl, refl, refl, refl, refl, refl, refl)
+
+pub unreadable_segments : UnreadableSegments
+unreadable_segments = refl

@@ -15,7 +15,7 @@ use Rattle.bac_protocol.specs.Client.{Ticket, sends_of, is_over, is_expired, is_
 use Rattle.bac_protocol.specs.Client.Reaction.{Stays, Ends}
 use Rattle.bac_protocol.specs.Server as server
 use Rattle.bac_protocol.specs.Server.{Terms, Entry, Reaction, Service, is_live}
-use Rattle.bac_protocol.specs.Straight.{live_entry as live_part}
+use Rattle.bac_protocol.specs.Server.{live_entry as live_part}
 use Rattle.bac_protocol.specs.Steps.{IsSameReaction, DeadIsNone, EndedIsSilent, NothingIsSentLate}
 
 pub same_of : (now : ℕ) (v u : Reaction) → v ≡ u → IsSameReaction now v u

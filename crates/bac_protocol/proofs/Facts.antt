@@ -8,7 +8,8 @@ use Rattle.bac_protocol.specs.Wire.{pieces_from, Each}
 use Rattle.bac_protocol.specs.Client.{Ask, request_of}
 use Rattle.bac_protocol.specs.Log.{Fact, Has, IsUnperformed, IsUnended}
 use Rattle.bac_protocol.specs.Log.Fact.{Asked, Performed, Ended}
-use Rattle.bac_protocol.specs.Transaction.{Copy, sent}
+use Rattle.bac_protocol.specs.Transaction.{Copy}
+use Rattle.bac_protocol.proofs.Alone.{sent}
 use Rattle.bac_protocol.specs.Claims.{EachCopy, IsPiece, IsAck}
 use Rattle.bac_protocol.proofs.Sound.{number_of, IsBelow, Up, Down, IsPieceUp, IsAckUp, IsPieceDown, IsAckDown, server_until, Says, Fits}
 use Rattle.bac_protocol.proofs.Sound.Up.{Reading, Repeated}

@@ -8,16 +8,21 @@ use Rattle.bac_protocol.specs.Wire.{is_from_client}
 use Rattle.bac_protocol.specs.Client as client
 use Rattle.bac_protocol.specs.Client.{Ticket, is_over}
 use Rattle.bac_protocol.specs.Server as server
-use Rattle.bac_protocol.specs.Server.{Entry, is_live}
+use Rattle.bac_protocol.specs.Server.{Entry, is_live, live_entry, is_none_live}
 use Rattle.bac_protocol.specs.Log.{Shop}
 use Rattle.bac_protocol.specs.Transaction.{Key, Rules, ended, performed}
-use Rattle.bac_protocol.specs.World.{World, Post, count_of, later, post_of, stored, serves, reacts, takes_at_client, takes_at_server, delivered, happens}
+use Rattle.bac_protocol.specs.World.{World, Post, Event, count_of, later, post_of, stored, serves, reacts, takes_at_client, takes_at_server}
+use Rattle.bac_protocol.specs.World.{delivered, happens}
 use Rattle.bac_protocol.specs.World.Event.{Deliver}
-use Rattle.bac_protocol.specs.Straight.{live_entry, IsLike, Steps, IsMachine, is_ended, is_none_live, Straight, Stops}
+use Rattle.bac_protocol.specs.Straight.{IsLike, WorldSteps, is_ended, Straight, Stops}
 use Rattle.bac_protocol.proofs.Keys.{same_key_self, set_same}
 use Rattle.bac_protocol.specs.Steps.{IsSameReaction}
 use Rattle.bac_protocol.proofs.Dead.{gets_same, same_of, same_then, same_back}
 use Rattle.bac_protocol.proofs.Queue.{Duo, Leads, Starts, step, served, reacted}
+
+-- a world does what the machines say, as far as that transaction sees
+abbrev pub IsMachine : (S : Type 0) → Shop S → Rules → Key → WorldSteps S → Type 0
+IsMachine S shop x key Step = (w : World S) (e : Event) (v : World S) → Step w e v → IsLike S key v (happens S shop x w e)
 
 -- Lists of copies.
 
@@ -226,7 +231,7 @@ module _ (S : Type 0) (shop : Shop S) (x : Rules) (now number : ℕ) (key : Key)
   stops_at : (a b : ℕ) (u : World S) → a ≡ b → Stops S key a u → Stops S key b u
   stops_at a b u e h = subst (λ (n : ℕ). Stops S key n u) e h
 
-  module _ (Step : Steps S) (machine : IsMachine S shop x key Step) where
+  module _ (Step : WorldSteps S) (machine : IsMachine S shop x key Step) where
     went : (w u : World S) (q : Duo S) (first : ℕ) (xs : List Apdu) (a : Apdu) (free : Bool) → Step w (Deliver first free) u → Shows w q first
         → q.pending ≡ a ∷ xs → length xs ≤ x.overtake → ((free ≡ true) ⊎ (is_none_live now q.entry ≡ false))
         → Shows u (step S shop x now number key q xs a) (suc first)
@@ -257,7 +262,7 @@ module _ (S : Type 0) (shop : Shop S) (x : Rules) (now number : ℕ) (key : Key)
         (went w run.4 p first h.xs h.a run.0 run.5 s h.is h.few (inl (run.1 refl))) run.6
         (stops_at (first + suc j) (suc first + j) u (omega arith) stops))
 
-  abbrev exact : Steps S
+  abbrev exact : WorldSteps S
   exact w e v = v ≡ happens S shop x w e
 
   -- there is a straight run that goes so

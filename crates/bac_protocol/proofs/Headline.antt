@@ -12,11 +12,12 @@ use Rattle.bac_protocol.specs.Server.{Entry, Effect}
 use Rattle.bac_protocol.specs.Log.{Fact, Has, asks_in, Shop, IsOnce}
 use Rattle.bac_protocol.specs.Log.Fact.{Asked, Performed, Ended}
 use Rattle.bac_protocol.specs.Transaction.{Key, Rules, Copy, ended}
-use Rattle.bac_protocol.specs.World.{Net, World, Post, Event, one, later, client_acts, server_acts, asked_at, is_key_held, service_of, reacts}
+use Rattle.bac_protocol.specs.World.{Net, World, Post, Event, later, client_acts, server_acts, asked_at, is_key_held, service_of, reacts}
 use Rattle.bac_protocol.specs.World.{serves, ask_made, takes_at_client, takes_at_server, arrives, delivered, ticks_ticket, ticks_as_client}
 use Rattle.bac_protocol.specs.World.{ticks_as_server, stored, happens, run, start}
 use Rattle.bac_protocol.specs.World.Event.{MakeAsk, Deliver, Tick, Noise, Advance}
 use Rattle.bac_protocol.specs.Claims.{IsBounded}
+use Rattle.bac_protocol.proofs.Alone.{one}
 use Rattle.bac_protocol.proofs.Sound.{IsOrderly}
 use Rattle.bac_protocol.proofs.ClientKeeps.{client_gets_kept, client_ticks_kept}
 use Rattle.bac_protocol.proofs.ServerKeeps.{server_gets_kept, server_ticks_kept}

@@ -4,7 +4,8 @@ use Rattle.std.proofs.Common.{slice_get, if◌then◌else◌, nat_eq}
 use Rattle.std.proofs.Common.{refl, sym, ap, inl, inr, ◌∙◌, arith}
 use Rattle.std.proofs.lemmas.Bool.Decides.{nat_tests}
 use Rattle.bac_apdu.specs.Apdu.{Apdu}
-use Rattle.bac_protocol.specs.Transaction.{Key, Copy, sent}
+use Rattle.bac_protocol.specs.Transaction.{Key, Copy}
+use Rattle.bac_protocol.proofs.Alone.{sent}
 use Rattle.bac_protocol.specs.World.{same_key, Post, count_of, later, copies_before, copies_of, post_of, set_at}
 
 key_is : (a b : Key) → a.client ≡ b.client → a.server ≡ b.server → a.id ≡ b.id → a ≡ b

@@ -1,3 +1,4 @@
+pub mod Alone
 pub mod Sound
 pub mod Readings
 pub mod Facts

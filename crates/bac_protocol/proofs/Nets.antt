@@ -14,8 +14,9 @@ use Rattle.bac_protocol.specs.Server.{State, Entry, Effect}
 use Rattle.bac_protocol.specs.Server.State.{Receiving, Done, Giving, Dropped}
 use Rattle.bac_protocol.specs.Log.{Fact, asks_in, IsUnperformed, IsUnended}
 use Rattle.bac_protocol.specs.Log.Fact.{Asked, Performed, Ended}
-use Rattle.bac_protocol.specs.Transaction.{Key, Rules, Transaction, ended, performed, client_does, server_does, asked_by}
-use Rattle.bac_protocol.specs.World.{Net, one, set_at, client_acts, server_acts, asked_at, is_key_held, net_start}
+use Rattle.bac_protocol.specs.Transaction.{Key, Rules, ended, performed}
+use Rattle.bac_protocol.specs.World.{Net, set_at, client_acts, server_acts, asked_at, is_key_held, net_start}
+use Rattle.bac_protocol.proofs.Alone.{Transaction, client_does, server_does, asked_by, one}
 use Rattle.bac_protocol.proofs.Sound.{number_of, IsBelow, IsOrderly, Up, Down, IsKeptFor, IsUnbegun, StateFits, ServerFits, IsOpenIn, IsSoundAt, IsSound}
 use Rattle.bac_protocol.proofs.Sound.Up.{Reading}
 use Rattle.bac_protocol.proofs.Sound.Down.{Unsent}

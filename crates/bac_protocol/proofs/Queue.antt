@@ -9,7 +9,7 @@ use Rattle.bac_protocol.specs.Server.{Entry}
 use Rattle.bac_protocol.specs.Log.{Fact, Shop}
 use Rattle.bac_protocol.specs.Transaction.{Key, Rules, ended, performed}
 use Rattle.bac_protocol.specs.World.{stored}
-use Rattle.bac_protocol.specs.Straight.{is_none_live}
+use Rattle.bac_protocol.specs.Server.{is_none_live}
 
 pub record Duo (S : Type 0) : Type 0 where
   pub ticket : Ticket

@@ -27,7 +27,8 @@ use Rattle.bac_protocol.specs.Log.{Fact, Shop}
 use Rattle.bac_protocol.specs.Log.Fact.{Performed}
 use Rattle.bac_protocol.specs.Transaction.{Key, Rules}
 use Rattle.bac_protocol.specs.World.{stored}
-use Rattle.bac_protocol.specs.Straight.{is_none_live, WayFits, terms_of}
+use Rattle.bac_protocol.specs.Straight.{WayFits, terms_of}
+use Rattle.bac_protocol.specs.Server.{is_none_live}
 use Rattle.bac_protocol.proofs.Queue.{Duo, Within, within_then, one_step, Starts, starts_then, first_step, step, served, reacted}
 use Rattle.bac_protocol.proofs.Windows.{takes_one, takes_last, after_piece, taken_next, parts_next, next_window, acknowledged_last, finished}
 use Rattle.bac_protocol.proofs.Carries.{Sender, moved, Carries, Fitting, IsTaken, all_but_last}

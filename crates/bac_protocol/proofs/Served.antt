@@ -12,12 +12,12 @@ use Rattle.bac_protocol.specs.Sizes.{Settings}
 use Rattle.bac_protocol.specs.Service.{Octets, Reply, Outcome}
 use Rattle.bac_protocol.specs.Service.Outcome.{Replies, Rejects}
 use Rattle.bac_protocol.specs.Server as server
-use Rattle.bac_protocol.specs.Server.{Terms, Transfer, State, Entry, Effect, Reaction, Service, Way, is_live}
+use Rattle.bac_protocol.specs.Server.{Terms, Transfer, State, Entry, Effect, Reaction, Service, Way, is_live, live_entry}
 use Rattle.bac_protocol.specs.Server.Transfer.{Running, Stopped, Finished}
 use Rattle.bac_protocol.specs.Server.State.{Receiving, Done, Giving, Dropped}
 use Rattle.bac_protocol.specs.Server.Way.{AtOnce, InPieces, Unsendable}
 use Rattle.bac_protocol.specs.Steps.{IsSameEntry, TransferGoesOn, StateStays, StaysIn, LiveStays}
-use Rattle.bac_protocol.specs.Steps.{IsReceiving, MayPerform, held_by, held_in, IsWholeWith, begin_of, KeepsReply, IsEffect, EffectsAreKept}
+use Rattle.bac_protocol.specs.Steps.{IsReceiving, MayPerform, held_by, held_in, IsWholeWith, BeginsWith, IsEntryFor, KeepsReply, IsEffect, EffectsAreKept}
 use Rattle.bac_protocol.proofs.Transfer.{moved, acknowledged_cases, with_piece, takes_cases}
 use Rattle.bac_protocol.proofs.Ways.{way_cut}
 
@@ -25,19 +25,19 @@ abbrev pub IsServed : Service → Option Effect → Type 0
 IsServed service None = Unit {0}
 IsServed service (Some x) = service x.request.choice x.request.service ≡ Replies x.reply
 
--- an effect, of service data of which that holds, in an entry that began then
-pub record IsPerformed (id : ℕ) (service : Service) (P : Octets → Type 0) (begin : ℕ) (x : Effect) (d : Entry) : Type 0 where
+-- an effect, of service data of which P holds, in an entry of which Q holds
+pub record IsPerformed (id : ℕ) (service : Service) (P : Octets → Type 0) (Q : Entry → Type 0) (x : Effect) (d : Entry) : Type 0 where
   pub whole : P x.request.service
-  pub began : d.begin ≡ begin
+  pub for : Q d
   pub outcome : service x.request.choice x.request.service ≡ Replies x.reply
   pub choice : x.request.choice ≡ d.terms.choice
   pub kept : KeepsReply id d.terms.choice x.reply d.state
 
 -- an effect is kept in the entry
-abbrev pub PerformsIn : (id : ℕ) → Service → (Octets → Type 0) → (begin : ℕ) → Option Effect → Option Entry → Type 0
-PerformsIn id service P begin None new = Unit {0}
-PerformsIn id service P begin (Some x) None = ⊥
-PerformsIn id service P begin (Some x) (Some d) = IsPerformed id service P begin x d
+abbrev pub PerformsIn : (id : ℕ) → Service → (Octets → Type 0) → (Entry → Type 0) → Option Effect → Option Entry → Type 0
+PerformsIn id service P Q None new = Unit {0}
+PerformsIn id service P Q (Some x) None = ⊥
+PerformsIn id service P Q (Some x) (Some d) = IsPerformed id service P Q x d
 
 -- How an entry stays.
 
@@ -71,12 +71,12 @@ stays_in e (Some d) h = h
 
 -- What comes.
 module _ (c : Settings) (id now : ℕ) (service : Service) where
-  abbrev Performs : (Octets → Type 0) → (begin : ℕ) → Reaction → Type 0
-  Performs P begin v = PerformsIn id service P begin v.effect v.entry
+  abbrev Performs : (Octets → Type 0) → (Entry → Type 0) → Reaction → Type 0
+  Performs P Q v = PerformsIn id service P Q v.effect v.entry
 
   -- the entry stays, and may perform
   abbrev Serves : (Octets → Type 0) → Entry → Reaction → Type 0
-  Serves P e v = Performs P e.begin v × SameIn e v.entry
+  Serves P e v = Performs P (IsSameEntry e) v × SameIn e v.entry
 
   -- the entry stays, also as to its state, and performs nothing
   abbrev Rests : Entry → State → Reaction → Type 0
@@ -86,11 +86,17 @@ module _ (c : Settings) (id now : ℕ) (service : Service) where
       → service e.terms.choice octets ≡ Replies p → (way : Way) → server.way_of c e.terms p ≡ way
       → Serves P e (server.gives c id now e sends octets p way)
   gives_served P e sends octets h p is AtOnce by = (
-    record { whole = h; began = refl; outcome = is; choice = refl; kept = refl },
+    record { whole = h; for = becomes e (Done (server.reply_apdu id e.terms.choice p)); outcome = is; choice = refl; kept = refl },
     becomes e (Done (server.reply_apdu id e.terms.choice p)),
   )
   gives_served P e sends octets h p is (InPieces pieces) by = (
-    record { whole = h; began = refl; outcome = is; choice = refl; kept = (way_cut c e.terms p pieces by).is },
+    record {
+      whole = h;
+      for = becomes e (Giving (outgoing pieces) Running now);
+      outcome = is;
+      choice = refl;
+      kept = (way_cut c e.terms p pieces by).is;
+    },
     becomes e (Giving (outgoing pieces) Running now),
   )
   gives_served P e sends octets h p is (Unsendable reason) by = (tt, becomes e (Done (Abort true id reason)))
@@ -117,30 +123,49 @@ module _ (c : Settings) (id now : ℕ) (service : Service) where
       by_ack false n = (tt, becomes e (Receiving (with_piece inc octets n) now))
 
   -- no entry is live
-  new_request_served : (P : Octets → Type 0) (dead : Option Entry) (free : Bool) (terms : Terms) (octets : Octets) → P octets
-      → Performs P now (server.new_request c id now service dead free terms octets)
-  new_request_served P dead true terms octets h = (performs_served P (server.begins now terms (Some octets)) [] octets h).0
-  new_request_served P dead false terms octets h = tt
+  with_entry : (P : Octets → Type 0) (Q R : Entry → Type 0) → ((d : Entry) → Q d → R d) → (o : Option Effect) (new : Option Entry)
+      → PerformsIn id service P Q o new → PerformsIn id service P R o new
+  with_entry P Q R f None new h = tt
+  with_entry P Q R f (Some x) None h = absurd h
+  with_entry P Q R f (Some x) (Some d) h = record { whole = h.whole; for = f d h.for; outcome = h.outcome; choice = h.choice; kept = h.kept }
 
-  new_segment_served : (P : Octets → Type 0) (dead : Option Entry) (free : Bool) (terms : Terms) (g : Segment) (octets : Octets)
-      → (g.more ≡ false → P (join (octets ∷ []))) → Performs P now (server.new_segment c id now service dead free terms g octets)
-  new_segment_served P dead free terms g octets h = go (nat_eq g.number 0) free
+  new_request_served : (P : Octets → Type 0) (Q : Entry → Type 0) (dead : Option Entry) (free : Bool) (terms : Terms) (octets : Octets) → P octets
+      → ((d : Entry) → IsSameEntry (server.begins now terms (Some octets)) d → Q d)
+      → Performs P Q (server.new_request c id now service dead free terms octets)
+  new_request_served P Q dead true terms octets h f =
+      let e = server.begins now terms (Some octets) in
+      let v = server.performs c id now service e [] octets in
+      with_entry P (IsSameEntry e) Q f v.effect v.entry (performs_served P e [] octets h).0
+  new_request_served P Q dead false terms octets h f = tt
+
+  new_segment_served : (P : Octets → Type 0) (Q : Entry → Type 0) (dead : Option Entry) (free : Bool) (terms : Terms) (g : Segment) (octets : Octets)
+      → (g.more ≡ false → P (join (octets ∷ []))) → ((d : Entry) → IsSameEntry (server.begins now terms None) d → Q d)
+      → Performs P Q (server.new_segment c id now service dead free terms g octets)
+  new_segment_served P Q dead free terms g octets h f = go (nat_eq g.number 0) free
     where
-      go : (b d : Bool) → Performs P now (if not b then server.rests dead [] else if d then server.receives c id now service
+      go : (b d : Bool) → Performs P Q (if not b then server.rests dead [] else if d then server.receives c id now service
           (server.begins now terms None) g.number (incoming c.window g.window).window (takes (incoming c.window g.window) g.number g.more octets)
           else server.rests dead (server.abort_0 id ∷ []))
-      go true true = (receives_served P (server.begins now terms None) (incoming c.window g.window) g.number (incoming c.window g.window).window g.more
-          octets h).0
+      go true true =
+          let e = server.begins now terms None in
+          let inc = incoming c.window g.window in
+          let v = server.receives c id now service e g.number inc.window (takes inc g.number g.more octets) in
+          with_entry P (IsSameEntry e) Q f v.effect v.entry (receives_served P e inc g.number inc.window g.more octets h).0
       go true false = tt
       go false d = tt
 
-  new_served : (dead : Option Entry) (free : Bool) (a : Apdu) → Performs (IsWholeWith [] a) now (server.new_gets c id now service dead free a)
+  new_served : (dead : Option Entry) (free : Bool) (a : Apdu)
+      → Performs (IsWholeWith [] a) (BeginsWith now a) (server.new_gets c id now service dead free a)
   new_served dead free (ConfirmedRequest sa ms ma i None choice octets) =
-      new_request_served (IsWholeWith [] (ConfirmedRequest sa ms ma i None choice octets)) dead free
+      let a = ConfirmedRequest sa ms ma i None choice octets in
+      new_request_served (IsWholeWith [] a) (BeginsWith now a) dead free
       (record { choice = choice; takes_segments = sa; max_segments = ms; max_apdu = ma }) octets refl
+      (λ d h. record { begin = h.begin; terms = h.terms; request = h.request })
   new_served dead free (ConfirmedRequest sa ms ma i (Some g) choice octets) =
-      new_segment_served (IsWholeWith [] (ConfirmedRequest sa ms ma i (Some g) choice octets)) dead free
+      let a = ConfirmedRequest sa ms ma i (Some g) choice octets in
+      new_segment_served (IsWholeWith [] a) (BeginsWith now a) dead free
       (record { choice = choice; takes_segments = sa; max_segments = ms; max_apdu = ma }) g octets (λ m. (m, refl))
+      (λ d h. record { begin = h.begin; terms = h.terms; request = h.request })
   new_served dead free _ = tt
 
   -- a live one is receiving
@@ -214,11 +239,11 @@ module _ (c : Settings) (id now : ℕ) (service : Service) where
   live_rests e (Giving out transfer since) a is = inr (giving_rests e out transfer since is a)
   live_rests e Dropped a is = inr (dropped_rests e a is)
 
-  rests_performs : (P : Octets → Type 0) (e : Entry) (st : State) (v : Reaction) → Rests e st v → Performs P e.begin v × StaysAs e st v.entry
-  rests_performs P e st v h = (subst (λ (o : Option Effect). PerformsIn id service P e.begin o v.entry) (sym h.0) tt, h.1)
+  rests_performs : (P : Octets → Type 0) (e : Entry) (st : State) (v : Reaction) → Rests e st v → Performs P (IsSameEntry e) v × StaysAs e st v.entry
+  rests_performs P e st v h = (subst (λ (o : Option Effect). PerformsIn id service P (IsSameEntry e) o v.entry) (sym h.0) tt, h.1)
 
   live_served : (e : Entry) (st : State) (a : Apdu) → StateStays st e.state
-      → Performs (IsWholeWith (held_by st) a) e.begin (server.live_gets c id now service e st a)
+      → Performs (IsWholeWith (held_by st) a) (IsSameEntry e) (server.live_gets c id now service e st a)
       × StaysAs e st (server.live_gets c id now service e st a).entry
   live_served e (Receiving inc since) a is = let h = receiving_served e inc since a in
       (h.0, receiving_stays e inc since (server.receiving_gets c id now service e inc since a).entry h.1)
@@ -228,11 +253,11 @@ module _ (c : Settings) (id now : ℕ) (service : Service) where
   live_served e Dropped a is = rests_performs (IsWholeWith [] a) e Dropped (server.dropped_gets id e a) (dropped_rests e a is)
 
   gets_performs : (entry : Option Entry) (free : Bool) (a : Apdu)
-      → Performs (IsWholeWith (held_in now entry) a) (begin_of now entry) (server.server_gets c id now service entry free a)
+      → Performs (IsWholeWith (held_in now entry) a) (IsEntryFor now (live_entry now entry) a) (server.server_gets c id now service entry free a)
   gets_performs None free a = new_served None free a
   gets_performs (Some e) free a = go (is_live now e)
     where
-      go : (b : Bool) → Performs (IsWholeWith (if b then held_by e.state else []) a) (if b then e.begin else now)
+      go : (b : Bool) → Performs (IsWholeWith (if b then held_by e.state else []) a) (IsEntryFor now (if b then Some e else None) a)
           (if b then server.live_gets c id now service e e.state a else server.new_gets c id now service (Some e) free a)
       go true = (live_served e e.state a (stays e.state)).0
       go false = new_served (Some e) free a
@@ -258,7 +283,8 @@ module _ (c : Settings) (id now : ℕ) (service : Service) where
       go false is h = inl (inl is)
 
   is_effect : (entry : Option Entry) (a : Apdu) (x : Effect) (new : Option Entry) → MayPerform now entry
-      → PerformsIn id service (IsWholeWith (held_in now entry) a) (begin_of now entry) (Some x) new → IsEffect id now service entry a x new
+      → PerformsIn id service (IsWholeWith (held_in now entry) a) (IsEntryFor now (live_entry now entry) a) (Some x) new
+      → IsEffect id now service entry a x new
   is_effect entry a x None may h = absurd h
   is_effect entry a x (Some d) may h = record {
     before = may;
@@ -266,7 +292,7 @@ module _ (c : Settings) (id now : ℕ) (service : Service) where
     outcome = h.outcome;
     entry = d;
     after = refl;
-    begin = h.began;
+    for = h.for;
     choice = h.choice;
     kept = h.kept;
   }
@@ -278,18 +304,19 @@ module _ (c : Settings) (id now : ℕ) (service : Service) where
       go : MayPerform now entry ⊎ ((server.server_gets c id now service entry free a).effect ≡ None)
           → IsEffect id now service entry a x (server.server_gets c id now service entry free a).entry
       go (inl may) = is_effect entry a x (server.server_gets c id now service entry free a).entry may
-          (subst (λ (o : Option Effect). PerformsIn id service (IsWholeWith (held_in now entry) a) (begin_of now entry) o
+          (subst (λ (o : Option Effect). PerformsIn id service (IsWholeWith (held_in now entry) a) (IsEntryFor now (live_entry now entry) a) o
           (server.server_gets c id now service entry free a).entry) is (gets_performs entry free a))
       go (inr quiet) = absurd cc
 
-  served : (P : Octets → Type 0) (begin : ℕ) (o : Option Effect) (new : Option Entry) → PerformsIn id service P begin o new → IsServed service o
-  served P begin None new h = tt
-  served P begin (Some x) None h = absurd h
-  served P begin (Some x) (Some d) h = h.outcome
+  served : (P : Octets → Type 0) (Q : Entry → Type 0) (o : Option Effect) (new : Option Entry) → PerformsIn id service P Q o new → IsServed service o
+  served P Q None new h = tt
+  served P Q (Some x) None h = absurd h
+  served P Q (Some x) (Some d) h = h.outcome
 
   pub gets_served : (entry : Option Entry) (free : Bool) (a : Apdu) → IsServed service (server.server_gets c id now service entry free a).effect
-  gets_served entry free a = served (IsWholeWith (held_in now entry) a) (begin_of now entry) (server.server_gets c id now service entry free a).effect
-      (server.server_gets c id now service entry free a).entry (gets_performs entry free a)
+  gets_served entry free a =
+      let v = server.server_gets c id now service entry free a in
+      served (IsWholeWith (held_in now entry) a) (IsEntryFor now (live_entry now entry) a) v.effect v.entry (gets_performs entry free a)
 
 -- A tick.
 module _ (c : Settings) (id now : ℕ) where

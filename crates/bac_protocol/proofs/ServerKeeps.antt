@@ -24,7 +24,8 @@ use Rattle.bac_protocol.specs.Server.State.{Receiving, Done, Giving, Dropped}
 use Rattle.bac_protocol.specs.Server.Way.{AtOnce, InPieces, Unsendable}
 use Rattle.bac_protocol.specs.Log.{Fact, Has, IsUnperformed}
 use Rattle.bac_protocol.specs.Log.Fact.{Asked, Performed}
-use Rattle.bac_protocol.specs.Transaction.{Key, Transaction, server_does}
+use Rattle.bac_protocol.specs.Transaction.{Key}
+use Rattle.bac_protocol.proofs.Alone.{Transaction, server_does}
 use Rattle.bac_protocol.specs.Claims.{WasPerformed, IsPiece, IsAck}
 use Rattle.bac_protocol.proofs.Sound.{IsUnderway, IsFront, Up, Down, IsAckDown, server_until, Says, IsUntaken, IsRead, PassFits, ClientFits, IsKeptFor}
 use Rattle.bac_protocol.proofs.Sound.{IsUnbegun, IsReceivingFor, SendsDown, IsGivingFor, StateFits, ServerFits, UpFits, DownFits, IsOpenIn, Sound, IsSound}
@@ -347,8 +348,8 @@ module _ (W V : ℕ) (some : 0 < W) (room : V + 2 * W ≤ 255) (c : Settings) (o
     new_request_kept : t.ask.whole ≡ true → (terms : Terms) (octets : Octets) → terms.choice ≡ t.ask.choice → octets ≡ join t.ask.pieces → (free : Bool)
         → IsKept (server.new_request c key.id w.now service o free terms octets)
     new_request_kept whole terms octets chosen same true = performs_kept in_time o (Reading tk sn) s un.1
-        (server.begins w.now terms (Some octets)) s.clock soon chosen octets same (Reading tk sn) (λ d. up_same d (Reading tk sn)) (inl whole) s.client s.passes
-        s.upload [] (λ log down. tt)
+        (server.begins w.now terms (Some octets)) s.clock soon chosen octets same (Reading tk sn) (λ d. up_same d (Reading tk sn)) (inl whole) s.client
+        s.passes s.upload [] (λ log down. tt)
     new_request_kept whole terms octets chosen same false = no_slot
 
     new_segment_kept : t.ask.whole ≡ false → (terms : Terms) (g : Segment) (octets : Octets) → terms.choice ≡ t.ask.choice → (k : ℕ) → k ≤ V

@@ -13,7 +13,8 @@ use Rattle.bac_protocol.specs.Server.{State, Entry}
 use Rattle.bac_protocol.specs.Server.State.{Receiving, Done, Giving, Dropped}
 use Rattle.bac_protocol.specs.Log.{Fact, Has, asks_in, IsUnperformed, IsUnended, MayEnd}
 use Rattle.bac_protocol.specs.Log.Fact.{Asked, Performed, Ended}
-use Rattle.bac_protocol.specs.Transaction.{Key, Copy, Transaction}
+use Rattle.bac_protocol.specs.Transaction.{Key, Copy}
+use Rattle.bac_protocol.proofs.Alone.{Transaction}
 use Rattle.bac_protocol.specs.Claims.{EachCopy, IsPieceOf, WasPerformed, IsPiece, IsAck}
 
 -- The log.

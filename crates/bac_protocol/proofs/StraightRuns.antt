@@ -21,7 +21,8 @@ use Rattle.bac_protocol.specs.Transaction.{Key, Rules}
 use Rattle.bac_protocol.specs.World.{World, Event, post_of, ask_made, happens, run, start}
 use Rattle.bac_protocol.specs.World.Event.{MakeAsk}
 use Rattle.bac_protocol.specs.Claims.{IsBounded}
-use Rattle.bac_protocol.specs.Straight.{IsLike, Steps, IsMachine, like_machine, is_ended, is_none_live, Straight, Stops, RequestFits, request_count}
+use Rattle.bac_protocol.specs.Straight.{IsLike, WorldSteps, like_machine, is_ended, Straight, Stops, RequestFits, request_count}
+use Rattle.bac_protocol.specs.Server.{is_none_live}
 use Rattle.bac_protocol.specs.Straight.{way_count, way_to, cost, CanAsk, IsAnswered, AreStraight, StraightAnswers, StraightExists, NoneLive}
 use Rattle.bac_protocol.proofs.Keys.{set_same}
 use Rattle.bac_protocol.proofs.Nets.{spent_at}
@@ -29,7 +30,7 @@ use Rattle.bac_protocol.proofs.Headline.{run_kept, start_kept}
 use Rattle.bac_protocol.proofs.Queue.{Duo, Starts, starts_then}
 use Rattle.bac_protocol.proofs.Requested.{stores_after, log_after, whole_read, pieces_read}
 use Rattle.bac_protocol.proofs.Replied.{given, reply_read}
-use Rattle.bac_protocol.proofs.Follow.{Shows, like_shows, start_follows, follows_start}
+use Rattle.bac_protocol.proofs.Follow.{IsMachine, Shows, like_shows, start_follows, follows_start}
 
 module _ (S : Type 0) (shop : Shop S) (x : Rules) (w : World S) (key : Key) where
   abbrev c : Settings
@@ -192,7 +193,7 @@ module _ (S : Type 0) (shop : Shop S) (x : Rules) (w : World S) (key : Key) wher
       cheap = let y = a.reaches.most_is in omega arith;
     }
 
-    finishes : (Step : Steps S) → IsMachine S shop x key Step → (u : World S) → IsLike S key u (asked (ask_of whole)) → (count : ℕ) (v : World S)
+    finishes : (Step : WorldSteps S) → IsMachine S shop x key Step → (u : World S) → IsLike S key u (asked (ask_of whole)) → (count : ℕ) (v : World S)
         → Straight S Step key true count (length w.net.posts) u v → Stops S key (length w.net.posts + count) v
         → IsAnswered S shop x key request p (request_count whole (front ∷ rest)) count w v
     finishes Step machine u like count v run stops =
@@ -215,7 +216,7 @@ module _ (S : Type 0) (shop : Shop S) (x : Rules) (w : World S) (key : Key) wher
     asks_so : happens S shop x w (MakeAsk key choice whole front rest) ≡ asked (ask_of whole)
     asks_so = ap (λ b. if b then w else asked (ask_of whole)) can.free
 
-pub straight_answers : (S : Type 0) (shop : Shop S) (x : Rules) (key : Key) → AreStraight x key → (Step : Steps S) → IsMachine S shop x key Step
+pub straight_answers : (S : Type 0) (shop : Shop S) (x : Rules) (key : Key) → AreStraight x key → (Step : WorldSteps S) → IsMachine S shop x key Step
     → StraightAnswers S shop x key Step
 straight_answers S shop x key good Step machine w choice whole front rest p can made step count v run stops =
     finishes S shop x w key good choice whole front rest p can Step machine made

@@ -93,7 +93,7 @@ request_piece c id choice pieces n = ConfirmedRequest c.takes_segments c.max_seg
 abbrev pub request_window : Settings → (id choice : ℕ) → Outgoing → List Apdu
 request_window c id choice out = pieces_from (request_piece c id choice out.pieces) out.first (in_window out)
 
--- the window is sent; SentAllSegments is true once the last piece was sent, and stays true
+-- the window is sent; SentAllSegments is true once the last piece was sent (clause 5.4.4.2), and stays true (own rule of this profile)
 abbrev pub sends_window : Settings → (id choice : ℕ) → Outgoing → Bool → Reaction
 sends_window c id choice out all_sent =
     GoesOn (Sending out (all_sent || nat_le (length out.pieces) (out.first + in_window out))) (request_window c id choice out)
@@ -113,11 +113,13 @@ abbrev pub answers_with_data : ℕ → Bool
 answers_with_data choice = nat_eq choice 6 || (nat_eq choice 7 || nat_eq choice 12)
 
 -- the service data of an answer are whole: the ticket ends with them or, where they can't be read, with Abort 0 after the SegmentACK, if any
+-- (that Abort is an own rule of this profile)
 abbrev pub answered_with : Readable → (id choice : ℕ) → List Apdu → Octets → Reaction
 answered_with readable id choice acks octets =
     if readable choice octets then Ends acks (Answered (reply.Complex octets)) else Ends (acks ++ Abort false id 0 ∷ []) (Aborted 0)
 
--- a segment of the answer came: its number, and what was taken; the actual window is that of the reassembly it came to
+-- a segment of the answer came (clause 5.4.4.4): its number, and what was taken; the actual window is that of the reassembly it came to.
+-- 1 is buffer-overflow (where a reassembly is too long is an own rule of this profile)
 abbrev pub collects : Readable → (id choice number window : ℕ) → Taking → Reaction
 collects readable id choice number window (Taken true inc) = GoesOn (Collecting inc) (client_ack false id number window ∷ [])
 collects readable id choice number window (Taken false inc) = GoesOn (Collecting inc) []
@@ -152,7 +154,7 @@ gets_first c readable id ask segment choice service =
     then collects readable id ask.choice segment.number inc.window (takes inc segment.number segment.more service)
     else Stays
 
--- SEGMENTED_REQUEST with SentAllSegments, but for SegmentACKs, and AWAIT_CONFIRMATION
+-- SEGMENTED_REQUEST with SentAllSegments, but for SegmentACKs, and AWAIT_CONFIRMATION (clauses 5.4.4.2 and 5.4.4.3)
 abbrev pub awaiting_gets : Settings → Readable → (id : ℕ) → Ask → Apdu → Reaction
 awaiting_gets c readable id ask (SimpleAck invoke choice) = gets_simple ask choice
 awaiting_gets c readable id ask (ComplexAck invoke None choice service) = gets_complex readable id ask choice service
@@ -167,19 +169,19 @@ abbrev pub moves : Settings → (id choice : ℕ) → Bool → Option Outgoing �
 moves c id choice all_sent None = Stays
 moves c id choice all_sent (Some out) = if is_finished out then GoesOn Awaiting [] else sends_window c id choice out all_sent
 
--- SEGMENTED_REQUEST
+-- SEGMENTED_REQUEST (clause 5.4.4.2)
 abbrev pub sending_gets : Settings → Readable → (id : ℕ) → Ask → Outgoing → Bool → Apdu → Reaction
 sending_gets c readable id ask out all_sent (SegmentAck nak true invoke number window) = moves c id ask.choice all_sent
     (acknowledged c.window out number window)
 sending_gets c readable id ask out true apdu = awaiting_gets c readable id ask apdu
 sending_gets c readable id ask out false apdu = refused apdu
 
--- a further segment of an answer; one of another service choice is ignored
+-- a further segment of an answer; one of another service choice is ignored (own rule of this profile)
 abbrev pub gets_next : Readable → (id : ℕ) → Ask → Incoming → Segment → ℕ → Octets → Reaction
 gets_next readable id ask inc segment choice service =
     if nat_eq choice ask.choice then collects readable id ask.choice segment.number inc.window (takes inc segment.number segment.more service) else Stays
 
--- SEGMENTED_CONF
+-- SEGMENTED_CONF (clause 5.4.4.4)
 abbrev pub collecting_gets : Readable → (id : ℕ) → Ask → Incoming → Apdu → Reaction
 collecting_gets readable id ask inc (ComplexAck invoke (Some segment) choice service) = gets_next readable id ask inc segment choice service
 collecting_gets readable id ask inc apdu = refused apdu
@@ -200,7 +202,7 @@ client_gets c readable id now t apdu =
 
 -- Time.
 
--- the whole request is sent again in the state it is in, where a repeat is left
+-- the whole request is sent again in the state it is in, where a repeat is left (in SEGMENTED_CONF an own rule of this profile)
 abbrev pub repeats_whole : Settings → (id : ℕ) → Ticket → Reaction
 repeats_whole c id t = if nat_eq t.repeats 0 then Ends [] TimedOut else Repeats t.phase (request_apdu c id t.ask ∷ [])
 
@@ -211,11 +213,11 @@ repeats_pieces c id t =
     then Ends [] TimedOut
     else Repeats (Sending (outgoing t.ask.pieces) true) (request_window c id t.ask.choice (outgoing t.ask.pieces))
 
--- T_OUT is due
+-- AWAIT_CONFIRMATION (clause 5.4.4.3): T_OUT is due
 abbrev pub repeats : Settings → (id : ℕ) → Ticket → Reaction
 repeats c id t = if t.ask.whole then repeats_whole c id t else repeats_pieces c id t
 
--- T_SEG is due: Again or GivenUp
+-- SEGMENTED_REQUEST (clause 5.4.4.2): T_SEG is due, Again or GivenUp
 abbrev pub sends_again : Settings → (id choice : ℕ) → Bool → Option Outgoing → Reaction
 sends_again c id choice all_sent None = Ends [] TimedOut
 sends_again c id choice all_sent (Some out) = sends_window c id choice out all_sent
@@ -236,7 +238,7 @@ client_ticks c id now t =
     else if is_expired now t.ask then Ends [] Expired
     else open_ticks c id now t t.phase
 
--- IDLE.
+-- IDLE (clause 5.4.4.1).
 
 -- the ticket of a new ask, before it sends
 abbrev pub new_ticket : ℕ → Ask → Ticket

@@ -3,20 +3,20 @@ use Rattle.bac_segment.specs.Pieces.{join}
 use Rattle.bac_segment.specs.Window.{Incoming, outgoing, is_too_long}
 use Rattle.std.specs.Prelude.{◌≡◌, ℕ, zero, suc, ◌+◌, ◌/◌, ◌%◌, length, Bool, true, false, List, [], ◌∷◌, ◌++◌, map, take, drop, Option, Some, None}
 use Rattle.bac_apdu.specs.Apdu.{Apdu}
-use Rattle.bac_apdu.specs.Apdu.Apdu.{ConfirmedRequest, SimpleAck, ComplexAck, SegmentAck, Error, Abort}
+use Rattle.bac_apdu.specs.Apdu.Apdu.{ConfirmedRequest, SimpleAck, ComplexAck, SegmentAck, Error, Reject, Abort}
 use Rattle.bac_protocol.specs.Service.{Octets, Request, Reply, Reply as reply}
 use Rattle.bac_protocol.specs.Service.Reply.{Complex}
 use Rattle.bac_protocol.specs.Service.Outcome.{Replies}
-use Rattle.bac_protocol.specs.Service.Ending.{Answered, Aborted, TimedOut, Expired}
-use Rattle.bac_protocol.specs.Client.{Ticket, Reaction, client_gets, asked_ticket}
+use Rattle.bac_protocol.specs.Service.Ending.{Answered, Rejected, Aborted, TimedOut, Expired}
+use Rattle.bac_protocol.specs.Client.{Ticket, Reaction, client_gets, client_ticks, asked_ticket}
 use Rattle.bac_protocol.specs.Client.Phase.{Sending, Awaiting, Collecting}
-use Rattle.bac_protocol.specs.Client.Reaction.{Stays, GoesOn, Ends}
-use Rattle.bac_protocol.specs.Sizes.{Limits, RequestWay, request_way_of}
+use Rattle.bac_protocol.specs.Client.Reaction.{Stays, GoesOn, Repeats, Ends}
+use Rattle.bac_protocol.specs.Sizes.{apdu_size, allows_segments, transfer_size, Limits, RequestWay, request_way_of}
 use Rattle.bac_protocol.specs.Sizes.RequestWay.{InOne, InSegments, NeedsSegments, TooLong}
 use Rattle.bac_protocol.specs.Server as server
-use Rattle.bac_protocol.specs.Server.{Terms, Entry, Way, way_of, server_gets, is_live}
+use Rattle.bac_protocol.specs.Server.{Terms, Transfer, Entry, Way, way_of, server_gets, server_ticks, is_live}
 use Rattle.bac_protocol.specs.Server.State.{Receiving, Done, Giving, Dropped}
-use Rattle.bac_protocol.specs.Server.Transfer.{Running, Stopped}
+use Rattle.bac_protocol.specs.Server.Transfer.{Running, Stopped, Finished}
 use Rattle.bac_protocol.specs.Server.Way.{AtOnce, InPieces, Unsendable}
 use Rattle.bac_protocol.specs.Log.{Fact, Shop}
 use Rattle.bac_protocol.specs.Log.Fact.{Asked, Performed, Ended}
@@ -432,11 +432,11 @@ RefusedReplies = IsRefused false 7 4 (refuses false 7 48) × IsRefused true 1 1 
 
 -- Sizes: how a reply of so many octets goes, at 50 octets an APDU.
 
-abbrev pub terms_of : Bool → ℕ → Terms
-terms_of takes_segments max_segments = record { choice = 12; takes_segments = takes_segments; max_segments = max_segments; max_apdu = 0 }
+abbrev pub terms_with : Bool → ℕ → Terms
+terms_with takes_segments max_segments = record { choice = 12; takes_segments = takes_segments; max_segments = max_segments; max_apdu = 0 }
 
 abbrev pub way : Bool → ℕ → ℕ → Way
-way takes_segments max_segments octets = way_of ((rules 32).settings 1) (terms_of takes_segments max_segments) (Complex (zeros octets))
+way takes_segments max_segments octets = way_of ((rules 32).settings 1) (terms_with takes_segments max_segments) (Complex (zeros octets))
 
 -- 47 octets go in one APDU; 48 go in pieces of 45 and 3 to one who takes segments, and otherwise not
 abbrev pub Sizes : Type 0
@@ -469,6 +469,36 @@ RequestSizes =
 -- 65,536 octets are too long, whatever the peer takes; 65,535 are not
 abbrev pub LongestRequest : Type 0
 LongestRequest = (request_way false 0 65535 ≡ NeedsSegments) × (request_way false 0 65536 ≡ TooLong) × (request_way true 0 65536 ≡ TooLong)
+
+-- the APDU sizes of the codes; a transfer has the lesser of its ends' sizes
+abbrev pub ApduSizes : Type 0
+ApduSizes =
+    (map apdu_size (0 ∷ 1 ∷ 2 ∷ 3 ∷ 4 ∷ 5 ∷ []) ≡ 50 ∷ 128 ∷ 206 ∷ 480 ∷ 1024 ∷ 1476 ∷ [])
+    × (transfer_size 0 5 ≡ 50)
+    × (transfer_size 5 0 ≡ 50)
+    × (transfer_size 5 3 ≡ 480)
+
+-- code 2 of max segments allows four, code 6 allows 64
+abbrev pub SegmentLimits : Type 0
+SegmentLimits =
+    (allows_segments 2 4 ≡ true)
+    × (allows_segments 2 5 ≡ false)
+    × (allows_segments 6 64 ≡ true)
+    × (allows_segments 6 65 ≡ false)
+    × (allows_segments 0 65 ≡ true)
+    × (allows_segments 7 65 ≡ true)
+
+-- at 1,476 octets an APDU 1,472 octets of service data go in one; 1,473 go in pieces of 1,470 and 3, unless the peer's APDUs have 50 octets
+abbrev pub request_between : (own peer octets : ℕ) → RequestWay
+request_between own peer octets =
+    request_way_of (record ((rules 32).settings 0) { max_apdu = own }) (record (limits true 7) { max_apdu = peer }) (zeros octets)
+
+abbrev pub RequestsOfAllSizes : Type 0
+RequestsOfAllSizes =
+    (request_between 5 5 1472 ≡ InOne)
+    × (request_between 5 5 1473 ≡ InSegments (zeros 1470 ∷ zeros 3 ∷ []))
+    × (request_between 5 0 47 ≡ InSegments (zeros 44 ∷ zeros 3 ∷ []))
+    × (request_between 0 5 47 ≡ InSegments (zeros 44 ∷ zeros 3 ∷ []))
 
 -- Single steps of the two machines.
 
@@ -584,6 +614,93 @@ TooLongTransfers =
     × (hears (record awaiting { phase = Collecting (holding (zeros 65535 ∷ [])) })
     (ComplexAck 0 (Some (record { more = false; number = 1; window = 32 })) 7 one)
     ≡ Ends (Abort false 0 1 ∷ []) (Aborted 1))
+
+-- Steps that no run above takes.
+
+abbrev pub stays_as : Entry → List Apdu → server.Reaction
+stays_as e sends = record { entry = Some e; sends = sends; effect = None }
+
+abbrev pub ticks_entry : ℕ → Entry → server.Reaction
+ticks_entry now e = server_ticks ((rules 32).settings 1) 0 now (Some e)
+
+-- a request without SEG to an entry that is receiving is ignored; 8,000 after the last segment a tick drops the entry, and sends nothing
+abbrev pub ReceivingSteps : Type 0
+ReceivingSteps =
+    (serves 0 (Some receiving) append_apdu ≡ stays_as receiving [])
+    × (ticks_entry 7999 receiving ≡ stays_as receiving [])
+    × (ticks_entry 8000 receiving ≡ stays_as dropped [])
+
+-- the entry of a request in segments that was performed
+abbrev pub done_in_segments : Entry
+done_in_segments = record receiving { state = Done position_apdu }
+
+-- a segment gets its kept reply, a request without SEG gets Abort 0; a dropped entry gives Abort 0 to both
+abbrev pub SegmentedEntry : Type 0
+SegmentedEntry =
+    (serves 0 (Some done_in_segments) segment_1 ≡ stays_as done_in_segments (position_apdu ∷ []))
+    × (serves 0 (Some done_in_segments) append_apdu ≡ stays_as done_in_segments (Abort true 0 0 ∷ []))
+    × (serves 0 (Some dropped) append_apdu ≡ stays_as dropped (Abort true 0 0 ∷ []))
+
+-- an entry that gives its reply in two segments, with so many retries left
+abbrev pub giving : (retries : ℕ) → Transfer → (since : ℕ) → Entry
+giving retries transfer since = record done { state = Giving (record (outgoing (zeros 45 ∷ zeros 3 ∷ [])) { retries = retries }) transfer since }
+
+abbrev pub given_apdu : Apdu
+given_apdu = ComplexAck 0 (Some (record { more = true; number = 0; window = 32 })) 7 (zeros 45)
+
+-- 2,000 after its window was sent a tick sends it again, or stops the transfer where no retry is left; an Abort of its client finishes it,
+-- and then a tick, a SegmentACK and a copy of the request do nothing
+abbrev pub GivingSteps : Type 0
+GivingSteps =
+    (ticks_entry 1999 (giving 3 Running 0) ≡ stays_as (giving 3 Running 0) [])
+    × (ticks_entry 2000 (giving 3 Running 0) ≡ stays_as (giving 2 Running 2000) (given_apdu ∷ []))
+    × (ticks_entry 2000 (giving 0 Running 0) ≡ stays_as (giving 0 Stopped 0) [])
+    × (serves 0 (Some (giving 3 Running 0)) append_apdu ≡ stays_as (giving 3 Running 0) [])
+    × (serves 0 (Some (giving 3 Running 0)) (Abort false 0 0) ≡ stays_as (giving 3 Finished 0) [])
+    × (ticks_entry 2000 (giving 3 Finished 0) ≡ stays_as (giving 3 Finished 0) [])
+    × (serves 0 (Some (giving 3 Finished 0)) (SegmentAck false false 0 0 32) ≡ stays_as (giving 3 Finished 0) [])
+    × (serves 0 (Some (giving 3 Finished 0)) append_apdu ≡ stays_as (giving 3 Finished 0) [])
+
+-- a Reject and a server's Abort end a ticket; a client that takes no segments ignores segment 0 of an answer
+abbrev pub Refusals : Type 0
+Refusals =
+    (hears awaiting (Reject 0 9) ≡ Ends [] (Rejected 9))
+    × (hears sending (Abort true 0 4) ≡ Ends [] (Aborted 4))
+    × (hears awaiting (Abort false 0 4) ≡ Stays)
+    × (client_gets ((rules_of false 7).settings 0) (λ choice octets. true) 0 0 awaiting given_apdu ≡ Stays)
+
+-- a ticket whose request went so, and which has segment 0 of its answer
+abbrev pub collecting : Ticket → Ticket
+collecting t = record t { phase = Collecting (holding (one ∷ [])) }
+
+abbrev pub last_of_answer : Apdu
+last_of_answer = ComplexAck 0 (Some (record { more = false; number = 1; window = 32 })) 7 two
+
+-- the last segment of an answer that can't be read is acknowledged, and then gets Abort 0
+abbrev pub UnreadableSegments : Type 0
+UnreadableSegments =
+    client_gets ((rules 32).settings 0) (λ choice octets. false) 0 0 (collecting awaiting) last_of_answer
+    ≡ Ends (SegmentAck false false 0 1 32 ∷ Abort false 0 0 ∷ []) (Aborted 0)
+
+abbrev pub ticks_ticket : ℕ → Ticket → Reaction
+ticks_ticket now t = client_ticks ((rules 32).settings 0) 0 now t
+
+-- a ticket that sends segment 0 of three, with so many retries left
+abbrev pub sending_with : (retries : ℕ) → Ticket
+sending_with retries = record sending { phase = Sending (record (outgoing (one ∷ two ∷ three ∷ [])) { retries = retries }) false }
+
+-- 2,000 after its window was sent a tick sends it again, or ends the ticket where no retry is left; 8,000 after the last segment of an answer
+-- a whole request is sent again, and one in segments is not
+abbrev pub TimeOuts : Type 0
+TimeOuts =
+    (ticks_ticket 1999 (sending_with 3) ≡ Stays)
+    × (ticks_ticket 2000 (sending_with 3)
+    ≡ GoesOn (Sending (record (outgoing (one ∷ two ∷ three ∷ [])) { retries = 2 }) false) (segment_0 ∷ []))
+    × (ticks_ticket 2000 (sending_with 0) ≡ Ends [] TimedOut)
+    × (ticks_ticket 7999 (collecting awaiting) ≡ Stays)
+    × (ticks_ticket 8000 (collecting awaiting) ≡ Repeats (Collecting (holding (one ∷ []))) (append_apdu ∷ []))
+    × (ticks_ticket 8000 (record (collecting awaiting) { repeats = 0 }) ≡ Ends [] TimedOut)
+    × (ticks_ticket 8000 (collecting sending) ≡ Ends [] TimedOut)
 
 -- Straight runs past a window and past 256 segments.
 

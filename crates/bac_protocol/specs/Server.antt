@@ -57,9 +57,18 @@ pub record Reaction : Type 0 where
 abbrev pub Service : Type 0
 Service = ℕ → Octets → Outcome
 
--- an entry is live for KEEP; one that is not live is as none
+-- an entry is live for KEEP; one that is not live is as none (own rule of this profile)
 abbrev pub is_live : ℕ → Entry → Bool
 is_live now e = nat_le (now - e.begin) KEEP
+
+-- the entry, where it is live
+abbrev pub live_entry : ℕ → Option Entry → Option Entry
+live_entry now None = None
+live_entry now (Some e) = if is_live now e then Some e else None
+
+abbrev pub is_none_live : ℕ → Option Entry → Bool
+is_none_live now None = true
+is_none_live now (Some e) = if is_live now e then false else true
 
 abbrev pub rests : Option Entry → List Apdu → Reaction
 rests entry sends = record { entry = entry; sends = sends; effect = None }
@@ -77,7 +86,7 @@ server_ack nak id number window = SegmentAck nak true id number window
 
 -- The reply.
 
--- a reply of one APDU
+-- a reply of one APDU (clause 5.4.5.3)
 abbrev pub reply_apdu : (id choice : ℕ) → Reply → Apdu
 reply_apdu id choice Simple = SimpleAck id choice
 reply_apdu id choice (Complex service) = ComplexAck id None choice service
@@ -116,7 +125,8 @@ way_of c terms (Error class code) = AtOnce
 abbrev pub effect_of : Entry → Octets → Reply → Option Effect
 effect_of e octets reply = Some (record { request = record { choice = e.terms.choice; service = octets }; reply = reply })
 
--- the request is performed in that entry, after these sends; where its reply can't be sent, it is not
+-- AWAIT_RESPONSE (clause 5.4.5.3), which lasts no time (own rule of this profile): the request is performed in that entry, after these sends; where
+-- its reply can't be sent, it is not
 abbrev pub gives : Settings → (id now : ℕ) → Entry → List Apdu → Octets → Reply → Way → Reaction
 gives c id now e sends octets reply AtOnce =
     record {
@@ -141,7 +151,7 @@ performs c id now service e sends octets = performs_so c id now e sends octets (
 
 -- The request.
 
--- a segment of the request came: its number, and what was taken; the actual window is that of the reassembly it came to
+-- a segment of the request came (clause 5.4.5.2): its number, and what was taken; the actual window is that of the reassembly it came to
 abbrev pub receives : Settings → (id now : ℕ) → Service → Entry → (number window : ℕ) → Taking → Reaction
 receives c id now service e number window (Taken true inc) = becomes e (Receiving inc now) (server_ack false id number window ∷ [])
 receives c id now service e number window (Taken false inc) = becomes e (Receiving inc now) []
@@ -153,12 +163,14 @@ receives c id now service e number window TooLong = becomes e Dropped (Abort tru
 abbrev pub begins : ℕ → Terms → Option Octets → Entry
 begins now terms request = record { begin = now; terms = terms; request = request; state = Dropped }
 
+-- IDLE (clause 5.4.5.1).
+
 -- no entry is live: a request without SEG is performed, where a slot is free
 abbrev pub new_request : Settings → (id now : ℕ) → Service → (dead : Option Entry) → (free : Bool) → Terms → Octets → Reaction
 new_request c id now service dead free terms octets =
     if free then performs c id now service (begins now terms (Some octets)) [] octets else rests dead (abort_0 id ∷ [])
 
--- no entry is live: segment 0 begins one, where a slot is free; any other segment is dropped
+-- no entry is live: segment 0 begins one, where a slot is free; any other segment is dropped (own rule of this profile)
 abbrev pub new_segment : Settings → (id now : ℕ) → Service → (dead : Option Entry) → (free : Bool) → Terms → Segment → Octets → Reaction
 new_segment c id now service dead free terms segment octets =
     let inc = incoming c.window segment.window in
@@ -175,7 +187,8 @@ new_gets c id now service dead free (ConfirmedRequest takes_segments max_segment
     segment octets
 new_gets c id now service dead free _ = rests dead []
 
--- Receiving: a segment that comes WAIT_SEG after the last one, or later, ends the reassembly; a request without SEG is ignored
+-- SEGMENTED_REQUEST (clause 5.4.5.2): a segment that comes WAIT_SEG after the last one, or later, ends the reassembly, which is remembered as dropped
+-- (own rule of this profile); a request without SEG is ignored
 abbrev pub receiving_segment : Settings → (id now : ℕ) → Service → Entry → Incoming → (since : ℕ) → Segment → Octets → Reaction
 receiving_segment c id now service e inc since segment octets =
     if nat_le WAIT_SEG (now - since) then becomes e Dropped (abort_0 id ∷ [])
@@ -187,7 +200,7 @@ receiving_gets c id now service e inc since (ConfirmedRequest takes_segments max
 receiving_gets c id now service e inc since (Abort false invoke reason) = becomes e Dropped []
 receiving_gets c id now service e inc since _ = rests (Some e) []
 
--- Done.
+-- Done: a reply that is kept and given again is an own rule of this profile, but for its transfer in segments (SEGMENTED_RESPONSE, clause 5.4.5.4).
 
 -- whether a request without SEG is the kept one; none is kept where the entry began with a segment
 abbrev pub is_kept : Entry → Option Octets → (choice : ℕ) → Octets → Bool
@@ -202,17 +215,17 @@ done_gets id e kept (ConfirmedRequest takes_segments max_segments max_apdu invok
     rests (Some e) ((if is_some e.request then abort_0 id else kept) ∷ [])
 done_gets id e kept _ = rests (Some e) []
 
--- the window of a reply is sent
+-- the window of a reply is sent (clause 5.4.5.4)
 abbrev pub gives_window : Settings → (id now : ℕ) → Entry → Outgoing → Reaction
 gives_window c id now e out = becomes e (Giving out Running now) (reply_window c id e.terms.choice out)
 
--- a copy of the request sets a stopped transfer going again, with full retries; a running or finished one stays
+-- a copy of the request sets a stopped transfer going again, with full retries; a running or finished one stays (own rule of this profile)
 abbrev pub resumes : Settings → (id now : ℕ) → Entry → Outgoing → Transfer → Reaction
 resumes c id now e out Stopped = gives_window c id now e (resume out)
 resumes c id now e out Running = rests (Some e) []
 resumes c id now e out Finished = rests (Some e) []
 
--- a SegmentACK of the reply's segments: Ignored, Finished or Moved
+-- a SegmentACK of the reply's segments (clause 5.4.5.4): Ignored, Finished or Moved
 abbrev pub gives_on : Settings → (id now : ℕ) → Entry → Option Outgoing → Reaction
 gives_on c id now e None = rests (Some e) []
 gives_on c id now e (Some out) = if is_finished out then becomes e (Giving out Finished now) [] else gives_window c id now e out
@@ -222,7 +235,7 @@ giving_gets_ack c id now e out Running number window = gives_on c id now e (ackn
 giving_gets_ack c id now e out Stopped number window = rests (Some e) []
 giving_gets_ack c id now e out Finished number window = rests (Some e) []
 
--- done, with a reply in pieces
+-- done, with a reply in pieces; an Abort of its client finishes the transfer (clause 5.4.5.4)
 abbrev pub giving_gets : Settings → (id now : ℕ) → Entry → Outgoing → Transfer → (since : ℕ) → Apdu → Reaction
 giving_gets c id now e out transfer since (ConfirmedRequest takes_segments max_segments max_apdu invoke None choice octets) =
     if is_kept e e.request choice octets then resumes c id now e out transfer else rests (Some e) (abort_0 id ∷ [])
@@ -232,7 +245,7 @@ giving_gets c id now e out transfer since (SegmentAck nak false invoke number wi
 giving_gets c id now e out transfer since (Abort false invoke reason) = becomes e (Giving out Finished since) []
 giving_gets c id now e out transfer since _ = rests (Some e) []
 
--- dropped: each request and each segment gets Abort 0
+-- dropped: each request and each segment gets Abort 0 (own rule of this profile)
 abbrev pub dropped_gets : (id : ℕ) → Entry → Apdu → Reaction
 dropped_gets id e (ConfirmedRequest takes_segments max_segments max_apdu invoke segment choice octets) = rests (Some e) (abort_0 id ∷ [])
 dropped_gets id e _ = rests (Some e) []
@@ -251,7 +264,7 @@ server_gets c id now service (Some e) free apdu =
 
 -- Time.
 
--- T_SEG is due: Again or GivenUp
+-- T_SEG is due (clause 5.4.5.4): Again or, where it is given up, a transfer that stops and can go on (own rule of this profile)
 abbrev pub gives_again : Settings → (id now : ℕ) → Entry → Outgoing → (since : ℕ) → Option Outgoing → Reaction
 gives_again c id now e out since None = becomes e (Giving out Stopped since) []
 gives_again c id now e out since (Some next) = gives_window c id now e next

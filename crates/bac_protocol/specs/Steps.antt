@@ -12,9 +12,8 @@ use Rattle.bac_protocol.specs.Service.Outcome.{Replies}
 use Rattle.bac_protocol.specs.Client as client
 use Rattle.bac_protocol.specs.Client.{Ticket, is_over, is_held, client_gets, client_ticks}
 use Rattle.bac_protocol.specs.Client.Reaction.{Stays}
-use Rattle.bac_protocol.specs.Server.{State, Entry, Effect, Reaction, Service, is_live, reply_apdu, server_gets, server_ticks}
+use Rattle.bac_protocol.specs.Server.{Terms, State, Entry, Effect, Reaction, Service, is_live, live_entry, reply_apdu, server_gets, server_ticks}
 use Rattle.bac_protocol.specs.Server.State.{Receiving, Done, Giving, Dropped}
-use Rattle.bac_protocol.specs.Straight.{live_entry}
 
 -- An entry that is not live is as none.
 
@@ -73,7 +72,7 @@ pub record LiveStays : Type 0 where
       → StaysIn e (server_gets c id now service (Some e) free a).entry
   pub ticks : (c : Settings) (id now : ℕ) (e : Entry) → is_live now e ≡ true → StaysIn e (server_ticks c id now (Some e)).entry
 
--- A request is performed only where no entry was live, or one was receiving it, and then an entry keeps that reply.
+-- A request is performed only where no entry was live, or one was receiving it, and then an entry for that request keeps that reply.
 
 abbrev pub IsReceiving : State → Type 0
 IsReceiving (Receiving inc since) = Unit {0}
@@ -101,10 +100,28 @@ IsWholeWith held (ConfirmedRequest takes_segments max_segments max_apdu invoke (
     (segment.more ≡ false) × (octets ≡ join (held ++ service ∷ []))
 IsWholeWith held _ octets = ⊥
 
--- when an entry began that is live, or begins now where none is
-abbrev pub begin_of : ℕ → Option Entry → ℕ
-begin_of now None = now
-begin_of now (Some e) = if is_live now e then e.begin else now
+-- what a request says beside its service data
+abbrev pub IsSaidBy : Apdu → Terms → Type 0
+IsSaidBy (ConfirmedRequest takes_segments max_segments max_apdu invoke segment choice service) terms =
+    terms ≡ record { choice = choice; takes_segments = takes_segments; max_segments = max_segments; max_apdu = max_apdu }
+IsSaidBy _ terms = ⊥
+
+-- what an entry that begins with it keeps of its service data: all of those without SEG, none of a segment
+abbrev pub IsKeptOf : Apdu → Option Octets → Type 0
+IsKeptOf (ConfirmedRequest takes_segments max_segments max_apdu invoke None choice service) request = request ≡ Some service
+IsKeptOf (ConfirmedRequest takes_segments max_segments max_apdu invoke (Some segment) choice service) request = request ≡ None
+IsKeptOf _ request = ⊥
+
+-- an entry begins with that APDU
+pub record BeginsWith (now : ℕ) (a : Apdu) (d : Entry) : Type 0 where
+  pub begin : d.begin ≡ now
+  pub terms : IsSaidBy a d.terms
+  pub request : IsKeptOf a d.request
+
+-- an entry is the live one, as to its beginning, its terms and its request, or where none is live it begins with that APDU
+abbrev pub IsEntryFor : ℕ → (live : Option Entry) → Apdu → Entry → Type 0
+IsEntryFor now None a d = BeginsWith now a d
+IsEntryFor now (Some e) a d = IsSameEntry e d
 
 -- an entry keeps the reply: as one APDU, or in pieces
 abbrev pub KeepsReply : (id choice : ℕ) → Reply → State → Type 0
@@ -119,7 +136,7 @@ pub record IsEffect (id now : ℕ) (service : Service) (old : Option Entry) (a :
   pub outcome : service x.request.choice x.request.service ≡ Replies x.reply
   pub entry : Entry
   pub after : new ≡ Some entry
-  pub begin : entry.begin ≡ begin_of now old
+  pub for : IsEntryFor now (live_entry now old) a entry
   pub choice : x.request.choice ≡ entry.terms.choice
   pub kept : KeepsReply id entry.terms.choice x.reply entry.state
 

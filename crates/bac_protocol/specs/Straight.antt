@@ -8,23 +8,13 @@ use Rattle.bac_protocol.specs.Service.Reply.{Simple, Complex, Error}
 use Rattle.bac_protocol.specs.Service.Outcome.{Replies}
 use Rattle.bac_protocol.specs.Service.Ending.{Answered}
 use Rattle.bac_protocol.specs.Client.{Ticket, is_over, answers_simply, answers_with_data}
-use Rattle.bac_protocol.specs.Server.{Terms, Entry, Way, way_of, is_live}
+use Rattle.bac_protocol.specs.Server.{Terms, Way, way_of, live_entry, is_none_live}
 use Rattle.bac_protocol.specs.Server.Way.{AtOnce, InPieces, Unsendable}
 use Rattle.bac_protocol.specs.Log.{Shop}
 use Rattle.bac_protocol.specs.Log.Fact.{Asked, Performed, Ended}
 use Rattle.bac_protocol.specs.Transaction.{Key, Rules}
 use Rattle.bac_protocol.specs.World.{World, Event, is_key_held, happens}
 use Rattle.bac_protocol.specs.World.Event.{MakeAsk, Deliver}
-
--- An entry that is not live is as none.
-
-abbrev pub live_entry : ℕ → Option Entry → Option Entry
-live_entry now None = None
-live_entry now (Some e) = if is_live now e then Some e else None
-
-abbrev pub is_none_live : ℕ → Option Entry → Bool
-is_none_live now None = true
-is_none_live now (Some e) = if is_live now e then false else true
 
 -- two worlds show the same of a transaction, but for an entry that is not live
 pub record IsLike (S : Type 0) (key : Key) (u v : World S) : Type 0 where
@@ -38,14 +28,11 @@ pub record IsLike (S : Type 0) (key : Key) (u v : World S) : Type 0 where
   pub log : u.net.log ≡ v.net.log
 
 -- what a world does on an event, as a relation
-abbrev pub Steps : Type 0 → Type 1
-Steps S = World S → Event → World S → Type 0
+abbrev pub WorldSteps : Type 0 → Type 1
+WorldSteps S = World S → Event → World S → Type 0
 
 -- it does what the machines say, as far as that transaction sees
-abbrev pub IsMachine : (S : Type 0) → Shop S → Rules → Key → Steps S → Type 0
-IsMachine S shop x key Step = (w : World S) (e : Event) (v : World S) → Step w e v → IsLike S key v (happens S shop x w e)
-
-abbrev pub like_machine : (S : Type 0) → Shop S → Rules → Key → Steps S
+abbrev pub like_machine : (S : Type 0) → Shop S → Rules → Key → WorldSteps S
 like_machine S shop x key w e v = IsLike S key v (happens S shop x w e)
 
 -- The run.
@@ -55,7 +42,7 @@ is_ended None = true
 is_ended (Some t) = is_over t.phase
 
 -- so many copies are delivered, from that number on, each while the ticket is open; where the server had a slot for the first, has_slot is true
-abbrev pub Straight : (S : Type 0) → Steps S → Key → (has_slot : Bool) → (count number : ℕ) → (old new : World S) → Type 0
+abbrev pub Straight : (S : Type 0) → WorldSteps S → Key → (has_slot : Bool) → (count number : ℕ) → (old new : World S) → Type 0
 Straight S Step key has_slot zero number w v = w ≡ v
 Straight S Step key has_slot (suc count) number w v =
     (free : Bool)
@@ -142,7 +129,7 @@ pub record AreStraight (x : Rules) (key : Key) : Type 0 where
   pub room : (x.settings key.client).window ≤ x.overtake
 
 -- each straight run of that relation answers its ask
-abbrev pub StraightAnswers : (S : Type 0) → Shop S → Rules → Key → Steps S → Type 0
+abbrev pub StraightAnswers : (S : Type 0) → Shop S → Rules → Key → WorldSteps S → Type 0
 StraightAnswers S shop x key Step =
     (w : World S) (choice : ℕ) (whole : Bool) (front : Octets) (rest : List Octets) (reply : Reply) → CanAsk S shop x w key choice whole (front ∷ rest) reply
     → (asked : World S) → Step w (MakeAsk key choice whole front rest) asked
@@ -167,12 +154,12 @@ AreDeliveries number [] = Unit {0}
 AreDeliveries number (e ∷ es) = ((free : Bool) × (e ≡ Deliver number free)) × AreDeliveries (suc number) es
 
 -- a run of events
-abbrev pub Runs : (S : Type 0) → Steps S → List Event → (old new : World S) → Type 0
+abbrev pub Runs : (S : Type 0) → WorldSteps S → List Event → (old new : World S) → Type 0
 Runs S Step [] w v = w ≡ v
 Runs S Step (e ∷ es) w v = (u : World S) × Step w e u × Runs S Step es u v
 
 -- a straight run is a run of so many deliveries
-abbrev pub IsRunOfDeliveries : (S : Type 0) → Steps S → Key → Type 0
+abbrev pub IsRunOfDeliveries : (S : Type 0) → WorldSteps S → Key → Type 0
 IsRunOfDeliveries S Step key =
     (has_slot : Bool) (count number : ℕ) (w v : World S) → Straight S Step key has_slot count number w v
     → (events : List Event) × Runs S Step events w v × AreDeliveries number events × (length events ≡ count)

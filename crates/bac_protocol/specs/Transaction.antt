@@ -1,14 +1,11 @@
--- One transaction: its client's slot, its server's entry, and all that both sent, newest first.
-use Rattle.std.specs.Prelude.{ℕ, ◌+◌, List, [], ◌∷◌, Option, Some, None}
+-- What names a transaction, what never changes, a copy of an APDU, and what an end's step adds to the log.
+use Rattle.std.specs.Prelude.{ℕ, List, ◌∷◌, Option, Some, None}
 use Rattle.bac_apdu.specs.Apdu.{Apdu}
 use Rattle.bac_protocol.specs.Sizes.{Settings}
 use Rattle.bac_protocol.specs.Service.{Ending, Readable}
-use Rattle.bac_protocol.specs.Client.{Ask, request_of, Ticket, after, sends_of, ending_of, asked_ticket, asks}
-use Rattle.bac_protocol.specs.Client as client
-use Rattle.bac_protocol.specs.Server.{Entry, Effect}
-use Rattle.bac_protocol.specs.Server as server
+use Rattle.bac_protocol.specs.Server.{Effect}
 use Rattle.bac_protocol.specs.Log.{Fact}
-use Rattle.bac_protocol.specs.Log.Fact.{Asked, Performed, Ended}
+use Rattle.bac_protocol.specs.Log.Fact.{Performed, Ended}
 
 -- a transaction is named by its client, its server and its invoke ID
 pub record Key : Type 0 where
@@ -26,20 +23,6 @@ pub record Copy : Type 0 where
   pub moment : ℕ
   pub apdu : Apdu
 
-pub record Transaction : Type 0 where
-  pub now : ℕ
-  pub asks : ℕ  -- how many asks there were, of this transaction or another
-  pub number : ℕ  -- the number of its newest ask
-  pub ticket : Option Ticket  -- the ticket of its newest ask
-  pub entry : Option Entry
-  pub copies : List Copy
-  pub log : List Fact  -- of all transactions
-
--- the copies after these sends
-abbrev pub sent : ℕ → List Apdu → List Copy → List Copy
-sent now [] copies = copies
-sent now (a ∷ more) copies = sent now more (record { moment = now; apdu = a } ∷ copies)
-
 abbrev pub ended : ℕ → Option Ending → List Fact → List Fact
 ended n None log = log
 ended n (Some how) log = Ended n how ∷ log
@@ -47,21 +30,3 @@ ended n (Some how) log = Ended n how ∷ log
 abbrev pub performed : ℕ → Option Effect → List Fact → List Fact
 performed n None log = log
 performed n (Some effect) log = Performed n effect.request effect.reply ∷ log
-
-abbrev pub client_does : Transaction → Ticket → client.Reaction → Transaction
-client_does w t r = record w { ticket = Some (after w.now t r); copies = sent w.now (sends_of r) w.copies; log = ended w.number (ending_of r) w.log }
-
-abbrev pub server_does : Transaction → server.Reaction → Transaction
-server_does w v = record w { entry = v.entry; copies = sent w.now v.sends w.copies; log = performed w.number v.effect w.log }
-
--- a new ask
-abbrev pub asked_by : Rules → Key → Transaction → Ask → Transaction
-asked_by x key w ask =
-    let c = x.settings key.client in
-    record w {
-      asks = w.asks + 1;
-      number = w.asks;
-      ticket = Some (asked_ticket c key.id w.now ask);
-      copies = sent w.now (sends_of (asks c key.id ask)) w.copies;
-      log = Asked w.asks key.client key.server (request_of ask) ∷ w.log;
-    }

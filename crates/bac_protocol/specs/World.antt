@@ -11,7 +11,7 @@ use Rattle.bac_protocol.specs.Server.{Entry, Effect, Service, server_gets, serve
 use Rattle.bac_protocol.specs.Server as server
 use Rattle.bac_protocol.specs.Log.{Fact, Shop}
 use Rattle.bac_protocol.specs.Log.Fact.{Asked}
-use Rattle.bac_protocol.specs.Transaction.{Key, Rules, Copy, Transaction, ended, performed}
+use Rattle.bac_protocol.specs.Transaction.{Key, Rules, Copy, ended, performed}
 
 abbrev pub same_key : Key → Key → Bool
 same_key a b = nat_eq a.client b.client && (nat_eq a.server b.server && nat_eq a.id b.id)
@@ -62,18 +62,6 @@ copies_of key posts = copies_before key posts []
 
 abbrev pub post_of : Key → ℕ → Apdu → Post
 post_of key now a = record { key = key; copy = record { moment = now; apdu = a } }
-
--- what one transaction sees of it all
-abbrev pub one : Net → Key → Transaction
-one n key = record {
-  now = n.now;
-  asks = n.asks;
-  number = n.numbers key;
-  ticket = n.tickets key;
-  entry = n.entries key;
-  copies = copies_of key n.posts;
-  log = n.log;
-}
 
 -- What one end does.
 

@@ -6,6 +6,8 @@ ghost use Rattle.bac_protocol.specs.Examples.{HeldLong, LostAck};
 ghost use Rattle.bac_protocol.specs.Examples.{OutOfOrder, LaterPass, InTime, OutOfTime, StoppedReply, Sizes, OddAcks, OtherAnswers, KeptReply, DroppedEntry};
 ghost use Rattle.bac_protocol.specs.Examples.{RequestSizes, LongestRequest, OvertakenCopy, OtherCopies, TwoClients, LostAckOfPut};
 ghost use Rattle.bac_protocol.specs.Examples.{TwoSegments, RefusedReplies, KeptSegments, LongestReassembly, TooLongTransfers};
+ghost use Rattle.bac_protocol.specs.Examples.{ApduSizes, SegmentLimits, RequestsOfAllSizes, ReceivingSteps, SegmentedEntry, GivingSteps, Refusals};
+ghost use Rattle.bac_protocol.specs.Examples.{UnreadableSegments, TimeOuts};
 
 /// Whole requests: a request that is delivered four times, a lost answer, and one that can't be read.
 #[tactic(auto, using(crate::proofs::Computed::four_copies, crate::proofs::Computed::lost_answer, crate::proofs::Computed::unreadable))]
@@ -92,6 +94,14 @@ pub fn sizes_of_requests()
     ensures longest { LongestRequest }
 {}
 
+/// The codes of APDU sizes and of max segments, and requests at other sizes.
+#[tactic(auto, using(crate::proofs::Computed::apdu_sizes, crate::proofs::Computed::segment_limits, crate::proofs::Computed::requests_of_all_sizes))]
+pub fn sizes_of_codes()
+    ensures apdu { ApduSizes }
+    ensures segments { SegmentLimits }
+    ensures requests { RequestsOfAllSizes }
+{}
+
 /// Single steps of the client's machine.
 #[tactic(auto, using(crate::proofs::Computed::odd_acks, crate::proofs::Computed::other_answers))]
 pub fn client_steps()
@@ -104,6 +114,22 @@ pub fn client_steps()
 pub fn server_steps()
     ensures kept_reply { KeptReply }
     ensures dropped_entry { DroppedEntry }
+{}
+
+/// A ticket that is refused, has an answer in segments that can't be read, or is timed out.
+#[tactic(auto, using(crate::proofs::Computed::refusals, crate::proofs::Computed::unreadable_segments, crate::proofs::Computed::time_outs))]
+pub fn ends_of_a_ticket()
+    ensures refusals { Refusals }
+    ensures unreadable { UnreadableSegments }
+    ensures time_outs { TimeOuts }
+{}
+
+/// An entry that is receiving a request, that of a request in segments, and one that gives its reply in segments.
+#[tactic(auto, using(crate::proofs::Computed::receiving_steps, crate::proofs::Computed::segmented_entry, crate::proofs::Computed::giving_steps))]
+pub fn states_of_an_entry()
+    ensures receiving { ReceivingSteps }
+    ensures in_segments { SegmentedEntry }
+    ensures giving { GivingSteps }
 {}
 
 /// A kept reply in segments is not given to another request.

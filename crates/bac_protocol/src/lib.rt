@@ -18,7 +18,8 @@ ghost use Rattle.bac_protocol.specs.Own.{ClientSendsOwn, ServerSendsOwn, AreOwn}
 ghost use Rattle.bac_protocol.specs.Claims.{IsBounded, IsInPlace, AreOfNewest, RequestsAreInWindow, RepliesAreInWindow, LaterPassesFindDone};
 
 /// No number that can arrive is misread modulo 256, where windows are at most W, at most V later copies may overtake one, and V + 2W <= 255:
-/// what a receiver takes for its next piece is that piece, and what a sender takes for one of its pieces in flight is one.
+/// what a receiver takes for its next piece is that piece, and what a sender takes for one of its pieces in flight is one. It is bac_segment's law of
+/// numbers in reach, in the form that the claims on windows use.
 #[tactic(auto, using(crate::proofs::Readings::reads_segment, crate::proofs::Readings::reads_ack))]
 pub fn never_misread()
     ensures segment { (V W p t : ℕ) → 0 < W → V + 2 * W ≤ 255 → p < t + W → t ≤ p + 1 + W + V → p % 256 ≡ t % 256 → p ≡ t }

@@ -9,8 +9,8 @@ pub fn dead_entries_are_none()
     ensures { DeadIsNone }
 {}
 
-/// A ticket that has ended stays as it is and sends nothing, whatever comes and on any tick: it ends at most once. So has each ticket that is not
-/// held, and it is not held later: a client may drop it at any moment.
+/// A ticket that has ended stays as it is and sends nothing, whatever comes and on any tick: it ends at most once. Each ticket that is
+/// not held has ended, and is not held later either: a client may drop it at any moment.
 #[tactic(auto, using(crate::proofs::Dead::ended_is_silent))]
 pub fn ended_tickets_are_silent()
     ensures { EndedIsSilent }
@@ -30,8 +30,9 @@ pub fn live_entries_stay()
 {}
 
 /// A server performs a request only where no entry was live, or one was receiving it, and the APDU that came makes its service data whole: it carries
-/// them, or their last piece behind those that the entry holds. The reply is the one that the service gives, and then that entry, or one that begins
-/// now, is done and keeps that reply. A tick performs nothing.
+/// them, or their last piece behind those that the entry holds. The reply is the one that the service gives, and then an entry for that request is
+/// done and keeps that reply: the live one, with its beginning, its terms and its request, or one that begins now, with the terms that the APDU says
+/// and, where it came without SEG, its service data. A tick performs nothing.
 #[tactic(auto, using(crate::proofs::Served::effects_are_kept))]
 pub fn effects_are_kept()
     ensures { EffectsAreKept }

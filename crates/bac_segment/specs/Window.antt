@@ -90,6 +90,7 @@ takes_expected inc true octets =
     else Taken false (record inc { parts = inc.parts ++ octets ∷ []; unacknowledged = inc.unacknowledged + 1 })
 
 -- a segment comes: its number, whether more follow, its octets
+-- (own rule of this profile: a repeated segment gets a negative SegmentACK like any other that is not the expected one)
 abbrev pub takes : Incoming → ℕ → Bool → List ℕ → Taking
 takes inc number more octets =
     if is_expected inc number

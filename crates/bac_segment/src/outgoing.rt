@@ -72,7 +72,8 @@ impl Model for Outgoing {
 }
 
 impl Outgoing {
-    /// A sender of these octets in pieces of `size` octets, of which nothing was sent. Its first window is one piece.
+    /// A sender of these octets in pieces of `size` octets, which is at least 1, of which nothing was sent. Its first
+    /// window is one piece.
     pub fn new(octets: Vec<u8>, size: usize) -> Outgoing
         requires { 1 ≤ size }
         ensures start { result ≡ outgoing (pieces_of size octets.items) }
@@ -131,7 +132,7 @@ impl Outgoing {
         window.end - window.start
     }
 
-    /// Piece `n`.
+    /// Piece `n`, counted from 0; there are more than `n`.
     pub fn piece(&self, n: usize) -> &[u8]
         requires { n < length self.now.pieces }
         ensures { result.now ≡ piece_at self.now.pieces n }
@@ -218,7 +219,8 @@ impl Outgoing {
         self.octets == other.octets
     }
 
-    /// The sender stands there again: this undoes a step that the caller could not finish.
+    /// The sender stands there again, at a position that `position` answered: this undoes a step that the caller could not
+    /// finish.
     pub fn go_back(&mut self, to: Position)
         requires { to.first ≤ length self.old.pieces }
         ensures { self.new ≡ record self.old { first = to.first; window = to.window; retries = to.retries } }

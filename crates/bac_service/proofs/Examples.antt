@@ -2,7 +2,7 @@
 use Rattle.std.proofs.Common.{◌≡◌, ℕ, ◌<◌, zero, suc, [], ◌∷◌, ◌++◌, Option, Some, None, true, refl, subst, arith, pos, replicate}
 use Rattle.bac_value.specs.declared.tag.Class.TheVariants.{Application}
 use Rattle.bac_value.specs.declared.tag.Form.TheVariants.{Length}
-use Rattle.bac_value.specs.Data.{Forest, none, leaf, pair, spelling, IsWithin, IsPrimitive, IsData}
+use Rattle.bac_value.specs.Data.{Forest, none, leaf, pair, spelling, IsWithin, IsData}
 use Rattle.bac_value.specs.Element.{Part, SpellsElement}
 use Rattle.bac_value.specs.Number.{unsigned_octets, signed_octets}
 use Rattle.bac_value.specs.Spelling.{tag_spelling}
@@ -12,7 +12,7 @@ use Rattle.bac_value.specs.Reading.{number_at, signed_at, object_at, turn, step_
 use Rattle.bac_service.specs.Members.{Octets, Tagged, AreStrings}
 use Rattle.bac_service.specs.Reading.{announced, head_at, member_at, is_next, optional_at, is_opened, tag_that, enclosed_at, values_at, that_at}
 use Rattle.bac_service.specs.Reading.{reference_at, priority_at, write_property_at, read_access_at, strings_at, run_at, counted_at, write_access_at}
-use Rattle.bac_service.specs.Reading.{request_at, end_of_file_at, file_read_at, file_written_at, property_read_at, complex_at}
+use Rattle.bac_service.specs.Reading.{request_at}
 use Rattle.bac_service.specs.Values.{Reference, Request, Complex, choice_of, complex_choice_of}
 use Rattle.bac_service.specs.Values.ReadAccess.{ReadStream, ReadRecords}
 use Rattle.bac_service.specs.Values.WriteAccess.{WriteStream, WriteRecords}
@@ -22,7 +22,7 @@ use Rattle.bac_service.specs.Requests.{SpellsRequest}
 use Rattle.bac_service.specs.Replies.{SpellsComplex}
 use Rattle.bac_service.specs.Spellings.{request_spelling, answer_spelling, IsReference, IsFile, IsRequest, IsAnswer}
 use Rattle.bac_service.proofs.Spelled.{request_spelled, complex_spelled}
-use Rattle.bac_service.proofs.Wholes.{request_again, complex_again}
+use Rattle.bac_service.proofs.Wholes.{request_again}
 
 -- octets that are the spelling of a request spell it
 spelled : (r : Request) (bytes : Octets) → IsRequest r → request_spelling r ≡ bytes → SpellsRequest (choice_of r) r bytes

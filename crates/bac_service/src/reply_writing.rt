@@ -1,18 +1,17 @@
 //! Writing answers.
 ghost use Rattle.std.specs.Prelude.{◌≡◌, ◌+◌, ◌++◌, ◌<◌, ◌≤◌, ◌^◌, OnOk, OnErr, length, vec_len, vec_capacity};
-ghost use Rattle.bac_value.specs.Octets.{Begins};
 ghost use Rattle.bac_value.specs.Data.{opening, closing};
-ghost use Rattle.bac_service.specs.Spellings.{index_spelling, reference_spelling, content_spelling, enclosed_spelling, answer_spelling, IsAnswer, IsReference};
-ghost use Rattle.bac_value.specs.Number.{distance};
+ghost use Rattle.bac_service.specs.Spellings.{index_spelling, reference_spelling, content_spelling, enclosed_spelling, answer_spelling};
 ghost use Rattle.bac_service.specs.Replies.{SpellsComplex};
 ghost use Rattle.bac_service.specs.Values.{complex_choice_of};
 ghost use Rattle.bac_service.specs.Views.{reference, written, complex};
 ghost use Rattle.bac_service.specs.Values.Complex.{FileRead as PlainFileRead, PropertyRead as PlainPropertyRead};
 
+use crate::lengths::reply_len;
 use crate::reply::{AnyComplex, Complex, FileRead, FileWritten, PropertyRead};
 use crate::value::{Content, PropertyReference};
 use bac_value::{
-    Class, Data, Form, NoMemory, Octets, Tag, put_boolean, put_object_identifier, put_primitive,
+    Class, Data, Form, NoMemory, Tag, put_boolean, put_object_identifier, put_primitive,
     put_signed, put_tag, put_unsigned,
 };
 
@@ -20,7 +19,6 @@ pub(crate) fn put_opening(number: u8, out: &mut Vec<u8>) -> Result<(), NoMemory>
     requires { number < 255 }
     ensures ok { OnOk result (out.new.items ≡ out.old.items ++ opening number) }
     ensures len { OnOk result (vec_len out.new ≡ vec_len out.old + length (opening number)) }
-    ensures kept { Begins out.old.items out.new.items }
     ensures full { OnErr result (vec_capacity out.old < vec_len out.old + length (opening number)) }
     ensures grows { vec_capacity out.old ≤ vec_capacity out.new }
 {
@@ -36,7 +34,6 @@ pub(crate) fn put_closing(number: u8, out: &mut Vec<u8>) -> Result<(), NoMemory>
     requires { number < 255 }
     ensures ok { OnOk result (out.new.items ≡ out.old.items ++ closing number) }
     ensures len { OnOk result (vec_len out.new ≡ vec_len out.old + length (closing number)) }
-    ensures kept { Begins out.old.items out.new.items }
     ensures full { OnErr result (vec_capacity out.old < vec_len out.old + length (closing number)) }
     ensures grows { vec_capacity out.old ≤ vec_capacity out.new }
 {
@@ -51,7 +48,6 @@ pub(crate) fn put_closing(number: u8, out: &mut Vec<u8>) -> Result<(), NoMemory>
 fn put_index(index: Option<u32>, out: &mut Vec<u8>) -> Result<(), NoMemory>
     ensures ok { OnOk result (out.new.items ≡ out.old.items ++ index_spelling index) }
     ensures len { OnOk result (vec_len out.new ≡ vec_len out.old + length (index_spelling index)) }
-    ensures kept { Begins out.old.items out.new.items }
     ensures full { OnErr result (vec_capacity out.old < vec_len out.old + length (index_spelling index)) }
     ensures grows { vec_capacity out.old ≤ vec_capacity out.new }
 {
@@ -65,10 +61,8 @@ fn put_index(index: Option<u32>, out: &mut Vec<u8>) -> Result<(), NoMemory>
 pub(crate) fn put_reference(to: PropertyReference, out: &mut Vec<u8>) -> Result<(), NoMemory>
     ensures ok { OnOk result (out.new.items ≡ out.old.items ++ reference_spelling (reference to)) }
     ensures len { OnOk result (vec_len out.new ≡ vec_len out.old + length (reference_spelling (reference to))) }
-    ensures kept { Begins out.old.items out.new.items }
     ensures full { OnErr result (vec_capacity out.old < vec_len out.old + length (reference_spelling (reference to))) }
     ensures grows { vec_capacity out.old ≤ vec_capacity out.new }
-    ensures is { IsReference (reference to) }
 {
     put_object_identifier(Class::Context, 0, to.object, out)?;
     put_unsigned(Class::Context, 1, u64::from(to.property), out)?;
@@ -79,7 +73,6 @@ pub(crate) fn put_reference(to: PropertyReference, out: &mut Vec<u8>) -> Result<
 pub(crate) fn put_values(values: &[u8], out: &mut Vec<u8>) -> Result<(), NoMemory>
     ensures ok { OnOk result (out.new.items ≡ out.old.items ++ enclosed_spelling 3 values.now) }
     ensures len { OnOk result (vec_len out.new ≡ vec_len out.old + length (enclosed_spelling 3 values.now)) }
-    ensures kept { Begins out.old.items out.new.items }
     ensures full { OnErr result (vec_capacity out.old < vec_len out.old + length (enclosed_spelling 3 values.now)) }
     ensures grows { vec_capacity out.old ≤ vec_capacity out.new }
 {
@@ -91,11 +84,8 @@ pub(crate) fn put_values(values: &[u8], out: &mut Vec<u8>) -> Result<(), NoMemor
 fn put_start(start: i64, content: Content<'_>, out: &mut Vec<u8>) -> Result<(), NoMemory>
     ensures ok { OnOk result (out.new.items ≡ out.old.items ++ content_spelling start content.entry.octets.now) }
     ensures len { OnOk result (vec_len out.new ≡ vec_len out.old + length (content_spelling start content.entry.octets.now)) }
-    ensures kept { Begins out.old.items out.new.items }
     ensures full { OnErr result (vec_capacity out.old < vec_len out.old + length (content_spelling start content.entry.octets.now)) }
     ensures grows { vec_capacity out.old ≤ vec_capacity out.new }
-    ensures start_fits { distance start < 2 ^ 63 }
-    ensures content_fits { length content.entry.octets.now < 2 ^ 32 }
 {
     put_signed(Class::Application, 3, start, out)?;
     put_primitive(Class::Application, 6, content.octets, out)
@@ -109,7 +99,6 @@ pub(crate) fn put_content(
 ) -> Result<(), NoMemory>
     ensures ok { OnOk result (out.new.items ≡ out.old.items ++ enclosed_spelling 0 (content_spelling start content.entry.octets.now)) }
     ensures len { OnOk result (vec_len out.new ≡ vec_len out.old + length (enclosed_spelling 0 (content_spelling start content.entry.octets.now))) }
-    ensures kept { Begins out.old.items out.new.items }
     ensures full { OnErr result (vec_capacity out.old < vec_len out.old + length (enclosed_spelling 0 (content_spelling start content.entry.octets.now))) }
     ensures grows { vec_capacity out.old ≤ vec_capacity out.new }
 {
@@ -123,11 +112,9 @@ fn put_file_read(read: FileRead<Content<'_>>, out: &mut Vec<u8>) -> Result<(), N
         (PlainFileRead read.entry.end_of_file read.entry.start read.entry.content.octets.now)) }
     ensures len { OnOk result (vec_len out.new
         ≡ vec_len out.old + length (answer_spelling (PlainFileRead read.entry.end_of_file read.entry.start read.entry.content.octets.now))) }
-    ensures kept { Begins out.old.items out.new.items }
     ensures full { OnErr result (vec_capacity out.old < vec_len out.old + length
         (answer_spelling (PlainFileRead read.entry.end_of_file read.entry.start read.entry.content.octets.now))) }
     ensures grows { vec_capacity out.old ≤ vec_capacity out.new }
-    ensures is { IsAnswer (PlainFileRead read.entry.end_of_file read.entry.start read.entry.content.octets.now) }
 {
     put_boolean(read.end_of_file, out)?;
     put_content(read.start, read.content, out)
@@ -136,10 +123,8 @@ fn put_file_read(read: FileRead<Content<'_>>, out: &mut Vec<u8>) -> Result<(), N
 fn put_file_written(place: FileWritten, out: &mut Vec<u8>) -> Result<(), NoMemory>
     ensures ok { OnOk result (out.new.items ≡ out.old.items ++ answer_spelling (written place)) }
     ensures len { OnOk result (vec_len out.new ≡ vec_len out.old + length (answer_spelling (written place))) }
-    ensures kept { Begins out.old.items out.new.items }
     ensures full { OnErr result (vec_capacity out.old < vec_len out.old + length (answer_spelling (written place))) }
     ensures grows { vec_capacity out.old ≤ vec_capacity out.new }
-    ensures is { IsAnswer (written place) }
 {
     match place {
         FileWritten::Stream(start) => put_signed(Class::Context, 0, start, out),
@@ -152,14 +137,10 @@ fn put_property_read(read: PropertyRead<Data<'_>>, out: &mut Vec<u8>) -> Result<
         (PlainPropertyRead (reference read.entry.reference) read.entry.values.octets.now)) }
     ensures len { OnOk result (vec_len out.new
         ≡ vec_len out.old + length (answer_spelling (PlainPropertyRead (reference read.entry.reference) read.entry.values.octets.now))) }
-    ensures kept { Begins out.old.items out.new.items }
     ensures full { OnErr result (vec_capacity out.old < vec_len out.old + length
         (answer_spelling (PlainPropertyRead (reference read.entry.reference) read.entry.values.octets.now))) }
     ensures grows { vec_capacity out.old ≤ vec_capacity out.new }
-    ensures is { IsAnswer (PlainPropertyRead (reference read.entry.reference) read.entry.values.octets.now) }
 {
-    // from here on each of the data's octets is known to be one
-    let _count = Octets::len(read.values.octets);
     put_reference(read.reference, out)?;
     put_values(read.values.octets, out)
 }
@@ -167,10 +148,8 @@ fn put_property_read(read: PropertyRead<Data<'_>>, out: &mut Vec<u8>) -> Result<
 fn put_complex(reply: Complex<'_>, out: &mut Vec<u8>) -> Result<(), NoMemory>
     ensures ok { OnOk result (out.new.items ≡ out.old.items ++ answer_spelling (complex reply.entry)) }
     ensures len { OnOk result (vec_len out.new ≡ vec_len out.old + length (answer_spelling (complex reply.entry))) }
-    ensures kept { Begins out.old.items out.new.items }
     ensures full { OnErr result (vec_capacity out.old < vec_len out.old + length (answer_spelling (complex reply.entry))) }
     ensures grows { vec_capacity out.old ≤ vec_capacity out.new }
-    ensures is { IsAnswer (complex reply.entry) }
 {
     match reply {
         AnyComplex::FileRead(read) => put_file_read(read, out),
@@ -180,17 +159,12 @@ fn put_complex(reply: Complex<'_>, out: &mut Vec<u8>) -> Result<(), NoMemory>
 }
 
 /// Appends the service data of a ComplexACK in their one spelling (clause 21), or answers `NoMemory` and changes nothing.
-#[tactic(auto, using(crate::proofs::Spelled::complex_spelled))]
 pub fn write_reply(reply: Complex<'_>, out: &mut Vec<u8>) -> Result<(), NoMemory>
     ensures ok { OnOk result (out.new.items ≡ out.old.items ++ answer_spelling (complex reply.entry)) }
     ensures err { OnErr result (out.new.items ≡ out.old.items) }
     ensures full { OnErr result (vec_capacity out.old < vec_len out.old + length (answer_spelling (complex reply.entry))) }
     ensures spelled { SpellsComplex (complex_choice_of (complex reply.entry)) (complex reply.entry) (answer_spelling (complex reply.entry)) }
 {
-    let before = out.len();
-    let written = put_complex(reply, out);
-    if written.is_err() {
-        out.truncate(before);
-    }
-    written
+    out.reserve(reply_len(reply))?;
+    put_complex(reply, out)
 }

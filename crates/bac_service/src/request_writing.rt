@@ -1,6 +1,5 @@
 //! Writing requests.
 ghost use Rattle.std.specs.Prelude.{◌≡◌, ◌+◌, ◌++◌, ◌<◌, ◌≤◌, ◌^◌, OnOk, OnErr, length, vec_len, vec_capacity};
-ghost use Rattle.bac_value.specs.Octets.{Begins};
 ghost use Rattle.bac_service.specs.Spellings.{enclosed_spelling, extent_spelling, read_access_spelling, records_spelling, write_access_spelling};
 ghost use Rattle.bac_service.specs.Spellings.{priority_spelling, request_spelling};
 ghost use Rattle.bac_service.specs.Requests.{SpellsRequest};
@@ -21,7 +20,6 @@ use bac_value::{Class, Data, NoMemory, put_object_identifier, put_signed, put_un
 fn put_extent(start: i64, count: u64, out: &mut Vec<u8>) -> Result<(), NoMemory>
     ensures ok { OnOk result (out.new.items ≡ out.old.items ++ extent_spelling start count) }
     ensures len { OnOk result (vec_len out.new ≡ vec_len out.old + length (extent_spelling start count)) }
-    ensures kept { Begins out.old.items out.new.items }
     ensures full { OnErr result (vec_capacity out.old < vec_len out.old + length (extent_spelling start count)) }
     ensures grows { vec_capacity out.old ≤ vec_capacity out.new }
 {
@@ -39,7 +37,6 @@ fn put_enclosed_extent(
     requires { number < 255 }
     ensures ok { OnOk result (out.new.items ≡ out.old.items ++ enclosed_spelling number (extent_spelling start count)) }
     ensures len { OnOk result (vec_len out.new ≡ vec_len out.old + length (enclosed_spelling number (extent_spelling start count))) }
-    ensures kept { Begins out.old.items out.new.items }
     ensures full { OnErr result (vec_capacity out.old < vec_len out.old + length (enclosed_spelling number (extent_spelling start count))) }
     ensures grows { vec_capacity out.old ≤ vec_capacity out.new }
 {
@@ -51,7 +48,6 @@ fn put_enclosed_extent(
 fn put_read_access(access: ReadAccess, out: &mut Vec<u8>) -> Result<(), NoMemory>
     ensures ok { OnOk result (out.new.items ≡ out.old.items ++ read_access_spelling (read_access access)) }
     ensures len { OnOk result (vec_len out.new ≡ vec_len out.old + length (read_access_spelling (read_access access))) }
-    ensures kept { Begins out.old.items out.new.items }
     ensures full { OnErr result (vec_capacity out.old < vec_len out.old + length (read_access_spelling (read_access access))) }
     ensures grows { vec_capacity out.old ≤ vec_capacity out.new }
 {
@@ -65,7 +61,6 @@ fn put_read_access(access: ReadAccess, out: &mut Vec<u8>) -> Result<(), NoMemory
 fn put_run(start: i64, records: Records<'_>, out: &mut Vec<u8>) -> Result<(), NoMemory>
     ensures ok { OnOk result (out.new.items ≡ out.old.items ++ records_spelling start records.entry.count records.entry.run.now) }
     ensures len { OnOk result (vec_len out.new ≡ vec_len out.old + length (records_spelling start records.entry.count records.entry.run.now)) }
-    ensures kept { Begins out.old.items out.new.items }
     ensures full { OnErr result (vec_capacity out.old < vec_len out.old + length (records_spelling start records.entry.count records.entry.run.now)) }
     ensures grows { vec_capacity out.old ≤ vec_capacity out.new }
 {
@@ -80,7 +75,6 @@ fn put_records(write: WriteRecords<Records<'_>>, out: &mut Vec<u8>) -> Result<()
         (records_spelling write.entry.start write.entry.records.count write.entry.records.run.now)) }
     ensures len { OnOk result (vec_len out.new
         ≡ vec_len out.old + length (enclosed_spelling 1 (records_spelling write.entry.start write.entry.records.count write.entry.records.run.now))) }
-    ensures kept { Begins out.old.items out.new.items }
     ensures full { OnErr result (vec_capacity out.old < vec_len out.old + length
         (enclosed_spelling 1 (records_spelling write.entry.start write.entry.records.count write.entry.records.run.now))) }
     ensures grows { vec_capacity out.old ≤ vec_capacity out.new }
@@ -96,7 +90,6 @@ fn put_write_access(
 ) -> Result<(), NoMemory>
     ensures ok { OnOk result (out.new.items ≡ out.old.items ++ write_access_spelling (write_access lent access.entry)) }
     ensures len { OnOk result (vec_len out.new ≡ vec_len out.old + length (write_access_spelling (write_access lent access.entry))) }
-    ensures kept { Begins out.old.items out.new.items }
     ensures full { OnErr result (vec_capacity out.old < vec_len out.old + length (write_access_spelling (write_access lent access.entry))) }
     ensures grows { vec_capacity out.old ≤ vec_capacity out.new }
 {
@@ -109,7 +102,6 @@ fn put_write_access(
 fn put_priority(priority: Option<Priority>, out: &mut Vec<u8>) -> Result<(), NoMemory>
     ensures ok { OnOk result (out.new.items ≡ out.old.items ++ priority_spelling (number_of priority)) }
     ensures len { OnOk result (vec_len out.new ≡ vec_len out.old + length (priority_spelling (number_of priority))) }
-    ensures kept { Begins out.old.items out.new.items }
     ensures full { OnErr result (vec_capacity out.old < vec_len out.old + length (priority_spelling (number_of priority))) }
     ensures grows { vec_capacity out.old ≤ vec_capacity out.new }
 {
@@ -122,7 +114,6 @@ fn put_priority(priority: Option<Priority>, out: &mut Vec<u8>) -> Result<(), NoM
 fn put_read_file(read: ReadFile, out: &mut Vec<u8>) -> Result<(), NoMemory>
     ensures ok { OnOk result (out.new.items ≡ out.old.items ++ request_spelling (PlainReadFile (object_id read.file) (read_access read.access))) }
     ensures len { OnOk result (vec_len out.new ≡ vec_len out.old + length (request_spelling (PlainReadFile (object_id read.file) (read_access read.access)))) }
-    ensures kept { Begins out.old.items out.new.items }
     ensures full { OnErr result (vec_capacity out.old < vec_len out.old + length
         (request_spelling (PlainReadFile (object_id read.file) (read_access read.access)))) }
     ensures grows { vec_capacity out.old ≤ vec_capacity out.new }
@@ -139,7 +130,6 @@ fn put_write_file(
         (PlainWriteFile (object_id write.entry.file) (write_access lent write.entry.access))) }
     ensures len { OnOk result (vec_len out.new
         ≡ vec_len out.old + length (request_spelling (PlainWriteFile (object_id write.entry.file) (write_access lent write.entry.access)))) }
-    ensures kept { Begins out.old.items out.new.items }
     ensures full { OnErr result (vec_capacity out.old < vec_len out.old + length
         (request_spelling (PlainWriteFile (object_id write.entry.file) (write_access lent write.entry.access)))) }
     ensures grows { vec_capacity out.old ≤ vec_capacity out.new }
@@ -154,7 +144,6 @@ fn put_write_property(write: WriteProperty<Data<'_>>, out: &mut Vec<u8>) -> Resu
     ensures len { OnOk result (vec_len out.new
         ≡ vec_len out.old + length (request_spelling
         (PlainWriteProperty (reference write.entry.reference) write.entry.values.octets.now (number_of write.entry.priority)))) }
-    ensures kept { Begins out.old.items out.new.items }
     ensures full { OnErr result (vec_capacity out.old < vec_len out.old + length
         (request_spelling (PlainWriteProperty (reference write.entry.reference) write.entry.values.octets.now (number_of write.entry.priority)))) }
     ensures grows { vec_capacity out.old ≤ vec_capacity out.new }
@@ -167,7 +156,6 @@ fn put_write_property(write: WriteProperty<Data<'_>>, out: &mut Vec<u8>) -> Resu
 fn put_request(request: Request<'_>, out: &mut Vec<u8>) -> Result<(), NoMemory>
     ensures ok { OnOk result (out.new.items ≡ out.old.items ++ request_spelling (seen lent request.entry)) }
     ensures len { OnOk result (vec_len out.new ≡ vec_len out.old + length (request_spelling (seen lent request.entry))) }
-    ensures kept { Begins out.old.items out.new.items }
     ensures full { OnErr result (vec_capacity out.old < vec_len out.old + length (request_spelling (seen lent request.entry))) }
     ensures grows { vec_capacity out.old ≤ vec_capacity out.new }
 {
@@ -187,10 +175,5 @@ pub fn write_request(request: Request<'_>, out: &mut Vec<u8>) -> Result<(), NoMe
     ensures spelled { SpellsRequest (choice_of (seen lent request.entry)) (seen lent request.entry) (request_spelling (seen lent request.entry)) }
 {
     out.reserve(request_len(request))?;
-    let before = out.len();
-    let written = put_request(request, out);
-    if written.is_err() {
-        out.truncate(before);
-    }
-    written
+    put_request(request, out)
 }

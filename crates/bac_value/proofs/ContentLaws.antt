@@ -1,20 +1,16 @@
 -- Reading the contents of a kind takes exactly the contents that values of that kind have.
-use Rattle.std.proofs.Common.{◌≡◌, ℕ, ◌+◌, ◌*◌, ◌/◌, ◌%◌, ◌^◌, List, ◌++◌, length, Ok, refl, ap, subst, ◌∙◌, arith}
+use Rattle.std.proofs.Common.{◌≡◌, ◌<◌, ℕ, ◌+◌, ◌*◌, ◌/◌, ◌%◌, ◌^◌, List, ◌++◌, length, Ok, refl, ap, subst, ◌∙◌, arith}
 use Rattle.std.specs.Int.{w32, from_be_bytes}
 use Rattle.std.proofs.lemmas.Bool.{eqb-true}
 use Rattle.bac_value.specs.Octets.{IsBytes}
 use Rattle.bac_value.specs.Number.{number_in, signed_in}
 use Rattle.bac_value.specs.Value.{Datum, unsigned, signed, enumerated, object, ObjectId, kind_number, IsContents, IsNumber, IsObject}
-use Rattle.bac_value.specs.Reading.{◌>>=◌, kind_at, number_at, signed_at, object_at}
-use Rattle.bac_value.proofs.Steps.{bind_ok, ok_is, IsExact}
+use Rattle.bac_value.specs.Element.{AreOfKind, HasContents}
+use Rattle.bac_value.specs.Reading.{◌>>=◌, IsExact, kind_at, number_at, signed_at, object_at}
+use Rattle.bac_value.proofs.Steps.{bind_ok, ok_is}
 use Rattle.bac_value.proofs.Tags.{wide32}
 use Rattle.bac_value.proofs.RightContents.{between, no_fault, unsigned_of, signed_of, four, object_in, object_meant, kind_again, IsRight}
-use Rattle.bac_value.proofs.Elements.{kind_front, right_again}
-
--- contents of one kind and length, as what reading them gives
-pub record HasContents {Y : Type 0} (datum_of : Y → Datum) (k : ℕ) (y : Y) (text : List ℕ) : Type 0 where
-  pub are : IsContents (datum_of y) text
-  pub len : length text ≡ k
+use Rattle.bac_value.proofs.Elements.{kind_front, kind_of, right_again}
 
 -- ---- what is read
 
@@ -75,9 +71,12 @@ pub object_exact : (k : ℕ) → IsExact (object_at k) (HasContents object k)
 unfolding object_at
 object_exact k = exact_kind 12 k object_in object (λ y. refl) object_right_of object_again
 
--- contents of a kind, read as raw octets
-pub octets_exact : (k : ℕ) → IsExact (kind_at 6 k) (λ y text. (text ≡ y) × (length text ≡ k))
-octets_exact k = record {
-  takes = λ bytes x fits e. let f = kind_front 6 k bytes x fits e in (x.0, f.raw.took.parts, (refl, f.raw.len));
-  again = λ y text rest h. right_again 6 k text rest h.1 (record { len = refl; none = refl }) ∙ ap (λ (xs : List ℕ). Ok (xs, rest)) h.0;
+-- contents of a kind, read as octets
+pub kind_exact : (n k : ℕ) → n < 13 → IsExact (kind_at n k) (AreOfKind n k)
+kind_exact n k lt = record {
+  takes = λ bytes x fits e.
+      let f = kind_front n k bytes x fits e in (x.0, f.raw.took.parts, record { is = refl; len = f.raw.len; kind = kind_of n k bytes x lt f });
+  again = λ y text rest h.
+      let r = subst (λ i. IsRight i text) h.kind.1 (kind_again h.kind.0 text h.kind.2) in
+      right_again n k text rest h.len r ∙ ap (λ (xs : List ℕ). Ok (xs, rest)) h.is;
 }

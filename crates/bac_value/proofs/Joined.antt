@@ -4,7 +4,7 @@ use Rattle.std.proofs.Common.{◌∙◌, append_assoc, arith, subst, inl, inr}
 use Rattle.std.specs.Global.{Vec}
 use Rattle.std.proofs.lemmas.Bool.{cases_lt}
 use Rattle.std.proofs.lemmas.List.{take_more, drop_more, append-nil, get_or_append_left, get_or-append_right, take_all, length-drop}
-use Rattle.std.proofs.lemmas.List.{drop-append-le, take-append-le, length-take, drop_at, length-append, drop-take, drop-drop}
+use Rattle.std.proofs.lemmas.List.{drop-append-le, take-append-le, drop_at, length-append, drop-take, drop-drop}
 use Rattle.bac_value.specs.Octets.{IsBytes, joined}
 use Rattle.bac_value.proofs.Steps.{IsBytes-drop}
 
@@ -78,11 +78,6 @@ copied ps i d old new total skip left over here lt o h is same =
     ap (λ (l : List ℕ). take left (drop skip l)) (joined_rest ps i d lt) ∙ part_of p r skip left over here o h in
     ap (λ (l : List ℕ). l ++ take (left - here) (drop (skip - over) r)) is
     ∙ append_assoc old (take here (drop over p)) (take (left - here) (drop (skip - over) r)) ∙ ap (λ (l : List ℕ). old ++ l) (sym e) ∙ same
-
-pub begins_more : (old out new x : List ℕ) → take (length old) out ≡ old → new ≡ out ++ x → take (length old) new ≡ old
-begins_more old out new x b e =
-    let len : length old ≤ length out = omega (arith, ap length b, length-take (length old) out) in
-    ap (take (length old)) e ∙ take-append-le (length old) out x len ∙ b
 
 -- a part that is left behind
 pub left_behind : (ps behind : List (Vec ℕ)) (v : Vec ℕ) (text total : List ℕ) (skip k len : ℕ) → ps ≡ v ∷ behind → text ≡ v.items → k ≡ length text → k ≤ skip

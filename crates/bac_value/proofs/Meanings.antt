@@ -1,6 +1,6 @@
 -- Elements with right contents of a kind are one value.
-use Rattle.std.proofs.Common.{◌≡◌, ℕ, false, List, length, Option, Some, None, refl, sym, ap, subst, ◌∙◌, IsTrue, not, ltb, eqb}
-use Rattle.std.specs.Prelude.{is_some}
+use Rattle.std.proofs.Common.{◌≡◌, ℕ, false, List, length, Option, Some, None, Result, Ok, Err, refl, sym, ap, subst, ◌∙◌, IsTrue, not, ltb, eqb}
+use Rattle.std.specs.Prelude.{is_some, OnErr}
 use Rattle.std.proofs.lemmas.Bool.{and_parts, not-true, eqb-false}
 use Rattle.bac_value.specs.declared.tag.Class.{Class}
 use Rattle.bac_value.specs.declared.tag.Class.TheVariants.{Application}
@@ -57,3 +57,7 @@ meant_is n c f xs d k fits is_class is_form len bytes right none same =
 pub is_none : {A : Type 0} (o : Option A) → is_some o ≡ false → o ≡ None
 is_none None e = refl
 is_none (Some x) e = absurd cc
+
+pub on_err : {T E P : Type 0} (r : Result T E) → P → OnErr r P
+on_err (Ok x) p = tt
+on_err (Err e) p = p

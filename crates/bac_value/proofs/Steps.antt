@@ -7,6 +7,7 @@ use Rattle.std.proofs.lemmas.List.{append_cancel_right}
 use Rattle.bac_value.specs.declared.fault.FaultKind.{FaultKind}
 use Rattle.bac_value.specs.Octets.{IsBytes}
 use Rattle.bac_value.specs.Reading.{◌>>=◌, IsFound, IsRefused}
+pub use Rattle.bac_value.specs.Reading.{IsExact}
 
 pub IsBytes-drop : (n : ℕ) (bytes : List ℕ) → IsBytes bytes → IsBytes (drop n bytes)
 IsBytes-drop n bytes h i = rw get_or-drop (h (n + i))
@@ -49,11 +50,6 @@ pub record Takes (bytes text rest : List ℕ) : Type 0 where
 
 pub Takes-then : (a x b y c : List ℕ) → Takes a x b → Takes b y c → Takes a (x ++ y) c
 Takes-then a x b y c p q = record { parts = p.parts ∙ ap (λ (t : List ℕ). x ++ t) q.parts ∙ sym (append_assoc x y c); rest_fits = q.rest_fits }
-
--- a reading on lists that takes exactly the spellings
-pub record IsExact {Y : Type 0} (read : List ℕ → Result (Y × List ℕ) FaultKind) (Spells : Y → List ℕ → Type 0) : Type 0 where
-  pub takes : (bytes : List ℕ) (x : Y × List ℕ) → IsBytes bytes → read bytes ≡ Ok x → (text : List ℕ) × (bytes ≡ text ++ x.1) × Spells x.0 text
-  pub again : (y : Y) (text rest : List ℕ) → Spells y text → read (text ++ rest) ≡ Ok (y, rest)
 
 pub found : {Y : Type 0} (read : List ℕ → Result (Y × List ℕ) FaultKind) (Spells : Y → List ℕ → Type 0) → IsExact read Spells
     → (bytes rest : List ℕ) (k : ℕ) (y : Y) → IsBytes bytes

@@ -16,6 +16,17 @@ pub record Part : Type 0 where
 abbrev pub IsOfKind : ℕ → List ℕ → Type 0
 IsOfKind n xs = (d : Datum) × (kind_number d ≡ n) × IsContents d xs
 
+-- so many octets, which are the contents of a value of this kind
+pub record AreOfKind (n k : ℕ) (xs text : List ℕ) : Type 0 where
+  pub is : text ≡ xs
+  pub len : length text ≡ k
+  pub kind : IsOfKind n text
+
+-- so many octets, which are the contents of the value that this is
+pub record HasContents {Y : Type 0} (datum_of : Y → Datum) (k : ℕ) (y : Y) (text : List ℕ) : Type 0 where
+  pub are : IsContents (datum_of y) text
+  pub len : length text ≡ k
+
 -- what a context tag has behind it is raw; an application tag has a value's contents
 abbrev pub IsOfClass : Class → ℕ → List ℕ → Type 0
 IsOfClass Application n xs = IsOfKind n xs

@@ -1,5 +1,5 @@
 -- The value that an element is.
-use Rattle.std.specs.Prelude.{◌≡◌, ℕ, ◌/◌, ◌%◌, ◌^◌, true, ◌==◌, if◌then◌else◌, List, length, drop, slice_index}
+use Rattle.std.specs.Prelude.{◌≡◌, ℕ, ◌/◌, ◌%◌, ◌^◌, true, ◌==◌, if◌then◌else◌, List, [], length, drop, slice_index}
 use Rattle.bac_value.specs.Number.{number_in, signed_in}
 use Rattle.bac_value.specs.Value.{Datum, null, boolean, unsigned, signed, real, double, octets, characters, bits, enumerated, date, time}
 use Rattle.bac_value.specs.Value.{object, mark_for, IsContents}
@@ -9,6 +9,13 @@ use Rattle.bac_value.specs.Element.{Part}
 pub record IsValueOf (d : Datum) (p : Part) : Type 0 where
   pub tag : p.mark ≡ mark_for d (length p.contents)
   pub contents : IsContents d p.contents
+
+-- the octets that a value holds in memory of its own
+abbrev pub copied : Datum → List ℕ
+copied (octets a) = a
+copied (characters set text) = text
+copied (bits unused text) = text
+copied _ = []
 
 -- the value in contents of a kind that are right
 abbrev pub datum_in : ℕ → List ℕ → Datum

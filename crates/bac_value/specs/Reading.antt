@@ -1,6 +1,6 @@
 -- Reading from left to right, on lists alone: what a reader answers, and which fault it finds first.
 -- That these answers are exactly the spellings are laws beside the readers in code.
-use Rattle.std.specs.Prelude.{◌≡◌, ℕ, zero, suc, ◌/◌, ◌%◌, ◌≤◌, ◌^◌, ℤ, slice_index, List, [], ◌∷◌, ◌++◌, length, take, drop, Option, Some}
+use Rattle.std.specs.Prelude.{◌≡◌, ℕ, zero, suc, ◌-◌, ◌/◌, ◌%◌, ◌≤◌, ◌^◌, ℤ, slice_index, List, [], ◌∷◌, ◌++◌, length, take, drop, Option, Some}
 use Rattle.std.specs.Prelude.{None, Result, Ok, Err, Bool, true, false, nat_lt, ◌==◌, ◌&&◌, ◌||◌, if◌then◌else◌}
 use Rattle.std.specs.Int.{Width, w16, w32, byte_len, from_be_bytes}
 use Rattle.bac_value.specs.declared.fault.FaultKind.{FaultKind}
@@ -11,6 +11,7 @@ use Rattle.bac_value.specs.declared.tag.Class.{Class}
 use Rattle.bac_value.specs.declared.tag.Class.TheVariants.{Application, Context}
 use Rattle.bac_value.specs.declared.tag.Form.{Form}
 use Rattle.bac_value.specs.declared.tag.Form.TheVariants.{Length, Boolean, Opening, Closing}
+use Rattle.bac_value.specs.Octets.{IsBytes}
 use Rattle.bac_value.specs.Limits.{bits_fit}
 use Rattle.bac_value.specs.Spelling.{Mark}
 use Rattle.bac_value.specs.Number.{number_in, signed_in}
@@ -38,6 +39,11 @@ pub record IsFound {Y : Type 0} (read : List ℕ → Result (Y × List ℕ) Faul
 pub record IsRefused {Y : Type 0} (read : List ℕ → Result (Y × List ℕ) FaultKind) (Spells : Y → List ℕ → Type 0) (bytes : List ℕ) (e : FaultKind) : Type 0 where
   pub none : (y : Y) (k : ℕ) → Spells y (take k bytes) → ⊥
   pub exact : read bytes ≡ Err e
+
+-- reading answers a value where a spelling of it stands in front, and only there
+pub record IsExact {Y : Type 0} (read : List ℕ → Result (Y × List ℕ) FaultKind) (Spells : Y → List ℕ → Type 0) : Type 0 where
+  pub takes : (bytes : List ℕ) (x : Y × List ℕ) → IsBytes bytes → read bytes ≡ Ok x → (text : List ℕ) × (bytes ≡ text ++ x.1) × Spells x.0 text
+  pub again : (y : Y) (text rest : List ℕ) → Spells y text → read (text ++ rest) ≡ Ok (y, rest)
 
 -- ---- tags (clause 20.2.1)
 
@@ -185,6 +191,10 @@ abbrev pub goes_on : {A : Type 0} → Option (List ℕ × List ℕ) → A → (L
 goes_on None stop on = stop
 goes_on (Some s) stop on = on s.0 s.1
 
+abbrev pub rest_of_step : {A : Type 0} → Result (Option (List ℕ × List ℕ)) FaultKind → A → (List ℕ → List ℕ → A) → A
+rest_of_step (Ok s) stop on = goes_on s stop on
+rest_of_step (Err e) stop on = stop
+
 -- what is left behind data, with so many elements at most; data that end inside an opened tag are Truncated
 unfoldable pub data_at : ℕ → List ℕ → List ℕ → Result (List ℕ) FaultKind
 data_at zero opened bytes = Err Truncated
@@ -196,6 +206,16 @@ data_at (suc steps) opened (b ∷ bytes) = do
 
 abbrev pub data_of : List ℕ → Result (List ℕ) FaultKind
 data_of bytes = data_at (suc (length bytes)) [] bytes
+
+-- what is left where reading data finds a fault: the octets from the faulty element on, or none for data that end inside an opened tag
+unfoldable pub fault_rest : ℕ → List ℕ → List ℕ → List ℕ
+fault_rest zero opened bytes = bytes
+fault_rest (suc steps) opened [] = []
+fault_rest (suc steps) opened (b ∷ bytes) = rest_of_step (step_at opened (b ∷ bytes)) (b ∷ bytes) (λ o rest. fault_rest steps o rest)
+
+-- how many octets are before a fault in data
+abbrev pub fault_place : List ℕ → ℕ
+fault_place bytes = length bytes - length (fault_rest (suc (length bytes)) [] bytes)
 
 -- what a turn of the code did
 abbrev pub Turns : List ℕ → Result Bool FaultKind → Result (Option (List ℕ)) FaultKind → Type 0
@@ -212,7 +232,7 @@ Steps rest new (Err e) r = r ≡ Err e
 -- what reading data answered, with a place among the octets
 abbrev pub ReadsData : {R : Type 0} → (R → List ℕ) → List ℕ → Result R Fault → Result (List ℕ) FaultKind → Type 0
 ReadsData rest bytes (Ok r) read = (length (rest r) ≤ length bytes) × (read ≡ Ok (rest r))
-ReadsData rest bytes (Err e) read = (e.at ≤ length bytes) × (read ≡ Err e.kind)
+ReadsData rest bytes (Err e) read = (e.at ≤ length bytes) × (read ≡ Err e.kind) × (e.at ≡ fault_place bytes)
 
 -- data stand in front, up to the end or a closing tag
 pub record IsDataTaken (bytes text rest : List ℕ) : Type 0 where
@@ -226,3 +246,4 @@ pub record IsDataRefused (bytes : List ℕ) (e : Fault) : Type 0 where
   pub none : (k : ℕ) → IsDataFront bytes k → ⊥
   pub exact : data_of bytes ≡ Err e.kind
   pub place : e.at ≤ length bytes
+  pub at_fault : e.at ≡ fault_place bytes

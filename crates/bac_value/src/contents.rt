@@ -1,10 +1,13 @@
-ghost use Rattle.std.specs.Prelude.{◌≡◌, ◌<◌, ◌≤◌, ◌+◌, ◌-◌, ◌%◌, ◌^◌, ◌==◌, ◌&&◌, ◌∷◌, length, drop, take, slice_index, MatchOption, IfOk};
+ghost use Rattle.std.specs.Prelude.{◌≡◌, ℕ, ◌<◌, ◌≤◌, ◌+◌, ◌-◌, ◌%◌, ◌^◌, ◌==◌, ◌&&◌, ◌∷◌, length, drop, take, slice_index, MatchOption, IfOk};
 ghost use Rattle.std.specs.Prelude.{IsTrue, true};
-ghost use Rattle.bac_value.specs.Limits.{bits_fit};
-ghost use Rattle.bac_value.specs.Reading.{Reads, raw_at, kind_at, class_at, contents_at, length_in, flaw, is_longer_unsigned, is_longer_signed};
+ghost use Rattle.bac_value.specs.Element.{AreOfKind, HasContents};
+ghost use Rattle.bac_value.specs.Limits.{bits_fit, length_tag_fits};
+ghost use Rattle.bac_value.specs.Reading.{Reads, IsExact, number_at, signed_at, object_at, raw_at, kind_at, class_at, contents_at, length_in, flaw, is_longer_unsigned, is_longer_signed};
+ghost use Rattle.bac_value.specs.Value.{unsigned, enumerated, signed, object};
 ghost use Rattle.bac_value.specs.Views.{mark};
 
 use crate::fault::FaultKind;
+use crate::kinds;
 use crate::octets::Octets;
 use crate::tag::{Class, Form, Tag};
 
@@ -12,12 +15,12 @@ pub(crate) fn is_length_in(kind: u8, len: usize) -> bool
     ensures { result ≡ length_in kind len }
 {
     match kind {
-        0 | 1 => len == 0,
-        2 | 3 => len > 0 && len < 9,
-        5 => len == 8,
-        6 => true,
-        7 | 8 => len > 0,
-        9 => len > 0 && len < 5,
+        kinds::NULL | kinds::BOOLEAN => len == 0,
+        kinds::UNSIGNED | kinds::SIGNED => len > 0 && len < 9,
+        kinds::DOUBLE => len == 8,
+        kinds::OCTET_STRING => true,
+        kinds::CHARACTER_STRING | kinds::BIT_STRING => len > 0,
+        kinds::ENUMERATED => len > 0 && len < 5,
         _ => len == 4,
     }
 }
@@ -92,13 +95,14 @@ fn is_bit_string<O: Octets>(contents: O) -> bool
 pub(crate) fn flaw_in<O: Octets>(contents: O, kind: u8) -> Option<FaultKind>
     ensures { result ≡ flaw kind (O.octets contents) }
 {
-    let flaw = match kind {
-        2 | 9 => is_unsigned_longer(contents).then_some(FaultKind::NotShortest),
-        3 => is_signed_longer(contents).then_some(FaultKind::NotShortest),
-        8 => (!is_bit_string(contents)).then_some(FaultKind::ReservedBits),
+    match kind {
+        kinds::UNSIGNED | kinds::ENUMERATED => {
+            is_unsigned_longer(contents).then_some(FaultKind::NotShortest)
+        }
+        kinds::SIGNED => is_signed_longer(contents).then_some(FaultKind::NotShortest),
+        kinds::BIT_STRING => (!is_bit_string(contents)).then_some(FaultKind::ReservedBits),
         _ => None,
-    };
-    flaw
+    }
 }
 
 #[tactic(auto, unfolding(crate::specs::Reading::raw_at))]
@@ -112,12 +116,13 @@ fn take_raw<O: Octets>(octets: O, len: usize) -> Result<(O, O), FaultKind>
     Ok(octets.split(len))
 }
 
-/// `len` octets of contents of the kind of an application tag's number, and what is behind them.
+/// `len` octets of contents of a kind (one of `kinds`), and what is behind them.
 ///
 /// This is how the contents of a context tag are read whose type is known. The length is tested first (`BadLength`), then that
 /// the octets are there (`Truncated`), then the octets themselves (`NotShortest`, `ReservedBits`).
 #[tactic(auto, unfolding(crate::specs::Reading::kind_at))]
 pub fn take_contents<O: Octets>(octets: O, kind: u8, len: usize) -> Result<(O, O), FaultKind>
+    requires { kind < 13 }
     ensures reads { Reads O.octets O.octets (O.octets octets) result (kind_at kind len) }
     ensures sized { IfOk result (λ r. (length (O.octets r.0) ≡ len) × IsTrue (length_in kind len)) }
 {
@@ -131,6 +136,18 @@ pub fn take_contents<O: Octets>(octets: O, kind: u8, len: usize) -> Result<(O, O
     }
 }
 
+/// What reading contents takes: octets that values of a kind have as contents, and no others (clauses 20.2.2 to 20.2.14).
+///
+/// `take_contents` is `kinds`; `take_unsigned`, `take_enumerated`, `take_signed` and `take_object_identifier` are the others,
+/// which give the value that has these contents.
+pub fn exact_contents()
+    ensures kinds { (n len : ℕ) → n < 13 → IsExact (kind_at n len) (AreOfKind n len) }
+    ensures unsigned { (len : ℕ) → IsExact (number_at 2 len) (HasContents unsigned len) }
+    ensures enumerated { (len : ℕ) → IsExact (number_at 9 len) (HasContents enumerated len) }
+    ensures signed { (len : ℕ) → IsExact (signed_at len) (HasContents signed len) }
+    ensures object { (len : ℕ) → IsExact (object_at len) (HasContents object len) }
+{}
+
 #[tactic(auto, unfolding(crate::specs::Reading::class_at))]
 fn contents_of_class<O: Octets>(
     octets: O,
@@ -138,6 +155,7 @@ fn contents_of_class<O: Octets>(
     number: u8,
     len: usize,
 ) -> Result<(O, O), FaultKind>
+    requires { IsTrue (length_tag_fits number class) }
     ensures { Reads O.octets O.octets (O.octets octets) result (class_at class number len) }
 {
     match class {

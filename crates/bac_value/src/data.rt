@@ -2,7 +2,7 @@ ghost use Rattle.std.specs.Prelude.{◌≡◌, ◌<◌, length, IfOk, OnErr};
 ghost use Rattle.bac_value.specs.Data.{IsData};
 
 use crate::memory::NoMemory;
-use crate::octets::Octets;
+use crate::octets::{Octets, copy_of};
 use std::alloc::Global;
 
 /// Octets that are data: whole elements, each opened tag closed by its own number, at most 8 open at once. May be empty.
@@ -26,9 +26,8 @@ impl DataBuf {
         ensures same { IfOk result (λ copy. copy.octets.items ≡ O.octets octets) }
         ensures full { OnErr result (0 < length (O.octets octets)) }
     {
-        let mut copy = Vec::new(alloc);
-        octets.append_to(&mut copy)?;
-        Ok(DataBuf { octets: copy })
+        let octets = copy_of(alloc, octets)?;
+        Ok(DataBuf { octets })
     }
 
     /// Lends the data.

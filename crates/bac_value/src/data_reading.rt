@@ -1,6 +1,6 @@
-ghost use Rattle.std.specs.Prelude.{◌≡◌, ◌<◌, ◌≤◌, ◌+◌, ◌-◌, length, drop, take, reverse, IfOk, IfErr, IfSome, ℕ, List};
+ghost use Rattle.std.specs.Prelude.{◌≡◌, ◌<◌, ◌≤◌, ◌+◌, ◌-◌, length, drop, take, reverse, IfOk, IfErr, IfSome, Err, ℕ, List};
 ghost use Rattle.arrayvec.specs.ArrayVec.{array_vec_len};
-ghost use Rattle.bac_value.specs.Reading.{turn, Turns, ReadsData, Steps, step_at, data_of, IsDataTaken, IsDataRefused};
+ghost use Rattle.bac_value.specs.Reading.{turn, Turns, ReadsData, Steps, step_at, data_of, fault_place, IsDataTaken, IsDataRefused};
 ghost use Rattle.bac_value.specs.Data.{IsDataFront};
 
 use crate::data::Data;
@@ -87,7 +87,7 @@ pub fn take_data<O: Octets>(octets: O) -> Result<(O, O), Fault>
 {
     let all = octets.len();
     match data_end(octets) {
-        Ok(rest) => Ok((octets.split(all - rest.len()).0, rest)),
+        Ok(rest) => Ok((octets.front(all - rest.len()), rest)),
         Err(fault) => Err(fault),
     }
 }
@@ -96,6 +96,7 @@ pub fn take_data<O: Octets>(octets: O) -> Result<(O, O), Fault>
 pub fn read_data(octets: &[u8]) -> Result<(Data<'_>, usize), Fault>
     ensures found { IfOk result (λ r. (r.1 ≤ length octets.now) × IsDataFront octets.now r.1 × (r.0.octets.now ≡ take r.1 octets.now)) }
     ensures refused { IfErr result (λ e. (k : ℕ) → IsDataFront octets.now k → ⊥) }
+    ensures exact { IfErr result (λ e. (data_of octets.now ≡ Err e.kind) × (e.at ≡ fault_place octets.now)) }
     ensures place { IfErr result (λ e. e.at ≤ length octets.now) }
 {
     let (data, _) = take_data(octets)?;

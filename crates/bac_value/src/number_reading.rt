@@ -5,6 +5,7 @@ ghost use Rattle.bac_value.specs.Views.{object_id};
 
 use crate::contents::take_contents;
 use crate::fault::FaultKind;
+use crate::kinds;
 use crate::number_width::greatest_in;
 use crate::octets::Octets;
 use crate::value::ObjectIdentifier;
@@ -53,7 +54,7 @@ pub(crate) fn signed_of<O: Octets>(octets: O) -> i64
 pub fn take_unsigned<O: Octets>(octets: O, len: usize) -> Result<(u64, O), FaultKind>
     ensures { Reads (λ n. n) O.octets (O.octets octets) result (number_at 2 len) }
 {
-    let (contents, rest) = take_contents(octets, 2, len)?;
+    let (contents, rest) = take_contents(octets, kinds::UNSIGNED, len)?;
     Ok((number_of(contents), rest))
 }
 
@@ -62,7 +63,7 @@ pub fn take_unsigned<O: Octets>(octets: O, len: usize) -> Result<(u64, O), Fault
 pub fn take_enumerated<O: Octets>(octets: O, len: usize) -> Result<(u32, O), FaultKind>
     ensures { Reads (λ n. n) O.octets (O.octets octets) result (number_at 9 len) }
 {
-    let (contents, rest) = take_contents(octets, 9, len)?;
+    let (contents, rest) = take_contents(octets, kinds::ENUMERATED, len)?;
     let number = number_of(contents);
     Ok((number as u32, rest))
 }
@@ -72,7 +73,7 @@ pub fn take_enumerated<O: Octets>(octets: O, len: usize) -> Result<(u32, O), Fau
 pub fn take_signed<O: Octets>(octets: O, len: usize) -> Result<(i64, O), FaultKind>
     ensures { Reads (λ z. z) O.octets (O.octets octets) result (signed_at len) }
 {
-    let (contents, rest) = take_contents(octets, 3, len)?;
+    let (contents, rest) = take_contents(octets, kinds::SIGNED, len)?;
     Ok((signed_of(contents), rest))
 }
 
@@ -97,6 +98,6 @@ pub fn take_object_identifier<O: Octets>(
 ) -> Result<(ObjectIdentifier, O), FaultKind>
     ensures { Reads object_id O.octets (O.octets octets) result (object_at len) }
 {
-    let (contents, rest) = take_contents(octets, 12, len)?;
+    let (contents, rest) = take_contents(octets, kinds::OBJECT_IDENTIFIER, len)?;
     Ok((object_of(contents), rest))
 }

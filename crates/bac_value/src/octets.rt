@@ -4,6 +4,7 @@ ghost use Rattle.bac_value.specs.Reading.{Reads, octet_at};
 
 use crate::fault::FaultKind;
 use crate::memory::NoMemory;
+use std::alloc::Global;
 
 /// Octets that are read from the front: a slice, or pieces seen as joined. A value is a place among them, and a copy keeps it.
 pub trait Octets: Copy {
@@ -17,6 +18,11 @@ pub trait Octets: Copy {
     /// The first octet, and what is behind it.
     fn first(self) -> Option<(u8, Self)>
         ensures { MatchOption result (octets self ≡ []) (λ r. octets self ≡ r.0 ∷ octets r.1) };
+
+    /// The first `count` octets.
+    fn front(self, count: usize) -> Self
+        requires { count ≤ length (octets self) }
+        ensures { octets result ≡ take count (octets self) };
 
     /// The first `count` octets, and what is behind them.
     fn split(self, count: usize) -> (Self, Self)
@@ -45,6 +51,10 @@ impl Octets for &[u8] {
         }
     }
 
+    fn front(self, count: usize) -> Self {
+        &self[..count]
+    }
+
     fn split(self, count: usize) -> (Self, Self) {
         (&self[..count], &self[count..])
     }
@@ -53,6 +63,16 @@ impl Octets for &[u8] {
         out.extend_from_slice(self)?;
         Ok(())
     }
+}
+
+/// A copy of the octets with its own memory, in one allocation where there are octets, otherwise in none.
+pub fn copy_of<O: Octets>(alloc: Global, octets: O) -> Result<Vec<u8>, NoMemory>
+    ensures same { IfOk result (λ copy. copy.items ≡ O.octets octets) }
+    ensures full { OnErr result (0 < length (O.octets octets)) }
+{
+    let mut copy = Vec::new(alloc);
+    octets.append_to(&mut copy)?;
+    Ok(copy)
 }
 
 pub(crate) fn slice_len(octets: &[u8]) -> usize

@@ -1,5 +1,5 @@
 ghost use Rattle.std.specs.Prelude.{◌≡◌, ◌<◌, ◌≤◌, ◌+◌, ◌-◌, ◌++◌, ◌^◌, ◌↔◌, length, take, drop, min, IsSome, IfSome, IfOk, OnOk, OnErr, vec_len, vec_capacity};
-ghost use Rattle.bac_value.specs.Octets.{IsBytes, joined, Begins};
+ghost use Rattle.bac_value.specs.Octets.{IsBytes, joined};
 ghost use Rattle.bac_value.specs.Views.{octets_in};
 
 use crate::memory::NoMemory;
@@ -64,7 +64,7 @@ fn append_pieces(
 ) -> Result<(), NoMemory>
     requires { at + len ≤ length (joined parts.now) }
     ensures ok { OnOk result (out.new.items ≡ out.old.items ++ take len (drop at (joined parts.now))) }
-    ensures kept { Begins out.old.items out.new.items }
+    ensures err { OnErr result (out.new.items ≡ out.old.items) }
     ensures full { OnErr result (vec_capacity out.old < vec_len out.old + len) }
 {
     out.reserve(len)?;
@@ -98,24 +98,22 @@ impl Octets for Parts<'_> {
         Some((first, settled(self.parts, self.skip + 1, self.len - 1)))
     }
 
-    fn split(self, count: usize) -> (Self, Self) {
-        let front = Parts {
+    fn front(self, count: usize) -> Self {
+        Parts {
             parts: self.parts,
             skip: self.skip,
             len: count,
-        };
+        }
+    }
+
+    fn split(self, count: usize) -> (Self, Self) {
         (
-            front,
+            self.front(count),
             settled(self.parts, self.skip + count, self.len - count),
         )
     }
 
     fn append_to(self, out: &mut Vec<u8>) -> Result<(), NoMemory> {
-        let before = out.len();
-        let copied = append_pieces(self.parts, self.skip, self.len, out);
-        if copied.is_err() {
-            out.truncate(before);
-        }
-        copied
+        append_pieces(self.parts, self.skip, self.len, out)
     }
 }

@@ -1,6 +1,6 @@
 ghost use Rattle.std.specs.Prelude.{◌≡◌, ◌<◌, ◌≤◌, ◌+◌, ◌++◌, ℕ, length, take, drop, IfOk, IfErr, OnOk, OnErr, MatchResult, Ok, Err, vec_len, vec_capacity};
 ghost use Rattle.bac_value.specs.Data.{IsDataFront};
-ghost use Rattle.bac_value.specs.Reading.{tag_at, data_of};
+ghost use Rattle.bac_value.specs.Reading.{tag_at, data_of, fault_place};
 ghost use Rattle.bac_value.specs.Spelling.{Mark, SpellsTag};
 ghost use Rattle.bac_value.specs.Views.{mark, octets_in};
 
@@ -33,7 +33,7 @@ pub fn check_data_at(parts: &Parts<'_>, at: usize) -> Result<usize, Fault>
     requires { at ≤ length (octets_in parts.now) }
     ensures found { IfOk result (λ k. (at + k ≤ length (octets_in parts.now)) × IsDataFront (drop at (octets_in parts.now)) k) }
     ensures refused { IfErr result (λ e. (k : ℕ) → IsDataFront (drop at (octets_in parts.now)) k → ⊥) }
-    ensures exact { IfErr result (λ e. data_of (drop at (octets_in parts.now)) ≡ Err e.kind) }
+    ensures exact { IfErr result (λ e. (data_of (drop at (octets_in parts.now)) ≡ Err e.kind) × (e.at ≡ at + fault_place (drop at (octets_in parts.now)))) }
     ensures place { IfErr result (λ e. (at ≤ e.at) × (e.at ≤ length (octets_in parts.now))) }
 {
     let (_, behind) = parts.split(at);
@@ -54,6 +54,5 @@ pub fn copy_out(parts: &Parts<'_>, at: usize, len: usize, out: &mut Vec<u8>) -> 
     ensures full { OnErr result (vec_capacity out.old < vec_len out.old + len) }
 {
     let (_, behind) = parts.split(at);
-    let (octets, _) = behind.split(len);
-    octets.append_to(out)
+    behind.front(len).append_to(out)
 }

@@ -1,6 +1,8 @@
 ghost use Rattle.std.specs.Prelude.{◌≡◌, ◌↔◌, IsTrue, IsSome, IfSome, true};
 ghost use Rattle.bac_value.specs.Limits.{tag_fits};
 
+use crate::kinds;
+
 /// The class of a tag (clause 20.2.1.1).
 #[derive(Clone, Copy, Debug, PartialEq, Eq)]
 pub enum Class {
@@ -37,8 +39,8 @@ impl Tag {
         ensures same { IfSome result (λ t. (t.number ≡ number) × (t.class ≡ class) × (t.form ≡ form)) }
     {
         let fits = match (class, form) {
-            (Class::Application, Form::Length(_)) => number < 13 && number != 1,
-            (Class::Application, Form::Boolean(_)) => number == 1,
+            (Class::Application, Form::Length(_)) => number < 13 && number != kinds::BOOLEAN,
+            (Class::Application, Form::Boolean(_)) => number == kinds::BOOLEAN,
             (Class::Application, _) => false,
             (Class::Context, Form::Boolean(_)) => false,
             (Class::Context, _) => number < 255,

@@ -6,6 +6,7 @@ ghost use Rattle.bac_value.specs.Spelling.{Mark, SpellsTag};
 ghost use Rattle.bac_value.specs.Views.{mark};
 
 use crate::fault::{Fault, FaultKind};
+use crate::kinds;
 use crate::octets::{Octets, octet};
 use crate::tag::{Class, Form, Tag};
 
@@ -106,7 +107,7 @@ fn application_tag<O: Octets>(octets: O, low: u8, number: u8) -> Result<(Tag, O)
     if number > 12 {
         return Err(FaultKind::ReservedTag);
     }
-    if number == 1 {
+    if number == kinds::BOOLEAN {
         if low > 1 {
             return Err(FaultKind::BadLength);
         }

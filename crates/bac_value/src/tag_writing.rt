@@ -1,6 +1,6 @@
 ghost use Rattle.std.specs.Prelude.{◌≡◌, ◌<◌, ◌≤◌, ◌+◌, ◌++◌, ◌^◌, OnOk, OnErr, length, vec_len, vec_capacity};
 ghost use Rattle.bac_value.specs.Octets.{Begins};
-ghost use Rattle.bac_value.specs.Spelling.{class_bit, form_bits, form_octets, length_octets, number_octets, number_bits, tag_spelling};
+ghost use Rattle.bac_value.specs.Spelling.{class_bit, length_fits, form_bits, form_octets, length_octets, number_octets, number_bits, tag_spelling, SpellsTag};
 ghost use Rattle.bac_value.specs.Views.{mark};
 
 use crate::memory::NoMemory;
@@ -9,6 +9,7 @@ use crate::tag::{Class, Form, Tag};
 fn bits_of(form: Form) -> u8
     ensures value { result ≡ form_bits form }
     ensures small { result < 8 }
+    ensures fits { length_fits form }
 {
     match form {
         Form::Length(len) => { if len < 5 { len as u8 } else { 5 } }
@@ -43,6 +44,7 @@ fn put_length(len: u32, out: &mut Vec<u8>) -> Result<(), NoMemory>
 /// Appends the one spelling of a tag. After an `Err` the old octets are a front of what is there.
 #[tactic(auto, unfolding(crate::specs::Spelling::tag_spelling))]
 pub fn put_tag(tag: &Tag, out: &mut Vec<u8>) -> Result<(), NoMemory>
+    ensures spelled { SpellsTag (mark tag.now) (tag_spelling (mark tag.now)) }
     ensures ok { OnOk result (out.new.items ≡ out.old.items ++ tag_spelling (mark tag.now)) }
     ensures len { OnOk result (vec_len out.new ≡ vec_len out.old + length (tag_spelling (mark tag.now))) }
     ensures kept { Begins out.old.items out.new.items }
@@ -66,6 +68,7 @@ pub fn put_tag(tag: &Tag, out: &mut Vec<u8>) -> Result<(), NoMemory>
 
 /// Appends the one spelling of a tag, or changes nothing.
 pub fn write_tag(tag: &Tag, out: &mut Vec<u8>) -> Result<(), NoMemory>
+    ensures spelled { SpellsTag (mark tag.now) (tag_spelling (mark tag.now)) }
     ensures ok { OnOk result (out.new.items ≡ out.old.items ++ tag_spelling (mark tag.now)) }
     ensures err { OnErr result (out.new.items ≡ out.old.items) }
     ensures full { OnErr result (vec_capacity out.old < vec_len out.old + length (tag_spelling (mark tag.now))) }

@@ -1,15 +1,16 @@
 ghost use Rattle.std.specs.Prelude.{◌≡◌, ◌<◌, ◌≤◌, ◌+◌, ◌∷◌, ◌^◌, ◌≢◌, length, slice_index, drop, IsTrue, None, IfOk, OnErr, MatchOption};
 ghost use Rattle.bac_value.specs.Element.{IsOfKind};
-ghost use Rattle.bac_value.specs.Meaning.{IsValueOf, datum_in};
+ghost use Rattle.bac_value.specs.Meaning.{IsValueOf, copied, datum_in};
 ghost use Rattle.bac_value.specs.Reading.{length_in, flaw};
 ghost use Rattle.bac_value.specs.Value.{Datum, kind_number, IsContents};
 ghost use Rattle.bac_value.specs.Views.{datum, part};
 
 use crate::contents::{flaw_in, is_length_in};
 use crate::element::Element;
+use crate::kinds;
 use crate::memory::NoMemory;
 use crate::number_reading::{number_of, object_of, signed_of};
-use crate::octets::Octets;
+use crate::octets::{Octets, copy_of};
 use crate::tag::{Class, Form};
 use crate::value::{BitString, CharacterString, OctetString, Value};
 use std::alloc::Global;
@@ -30,19 +31,10 @@ fn array_of<O: Octets, const N: usize>(octets: O) -> [u8; N]
     array
 }
 
-fn copy_of<O: Octets>(alloc: Global, octets: O) -> Result<Vec<u8>, NoMemory>
-    ensures same { IfOk result (λ copy. copy.items ≡ O.octets octets) }
-    ensures full { OnErr result (0 < length (O.octets octets)) }
-{
-    let mut copy = Vec::new(alloc);
-    octets.append_to(&mut copy)?;
-    Ok(copy)
-}
-
 fn octet_string<O: Octets>(alloc: Global, contents: O) -> Result<Value, NoMemory>
     requires { length (O.octets contents) < 2 ^ 32 }
     ensures value { IfOk result (λ v. datum v ≡ datum_in 6 (O.octets contents)) }
-    ensures full { OnErr result (0 < length (O.octets contents)) }
+    ensures full { OnErr result (0 < length (copied (datum_in 6 (O.octets contents)))) }
 {
     let octets = copy_of(alloc, contents)?;
     Ok(Value::OctetString(OctetString { octets }))
@@ -52,7 +44,7 @@ fn character_string<O: Octets>(alloc: Global, contents: O) -> Result<Value, NoMe
     requires some { 0 < length (O.octets contents) }
     requires fits { length (O.octets contents) < 2 ^ 32 }
     ensures value { IfOk result (λ v. datum v ≡ datum_in 7 (O.octets contents)) }
-    ensures full { OnErr result (0 < length (O.octets contents)) }
+    ensures full { OnErr result (0 < length (copied (datum_in 7 (O.octets contents)))) }
 {
     let Some((set, text)) = contents.first() else {
         unreachable!()
@@ -66,7 +58,7 @@ fn bit_string<O: Octets>(alloc: Global, contents: O) -> Result<Value, NoMemory>
     requires fits { length (O.octets contents) < 2 ^ 32 }
     requires right { flaw 8 (O.octets contents) ≡ None }
     ensures value { IfOk result (λ v. datum v ≡ datum_in 8 (O.octets contents)) }
-    ensures full { OnErr result (0 < length (O.octets contents)) }
+    ensures full { OnErr result (0 < length (copied (datum_in 8 (O.octets contents)))) }
 {
     let Some((unused, octets)) = contents.first() else {
         unreachable!()
@@ -83,20 +75,20 @@ fn value_of_kind<O: Octets>(alloc: Global, kind: u8, contents: O) -> Result<Valu
     requires sized { IsTrue (length_in kind (length (O.octets contents))) }
     requires right { flaw kind (O.octets contents) ≡ None }
     ensures value { IfOk result (λ v. datum v ≡ datum_in kind (O.octets contents)) }
-    ensures full { OnErr result (0 < length (O.octets contents)) }
+    ensures full { OnErr result (0 < length (copied (datum_in kind (O.octets contents)))) }
 {
     match kind {
-        0 => Ok(Value::Null),
-        2 => Ok(Value::Unsigned(number_of(contents))),
-        3 => Ok(Value::Signed(signed_of(contents))),
-        4 => Ok(Value::Real(array_of(contents))),
-        5 => Ok(Value::Double(array_of(contents))),
-        6 => octet_string(alloc, contents),
-        7 => character_string(alloc, contents),
-        8 => bit_string(alloc, contents),
-        9 => Ok(Value::Enumerated(number_of(contents) as u32)),
-        10 => Ok(Value::Date(array_of(contents))),
-        11 => Ok(Value::Time(array_of(contents))),
+        kinds::NULL => Ok(Value::Null),
+        kinds::UNSIGNED => Ok(Value::Unsigned(number_of(contents))),
+        kinds::SIGNED => Ok(Value::Signed(signed_of(contents))),
+        kinds::REAL => Ok(Value::Real(array_of(contents))),
+        kinds::DOUBLE => Ok(Value::Double(array_of(contents))),
+        kinds::OCTET_STRING => octet_string(alloc, contents),
+        kinds::CHARACTER_STRING => character_string(alloc, contents),
+        kinds::BIT_STRING => bit_string(alloc, contents),
+        kinds::ENUMERATED => Ok(Value::Enumerated(number_of(contents) as u32)),
+        kinds::DATE => Ok(Value::Date(array_of(contents))),
+        kinds::TIME => Ok(Value::Time(array_of(contents))),
         _ => Ok(Value::ObjectIdentifier(object_of(contents))),
     }
 }
@@ -107,7 +99,7 @@ fn value_of_kind<O: Octets>(alloc: Global, kind: u8, contents: O) -> Result<Valu
 pub fn value_of<O: Octets>(alloc: Global, element: Element<O>) -> Result<Option<Value>, NoMemory>
     ensures value { IfOk result (λ o. MatchOption o ((d : Datum) → IsValueOf d (part O.octets element) → ⊥)
         (λ v. IsValueOf (datum v) (part O.octets element))) }
-    ensures full { OnErr result (0 < length (O.octets element.contents)) }
+    ensures full { OnErr result ((d : Datum) × IsValueOf d (part O.octets element) × (0 < length (copied d))) }
 {
     let len = element.contents.len();
     match (element.tag.class, element.tag.form) {

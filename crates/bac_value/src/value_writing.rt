@@ -8,6 +8,7 @@ ghost use Rattle.bac_value.specs.Value.{Datum, boolean, mark_for, IsValue, Spell
 ghost use Rattle.bac_value.specs.Writing.{primitive, object_octets, value_spelling, AppendsValue};
 ghost use Rattle.bac_value.specs.Views.{datum, object_id};
 
+use crate::kinds;
 use crate::memory::NoMemory;
 use crate::number_width::{complement_of, distance_of, octets_of, signed_octets_of};
 use crate::tag::{Class, Form, Tag};
@@ -121,7 +122,7 @@ pub fn put_boolean(value: bool, out: &mut Vec<u8>) -> Result<(), NoMemory>
     ensures grows { vec_capacity out.old ≤ vec_capacity out.new }
 {
     let tag = Tag {
-        number: 1,
+        number: kinds::BOOLEAN,
         class: Class::Application,
         form: Form::Boolean(value),
     };
@@ -160,19 +161,29 @@ pub fn put_value(value: &Value, out: &mut Vec<u8>) -> Result<(), NoMemory>
 {
     let class = Class::Application;
     match value {
-        Value::Null => put_primitive(class, 0, &[], out),
+        Value::Null => put_primitive(class, kinds::NULL, &[], out),
         Value::Boolean(value) => put_boolean(*value, out),
-        Value::Unsigned(number) => put_unsigned(class, 2, *number, out),
-        Value::Signed(number) => put_signed(class, 3, *number, out),
-        Value::Real(octets) => put_primitive(class, 4, octets, out),
-        Value::Double(octets) => put_primitive(class, 5, octets, out),
-        Value::OctetString(string) => put_primitive(class, 6, &string.octets, out),
-        Value::CharacterString(string) => put_with_octet(7, string.set, &string.text, out),
-        Value::BitString(string) => put_with_octet(8, string.unused, &string.octets, out),
-        Value::Enumerated(number) => put_unsigned(class, 9, u64::from(*number), out),
-        Value::Date(octets) => put_primitive(class, 10, octets, out),
-        Value::Time(octets) => put_primitive(class, 11, octets, out),
-        Value::ObjectIdentifier(id) => put_object_identifier(class, 12, *id, out),
+        Value::Unsigned(number) => put_unsigned(class, kinds::UNSIGNED, *number, out),
+        Value::Signed(number) => put_signed(class, kinds::SIGNED, *number, out),
+        Value::Real(octets) => put_primitive(class, kinds::REAL, octets, out),
+        Value::Double(octets) => put_primitive(class, kinds::DOUBLE, octets, out),
+        Value::OctetString(string) => {
+            put_primitive(class, kinds::OCTET_STRING, &string.octets, out)
+        }
+        Value::CharacterString(string) => {
+            put_with_octet(kinds::CHARACTER_STRING, string.set, &string.text, out)
+        }
+        Value::BitString(string) => {
+            put_with_octet(kinds::BIT_STRING, string.unused, &string.octets, out)
+        }
+        Value::Enumerated(number) => {
+            put_unsigned(class, kinds::ENUMERATED, u64::from(*number), out)
+        }
+        Value::Date(octets) => put_primitive(class, kinds::DATE, octets, out),
+        Value::Time(octets) => put_primitive(class, kinds::TIME, octets, out),
+        Value::ObjectIdentifier(id) => {
+            put_object_identifier(class, kinds::OBJECT_IDENTIFIER, *id, out)
+        }
     }
 }
 

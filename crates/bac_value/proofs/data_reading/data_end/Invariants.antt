@@ -1,5 +1,5 @@
-use Rattle.std.proofs.Common.{◌≡◌, ◌<◌, ◌≤◌, ℕ, length, reverse}
-use Rattle.bac_value.specs.Reading.{data_at, data_of}
+use Rattle.std.proofs.Common.{◌≡◌, ◌<◌, ◌≤◌, ℕ, suc, [], length, reverse}
+use Rattle.bac_value.specs.Reading.{data_at, data_of, fault_rest}
 use Rattle.bac_value.proofs.data_reading.data_end.Given as goal
 
 abbrev pub invariant-loop-opened : goal.invariant-loop-opened
@@ -7,7 +7,8 @@ invariant-loop-opened g l =
     let octets = g.O.Octets.octets in
     record {
       fewer : length (octets l.rest) ≤ length (octets l.fn.octets);
-      same : (steps : ℕ) × (length (octets l.rest) < steps) × (data_at steps (reverse l.opened.items) (octets l.rest) ≡ data_of (octets l.fn.octets));
+      same : (steps : ℕ) × (length (octets l.rest) < steps) × (data_at steps (reverse l.opened.items) (octets l.rest) ≡ data_of (octets l.fn.octets))
+          × (fault_rest steps (reverse l.opened.items) (octets l.rest) ≡ fault_rest (suc (length (octets l.fn.octets))) [] (octets l.fn.octets));
     }
 
 abbrev pub decreases-loop-opened : goal.decreases-loop-opened

@@ -1,7 +1,7 @@
 use Rattle.std.proofs.Common.{arith, ◌≡◌, ◌+◌, ◌-◌, ◌++◌, min, length, take, drop, get_or, ap, ◌∙◌, length-append, ℕ}
 use Rattle.std.specs.Global.{Vec}
 use Rattle.bac_value.specs.Octets.{joined}
-use Rattle.bac_value.proofs.Joined.{copied, joined_rest, begins_more}
+use Rattle.bac_value.proofs.Joined.{copied, joined_rest}
 use Rattle.bac_value.proofs.parts_octets.append_pieces.Goals as goal
 
 pub loop-part-preserved : goal.loop-part-preserved
@@ -30,6 +30,5 @@ loop-part-preserved c =
         length-append (get_or ps i p).items (joined (drop (i + 1) ps)),
       );
       same = copied ps i p c.loop-part.out.items c.append_piece.new.out.items _ skip left over here c.loop-part-test.true o h is inv.same;
-      kept = begins_more c.args.out.now.items c.loop-part.out.items c.append_piece.new.out.items _ inv.kept is;
       ample = omega (arith, inv.ample, h, c.in_ok-here.ensures.len, c.append_piece.ensures.grows);
     }

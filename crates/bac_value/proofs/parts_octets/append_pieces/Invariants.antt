@@ -1,12 +1,10 @@
 use Rattle.std.proofs.Common.{◌≡◌, ◌+◌, ◌++◌, ◌≤◌, length, take, drop, vec_len, vec_capacity}
 use Rattle.bac_value.specs.Octets.{joined}
-use Rattle.bac_value.specs.Octets.{Begins}
 use Rattle.bac_value.proofs.parts_octets.append_pieces.Given as goal
 
 abbrev pub invariant-loop-part : goal.invariant-loop-part
 invariant-loop-part l = record {
   room : l.skip + l.left ≤ length (joined (drop l.part-index l.parts));
   same : l.out.items ++ take l.left (drop l.skip (joined (drop l.part-index l.parts))) ≡ l.fn.out.items ++ take l.len (drop l.at (joined l.parts));
-  kept : Begins l.fn.out.items l.out.items;
   ample : vec_len l.out + l.left ≤ vec_capacity l.out;
 }
