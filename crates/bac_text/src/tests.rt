@@ -458,7 +458,7 @@ fn tells_that_the_output_lacks_memory(rt: HostRuntime) {
     let mut err = Vec::new(rt.alloc());
     let status = decode_over(rt.alloc(), "", &mut out, &mut err);
     assert_eq!(rt; status, Status::Memory);
-    assert_eq!(rt; err.as_slice(), b"no memory\n");
+    assert_eq!(rt; err.as_slice(), b"no memory\n".as_slice());
 }
 
 /// A file that gives one line and then fails.
@@ -490,7 +490,7 @@ fn tells_that_the_input_failed(rt: HostRuntime) -> Result<(), Fail> {
         let status = check_over(rt.alloc(), &mut input, &mut out, &mut err);
         assert_eq!(rt; out.as_slice(), lines.as_bytes());
         assert_eq!(rt; status, Status::CommandLine);
-        assert_eq!(rt; err.as_slice(), b"cannot read\n");
+        assert_eq!(rt; err.as_slice(), b"cannot read\n".as_slice());
     }
     Ok(())
 }
