@@ -11,7 +11,7 @@ use crate::request::{
 use crate::value::{Content, Records};
 use bac_value::OctetString;
 
-fn content_of(string: &OctetString) -> Content<'_>
+fn lent_content(string: &OctetString) -> Content<'_>
     ensures { result.octets.now ≡ string.now.octets.items }
 {
     Content {
@@ -19,14 +19,14 @@ fn content_of(string: &OctetString) -> Content<'_>
     }
 }
 
-fn access_of(
+fn lent_access(
     access: &WriteAccess<OctetString, OwnedRecords>,
 ) -> WriteAccess<Content<'_>, Records<'_>>
     ensures { write_access lent result ≡ write_access owned access.now }
 {
     match access {
         WriteAccess::Stream(write) => {
-            let content = content_of(&write.content);
+            let content = lent_content(&write.content);
             let start = write.start;
             WriteAccess::Stream(WriteStream { start, content })
         }
@@ -46,7 +46,7 @@ impl OwnedRequest {
         match self {
             AnyRequest::ReadFile(read) => AnyRequest::ReadFile(*read),
             AnyRequest::WriteFile(write) => {
-                let access = access_of(&write.access);
+                let access = lent_access(&write.access);
                 let file = write.file;
                 AnyRequest::WriteFile(WriteFile { file, access })
             }
@@ -70,7 +70,7 @@ impl OwnedComplex {
     {
         match self {
             AnyComplex::FileRead(read) => {
-                let content = content_of(&read.content);
+                let content = lent_content(&read.content);
                 AnyComplex::FileRead(FileRead {
                     end_of_file: read.end_of_file,
                     start: read.start,

@@ -1,19 +1,16 @@
 //! How many octets service data have, without writing them.
 ghost use Rattle.std.specs.Prelude.{◌≡◌, ◌+◌, ◌<◌, ◌≤◌, ◌^◌, length};
 ghost use Rattle.bac_value.specs.Number.{distance};
-ghost use Rattle.bac_value.specs.Views.{object_id};
 ghost use Rattle.bac_service.specs.Lengths.{member_length, unsigned_length, signed_length, reference_length, index_length, content_length, extent_length};
 ghost use Rattle.bac_service.specs.Lengths.{read_access_length, write_access_length, priority_length, request_length, answer_length};
 ghost use Rattle.bac_service.specs.Members.{AreStrings};
 ghost use Rattle.bac_service.specs.Replies.{SpellsComplex};
 ghost use Rattle.bac_service.specs.Requests.{SpellsRequest};
-ghost use Rattle.bac_service.specs.Spellings.{request_spelling, answer_spelling, IsReference, IsExtent, IsReadAccess, IsWriteAccess, IsUrgency, IsFile};
+ghost use Rattle.bac_service.specs.Spellings.{request_spelling, answer_spelling, IsReference, IsExtent, IsReadAccess, IsWriteAccess, IsUrgency};
 ghost use Rattle.bac_service.specs.Spellings.{IsRequest, IsAnswer};
 ghost use Rattle.bac_service.specs.Values.{choice_of, complex_choice_of};
-ghost use Rattle.bac_service.specs.Values.Complex.{FileRead as PlainFileRead, PropertyRead as PlainPropertyRead};
-ghost use Rattle.bac_service.specs.Values.Request.{WriteProperty as PlainWriteProperty};
 ghost use Rattle.bac_service.specs.Values.WriteAccess.{WriteRecords as PlainWriteRecords};
-ghost use Rattle.bac_service.specs.Views.{reference, number_of, read_access, write_access, seen, lent, written, complex, request};
+ghost use Rattle.bac_service.specs.Views.{reference, number_of, read_access, write_access, seen, lent, complex, request};
 
 use crate::reply::{AnyComplex, Complex, FileRead, FileWritten, PropertyRead};
 use crate::request::{AnyRequest, ReadAccess, Request, WriteAccess, WriteProperty, WriteRecords};
@@ -135,15 +132,7 @@ fn priority_len(priority: Option<Priority>) -> usize
     }
 }
 
-fn write_property_len(write: WriteProperty<Data<'_>>) -> usize
-    ensures len { result ≡ request_length (PlainWriteProperty (reference write.entry.reference) write.entry.values.octets.now
-        (number_of write.entry.priority)) }
-    ensures is { IsRequest (PlainWriteProperty (reference write.entry.reference) write.entry.values.octets.now (number_of write.entry.priority)) }
-{
-    let values = Octets::len(write.values.octets) + PAIR_LEN;
-    reference_len(write.reference) + values + priority_len(write.priority)
-}
-
+#[tactic(auto, using(crate::proofs::Spelled::whole_data))]
 fn members_len(request: Request<'_>) -> usize
     ensures len { result ≡ request_length (seen lent request.entry) }
     ensures is { IsRequest (seen lent request.entry) }
@@ -152,7 +141,10 @@ fn members_len(request: Request<'_>) -> usize
         AnyRequest::ReadFile(read) => OBJECT_LEN + read_access_len(read.access),
         AnyRequest::WriteFile(write) => OBJECT_LEN + write_access_len(write.access),
         AnyRequest::ReadProperty(reference) => reference_len(reference),
-        AnyRequest::WriteProperty(write) => write_property_len(write),
+        AnyRequest::WriteProperty(write) => {
+            let values = Octets::len(write.values.octets) + PAIR_LEN;
+            reference_len(write.reference) + values + priority_len(write.priority)
+        }
     }
 }
 
@@ -165,32 +157,19 @@ pub fn request_len(request: Request<'_>) -> usize
     members_len(request)
 }
 
-fn property_read_len(read: PropertyRead<Data<'_>>) -> usize
-    ensures len { result ≡ answer_length (PlainPropertyRead (reference read.entry.reference) read.entry.values.octets.now) }
-    ensures is { IsAnswer (PlainPropertyRead (reference read.entry.reference) read.entry.values.octets.now) }
-{
-    let values = Octets::len(read.values.octets) + PAIR_LEN;
-    reference_len(read.reference) + values
-}
-
-fn file_written_len(place: FileWritten) -> usize
-    ensures len { result ≡ answer_length (written place) }
-    ensures is { IsAnswer (written place) }
-{
-    match place {
-        FileWritten::Stream(start) => signed_member_len(start),
-        FileWritten::Records(start) => signed_member_len(start),
-    }
-}
-
+#[tactic(auto, using(crate::proofs::Spelled::whole_data))]
 fn answer_len(reply: Complex<'_>) -> usize
     ensures len { result ≡ answer_length (complex reply.entry) }
     ensures is { IsAnswer (complex reply.entry) }
 {
     match reply {
         AnyComplex::FileRead(read) => 1 + content_len(read.start, read.content),
-        AnyComplex::FileWritten(place) => file_written_len(place),
-        AnyComplex::PropertyRead(read) => property_read_len(read),
+        AnyComplex::FileWritten(FileWritten::Stream(start) | FileWritten::Records(start)) => {
+            signed_member_len(start)
+        }
+        AnyComplex::PropertyRead(read) => {
+            reference_len(read.reference) + Octets::len(read.values.octets) + PAIR_LEN
+        }
     }
 }
 

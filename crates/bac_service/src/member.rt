@@ -1,8 +1,8 @@
 //! Members one by one: a tag that is looked at first, and then the contents behind it.
-ghost use Rattle.std.specs.Prelude.{◌≡◌, ◌≤◌, ◌<◌, ◌==◌, ◌&&◌, ◌-◌, length, take, IfOk, MatchResult, Some, None, Ok};
-ghost use Rattle.bac_value.specs.Views.{mark, object_id};
-ghost use Rattle.bac_value.specs.Reading.{tag_at, number_at, signed_at, object_at, kind_at};
-ghost use Rattle.bac_service.specs.Reading.{Reads, kept, announced, head_at, member_at, is_next, is_opened, is_opening, is_closing, tag_that, opening_at};
+ghost use Rattle.std.specs.Prelude.{◌≡◌, ◌≤◌, ◌<◌, ◌==◌, ◌&&◌, ◌-◌, length, IfOk, MatchResult, Some, None, Ok};
+ghost use Rattle.bac_value.specs.Views.{mark};
+ghost use Rattle.bac_value.specs.Reading.{tag_at};
+ghost use Rattle.bac_service.specs.Reading.{Reads, kept, announced, head_at, is_next, is_opened, tag_that, opening_at};
 ghost use Rattle.bac_service.specs.Reading.{closing_at, values_at};
 
 use crate::stop::{Stop, Why};
@@ -22,7 +22,7 @@ pub(crate) fn tag<O: Octets>(octets: O) -> Result<(Tag, O), Stop>
             } else {
                 Why::Fault(kind)
             };
-            Err(Stop { why, left })
+            Err(Stop::new(why, left))
         }
     }
 }
@@ -51,10 +51,7 @@ pub(crate) fn head<O: Octets>(octets: O, class: Class, number: u8) -> Result<(us
     let (tag, rest) = tag(octets)?;
     match announced_by(tag, class, number) {
         Some(len) => Ok((len, rest)),
-        None => Err(Stop {
-            why: Why::Unexpected,
-            left,
-        }),
+        None => Err(Stop::new(Why::Unexpected, left)),
     }
 }
 
@@ -76,25 +73,7 @@ pub(crate) fn opens_next<O: Octets>(octets: O, number: u8) -> Result<bool, Stop>
     ensures { MatchResult result (λ b. is_opened number (O.octets octets) ≡ Some b) (λ e. is_opened number (O.octets octets) ≡ None) }
 {
     let (tag, _) = tag(octets)?;
-    Ok(opens(tag, number))
-}
-
-fn opens(tag: Tag, number: u8) -> bool
-    ensures { result ≡ (is_opening tag.form && (number == tag.number)) }
-{
-    match tag.form {
-        Form::Opening => number == tag.number,
-        _ => false,
-    }
-}
-
-fn closes(tag: Tag, number: u8) -> bool
-    ensures { result ≡ (is_closing tag.form && (number == tag.number)) }
-{
-    match tag.form {
-        Form::Closing => number == tag.number,
-        _ => false,
-    }
+    Ok(matches!(tag.form, Form::Opening) && number == tag.number)
 }
 
 /// What is behind the opening tag of a number.
@@ -105,13 +84,9 @@ pub(crate) fn opening<O: Octets>(octets: O, number: u8) -> Result<O, Stop>
 {
     let left = octets.len();
     let (tag, rest) = tag(octets)?;
-    if opens(tag, number) {
-        Ok(rest)
-    } else {
-        Err(Stop {
-            why: Why::Unexpected,
-            left,
-        })
+    match tag.form {
+        Form::Opening if number == tag.number => Ok(rest),
+        _ => Err(Stop::new(Why::Unexpected, left)),
     }
 }
 
@@ -123,13 +98,9 @@ pub(crate) fn closing<O: Octets>(octets: O, number: u8) -> Result<O, Stop>
 {
     let left = octets.len();
     let (tag, rest) = tag(octets)?;
-    if closes(tag, number) {
-        Ok(rest)
-    } else {
-        Err(Stop {
-            why: Why::Unexpected,
-            left,
-        })
+    match tag.form {
+        Form::Closing if number == tag.number => Ok(rest),
+        _ => Err(Stop::new(Why::Unexpected, left)),
     }
 }
 
@@ -141,6 +112,6 @@ pub(crate) fn values<O: Octets>(octets: O) -> Result<(O, O), Stop>
     let left = octets.len();
     match take_data(octets) {
         Ok(read) => Ok(read),
-        Err(fault) => Err(Stop::fault(fault.kind, left.saturating_sub(fault.at))),
+        Err(fault) => Err(Stop::new(Why::Fault(fault.kind), left - fault.at)),
     }
 }

@@ -15,7 +15,7 @@ use crate::request::{
 use crate::request_reading::Found;
 use crate::run::Run;
 use crate::value::{Content, Records};
-use bac_value::{DataBuf, NoMemory, OctetString, Octets};
+use bac_value::{DataBuf, NoMemory, OctetString, Octets, copy_of};
 use std::alloc::Global;
 
 /// A request with its memory.
@@ -32,9 +32,8 @@ fn string_copy<O: Octets>(alloc: Global, octets: O) -> Result<OctetString, NoMem
     ensures same { IfOk result (λ s. s.octets.items ≡ O.octets octets) }
     ensures full { OnErr result (0 < length (O.octets octets)) }
 {
-    let mut copy = Vec::new(alloc);
-    octets.append_to(&mut copy)?;
-    Ok(OctetString { octets: copy })
+    let octets = copy_of(alloc, octets)?;
+    Ok(OctetString { octets })
 }
 
 fn access_copy<O: Octets>(

@@ -2,7 +2,7 @@ ghost use Rattle.std.specs.Prelude.{◌≡◌, ◌<◌, length, IfOk, OnErr};
 ghost use Rattle.bac_service.specs.Members.{AreStrings};
 
 use crate::value::Records;
-use bac_value::{NoMemory, Octets};
+use bac_value::{NoMemory, Octets, copy_of};
 use std::alloc::Global;
 
 /// Records of a file with their memory.
@@ -24,9 +24,8 @@ impl OwnedRecords {
         ensures same { IfOk result (λ r. (r.run.items ≡ O.octets run) × (r.count ≡ count)) }
         ensures full { OnErr result (0 < length (O.octets run)) }
     {
-        let mut copy = Vec::new(alloc);
-        run.append_to(&mut copy)?;
-        Ok(OwnedRecords { run: copy, count })
+        let run = copy_of(alloc, run)?;
+        Ok(OwnedRecords { run, count })
     }
 
     /// Lends the records.

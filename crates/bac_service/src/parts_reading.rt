@@ -1,5 +1,5 @@
 //! Reading requests and answers from octets in pieces, without joining them.
-ghost use Rattle.std.specs.Prelude.{◌≡◌, ◌≤◌, ◌↔◌, IfOk, IsErrOf, length};
+ghost use Rattle.std.specs.Prelude.{◌≤◌, ◌↔◌, IfOk, IsErrOf, length};
 ghost use Rattle.bac_value.specs.Views.{octets_in};
 ghost use Rattle.bac_service.specs.Replies.{SpellsComplex, ReplyNeedsMemory};
 ghost use Rattle.bac_service.specs.Requests.{SpellsRequest, IsUnknown, NeedsMemory};

@@ -6,17 +6,20 @@ use thiserror::Error;
 /// Why a request is rejected (clause 18.9). The number of each is its place in this list, from 0.
 #[derive(Clone, Copy, Debug, PartialEq, Eq, Error)]
 pub enum Reject {
+    /// No reader of this crate answers it.
     #[error("other")]
     Other,
+    /// No reader of this crate answers it.
     #[error("buffer overflow")]
     BufferOverflow,
     /// A count that is not the number of what it counts.
     #[error("inconsistent parameters")]
     InconsistentParameters,
-    /// Contents that no value of the member's type has.
+    /// A tag whose number or length is in a longer form than it needs, or whose low bits no tag of its number has; contents that
+    /// no value of their type has.
     #[error("invalid parameter data type")]
     InvalidParameterDataType,
-    /// A tag that is not the member's, a tag that no member has, or tags that are not balanced.
+    /// A tag that is not the member's, a reserved tag, tags that are not balanced, or a ninth tag opened.
     #[error("invalid tag")]
     InvalidTag,
     /// The octets end before the request does.
@@ -28,6 +31,7 @@ pub enum Reject {
     /// Octets behind the last member.
     #[error("too many arguments")]
     TooManyArguments,
+    /// No reader of this crate answers it.
     #[error("undefined enumeration")]
     UndefinedEnumeration,
     /// A service choice other than 6, 7, 12 and 15.

@@ -26,10 +26,7 @@ fn end_of_file<O: Octets>(octets: O) -> Result<(bool, O), Stop>
     let (tag, rest) = tag(octets)?;
     match tag.form {
         Form::Boolean(value) => Ok((value, rest)),
-        _ => Err(Stop {
-            why: Why::Unexpected,
-            left,
-        }),
+        _ => Err(Stop::new(Why::Unexpected, left)),
     }
 }
 
@@ -77,10 +74,7 @@ fn members_in<O: Octets>(service: Service, octets: O) -> Result<(Told<O>, O), St
         Service::ReadFile => file_read_in(octets),
         Service::WriteFile => file_written_in(octets),
         Service::ReadProperty => property_read_in(octets),
-        Service::WriteProperty => Err(Stop {
-            why: Why::Unexpected,
-            left: octets.len(),
-        }),
+        Service::WriteProperty => Err(Stop::new(Why::Unexpected, octets.len())),
     }
 }
 
@@ -92,10 +86,7 @@ fn complex_read<O: Octets>(service: Service, octets: O) -> Result<Told<O>, Stop>
     let (told, rest) = members_in(service, octets)?;
     match rest.len() {
         0 => Ok(told),
-        left => Err(Stop {
-            why: Why::Surplus,
-            left,
-        }),
+        left => Err(Stop::new(Why::Surplus, left)),
     }
 }
 

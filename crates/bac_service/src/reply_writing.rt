@@ -1,11 +1,10 @@
 //! Writing answers.
-ghost use Rattle.std.specs.Prelude.{◌≡◌, ◌+◌, ◌++◌, ◌<◌, ◌≤◌, ◌^◌, OnOk, OnErr, length, vec_len, vec_capacity};
+ghost use Rattle.std.specs.Prelude.{◌≡◌, ◌+◌, ◌++◌, ◌<◌, ◌≤◌, OnOk, OnErr, length, vec_len, vec_capacity};
 ghost use Rattle.bac_value.specs.Data.{opening, closing};
 ghost use Rattle.bac_service.specs.Spellings.{index_spelling, reference_spelling, content_spelling, enclosed_spelling, answer_spelling};
 ghost use Rattle.bac_service.specs.Replies.{SpellsComplex};
 ghost use Rattle.bac_service.specs.Values.{complex_choice_of};
-ghost use Rattle.bac_service.specs.Views.{reference, written, complex};
-ghost use Rattle.bac_service.specs.Values.Complex.{FileRead as PlainFileRead, PropertyRead as PlainPropertyRead};
+ghost use Rattle.bac_service.specs.Views.{reference, complex};
 
 use crate::lengths::reply_len;
 use crate::reply::{AnyComplex, Complex, FileRead, FileWritten, PropertyRead};
@@ -81,16 +80,6 @@ pub(crate) fn put_values(values: &[u8], out: &mut Vec<u8>) -> Result<(), NoMemor
     put_closing(3, out)
 }
 
-fn put_start(start: i64, content: Content<'_>, out: &mut Vec<u8>) -> Result<(), NoMemory>
-    ensures ok { OnOk result (out.new.items ≡ out.old.items ++ content_spelling start content.entry.octets.now) }
-    ensures len { OnOk result (vec_len out.new ≡ vec_len out.old + length (content_spelling start content.entry.octets.now)) }
-    ensures full { OnErr result (vec_capacity out.old < vec_len out.old + length (content_spelling start content.entry.octets.now)) }
-    ensures grows { vec_capacity out.old ≤ vec_capacity out.new }
-{
-    put_signed(Class::Application, 3, start, out)?;
-    put_primitive(Class::Application, 6, content.octets, out)
-}
-
 /// Appends a Signed and an OctetString with application tags, between a pair of tags of number 0.
 pub(crate) fn put_content(
     start: i64,
@@ -103,46 +92,9 @@ pub(crate) fn put_content(
     ensures grows { vec_capacity out.old ≤ vec_capacity out.new }
 {
     put_opening(0, out)?;
-    put_start(start, content, out)?;
+    put_signed(Class::Application, 3, start, out)?;
+    put_primitive(Class::Application, 6, content.octets, out)?;
     put_closing(0, out)
-}
-
-fn put_file_read(read: FileRead<Content<'_>>, out: &mut Vec<u8>) -> Result<(), NoMemory>
-    ensures ok { OnOk result (out.new.items ≡ out.old.items ++ answer_spelling
-        (PlainFileRead read.entry.end_of_file read.entry.start read.entry.content.octets.now)) }
-    ensures len { OnOk result (vec_len out.new
-        ≡ vec_len out.old + length (answer_spelling (PlainFileRead read.entry.end_of_file read.entry.start read.entry.content.octets.now))) }
-    ensures full { OnErr result (vec_capacity out.old < vec_len out.old + length
-        (answer_spelling (PlainFileRead read.entry.end_of_file read.entry.start read.entry.content.octets.now))) }
-    ensures grows { vec_capacity out.old ≤ vec_capacity out.new }
-{
-    put_boolean(read.end_of_file, out)?;
-    put_content(read.start, read.content, out)
-}
-
-fn put_file_written(place: FileWritten, out: &mut Vec<u8>) -> Result<(), NoMemory>
-    ensures ok { OnOk result (out.new.items ≡ out.old.items ++ answer_spelling (written place)) }
-    ensures len { OnOk result (vec_len out.new ≡ vec_len out.old + length (answer_spelling (written place))) }
-    ensures full { OnErr result (vec_capacity out.old < vec_len out.old + length (answer_spelling (written place))) }
-    ensures grows { vec_capacity out.old ≤ vec_capacity out.new }
-{
-    match place {
-        FileWritten::Stream(start) => put_signed(Class::Context, 0, start, out),
-        FileWritten::Records(start) => put_signed(Class::Context, 1, start, out),
-    }
-}
-
-fn put_property_read(read: PropertyRead<Data<'_>>, out: &mut Vec<u8>) -> Result<(), NoMemory>
-    ensures ok { OnOk result (out.new.items ≡ out.old.items ++ answer_spelling
-        (PlainPropertyRead (reference read.entry.reference) read.entry.values.octets.now)) }
-    ensures len { OnOk result (vec_len out.new
-        ≡ vec_len out.old + length (answer_spelling (PlainPropertyRead (reference read.entry.reference) read.entry.values.octets.now))) }
-    ensures full { OnErr result (vec_capacity out.old < vec_len out.old + length
-        (answer_spelling (PlainPropertyRead (reference read.entry.reference) read.entry.values.octets.now))) }
-    ensures grows { vec_capacity out.old ≤ vec_capacity out.new }
-{
-    put_reference(read.reference, out)?;
-    put_values(read.values.octets, out)
 }
 
 fn put_complex(reply: Complex<'_>, out: &mut Vec<u8>) -> Result<(), NoMemory>
@@ -152,9 +104,20 @@ fn put_complex(reply: Complex<'_>, out: &mut Vec<u8>) -> Result<(), NoMemory>
     ensures grows { vec_capacity out.old ≤ vec_capacity out.new }
 {
     match reply {
-        AnyComplex::FileRead(read) => put_file_read(read, out),
-        AnyComplex::FileWritten(place) => put_file_written(place, out),
-        AnyComplex::PropertyRead(read) => put_property_read(read, out),
+        AnyComplex::FileRead(read) => {
+            put_boolean(read.end_of_file, out)?;
+            put_content(read.start, read.content, out)
+        }
+        AnyComplex::FileWritten(FileWritten::Stream(start)) => {
+            put_signed(Class::Context, 0, start, out)
+        }
+        AnyComplex::FileWritten(FileWritten::Records(start)) => {
+            put_signed(Class::Context, 1, start, out)
+        }
+        AnyComplex::PropertyRead(read) => {
+            put_reference(read.reference, out)?;
+            put_values(read.values.octets, out)
+        }
     }
 }
 

@@ -1,8 +1,7 @@
 //! Reading requests, from slices and from octets in pieces alike.
-ghost use Rattle.std.specs.Prelude.{◌≡◌, ◌≤◌, ◌<◌, ◌+◌, ◌-◌, ◌%◌, length, take, suc, MatchResult, IfOk, IfErr, IfSome, IsErrOf, ◌↔◌, Some, None};
-ghost use Rattle.bac_value.specs.Views.{object_id};
+ghost use Rattle.std.specs.Prelude.{◌≡◌, ◌<◌, ◌+◌, ◌-◌, length, suc, MatchResult, IfOk, IfErr, IfSome, IsErrOf, ◌↔◌, Some, None};
 ghost use Rattle.bac_service.specs.Reading.{Reads, read_access_at, write_access_at, extent_at, content_at, strings_at, run_at, counted_at, enclosed_at};
-ghost use Rattle.bac_service.specs.Reading.{file_at, write_property_at, made_at, reference_at, request_at, values_at, that_at};
+ghost use Rattle.bac_service.specs.Reading.{write_property_at, request_at, values_at, that_at};
 ghost use Rattle.bac_service.specs.Requests.{SpellsRequest, IsMade, IsWritten, IsUnknown};
 ghost use Rattle.bac_service.specs.Values as plain;
 ghost use Rattle.bac_service.specs.Views.{read_access, write_access, seen, lent, left, request};
@@ -97,7 +96,7 @@ fn run<O: Octets>(octets: O) -> Result<((u64, O), O), Stop>
 {
     let all = octets.len();
     let (count, rest) = strings(octets)?;
-    let (run, _) = octets.split(all - rest.len());
+    let run = octets.front(all - rest.len());
     Ok(((count, run), rest))
 }
 
@@ -128,10 +127,7 @@ fn write_access_in<O: Octets>(octets: O) -> Result<(WriteAccess<O, Run<O>>, O), 
         let records = Run { octets, count };
         Ok((WriteAccess::Records(WriteRecords { start, records }), rest))
     } else {
-        Err(Stop {
-            why: Why::Inconsistent,
-            left,
-        })
+        Err(Stop::new(Why::Inconsistent, left))
     }
 }
 
@@ -192,10 +188,7 @@ fn request_read<O: Octets>(service: Service, octets: O) -> Result<Found<O>, Stop
     let (found, rest) = members_in(service, octets)?;
     match rest.len() {
         0 => Ok(found),
-        left => Err(Stop {
-            why: Why::Surplus,
-            left,
-        }),
+        left => Err(Stop::new(Why::Surplus, left)),
     }
 }
 
@@ -263,9 +256,11 @@ fn request_of(found: Found<&[u8]>) -> Request<'_>
 /// The request of a service choice that the whole of the octets spells (clause 21).
 ///
 /// `UnrecognizedService` comes exactly where the choice is not 6, 7, 12 or 15. Otherwise the members are read from left to right:
-/// `MissingRequiredParameter` where the octets end too early, `InvalidTag` at a tag that is not the member's, is reserved or not
-/// balanced, `InvalidParameterDataType` at contents that the member's type has not, `ParameterOutOfRange` at a priority outside 1
-/// to 16, `InconsistentParameters` at a count that is not the number of octet strings, `TooManyArguments` at octets left over.
+/// `MissingRequiredParameter` where the octets end too early, `InvalidTag` at a tag that is not the member's, is reserved, is not
+/// balanced, or is the ninth opened, `InvalidParameterDataType` at a tag whose number or length is in a longer form than it needs
+/// or whose low bits no tag of its number has, and at contents that their type has not, `ParameterOutOfRange` at a priority
+/// outside 1 to 16, `InconsistentParameters` at a count that is not the number of octet strings, `TooManyArguments` at octets left
+/// over.
 pub fn read_request(choice: u8, octets: &[u8]) -> Result<Request<'_>, Reject>
     ensures found { IfOk result (λ r. SpellsRequest choice (request r) octets.now) }
     ensures refused { IfErr result (λ e. (r : plain.Request) → SpellsRequest choice r octets.now → ⊥) }

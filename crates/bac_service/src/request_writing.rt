@@ -1,12 +1,10 @@
 //! Writing requests.
-ghost use Rattle.std.specs.Prelude.{◌≡◌, ◌+◌, ◌++◌, ◌<◌, ◌≤◌, ◌^◌, OnOk, OnErr, length, vec_len, vec_capacity};
+ghost use Rattle.std.specs.Prelude.{◌≡◌, ◌+◌, ◌++◌, ◌<◌, ◌≤◌, OnOk, OnErr, length, vec_len, vec_capacity};
 ghost use Rattle.bac_service.specs.Spellings.{enclosed_spelling, extent_spelling, read_access_spelling, records_spelling, write_access_spelling};
 ghost use Rattle.bac_service.specs.Spellings.{priority_spelling, request_spelling};
 ghost use Rattle.bac_service.specs.Requests.{SpellsRequest};
 ghost use Rattle.bac_service.specs.Values.{choice_of};
-ghost use Rattle.bac_value.specs.Views.{object_id};
 ghost use Rattle.bac_service.specs.Views.{reference, number_of, read_access, write_access, seen, lent};
-ghost use Rattle.bac_service.specs.Values.Request.{ReadFile as PlainReadFile, WriteFile as PlainWriteFile, WriteProperty as PlainWriteProperty};
 
 use crate::lengths::request_len;
 use crate::reply_writing::{put_closing, put_content, put_opening, put_reference, put_values};
@@ -57,18 +55,6 @@ fn put_read_access(access: ReadAccess, out: &mut Vec<u8>) -> Result<(), NoMemory
     }
 }
 
-/// Appends a Signed, an Unsigned and octet strings, with application tags.
-fn put_run(start: i64, records: Records<'_>, out: &mut Vec<u8>) -> Result<(), NoMemory>
-    ensures ok { OnOk result (out.new.items ≡ out.old.items ++ records_spelling start records.entry.count records.entry.run.now) }
-    ensures len { OnOk result (vec_len out.new ≡ vec_len out.old + length (records_spelling start records.entry.count records.entry.run.now)) }
-    ensures full { OnErr result (vec_capacity out.old < vec_len out.old + length (records_spelling start records.entry.count records.entry.run.now)) }
-    ensures grows { vec_capacity out.old ≤ vec_capacity out.new }
-{
-    put_extent(start, records.count, out)?;
-    out.extend_from_slice(records.run)?;
-    Ok(())
-}
-
 /// Appends where records are written, their count, and the octet strings that they are, between tags of number 1.
 fn put_records(write: WriteRecords<Records<'_>>, out: &mut Vec<u8>) -> Result<(), NoMemory>
     ensures ok { OnOk result (out.new.items ≡ out.old.items ++ enclosed_spelling 1
@@ -80,7 +66,8 @@ fn put_records(write: WriteRecords<Records<'_>>, out: &mut Vec<u8>) -> Result<()
     ensures grows { vec_capacity out.old ≤ vec_capacity out.new }
 {
     put_opening(1, out)?;
-    put_run(write.start, write.records, out)?;
+    put_extent(write.start, write.records.count, out)?;
+    out.extend_from_slice(write.records.run)?;
     put_closing(1, out)
 }
 
@@ -111,48 +98,6 @@ fn put_priority(priority: Option<Priority>, out: &mut Vec<u8>) -> Result<(), NoM
     }
 }
 
-fn put_read_file(read: ReadFile, out: &mut Vec<u8>) -> Result<(), NoMemory>
-    ensures ok { OnOk result (out.new.items ≡ out.old.items ++ request_spelling (PlainReadFile (object_id read.file) (read_access read.access))) }
-    ensures len { OnOk result (vec_len out.new ≡ vec_len out.old + length (request_spelling (PlainReadFile (object_id read.file) (read_access read.access)))) }
-    ensures full { OnErr result (vec_capacity out.old < vec_len out.old + length
-        (request_spelling (PlainReadFile (object_id read.file) (read_access read.access)))) }
-    ensures grows { vec_capacity out.old ≤ vec_capacity out.new }
-{
-    put_object_identifier(Class::Application, 12, read.file, out)?;
-    put_read_access(read.access, out)
-}
-
-fn put_write_file(
-    write: WriteFile<Content<'_>, Records<'_>>,
-    out: &mut Vec<u8>,
-) -> Result<(), NoMemory>
-    ensures ok { OnOk result (out.new.items ≡ out.old.items ++ request_spelling
-        (PlainWriteFile (object_id write.entry.file) (write_access lent write.entry.access))) }
-    ensures len { OnOk result (vec_len out.new
-        ≡ vec_len out.old + length (request_spelling (PlainWriteFile (object_id write.entry.file) (write_access lent write.entry.access)))) }
-    ensures full { OnErr result (vec_capacity out.old < vec_len out.old + length
-        (request_spelling (PlainWriteFile (object_id write.entry.file) (write_access lent write.entry.access)))) }
-    ensures grows { vec_capacity out.old ≤ vec_capacity out.new }
-{
-    put_object_identifier(Class::Application, 12, write.file, out)?;
-    put_write_access(write.access, out)
-}
-
-fn put_write_property(write: WriteProperty<Data<'_>>, out: &mut Vec<u8>) -> Result<(), NoMemory>
-    ensures ok { OnOk result (out.new.items ≡ out.old.items ++ request_spelling
-        (PlainWriteProperty (reference write.entry.reference) write.entry.values.octets.now (number_of write.entry.priority))) }
-    ensures len { OnOk result (vec_len out.new
-        ≡ vec_len out.old + length (request_spelling
-        (PlainWriteProperty (reference write.entry.reference) write.entry.values.octets.now (number_of write.entry.priority)))) }
-    ensures full { OnErr result (vec_capacity out.old < vec_len out.old + length
-        (request_spelling (PlainWriteProperty (reference write.entry.reference) write.entry.values.octets.now (number_of write.entry.priority)))) }
-    ensures grows { vec_capacity out.old ≤ vec_capacity out.new }
-{
-    put_reference(write.reference, out)?;
-    put_values(write.values.octets, out)?;
-    put_priority(write.priority, out)
-}
-
 fn put_request(request: Request<'_>, out: &mut Vec<u8>) -> Result<(), NoMemory>
     ensures ok { OnOk result (out.new.items ≡ out.old.items ++ request_spelling (seen lent request.entry)) }
     ensures len { OnOk result (vec_len out.new ≡ vec_len out.old + length (request_spelling (seen lent request.entry))) }
@@ -160,10 +105,20 @@ fn put_request(request: Request<'_>, out: &mut Vec<u8>) -> Result<(), NoMemory>
     ensures grows { vec_capacity out.old ≤ vec_capacity out.new }
 {
     match request {
-        AnyRequest::ReadFile(read) => put_read_file(read, out),
-        AnyRequest::WriteFile(write) => put_write_file(write, out),
+        AnyRequest::ReadFile(read) => {
+            put_object_identifier(Class::Application, 12, read.file, out)?;
+            put_read_access(read.access, out)
+        }
+        AnyRequest::WriteFile(write) => {
+            put_object_identifier(Class::Application, 12, write.file, out)?;
+            put_write_access(write.access, out)
+        }
         AnyRequest::ReadProperty(reference) => put_reference(reference, out),
-        AnyRequest::WriteProperty(write) => put_write_property(write, out),
+        AnyRequest::WriteProperty(write) => {
+            put_reference(write.reference, out)?;
+            put_values(write.values.octets, out)?;
+            put_priority(write.priority, out)
+        }
     }
 }
 

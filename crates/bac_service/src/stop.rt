@@ -28,11 +28,8 @@ pub(crate) struct Stop {
 }
 
 impl Stop {
-    pub(crate) fn fault(kind: FaultKind, left: usize) -> Stop {
-        Stop {
-            why: Why::Fault(kind),
-            left,
-        }
+    pub(crate) fn new(why: Why, left: usize) -> Stop {
+        Stop { why, left }
     }
 
     /// The reason with which a request is rejected.

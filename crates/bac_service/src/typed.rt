@@ -1,5 +1,5 @@
 //! Members whose type is known: the tag first, then the contents.
-ghost use Rattle.std.specs.Prelude.{◌≡◌, ◌≤◌, ◌<◌, IfOk, length, MatchOption, true, false};
+ghost use Rattle.std.specs.Prelude.{◌≡◌, ◌<◌, IfOk, length, MatchOption, true, false};
 ghost use Rattle.bac_value.specs.Views.{object_id};
 ghost use Rattle.bac_value.specs.Reading.{number_at, signed_at, object_at, kind_at};
 ghost use Rattle.bac_service.specs.Reading.{Reads, member_at, optional_at, priority_at, reference_at, is_priority};
@@ -24,10 +24,7 @@ pub(crate) fn object<O: Octets>(
 {
     let left = octets.len();
     let (len, contents) = head(octets, class, number)?;
-    match take_object_identifier(contents, len) {
-        Ok(read) => Ok(read),
-        Err(kind) => Err(Stop::fault(kind, left)),
-    }
+    take_object_identifier(contents, len).map_err(|kind| Stop::new(Why::Fault(kind), left))
 }
 
 /// A number of at most 4 octets behind a context tag: an Enumerated, or the index of an array.
@@ -37,10 +34,7 @@ fn short<O: Octets>(octets: O, number: u8) -> Result<(u32, O), Stop>
 {
     let left = octets.len();
     let (len, contents) = head(octets, Class::Context, number)?;
-    match take_enumerated(contents, len) {
-        Ok(read) => Ok(read),
-        Err(kind) => Err(Stop::fault(kind, left)),
-    }
+    take_enumerated(contents, len).map_err(|kind| Stop::new(Why::Fault(kind), left))
 }
 
 /// An Unsigned behind a tag of that class and number.
@@ -50,10 +44,7 @@ pub(crate) fn unsigned<O: Octets>(octets: O, class: Class, number: u8) -> Result
 {
     let left = octets.len();
     let (len, contents) = head(octets, class, number)?;
-    match take_unsigned(contents, len) {
-        Ok(read) => Ok(read),
-        Err(kind) => Err(Stop::fault(kind, left)),
-    }
+    take_unsigned(contents, len).map_err(|kind| Stop::new(Why::Fault(kind), left))
 }
 
 /// A Signed behind a tag of that class and number.
@@ -63,10 +54,7 @@ pub(crate) fn signed<O: Octets>(octets: O, class: Class, number: u8) -> Result<(
 {
     let left = octets.len();
     let (len, contents) = head(octets, class, number)?;
-    match take_signed(contents, len) {
-        Ok(read) => Ok(read),
-        Err(kind) => Err(Stop::fault(kind, left)),
-    }
+    take_signed(contents, len).map_err(|kind| Stop::new(Why::Fault(kind), left))
 }
 
 /// The octets of an application OctetString.
@@ -77,10 +65,7 @@ pub(crate) fn string<O: Octets>(octets: O) -> Result<(O, O), Stop>
 {
     let left = octets.len();
     let (len, contents) = head(octets, Class::Application, 6)?;
-    match take_contents(contents, 6, len) {
-        Ok(read) => Ok(read),
-        Err(kind) => Err(Stop::fault(kind, left)),
-    }
+    take_contents(contents, 6, len).map_err(|kind| Stop::new(Why::Fault(kind), left))
 }
 
 /// The index of an array, where one is given.
@@ -132,10 +117,7 @@ fn priority<O: Octets>(octets: O) -> Result<(Priority, O), Stop>
     let (number, rest) = unsigned(octets, Class::Context, 4)?;
     match in_range(number) {
         Some(priority) => Ok((priority, rest)),
-        None => Err(Stop {
-            why: Why::OutOfRange,
-            left,
-        }),
+        None => Err(Stop::new(Why::OutOfRange, left)),
     }
 }
 

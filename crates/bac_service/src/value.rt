@@ -6,7 +6,8 @@ use bac_value::ObjectIdentifier;
 
 /// Which property of which object (clause 15.5), and which element of it where an index is given.
 ///
-/// Property and index have at most 32 bits each (for the index an own limit of this profile).
+/// Property and index have at most 32 bits each (for the index an own limit of this profile). Index 0 is how many elements an
+/// array has (clause 15.5).
 #[derive(Clone, Copy, Debug, PartialEq, Eq)]
 pub struct PropertyReference {
     pub object: ObjectIdentifier,

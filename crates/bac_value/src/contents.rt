@@ -2,7 +2,8 @@ ghost use Rattle.std.specs.Prelude.{◌≡◌, ℕ, ◌<◌, ◌≤◌, ◌+◌,
 ghost use Rattle.std.specs.Prelude.{IsTrue, true};
 ghost use Rattle.bac_value.specs.Element.{AreOfKind, HasContents};
 ghost use Rattle.bac_value.specs.Limits.{bits_fit, length_tag_fits};
-ghost use Rattle.bac_value.specs.Reading.{Reads, IsExact, number_at, signed_at, object_at, raw_at, kind_at, class_at, contents_at, length_in, flaw, is_longer_unsigned, is_longer_signed};
+ghost use Rattle.bac_value.specs.Reading.{Reads, IsExact, raw_at, kind_at, class_at, contents_at, number_at, signed_at, object_at};
+ghost use Rattle.bac_value.specs.Reading.{length_in, flaw, is_longer_unsigned, is_longer_signed};
 ghost use Rattle.bac_value.specs.Value.{unsigned, enumerated, signed, object};
 ghost use Rattle.bac_value.specs.Views.{mark};
 

@@ -93,6 +93,8 @@ pub fn take_data<O: Octets>(octets: O) -> Result<(O, O), Fault>
 }
 
 /// The data at the front, up to the end or to a closing tag whose opening tag is not among them; and how many octets they have.
+///
+/// A fault's place is the offset of the faulty element; data that end inside an opened tag are `Truncated` at their end.
 pub fn read_data(octets: &[u8]) -> Result<(Data<'_>, usize), Fault>
     ensures found { IfOk result (λ r. (r.1 ≤ length octets.now) × IsDataFront octets.now r.1 × (r.0.octets.now ≡ take r.1 octets.now)) }
     ensures refused { IfErr result (λ e. (k : ℕ) → IsDataFront octets.now k → ⊥) }

@@ -41,7 +41,7 @@ impl FaultKind {
     }
 }
 
-/// A fault, and the offset of the first octet of the tag of the faulty element.
+/// A fault, and the offset of the first octet of the tag of the faulty element; where nothing is left, the end of the octets.
 #[derive(Clone, Copy, Debug, PartialEq, Eq, Error)]
 #[error("{kind} at octet {at}")]
 pub struct Fault {

@@ -1,7 +1,10 @@
 //! Tags, values and data of BACnet (clause 20.2), read from and written as octets.
 //!
-//! Each tag, value and element has exactly one spelling. Readers accept exactly the spellings, name a [`FaultKind`] for all
-//! else, and take no memory. Writers append the one spelling, or answer [`NoMemory`] and change nothing.
+//! Each tag, value and element has exactly one spelling. Readers accept exactly the spellings and name a [`FaultKind`] for all
+//! else. Memory is taken only by calls that are given an allocator, and by a vector that is written to and has to grow.
+//!
+//! Writers append the one spelling, or answer [`NoMemory`]. A `write_` call changes nothing then; after an `Err` of a `put_`
+//! call the old octets are a front of what is there, so that a caller who appends more than once cuts off only once.
 #![tactic(auto)]
 
 mod contents;

@@ -19,7 +19,7 @@ pub trait Octets: Copy {
     fn first(self) -> Option<(u8, Self)>
         ensures { MatchOption result (octets self ≡ []) (λ r. octets self ≡ r.0 ∷ octets r.1) };
 
-    /// The first `count` octets.
+    /// The first `count` octets, in one step: what is behind them is not looked for.
     fn front(self, count: usize) -> Self
         requires { count ≤ length (octets self) }
         ensures { octets result ≡ take count (octets self) };

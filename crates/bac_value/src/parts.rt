@@ -5,8 +5,8 @@ use crate::octets::slice_len;
 
 /// Octets in pieces, seen as joined, from a place among them on. Pieces may be empty.
 ///
-/// A step to the next octet goes over each piece at most once, so reading all of n pieces costs what reading the octets joined
-/// costs, and one step for each piece.
+/// Beside what the octets joined cost, counting goes over the pieces once, reading a small constant number of times (a tag that
+/// is looked at first is read again), copying once more.
 #[derive(Clone, Copy)]
 pub struct Parts<'a> {
     pub(crate) parts: &'a [Vec<u8>],

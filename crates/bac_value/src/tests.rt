@@ -93,6 +93,30 @@ fn reads_tags(rt: HostRuntime) -> Result<(), Fail> {
 }
 
 #[test]
+fn makes_tags(rt: HostRuntime) {
+    let rows = [
+        (0, Class::Application, Form::Length(0), true),
+        (1, Class::Application, Form::Length(0), false),
+        (12, Class::Application, Form::Length(4), true),
+        (13, Class::Application, Form::Length(4), false),
+        (1, Class::Application, Form::Boolean(true), true),
+        (2, Class::Application, Form::Boolean(true), false),
+        (2, Class::Application, Form::Opening, false),
+        (254, Class::Context, Form::Length(u32::MAX), true),
+        (255, Class::Context, Form::Length(1), false),
+        (1, Class::Context, Form::Boolean(true), false),
+        (254, Class::Context, Form::Opening, true),
+        (255, Class::Context, Form::Closing, false),
+    ];
+    for (number, class, form, expected) in rows {
+        let tag = Tag::new(number, class, form);
+        assert_eq!(rt; tag.is_some(), expected, "{number}");
+        let same = tag.map(|tag| (tag.number, tag.class, tag.form)) == Some((number, class, form));
+        assert_eq!(rt; same, expected, "{number}");
+    }
+}
+
+#[test]
 fn reads_elements(rt: HostRuntime) -> Result<(), Fail> {
     let rows = [
         ("00", (0, 1)),
@@ -202,6 +226,14 @@ fn writes_values_and_reads_them_back(rt: HostRuntime) -> Result<(), Fail> {
         let mut written = Vec::new(alloc);
         write_value(&again, &mut written)?;
         assert_eq!(rt; written.as_slice(), expected.as_slice(), "{text}");
+        let pieces = pieces_of(alloc, &out, 1)?;
+        let Ok((element, _)) = take_element(Parts::try_new(&pieces).ok_or("few octets")?) else {
+            return Err(Fail::from("no element"));
+        };
+        let again = value_of(alloc, element)?.ok_or("a value")?;
+        let mut written = Vec::new(alloc);
+        write_value(&again, &mut written)?;
+        assert_eq!(rt; written.as_slice(), expected.as_slice(), "{text} in pieces");
     }
     Ok(())
 }
@@ -241,6 +273,27 @@ fn pieces_of(alloc: Global, octets: &[u8], size: usize) -> Result<Vec<Vec<u8>>, 
     Ok(pieces)
 }
 
+/// The first place from which pieces give another tag or other data than the octets.
+fn first_difference(parts: &Parts<'_>, octets: &[u8]) -> Option<usize> {
+    for from in 0..=parts.len() {
+        let Some(behind) = octets.get(from..) else {
+            return Some(from);
+        };
+        let tag = match read_tag_at(parts, from) {
+            Ok((_, len)) => (0, len),
+            Err(fault) => (fault.kind.number(), fault.at - from),
+        };
+        let data = match check_data_at(parts, from) {
+            Ok(len) => (0, len),
+            Err(fault) => (fault.kind.number(), fault.at - from),
+        };
+        if tag != tag_outcome(behind) || data != data_outcome(behind) {
+            return Some(from);
+        }
+    }
+    None
+}
+
 #[test]
 fn pieces_give_what_the_octets_give(rt: HostRuntime) -> Result<(), Fail> {
     let alloc = rt.alloc();
@@ -260,16 +313,8 @@ fn pieces_give_what_the_octets_give(rt: HostRuntime) -> Result<(), Fail> {
         for size in 1..=octets.len() {
             let pieces = pieces_of(alloc, &octets, size)?;
             let parts = Parts::try_new(&pieces).ok_or("few octets")?;
-            let tag = match read_tag_at(&parts, 0) {
-                Ok((_, len)) => (0, len),
-                Err(fault) => outcome_of(fault),
-            };
-            assert_eq!(rt; tag, tag_outcome(&octets), "{text} by {size}");
-            let data = match check_data_at(&parts, 0) {
-                Ok(len) => (0, len),
-                Err(fault) => outcome_of(fault),
-            };
-            assert_eq!(rt; data, data_outcome(&octets), "{text} by {size}");
+            assert_eq!(rt; parts.len(), octets.len(), "{text} by {size}");
+            assert_eq!(rt; first_difference(&parts, &octets), None, "{text} by {size}");
         }
     }
     Ok(())
@@ -355,5 +400,81 @@ fn copies_out_of_pieces(rt: HostRuntime) -> Result<(), Fail> {
         copy_out(&parts, 1, 4, &mut out)?;
         assert_eq!(rt; out.as_slice(), [0xAA, 1, 2, 3, 4].as_slice());
     }
+    Ok(())
+}
+
+/// One octet, in a vector that has to grow for a second.
+fn one_octet(alloc: Global) -> Result<Vec<u8>, NoMemory> {
+    let mut out = match Vec::with_capacity(alloc, 1) {
+        Ok(out) => out,
+        Err(_) => Vec::with_capacity(alloc, 1)?,
+    };
+    out.push(0xAA)?;
+    Ok(out)
+}
+
+/// Run with each allocation refused in turn, too: a refused call changes nothing, and writes when it comes again.
+#[test]
+fn writes_what_was_refused(rt: HostRuntime) -> Result<(), Fail> {
+    let tag = Tag::new(15, Class::Context, Form::Opening).ok_or("a tag")?;
+    let value = Value::Unsigned(256);
+    let mut out = one_octet(rt.alloc())?;
+    if write_tag(&tag, &mut out).is_err() {
+        assert_eq!(rt; out.as_slice(), [0xAA].as_slice());
+        write_tag(&tag, &mut out)?;
+    }
+    assert_eq!(rt; out.as_slice(), [0xAA, 0xFE, 15].as_slice());
+    let mut out = one_octet(rt.alloc())?;
+    if write_value(&value, &mut out).is_err() {
+        assert_eq!(rt; out.as_slice(), [0xAA].as_slice());
+        write_value(&value, &mut out)?;
+    }
+    assert_eq!(rt; out.as_slice(), [0xAA, 0x22, 1, 0].as_slice());
+    let (data, _) = read_data(b"\x21\x05")?;
+    let mut out = one_octet(rt.alloc())?;
+    if write_data(data, &mut out).is_err() {
+        assert_eq!(rt; out.as_slice(), [0xAA].as_slice());
+        write_data(data, &mut out)?;
+    }
+    assert_eq!(rt; out.as_slice(), [0xAA, 0x21, 5].as_slice());
+    Ok(())
+}
+
+/// Run with each allocation refused in turn, too: a refused copy changes nothing, and is made when it is asked for again.
+#[test]
+fn copies_what_was_refused(rt: HostRuntime) -> Result<(), Fail> {
+    let alloc = rt.alloc();
+    let octets = b"\x62\xAB\xCD";
+    let pieces = match pieces_of(alloc, octets, 2) {
+        Ok(pieces) => pieces,
+        Err(NoMemory) => pieces_of(alloc, octets, 2)?,
+    };
+    let parts = Parts::try_new(&pieces).ok_or("few octets")?;
+    let mut out = one_octet(alloc)?;
+    if parts.len() < 3 {
+        return Err(Fail::from("too few octets"));
+    }
+    if copy_out(&parts, 1, 2, &mut out).is_err() {
+        assert_eq!(rt; out.as_slice(), [0xAA].as_slice());
+        copy_out(&parts, 1, 2, &mut out)?;
+    }
+    assert_eq!(rt; out.as_slice(), [0xAA, 0xAB, 0xCD].as_slice());
+    let (data, _) = read_data(octets)?;
+    let copy = match data.to_owned(alloc) {
+        Ok(copy) => copy,
+        Err(NoMemory) => data.to_owned(alloc)?,
+    };
+    assert_eq!(rt; copy.octets.as_slice(), octets.as_slice());
+    let Ok((element, _)) = take_element(parts) else {
+        return Err(Fail::from("no element"));
+    };
+    let value = match value_of(alloc, element) {
+        Ok(value) => value,
+        Err(NoMemory) => value_of(alloc, element)?,
+    };
+    let Some(Value::OctetString(string)) = value else {
+        return Err(Fail::from("no octet string"));
+    };
+    assert_eq!(rt; string.octets.as_slice(), [0xAB, 0xCD].as_slice());
     Ok(())
 }

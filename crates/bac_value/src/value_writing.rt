@@ -16,10 +16,9 @@ use crate::tag_writing::put_tag;
 use crate::value::{ObjectIdentifier, Value};
 use byteorder::{BigEndian, ByteOrder};
 
-// The functions `put_` append. After an `Err` of theirs the old octets are a front of what is there, so that a caller who appends
-// more than once cuts off what was written only once.
-
-/// Appends a tag with the length of some contents, and the contents.
+/// Appends a tag with the length of some contents, and the contents. After an `Err` the old octets are a front of what is there.
+///
+/// Tag numbers: application 0 to 12 but 1, context 0 to 254. That the contents are of the tag's kind is the caller's to know.
 pub fn put_primitive(
     class: Class,
     number: u8,
@@ -69,6 +68,9 @@ fn put_number(
 }
 
 /// Appends a tag, and a number in the fewest octets (clause 20.2.4): an Unsigned or an Enumerated.
+///
+/// Tag numbers: application 0 to 12 but 1, context 0 to 254; that an Enumerated has at most 32 bits is the caller's to know.
+/// After an `Err` the old octets are a front of what is there.
 #[tactic(auto, unfolding(crate::specs::Number::unsigned_octets))]
 pub fn put_unsigned(class: Class, tag: u8, number: u64, out: &mut Vec<u8>) -> Result<(), NoMemory>
     requires { IsTrue (length_tag_fits tag class) }
@@ -82,6 +84,8 @@ pub fn put_unsigned(class: Class, tag: u8, number: u64, out: &mut Vec<u8>) -> Re
 }
 
 /// Appends a tag, and a number in the fewest octets of two's complement (clause 20.2.5).
+///
+/// Tag numbers: application 0 to 12 but 1, context 0 to 254. After an `Err` the old octets are a front of what is there.
 #[tactic(auto, unfolding(crate::specs::Number::signed_octets))]
 pub fn put_signed(class: Class, tag: u8, number: i64, out: &mut Vec<u8>) -> Result<(), NoMemory>
     requires { IsTrue (length_tag_fits tag class) }
@@ -96,6 +100,8 @@ pub fn put_signed(class: Class, tag: u8, number: i64, out: &mut Vec<u8>) -> Resu
 }
 
 /// Appends a tag, and the octets of an object's type and instance (clause 20.2.14).
+///
+/// Tag numbers: application 0 to 12 but 1, context 0 to 254. After an `Err` the old octets are a front of what is there.
 pub fn put_object_identifier(
     class: Class,
     tag: u8,
@@ -114,6 +120,8 @@ pub fn put_object_identifier(
 }
 
 /// Appends an application Boolean, whose value stands in its tag (clause 20.2.3).
+///
+/// After an `Err` the old octets are a front of what is there.
 pub fn put_boolean(value: bool, out: &mut Vec<u8>) -> Result<(), NoMemory>
     ensures ok { OnOk result (out.new.items ≡ out.old.items ++ tag_spelling (mark_for (boolean value) 0)) }
     ensures len { OnOk result (vec_len out.new ≡ vec_len out.old + length (tag_spelling (mark_for (boolean value) 0))) }
@@ -150,7 +158,7 @@ fn put_with_octet(kind: u8, octet: u8, octets: &[u8], out: &mut Vec<u8>) -> Resu
     Ok(())
 }
 
-/// Appends the one spelling of a value.
+/// Appends the one spelling of a value. After an `Err` the old octets are a front of what is there.
 pub fn put_value(value: &Value, out: &mut Vec<u8>) -> Result<(), NoMemory>
     ensures ok { OnOk result (out.new.items ≡ out.old.items ++ value_spelling (datum value.now)) }
     ensures len { OnOk result (vec_len out.new ≡ vec_len out.old + length (value_spelling (datum value.now))) }

@@ -144,8 +144,8 @@ fn pieces_of_answers_give_what_the_octets_give(rt: HostRuntime) -> Result<(), Fa
     Ok(())
 }
 
-/// For runs in which one allocation is refused: only a request that holds octets wants memory in vain, and then the next call
-/// has it. How many allocations a call takes is counted in bench/growths.
+/// None of the rows is refused. In runs in which one allocation is refused, only a request that holds octets wants memory in
+/// vain, and then the next call has it. How many allocations a call takes is counted in bench/growths.
 #[test]
 fn only_copies_of_octets_want_memory(rt: HostRuntime) -> Result<(), Fail> {
     let alloc = rt.alloc();
@@ -160,12 +160,16 @@ fn only_copies_of_octets_want_memory(rt: HostRuntime) -> Result<(), Fail> {
         let octets = octets_of(alloc, text)?;
         let pieces = pieces_of(alloc, &octets, 3)?;
         let parts = Parts::try_new(&pieces).ok_or("few octets")?;
-        if let Err(ReadError::NoMemory) = read_request_parts(alloc, choice, parts) {
-            assert!(rt; takes_memory, "{choice} {text}");
-            assert!(rt;
-                read_request_parts(alloc, choice, parts).is_ok(),
-                "{choice} {text}"
-            );
+        match read_request_parts(alloc, choice, parts) {
+            Ok(_) => {}
+            Err(ReadError::Refused(_)) => return Err(Fail::from("refused")),
+            Err(ReadError::NoMemory) => {
+                assert!(rt; takes_memory, "{choice} {text}");
+                assert!(rt;
+                    read_request_parts(alloc, choice, parts).is_ok(),
+                    "{choice} {text}"
+                );
+            }
         }
     }
     Ok(())

@@ -218,3 +218,22 @@ fn writes_a_request_that_was_made(rt: HostRuntime) -> Result<(), Fail> {
     one_request_spelling();
     Ok(())
 }
+
+#[test]
+fn writes_records_that_were_made(rt: HostRuntime) -> Result<(), Fail> {
+    let alloc = rt.alloc();
+    let run = octets_of(alloc, "62ABCD6100")?;
+    assert!(rt; Records::new(&run, 1).is_none());
+    assert!(rt; Records::new(&run, 3).is_none());
+    let records = Records::new(&run, 2).ok_or("two records")?;
+    let file = ObjectIdentifier::new(10, 1).ok_or("an object")?;
+    let access = WriteAccess::Records(WriteRecords { start: 0, records });
+    let request: Request<'_> = AnyRequest::WriteFile(WriteFile { file, access });
+    let mut out = Vec::new(alloc);
+    write_request(request, &mut out)?;
+    let expected = octets_of(alloc, "C4028000011E3100210262ABCD61001F")?;
+    assert_eq!(rt; out.as_slice(), expected.as_slice());
+    let unfinished = octets_of(alloc, "62ABCD62")?;
+    assert!(rt; Records::new(&unfinished, 2).is_none());
+    Ok(())
+}
