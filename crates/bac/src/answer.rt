@@ -72,12 +72,12 @@ fn request_in(octets: &[u8]) -> Option<Asking<'_>>
 }
 
 /// The frame that carries a reply to who asked.
-fn framed(alloc: Global, to: &Asking<'_>, to_carry: Reply<'_>) -> Result<Vec<u8>, NoMemory>
-    requires { IsShort (replied complex to_carry) }
-    ensures { IfOk result (λ v. v.items ≡ answer_frame (peer_view to.now.peer) to.now.invoke to.now.choice (replied complex to_carry.entry)) }
+fn framed(alloc: Global, to: &Asking<'_>, reply: Reply<'_>) -> Result<Vec<u8>, NoMemory>
+    requires { IsShort (replied complex reply) }
+    ensures { IfOk result (λ v. v.items ≡ answer_frame (peer_view to.now.peer) to.now.invoke to.now.choice (replied complex reply.entry)) }
 {
     let mut apdu = Vec::new(alloc);
-    put_reply(alloc, to.invoke, to.choice, to_carry, &mut apdu)?;
+    put_reply(alloc, to.invoke, to.choice, reply, &mut apdu)?;
     let mut frame = Vec::new(alloc);
     write_datagram(&to.peer, false, &apdu, &mut frame)?;
     Ok(frame)
@@ -88,6 +88,7 @@ fn framed(alloc: Global, to: &Asking<'_>, to_carry: Reply<'_>) -> Result<Vec<u8>
 /// A request of one of the four services (clauses 14.1, 14.2, 15.5 and 15.9) that is no segment is performed on a house store of
 /// its own and gets its reply, in one SimpleACK, ComplexACK or Error. A Confirmed-Request that is no segment and whose service
 /// data spell no request gets a Reject, with reason 9 exactly where the service choice is another. Any other datagram gets nothing.
+/// An Err comes for want of memory alone, and never where nothing is answered.
 pub fn answer_datagram(alloc: Global, octets: &[u8]) -> Result<Option<Vec<u8>>, NoMemory>
     ensures answered { (peer : PeerView) (invoke choice : ℕ) (service : List ℕ) (r : Request)
         → Asks octets.now peer invoke choice service → SpellsRequest choice r service

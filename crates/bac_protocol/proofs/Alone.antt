@@ -1,5 +1,5 @@
 -- One transaction alone: its client's slot, its server's entry, and all that both sent, newest first.
-use Rattle.std.proofs.Common.{ℕ, ◌+◌, List, [], ◌∷◌, Option, Some, None}
+use Rattle.std.proofs.Common.{ℕ, ◌+◌, List, [], ◌∷◌, Option, Some}
 use Rattle.bac_apdu.specs.Apdu.{Apdu}
 use Rattle.bac_protocol.specs.Client.{Ask, request_of, Ticket, after, sends_of, ending_of, asked_ticket, asks}
 use Rattle.bac_protocol.specs.Client as client

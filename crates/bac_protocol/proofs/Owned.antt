@@ -1,11 +1,13 @@
--- In every run all copies are their transactions' own.
+-- In every run all copies are their transactions' own, and have the windows of their ends.
 use Rattle.std.proofs.Common.{◌≡◌, ℕ, zero, suc, ◌-◌, ◌⊎◌, Bool, true, false, ◌&&◌, List, [], ◌∷◌, ◌++◌, map, Option, Some, None, slice_get}
-use Rattle.std.proofs.Common.{if◌then◌else◌, nat_le, sym, subst, inl, inr}
+use Rattle.std.proofs.Common.{if◌then◌else◌, nat_le, refl, sym, subst, inl, inr, arith}
 use Rattle.bac_apdu.specs.Apdu.{Apdu}
+use Rattle.bac_apdu.specs.Apdu.Apdu.{ConfirmedRequest, ComplexAck}
 use Rattle.bac_protocol.specs.Times.{LIFE}
 use Rattle.bac_protocol.specs.Wire.{is_from_client, Each}
 use Rattle.bac_protocol.specs.Client as client
-use Rattle.bac_protocol.specs.Client.{Ask, Ticket}
+use Rattle.bac_protocol.specs.Client.{Ask, Ticket, new_ticket}
+use Rattle.bac_protocol.specs.Service.{Reply}
 use Rattle.bac_protocol.specs.Server as server
 use Rattle.bac_protocol.specs.Server.{Entry}
 use Rattle.bac_protocol.specs.Log.{Shop}
@@ -14,115 +16,198 @@ use Rattle.bac_protocol.specs.World.{Net, World, Post, Event, post_of, set_at, l
 use Rattle.bac_protocol.specs.World.{takes_at_client, takes_at_server, arrives, delivered, ticks_ticket, ticks_as_client, ticks_as_server, serves}
 use Rattle.bac_protocol.specs.World.{service_of, happens, run, start}
 use Rattle.bac_protocol.specs.World.Event.{MakeAsk, Deliver, Tick, Noise, Advance}
-use Rattle.bac_protocol.specs.Own.{IsOfClient, IsOfServer, IsOwnEntry, IsOwnReaction, IsOwnPost, AreOwn}
+use Rattle.bac_protocol.specs.Own.{EntryHas, PhaseHas, TicketHas, IsLesser, IsSentByClient, IsSentByServer, IsOwnPost, AreOwn}
 use Rattle.bac_protocol.proofs.Keys.{decide_key, set_same, set_other}
-use Rattle.bac_protocol.proofs.Own.{client_sends_own, server_sends_own}
+use Rattle.bac_protocol.proofs.Own.{ClientSends, BeginsAnswer, Own, own_sends, own_after, gets_own, ticks_own, asks_own}
+use Rattle.bac_protocol.proofs.Own.{ServerSends, BeginsRequest, IsOwnAs, server_gets_own, server_ticks_own}
 
-abbrev AllOwn : List Post → Type 0
-AllOwn [] = Unit {0}
-AllOwn (p ∷ posts) = IsOwnPost p × AllOwn posts
+module _ (x : Rules) where
+  -- what each end sends has its window, and the lesser of both in SegmentACKs
+  client_has : (key : Key) → ClientSends (x.settings key.client) key.id (IsSentByClient x key) (IsLesser x key)
+  client_has key = record {
+    whole = λ ask. ((refl, refl), tt);
+    piece = λ choice ps n. ((refl, refl), refl);
+    ack = λ nak number window h. ((refl, refl), h);
+    abort = λ reason. ((refl, refl), tt);
+  }
 
-own_at : (posts : List Post) → AllOwn posts → (number : ℕ) (p : Post) → slice_get posts number ≡ Some p → IsOwnPost p
-own_at [] h number p e = absurd cc
-own_at (q ∷ posts) h zero p e = let same : q ≡ p = cc in subst IsOwnPost same h.0
-own_at (q ∷ posts) h (suc number) p e = own_at posts h.1 number p e
+  server_has : (key : Key) → ServerSends (x.settings key.server) key.id (IsSentByServer x key) (IsLesser x key)
+  server_has key = record {
+    whole = whole;
+    piece = λ choice ps n. ((refl, refl), refl);
+    ack = λ nak number window h. ((refl, refl), h);
+    reject = λ reason. ((refl, refl), tt);
+    abort = λ reason. ((refl, refl), tt);
+  }
+    where
+      whole : (choice : ℕ) (p : Reply) → IsSentByServer x key (server.reply_apdu key.id choice p)
+      whole choice Reply.Simple = ((refl, refl), tt)
+      whole choice (Reply.Complex o) = ((refl, refl), tt)
+      whole choice (Reply.Error class code) = ((refl, refl), tt)
 
-own_join : (xs ys : List Post) → AllOwn xs → AllOwn ys → AllOwn (xs ++ ys)
-own_join [] ys h k = k
-own_join (p ∷ xs) ys h k = (h.0, own_join xs ys h.1 k)
+  abbrev IsSent : Key → Apdu → Type 0
+  IsSent key a = IsSentByClient x key a ⊎ IsSentByServer x key a
 
-from_client : (key : Key) (now : ℕ) (sends : List Apdu) → Each (IsOfClient key.id) sends → AllOwn (map (post_of key now) sends)
-from_client key now [] h = tt
-from_client key now (a ∷ more) h = (inl h.0, from_client key now more h.1)
+  -- so a reassembly begins with the lesser of both
+  begins_request : (key : Key) (a : Apdu) → is_from_client a ≡ true → IsSent key a → BeginsRequest (x.settings key.server).window (IsLesser x key) a
+  begins_request key (ConfirmedRequest sa ms ma i (Some g) choice o) up (inl h) = let own = h.1 in omega arith
+  begins_request key (ConfirmedRequest sa ms ma i (Some g) choice o) up (inr h) = let other = h.0.0 in absurd cc
+  begins_request key _ up h = tt
 
-from_server : (key : Key) (now : ℕ) (sends : List Apdu) → Each (IsOfServer key.id) sends → AllOwn (map (post_of key now) sends)
-from_server key now [] h = tt
-from_server key now (a ∷ more) h = (inr h.0, from_server key now more h.1)
+  begins_answer : (key : Key) (a : Apdu) → is_from_client a ≡ false → IsSent key a → BeginsAnswer (x.settings key.client).window (IsLesser x key) a
+  begins_answer key (ComplexAck i (Some g) choice o) down (inl h) = let other = h.0.0 in absurd cc
+  begins_answer key (ComplexAck i (Some g) choice o) down (inr h) = let own = h.1 in omega arith
+  begins_answer key _ down h = tt
 
-record Owned (n : Net) : Type 0 where
-  posts : AllOwn n.posts
-  entries : (key : Key) → IsOwnEntry key.id (n.entries key)
+  abbrev AllOwn : List Post → Type 0
+  AllOwn [] = Unit {0}
+  AllOwn (p ∷ posts) = IsOwnPost x p × AllOwn posts
 
-client_owned : (n : Net) → Owned n → (key : Key) (t : Ticket) (r : client.Reaction) → Each (IsOfClient key.id) (client.sends_of r)
-    → Owned (client_acts n key t r)
-client_owned n h key t r own = record {
-  posts = own_join n.posts (map (post_of key n.now) (client.sends_of r)) h.posts
-      (from_client key n.now (client.sends_of r) own);
-  entries = h.entries;
-}
+  own_at : (posts : List Post) → AllOwn posts → (number : ℕ) (p : Post) → slice_get posts number ≡ Some p → IsOwnPost x p
+  own_at [] h number p e = absurd cc
+  own_at (q ∷ posts) h zero p e = let same : q ≡ p = cc in subst (IsOwnPost x) same h.0
+  own_at (q ∷ posts) h (suc number) p e = own_at posts h.1 number p e
 
-server_owned : (n : Net) → Owned n → (key : Key) (v : server.Reaction) → IsOwnReaction key.id v → Owned (server_acts n key v)
-server_owned n h key v own = record {
-  posts = own_join n.posts (map (post_of key n.now) v.sends) h.posts (from_server key n.now v.sends own.0);
-  entries =
-      λ k. go k (decide_key key k);
-}
-  where
-    go : (k : Key) → ((key ≡ k) ⊎ (key ≡ k → ⊥)) → IsOwnEntry k.id (set_at n.entries key v.entry k)
-    go k (inl is) = subst (λ (j : Key). IsOwnEntry j.id (set_at n.entries key v.entry j)) is
-        (subst (IsOwnEntry key.id) (sym (set_same n.entries key v.entry)) own.1)
-    go k (inr ne) = subst (IsOwnEntry k.id) (sym (set_other n.entries key v.entry k ne)) (h.entries k)
+  own_join : (xs ys : List Post) → AllOwn xs → AllOwn ys → AllOwn (xs ++ ys)
+  own_join [] ys h k = k
+  own_join (p ∷ xs) ys h k = (h.0, own_join xs ys h.1 k)
 
-module _ (S : Type 0) (shop : Shop S) (x : Rules) where
-  ask_owned : (w : World S) → Owned w.net → (key : Key) (ask : Ask) (b : Bool) → Owned (if b then w else ask_made S x w key ask).net
-  ask_owned w h key ask true = h
-  ask_owned w h key ask false =
-      let sends = client.sends_of (client.asks (x.settings key.client) key.id ask) in
+  from_client : (key : Key) (now : ℕ) (sends : List Apdu) → Each (IsSentByClient x key) sends → AllOwn (map (post_of key now) sends)
+  from_client key now [] h = tt
+  from_client key now (a ∷ more) h = (inl h.0, from_client key now more h.1)
+
+  from_server : (key : Key) (now : ℕ) (sends : List Apdu) → Each (IsSentByServer x key) sends → AllOwn (map (post_of key now) sends)
+  from_server key now [] h = tt
+  from_server key now (a ∷ more) h = (inr h.0, from_server key now more h.1)
+
+  abbrev EntryAt : (Key → Option Entry) → Key → Type 0
+  EntryAt entries key = EntryHas (IsSentByServer x key) (IsLesser x key) (entries key)
+
+  abbrev TicketAt : (Key → Option Ticket) → Key → Type 0
+  TicketAt tickets key = TicketHas (IsLesser x key) (tickets key)
+
+  record Owned (n : Net) : Type 0 where
+    posts : AllOwn n.posts
+    entries : (key : Key) → EntryAt n.entries key
+    tickets : (key : Key) → TicketAt n.tickets key
+
+  -- one ticket or one entry is another
+  tickets_set : (tickets : Key → Option Ticket) → ((key : Key) → TicketAt tickets key) → (key : Key) (o : Option Ticket) → TicketHas (IsLesser x key) o
+      → (k : Key) → TicketAt (set_at tickets key o) k
+  tickets_set tickets h key o own k = go (decide_key key k)
+    where
+      go : ((key ≡ k) ⊎ (key ≡ k → ⊥)) → TicketAt (set_at tickets key o) k
+      go (inl is) = subst (λ (j : Key). TicketAt (set_at tickets key o) j) is (subst (TicketHas (IsLesser x key)) (sym (set_same tickets key o)) own)
+      go (inr ne) = subst (TicketHas (IsLesser x k)) (sym (set_other tickets key o k ne)) (h k)
+
+  entries_set : (entries : Key → Option Entry) → ((key : Key) → EntryAt entries key) → (key : Key) (o : Option Entry)
+      → EntryHas (IsSentByServer x key) (IsLesser x key) o → (k : Key) → EntryAt (set_at entries key o) k
+  entries_set entries h key o own k = go (decide_key key k)
+    where
+      go : ((key ≡ k) ⊎ (key ≡ k → ⊥)) → EntryAt (set_at entries key o) k
+      go (inl is) = subst (λ (j : Key). EntryAt (set_at entries key o) j) is
+          (subst (EntryHas (IsSentByServer x key) (IsLesser x key)) (sym (set_same entries key o)) own)
+      go (inr ne) = subst (EntryHas (IsSentByServer x k) (IsLesser x k)) (sym (set_other entries key o k ne)) (h k)
+
+  -- the reaction of a client is its own
+  abbrev IsOwn : Key → ℕ → client.Reaction → Type 0
+  IsOwn key now r = Own (x.settings key.client) x.readable key.id now (IsSentByClient x key) (IsLesser x key) (client_has key) r
+
+  client_owned : (n : Net) → Owned n → (key : Key) (t : Ticket) → PhaseHas (IsLesser x key) t.phase → (r : client.Reaction) → IsOwn key n.now r
+      → Owned (client_acts n key t r)
+  client_owned n h key t k r own =
+      let c = x.settings key.client in
+      let sends = own_sends c x.readable key.id n.now (IsSentByClient x key) (IsLesser x key) (client_has key) r own in
+      let next = own_after c x.readable key.id n.now (IsSentByClient x key) (IsLesser x key) (client_has key) t k r own in
       record {
-        posts = own_join w.net.posts (map (post_of key w.net.now) sends) h.posts
-            (from_client key w.net.now sends (client_sends_own.asks (x.settings key.client) key.id ask));
+        posts = own_join n.posts (map (post_of key n.now) (client.sends_of r)) h.posts (from_client key n.now (client.sends_of r) sends);
         entries = h.entries;
+        tickets = tickets_set n.tickets h.tickets key (Some (client.after n.now t r)) next;
       }
 
-  takes_owned : (w : World S) → Owned w.net → (key : Key) (a : Apdu) (o : Option Ticket) → Owned (takes_at_client S x w key a o).net
-  takes_owned w h key a None = h
-  takes_owned w h key a (Some t) = client_owned w.net h key t (client.client_gets (x.settings key.client) x.readable key.id w.net.now t a)
-      (client_sends_own.gets (x.settings key.client) x.readable key.id w.net.now t a)
+  server_owned : (n : Net) → Owned n → (key : Key) (v : server.Reaction) → IsOwnAs (IsSentByServer x key) (IsLesser x key) v
+      → Owned (server_acts n key v)
+  server_owned n h key v own = record {
+    posts = own_join n.posts (map (post_of key n.now) v.sends) h.posts (from_server key n.now v.sends own.0);
+    entries = entries_set n.entries h.entries key v.entry own.1;
+    tickets = h.tickets;
+  }
 
-  arrives_owned : (w : World S) → Owned w.net → (key : Key) (free : Bool) (a : Apdu) (up : Bool)
-      → Owned (if up then takes_at_server S shop x w key free a else takes_at_client S x w key a (w.net.tickets key)).net
-  arrives_owned w h key free a true =
-      server_owned w.net h key (server.server_gets (x.settings key.server) key.id w.net.now (service_of S shop w key) (w.net.entries key) free a)
-      (server_sends_own.gets (x.settings key.server) key.id w.net.now (service_of S shop w key) (w.net.entries key) free a (h.entries key))
-  arrives_owned w h key free a false = takes_owned w h key a (w.net.tickets key)
+  module _ (S : Type 0) (shop : Shop S) where
+    ask_owned : (w : World S) → Owned w.net → (key : Key) (ask : Ask) (b : Bool) → Owned (if b then w else ask_made S x w key ask).net
+    ask_owned w h key ask true = h
+    ask_owned w h key ask false =
+        let c = x.settings key.client in
+        let now = w.net.now in
+        let r = client.asks c key.id ask in
+        let own = asks_own c x.readable key.id now (IsSentByClient x key) (IsLesser x key) (client_has key) ask in
+        let sends = own_sends c x.readable key.id now (IsSentByClient x key) (IsLesser x key) (client_has key) r own in
+        let next = own_after c x.readable key.id now (IsSentByClient x key) (IsLesser x key) (client_has key) (new_ticket now ask) tt r own in
+        record {
+          posts = own_join w.net.posts (map (post_of key now) (client.sends_of r)) h.posts (from_client key now (client.sends_of r) sends);
+          entries = h.entries;
+          tickets = tickets_set w.net.tickets h.tickets key (Some (client.asked_ticket c key.id now ask)) next;
+        }
 
-  delivered_owned : (w : World S) → Owned w.net → (number : ℕ) (free : Bool) (o : Option Post) → Owned (delivered S shop x w number free o).net
-  delivered_owned w h number free None = h
-  delivered_owned w h number free (Some p) = go (nat_le (w.net.now - p.copy.moment) LIFE && nat_le (later p.key number w.net.posts) x.overtake)
-    where
-      go : (b : Bool) → Owned (if b then arrives S shop x w p.key free p.copy.apdu else w).net
-      go true = arrives_owned w h p.key free p.copy.apdu (is_from_client p.copy.apdu)
-      go false = h
+    takes_owned : (w : World S) → Owned w.net → (key : Key) (a : Apdu) → is_from_client a ≡ false → IsSent key a → (o : Option Ticket)
+        → TicketHas (IsLesser x key) o → Owned (takes_at_client S x w key a o).net
+    takes_owned w h key a down sent None k = h
+    takes_owned w h key a down sent (Some t) k =
+        let c = x.settings key.client in
+        client_owned w.net h key t k (client.client_gets c x.readable key.id w.net.now t a)
+        (gets_own c x.readable key.id w.net.now (IsSentByClient x key) (IsLesser x key) (client_has key) t k a (begins_answer key a down sent))
 
-  ticket_owned : (w : World S) → Owned w.net → (key : Key) (o : Option Ticket) → Owned (ticks_ticket S x w key o).net
-  ticket_owned w h key None = h
-  ticket_owned w h key (Some t) = client_owned w.net h key t (client.client_ticks (x.settings key.client) key.id w.net.now t)
-      (client_sends_own.ticks (x.settings key.client) key.id w.net.now t)
+    arrives_owned : (w : World S) → Owned w.net → (key : Key) (free : Bool) (a : Apdu) → IsSent key a → (up : Bool) → is_from_client a ≡ up
+        → Owned (if up then takes_at_server S shop x w key free a else takes_at_client S x w key a (w.net.tickets key)).net
+    arrives_owned w h key free a sent true up =
+        let c = x.settings key.server in
+        server_owned w.net h key (server.server_gets c key.id w.net.now (service_of S shop w key) (w.net.entries key) free a)
+        (server_gets_own c key.id w.net.now (service_of S shop w key) (IsSentByServer x key) (IsLesser x key) (server_has key) (w.net.entries key) free a
+        (begins_request key a up sent) (h.entries key))
+    arrives_owned w h key free a sent false down = takes_owned w h key a down sent (w.net.tickets key) (h.tickets key)
 
-  clients_owned : (keys : List Key) (w : World S) → Owned w.net → Owned (ticks_as_client S x keys w).net
-  clients_owned [] w h = h
-  clients_owned (key ∷ keys) w h = clients_owned keys (ticks_ticket S x w key (w.net.tickets key)) (ticket_owned w h key (w.net.tickets key))
+    delivered_owned : (w : World S) → Owned w.net → (number : ℕ) (free : Bool) (o : Option Post) → slice_get w.net.posts number ≡ o
+        → Owned (delivered S shop x w number free o).net
+    delivered_owned w h number free None e = h
+    delivered_owned w h number free (Some p) e = go (nat_le (w.net.now - p.copy.moment) LIFE && nat_le (later p.key number w.net.posts) x.overtake)
+      where
+        go : (b : Bool) → Owned (if b then arrives S shop x w p.key free p.copy.apdu else w).net
+        go true = arrives_owned w h p.key free p.copy.apdu (own_at w.net.posts h.posts number p e) (is_from_client p.copy.apdu) refl
+        go false = h
 
-  servers_owned : (keys : List Key) (w : World S) → Owned w.net → Owned (ticks_as_server S shop x keys w).net
-  servers_owned [] w h = h
-  servers_owned (key ∷ keys) w h =
-      let v = server.server_ticks (x.settings key.server) key.id w.net.now (w.net.entries key) in
-      servers_owned keys (serves S shop w key v) (server_owned w.net h key v
-      (server_sends_own.ticks (x.settings key.server) key.id w.net.now (w.net.entries key) (h.entries key)))
+    ticket_owned : (w : World S) → Owned w.net → (key : Key) (o : Option Ticket) → TicketHas (IsLesser x key) o → Owned (ticks_ticket S x w key o).net
+    ticket_owned w h key None k = h
+    ticket_owned w h key (Some t) k =
+        let c = x.settings key.client in
+        client_owned w.net h key t k (client.client_ticks c key.id w.net.now t)
+        (ticks_own c x.readable key.id w.net.now (IsSentByClient x key) (IsLesser x key) (client_has key) t k)
 
-  event_owned : (w : World S) → Owned w.net → (e : Event) → Owned (happens S shop x w e).net
-  event_owned w h (MakeAsk key choice whole front rest) = ask_owned w h key
-      (record { first = w.net.now; choice = choice; whole = whole; pieces = front ∷ rest }) (is_key_held w.net.now (w.net.tickets key))
-  event_owned w h (Deliver number free) = delivered_owned w h number free (slice_get w.net.posts number)
-  event_owned w h (Tick as_client as_server) = servers_owned as_server (ticks_as_client S x as_client w) (clients_owned as_client w h)
-  event_owned w h Noise = h
-  event_owned w h (Advance by) = record { posts = h.posts; entries = h.entries }
+    clients_owned : (keys : List Key) (w : World S) → Owned w.net → Owned (ticks_as_client S x keys w).net
+    clients_owned [] w h = h
+    clients_owned (key ∷ keys) w h = clients_owned keys (ticks_ticket S x w key (w.net.tickets key))
+        (ticket_owned w h key (w.net.tickets key) (h.tickets key))
 
-  run_owned : (events : List Event) (w : World S) → Owned w.net → Owned (run S shop x events w).net
-  run_owned [] w h = h
-  run_owned (e ∷ es) w h = run_owned es (happens S shop x w e) (event_owned w h e)
+    servers_owned : (keys : List Key) (w : World S) → Owned w.net → Owned (ticks_as_server S shop x keys w).net
+    servers_owned [] w h = h
+    servers_owned (key ∷ keys) w h =
+        let c = x.settings key.server in
+        let v = server.server_ticks c key.id w.net.now (w.net.entries key) in
+        servers_owned keys (serves S shop w key v) (server_owned w.net h key v
+        (server_ticks_own c key.id w.net.now (IsSentByServer x key) (IsLesser x key) (server_has key) (w.net.entries key) (h.entries key)))
 
-  pub own_in_run : (opening : ℕ → S) (events : List Event) → AreOwn (run S shop x events (start S opening)).net
-  own_in_run opening events =
-      let h = run_owned events (start S opening) (record { posts = tt; entries = λ key. tt }) in
-      record { posts = own_at (run S shop x events (start S opening)).net.posts h.posts; entries = h.entries }
+    event_owned : (w : World S) → Owned w.net → (e : Event) → Owned (happens S shop x w e).net
+    event_owned w h (MakeAsk key choice whole front rest) = ask_owned w h key
+        (record { first = w.net.now; choice = choice; whole = whole; pieces = front ∷ rest }) (is_key_held w.net.now (w.net.tickets key))
+    event_owned w h (Deliver number free) = delivered_owned w h number free (slice_get w.net.posts number) refl
+    event_owned w h (Tick as_client as_server) = servers_owned as_server (ticks_as_client S x as_client w) (clients_owned as_client w h)
+    event_owned w h Noise = h
+    event_owned w h (Advance by) = record { posts = h.posts; entries = h.entries; tickets = h.tickets }
+
+    run_owned : (events : List Event) (w : World S) → Owned w.net → Owned (run S shop x events w).net
+    run_owned [] w h = h
+    run_owned (e ∷ es) w h = run_owned es (happens S shop x w e) (event_owned w h e)
+
+    pub own_in_run : (opening : ℕ → S) (events : List Event) → AreOwn x (run S shop x events (start S opening)).net
+    own_in_run opening events =
+        let h = run_owned events (start S opening) (record { posts = tt; entries = λ key. tt; tickets = λ key. tt }) in
+        record { posts = own_at (run S shop x events (start S opening)).net.posts h.posts; entries = h.entries; tickets = h.tickets }

@@ -36,7 +36,8 @@ pub fn at_most_once<S>()
 
 /// In every run, each copy that may arrive belongs to the newest ask of its client, server and invoke ID: it was sent since that ask was made and
 /// while its ends send for it; a request is the one asked, or a piece of it; an answer is the reply with which the ask was performed, or a piece of
-/// it, for its service choice; of a SegmentACK, a Reject and an Abort only the time of sending is said. An entry that is live was begun for that ask.
+/// it, for its service choice. Of a SegmentACK, a Reject and an Abort this claim says the time of sending; `each_copy_is_its_own` says which end sent
+/// it, its invoke ID and its window, and the claims on windows say its number. An entry that is live was begun for that ask.
 pub fn only_newest_arrives<S>()
     ensures { (shop : Shop S) (opening : ℕ → S) (W : ℕ) (rules : Rules) → IsBounded W rules → (events : List Event)
         → AreOfNewest rules (run S shop rules events (start S opening)).net }
@@ -79,9 +80,10 @@ pub fn each_end_sends_its_own()
     ensures server { ServerSendsOwn }
 {}
 
-/// In every run each copy carries its transaction's invoke ID and is an APDU of its client or its server.
+/// In every run each copy carries its transaction's invoke ID and is an APDU of its client or its server. Each segment proposes the window of the end
+/// that sent it; each SegmentACK grants the lesser of both ends' windows, and each reassembly has that.
 pub fn each_copy_is_its_own<S>()
-    ensures { (shop : Shop S) (rules : Rules) (opening : ℕ → S) (events : List Event) → AreOwn (run S shop rules events (start S opening)).net }
+    ensures { (shop : Shop S) (rules : Rules) (opening : ℕ → S) (events : List Event) → AreOwn rules (run S shop rules events (start S opening)).net }
 {}
 
 /// How many later copies a copy has is known from counts: those of its transaction but the ones up to it.

@@ -11,3 +11,5 @@ pub mod Stored
 pub mod HouseLaws
 pub mod ReplySizes
 pub mod KindLaws
+pub mod OrderLaws
+pub mod WriteLaws

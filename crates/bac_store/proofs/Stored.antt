@@ -6,8 +6,8 @@ use Rattle.std.specs.List.{All, AllPairs}
 use Rattle.std.specs.List.Sorted.{IsPermutation}
 use Rattle.std.specs.Option.{IfSome}
 use Rattle.std.specs.Result.{IsErrAnd}
-use Rattle.bac_store.specs.declared.new_fault.NewFault.{NewFault}
-use Rattle.bac_store.specs.declared.new_fault.NewFault.TheVariants as fault
+use Rattle.bac_store.specs.declared.store_fault.StoreFault.{StoreFault}
+use Rattle.bac_store.specs.declared.store_fault.StoreFault.TheVariants as fault
 use Rattle.std.proofs.lemmas.Bool.Decides.{nat_tests}
 use Rattle.std.proofs.lemmas.List.Elements.{All-map}
 use Rattle.std.proofs.lemmas.List.Sorted.{IsPermutation-map, IsPermutation-sym, All-permutation}
@@ -147,7 +147,7 @@ module _ (old sorted : List thing.Object) (moved : IsPermutation old sorted) whe
     made = record { distinct = good.distinct; right = good.right; store = store_of }
 
 -- want of memory comes last
-pub refused : (objects : List Object) (r : Result Store NewFault) → IsErrAnd r (λ e. e ≡ fault.NoMemory) → IsGood objects
+pub refused : (objects : List Object) (r : Result Store StoreFault) → IsErrAnd r (λ e. e ≡ fault.NoMemory) → IsGood objects
     → MatchResult r (IsMadeOf objects) (IsRefused objects)
 refused objects (Ok s) h g = absurd h
 refused objects (Err e) h g = subst (IsRefused objects) (sym h) g

@@ -1,5 +1,5 @@
 -- What a request makes of a store.
-use Rattle.std.specs.Prelude.{ℕ, Bool, true, false, List, map, if◌then◌else◌}
+use Rattle.std.specs.Prelude.{◌≡◌, ℕ, Bool, true, false, List, map, if◌then◌else◌}
 use Rattle.std.specs.Option.{option_map}
 use Rattle.bac_value.specs.Value.{ObjectId}
 use Rattle.bac_service.specs.Values.{Request, Reply}
@@ -37,6 +37,10 @@ is_done Simple = true
 is_done (Whole c) = true
 is_done (Error class code) = false
 is_done (Reject reason) = false
+
+-- no case of the tables holds for the request: its reply is no Error
+abbrev pub IsGranted : Store → Request → Type 0
+IsGranted s r = is_done (reply_to s r) ≡ true
 
 -- what a request is for, where it is done
 abbrev pub done : Request → Store → Store

@@ -13,3 +13,4 @@ pub mod Ordered
 pub mod ReplyLengths
 pub mod Kinds
 pub mod House
+pub mod Writes

@@ -9,7 +9,18 @@ VALUE_LIMIT = 4096
 abbrev pub FILE_LIMIT : ℕ
 FILE_LIMIT = 60000
 
+-- clause 20.2.14: the greatest of 22 bits, which stands for any instance
+abbrev pub ANY_INSTANCE : ℕ
+ANY_INSTANCE = 4194303
+
 -- ---- object types (BACnetObjectType)
+
+-- vendors' own (clause 23.1)
+abbrev pub FIRST_VENDOR_TYPE : ℕ
+FIRST_VENDOR_TYPE = 128
+
+abbrev pub LAST_VENDOR_TYPE : ℕ
+LAST_VENDOR_TYPE = 1023
 
 abbrev pub ANALOG_INPUT : ℕ
 ANALOG_INPUT = 0
@@ -27,6 +38,13 @@ abbrev pub FILE : ℕ
 FILE = 10
 
 -- ---- properties (BACnetPropertyIdentifier)
+
+-- vendors' own (clause 23.1)
+abbrev pub FIRST_VENDOR_PROPERTY : ℕ
+FIRST_VENDOR_PROPERTY = 512
+
+abbrev pub LAST_VENDOR_PROPERTY : ℕ
+LAST_VENDOR_PROPERTY = 4194303
 
 abbrev pub DESCRIPTION : ℕ
 DESCRIPTION = 28

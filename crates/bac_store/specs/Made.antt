@@ -1,8 +1,8 @@
 -- When a store is made of objects.
 use Rattle.std.specs.Prelude.{List}
 use Rattle.std.specs.List.{All}
-use Rattle.bac_store.specs.declared.new_fault.NewFault.{NewFault}
-use Rattle.bac_store.specs.declared.new_fault.NewFault.TheVariants as fault
+use Rattle.bac_store.specs.declared.store_fault.StoreFault.{StoreFault}
+use Rattle.bac_store.specs.declared.store_fault.StoreFault.TheVariants as fault
 use Rattle.bac_store.specs.Stores.{Store, Object}
 use Rattle.bac_store.specs.Objects.{AreDistinct, IsRight, IsStoreOf}
 
@@ -21,7 +21,7 @@ pub record IsGood (objects : List Object) : Type 0 where
   pub right : All IsRight objects
 
 -- why no store is made of the objects
-abbrev pub IsRefused : List Object → NewFault → Type 0
+abbrev pub IsRefused : List Object → StoreFault → Type 0
 IsRefused objects fault.Duplicate = AreDistinct objects → ⊥
 IsRefused objects fault.BadObject = IsBad objects
 IsRefused objects fault.NoMemory = IsGood objects

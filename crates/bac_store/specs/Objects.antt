@@ -5,7 +5,7 @@ use Rattle.std.specs.List.{All, AllPairs}
 use Rattle.bac_value.specs.Value.{ObjectId, characters}
 use Rattle.bac_value.specs.Writing.{value_spelling}
 use Rattle.bac_store.specs.Limits.{ANALOG_INPUT, ANALOG_VALUE, BINARY_VALUE, DEVICE, FILE, DESCRIPTION, PRESENT_VALUE, REAL, CHARACTERS, VALUE_LIMIT}
-use Rattle.bac_store.specs.Limits.{FILE_LIMIT}
+use Rattle.bac_store.specs.Limits.{FILE_LIMIT, ANY_INSTANCE, FIRST_VENDOR_TYPE, LAST_VENDOR_TYPE, FIRST_VENDOR_PROPERTY, LAST_VENDOR_PROPERTY}
 use Rattle.bac_store.specs.Stores.{Store, Object, Property, File, object_in, listed_in, is_state}
 use Rattle.bac_store.specs.Replies.{is_of_kind}
 
@@ -18,15 +18,16 @@ AreDistinct = AllPairs (λ a b. a.id ≢ b.id)
 -- five types of the standard, and vendors' own
 abbrev pub is_right_type : ℕ → Bool
 is_right_type k =
-    (k == ANALOG_INPUT) || (k == ANALOG_VALUE) || (k == BINARY_VALUE) || (k == DEVICE) || (k == FILE) || (nat_le 128 k && nat_le k 1023)
+    (k == ANALOG_INPUT) || (k == ANALOG_VALUE) || (k == BINARY_VALUE) || (k == DEVICE) || (k == FILE)
+    || (nat_le FIRST_VENDOR_TYPE k && nat_le k LAST_VENDOR_TYPE)
 
--- the greatest instance stands for any device, and no object has it
+-- the greatest instance stands for any, and no object has it
 abbrev pub is_right_id : ObjectId → Bool
-is_right_id id = is_right_type id.kind && not (id.instance == 4194303)
+is_right_id id = is_right_type id.kind && not (id.instance == ANY_INSTANCE)
 
 -- two properties of the standard, and vendors' own
 abbrev pub is_right_number : ℕ → Bool
-is_right_number n = (n == DESCRIPTION) || (n == PRESENT_VALUE) || (nat_le 512 n && nat_le n 4194303)
+is_right_number n = (n == DESCRIPTION) || (n == PRESENT_VALUE) || (nat_le FIRST_VENDOR_PROPERTY n && nat_le n LAST_VENDOR_PROPERTY)
 
 -- a description is a CharacterString; the present-value is a Real of the analog types, a state of a binary-value
 abbrev pub are_right_values : (kind number : ℕ) → List ℕ → Bool

@@ -12,7 +12,8 @@ ghost use Rattle.bac_store.specs.Views.{property as property_view, file as file_
 
 use crate::kind::{is_of_kind, is_state};
 use crate::limits::{
-    ANALOG_INPUT, ANALOG_VALUE, BINARY_VALUE, CHARACTERS, DESCRIPTION, DEVICE, FILE, FILE_LIMIT,
+    ANALOG_INPUT, ANALOG_VALUE, ANY_INSTANCE, BINARY_VALUE, CHARACTERS, DESCRIPTION, DEVICE, FILE,
+    FILE_LIMIT, FIRST_VENDOR_PROPERTY, FIRST_VENDOR_TYPE, LAST_VENDOR_PROPERTY, LAST_VENDOR_TYPE,
     PRESENT_VALUE, REAL, VALUE_LIMIT,
 };
 use crate::object::{File, Property};
@@ -21,15 +22,16 @@ use bac_value::ObjectIdentifier;
 /// The octets of a name's spelling beside the text: a tag, a long length and the character set.
 const NAME_OVERHEAD: usize = 5;
 
-/// Whether an object may have the identifier: a type of the profile, and an instance that does not stand for any device.
+/// Whether an object may have the identifier: a type of the profile, and an instance that does not stand for any.
 pub(crate) fn is_right_id(id: ObjectIdentifier) -> bool
     ensures { result ≡ id_in (object_id id) }
 {
     let is_right_type = match id.kind {
-        ANALOG_INPUT | ANALOG_VALUE | BINARY_VALUE | DEVICE | FILE | 128..=1023 => true,
+        ANALOG_INPUT | ANALOG_VALUE | BINARY_VALUE | DEVICE | FILE => true,
+        FIRST_VENDOR_TYPE..=LAST_VENDOR_TYPE => true,
         _ => false,
     };
-    is_right_type && id.instance != 4_194_303
+    is_right_type && id.instance != ANY_INSTANCE
 }
 
 /// Whether a name is short enough.
@@ -56,7 +58,7 @@ fn is_right_property(kind: u16, property: &Property) -> bool
     ensures { result ≡ property_in kind (property_view property.now) }
 {
     let is_right_number = match property.number {
-        DESCRIPTION | PRESENT_VALUE | 512..=4_194_303 => true,
+        DESCRIPTION | PRESENT_VALUE | FIRST_VENDOR_PROPERTY..=LAST_VENDOR_PROPERTY => true,
         _ => false,
     };
     let values = property.values.octets.as_slice();

@@ -1,9 +1,10 @@
 //! Reading and writing files (clauses 14.1 and 14.2).
-ghost use Rattle.std.specs.Prelude.{◌≡◌, ◌≤◌, ◌+◌, ℕ, pos, true, false, List, length, IfOk, MatchOption, MatchResult};
+ghost use Rattle.std.specs.Prelude.{◌≡◌, ◌≤◌, ◌+◌, ℕ, pos, true, false, List, length, IfOk, MatchOption, MatchResult, OnErr};
 ghost use Rattle.bac_service.specs.Values.Complex.{StreamWritten};
 ghost use Rattle.bac_service.specs.Values.Reply.{Whole};
 ghost use Rattle.bac_service.specs.Views.{owned_complex, read_access as access_view, replied};
 ghost use Rattle.bac_store.specs.Answers.{refused};
+ghost use Rattle.bac_store.specs.Changes.{is_done};
 ghost use Rattle.bac_store.specs.Limits.{FILE_LIMIT as FILE_MOST};
 ghost use Rattle.bac_store.specs.Replies.{file_read, is_no_write_start, overwritten as overwritten_by, read_file_reply, write_start, write_stream_reply};
 ghost use Rattle.bac_store.specs.Views.{file as file_view};
@@ -15,8 +16,8 @@ use bac_service::{AnyComplex, AnyReply, FileRead, OwnedReply, ReadAccess};
 use bac_value::{NoMemory, OctetString};
 use std::alloc::Global;
 
-/// The octets of a file from a place on, so many or as many as are left, and whether they reach the end.
-fn octets_read(
+/// The reply with the octets of a file from a place on, so many or as many as are left, and whether they reach the end.
+fn stream_reply(
     alloc: Global,
     octets: &[u8],
     start: usize,
@@ -45,7 +46,8 @@ pub(crate) fn read_file(
     access: ReadAccess,
 ) -> Result<OwnedReply, NoMemory>
     requires { length file.now.octets.items ≤ FILE_MOST }
-    ensures { IfOk result (λ r. replied owned_complex r ≡ read_file_reply (access_view access) (file_view file.now)) }
+    ensures told { IfOk result (λ r. replied owned_complex r ≡ read_file_reply (access_view access) (file_view file.now)) }
+    ensures last { OnErr result (is_done (read_file_reply (access_view access) (file_view file.now)) ≡ true) }
 {
     match access {
         ReadAccess::Records { .. } => Ok(Refusal::InvalidFileAccessMethod.reply()),
@@ -53,7 +55,7 @@ pub(crate) fn read_file(
             if start < 0 || start as u64 > file.octets.len() as u64 {
                 return Ok(Refusal::InvalidFileStartPosition.reply());
             }
-            octets_read(alloc, &file.octets, start as usize, count)
+            stream_reply(alloc, &file.octets, start as usize, count)
         }
     }
 }

@@ -9,7 +9,9 @@ ghost use Rattle.bac_store.specs.Views.{entry as entry_view};
 
 use crate::entry::Entry;
 use crate::found::{Computed, Found};
-use crate::limits::{FILE_ACCESS_METHOD, FILE_SIZE, OBJECT_IDENTIFIER, OBJECT_NAME, OBJECT_TYPE};
+use crate::limits::{
+    FILE_ACCESS_METHOD, FILE_SIZE, OBJECT_IDENTIFIER, OBJECT_NAME, OBJECT_TYPE, STREAM_ACCESS,
+};
 use crate::searching::slot_place;
 use crate::spelled::{spelled, spelled_text};
 use bac_value::{DataBuf, NoMemory, Value};
@@ -49,7 +51,7 @@ fn computed_values(alloc: Global, entry: &Entry, own: Computed) -> Result<DataBu
         Computed::Identifier => spelled(alloc, &Value::ObjectIdentifier(entry.id)),
         Computed::Name => spelled_text(alloc, &entry.name),
         Computed::Type => spelled(alloc, &Value::Enumerated(u32::from(entry.id.kind))),
-        Computed::AccessMethod => spelled(alloc, &Value::Enumerated(1)),
+        Computed::AccessMethod => spelled(alloc, &Value::Enumerated(STREAM_ACCESS)),
         Computed::Size(len) => spelled(alloc, &Value::Unsigned(len)),
     }
 }

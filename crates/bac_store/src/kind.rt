@@ -4,17 +4,17 @@ ghost use Rattle.bac_service.specs.Views.{reference as reference_view};
 ghost use Rattle.bac_store.specs.Stores.{kind_of as kind_in, is_state as is_state_in};
 ghost use Rattle.bac_store.specs.Replies.{is_of_kind as is_of_kind_in, is_binary_state as is_binary};
 
-use crate::limits::{BINARY_VALUE, PRESENT_VALUE};
+use crate::limits::{BINARY_VALUE, PRESENT_VALUE, STATE_TAG};
 use bac_service::PropertyReference;
-use bac_value::{Class, Octets, take_element};
+use bac_value::{Class, take_element};
 
 /// The application tag of data that are one element; None where they are not one.
 pub(crate) fn kind_of(values: &[u8]) -> Option<u8>
     ensures { result ≡ kind_in values.now }
 {
     match take_element(values) {
-        Ok(read) if Octets::len(read.1) == 0 => match read.0.tag.class {
-            Class::Application => Some(read.0.tag.number),
+        Ok((element, rest)) if rest.is_empty() => match element.tag.class {
+            Class::Application => Some(element.tag.number),
             Class::Context => None,
         },
         _ => None,
@@ -25,10 +25,9 @@ pub(crate) fn kind_of(values: &[u8]) -> Option<u8>
 pub(crate) fn is_of_kind(kind: Option<u8>, values: &[u8]) -> bool
     ensures { result ≡ is_of_kind_in kind values.now }
 {
-    match (kind, kind_of(values)) {
-        (None, _) => true,
-        (Some(_), None) => false,
-        (Some(tag), Some(other)) => tag == other,
+    match kind {
+        None => true,
+        Some(tag) => kind_of(values) == Some(tag),
     }
 }
 
@@ -37,7 +36,7 @@ pub(crate) fn is_state(values: &[u8]) -> bool
     ensures { result ≡ is_state_in values.now }
 {
     match values {
-        [tag, number] => *tag == 0x91 && *number < 2,
+        [tag, number] => *tag == STATE_TAG && *number < 2,
         _ => false,
     }
 }

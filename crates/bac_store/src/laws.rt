@@ -1,11 +1,49 @@
 //! Laws of the definitions: functions that do nothing, whose contracts are the laws.
-ghost use Rattle.std.specs.Prelude.{◌≡◌, ℕ, List, Some};
+ghost use Rattle.std.specs.Prelude.{◌≡◌, ◌≤◌, ℕ, ℤ, false, List, Option, Some};
+ghost use Rattle.bac_service.specs.Values.{ReadAccess, Reference, Request};
+ghost use Rattle.bac_service.specs.Values.Request.{ReadFile, ReadProperty, WriteFile, WriteProperty};
+ghost use Rattle.bac_service.specs.Values.WriteAccess.{WriteStream};
+ghost use Rattle.bac_value.specs.Value.{ObjectId};
 ghost use Rattle.bac_value.specs.Octets.{IsBytes};
+ghost use Rattle.bac_store.specs.Changes.{after, is_done, IsGranted};
 ghost use Rattle.bac_store.specs.Kinds.{IsOneValue};
-ghost use Rattle.bac_store.specs.Stores.{kind_of};
+ghost use Rattle.bac_store.specs.Objects.{IsStoreOf};
+ghost use Rattle.bac_store.specs.Replies.{reply_to};
+ghost use Rattle.bac_store.specs.ReplyLengths.{DATA_LIMIT, reply_length};
+ghost use Rattle.bac_store.specs.Stores.{kind_of, Store as Objects};
+ghost use Rattle.bac_store.specs.Writes.{IsFileWrite, IsValueWrite};
+
+use crate::store::Store;
 
 /// The kind of octets is the number in the tag of the one application value that they are; octets that are none have no kind.
 pub fn kinds_are_values()
     ensures value { (values : List ℕ) (k : ℕ) → IsOneValue k values → kind_of values ≡ Some k }
     ensures only { (values : List ℕ) (k : ℕ) → IsBytes values → kind_of values ≡ Some k → IsOneValue k values }
 {}
+
+/// Replies and what follows rest on what is found by identifier and number alone: the order of objects and of their properties
+/// says nothing.
+pub fn order_says_nothing()
+    ensures replies { (objects s : Objects) → IsStoreOf objects s → (r : Request) → reply_to s r ≡ reply_to objects r }
+    ensures after { (objects s : Objects) → IsStoreOf objects s → (r : Request) → IsStoreOf (after objects r) (after s r) }
+{}
+
+/// A write whose reply is no Error changes the values of one listed property, or the octets of one file, and nothing else. An
+/// Error and a read change nothing.
+pub fn writes_change_one_thing()
+    ensures values { (s : Objects) (r : Reference) (values : List ℕ) (priority : Option ℕ) → IsGranted s (WriteProperty r values priority)
+        → IsValueWrite r values s (after s (WriteProperty r values priority)) }
+    ensures octets { (s : Objects) (id : ObjectId) (start : ℤ) (octets : List ℕ) → IsGranted s (WriteFile id (WriteStream start octets))
+        → IsFileWrite id start octets s (after s (WriteFile id (WriteStream start octets))) }
+    ensures refused { (s : Objects) (r : Request) → is_done (reply_to s r) ≡ false → after s r ≡ s }
+    ensures read { (s : Objects) (r : Reference) → after s (ReadProperty r) ≡ s }
+    ensures file_read { (s : Objects) (id : ObjectId) (access : ReadAccess) → after s (ReadFile id access) ≡ s }
+{}
+
+/// No reply of a store has more octets of service data than can be sent, in one APDU or in segments.
+pub fn replies_can_be_sent(store: &Store)
+    ensures { (r : Request) → reply_length (reply_to store.now r) ≤ DATA_LIMIT }
+{
+    // the law rests on what the fields of a store keep
+    let _objects = &store.objects;
+}

@@ -16,7 +16,6 @@ mod kind;
 mod laws;
 mod limits;
 mod making;
-mod new_fault;
 mod object;
 mod ordering;
 mod planned;
@@ -26,14 +25,17 @@ mod refusal;
 mod searching;
 mod spelled;
 mod store;
+mod store_fault;
 
 pub use house_objects::house;
-pub use laws::kinds_are_values;
+pub use laws::{
+    kinds_are_values, order_says_nothing, replies_can_be_sent, writes_change_one_thing,
+};
 pub use limits::{FILE_LIMIT, VALUE_LIMIT};
-pub use new_fault::NewFault;
 pub use object::{File, Object, Property};
 pub use planned::Planned;
 pub use store::Store;
+pub use store_fault::StoreFault;
 
 #[cfg(test)]
 mod tests;

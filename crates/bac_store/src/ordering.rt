@@ -55,8 +55,8 @@ fn are_listed_once(properties: &[Property]) -> bool
     true
 }
 
-/// Puts the properties of an object in order; whether a store can have the object.
-fn sort_object(object: &mut Object) -> bool
+/// Puts the properties of an object in order and checks the object: whether a store can have it.
+fn sort_and_check(object: &mut Object) -> bool
     ensures { SortsObject result (object_view object.old) (object_view object.new) }
 {
     sort_properties(&mut object.properties);
@@ -75,12 +75,12 @@ fn sort_object(object: &mut Object) -> bool
     are_right_properties(object.id.kind, &object.properties)
 }
 
-/// Puts the properties of each object in order; whether a store can have all of them.
-pub(crate) fn sort_each(objects: &mut [Object]) -> bool
+/// Puts the properties of each object in order and checks the object, up to the first that no store can have; whether there is none.
+pub(crate) fn sort_and_check_each(objects: &mut [Object]) -> bool
     ensures { SortsObjects result objects.old objects.new }
 {
     for object in objects.iter_mut() {
-        if !sort_object(object) {
+        if !sort_and_check(object) {
             return false;
         }
     }

@@ -21,7 +21,8 @@ pub(crate) enum Change {
     },
 }
 
-/// What a store does on a request, before it is done: the reply, and the change with all its memory.
+/// What a store does on a request, before it is done: the reply, and the change with all its memory. A plan that is dropped
+/// changes nothing.
 #[derive(Drop)]
 pub struct Planned {
     pub(crate) reply: OwnedReply,

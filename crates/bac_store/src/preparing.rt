@@ -1,14 +1,15 @@
 //! Plans for each request.
-ghost use Rattle.std.specs.Prelude.{◌≡◌, ◌≤◌, map, length, IfOk, IfSome};
+ghost use Rattle.std.specs.Prelude.{◌≡◌, ◌≤◌, true, map, length, IfOk, IfSome, OnErr};
 ghost use Rattle.std.specs.Option.{option_map};
 ghost use Rattle.bac_service.specs.Values.Request.{ReadFile as FileReading, WriteFile as FileWriting, ReadProperty as PropertyReading};
 ghost use Rattle.bac_service.specs.Values.Request.{WriteProperty as PropertyWriting};
 ghost use Rattle.bac_service.specs.Views.{lent, number_of, owned_complex, read_access as read_access_view, reference as reference_view, replied};
 ghost use Rattle.bac_service.specs.Views.{write_access as write_access_view};
+ghost use Rattle.bac_store.specs.Changes.{is_done, IsGranted};
 ghost use Rattle.bac_store.specs.Kept.{IsInOrder};
 ghost use Rattle.bac_store.specs.Limits.{FILE_LIMIT as FILE_MOST};
 ghost use Rattle.bac_store.specs.Plans.{Change as ChangeView, IsPlanFor, IsStreamPlan};
-ghost use Rattle.bac_store.specs.Replies.{file_of as file_in};
+ghost use Rattle.bac_store.specs.Replies.{file_of as file_in, write_stream_reply};
 ghost use Rattle.bac_store.specs.Stores.{object_in};
 ghost use Rattle.bac_store.specs.Views.{entry as entry_view, file as file_view};
 ghost use Rattle.bac_value.specs.Views.{object_id};
@@ -44,7 +45,8 @@ pub(crate) fn plan_read_property(
     reference: PropertyReference,
 ) -> Result<Planned, NoMemory>
     requires { IsInOrder (map entry_view objects.now) }
-    ensures { IfOk result (λ p. IsPlanFor (map entry_view objects.now) (PropertyReading (reference_view reference)) p) }
+    ensures plan { IfOk result (λ p. IsPlanFor (map entry_view objects.now) (PropertyReading (reference_view reference)) p) }
+    ensures last { OnErr result (IsGranted (map entry_view objects.now) (PropertyReading (reference_view reference))) }
 {
     match entry_of(objects, reference.object) {
         None => Ok(answered(Refusal::UnknownObject.reply())),
@@ -62,8 +64,10 @@ pub(crate) fn plan_write_property(
     write: WriteProperty<Data<'_>>,
 ) -> Result<Planned, NoMemory>
     requires { IsInOrder (map entry_view objects.now) }
-    ensures { IfOk result (λ p. IsPlanFor (map entry_view objects.now)
+    ensures plan { IfOk result (λ p. IsPlanFor (map entry_view objects.now)
         (PropertyWriting (reference_view write.entry.reference) write.entry.values.octets.now (number_of write.entry.priority)) p) }
+    ensures last { OnErr result (IsGranted (map entry_view objects.now)
+        (PropertyWriting (reference_view write.entry.reference) write.entry.values.octets.now (number_of write.entry.priority))) }
 {
     let reference = write.reference;
     let Some(entry) = entry_of(objects, reference.object) else {
@@ -103,7 +107,8 @@ pub(crate) fn plan_read_file(
     read: ReadFile,
 ) -> Result<Planned, NoMemory>
     requires { IsInOrder (map entry_view objects.now) }
-    ensures { IfOk result (λ p. IsPlanFor (map entry_view objects.now) (FileReading (object_id read.file) (read_access_view read.access)) p) }
+    ensures plan { IfOk result (λ p. IsPlanFor (map entry_view objects.now) (FileReading (object_id read.file) (read_access_view read.access)) p) }
+    ensures last { OnErr result (IsGranted (map entry_view objects.now) (FileReading (object_id read.file) (read_access_view read.access))) }
 {
     match file_of(objects, read.file) {
         None => Ok(answered(Refusal::UnknownObject.reply())),
@@ -122,7 +127,8 @@ fn plan_write_stream(
     write: WriteStream<Content<'_>>,
 ) -> Result<Planned, NoMemory>
     requires { length file.now.octets.items ≤ FILE_MOST }
-    ensures { IfOk result (λ p. IsStreamPlan (object_id id) write.entry.start write.entry.content.octets.now (file_view file.now) p) }
+    ensures plan { IfOk result (λ p. IsStreamPlan (object_id id) write.entry.start write.entry.content.octets.now (file_view file.now) p) }
+    ensures last { OnErr result (is_done (write_stream_reply write.entry.start write.entry.content.octets.now (file_view file.now)) ≡ true) }
 {
     let new = write.content.octets;
     match write_place(file, write.start, new) {
@@ -143,8 +149,10 @@ pub(crate) fn plan_write_file(
     write: WriteFile<Content<'_>, Records<'_>>,
 ) -> Result<Planned, NoMemory>
     requires { IsInOrder (map entry_view objects.now) }
-    ensures { IfOk result (λ p. IsPlanFor (map entry_view objects.now)
+    ensures plan { IfOk result (λ p. IsPlanFor (map entry_view objects.now)
         (FileWriting (object_id write.entry.file) (write_access_view lent write.entry.access)) p) }
+    ensures last { OnErr result (IsGranted (map entry_view objects.now)
+        (FileWriting (object_id write.entry.file) (write_access_view lent write.entry.access))) }
 {
     let Some(file) = file_of(objects, write.file) else {
         return Ok(answered(Refusal::UnknownObject.reply()));

@@ -1,9 +1,10 @@
 //! Reading and writing properties (clauses 15.5 and 15.9).
-ghost use Rattle.std.specs.Prelude.{◌≡◌, ℕ, List, IfOk};
+ghost use Rattle.std.specs.Prelude.{◌≡◌, ℕ, true, List, IfOk, OnErr};
 ghost use Rattle.bac_value.specs.Value.{Datum};
 ghost use Rattle.bac_service.specs.Values.Reply.{Simple};
 ghost use Rattle.bac_service.specs.Views.{owned_complex, reference as reference_view, replied};
 ghost use Rattle.bac_store.specs.Answers.{refused, refused_or};
+ghost use Rattle.bac_store.specs.Changes.{is_done};
 ghost use Rattle.bac_store.specs.Kept.{IsKept};
 ghost use Rattle.bac_store.specs.Replies.{at_property, read_reply, write_reply};
 ghost use Rattle.bac_store.specs.Stores.{computed, property_in};
@@ -26,8 +27,10 @@ pub(crate) fn read_property(
     reference: PropertyReference,
 ) -> Result<OwnedReply, NoMemory>
     requires { IsKept (entry_view entry.now) }
-    ensures { IfOk result (λ r. replied owned_complex r
+    ensures told { IfOk result (λ r. replied owned_complex r
         ≡ at_property (property_in (entry_view entry.now) reference.property) (read_reply (reference_view reference))) }
+    ensures last { OnErr result
+        (is_done (at_property (property_in (entry_view entry.now) reference.property) (read_reply (reference_view reference))) ≡ true) }
 {
     let Some(found) = find(entry, reference.property) else {
         return Ok(Refusal::UnknownProperty.reply());

@@ -9,13 +9,14 @@ ghost use Rattle.bac_store.specs.Stores.{is_object, is_number, object_in};
 ghost use Rattle.bac_store.specs.Views.{entry, slot};
 
 use crate::entry::{Entry, Slot};
+use crate::limits::INSTANCES;
 use bac_value::ObjectIdentifier;
 
 /// Type and instance as one number (clause 20.2.14).
 pub(crate) fn number_of(id: ObjectIdentifier) -> u32
     ensures { result ≡ object_number (object_id id) }
 {
-    u32::from(id.kind) * 0x40_0000 + id.instance
+    u32::from(id.kind) * INSTANCES + id.instance
 }
 
 /// The place of an object.

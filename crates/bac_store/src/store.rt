@@ -1,24 +1,24 @@
 //! The store.
-ghost use Rattle.std.specs.Prelude.{◌≡◌, ◌≤◌, map, IfOk, MatchResult, OnOk, OnErr};
+ghost use Rattle.std.specs.Prelude.{◌≡◌, map, IfOk, MatchResult, OnOk, OnErr};
 ghost use Rattle.bac_service.specs.Values.{Request as RequestView};
 ghost use Rattle.bac_service.specs.Views.{owned_complex, replied, request as request_view};
-ghost use Rattle.bac_store.specs.Changes.{after};
-ghost use Rattle.bac_store.specs.Kept.{IsInOrder};
+ghost use Rattle.bac_store.specs.Answers.{change_view};
+ghost use Rattle.bac_store.specs.Changes.{after, IsGranted};
+ghost use Rattle.bac_store.specs.Kept.{Fits, IsInOrder};
 ghost use Rattle.bac_store.specs.Made.{IsMadeOf, IsRefused};
 ghost use Rattle.bac_store.specs.Plans.{changed, IsPlanFor, IsPlanOn};
 ghost use Rattle.bac_store.specs.Replies.{reply_to};
-ghost use Rattle.bac_store.specs.ReplyLengths.{DATA_LIMIT, reply_length};
 ghost use Rattle.bac_store.specs.Views.{object as object_view};
 
 use crate::changing::{set_octets, set_values};
 use crate::copying::copied;
 use crate::entry::Entry;
 use crate::making::entries_made;
-use crate::new_fault::NewFault;
 use crate::object::Object;
-use crate::ordering::{are_distinct, sort_each, sort_objects};
+use crate::ordering::{are_distinct, sort_and_check_each, sort_objects};
 use crate::planned::{Change, Planned};
 use crate::preparing::{plan_read_file, plan_read_property, plan_write_file, plan_write_property};
+use crate::store_fault::StoreFault;
 use bac_service::{AnyRequest, OwnedReply, Request};
 use bac_value::NoMemory;
 use std::alloc::Global;
@@ -47,19 +47,26 @@ impl Model for Store {
 impl Store {
     /// The store of some objects, in any order.
     ///
-    /// `Duplicate` exactly where two objects have one identifier; otherwise `BadObject` exactly where one is not right: a type
-    /// that is none of this profile's (0, 2, 5, 8, 10 and 128 to 1,023), instance 4,194,303, a name, a listed property or a file
-    /// that it may not have, or that is too long. `NoMemory` is tested last.
-    pub fn new(alloc: Global, objects: Vec<Object>) -> Result<Store, NewFault>
+    /// `Duplicate` exactly where two objects have one identifier; otherwise `BadObject` exactly where one has
+    ///
+    /// - a type other than 0, 2, 5, 8, 10 and 128 to 1,023, or instance 4,194,303;
+    /// - a name or values whose spelling is longer than [`VALUE_LIMIT`](crate::VALUE_LIMIT);
+    /// - a listed property other than 28, 85 and 512 to 4,194,303, or one that is listed twice;
+    /// - a 28 that is not one CharacterString, an 85 of types 0 and 2 that is not one Real, an 85 of type 5 that is not Enumerated
+    ///   0 or 1;
+    /// - a file where its type is not 10, none where it is, or more than [`FILE_LIMIT`](crate::FILE_LIMIT) octets of one.
+    ///
+    /// `NoMemory` is tested last.
+    pub fn new(alloc: Global, objects: Vec<Object>) -> Result<Store, StoreFault>
         ensures { MatchResult result (λ s. IsMadeOf (map object_view objects.items) s) (λ e. IsRefused (map object_view objects.items) e) }
     {
         let mut objects = objects;
         sort_objects(&mut objects);
         if !are_distinct(&objects) {
-            return Err(NewFault::Duplicate);
+            return Err(StoreFault::Duplicate);
         }
-        if !sort_each(&mut objects) {
-            return Err(NewFault::BadObject);
+        if !sort_and_check_each(&mut objects) {
+            return Err(StoreFault::BadObject);
         }
         Ok(Store::of_ordered(alloc, objects)?)
     }
@@ -75,9 +82,11 @@ impl Store {
 
     /// The plan for a request, with all the memory that its reply and its change take. The store is as before.
     ///
-    /// The reply is an Error in the cases of the store's table; then, and on a read, the plan changes nothing.
+    /// The reply is an Error in the cases of docs/PROTOCOL.md, "Replies"; then, and on a read, the plan changes nothing. `NoMemory`
+    /// comes last, only where the reply is no Error.
     pub fn prepare(&self, alloc: Global, request: &Request<'_>) -> Result<Planned, NoMemory>
-        ensures { IfOk result (λ p. IsPlanFor self.now (request_view request.now) p) }
+        ensures plan { IfOk result (λ p. IsPlanFor self.now (request_view request.now) p) }
+        ensures last { OnErr result (IsGranted self.now (request_view request.now)) }
     {
         let objects = self.objects.as_slice();
         match *request {
@@ -95,6 +104,14 @@ impl Store {
         ensures after { (r : RequestView) → IsPlanFor self.old r plan → self.new ≡ after self.old r }
     {
         let Planned { reply: _, change } = plan;
+        self.make(change);
+    }
+
+    /// Makes a change.
+    fn make(&mut self, change: Change)
+        requires { Fits (change_view change) }
+        ensures { self.new ≡ changed (change_view change) self.old }
+    {
         match change {
             Change::Nothing => {}
             Change::Values {
@@ -106,26 +123,20 @@ impl Store {
         }
     }
 
-    /// Prepares a request and commits its plan; the reply. After an Err the store is as before.
+    /// Prepares a request and makes the change of its plan; the plan's reply. It takes the memory of the plan alone. After an Err
+    /// the store is as before; `NoMemory` comes last, as of [`Store::prepare`].
     pub fn perform(&mut self, alloc: Global, request: &Request<'_>) -> Result<OwnedReply, NoMemory>
         ensures reply { IfOk result (λ r. replied owned_complex r ≡ reply_to self.old (request_view request.now)) }
         ensures after { OnOk result (self.new ≡ after self.old (request_view request.now)) }
         ensures err { OnErr result (self.new ≡ self.old) }
+        ensures last { OnErr result (IsGranted self.old (request_view request.now)) }
     {
-        let plan = self.prepare(alloc, request)?;
-        let reply = plan.reply().to_owned(alloc)?;
-        self.commit(plan);
+        let Planned { reply, change } = self.prepare(alloc, request)?;
+        self.make(change);
         Ok(reply)
     }
 
-    /// A law: no reply of a store has more service data than can be sent in segments. The call does nothing.
-    pub fn replies_can_be_sent(&self)
-        ensures { (r : RequestView) → reply_length (reply_to self.now r) ≤ DATA_LIMIT }
-    {
-        let _objects = &self.objects;
-    }
-
-    /// An equal store.
+    /// An equal store. An Err for want of memory; this store is as before.
     pub fn copy(&self, alloc: Global) -> Result<Store, NoMemory>
         ensures { IfOk result (λ s. s ≡ self.now) }
     {

@@ -109,14 +109,14 @@ fn with_property(alloc: Global, kind: u16, number: u32, values: DataBuf) -> Resu
 }
 
 /// A store of one object.
-fn store_of(alloc: Global, object: Object) -> Result<Result<Store, NewFault>, NoMemory> {
+fn store_of(alloc: Global, object: Object) -> Result<Result<Store, StoreFault>, NoMemory> {
     let mut objects = Vec::new(alloc);
     objects.push(object)?;
     Ok(Store::new(alloc, objects))
 }
 
 /// None where a store is made, otherwise why not.
-fn fault_of(alloc: Global, object: Object) -> Result<Option<NewFault>, NoMemory> {
+fn fault_of(alloc: Global, object: Object) -> Result<Option<StoreFault>, NoMemory> {
     match store_of(alloc, object)? {
         Ok(_) => Ok(None),
         Err(fault) => Ok(Some(fault)),

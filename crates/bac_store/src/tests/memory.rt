@@ -1,4 +1,4 @@
-//! Run with each allocation refused in turn, too: `rt try --test --fail-alloc N`.
+//! Run with each allocation refused in turn, too: `sh bench/refusals.sh`.
 use super::*;
 
 const WRITE: [u8; 14] = [
@@ -78,8 +78,44 @@ fn tells_duplicates_without_memory(rt: HostRuntime) -> Result<(), Fail> {
     }
     assert_eq!(rt;
         Store::new(rt.alloc(), objects).err(),
-        Some(NewFault::Duplicate)
+        Some(StoreFault::Duplicate)
     );
+    Ok(())
+}
+
+/// Two objects with these identifiers, each with one listed property.
+fn two_objects(alloc: Global, ids: [ObjectIdentifier; 2]) -> Result<Vec<Object>, NoMemory> {
+    let mut objects = Vec::with_capacity(alloc, 2)?;
+    for id in ids {
+        let mut object = named(alloc, id)?;
+        let values = crate::spelled::spelled(alloc, &Value::Unsigned(7))?;
+        object.properties.push(Property {
+            number: 512,
+            values,
+            writable: false,
+        })?;
+        objects.push(object)?;
+    }
+    Ok(objects)
+}
+
+/// Objects that can be a store are one, or are refused for want of memory alone.
+#[test]
+fn makes_or_refuses(rt: HostRuntime) -> Result<(), Fail> {
+    let first = ObjectIdentifier::new(0, 5).ok_or("no such identifier")?;
+    let second = ObjectIdentifier::new(2, 1).ok_or("no such identifier")?;
+    let Ok(objects) = two_objects(rt.alloc(), [second, first]) else {
+        return Ok(());
+    };
+    match Store::new(rt.alloc(), objects) {
+        Ok(store) => {
+            let [low, high] = store.objects.as_slice() else {
+                return Err(Fail::from("two objects"));
+            };
+            assert_eq!(rt; (low.id, high.id), (first, second));
+        }
+        Err(fault) => assert_eq!(rt; fault, StoreFault::NoMemory),
+    }
     Ok(())
 }
 

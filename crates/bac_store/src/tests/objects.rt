@@ -39,7 +39,7 @@ fn takes_types_of_the_profile(rt: HostRuntime) -> Result<(), Fail> {
         let want = if right {
             None
         } else {
-            Some(NewFault::BadObject)
+            Some(StoreFault::BadObject)
         };
         assert_eq!(rt; fault_of(rt.alloc(), object)?, want, "type {kind}");
     }
@@ -51,7 +51,7 @@ fn takes_instances_but_the_greatest(rt: HostRuntime) -> Result<(), Fail> {
     let last = bare(rt.alloc(), 0, 4_194_302)?;
     assert_eq!(rt; fault_of(rt.alloc(), last)?, None);
     let any = bare(rt.alloc(), 0, 4_194_303)?;
-    assert_eq!(rt; fault_of(rt.alloc(), any)?, Some(NewFault::BadObject));
+    assert_eq!(rt; fault_of(rt.alloc(), any)?, Some(StoreFault::BadObject));
     Ok(())
 }
 
@@ -63,7 +63,7 @@ fn finds_duplicates_first(rt: HostRuntime) -> Result<(), Fail> {
     }
     assert_eq!(rt;
         Store::new(rt.alloc(), objects).err(),
-        Some(NewFault::Duplicate)
+        Some(StoreFault::Duplicate)
     );
     let mut objects = Vec::new(rt.alloc());
     for (kind, instance) in [(7, 5), (2, 5), (7, 5)] {
@@ -71,7 +71,7 @@ fn finds_duplicates_first(rt: HostRuntime) -> Result<(), Fail> {
     }
     assert_eq!(rt;
         Store::new(rt.alloc(), objects).err(),
-        Some(NewFault::Duplicate)
+        Some(StoreFault::Duplicate)
     );
     Ok(())
 }
@@ -106,7 +106,7 @@ fn takes_properties_of_the_profile(rt: HostRuntime) -> Result<(), Fail> {
         let want = if right {
             None
         } else {
-            Some(NewFault::BadObject)
+            Some(StoreFault::BadObject)
         };
         assert_eq!(rt; fault_of(rt.alloc(), object)?, want, "{kind} {number}");
     }
@@ -124,13 +124,13 @@ fn lists_a_property_once(rt: HostRuntime) -> Result<(), Fail> {
             writable: false,
         })?;
     }
-    assert_eq!(rt; fault_of(rt.alloc(), object)?, Some(NewFault::BadObject));
+    assert_eq!(rt; fault_of(rt.alloc(), object)?, Some(StoreFault::BadObject));
     Ok(())
 }
 
 #[test]
 fn limits_values_to_4096_octets(rt: HostRuntime) -> Result<(), Fail> {
-    for (len, want) in [(4_092, None), (4_093, Some(NewFault::BadObject))] {
+    for (len, want) in [(4_092, None), (4_093, Some(StoreFault::BadObject))] {
         let values = string_data(rt.alloc(), len)?;
         let object = with_property(rt.alloc(), 0, 512, values)?;
         assert_eq!(rt; fault_of(rt.alloc(), object)?, want, "{len}");
@@ -140,7 +140,7 @@ fn limits_values_to_4096_octets(rt: HostRuntime) -> Result<(), Fail> {
 
 #[test]
 fn limits_names_to_4096_octets(rt: HostRuntime) -> Result<(), Fail> {
-    for (len, want) in [(4_091, None), (4_092, Some(NewFault::BadObject))] {
+    for (len, want) in [(4_091, None), (4_092, Some(StoreFault::BadObject))] {
         let mut object = bare(rt.alloc(), 0, 1)?;
         let mut name = String::new(rt.alloc());
         for _ in 0..len {
@@ -157,19 +157,19 @@ fn takes_files_alone_with_octets(rt: HostRuntime) -> Result<(), Fail> {
     for (len, want) in [
         (0, None),
         (60_000, None),
-        (60_001, Some(NewFault::BadObject)),
+        (60_001, Some(StoreFault::BadObject)),
     ] {
         let object = file_of(rt.alloc(), len)?;
         assert_eq!(rt; fault_of(rt.alloc(), object)?, want, "{len}");
     }
     let none = bare(rt.alloc(), 10, 1)?;
-    assert_eq!(rt; fault_of(rt.alloc(), none)?, Some(NewFault::BadObject));
+    assert_eq!(rt; fault_of(rt.alloc(), none)?, Some(StoreFault::BadObject));
     let mut other = bare(rt.alloc(), 0, 1)?;
     other.file = Some(File {
         octets: Vec::new(rt.alloc()),
         writable: false,
     });
-    assert_eq!(rt; fault_of(rt.alloc(), other)?, Some(NewFault::BadObject));
+    assert_eq!(rt; fault_of(rt.alloc(), other)?, Some(StoreFault::BadObject));
     Ok(())
 }
 

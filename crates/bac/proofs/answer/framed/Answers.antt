@@ -7,7 +7,7 @@ use Rattle.bac.proofs.answer.framed.Goals as goal
 
 pub write_datagram-requires : goal.write_datagram-requires
 write_datagram-requires c =
-    let reply = replied complex c.args.to_carry in
+    let reply = replied complex c.args.reply in
     let spelling = apdu_spelling (reply_apdu c.args.to.now.invoke c.args.to.now.choice reply) in
     let items : c.deref.result.now ≡ spelling = c.deref.ensures.value ∙ c.in_ok-put_reply.ensures
     ∙ ap (λ (xs : List ℕ). xs ++ spelling) c.new-apdu.ensures.items in

@@ -7,8 +7,8 @@ use Rattle.bac_store.specs.Views.{entry, file}
 use Rattle.bac_store.proofs.PlanLaws.{IfOk-map, stream_plan}
 use Rattle.bac_store.proofs.preparing.plan_write_file.Goals as goal
 
-pub returns-in-Stream : goal.returns-in-Stream
-returns-in-Stream c =
+pub returns-in-Stream-clause-plan : goal.returns-in-Stream-clause-plan
+returns-in-Stream-clause-plan c =
     let s = map entry c.args.objects.now in
     let id = object_id c.args.write.file in
     let start = c.in-Stream.stream.start in
@@ -16,4 +16,4 @@ returns-in-Stream c =
     let f = file c.in-Some.file.now in
     rw c.in-Stream.is
     (IfOk-map c.plan_write_stream.result (IsStreamPlan id start new f) (IsPlanFor s (WriteFile id (WriteStream start new)))
-    (λ p plan. stream_plan s id start new f p c.requires (sym (c.in-Some.ensures).found) plan) c.plan_write_stream.ensures)
+    (λ p plan. stream_plan s id start new f p c.requires (sym (c.in-Some.ensures).found) plan) c.plan_write_stream.ensures.plan)

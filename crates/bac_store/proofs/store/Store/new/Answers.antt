@@ -24,8 +24,8 @@ returns-then-not-are_distinct c =
     not_distinct old.items sorted moved (λ apart. c.if-not-are_distinct.ensures
     (subst (AllPairs (λ a b. object_number (object_id a.id) ≢ object_number (object_id b.id))) (sym seen) apart))
 
-pub returns-then-not-sort_each : goal.returns-then-not-sort_each
-returns-then-not-sort_each c =
+pub returns-then-not-sort_and_check_each : goal.returns-then-not-sort_and_check_each
+returns-then-not-sort_and_check_each c =
     let old = c.args.objects in
     let sorted = c.sort_objects.new.objects in
     let kept : length sorted ≡ old.len = omega (arith, c.deref_mut.ensures.len) in
@@ -33,7 +33,7 @@ returns-then-not-sort_each c =
     let moved : IsPermutation old.items sorted = subst (λ xs. IsPermutation xs sorted) c.deref_mut.ensures.value c.sort_objects.ensures.same in
     bad old.items sorted moved (subst (AllPairs (λ a b. object_number (object_id a.id) < object_number (object_id b.id)))
     (c.deref.ensures.value ∙ items) c.if-not-are_distinct.ensures)
-    (λ all. c.if-not-sort_each.ensures (subst (λ xs. All IsRight (map object xs)) (sym (c.deref_mut-2.ensures.value ∙ items)) all))
+    (λ all. c.if-not-sort_and_check_each.ensures (subst (λ xs. All IsRight (map object xs)) (sym (c.deref_mut-2.ensures.value ∙ items)) all))
 
 -- what is known once both sorts are done
 known : (old : Vec Object Global) (sorted new a b d : List Object)
@@ -60,20 +60,20 @@ known old sorted new a b d k1 first k2 same second rise third k3 all =
 
 pub of_ordered-requires : goal.of_ordered-requires
 of_ordered-requires c =
-    (known c.args.objects c.sort_objects.new.objects c.sort_each.new.objects c.deref_mut.result.now c.deref.result.now c.deref_mut-2.result.now
+    (known c.args.objects c.sort_objects.new.objects c.sort_and_check_each.new.objects c.deref_mut.result.now c.deref.result.now c.deref_mut-2.result.now
     c.sort_objects.auto.objects c.deref_mut.ensures.value c.deref_mut.ensures.len c.sort_objects.ensures.same
-    c.deref.ensures.value c.if-not-are_distinct.ensures c.deref_mut-2.ensures.value c.sort_each.auto.objects c.if-not-sort_each.ensures).order
+    c.deref.ensures.value c.if-not-are_distinct.ensures c.deref_mut-2.ensures.value c.sort_and_check_each.auto.objects c.if-not-sort_and_check_each.ensures).order
 
 pub returns-in_err-of_ordered : goal.returns-in_err-of_ordered
 returns-in_err-of_ordered c =
     refused (map object c.args.objects.items) c.from_residual.result c.from_residual.ensures.1
-    (known c.args.objects c.sort_objects.new.objects c.sort_each.new.objects c.deref_mut.result.now c.deref.result.now c.deref_mut-2.result.now
+    (known c.args.objects c.sort_objects.new.objects c.sort_and_check_each.new.objects c.deref_mut.result.now c.deref.result.now c.deref_mut-2.result.now
     c.sort_objects.auto.objects c.deref_mut.ensures.value c.deref_mut.ensures.len c.sort_objects.ensures.same
-    c.deref.ensures.value c.if-not-are_distinct.ensures c.deref_mut-2.ensures.value c.sort_each.auto.objects c.if-not-sort_each.ensures).good
+    c.deref.ensures.value c.if-not-are_distinct.ensures c.deref_mut-2.ensures.value c.sort_and_check_each.auto.objects c.if-not-sort_and_check_each.ensures).good
 
 pub returns : goal.returns
 returns c =
     subst (IsMadeOf (map object c.args.objects.items)) (sym c.in_ok-of_ordered.ensures)
-    (known c.args.objects c.sort_objects.new.objects c.sort_each.new.objects c.deref_mut.result.now c.deref.result.now c.deref_mut-2.result.now
+    (known c.args.objects c.sort_objects.new.objects c.sort_and_check_each.new.objects c.deref_mut.result.now c.deref.result.now c.deref_mut-2.result.now
     c.sort_objects.auto.objects c.deref_mut.ensures.value c.deref_mut.ensures.len c.sort_objects.ensures.same
-    c.deref.ensures.value c.if-not-are_distinct.ensures c.deref_mut-2.ensures.value c.sort_each.auto.objects c.if-not-sort_each.ensures).made
+    c.deref.ensures.value c.if-not-are_distinct.ensures c.deref_mut-2.ensures.value c.sort_and_check_each.auto.objects c.if-not-sort_and_check_each.ensures).made

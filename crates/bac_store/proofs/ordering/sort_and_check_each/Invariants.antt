@@ -2,7 +2,7 @@ use Rattle.std.proofs.Common.{◌≡◌, ℕ, ◌<◌, ◌≤◌, get_or}
 use Rattle.bac_store.specs.declared.object.Object.{Object}
 use Rattle.bac_store.specs.Ordered.{IsSorting}
 use Rattle.bac_store.specs.Views.{object}
-use Rattle.bac_store.proofs.ordering.sort_each.Given as goal
+use Rattle.bac_store.proofs.ordering.sort_and_check_each.Given as goal
 
 abbrev pub invariant-loop-object : goal.invariant-loop-object
 invariant-loop-object l = record {

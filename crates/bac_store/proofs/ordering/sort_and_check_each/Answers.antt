@@ -3,23 +3,23 @@ use Rattle.bac_store.specs.Objects.{IsRight}
 use Rattle.bac_store.specs.Views.{object}
 use Rattle.bac_store.proofs.Distinct.{All-unmap}
 use Rattle.bac_store.proofs.Sorting.{done_more, left_more}
-use Rattle.bac_store.proofs.ordering.sort_each.Goals as goal
+use Rattle.bac_store.proofs.ordering.sort_and_check_each.Goals as goal
 
-pub returns-then-not-sort_object : goal.returns-then-not-sort_object
-returns-then-not-sort_object c = λ all.
+pub returns-then-not-sort_and_check : goal.returns-then-not-sort_and_check
+returns-then-not-sort_and_check c = λ all.
     let i = c.loop-object.object-index in
     let x = c.object-item.result in
-    c.if-not-sort_object.ensures
+    c.if-not-sort_and_check.ensures
     (subst (λ o. IsRight (object o)) (sym (c.loop-object.invariant.left i x (omega arith))) (All-unmap object IsRight c.args.objects.now all i x (omega arith)))
 
 pub loop-object-preserved : goal.loop-object-preserved
 loop-object-preserved c =
     let old = c.args.objects.now in
     let i = c.loop-object.object-index in
-    let new = c.sort_object.new.object in
+    let new = c.sort_and_check.new.object in
     record {
       done = done_more old c.loop-object.objects i new c.object-item.result (omega arith)
-          (omega arith) c.loop-object.invariant.done c.loop-object.invariant.left c.if-not-sort_object.ensures;
+          (omega arith) c.loop-object.invariant.done c.loop-object.invariant.left c.if-not-sort_and_check.ensures;
       left = left_more old c.loop-object.objects i new c.object-item.result (omega arith)
           (omega arith) c.loop-object.invariant.done c.loop-object.invariant.left;
     }

@@ -12,7 +12,7 @@ use Rattle.bac_store.specs.Objects.{is_right_property}
 use Rattle.bac_store.specs.Ordered.{SortsObject}
 use Rattle.bac_store.specs.Views.{object, property}
 use Rattle.bac_store.proofs.Sorting.{listed_twice, sorts}
-use Rattle.bac_store.proofs.ordering.sort_object.Goals as goal
+use Rattle.bac_store.proofs.ordering.sort_and_check.Goals as goal
 
 pub returns-then-not-are_listed_once : goal.returns-then-not-are_listed_once
 returns-then-not-are_listed_once c =
