@@ -148,11 +148,7 @@ fn print_property_read<W: Write>(
     print_octets(alloc, "values", read.values.octets, out)
 }
 
-fn print_answer_members<W: Write>(
-    alloc: Global,
-    answer: Complex<'_>,
-    out: &mut W,
-) -> io::Result<()>
+fn print_answer_members<W: Write>(alloc: Global, answer: Complex<'_>, out: &mut W) -> io::Result<()>
     ensures { IfSome (answer_text (view.complex answer.entry)) (λ text. OnOk result (Appends (W.contents out.old) (W.contents out.new) text)) }
 {
     match answer {

@@ -381,7 +381,10 @@ fn checks_captures(rt: HostRuntime) {
 fn skips_overlong_lines(rt: HostRuntime) -> Result<(), Fail> {
     let line = "7 7F000001BAC1 7F000001BAC0 810A000801001013";
     let table = [
-        (131_957, "line 1: not a capture line\nlines=2 good=1 bad=1\n"),
+        (
+            131_957,
+            "line 1: not a capture line\nlines=2 good=1 bad=1\n",
+        ),
         (131_956, "lines=2 good=2 bad=0\n"),
     ];
     for (zeros, want) in table {
