@@ -4,7 +4,7 @@
 import os
 import subprocess
 import sys
-sys.dont_write_bytecode = True
+sys.dont_write_bytecode = True  # no __pycache__ beside the sources
 
 import tempfile
 import time

@@ -3,7 +3,7 @@
 
 import subprocess
 import sys
-sys.dont_write_bytecode = True
+sys.dont_write_bytecode = True  # no __pycache__ beside the sources
 
 from concurrent.futures import ThreadPoolExecutor
 

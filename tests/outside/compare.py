@@ -4,7 +4,7 @@
 compare.py PROGRAM FILE.. ; README.md beside this file says more. Status 0 where every difference has a known reason, otherwise 1."""
 
 import sys
-sys.dont_write_bytecode = True
+sys.dont_write_bytecode = True  # no __pycache__ beside the sources
 
 from collections import Counter
 
@@ -14,7 +14,7 @@ from readings import bac_readings, read_datagrams, tshark_rows, tshark_version
 from shapes import has_service, production, spelled_octets
 
 
-TITLES = ['read by both', 'refused by both', 'refused by bac alone', 'refused by tshark alone', 'fields compared', 'productions compared', 'fields that differ']
+TITLES = ['read by both', 'refused by both', 'refused by bac alone', 'refused by tshark alone', 'members compared', 'productions compared', 'members that differ']
 
 
 class Report:
@@ -80,7 +80,7 @@ def compare_refused_by_bac(case, report):
 def compare_members(case, report):
     for line in case.reading.lines:
         for member, ours, theirs in compare_line(line, case.row):
-            report.counts['fields compared'] += 1
+            report.counts['members compared'] += 1
             if ours != theirs:
                 compare_member(case, report, line.word, member, ours, theirs)
     if case.reading.fault is None and case.apdu and has_service(case.apdu) and not after_long_address(case):
@@ -97,7 +97,7 @@ def compare_tags(case, report):
 
 
 def compare_member(case, report, word, member, ours, theirs):
-    title = 'fields that differ'
+    title = 'members that differ'
     for name, sign, reason in MEMBER_KINDS:
         if sign(case, word, member, ours, theirs):
             return report.explain(title, name, reason)

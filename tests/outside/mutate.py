@@ -3,7 +3,7 @@
 
 import random
 import sys
-sys.dont_write_bytecode = True
+sys.dont_write_bytecode = True  # no __pycache__ beside the sources
 
 from readings import read_datagrams
 

@@ -3,7 +3,7 @@
 
 import copy
 import sys
-sys.dont_write_bytecode = True
+sys.dont_write_bytecode = True  # no __pycache__ beside the sources
 
 from collections import Counter
 

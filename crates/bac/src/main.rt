@@ -9,13 +9,14 @@ mod reply_writing;
 mod tests;
 mod text;
 
-use bac_text::{Status, check_over, complain, decode_over};
+use bac_text::{Status, check_over, complain, decode_over, no_memory};
 use clap::error::ErrorKind;
 use clap::{Arg, ArgAction, ArgMatches, Command};
-use std::alloc::Global;
+use std::alloc::{AllocError, Global};
 use std::io::{BufReader, BufWriter};
 use std::process::ExitCode;
 use std::{fs, io};
+use text::answer_over;
 
 /// A word that has to be given.
 fn word<'a>(alloc: Global, name: &'a str, help: &'a str) -> Arg<'a> {
@@ -44,6 +45,11 @@ fn command<'a>(alloc: Global) -> Result<Command<'a>, clap::Error> {
     Ok(bac)
 }
 
+/// What the words of a command line give. An Err is want of memory, or has the text for who wrote them.
+fn matches<'a>(alloc: Global, words: &'a [String]) -> Result<ArgMatches<'a>, clap::Error> {
+    command(alloc)?.try_get_matches_from(words)
+}
+
 /// Checks the capture in a file.
 fn check(rt: &HostRuntime, path: &str) -> io::Result<Status> {
     let mut err = rt.stderr();
@@ -63,39 +69,47 @@ fn decode(rt: &HostRuntime, datagram: &str) -> io::Result<Status> {
     Ok(decode_over(rt.alloc(), datagram, &mut out, &mut rt.stderr()))
 }
 
-/// Does what a subcommand says. An Err comes for want of memory alone.
-fn run(rt: &HostRuntime, matches: &ArgMatches) -> io::Result<Status> {
-    match matches.subcommand() {
-        Some(("answer", answer)) => {
-            let datagram = answer.get_str("HEX").unwrap_or("");
-            let status = text::answer_over(
-                rt.alloc(),
-                datagram,
-                &mut rt.stdout(),
-                &mut rt.stderr(),
-            );
-            Ok(status)
-        }
-        Some(("decode", given)) => decode(rt, given.get_str("HEX").unwrap_or("")),
-        Some(("check", given)) => check(rt, given.get_str("FILE").unwrap_or("")),
-        _ => Ok(Status::CommandLine),
+/// What a command line asks for.
+enum Task<'a> {
+    /// The datagrams that answer this one.
+    Answer(&'a str),
+    /// The layers of this datagram.
+    Decode(&'a str),
+    /// The bad lines of the capture in this file.
+    Check(&'a str),
+}
+
+/// None where there is no subcommand, or its word is missing; clap refuses such words itself.
+fn asked_of<'a>(matches: &ArgMatches<'a>) -> Option<Task<'a>> {
+    match matches.subcommand()? {
+        ("answer", given) => Some(Task::Answer(given.get_str("HEX")?)),
+        ("decode", given) => Some(Task::Decode(given.get_str("HEX")?)),
+        ("check", given) => Some(Task::Check(given.get_str("FILE")?)),
+        _ => None,
     }
 }
 
-/// Reads the command line and does what it says. An Err comes for want of memory alone.
-fn start(rt: &HostRuntime) -> anyhow::Result<Status> {
-    let alloc = rt.alloc();
-    let words: Vec<String> = match std::env::args(rt) {
-        Ok(words) => words.collect(alloc)?,
-        Err(error) if error.kind() == io::ErrorKind::OutOfMemory => return Ok(no_memory(rt)),
-        Err(error) => {
-            let _ = eprintln!(rt; "{error}");
-            return Ok(Status::CommandLine);
+/// Does what a command line asks for. An Err comes for want of memory alone.
+fn run(rt: &HostRuntime, task: Task<'_>) -> io::Result<Status> {
+    match task {
+        Task::Answer(datagram) => {
+            let (mut out, mut err) = (rt.stdout(), rt.stderr());
+            Ok(answer_over(rt.alloc(), datagram, &mut out, &mut err))
         }
-    };
-    match command(alloc)?.try_get_matches_from(words.as_slice()) {
-        Ok(matches) => Ok(run(rt, &matches)?),
-        Err(error) if error.kind() == ErrorKind::OutOfMemory => Ok(no_memory(rt)),
+        Task::Decode(datagram) => decode(rt, datagram),
+        Task::Check(path) => check(rt, path),
+    }
+}
+
+/// Reads the command line and does what it says. An Err is want of memory, or a word that is no UTF-8.
+fn start(rt: &HostRuntime) -> io::Result<Status> {
+    let words: Vec<String> = std::env::args(rt)?.collect(rt.alloc())?;
+    match matches(rt.alloc(), words.as_slice()) {
+        Ok(matches) => match asked_of(&matches) {
+            Some(task) => run(rt, task),
+            None => Ok(complain(&mut rt.stderr(), "no command", Status::CommandLine)),
+        },
+        Err(error) if error.kind() == ErrorKind::OutOfMemory => Err(AllocError.into()),
         Err(error) => {
             // where even that fails, the status alone tells
             let _ = eprint!(rt; "{error}");
@@ -104,18 +118,18 @@ fn start(rt: &HostRuntime) -> anyhow::Result<Status> {
     }
 }
 
-fn no_memory(rt: &HostRuntime) -> Status {
-    let _ = eprintln!(rt; "no memory");
-    Status::Memory
-}
-
 fn main(rt: HostRuntime) -> ExitCode {
     // a law is proved where it is reached
     laws::one_meaning();
+    laws::one_frame();
     laws::replies_fit();
     let status = match start(&rt) {
         Ok(status) => status,
-        Err(_) => no_memory(&rt),
+        Err(error) if error.kind() == io::ErrorKind::OutOfMemory => no_memory(&mut rt.stderr()),
+        Err(error) => {
+            let _ = eprintln!(rt; "{error}");
+            Status::CommandLine
+        }
     };
     ExitCode::from(status.code())
 }

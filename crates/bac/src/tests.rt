@@ -250,9 +250,3 @@ fn tells_that_output_failed(rt: HostRuntime) {
     assert_eq!(rt; status.code(), 3);
     assert_eq!(rt; err.len(), 0);
 }
-
-#[test]
-fn statuses_have_their_numbers(rt: HostRuntime) {
-    assert_eq!(rt; Status::Done.code(), 0);
-    assert_eq!(rt; Status::Memory.code(), 4);
-}

@@ -1,6 +1,6 @@
 //! The texts that commands take and print.
 use crate::answer::answer_datagram;
-use bac_text::{Status, complain, output_failed};
+use bac_text::{Status, complain, no_memory, output_failed};
 use hex::FromHexError;
 use std::alloc::Global;
 use std::io::Write;
@@ -16,17 +16,17 @@ pub fn answer_over<O: Write, E: Write>(
 ) -> Status {
     let datagram = match hex::decode(alloc, text) {
         Ok(datagram) => datagram,
-        Err(FromHexError::OutOfMemory) => return complain(err, "no memory", Status::Memory),
+        Err(FromHexError::OutOfMemory) => return no_memory(err),
         Err(_) => return complain(err, "bad hex", Status::CommandLine),
     };
     let Ok(answer) = answer_datagram(alloc, &datagram) else {
-        return complain(err, "no memory", Status::Memory);
+        return no_memory(err);
     };
     let printed = match answer {
         None => out.writeln("none"),
         Some(frame) => match hex::encode_upper(alloc, frame) {
             Ok(text) => out.writeln(text.as_str()),
-            Err(_) => return complain(err, "no memory", Status::Memory),
+            Err(_) => return no_memory(err),
         },
     };
     match printed {

@@ -1,12 +1,9 @@
 -- The texts that are printed, each as the octets of its characters.
-use Rattle.std.specs.Prelude.{ℕ, Bool, List, [], ◌∷◌, ◌++◌, codes, decimal, ℤ, Option, Some, None}
-use Rattle.std.specs.Fmt.{signed_decimal}
+use Rattle.std.specs.Prelude.{ℕ, Bool, List, [], ◌∷◌, ◌++◌, codes, decimal, Option, Some, None}
 use Rattle.std.specs.Int.{from_bool}
 use Rattle.hex.specs.Hex.{encode_upper}
 use Rattle.bac_apdu.specs.Apdu.{Segment, Apdu, ConfirmedRequest, UnconfirmedRequest, SimpleAck, ComplexAck, SegmentAck, Error, Reject, Abort}
-use Rattle.bac_service.specs.Values.{Reference, ReadAccess, Request, Complex}
-use Rattle.bac_service.specs.Values.ReadAccess.{ReadStream, ReadRecords}
-use Rattle.bac_service.specs.Values.WriteAccess.{WriteStream, WriteRecords}
+use Rattle.bac_service.specs.Values.{Reference, Request, Complex}
 use Rattle.bac_service.specs.Values.Request.{ReadFile, WriteFile, ReadProperty, WriteProperty}
 use Rattle.bac_service.specs.Values.Complex.{FileRead, StreamWritten, RecordsWritten, PropertyRead}
 use Rattle.bac_value.specs.Value.{ObjectId}
@@ -38,6 +35,11 @@ octets_text name octets = codes " " ++ (name ++ (codes "=" ++ encode_upper octet
 -- a network and an address on it, behind a name
 abbrev pub place_text : List ℕ → ℕ → List ℕ → List ℕ
 place_text name network address = codes " " ++ (name ++ (codes "=" ++ (decimal network ++ (codes ":" ++ encode_upper address))))
+
+-- ---- the line of a BVLL, of so many octets
+
+abbrev pub bvll_text : ℕ → List ℕ
+bvll_text len = (codes "bvll len=" ++ decimal len) ++ line_end
 
 -- ---- the line of an NPDU
 
@@ -105,15 +107,20 @@ reject_text invoke reason = codes "reject id=" ++ (decimal invoke ++ (codes " re
 abbrev pub abort_text : Bool → ℕ → ℕ → List ℕ
 abort_text server invoke reason = codes "abort srv=" ++ (bit_text server ++ (codes " id=" ++ (decimal invoke ++ (codes " reason=" ++ decimal reason))))
 
+-- of an APDU without service data; of another none
+abbrev pub plain_members_text : Apdu → List ℕ
+plain_members_text (SimpleAck invoke choice) = simple_ack_text invoke choice
+plain_members_text (SegmentAck nak server invoke number window) = segment_ack_text nak server invoke number window
+plain_members_text (Error invoke choice class code) = error_text invoke choice class code
+plain_members_text (Reject invoke reason) = reject_text invoke reason
+plain_members_text (Abort server invoke reason) = abort_text server invoke reason
+plain_members_text _ = []
+
 unfoldable pub members_text : Apdu → List ℕ
 members_text (ConfirmedRequest takes_segments max_segments max_apdu invoke segment choice service) = request_head_text takes_segments max_segments max_apdu invoke ++ body_text segment choice service
 members_text (UnconfirmedRequest choice service) = unconfirmed_text choice service
-members_text (SimpleAck invoke choice) = simple_ack_text invoke choice
 members_text (ComplexAck invoke segment choice service) = complex_ack_head_text invoke ++ body_text segment choice service
-members_text (SegmentAck nak server invoke number window) = segment_ack_text nak server invoke number window
-members_text (Error invoke choice class code) = error_text invoke choice class code
-members_text (Reject invoke reason) = reject_text invoke reason
-members_text (Abort server invoke reason) = abort_text server invoke reason
+members_text apdu = plain_members_text apdu
 
 unfoldable pub apdu_text : Apdu → List ℕ
 apdu_text a = members_text a ++ line_end
@@ -130,33 +137,21 @@ reference_text name r = name ++ (object_text r.object ++ ((codes " property=" ++
 abbrev pub write_property_text : Reference → List ℕ → Option ℕ → List ℕ
 write_property_text r values priority = reference_text (codes "write-property") r ++ (octets_text (codes "values") values ++ optional (number_text (codes "priority")) priority)
 
-abbrev pub read_file_text : ObjectId → ReadAccess → List ℕ
-read_file_text file (ReadStream start count) = codes "read-file" ++ (object_text file ++ (codes " position=" ++ (signed_decimal start ++ (codes " count=" ++ decimal count))))
-read_file_text file (ReadRecords start count) = codes "read-records" ++ (object_text file ++ (codes " record=" ++ (signed_decimal start ++ (codes " count=" ++ decimal count))))
-
 abbrev pub property_read_text : Reference → List ℕ → List ℕ
 property_read_text r values = reference_text (codes "read-property-ack") r ++ octets_text (codes "values") values
 
-abbrev pub file_read_text : Bool → ℤ → List ℕ → List ℕ
-file_read_text end_of_file start octets =
-    (codes "read-file-ack end=" ++ (bit_text end_of_file ++ (codes " position=" ++ signed_decimal start))) ++ octets_text (codes "octets") octets
-
-abbrev pub stream_text : ObjectId → ℤ → List ℕ → List ℕ
-stream_text file start octets = codes "write-file" ++ (object_text file ++ ((codes " position=" ++ signed_decimal start) ++ octets_text (codes "octets") octets))
-
--- of a write of records nothing is said here
+-- of requests and answers on files nothing is said here
 abbrev pub request_text : Request → Option (List ℕ)
-request_text (ReadFile file access) = Some (read_file_text file access ++ line_end)
-request_text (WriteFile file (WriteStream start octets)) = Some (stream_text file start octets ++ line_end)
-request_text (WriteFile file (WriteRecords start count run)) = None
-request_text (ReadProperty r) = Some (reference_text (codes "read-property") r ++ line_end)
-request_text (WriteProperty r values priority) = Some (write_property_text r values priority ++ line_end)
+request_text (ReadFile file access) = None
+request_text (WriteFile file access) = None
+request_text (ReadProperty r) = Some (reference_text (codes "read-property") r)
+request_text (WriteProperty r values priority) = Some (write_property_text r values priority)
 
-abbrev pub answer_text : Complex → List ℕ
-answer_text (FileRead end_of_file start octets) = file_read_text end_of_file start octets ++ line_end
-answer_text (StreamWritten start) = (codes "write-file-ack position=" ++ signed_decimal start) ++ line_end
-answer_text (RecordsWritten start) = (codes "write-file-ack record=" ++ signed_decimal start) ++ line_end
-answer_text (PropertyRead r values) = property_read_text r values ++ line_end
+abbrev pub answer_text : Complex → Option (List ℕ)
+answer_text (FileRead end_of_file start octets) = None
+answer_text (StreamWritten start) = None
+answer_text (RecordsWritten start) = None
+answer_text (PropertyRead r values) = Some (property_read_text r values)
 
 -- ---- what is wrong with a line of a capture
 

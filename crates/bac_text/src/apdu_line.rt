@@ -3,7 +3,7 @@ ghost use Rattle.std.specs.Prelude.{OnOk};
 ghost use Rattle.std.specs.Option.{option_map};
 ghost use Rattle.std.specs.Io.KnownBytes.{Appends};
 ghost use Rattle.bac_apdu.specs.Views.{segment_view, apdu_view};
-ghost use Rattle.bac_text.specs.Texts.{optional, segment_text, service_text, request_head_text, segment_ack_head_text, segment_ack_text, unconfirmed_text, simple_ack_text, complex_ack_head_text, body_text, error_text, abort_text, reject_text, members_text, apdu_text};
+ghost use Rattle.bac_text.specs.Texts.{optional, segment_text, service_text, request_head_text, segment_ack_head_text, segment_ack_text, unconfirmed_text, simple_ack_text, complex_ack_head_text, body_text, error_text, abort_text, reject_text, plain_members_text, members_text, apdu_text};
 
 use crate::member::{print_end, print_octets};
 use bac_apdu::{Apdu, Codes, Segment, Window};
@@ -143,35 +143,12 @@ fn print_reject<W: Write>(invoke: u8, reason: u8, out: &mut W) -> io::Result<()>
     write!(out, "reject id={invoke} reason={reason}")
 }
 
-#[tactic(auto, unfolding(crate::specs::Texts::members_text))]
-fn print_members<W: Write>(alloc: Global, apdu: Apdu<'_>, out: &mut W) -> io::Result<()>
-    ensures { OnOk result (Appends (W.contents out.old) (W.contents out.new) (members_text (apdu_view apdu.entry))) }
+/// The members of an APDU without service data: an acknowledgement, an Error, a Reject or an Abort. Others print nothing.
+fn print_plain_members<W: Write>(apdu: Apdu<'_>, out: &mut W) -> io::Result<()>
+    ensures { OnOk result (Appends (W.contents out.old) (W.contents out.new) (plain_members_text (apdu_view apdu.entry))) }
 {
     match apdu {
-        Apdu::ConfirmedRequest {
-            takes_segments,
-            codes,
-            invoke,
-            segment,
-            choice,
-            service,
-        } => {
-            print_request_head(takes_segments, codes, invoke, out)?;
-            print_body(alloc, segment, choice, service, out)
-        }
-        Apdu::UnconfirmedRequest { choice, service } => {
-            print_unconfirmed(alloc, choice, service, out)
-        }
         Apdu::SimpleAck { invoke, choice } => print_simple_ack(invoke, choice, out),
-        Apdu::ComplexAck {
-            invoke,
-            segment,
-            choice,
-            service,
-        } => {
-            print_complex_ack_head(invoke, out)?;
-            print_body(alloc, segment, choice, service, out)
-        }
         Apdu::SegmentAck {
             nak,
             server,
@@ -191,6 +168,40 @@ fn print_members<W: Write>(alloc: Global, apdu: Apdu<'_>, out: &mut W) -> io::Re
             invoke,
             reason,
         } => print_abort(server, invoke, reason, out),
+        Apdu::ConfirmedRequest { .. } | Apdu::UnconfirmedRequest { .. } | Apdu::ComplexAck { .. } =>
+            Ok(()),
+    }
+}
+
+#[tactic(auto, unfolding(crate::specs::Texts::members_text))]
+fn print_members<W: Write>(alloc: Global, apdu: Apdu<'_>, out: &mut W) -> io::Result<()>
+    ensures { OnOk result (Appends (W.contents out.old) (W.contents out.new) (members_text (apdu_view apdu.entry))) }
+{
+    match apdu {
+        Apdu::ConfirmedRequest {
+            takes_segments,
+            codes,
+            invoke,
+            segment,
+            choice,
+            service,
+        } => {
+            print_request_head(takes_segments, codes, invoke, out)?;
+            print_body(alloc, segment, choice, service, out)
+        }
+        Apdu::UnconfirmedRequest { choice, service } => {
+            print_unconfirmed(alloc, choice, service, out)
+        }
+        Apdu::ComplexAck {
+            invoke,
+            segment,
+            choice,
+            service,
+        } => {
+            print_complex_ack_head(invoke, out)?;
+            print_body(alloc, segment, choice, service, out)
+        }
+        _ => print_plain_members(apdu, out),
     }
 }
 

@@ -7,7 +7,7 @@ ghost use Rattle.bac_text.specs.Statuses.{IsTallied};
 use crate::capture::read_capture_line;
 use crate::layers::check_datagram;
 use crate::line_fault::LineFault;
-use crate::status::{Status, complain, output_failed};
+use crate::status::{Status, complain, no_memory, output_failed};
 use std::alloc::{AllocError, Global};
 use std::io::{BufRead, Read, Write};
 use std::{fmt, io};
@@ -159,7 +159,7 @@ pub fn check_over<R: BufRead, O: Write, E: Write>(
         Err(CheckError::Input(error)) if error.kind() != io::ErrorKind::OutOfMemory => {
             Ok(complain(err, "cannot read", Status::CommandLine))
         }
-        Err(_) => Ok(complain(err, "no memory", Status::Memory)),
+        Err(_) => Ok(no_memory(err)),
     };
     match (printed, out.flush()) {
         (Ok(status), Ok(())) => status,

@@ -3,10 +3,10 @@ ghost use Rattle.std.specs.Prelude.{IfOk};
 ghost use Rattle.bac_text.specs.Outcome.{IsReported, IsDecoded};
 
 use crate::apdu_line::print_apdu;
-use crate::frame_lines::print_npdu;
+use crate::frame_lines::{print_bvll, print_npdu};
 use crate::layers::{answer_in, check_datagram, request_in};
 use crate::service_line::{print_answer, print_request};
-use crate::status::{Status, complain, output_failed};
+use crate::status::{Status, complain, no_memory, output_failed};
 use bac_apdu::Apdu;
 use bac_npdu::{read_bvll, read_npdu};
 use hex::FromHexError;
@@ -31,8 +31,7 @@ fn print_layers<W: Write>(alloc: Global, datagram: &[u8], out: &mut W) -> io::Re
     let Ok(npdu) = read_bvll(datagram) else {
         return Ok(());
     };
-    let len = datagram.len();
-    writeln!(out, "bvll len={len}")?;
+    print_bvll(datagram.len(), out)?;
     let Ok(npdu) = read_npdu(npdu) else {
         return Ok(());
     };
@@ -76,7 +75,7 @@ pub fn decode_over<O: Write, E: Write>(
 {
     let datagram = match hex::decode(alloc, text) {
         Ok(datagram) => datagram,
-        Err(FromHexError::OutOfMemory) => return complain(err, "no memory", Status::Memory),
+        Err(FromHexError::OutOfMemory) => return no_memory(err),
         Err(_) => return complain(err, "bad hex", Status::CommandLine),
     };
     match decode_datagram(alloc, &datagram, out) {

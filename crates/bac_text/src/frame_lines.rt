@@ -1,16 +1,24 @@
-//! The line of an NPDU.
+//! The lines of a BVLL and of an NPDU.
 ghost use Rattle.std.specs.Prelude.{OnOk};
 ghost use Rattle.std.specs.Option.{option_map};
 ghost use Rattle.std.specs.Io.KnownBytes.{Appends};
 ghost use Rattle.bac_npdu.specs.Addresses.{address_view};
 ghost use Rattle.bac_npdu.specs.Views.{destination_view, route_view, message_view, npdu_view};
-ghost use Rattle.bac_text.specs.Texts.{optional, place_text, destination_text, source_text, message_text, npdu_head_text, npdu_text};
+ghost use Rattle.bac_text.specs.Texts.{optional, place_text, destination_text, source_text, message_text, bvll_text, npdu_head_text, npdu_text};
 
 use crate::member::{print_end, print_octets};
 use bac_npdu::{Address, Destination, Message, Npdu, Route};
 use std::alloc::Global;
 use std::io;
 use std::io::Write;
+
+/// Prints a BVLL: the octets of its datagram, as `bvll len=17`.
+pub(crate) fn print_bvll<W: Write>(len: usize, out: &mut W) -> io::Result<()>
+    ensures { OnOk result (Appends (W.contents out.old) (W.contents out.new) (bvll_text len)) }
+{
+    write!(out, "bvll len={len}")?;
+    print_end(out)
+}
 
 /// A network and the address of a device on it, behind a name.
 fn print_place<W: Write>(

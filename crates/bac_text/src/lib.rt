@@ -7,6 +7,7 @@ mod check;
 mod decode;
 mod fault;
 mod frame_lines;
+mod laws;
 mod layers;
 mod line_fault;
 mod member;
@@ -17,8 +18,9 @@ pub use capture::{CaptureLine, read_capture_line};
 pub use check::check_over;
 pub use decode::decode_over;
 pub use fault::LayerFault;
+pub use laws::fine_or_at_fault;
 pub use layers::check_datagram;
-pub use status::{Status, complain, output_failed};
+pub use status::{Status, complain, no_memory, output_failed};
 
 #[cfg(test)]
 mod tests;

@@ -1,7 +1,12 @@
 //! The line of a request or an answer.
+ghost use Rattle.std.specs.Prelude.{◌≡◌, OnOk, IfSome, ◌++◌};
+ghost use Rattle.std.specs.Io.KnownBytes.{Appends};
+ghost use Rattle.bac_service.specs.Views as view;
+ghost use Rattle.bac_text.specs.Texts.{reference_text, write_property_text, property_read_text, request_text, answer_text, line_end};
+
 use crate::member::{print_end, print_object, print_octets, print_optional};
 use bac_service::{
-    AnyComplex, AnyRequest, Complex, Content, FileRead, FileWritten, PropertyRead,
+    AnyComplex, AnyRequest, Complex, Content, FileRead, FileWritten, Priority, PropertyRead,
     PropertyReference, ReadAccess, ReadFile, Records, Request, WriteAccess, WriteFile,
     WriteProperty,
 };
@@ -15,7 +20,9 @@ fn print_reference<W: Write>(
     name: &str,
     reference: PropertyReference,
     out: &mut W,
-) -> io::Result<()> {
+) -> io::Result<()>
+    ensures { OnOk result (Appends (W.contents out.old) (W.contents out.new) (reference_text name.now (view.reference reference))) }
+{
     write!(out, "{name}")?;
     print_object(reference.object, out)?;
     let property = reference.property;
@@ -23,17 +30,25 @@ fn print_reference<W: Write>(
     print_optional("index", reference.index, out)
 }
 
+fn number_of(priority: Option<Priority>) -> Option<u32>
+    ensures { result ≡ view.number_of priority }
+{
+    match priority {
+        None => None,
+        Some(priority) => Some(u32::from(priority.number)),
+    }
+}
+
 fn print_write_property<W: Write>(
     alloc: Global,
     write: WriteProperty<Data<'_>>,
     out: &mut W,
-) -> io::Result<()> {
+) -> io::Result<()>
+    ensures { OnOk result (Appends (W.contents out.old) (W.contents out.new) (write_property_text (view.reference write.entry.reference) write.entry.values.octets.now (view.number_of write.entry.priority))) }
+{
     print_reference("write-property", write.reference, out)?;
     print_octets(alloc, "values", write.values.octets, out)?;
-    match write.priority {
-        None => Ok(()),
-        Some(priority) => print_optional("priority", Some(u32::from(priority.number)), out),
-    }
+    print_optional("priority", number_of(write.priority), out)
 }
 
 fn print_read_file<W: Write>(read: ReadFile, out: &mut W) -> io::Result<()> {
@@ -84,18 +99,30 @@ fn print_write_file<W: Write>(
     }
 }
 
+fn print_request_members<W: Write>(
+    alloc: Global,
+    request: Request<'_>,
+    out: &mut W,
+) -> io::Result<()>
+    ensures { IfSome (request_text (view.request request.entry)) (λ text. OnOk result (Appends (W.contents out.old) (W.contents out.new) text)) }
+{
+    match request {
+        AnyRequest::ReadFile(read) => print_read_file(read, out),
+        AnyRequest::WriteFile(write) => print_write_file(alloc, write, out),
+        AnyRequest::ReadProperty(reference) => print_reference("read-property", reference, out),
+        AnyRequest::WriteProperty(write) => print_write_property(alloc, write, out),
+    }
+}
+
 /// Prints a request of one of the four services.
 pub(crate) fn print_request<W: Write>(
     alloc: Global,
     request: Request<'_>,
     out: &mut W,
-) -> io::Result<()> {
-    match request {
-        AnyRequest::ReadFile(read) => print_read_file(read, out)?,
-        AnyRequest::WriteFile(write) => print_write_file(alloc, write, out)?,
-        AnyRequest::ReadProperty(reference) => print_reference("read-property", reference, out)?,
-        AnyRequest::WriteProperty(write) => print_write_property(alloc, write, out)?,
-    }
+) -> io::Result<()>
+    ensures { IfSome (request_text (view.request request.entry)) (λ text. OnOk result (Appends (W.contents out.old) (W.contents out.new) (text ++ line_end))) }
+{
+    print_request_members(alloc, request, out)?;
     print_end(out)
 }
 
@@ -114,9 +141,26 @@ fn print_property_read<W: Write>(
     alloc: Global,
     read: PropertyRead<Data<'_>>,
     out: &mut W,
-) -> io::Result<()> {
+) -> io::Result<()>
+    ensures { OnOk result (Appends (W.contents out.old) (W.contents out.new) (property_read_text (view.reference read.entry.reference) read.entry.values.octets.now)) }
+{
     print_reference("read-property-ack", read.reference, out)?;
     print_octets(alloc, "values", read.values.octets, out)
+}
+
+fn print_answer_members<W: Write>(alloc: Global, answer: Complex<'_>, out: &mut W) -> io::Result<()>
+    ensures { IfSome (answer_text (view.complex answer.entry)) (λ text. OnOk result (Appends (W.contents out.old) (W.contents out.new) text)) }
+{
+    match answer {
+        AnyComplex::FileRead(read) => print_file_read(alloc, read, out),
+        AnyComplex::FileWritten(FileWritten::Stream(start)) => {
+            write!(out, "write-file-ack position={start}")
+        }
+        AnyComplex::FileWritten(FileWritten::Records(start)) => {
+            write!(out, "write-file-ack record={start}")
+        }
+        AnyComplex::PropertyRead(read) => print_property_read(alloc, read, out),
+    }
 }
 
 /// Prints an answer of one of the services.
@@ -124,16 +168,9 @@ pub(crate) fn print_answer<W: Write>(
     alloc: Global,
     answer: Complex<'_>,
     out: &mut W,
-) -> io::Result<()> {
-    match answer {
-        AnyComplex::FileRead(read) => print_file_read(alloc, read, out)?,
-        AnyComplex::FileWritten(FileWritten::Stream(start)) => {
-            write!(out, "write-file-ack position={start}")?;
-        }
-        AnyComplex::FileWritten(FileWritten::Records(start)) => {
-            write!(out, "write-file-ack record={start}")?;
-        }
-        AnyComplex::PropertyRead(read) => print_property_read(alloc, read, out)?,
-    }
+) -> io::Result<()>
+    ensures { IfSome (answer_text (view.complex answer.entry)) (λ text. OnOk result (Appends (W.contents out.old) (W.contents out.new) (text ++ line_end))) }
+{
+    print_answer_members(alloc, answer, out)?;
     print_end(out)
 }

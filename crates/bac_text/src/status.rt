@@ -1,8 +1,10 @@
-ghost use Rattle.std.specs.Prelude.{◌≡◌};
+ghost use Rattle.std.specs.Prelude.{◌≡◌, ◌≢◌};
 ghost use Rattle.bac_text.specs.Statuses.{exit_status, IsFailure};
+ghost use Rattle.std.specs.IoError.{error_kind};
+ghost use Rattle.bac_text.specs.declared.status.Status.TheVariants.{Memory, Output};
 
 use std::io;
-use std::io::Write;
+use std::io::{ErrorKind, Write};
 
 /// How a command ended. `status as u8` is the exit status of the program.
 #[derive(Clone, Copy, Debug, PartialEq, Eq)]
@@ -36,12 +38,21 @@ pub fn complain<E: Write>(err: &mut E, message: &str, status: Status) -> Status
     status
 }
 
+/// Complains of want of memory.
+pub fn no_memory<E: Write>(err: &mut E) -> Status
+    ensures { result ≡ Memory }
+{
+    complain(err, "no memory", Status::Memory)
+}
+
 /// The status of a command whose output failed: want of memory is told apart from what could not be written.
 pub fn output_failed<E: Write>(err: &mut E, error: &io::Error) -> Status
-    ensures { IsFailure result }
+    ensures memory { error_kind error.now ≡ ErrorKind.OutOfMemory → result ≡ Memory }
+    ensures output { error_kind error.now ≢ ErrorKind.OutOfMemory → result ≡ Output }
+    ensures failed { IsFailure result }
 {
-    if error.kind() == io::ErrorKind::OutOfMemory {
-        complain(err, "no memory", Status::Memory)
+    if error.kind() == ErrorKind::OutOfMemory {
+        no_memory(err)
     } else {
         Status::Output
     }

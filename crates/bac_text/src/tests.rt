@@ -5,7 +5,7 @@ use crate::decode::decode_over;
 use crate::status::Status;
 use std::alloc::Global;
 use std::io;
-use std::io::{BufReader, Read};
+use std::io::{BufReader, Read, Write};
 use std::process::Abort;
 use std::test::Fail;
 
@@ -156,6 +156,55 @@ fn decodes_apdus(rt: HostRuntime) -> Result<(), Fail> {
             0,
             "010030FA06110E31FF61290F",
             "complex-ack id=250 choice=6 data=110E31FF61290F\nread-file-ack end=1 position=-1 octets=29\n",
+        ),
+        // each reason of a Reject, and faults of an answer
+        (
+            15,
+            1,
+            "01040005040C0C00000005",
+            "confirmed-request sa=0 segs=0 apdu=5 id=4 choice=12 data=0C00000005\nfault reject 5\n",
+        ),
+        (
+            24,
+            1,
+            "010400050B07C4028000011E3100210262ABCD1F",
+            "confirmed-request sa=0 segs=0 apdu=5 id=11 choice=7 data=C4028000011E3100210262ABCD1F\nfault reject 2\n",
+        ),
+        (
+            18,
+            1,
+            "01040005010C0C000000051A0055",
+            "confirmed-request sa=0 segs=0 apdu=5 id=1 choice=12 data=0C000000051A0055\nfault reject 3\n",
+        ),
+        (
+            26,
+            1,
+            "01040005060F0C0080000119553E44433400003F4911",
+            "confirmed-request sa=0 segs=0 apdu=5 id=6 choice=15 data=0C0080000119553E44433400003F4911\nfault reject 6\n",
+        ),
+        (
+            18,
+            1,
+            "01040005070C0C00000005195500",
+            "confirmed-request sa=0 segs=0 apdu=5 id=7 choice=12 data=0C00000005195500\nfault reject 7\n",
+        ),
+        (
+            10,
+            0,
+            "01003001071D",
+            "complex-ack id=1 choice=7 data=1D\nfault data 1\n",
+        ),
+        (
+            11,
+            0,
+            "010030FF070802",
+            "complex-ack id=255 choice=7 data=0802\nfault data 4\n",
+        ),
+        (
+            20,
+            0,
+            "010030010C0C0000000519553E2E3F3F",
+            "complex-ack id=1 choice=12 data=0C0000000519553E2E3F3F\nfault data 6\n",
         ),
     ];
     for (len, expecting, npdu, lines) in table {
@@ -327,14 +376,30 @@ fn checks_captures(rt: HostRuntime) {
     }
 }
 
-/// An overlong line is no capture line, and the line behind it is read as ever.
+/// A line of one octet too many is no capture line, one of one less is, and the line behind it is read as ever.
 #[test]
 fn skips_overlong_lines(rt: HostRuntime) -> Result<(), Fail> {
-    let mut capture = vec![in rt.alloc(); b'0'; 132_001]?;
-    capture.extend_from_slice(b"\n7 7F000001BAC1 7F000001BAC0 810A000801001013\n")?;
-    let printed = checked(rt.alloc(), &capture);
-    let want = "line 1: not a capture line\nlines=2 good=1 bad=1\n";
-    prints(&rt, &printed, Status::Faulty, want, "overlong");
+    let line = "7 7F000001BAC1 7F000001BAC0 810A000801001013";
+    let table = [
+        (
+            131_957,
+            "line 1: not a capture line\nlines=2 good=1 bad=1\n",
+        ),
+        (131_956, "lines=2 good=2 bad=0\n"),
+    ];
+    for (zeros, want) in table {
+        let mut capture = vec![in rt.alloc(); b'0'; zeros]?;
+        capture.extend_from_slice(line.as_bytes())?;
+        capture.push(b'\n')?;
+        capture.extend_from_slice(line.as_bytes())?;
+        let printed = checked(rt.alloc(), &capture);
+        let status = if zeros == 131_957 {
+            Status::Faulty
+        } else {
+            Status::Done
+        };
+        prints(&rt, &printed, status, want, "overlong");
+    }
     Ok(())
 }
 
@@ -376,35 +441,59 @@ fn tells_that_output_failed(rt: HostRuntime) {
     assert_eq!(rt; err.len(), 0);
 }
 
-/// A file that cannot be read.
+/// A writer whose memory is refused.
 #[derive(Drop)]
-struct Broken;
+struct Full;
 
-impl Read for Broken {
-    fn read(&mut self, _buf: &mut [u8]) -> io::Result<usize> {
-        Err(io::Error::from(io::ErrorKind::PermissionDenied))
+impl Write for Full {
+    fn write(&mut self, _octets: &[u8]) -> io::Result<usize> {
+        Err(io::Error::from(io::ErrorKind::OutOfMemory))
+    }
+
+    fn flush(&mut self) -> io::Result<()> {
+        Ok(())
     }
 }
 
 #[test]
-fn tells_that_the_input_failed(rt: HostRuntime) -> Result<(), Fail> {
-    let mut input = BufReader::new(rt.alloc(), Broken)?;
-    let mut out = Vec::new(rt.alloc());
+fn tells_that_the_output_lacks_memory(rt: HostRuntime) {
+    let mut out = Full;
     let mut err = Vec::new(rt.alloc());
-    let status = check_over(rt.alloc(), &mut input, &mut out, &mut err);
-    complains(
-        &rt,
-        &Printed { status, out, err },
-        Status::CommandLine,
-        b"cannot read\n",
-    );
-    Ok(())
+    let status = decode_over(rt.alloc(), "", &mut out, &mut err);
+    assert_eq!(rt; status, Status::Memory);
+    assert_eq!(rt; err.as_slice(), b"no memory\n".as_slice());
 }
 
+/// A file that gives one line and then fails.
+#[derive(Drop)]
+struct Broken {
+    has_given: bool,
+}
+
+impl Read for Broken {
+    fn read(&mut self, octets: &mut [u8]) -> io::Result<usize> {
+        let line = b"x\n";
+        if self.has_given || octets.len() < line.len() {
+            return Err(io::Error::from(io::ErrorKind::PermissionDenied));
+        }
+        self.has_given = true;
+        octets[..line.len()].copy_from_slice(line);
+        Ok(line.len())
+    }
+}
+
+/// What was found before the input failed is printed, without the counts.
 #[test]
-fn statuses_have_their_numbers(rt: HostRuntime) {
-    assert_eq!(rt; Status::Done.code(), 0);
-    assert_eq!(rt; Status::Faulty.code(), 1);
-    assert_eq!(rt; Status::CommandLine.code(), 2);
-    assert_eq!(rt; Status::Memory.code(), 4);
+fn tells_that_the_input_failed(rt: HostRuntime) -> Result<(), Fail> {
+    let table = [(true, ""), (false, "line 1: not a capture line\n")];
+    for (has_given, lines) in table {
+        let mut input = BufReader::new(rt.alloc(), Broken { has_given })?;
+        let mut out = Vec::new(rt.alloc());
+        let mut err = Vec::new(rt.alloc());
+        let status = check_over(rt.alloc(), &mut input, &mut out, &mut err);
+        assert_eq!(rt; out.as_slice(), lines.as_bytes());
+        assert_eq!(rt; status, Status::CommandLine);
+        assert_eq!(rt; err.as_slice(), b"cannot read\n".as_slice());
+    }
+    Ok(())
 }

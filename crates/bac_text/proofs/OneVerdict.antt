@@ -1,0 +1,54 @@
+-- A datagram without a fault has none.
+use Rattle.std.proofs.Common.{◌≡◌, ℕ, List, Option, Some, None, sym, subst}
+use Rattle.bac_apdu.specs.Apdu.{Apdu}
+use Rattle.bac_apdu.specs.Spelling.{SpellsApdu}
+use Rattle.bac_npdu.specs.Npdu.{NpduView, SpellsNpdu, SpellsBvll}
+use Rattle.bac_npdu.specs.Datagram.{IsFrameOf}
+use Rattle.bac_service.specs.Values.{Request, Complex}
+use Rattle.bac_text.specs.declared.fault.LayerFault.{LayerFault}
+use Rattle.bac_text.specs.declared.fault.LayerFault.TheVariants as fault
+use Rattle.bac_text.specs.Layers.{Service, asked_in, answered_in, IsRequestIn, IsAnswerIn, HasNoRequest, HasNoAnswer, IsFineApdu, IsFineContent, IsFine, CarriesOctets, IsAtFault}
+
+no_request : (s : Option Service) (r : Option Request) → IsRequestIn s r → HasNoRequest s → ⊥
+no_request None r asked none = none
+no_request (Some s) None asked none = asked
+no_request (Some s) (Some r) asked none = none r asked
+
+no_answer : (s : Option Service) (c : Option Complex) → IsAnswerIn s c → HasNoAnswer s → ⊥
+no_answer None c answered none = none
+no_answer (Some s) None answered none = answered
+no_answer (Some s) (Some c) answered none = none c answered
+
+module _ (one_bvll : (m n octets : List ℕ) → SpellsBvll m octets → SpellsBvll n octets → m ≡ n)
+    (one_npdu : (m n : NpduView) (octets : List ℕ) → SpellsNpdu m octets → SpellsNpdu n octets → m ≡ n)
+    (one_apdu : (a b : Apdu) (octets : List ℕ) → SpellsApdu a octets → SpellsApdu b octets → a ≡ b) where
+  one_frame : (m n : NpduView) (datagram : List ℕ) → IsFrameOf m datagram → IsFrameOf n datagram → m ≡ n
+  one_frame m n datagram f g =
+      let same = one_bvll f.npdu_octets g.npdu_octets datagram f.framed g.framed in
+      one_npdu m n g.npdu_octets (subst (SpellsNpdu m) same f.spelled) g.spelled
+
+  -- what a datagram without a fault carries is an APDU without one
+  fine_in : (datagram octets : List ℕ) → IsFine datagram → CarriesOctets datagram octets → IsFineApdu octets
+  fine_in datagram octets fine carries =
+      let same = one_frame fine.npdu carries.npdu datagram fine.frame carries.frame in
+      let content = subst (λ (n : NpduView). IsFineContent n.message n.contents) same fine.content in
+      subst IsFineApdu (sym carries.is) (subst (λ m. IsFineContent m carries.npdu.contents) carries.no_message content)
+
+  pub one_verdict : (datagram : List ℕ) (f : LayerFault) → IsFine datagram → IsAtFault datagram f → ⊥
+  one_verdict datagram (fault.Bvll number) fine at = at.1 fine.frame.npdu_octets fine.frame.framed
+  one_verdict datagram (fault.Npdu number) fine at =
+      let same = one_bvll fine.frame.npdu_octets at.0 datagram fine.frame.framed at.1.0 in
+      at.1.1.1 fine.npdu (subst (SpellsNpdu fine.npdu) same fine.frame.spelled)
+  one_verdict datagram (fault.Apdu number) fine at =
+      let content = fine_in datagram at.0 fine at.1.0 in
+      at.1.1.1 content.apdu content.spelled
+  one_verdict datagram (fault.Request reason) fine at =
+      let carried = at.1.0 in
+      let content = fine_in datagram carried.octets fine carried.carries in
+      let same = one_apdu content.apdu at.0 carried.octets content.spelled carried.spelled in
+      no_request (asked_in at.0) content.request (subst (λ a. IsRequestIn (asked_in a) content.request) same content.asked) at.1.1
+  one_verdict datagram (fault.Answer kind) fine at =
+      let carried = at.1.0 in
+      let content = fine_in datagram carried.octets fine carried.carries in
+      let same = one_apdu content.apdu at.0 carried.octets content.spelled carried.spelled in
+      no_answer (answered_in at.0) content.answer (subst (λ a. IsAnswerIn (answered_in a) content.answer) same content.answered) at.1.1
