@@ -1,6 +1,7 @@
 #!/bin/sh
 # Runs the memory tests of bac_store with one allocation after the other refused, from the first on or from the one that is given:
 #     sh bench/refusals.sh [FIRST]
+# FIRST is no greater than the number of allocations.
 # It works on a copy of the crate without the other tests, which take memory to be ample, and with one more that stands last and
 # fails where its one allocation is refused: then each allocation of the others was refused once, and all passed.
 set -eu
