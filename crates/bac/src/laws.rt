@@ -21,5 +21,6 @@ pub fn replies_fit()
 
 /// An APDU goes to a peer in one frame alone, in which a reply is expected of a Confirmed-Request.
 pub fn one_frame()
-    ensures { (p : PeerView) (a : Apdu) (x y : List ℕ) → IsFrameTo SpellsApdu is_confirmed_request p a x → IsFrameTo SpellsApdu is_confirmed_request p a y → x ≡ y }
+    ensures { (p : PeerView) (a : Apdu) (x y : List ℕ)
+        → IsFrameTo SpellsApdu is_confirmed_request p a x → IsFrameTo SpellsApdu is_confirmed_request p a y → x ≡ y }
 {}

@@ -52,7 +52,8 @@ part : {A B : Type 0} (f : A → B) (change : A → A) → ((x : A) → f (chang
 part f change same None = refl
 part f change same (Some x) = ap Some (same x)
 
-listed_there : (n : ℕ) (values : List ℕ) (o : Option Object) → listed_of n (option_map (with_values n values) o) ≡ option_map (with_own_values values) (listed_of n o)
+listed_there : (n : ℕ) (values : List ℕ) (o : Option Object)
+    → listed_of n (option_map (with_values n values) o) ≡ option_map (with_own_values values) (listed_of n o)
 listed_there n values None = refl
 listed_there n values (Some o) = listed_in-with_values n n values o ∙ found_changed (is_number n) (with_own_values values) o.properties
 
@@ -86,7 +87,8 @@ value_written s r values =
       other_objects = elsewhere r.object change (λ o. refl) s;
     }
 
-pub file_written : (s : Store) (id : ObjectId) (start : ℤ) (octets : List ℕ) → IsFileWrite id start octets s (with_object id (with_octets (written start octets)) s)
+pub file_written : (s : Store) (id : ObjectId) (start : ℤ) (octets : List ℕ)
+    → IsFileWrite id start octets s (with_object id (with_octets (written start octets)) s)
 file_written s id start octets =
     let change = with_octets (written start octets) in
     let found = there id change (λ o. refl) s in

@@ -1,5 +1,6 @@
 -- Decimal digits are text, and parsing it gives the number that they are.
-use Rattle.std.proofs.Common.{◌≡◌, ℕ, ◌^◌, ◌<◌, nat_lt, true, false, Bool, ◌&&◌, List, length, Option, Some, None, Result, Ok, Err, rules, arith, refl, ap, if◌then◌else◌}
+use Rattle.std.proofs.Common.{◌≡◌, ℕ, ◌^◌, ◌<◌, nat_lt, true, false, Bool, ◌&&◌, List, length, Option, Some, None, Result, Ok, Err}
+use Rattle.std.proofs.Common.{rules, arith, refl, ap, if◌then◌else◌}
 use Rattle.std.specs.Char.{is_ascii_digit}
 use Rattle.std.specs.List.{list_all}
 use Rattle.std.specs.Result.{OkIff, result_ok}

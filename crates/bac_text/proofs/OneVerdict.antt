@@ -7,7 +7,8 @@ use Rattle.bac_npdu.specs.Datagram.{IsFrameOf}
 use Rattle.bac_service.specs.Values.{Request, Complex}
 use Rattle.bac_text.specs.declared.fault.LayerFault.{LayerFault}
 use Rattle.bac_text.specs.declared.fault.LayerFault.TheVariants as fault
-use Rattle.bac_text.specs.Layers.{Service, asked_in, answered_in, IsRequestIn, IsAnswerIn, HasNoRequest, HasNoAnswer, IsFineApdu, IsFineContent, IsFine, CarriesOctets, IsAtFault}
+use Rattle.bac_text.specs.Layers.{Service, asked_in, answered_in, IsRequestIn, IsAnswerIn, HasNoRequest, HasNoAnswer}
+use Rattle.bac_text.specs.Layers.{IsFineApdu, IsFineContent, IsFine, CarriesOctets, IsAtFault}
 
 no_request : (s : Option Service) (r : Option Request) → IsRequestIn s r → HasNoRequest s → ⊥
 no_request None r asked none = none

@@ -77,13 +77,15 @@ service_text choice service = (codes " choice=" ++ decimal choice) ++ octets_tex
 
 abbrev pub request_head_text : Bool → ℕ → ℕ → ℕ → List ℕ
 request_head_text takes_segments max_segments max_apdu invoke =
-    codes "confirmed-request sa=" ++ (bit_text takes_segments ++ (codes " segs=" ++ (decimal max_segments ++ (codes " apdu=" ++ (decimal max_apdu ++ (codes " id=" ++ decimal invoke))))))
+    codes "confirmed-request sa=" ++ (bit_text takes_segments ++ (codes " segs=" ++ (decimal max_segments
+    ++ (codes " apdu=" ++ (decimal max_apdu ++ (codes " id=" ++ decimal invoke))))))
 
 abbrev pub segment_ack_head_text : Bool → Bool → ℕ → List ℕ
 segment_ack_head_text nak server invoke = codes "segment-ack nak=" ++ (bit_text nak ++ (codes " srv=" ++ (bit_text server ++ (codes " id=" ++ decimal invoke))))
 
 abbrev pub segment_ack_text : Bool → Bool → ℕ → ℕ → ℕ → List ℕ
-segment_ack_text nak server invoke number window = segment_ack_head_text nak server invoke ++ (codes " seq=" ++ (decimal number ++ (codes " win=" ++ decimal window)))
+segment_ack_text nak server invoke number window =
+    segment_ack_head_text nak server invoke ++ (codes " seq=" ++ (decimal number ++ (codes " win=" ++ decimal window)))
 
 abbrev pub unconfirmed_text : ℕ → List ℕ → List ℕ
 unconfirmed_text choice service = codes "unconfirmed-request" ++ service_text choice service
@@ -99,7 +101,8 @@ abbrev pub body_text : Option Segment → ℕ → List ℕ → List ℕ
 body_text segment choice service = optional segment_text segment ++ service_text choice service
 
 abbrev pub error_text : ℕ → ℕ → ℕ → ℕ → List ℕ
-error_text invoke choice class code = codes "error id=" ++ (decimal invoke ++ (codes " choice=" ++ (decimal choice ++ (codes " class=" ++ (decimal class ++ (codes " code=" ++ decimal code))))))
+error_text invoke choice class code =
+    codes "error id=" ++ (decimal invoke ++ (codes " choice=" ++ (decimal choice ++ (codes " class=" ++ (decimal class ++ (codes " code=" ++ decimal code))))))
 
 abbrev pub reject_text : ℕ → ℕ → List ℕ
 reject_text invoke reason = codes "reject id=" ++ (decimal invoke ++ (codes " reason=" ++ decimal reason))
@@ -117,7 +120,8 @@ plain_members_text (Abort server invoke reason) = abort_text server invoke reaso
 plain_members_text _ = []
 
 unfoldable pub members_text : Apdu → List ℕ
-members_text (ConfirmedRequest takes_segments max_segments max_apdu invoke segment choice service) = request_head_text takes_segments max_segments max_apdu invoke ++ body_text segment choice service
+members_text (ConfirmedRequest takes_segments max_segments max_apdu invoke segment choice service) =
+    request_head_text takes_segments max_segments max_apdu invoke ++ body_text segment choice service
 members_text (UnconfirmedRequest choice service) = unconfirmed_text choice service
 members_text (ComplexAck invoke segment choice service) = complex_ack_head_text invoke ++ body_text segment choice service
 members_text apdu = plain_members_text apdu
@@ -135,7 +139,8 @@ abbrev pub reference_text : List ℕ → Reference → List ℕ
 reference_text name r = name ++ (object_text r.object ++ ((codes " property=" ++ decimal r.property) ++ optional (number_text (codes "index")) r.index))
 
 abbrev pub write_property_text : Reference → List ℕ → Option ℕ → List ℕ
-write_property_text r values priority = reference_text (codes "write-property") r ++ (octets_text (codes "values") values ++ optional (number_text (codes "priority")) priority)
+write_property_text r values priority =
+    reference_text (codes "write-property") r ++ (octets_text (codes "values") values ++ optional (number_text (codes "priority")) priority)
 
 abbrev pub property_read_text : Reference → List ℕ → List ℕ
 property_read_text r values = reference_text (codes "read-property-ack") r ++ octets_text (codes "values") values

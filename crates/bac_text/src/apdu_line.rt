@@ -3,7 +3,9 @@ ghost use Rattle.std.specs.Prelude.{OnOk};
 ghost use Rattle.std.specs.Option.{option_map};
 ghost use Rattle.std.specs.Io.KnownBytes.{Appends};
 ghost use Rattle.bac_apdu.specs.Views.{segment_view, apdu_view};
-ghost use Rattle.bac_text.specs.Texts.{optional, segment_text, service_text, request_head_text, segment_ack_head_text, segment_ack_text, unconfirmed_text, simple_ack_text, complex_ack_head_text, body_text, error_text, abort_text, reject_text, plain_members_text, members_text, apdu_text};
+ghost use Rattle.bac_text.specs.Texts.{optional, segment_text, service_text, request_head_text, segment_ack_head_text};
+ghost use Rattle.bac_text.specs.Texts.{segment_ack_text, unconfirmed_text, simple_ack_text, complex_ack_head_text, body_text};
+ghost use Rattle.bac_text.specs.Texts.{error_text, abort_text, reject_text, plain_members_text, members_text, apdu_text};
 
 use crate::member::{print_end, print_octets};
 use bac_apdu::{Apdu, Codes, Segment, Window};

@@ -44,7 +44,8 @@ fn print_write_property<W: Write>(
     write: WriteProperty<Data<'_>>,
     out: &mut W,
 ) -> io::Result<()>
-    ensures { OnOk result (Appends (W.contents out.old) (W.contents out.new) (write_property_text (view.reference write.entry.reference) write.entry.values.octets.now (view.number_of write.entry.priority))) }
+    ensures { OnOk result (Appends (W.contents out.old) (W.contents out.new) (write_property_text
+        (view.reference write.entry.reference) write.entry.values.octets.now (view.number_of write.entry.priority))) }
 {
     print_reference("write-property", write.reference, out)?;
     print_octets(alloc, "values", write.values.octets, out)?;
@@ -142,7 +143,8 @@ fn print_property_read<W: Write>(
     read: PropertyRead<Data<'_>>,
     out: &mut W,
 ) -> io::Result<()>
-    ensures { OnOk result (Appends (W.contents out.old) (W.contents out.new) (property_read_text (view.reference read.entry.reference) read.entry.values.octets.now)) }
+    ensures { OnOk result (Appends (W.contents out.old) (W.contents out.new) (property_read_text
+        (view.reference read.entry.reference) read.entry.values.octets.now)) }
 {
     print_reference("read-property-ack", read.reference, out)?;
     print_octets(alloc, "values", read.values.octets, out)

@@ -62,18 +62,21 @@ pub of_ordered-requires : goal.of_ordered-requires
 of_ordered-requires c =
     (known c.args.objects c.sort_objects.new.objects c.sort_and_check_each.new.objects c.deref_mut.result.now c.deref.result.now c.deref_mut-2.result.now
     c.sort_objects.auto.objects c.deref_mut.ensures.value c.deref_mut.ensures.len c.sort_objects.ensures.same
-    c.deref.ensures.value c.if-not-are_distinct.ensures c.deref_mut-2.ensures.value c.sort_and_check_each.auto.objects c.if-not-sort_and_check_each.ensures).order
+    c.deref.ensures.value c.if-not-are_distinct.ensures c.deref_mut-2.ensures.value
+    c.sort_and_check_each.auto.objects c.if-not-sort_and_check_each.ensures).order
 
 pub returns-in_err-of_ordered : goal.returns-in_err-of_ordered
 returns-in_err-of_ordered c =
     refused (map object c.args.objects.items) c.from_residual.result c.from_residual.ensures.1
     (known c.args.objects c.sort_objects.new.objects c.sort_and_check_each.new.objects c.deref_mut.result.now c.deref.result.now c.deref_mut-2.result.now
     c.sort_objects.auto.objects c.deref_mut.ensures.value c.deref_mut.ensures.len c.sort_objects.ensures.same
-    c.deref.ensures.value c.if-not-are_distinct.ensures c.deref_mut-2.ensures.value c.sort_and_check_each.auto.objects c.if-not-sort_and_check_each.ensures).good
+    c.deref.ensures.value c.if-not-are_distinct.ensures c.deref_mut-2.ensures.value
+    c.sort_and_check_each.auto.objects c.if-not-sort_and_check_each.ensures).good
 
 pub returns : goal.returns
 returns c =
     subst (IsMadeOf (map object c.args.objects.items)) (sym c.in_ok-of_ordered.ensures)
     (known c.args.objects c.sort_objects.new.objects c.sort_and_check_each.new.objects c.deref_mut.result.now c.deref.result.now c.deref_mut-2.result.now
     c.sort_objects.auto.objects c.deref_mut.ensures.value c.deref_mut.ensures.len c.sort_objects.ensures.same
-    c.deref.ensures.value c.if-not-are_distinct.ensures c.deref_mut-2.ensures.value c.sort_and_check_each.auto.objects c.if-not-sort_and_check_each.ensures).made
+    c.deref.ensures.value c.if-not-are_distinct.ensures c.deref_mut-2.ensures.value
+    c.sort_and_check_each.auto.objects c.if-not-sort_and_check_each.ensures).made
