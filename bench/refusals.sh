@@ -1,9 +1,9 @@
 #!/bin/sh
-# Runs the memory tests of bac_store with one allocation after the other refused, from the first on or from the one that is given:
-#     sh bench/refusals.sh [FIRST]
-# FIRST is no greater than the number of allocations.
-# It works on a copy of the crate without the other tests, which take memory to be ample, and with one more that stands last and
-# fails where its one allocation is refused: then each allocation of the others was refused once, and all passed.
+# Runs the memory tests of bac_store with one allocation after the other refused, from the first on:
+#     sh bench/refusals.sh
+# Each test counts its own allocations. It works on a copy of the crate without the other tests, which take memory to be ample,
+# and with one more, which asks for all the memory that any of them does and fails where a part is refused: once it passes, each
+# allocation of the others was refused once.
 set -eu
 top=$(cd "$(dirname "$0")/.." && pwd)
 work=$(mktemp -d)
@@ -15,23 +15,33 @@ done
 grep -E '^bac_(value|service|store):' "$top/crates.txt" > "$work/crates.txt"
 cd "$work/crates/bac_store"
 rm src/tests/objects.rt src/tests/requests.rt
-sed -i '/^mod objects;$/d; s/^mod requests;$/mod then;/' src/tests.rt
-cat > src/tests/then.rt <<'TEST'
-use super::*;
+sed -i '/^mod objects;$/d; /^mod requests;$/d' src/tests.rt
+cat >> src/tests/memory.rt <<'TEST'
 
 #[test]
 fn has_memory(rt: HostRuntime) -> Result<(), Fail> {
-    let _octet = Vec::from_slice(rt.alloc(), &[0])?;
+    let store = house(rt.alloc())?;
+    let _copy = store.copy(rt.alloc())?;
+    let Ok(request) = read_request(15, &WRITE) else {
+        return Err(Fail::from("no request"));
+    };
+    let _plan = store.prepare(rt.alloc(), &request)?;
+    for (choice, octets, want) in requests() {
+        let Ok(request) = read_request(choice, octets) else {
+            return Err(Fail::from("no request"));
+        };
+        let plan = store.prepare(rt.alloc(), &request)?;
+        assert!(rt; is_wanted(rt.alloc(), plan.reply(), want)?, "{choice}");
+    }
     Ok(())
 }
 TEST
-refused=${1:-1}
-while rt try --test --fail-alloc "$refused" > log 2>&1; do
+refused=1
+until rt try --test --fail-alloc "$refused" > log 2>&1; do
+    if ! grep -q '^test tests::memory::has_memory .* FAILED' log || ! grep -q ' 1 failed' log; then
+        cat log
+        exit 1
+    fi
     refused=$((refused + 1))
 done
-if grep -q '^test tests::then::has_memory .* FAILED' log && grep -q ' 1 failed' log; then
-    echo "passed with each of the allocations up to $((refused - 1)) refused, the last of them"
-else
-    cat log
-    exit 1
-fi
+echo "passed with each of the first $((refused - 1)) allocations refused; no test has more"

@@ -2,7 +2,7 @@
 ghost use Rattle.std.specs.Prelude.{◌<◌};
 
 use super::*;
-use bac_value::{Data, Fault, NoMemory, ObjectIdentifier, Parts};
+use bac_value::{Fault, NoMemory, ObjectIdentifier, Parts};
 use std::alloc::Global;
 use std::test::Fail;
 

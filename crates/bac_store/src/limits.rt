@@ -12,17 +12,20 @@ pub(crate) const INSTANCES: u32 = 0x40_0000;
 /// The instance that stands for any; no object has it.
 pub(crate) const ANY_INSTANCE: u32 = 4_194_303;
 
-/// The first and the last object type of vendors' own (clause 23.1).
+// the first and the last object type of vendors' own (clause 23.1)
+
 pub(crate) const FIRST_VENDOR_TYPE: u16 = 128;
 
 pub(crate) const LAST_VENDOR_TYPE: u16 = 1023;
 
-/// The first and the last property of vendors' own (clause 23.1).
+// the first and the last property of vendors' own (clause 23.1)
+
 pub(crate) const FIRST_VENDOR_PROPERTY: u32 = 512;
 
 pub(crate) const LAST_VENDOR_PROPERTY: u32 = 4_194_303;
 
-/// Object types (BACnetObjectType).
+// object types (BACnetObjectType)
+
 pub(crate) const ANALOG_INPUT: u16 = 0;
 
 pub(crate) const ANALOG_VALUE: u16 = 2;
@@ -33,7 +36,8 @@ pub(crate) const DEVICE: u16 = 8;
 
 pub(crate) const FILE: u16 = 10;
 
-/// Properties (BACnetPropertyIdentifier).
+// properties (BACnetPropertyIdentifier)
+
 pub(crate) const DESCRIPTION: u32 = 28;
 
 pub(crate) const FILE_ACCESS_METHOD: u32 = 41;
@@ -51,7 +55,8 @@ pub(crate) const PRESENT_VALUE: u32 = 85;
 /// Stream access, the access method of every file (BACnetFileAccessMethod).
 pub(crate) const STREAM_ACCESS: u32 = 1;
 
-/// Application tags (clause 20.2.1.4).
+// application tags (clause 20.2.1.4)
+
 pub(crate) const REAL: u8 = 4;
 
 pub(crate) const CHARACTERS: u8 = 7;

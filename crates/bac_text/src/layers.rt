@@ -5,7 +5,8 @@ ghost use Rattle.bac_apdu.specs.Views.{apdu_view};
 ghost use Rattle.bac_npdu.specs.Views.{npdu_view};
 ghost use Rattle.bac_npdu.specs.Datagram.{IsFrameOf};
 ghost use Rattle.bac_service.specs.Views.{request, complex};
-ghost use Rattle.bac_text.specs.Layers.{asked_in, answered_in, IsRequestIn, IsAnswerIn, HasNoRequest, HasNoAnswer, IsFine, IsAtFault};
+ghost use Rattle.bac_text.specs.Layers.{is_known, has_answer_data, asked_in, answered_in};
+ghost use Rattle.bac_text.specs.Layers.{IsRequestIn, IsAnswerIn, HasNoRequest, HasNoAnswer, IsFine, IsAtFault};
 
 use crate::fault::LayerFault;
 use bac_apdu::{Apdu, ApduFault};
@@ -28,6 +29,20 @@ pub(crate) fn npdu_in(octets: &[u8]) -> Result<Npdu<'_>, LayerFault>
     }
 }
 
+/// Whether a service choice is AtomicReadFile's, AtomicWriteFile's, ReadProperty's or WriteProperty's (clause 21).
+fn is_service(choice: u8) -> bool
+    ensures { result ≡ is_known choice }
+{
+    choice == 6 || choice == 7 || choice == 12 || choice == 15
+}
+
+/// Whether a service choice is one of those whose answers have service data: all but WriteProperty's.
+fn answers_with_data(choice: u8) -> bool
+    ensures { result ≡ has_answer_data choice }
+{
+    choice == 6 || choice == 7 || choice == 12
+}
+
 /// The choice and the service data of a request of one of the four services that is no segment.
 fn asked(apdu: Apdu<'_>) -> Option<(u8, &[u8])>
     ensures { option_map (λ t. (t.0, t.1.now)) result ≡ asked_in (apdu_view apdu.entry) }
@@ -38,7 +53,7 @@ fn asked(apdu: Apdu<'_>) -> Option<(u8, &[u8])>
             choice,
             service,
             ..
-        } if choice == 6 || choice == 7 || choice == 12 || choice == 15 => Some((choice, service)),
+        } if is_service(choice) => Some((choice, service)),
         _ => None,
     }
 }
@@ -53,7 +68,7 @@ fn answered(apdu: Apdu<'_>) -> Option<(u8, &[u8])>
             choice,
             service,
             ..
-        } if choice == 6 || choice == 7 || choice == 12 => Some((choice, service)),
+        } if answers_with_data(choice) => Some((choice, service)),
         _ => None,
     }
 }

@@ -127,13 +127,9 @@ fn is_told(alloc: Global, plan: &Planned, want: Want<'_>) -> Result<bool, NoMemo
     }
 }
 
-/// Each reply is told; where its memory is refused, the next call finds the store as it was. An Error takes no memory.
-#[test]
-fn prepares_or_refuses(rt: HostRuntime) -> Result<(), Fail> {
-    let Ok(store) = house(rt.alloc()) else {
-        return Ok(());
-    };
-    let requests: [(u8, &[u8], Want<'_>); 5] = [
+/// Requests of the house, and their replies.
+fn requests() -> [(u8, &'static [u8], Want<'static>); 5] {
+    [
         (
             12,
             &[0x0C, 0x02, 0x00, 0x00, 0x01, 0x19, 0x4D],
@@ -163,8 +159,16 @@ fn prepares_or_refuses(rt: HostRuntime) -> Result<(), Fail> {
             &[0x0C, 0x00, 0x00, 0x00, 0x09, 0x19, 0x55],
             Want::Error(1, 31),
         ),
-    ];
-    for (choice, octets, want) in requests {
+    ]
+}
+
+/// Each reply is told; where its memory is refused, the next call finds the store as it was. An Error takes no memory.
+#[test]
+fn prepares_or_refuses(rt: HostRuntime) -> Result<(), Fail> {
+    let Ok(store) = house(rt.alloc()) else {
+        return Ok(());
+    };
+    for (choice, octets, want) in requests() {
         let Ok(request) = read_request(choice, octets) else {
             return Err(Fail::from("no request"));
         };
