@@ -241,7 +241,7 @@ pub record IsDataTaken (bytes text rest : List ℕ) : Type 0 where
   pub ends : Ends rest
   pub exact : data_of bytes ≡ Ok rest
 
--- no data stand in front, and reading gives a fault with a place among the octets
+-- no data stand in front; which fault is found first, and where, among the octets or at their end
 pub record IsDataRefused (bytes : List ℕ) (e : Fault) : Type 0 where
   pub none : (k : ℕ) → IsDataFront bytes k → ⊥
   pub exact : data_of bytes ≡ Err e.kind
