@@ -6,7 +6,8 @@ use Rattle.bac_value.specs.Octets.{IsBytes}
 use Rattle.bac_value.specs.Number.{number_in, signed_in}
 use Rattle.bac_value.specs.Value.{Datum, unsigned, signed, enumerated, object, ObjectId, kind_number, IsContents, IsNumber, IsObject}
 use Rattle.bac_value.specs.Element.{AreOfKind, HasContents}
-use Rattle.bac_value.specs.Reading.{◌>>=◌, IsExact, kind_at, number_at, signed_at, object_at}
+use Rattle.bac_value.specs.Steps.{◌>>=◌, IsExact}
+use Rattle.bac_value.specs.Reading.{kind_at, number_at, signed_at, object_at}
 use Rattle.bac_value.proofs.Steps.{bind_ok, ok_is}
 use Rattle.bac_value.proofs.Tags.{wide32}
 use Rattle.bac_value.proofs.RightContents.{between, no_fault, unsigned_of, signed_of, four, object_in, object_meant, kind_again, IsRight}

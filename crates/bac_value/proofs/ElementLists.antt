@@ -11,7 +11,7 @@ use Rattle.bac_value.specs.Reading.{element_at}
 use Rattle.bac_value.proofs.Steps.{ok_is, done}
 use Rattle.bac_value.proofs.Elements.{element_again}
 
--- ---- elements behind elements
+-- ---- elements after elements
 
 then_elements : (ps : List Part) (a b : List ℕ) → AreElements ps a → SomeElements b → SomeElements (a ++ b)
 unfolding AreElements
@@ -64,12 +64,12 @@ no_element bytes e some h (p ∷ ps, are) =
     let read : element_at bytes ≡ Ok (p, are.0) = ap element_at are.2 ∙ element_again p (part_spelling p) are.0 are.1 in
     cc
 
-pub elements_behind : (bytes : List ℕ) (x : Part × List ℕ) → 0 < length bytes → element_at bytes ≡ Ok x → SomeElements bytes → SomeElements x.1
+pub elements_after : (bytes : List ℕ) (x : Part × List ℕ) → 0 < length bytes → element_at bytes ≡ Ok x → SomeElements bytes → SomeElements x.1
 unfolding AreElements
-elements_behind bytes x some h ([], are) = absurd (omega (arith, ap length are))
-elements_behind bytes x some h (p ∷ ps, are) =
+elements_after bytes x some h ([], are) = absurd (omega (arith, ap length are))
+elements_after bytes x some h (p ∷ ps, are) =
     let read : element_at bytes ≡ Ok (p, are.0) = ap element_at are.2 ∙ element_again p (part_spelling p) are.0 are.1 in
-    let both : done (p, are.0) ≡ done x = sym read ∙ h in
+    let both : done FaultKind (p, are.0) ≡ done FaultKind x = sym read ∙ h in
     let same = ok_is (p, are.0) x both in
     let rest : are.0 ≡ x.1 = ap (λ (y : Part × List ℕ). y.1) same in
     rw (← rest) (ps, are.3)

@@ -1,5 +1,5 @@
 -- Reading elements takes exactly the spellings.
-use Rattle.std.proofs.Common.{◌≡◌, ℕ, ◌<◌, Bool, true, false, cond, ltb, List, [], ◌++◌, length, take, drop, Result, Ok, Err, Option, Some}
+use Rattle.std.proofs.Common.{◌≡◌, ℕ, ◌<◌, true, ltb, List, [], ◌++◌, length, take, drop, Ok, Option, Some}
 use Rattle.std.proofs.Common.{None, refl, sym, ap, subst, ◌∙◌, append_assoc, arith, IsTrue}
 use Rattle.std.proofs.lemmas.Bool.{ltb-false, le-ltb}
 use Rattle.std.proofs.lemmas.List.{take_at, drop_at, take-append-drop, length-append, length-take-le}
@@ -13,8 +13,9 @@ use Rattle.bac_value.specs.Octets.{IsBytes}
 use Rattle.bac_value.specs.Limits.{tag_fits}
 use Rattle.bac_value.specs.Spelling.{Mark, tag_spelling}
 use Rattle.bac_value.specs.Element.{Part, IsOfKind, IsOfClass, IsAnnounced, SpellsElement}
-use Rattle.bac_value.specs.Reading.{◌>>=◌, length_in, flaw, unless_flaw, raw_at, kind_at, class_at, contents_at, tag_at, element_at}
-use Rattle.bac_value.proofs.Steps.{IsBytes-drop, IsBytes-take, bind_ok, guard_ok, ok_is, Takes, Takes-then, IsExact}
+use Rattle.bac_value.specs.Steps.{◌>>=◌, IsExact}
+use Rattle.bac_value.specs.Reading.{length_in, flaw, unless_flaw, raw_at, kind_at, class_at, contents_at, tag_at, element_at}
+use Rattle.bac_value.proofs.Steps.{IsBytes-drop, IsBytes-take, bind_ok, unless_ok, where_ok, ok_is, Takes, Takes-then}
 use Rattle.bac_value.proofs.Tags.{tag_takes, tag_again, length_number-lt}
 use Rattle.bac_value.proofs.RightContents.{kind_takes, kind_again, IsRight}
 
@@ -28,7 +29,7 @@ pub record IsRawFront (k : ℕ) (bytes : List ℕ) (x : List ℕ × List ℕ) : 
 pub raw_takes : (k : ℕ) (bytes : List ℕ) (x : List ℕ × List ℕ) → IsBytes bytes → raw_at k bytes ≡ Ok x → IsRawFront k bytes x
 unfolding raw_at
 raw_takes k bytes x fits e =
-    let g = guard_ok (ltb (length bytes) k) Truncated (Ok (take k bytes, drop k bytes)) x e in
+    let g = unless_ok (ltb (length bytes) k) Truncated (Ok (take k bytes, drop k bytes)) x e in
     subst (IsRawFront k bytes) (ok_is (take k bytes, drop k bytes) x g.1)
     (record {
       took = record { parts = sym (take-append-drop k bytes); rest_fits = IsBytes-drop k bytes fits };
@@ -47,11 +48,6 @@ unless_flaw_ok : {A : Type 0} (o : Option FaultKind) (x y : A) → unless_flaw o
 unless_flaw_ok None x y e = (refl, ok_is x y e)
 unless_flaw_ok (Some d) x y e = absurd cc
 
--- a test that did not fail
-guard_true : {A : Type 0} (b : Bool) (d : FaultKind) (x : Result A FaultKind) (y : A) → cond b x (Err d) ≡ Ok y → (b ≡ true) × (x ≡ Ok y)
-guard_true true d x y e = (refl, e)
-guard_true false d x y e = absurd cc
-
 pub record IsKindFront (n k : ℕ) (bytes : List ℕ) (x : List ℕ × List ℕ) : Type 0 where
   pub raw : IsRawFront k bytes x
   pub right : IsRight n x.0
@@ -59,7 +55,7 @@ pub record IsKindFront (n k : ℕ) (bytes : List ℕ) (x : List ℕ × List ℕ)
 pub kind_front : (n k : ℕ) (bytes : List ℕ) (x : List ℕ × List ℕ) → IsBytes bytes → kind_at n k bytes ≡ Ok x → IsKindFront n k bytes x
 unfolding kind_at
 kind_front n k bytes x fits e =
-    let g = guard_true (length_in n k) BadLength (raw_at k bytes >>= λ c. unless_flaw (flaw n c.0) c) x e in
+    let g = where_ok (length_in n k) BadLength (raw_at k bytes >>= λ c. unless_flaw (flaw n c.0) c) x e in
     let a = bind_ok (raw_at k bytes) (λ c. unless_flaw (flaw n c.0) c) x g.1 in
     let h = unless_flaw_ok (flaw n a.0.0) a.0 x a.2 in
     let raw = raw_takes k bytes a.0 fits a.1 in
@@ -74,14 +70,14 @@ right_again n k xs rest len h =
     let fits : length_in n k ≡ true = ap (length_in n) (sym len) ∙ h.len in
     rw (fits, raw_again k xs rest len, h.none) refl
 
--- ---- contents behind a tag
+-- ---- contents after a tag
 
-IsBehind : Class → ℕ → Form → List ℕ → List ℕ × List ℕ → Type 0
-IsBehind c n f bytes x = Takes bytes x.0 x.1 × IsAnnounced c n f x.0
+IsAfter : Class → ℕ → Form → List ℕ → List ℕ × List ℕ → Type 0
+IsAfter c n f bytes x = Takes bytes x.0 x.1 × IsAnnounced c n f x.0
 
 class_takes : (c : Class) (n k : ℕ) (bytes : List ℕ) (x : List ℕ × List ℕ) → IsTrue (tag_fits n c (Length k)) → IsBytes bytes → class_at c n k bytes ≡ Ok x
-    → IsBehind c n (Length k) bytes x
-unfolding class_at IsBehind
+    → IsAfter c n (Length k) bytes x
+unfolding class_at IsAfter
 class_takes Application n k bytes x fit fits e =
     let h = kind_front n k bytes x fits e in
     (h.raw.took, (h.raw.len, kind_of n k bytes x (length_number-lt n k fit) h))
@@ -89,18 +85,18 @@ class_takes Context n k bytes x fit fits e =
     let h = raw_takes k bytes x fits e in
     (h.took, (h.len, tt))
 
-none_behind : (c : Class) (n : ℕ) (f : Form) (bytes : List ℕ) (x : List ℕ × List ℕ) → IsBytes bytes → ((xs : List ℕ) → xs ≡ [] → IsAnnounced c n f xs)
-    → ([], bytes) ≡ x → IsBehind c n f bytes x
-unfolding IsBehind
-none_behind c n f bytes x fits h e = subst (IsBehind c n f bytes) e (record { parts = refl; rest_fits = fits }, h [] refl)
+none_after : (c : Class) (n : ℕ) (f : Form) (bytes : List ℕ) (x : List ℕ × List ℕ) → IsBytes bytes → ((xs : List ℕ) → xs ≡ [] → IsAnnounced c n f xs)
+    → ([], bytes) ≡ x → IsAfter c n f bytes x
+unfolding IsAfter
+none_after c n f bytes x fits h e = subst (IsAfter c n f bytes) e (record { parts = refl; rest_fits = fits }, h [] refl)
 
 contents_takes : (m : Mark) (f : Form) (bytes : List ℕ) (x : List ℕ × List ℕ) → IsTrue (tag_fits m.number m.class f) → IsBytes bytes
-    → contents_at m f bytes ≡ Ok x → IsBehind m.class m.number f bytes x
+    → contents_at m f bytes ≡ Ok x → IsAfter m.class m.number f bytes x
 unfolding contents_at
 contents_takes m (Length k) bytes x fit fits e = class_takes m.class m.number k bytes x fit fits e
-contents_takes m (Boolean b) bytes x fit fits e = none_behind m.class m.number (Boolean b) bytes x fits (λ xs h. h) (ok_is ([], bytes) x e)
-contents_takes m Opening bytes x fit fits e = none_behind m.class m.number Opening bytes x fits (λ xs h. h) (ok_is ([], bytes) x e)
-contents_takes m Closing bytes x fit fits e = none_behind m.class m.number Closing bytes x fits (λ xs h. h) (ok_is ([], bytes) x e)
+contents_takes m (Boolean b) bytes x fit fits e = none_after m.class m.number (Boolean b) bytes x fits (λ xs h. h) (ok_is ([], bytes) x e)
+contents_takes m Opening bytes x fit fits e = none_after m.class m.number Opening bytes x fits (λ xs h. h) (ok_is ([], bytes) x e)
+contents_takes m Closing bytes x fit fits e = none_after m.class m.number Closing bytes x fits (λ xs h. h) (ok_is ([], bytes) x e)
 
 class_again : (c : Class) (n k : ℕ) (xs rest : List ℕ) → length xs ≡ k → IsOfClass c n xs → class_at c n k (xs ++ rest) ≡ Ok (xs, rest)
 unfolding class_at
@@ -133,7 +129,7 @@ IsElementFront : List ℕ → Part × List ℕ → Type 0
 IsElementFront bytes x = Takes bytes (tag_spelling x.0.mark ++ x.0.contents) x.1 × SpellsElement x.0 (tag_spelling x.0.mark ++ x.0.contents)
 
 element_front : (bytes : List ℕ) (x : Part × List ℕ) → IsBytes bytes → element_at bytes ≡ Ok x → IsElementFront bytes x
-unfolding element_at IsElementFront IsBehind
+unfolding element_at IsElementFront IsAfter
 element_front bytes x fits e =
     let t = bind_ok (tag_at bytes) (λ t. contents_at t.0 t.0.form t.1 >>= λ c. Ok (made t.0 c.0, c.1)) x e in
     let took = tag_takes bytes t.0 fits t.1 in

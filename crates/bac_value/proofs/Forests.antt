@@ -14,7 +14,8 @@ use Rattle.bac_value.specs.Octets.{IsBytes}
 use Rattle.bac_value.specs.Element.{Part, part_spelling, SpellsElement, IsAnnounced}
 use Rattle.bac_value.specs.Data.{Forest, none, leaf, pair, opening, closing, spelling, IsPrimitive, IsWithin, SpellsData, Ends}
 use Rattle.bac_value.specs.Data.{IsPrimitiveForm, IsDataFront}
-use Rattle.bac_value.specs.Reading.{◌>>=◌, element_at, turn, with_rest, step_at, goes_on, data_at, data_of, IsDataTaken}
+use Rattle.bac_value.specs.Steps.{◌>>=◌}
+use Rattle.bac_value.specs.Reading.{element_at, turn, with_rest, step_at, goes_on, data_at, data_of, IsDataTaken}
 use Rattle.bac_value.proofs.Steps.{bind_ok, chosen, ok_is}
 use Rattle.bac_value.proofs.Elements.{element_takes, element_again}
 use Rattle.bac_value.proofs.Turns.{at_more, at_stop}
@@ -24,7 +25,7 @@ made n c f xs = record { mark = record { number = n; class = c; form = f }; cont
 
 -- ---- what closes the tags that are open
 
--- the closing tag of the innermost, the trees behind it, and so on
+-- the closing tag of the innermost, the trees after it, and so on
 Tail : List ℕ → List ℕ → Type 0
 Tail [] rest = rest ≡ []
 Tail (n ∷ o) rest = (f : Forest) × (after : List ℕ) × IsWithin (8 - length o) f × (rest ≡ closing n ++ (spelling f ++ after)) × Tail o after
@@ -204,7 +205,7 @@ turn_primitive (Boolean b) n o h = refl
 turn_primitive Opening n o h = absurd h
 turn_primitive Closing n o h = absurd h
 
--- the steps that are left behind some octets
+-- the steps that are left after some octets
 Left : ℕ → List ℕ → List ℕ → List ℕ → List ℕ → Type 0
 Left steps o bytes p rest = (m : ℕ) × (length rest < m) × (data_at m p rest ≡ data_at steps o bytes)
 

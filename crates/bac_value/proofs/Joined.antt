@@ -79,11 +79,11 @@ copied ps i d old new total skip left over here lt o h is same =
     ap (λ (l : List ℕ). l ++ take (left - here) (drop (skip - over) r)) is
     ∙ append_assoc old (take here (drop over p)) (take (left - here) (drop (skip - over) r)) ∙ ap (λ (l : List ℕ). old ++ l) (sym e) ∙ same
 
--- a part that is left behind
-pub left_behind : (ps behind : List (Vec ℕ)) (v : Vec ℕ) (text total : List ℕ) (skip k len : ℕ) → ps ≡ v ∷ behind → text ≡ v.items → k ≡ length text → k ≤ skip
+-- a piece that is passed
+pub passed : (ps behind : List (Vec ℕ)) (v : Vec ℕ) (text total : List ℕ) (skip k len : ℕ) → ps ≡ v ∷ behind → text ≡ v.items → k ≡ length text → k ≤ skip
     → drop skip (joined ps) ≡ total → skip + len ≤ length (joined ps) → IsBytes (joined ps)
     → (drop (skip - k) (joined behind) ≡ total) × (skip - k + len ≤ length (joined behind)) × IsBytes (joined behind)
-left_behind ps behind v text total skip k len is same count le whole counted fits =
+passed ps behind v text total skip k len is same count le whole counted fits =
     let j : joined ps ≡ v.items ++ joined behind = ap joined is in
     let n : k ≡ length v.items = count ∙ ap length same in
     let rest : joined behind ≡ drop (length v.items) (joined ps) =
@@ -113,7 +113,7 @@ first_of ps behind next v skip len first next_skip next_len is lt some one less 
     ap (λ (xs : List ℕ). get_or xs skip first) whole ∙ get_or_append_left v.items (joined behind) first skip lt ∙ sym one in
     front_more (joined ps) skip len first room some ∙ rw (head, less, same) refl
 
-pub behind_front : (xs : List ℕ) (skip len count : ℕ) → count ≤ len → drop count (take len (drop skip xs)) ≡ take (len - count) (drop (skip + count) xs)
-behind_front xs skip len count le =
+pub after_front : (xs : List ℕ) (skip len count : ℕ) → count ≤ len → drop count (take len (drop skip xs)) ≡ take (len - count) (drop (skip + count) xs)
+after_front xs skip len count le =
     let whole : len ≡ count + (len - count) = omega arith in
     ap (λ n. drop count (take n (drop skip xs))) whole ∙ drop-take count (len - count) (drop skip xs) ∙ ap (take (len - count)) (drop-drop count skip xs)

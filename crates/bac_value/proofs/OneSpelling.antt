@@ -84,7 +84,7 @@ signed_high : (xs : List ℕ) (j : ℕ) → length xs ≡ suc j → 128 * 256 ^ 
     → signed_in xs ≡ negsuc (256 * 256 ^ j - 1 - number_in xs)
 signed_high xs j len le lt = rw (len, half_power j, whole_power j, le-ltb (number_in xs) (128 * 256 ^ j) le) (below_zero (number_in xs) (256 * 256 ^ j) lt)
 
--- what the first two octets say of a number with more octets behind them
+-- what the first two octets say of a number with more octets after them
 front_low : (x y p r : ℕ) → (x ≡ 0 → 128 ≤ y) → 128 * p ≤ x * (p * 256) + (y * p + r)
 front_low zero y p r h = let two : 128 * p ≤ y * p = mul-le-mul_right p (h refl) in omega (arith, two)
 front_low (suc x) y p r h = let one : 1 * (p * 256) ≤ suc x * (p * 256) =

@@ -16,8 +16,9 @@ use Rattle.bac_value.specs.Limits.{tag_fits}
 use Rattle.bac_value.specs.Spelling.{Mark, number_bits, number_octets, length_octets, form_bits, form_octets, class_bit, tag_spelling}
 use Rattle.bac_value.specs.Spelling.{SpellsTag, length_fits}
 use Rattle.bac_value.specs.Octets.{IsBytes}
-use Rattle.bac_value.specs.Reading.{◌>>=◌, octet_at, tag_number_at, wide_at, length_at, form_at, tag_at}
-use Rattle.bac_value.proofs.Steps.{IsBytes-drop, IsBytes-take, IsBytes-rest, bind_ok, chosen, guard_ok, ok_is, Takes, Takes-then, IsExact}
+use Rattle.bac_value.specs.Steps.{◌>>=◌, octet_at, IsExact}
+use Rattle.bac_value.specs.Reading.{tag_number_at, wide_at, length_at, form_at, tag_at}
+use Rattle.bac_value.proofs.Steps.{IsBytes-drop, IsBytes-take, IsBytes-rest, bind_ok, chosen, unless_ok, ok_is, Takes, Takes-then}
 
 -- ---- numbers of several octets
 
@@ -56,8 +57,8 @@ pub wide_takes : (w : Width) (limit least : ℕ) (wide : IsWide w limit) (bytes 
 unfolding wide_at
 wide_takes w limit least wide bytes x fits e =
     let n = from_be_bytes w (take (byte_len w) bytes) in
-    let g = guard_ok (ltb (length bytes) (byte_len w)) Truncated (cond (ltb n least) (Err LongForm) (Ok (n, drop (byte_len w) bytes))) x e in
-    let h = guard_ok (ltb n least) LongForm (Ok (n, drop (byte_len w) bytes)) x g.1 in
+    let g = unless_ok (ltb (length bytes) (byte_len w)) Truncated (cond (ltb n least) (Err LongForm) (Ok (n, drop (byte_len w) bytes))) x e in
+    let h = unless_ok (ltb n least) LongForm (Ok (n, drop (byte_len w) bytes)) x g.1 in
     let long : byte_len w ≤ length bytes = ltb-false _ _ g.0 in
     let front : to_be_bytes w n ≡ take (byte_len w) bytes =
     wide.back (take (byte_len w) bytes) (omega (arith, length-take (byte_len w) bytes)) (IsBytes-take (byte_len w) bytes fits) in
@@ -78,13 +79,13 @@ number_again n rest lt =
     ]
 
 extended : List ℕ → Result (ℕ × List ℕ) FaultKind
-extended bytes = octet_at bytes >>= λ n. cond (ltb n.0 15) (Err LongForm) (cond (ltb n.0 255) (Ok (n.0, n.1)) (Err ReservedTag))
+extended bytes = octet_at Truncated bytes >>= λ n. cond (ltb n.0 15) (Err LongForm) (cond (ltb n.0 255) (Ok (n.0, n.1)) (Err ReservedTag))
 
 extended_takes : (bytes : List ℕ) (x : ℕ × List ℕ) → IsBytes bytes → extended bytes ≡ Ok x → Takes bytes (x.0 ∷ []) x.1 × (15 ≤ x.0) × (x.0 < 255)
 unfolding extended
 extended_takes [] x fits e = absurd cc
 extended_takes (n ∷ rest) x fits e =
-    let g = guard_ok (ltb n 15) LongForm (cond (ltb n 255) (Ok (n, rest)) (Err ReservedTag)) x e in
+    let g = unless_ok (ltb n 15) LongForm (cond (ltb n 255) (Ok (n, rest)) (Err ReservedTag)) x e in
     elim (chosen (ltb n 255) (Ok (n, rest)) (Err ReservedTag) (Ok x) g.1) [
       | inl c ↦ subst (λ (y : ℕ × List ℕ). Takes (n ∷ rest) (y.0 ∷ []) y.1 × (15 ≤ y.0) × (y.0 < 255)) (ok_is (n, rest) x c.1)
           (record { parts = refl; rest_fits = IsBytes-rest n rest fits }, ltb-false _ _ g.0, ltb-true _ _ c.0)
@@ -121,7 +122,7 @@ length_again k rest lt =
     ]
 
 long : List ℕ → Result (ℕ × List ℕ) FaultKind
-long bytes = octet_at bytes >>= λ k. cond (ltb k.0 5) (Err LongForm)
+long bytes = octet_at Truncated bytes >>= λ k. cond (ltb k.0 5) (Err LongForm)
     (cond (ltb k.0 254) (Ok (k.0, k.1)) (cond (eqb k.0 254) (wide_at w16 254 k.1) (wide_at w32 65536 k.1)))
 
 IsLong : List ℕ → ℕ × List ℕ → Type 0
@@ -132,7 +133,7 @@ unfolding long IsLong
 long_takes [] x fits e = absurd cc
 long_takes (k ∷ rest) x fits e =
     let rest_fits = IsBytes-rest k rest fits in
-    let g = guard_ok (ltb k 5) LongForm (cond (ltb k 254) (Ok (k, rest)) (cond (eqb k 254) (wide_at w16 254 rest) (wide_at w32 65536 rest))) x e in
+    let g = unless_ok (ltb k 5) LongForm (cond (ltb k 254) (Ok (k, rest)) (cond (eqb k 254) (wide_at w16 254 rest) (wide_at w32 65536 rest))) x e in
     let above : 5 ≤ k = ltb-false _ _ g.0 in
     elim (chosen (ltb k 254) (Ok (k, rest)) (cond (eqb k 254) (wide_at w16 254 rest) (wide_at w32 65536 rest)) (Ok x) g.1) [
       | inl c ↦ subst (IsLong (k ∷ rest)) (ok_is (k, rest) x c.1)
@@ -247,7 +248,7 @@ form_takes bits true n bytes x small lt fits e =
       ]
     ]
 form_takes bits false n bytes x small lt fits e =
-    let g = guard_ok (ltb 12 n) ReservedTag (cond (eqb n 1) (cond (ltb bits 2) (Ok (made n Application (Boolean (eqb bits 1)), bytes)) (Err BadLength))
+    let g = unless_ok (ltb 12 n) ReservedTag (cond (eqb n 1) (cond (ltb bits 2) (Ok (made n Application (Boolean (eqb bits 1)), bytes)) (Err BadLength))
     (cond (ltb 5 bits) (Err BadLength) (with_length bits n Application bytes))) x e in
     elim (chosen (eqb n 1) (cond (ltb bits 2) (Ok (made n Application (Boolean (eqb bits 1)), bytes)) (Err BadLength))
     (cond (ltb 5 bits) (Err BadLength) (with_length bits n Application bytes)) (Ok x) g.1) [
@@ -257,7 +258,7 @@ form_takes bits false n bytes x small lt fits e =
         | inr d ↦ absurd cc
       ]
       | inr c ↦
-          let h = guard_ok (ltb 5 bits) BadLength (with_length bits n Application bytes) x c.1 in
+          let h = unless_ok (ltb 5 bits) BadLength (with_length bits n Application bytes) x c.1 in
           let low : n ≤ 12 = ltb-false _ _ g.0 in
           with_length_takes bits n Application bytes x (omega (arith, ltb-false _ _ h.0))
           (λ k. and_from (ltb n 13) (not (eqb n 1)) (lt-ltb n 13 (omega arith)) (rw c.0 refl)) fits h.1

@@ -2,7 +2,8 @@
 use Rattle.std.proofs.Common.{◌≡◌, ℕ, zero, suc, ◌<◌, List, [], ◌∷◌, length, Result, Ok, Err, Option, Some, None, refl, sym, ap, ◌∙◌, arith}
 use Rattle.bac_value.specs.declared.fault.FaultKind.{FaultKind}
 use Rattle.bac_value.specs.declared.fault.FaultKind.TheVariants.{Truncated}
-use Rattle.bac_value.specs.Reading.{◌>>=◌, step_at, goes_on, rest_of_step, data_at, fault_rest}
+use Rattle.bac_value.specs.Steps.{◌>>=◌}
+use Rattle.bac_value.specs.Reading.{step_at, goes_on, rest_of_step, data_at, fault_rest}
 
 pub at_step : (steps : ℕ) (o bytes : List ℕ) (r : Result (Option (List ℕ × List ℕ)) FaultKind) (total : Result (List ℕ) FaultKind)
     → 0 < length bytes → length bytes < steps → step_at o bytes ≡ r → data_at steps o bytes ≡ total

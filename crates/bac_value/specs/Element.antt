@@ -27,7 +27,7 @@ pub record HasContents {Y : Type 0} (datum_of : Y → Datum) (k : ℕ) (y : Y) (
   pub are : IsContents (datum_of y) text
   pub len : length text ≡ k
 
--- what a context tag has behind it is raw; an application tag has a value's contents
+-- the contents after a context tag are raw; those after an application tag are a value's
 abbrev pub IsOfClass : Class → ℕ → List ℕ → Type 0
 IsOfClass Application n xs = IsOfKind n xs
 IsOfClass Context n xs = Unit {0}

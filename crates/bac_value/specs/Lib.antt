@@ -1,4 +1,6 @@
 pub mod Octets
+pub mod Steps
+pub mod Appending
 pub mod Limits
 pub mod Spelling
 pub mod Number

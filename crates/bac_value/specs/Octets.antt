@@ -11,7 +11,7 @@ abbrev pub joined : List (Vec ℕ) → List ℕ
 joined [] = []
 joined (v ∷ vs) = v.items ++ joined vs
 
--- new is old, or old with more behind it
+-- new is old, or old with more after it
 abbrev pub Begins : List ℕ → List ℕ → Type 0
 Begins old new = take (length old) new ≡ old
 

@@ -11,7 +11,7 @@ use Rattle.bac_value.specs.declared.tag.Class.{Class}
 use Rattle.bac_value.specs.declared.tag.Class.TheVariants.{Application, Context}
 use Rattle.bac_value.specs.declared.tag.Form.{Form}
 use Rattle.bac_value.specs.declared.tag.Form.TheVariants.{Length, Boolean, Opening, Closing}
-use Rattle.bac_value.specs.Octets.{IsBytes}
+use Rattle.bac_value.specs.Steps.{◌>>=◌, octet_at, has_bit}
 use Rattle.bac_value.specs.Limits.{bits_fit}
 use Rattle.bac_value.specs.Spelling.{Mark}
 use Rattle.bac_value.specs.Number.{number_in, signed_in}
@@ -19,42 +19,12 @@ use Rattle.bac_value.specs.Value.{ObjectId}
 use Rattle.bac_value.specs.Element.{Part}
 use Rattle.bac_value.specs.Data.{IsData, IsDataFront, Ends}
 
-infixl 10 ◌>>=◌
-abbrev pub ◌>>=◌ : {A B : Type 0} → Result A FaultKind → (A → Result B FaultKind) → Result B FaultKind
-(Ok x) >>= f = f x
-(Err e) >>= f = Err e
-
--- what a reader in code answered, seen by view and rest, is what reading on lists gives
-abbrev pub Reads : {X Y R : Type 0} → (X → Y) → (R → List ℕ) → List ℕ → Result (X × R) FaultKind → (List ℕ → Result (Y × List ℕ) FaultKind) → Type 0
-Reads view rest bytes (Ok r) read = (length (rest r.1) ≤ length bytes) × (read bytes ≡ Ok (view r.0, rest r.1))
-Reads view rest bytes (Err e) read = read bytes ≡ Err e
-
--- the first k octets are the spelling of y, and reading gives it
-pub record IsFound {Y : Type 0} (read : List ℕ → Result (Y × List ℕ) FaultKind) (Spells : Y → List ℕ → Type 0) (bytes : List ℕ) (y : Y) (k : ℕ) : Type 0 where
-  pub in_range : k ≤ length bytes
-  pub spelled : Spells y (take k bytes)
-  pub exact : read bytes ≡ Ok (y, drop k bytes)
-
--- no octets in front are a spelling, and reading gives this fault
-pub record IsRefused {Y : Type 0} (read : List ℕ → Result (Y × List ℕ) FaultKind) (Spells : Y → List ℕ → Type 0) (bytes : List ℕ) (e : FaultKind) : Type 0 where
-  pub none : (y : Y) (k : ℕ) → Spells y (take k bytes) → ⊥
-  pub exact : read bytes ≡ Err e
-
--- reading answers a value where a spelling of it stands in front, and only there
-pub record IsExact {Y : Type 0} (read : List ℕ → Result (Y × List ℕ) FaultKind) (Spells : Y → List ℕ → Type 0) : Type 0 where
-  pub takes : (bytes : List ℕ) (x : Y × List ℕ) → IsBytes bytes → read bytes ≡ Ok x → (text : List ℕ) × (bytes ≡ text ++ x.1) × Spells x.0 text
-  pub again : (y : Y) (text rest : List ℕ) → Spells y text → read (text ++ rest) ≡ Ok (y, rest)
-
 -- ---- tags (clause 20.2.1)
-
-abbrev pub octet_at : List ℕ → Result (ℕ × List ℕ) FaultKind
-octet_at [] = Err Truncated
-octet_at (x ∷ xs) = Ok (x, xs)
 
 unfoldable pub tag_number_at : ℕ → List ℕ → Result (ℕ × List ℕ) FaultKind
 tag_number_at high bytes =
     if nat_lt high 15 then Ok (high, bytes) else (do
-      n ← octet_at bytes
+      n ← octet_at Truncated bytes
       if nat_lt n.0 15 then Err LongForm else (if nat_lt n.0 255 then Ok (n.0, n.1) else Err ReservedTag))
 
 -- a length in several octets, not below the least that stands in so many
@@ -66,7 +36,7 @@ wide_at w least bytes =
 unfoldable pub length_at : ℕ → List ℕ → Result (ℕ × List ℕ) FaultKind
 length_at low bytes =
     if nat_lt low 5 then Ok (low, bytes) else (do
-      k ← octet_at bytes
+      k ← octet_at Truncated bytes
       if nat_lt k.0 5 then Err LongForm else (if nat_lt k.0 254 then Ok (k.0, k.1) else (if k.0 == 254 then wide_at w16 254 k.1 else wide_at w32 65536 k.1)))
 
 unfoldable pub form_at : ℕ → Bool → ℕ → List ℕ → Result (Mark × List ℕ) FaultKind
@@ -82,16 +52,16 @@ form_at low false n bytes =
       k ← length_at low bytes
       Ok (record { number = n; class = Application; form = Length k.0 }, k.1))))
 
--- the whole tag is read before anything behind it is looked at
+-- the whole tag is read before anything after it is looked at
 unfoldable pub tag_at : List ℕ → Result (Mark × List ℕ) FaultKind
 tag_at bytes = do
-  b ← octet_at bytes
+  b ← octet_at Truncated bytes
   n ← tag_number_at (b.0 / 16) b.1
-  form_at (b.0 % 8) (b.0 / 8 % 2 == 1) n.0 n.1
+  form_at (b.0 % 8) (has_bit b.0 8) n.0 n.1
 
 -- ---- contents (clause 20.2)
 
--- how many octets the contents of a kind may have; a Boolean has none behind an application tag
+-- how many octets the contents of a kind may have; a Boolean has none after an application tag
 abbrev pub length_in : ℕ → ℕ → Bool
 length_in n k =
     if n == 0 || n == 1 then k == 0 else
@@ -135,7 +105,7 @@ unfoldable pub class_at : Class → ℕ → ℕ → List ℕ → Result (List �
 class_at Application n k bytes = kind_at n k bytes
 class_at Context n k bytes = raw_at k bytes
 
--- what a tag has behind it
+-- the contents after a tag
 unfoldable pub contents_at : Mark → Form → List ℕ → Result (List ℕ × List ℕ) FaultKind
 contents_at m (Length k) bytes = class_at m.class m.number k bytes
 contents_at m (Boolean b) bytes = Ok ([], bytes)
@@ -195,7 +165,7 @@ abbrev pub rest_of_step : {A : Type 0} → Result (Option (List ℕ × List ℕ)
 rest_of_step (Ok s) stop on = goes_on s stop on
 rest_of_step (Err e) stop on = stop
 
--- what is left behind data, with so many elements at most; data that end inside an opened tag are Truncated
+-- what is left after data, with so many elements at most; data that end inside an opened tag are Truncated
 unfoldable pub data_at : ℕ → List ℕ → List ℕ → Result (List ℕ) FaultKind
 data_at zero opened bytes = Err Truncated
 data_at (suc steps) [] [] = Ok []

@@ -25,7 +25,7 @@ abbrev pub class_bit : Class → ℕ
 class_bit Application = 0
 class_bit Context = 8
 
--- clause 20.2.1.3.1: lengths 0 to 4 stand in bits 2 to 0; longer ones behind the number, in one, in two or in four octets
+-- clause 20.2.1.3.1: lengths 0 to 4 stand in bits 2 to 0; longer ones after the number, in one, in two or in four octets
 abbrev pub length_octets : ℕ → List ℕ
 length_octets k = if nat_lt k 5 then [] else (if nat_lt k 254 then k ∷ [] else (if nat_lt k 65536 then 254 ∷ to_be_bytes w16 k else 255 ∷ to_be_bytes w32 k))
 

@@ -12,30 +12,30 @@ use Rattle.bac_value.specs.Element.{Part}
 use Rattle.bac_value.specs.Value.{Datum, ObjectId, null, boolean, unsigned, signed, real, double, octets, characters, bits, enumerated}
 use Rattle.bac_value.specs.Value.{date, time, object}
 
-abbrev pub mark : Tag → Mark
-mark t = record { number = t.number; class = t.class; form = t.form }
+abbrev pub tag_view : Tag → Mark
+tag_view t = record { number = t.number; class = t.class; form = t.form }
 
-abbrev pub part : {R : Type 0} → (R → List ℕ) → Element R → Part
-part octets_of e = record { mark = mark e.tag; contents = octets_of e.contents }
+abbrev pub element_view : {R : Type 0} → (R → List ℕ) → Element R → Part
+element_view octets_of e = record { mark = tag_view e.tag; contents = octets_of e.contents }
 
-abbrev pub object_id : ObjectIdentifier → ObjectId
-object_id i = record { kind = i.kind; instance = i.instance }
+abbrev pub object_identifier_view : ObjectIdentifier → ObjectId
+object_identifier_view i = record { kind = i.kind; instance = i.instance }
 
-abbrev pub datum : Value → Datum
-datum value.Null = null
-datum (value.Boolean b) = boolean b
-datum (value.Unsigned n) = unsigned n
-datum (value.Signed z) = signed z
-datum (value.Real a) = real a
-datum (value.Double a) = double a
-datum (value.OctetString s) = octets s.octets.items
-datum (value.CharacterString s) = characters s.set s.text.items
-datum (value.BitString s) = bits s.unused s.octets.items
-datum (value.Enumerated n) = enumerated n
-datum (value.Date a) = date a
-datum (value.Time a) = time a
-datum (value.ObjectIdentifier i) = object (object_id i)
+abbrev pub value_view : Value → Datum
+value_view value.Null = null
+value_view (value.Boolean b) = boolean b
+value_view (value.Unsigned n) = unsigned n
+value_view (value.Signed z) = signed z
+value_view (value.Real a) = real a
+value_view (value.Double a) = double a
+value_view (value.OctetString s) = octets s.octets.items
+value_view (value.CharacterString s) = characters s.set s.text.items
+value_view (value.BitString s) = bits s.unused s.octets.items
+value_view (value.Enumerated n) = enumerated n
+value_view (value.Date a) = date a
+value_view (value.Time a) = time a
+value_view (value.ObjectIdentifier i) = object (object_identifier_view i)
 
 -- the octets that are left in pieces
-abbrev pub octets_in : Parts → List ℕ
-octets_in p = take p.len (drop p.skip (joined p.parts.now))
+abbrev pub parts_view : Parts → List ℕ
+parts_view p = take p.len (drop p.skip (joined p.parts.now))

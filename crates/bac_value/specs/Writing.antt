@@ -38,7 +38,7 @@ contents_of (object i) = object_octets i
 abbrev pub value_spelling : Datum → List ℕ
 value_spelling d = tag_spelling (mark_for d (length (contents_of d))) ++ contents_of d
 
--- new is old with the spelling of a value behind it
+-- new is old with the spelling of a value after it
 pub record AppendsValue (d : Datum) (old new : List ℕ) : Type 0 where
   pub spelled : SpellsValue d (value_spelling d)
   pub is : new ≡ old ++ value_spelling d

@@ -1,11 +1,13 @@
+//! Contents of tags: their length, then the octets (clauses 20.2.2 to 20.2.14).
 ghost use Rattle.std.specs.Prelude.{◌≡◌, ℕ, ◌<◌, ◌≤◌, ◌+◌, ◌-◌, ◌%◌, ◌^◌, ◌==◌, ◌&&◌, ◌∷◌, length, drop, take, slice_index, MatchOption, IfOk};
 ghost use Rattle.std.specs.Prelude.{IsTrue, true};
 ghost use Rattle.bac_value.specs.Element.{AreOfKind, HasContents};
 ghost use Rattle.bac_value.specs.Limits.{bits_fit, length_tag_fits};
-ghost use Rattle.bac_value.specs.Reading.{Reads, IsExact, raw_at, kind_at, class_at, contents_at, number_at, signed_at, object_at};
+ghost use Rattle.bac_value.specs.Reading.{raw_at, kind_at, class_at, contents_at, number_at, signed_at, object_at};
 ghost use Rattle.bac_value.specs.Reading.{length_in, flaw, is_longer_unsigned, is_longer_signed};
+ghost use Rattle.bac_value.specs.Steps.{Reads, IsExact};
 ghost use Rattle.bac_value.specs.Value.{unsigned, enumerated, signed, object};
-ghost use Rattle.bac_value.specs.Views.{mark};
+ghost use Rattle.bac_value.specs.Views.{tag_view};
 
 use crate::fault::FaultKind;
 use crate::kinds;
@@ -117,7 +119,7 @@ fn take_raw<O: Octets>(octets: O, len: usize) -> Result<(O, O), FaultKind>
     Ok(octets.split(len))
 }
 
-/// `len` octets of contents of a kind (one of `kinds`), and what is behind them.
+/// `len` octets of contents of a kind (one of `kinds`), and what is left after them.
 ///
 /// This is how the contents of a context tag are read whose type is known. The length is tested first (`BadLength`), then that
 /// the octets are there (`Truncated`), then the octets themselves (`NotShortest`, `ReservedBits`).
@@ -165,10 +167,10 @@ fn contents_of_class<O: Octets>(
     }
 }
 
-/// What a tag has behind it, and what is behind that.
+/// The contents after a tag, and what is left after them.
 #[tactic(auto, unfolding(crate::specs::Reading::contents_at))]
-pub(crate) fn contents_behind<O: Octets>(octets: O, tag: Tag) -> Result<(O, O), FaultKind>
-    ensures { Reads O.octets O.octets (O.octets octets) result (contents_at (mark tag) tag.form) }
+pub(crate) fn contents_after<O: Octets>(octets: O, tag: Tag) -> Result<(O, O), FaultKind>
+    ensures { Reads O.octets O.octets (O.octets octets) result (contents_at (tag_view tag) tag.form) }
 {
     match tag.form {
         Form::Length(len) => contents_of_class(octets, tag.class, tag.number, len as usize),

@@ -1,6 +1,8 @@
+//! Octets that are data, lent or with their memory.
 ghost use Rattle.std.specs.Prelude.{◌≡◌, ◌<◌, length, IfOk, OnErr};
 ghost use Rattle.bac_value.specs.Data.{IsData};
 
+use crate::data_elements::DataElements;
 use crate::memory::NoMemory;
 use crate::octets::{Octets, copy_of};
 use std::alloc::Global;
@@ -47,7 +49,16 @@ impl DataBuf {
     }
 }
 
-impl Data<'_> {
+impl<'a> Data<'a> {
+    /// All elements, from the first on.
+    pub fn elements(self) -> DataElements<'a>
+        ensures { result.octets.now ≡ self.entry.octets.now }
+    {
+        DataElements {
+            octets: self.octets,
+        }
+    }
+
     /// A copy with its own memory, in one allocation where there are octets, otherwise in none.
     pub fn to_owned(self, alloc: Global) -> Result<DataBuf, NoMemory>
         ensures same { IfOk result (λ copy. copy.octets.items ≡ self.entry.octets.now) }

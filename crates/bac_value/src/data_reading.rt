@@ -1,3 +1,4 @@
+//! Reading data, up to their end or a closing tag (clauses 20.2.1.3.2 and 20.2.19).
 ghost use Rattle.std.specs.Prelude.{◌≡◌, ◌<◌, ◌≤◌, ◌+◌, ◌-◌, length, drop, take, reverse, IfOk, IfErr, IfSome, Err, ℕ, List};
 ghost use Rattle.arrayvec.specs.ArrayVec.{array_vec_len};
 ghost use Rattle.bac_value.specs.Reading.{turn, Turns, ReadsData, Steps, step_at, data_of, fault_place, IsDataTaken, IsDataRefused};
@@ -37,7 +38,7 @@ fn turn_at(opened: &mut ArrayVec<u8, 8>, form: Form, number: u8) -> Result<bool,
     }
 }
 
-/// Goes over one element: what is behind it, or None where the data end before it.
+/// Goes over one element: what is left after it, or None where the data end before it.
 #[tactic(auto, unfolding(crate::specs::Reading::step_at))]
 fn step<O: Octets>(octets: O, opened: &mut ArrayVec<u8, 8>) -> Result<Option<O>, FaultKind>
     ensures reads { Steps O.octets (reverse opened.new.items) result (step_at (reverse opened.old.items) (O.octets octets)) }
@@ -48,7 +49,7 @@ fn step<O: Octets>(octets: O, opened: &mut ArrayVec<u8, 8>) -> Result<Option<O>,
     if goes_on { Ok(Some(next)) } else { Ok(None) }
 }
 
-/// What is behind the data at the front.
+/// What is left after the data at the front.
 fn data_end<O: Octets>(octets: O) -> Result<O, Fault>
     ensures { ReadsData O.octets (O.octets octets) result (data_of (O.octets octets)) }
 {
@@ -78,7 +79,7 @@ fn data_end<O: Octets>(octets: O) -> Result<O, Fault>
 }
 
 /// The data at the front of any octets, up to their end or to a closing tag whose opening tag is not among them; and what is
-/// behind.
+/// left after them.
 ///
 /// A fault's place is the offset of the faulty element; data that end inside an opened tag are `Truncated` at their end.
 pub fn take_data<O: Octets>(octets: O) -> Result<(O, O), Fault>

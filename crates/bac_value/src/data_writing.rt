@@ -1,4 +1,6 @@
+//! Writing data.
 ghost use Rattle.std.specs.Prelude.{◌≡◌, ◌++◌, ◌+◌, ◌<◌, length, OnOk, OnErr, vec_len, vec_capacity};
+ghost use Rattle.bac_value.specs.Appending.{Appends, Keeps, NeedsRoom};
 ghost use Rattle.bac_value.specs.Data.{IsData};
 
 use crate::data::Data;
@@ -8,9 +10,9 @@ use crate::octets::Octets;
 /// Appends the octets of data, or changes nothing.
 pub fn write_data(elements: Data<'_>, out: &mut Vec<u8>) -> Result<(), NoMemory>
     ensures spelled { ∥ IsData elements.entry.octets.now ∥₁ }
-    ensures ok { OnOk result (out.new.items ≡ out.old.items ++ elements.entry.octets.now) }
-    ensures err { OnErr result (out.new.items ≡ out.old.items) }
-    ensures full { OnErr result (vec_capacity out.old < vec_len out.old + length elements.entry.octets.now) }
+    ensures ok { Appends result out.old out.new elements.entry.octets.now }
+    ensures err { Keeps result out.old out.new }
+    ensures full { NeedsRoom result out.old elements.entry.octets.now }
 {
     elements.octets.append_to(out)
 }

@@ -1,3 +1,4 @@
+//! One tag with its contents.
 use crate::tag::Tag;
 
 /// One tag with its contents (clause 20.2.1): an application value, raw octets under a context tag, an opening or a closing tag.

@@ -1,32 +1,34 @@
+//! Reading one element (clause 20.2.1).
 ghost use Rattle.std.specs.Prelude.{◌≡◌, ◌<◌, ◌≤◌, ◌+◌, ◌-◌, ◌++◌, ℕ, List, length, drop, take, MatchResult, IfOk, IfErr, Ok, Err};
-ghost use Rattle.bac_value.specs.Reading.{Reads, IsFound, IsRefused, element_at};
+ghost use Rattle.bac_value.specs.Steps.{Reads, IsFound, IsRefused};
+ghost use Rattle.bac_value.specs.Reading.{element_at};
 ghost use Rattle.bac_value.specs.Element.{Part, SpellsElement};
-ghost use Rattle.bac_value.specs.Views.{part};
+ghost use Rattle.bac_value.specs.Views.{element_view};
 
-use crate::contents::contents_behind;
+use crate::contents::contents_after;
 use crate::element::Element;
 use crate::fault::{Fault, FaultKind};
 use crate::octets::Octets;
 use crate::tag_reading::take_tag;
 
-/// The element at the front, and what is behind it.
+/// The element at the front, and what is left after it.
 ///
 /// The whole tag is read first; then a fault in the length of its contents is found, then that they are not there, then faults
 /// in them.
 #[tactic(auto, unfolding(crate::specs::Reading::element_at))]
 pub fn take_element<O: Octets>(octets: O) -> Result<(Element<O>, O), FaultKind>
-    ensures reads { Reads (part O.octets) O.octets (O.octets octets) result element_at }
+    ensures reads { Reads (element_view O.octets) O.octets (O.octets octets) result element_at }
     ensures onward { IfOk result (λ r. length (O.octets r.1) < length (O.octets octets)) }
 {
     let (tag, next) = take_tag(octets)?;
-    let (contents, rest) = contents_behind(next, tag)?;
+    let (contents, rest) = contents_after(next, tag)?;
     Ok((Element { tag, contents }, rest))
 }
 
 /// The element at the front of any octets, and how many octets it has.
 pub(crate) fn element_in<O: Octets>(octets: O) -> Result<(Element<O>, usize), FaultKind>
     ensures { MatchResult result
-        (λ r. IsFound element_at SpellsElement (O.octets octets) (part O.octets r.0) r.1)
+        (λ r. IsFound element_at SpellsElement (O.octets octets) (element_view O.octets r.0) r.1)
         (λ e. IsRefused element_at SpellsElement (O.octets octets) e) }
 {
     let all = octets.len();
@@ -38,10 +40,10 @@ pub(crate) fn element_in<O: Octets>(octets: O) -> Result<(Element<O>, usize), Fa
 
 /// The element at the front, and how many octets it has. A fault is at 0.
 pub fn read_element(octets: &[u8]) -> Result<(Element<&[u8]>, usize), Fault>
-    ensures found { IfOk result (λ r. (r.1 ≤ length octets.now) × SpellsElement (part (λ s. s.now) r.0) (take r.1 octets.now)) }
+    ensures found { IfOk result (λ r. (r.1 ≤ length octets.now) × SpellsElement (element_view (λ s. s.now) r.0) (take r.1 octets.now)) }
     ensures refused { IfErr result (λ e. (p : Part) (k : ℕ) → SpellsElement p (take k octets.now) → ⊥) }
     ensures place { IfErr result (λ e. e.at ≡ 0) }
-    ensures exact { MatchResult result (λ r. element_at octets.now ≡ Ok (part (λ s. s.now) r.0, drop r.1 octets.now))
+    ensures exact { MatchResult result (λ r. element_at octets.now ≡ Ok (element_view (λ s. s.now) r.0, drop r.1 octets.now))
         (λ e. element_at octets.now ≡ Err e.kind) }
 {
     match element_in(octets) {

@@ -1,3 +1,4 @@
+//! Faults of octets, and their places.
 ghost use Rattle.std.specs.Prelude.{◌≡◌};
 ghost use Rattle.bac_value.specs.Faults.{fault_number};
 

@@ -9,6 +9,7 @@
 
 mod contents;
 mod data;
+mod data_elements;
 mod data_reading;
 mod data_writing;
 mod element;
@@ -20,7 +21,6 @@ mod number_reading;
 mod number_width;
 mod octets;
 mod parts;
-mod parts_octets;
 mod parts_reading;
 mod tag;
 mod tag_reading;
@@ -28,11 +28,10 @@ mod tag_writing;
 mod value;
 mod value_reading;
 mod value_writing;
-mod walking;
-mod walking_on;
 
 pub use contents::{exact_contents, take_contents};
 pub use data::{Data, DataBuf};
+pub use data_elements::DataElements;
 pub use data_reading::{one_data_front, read_data, take_data};
 pub use data_writing::write_data;
 pub use element::Element;
@@ -53,7 +52,6 @@ pub use value_writing::{
     one_value_spelling, put_boolean, put_object_identifier, put_primitive, put_signed,
     put_unsigned, put_value, write_value,
 };
-pub use walking::DataElements;
 
 #[cfg(test)]
 mod tests;

@@ -1,7 +1,9 @@
+//! Reading numbers and object identifiers from contents (clauses 20.2.4, 20.2.5, 20.2.11 and 20.2.14).
 ghost use Rattle.std.specs.Prelude.{◌≡◌, ◌<◌, ◌≤◌, ◌+◌, ◌-◌, ◌*◌, ◌/◌, ◌%◌, ◌^◌, length};
 ghost use Rattle.bac_value.specs.Number.{number_in, signed_in};
-ghost use Rattle.bac_value.specs.Reading.{Reads, number_at, signed_at, object_at};
-ghost use Rattle.bac_value.specs.Views.{object_id};
+ghost use Rattle.bac_value.specs.Steps.{Reads};
+ghost use Rattle.bac_value.specs.Reading.{number_at, signed_at, object_at};
+ghost use Rattle.bac_value.specs.Views.{object_identifier_view};
 
 use crate::contents::take_contents;
 use crate::fault::FaultKind;
@@ -10,7 +12,7 @@ use crate::number_width::greatest_in;
 use crate::octets::Octets;
 use crate::value::ObjectIdentifier;
 
-/// A number with one octet more behind it.
+/// A number with one octet more after it.
 fn with_octet(number: u64, octet: u8) -> u64
     requires { number < 2 ^ 56 }
     ensures is { result ≡ number * 256 + octet }
@@ -49,7 +51,7 @@ pub(crate) fn signed_of<O: Octets>(octets: O) -> i64
     }
 }
 
-/// The number in `len` octets of contents of an Unsigned (clause 20.2.4), and what is behind them.
+/// The number in `len` octets of contents of an Unsigned (clause 20.2.4), and what is left after them.
 #[tactic(auto, unfolding(crate::specs::Reading::number_at))]
 pub fn take_unsigned<O: Octets>(octets: O, len: usize) -> Result<(u64, O), FaultKind>
     ensures { Reads (λ n. n) O.octets (O.octets octets) result (number_at 2 len) }
@@ -58,7 +60,7 @@ pub fn take_unsigned<O: Octets>(octets: O, len: usize) -> Result<(u64, O), Fault
     Ok((number_of(contents), rest))
 }
 
-/// The number in `len` octets of contents of an Enumerated (clause 20.2.11), and what is behind them.
+/// The number in `len` octets of contents of an Enumerated (clause 20.2.11), and what is left after them.
 #[tactic(auto, unfolding(crate::specs::Reading::number_at))]
 pub fn take_enumerated<O: Octets>(octets: O, len: usize) -> Result<(u32, O), FaultKind>
     ensures { Reads (λ n. n) O.octets (O.octets octets) result (number_at 9 len) }
@@ -68,7 +70,7 @@ pub fn take_enumerated<O: Octets>(octets: O, len: usize) -> Result<(u32, O), Fau
     Ok((number as u32, rest))
 }
 
-/// The number in `len` octets of contents of a Signed (clause 20.2.5), and what is behind them.
+/// The number in `len` octets of contents of a Signed (clause 20.2.5), and what is left after them.
 #[tactic(auto, unfolding(crate::specs::Reading::signed_at))]
 pub fn take_signed<O: Octets>(octets: O, len: usize) -> Result<(i64, O), FaultKind>
     ensures { Reads (λ z. z) O.octets (O.octets octets) result (signed_at len) }
@@ -90,13 +92,13 @@ pub(crate) fn object_of<O: Octets>(octets: O) -> ObjectIdentifier
     }
 }
 
-/// The object in `len` octets of contents of an ObjectIdentifier (clause 20.2.14), and what is behind them.
+/// The object in `len` octets of contents of an ObjectIdentifier (clause 20.2.14), and what is left after them.
 #[tactic(auto, unfolding(crate::specs::Reading::object_at))]
 pub fn take_object_identifier<O: Octets>(
     octets: O,
     len: usize,
 ) -> Result<(ObjectIdentifier, O), FaultKind>
-    ensures { Reads object_id O.octets (O.octets octets) result (object_at len) }
+    ensures { Reads object_identifier_view O.octets (O.octets octets) result (object_at len) }
 {
     let (contents, rest) = take_contents(octets, kinds::OBJECT_IDENTIFIER, len)?;
     Ok((object_of(contents), rest))

@@ -1,3 +1,4 @@
+//! How many octets a number needs.
 ghost use Rattle.std.specs.Prelude.{length, ◌≡◌, ◌<◌, ◌≤◌, ◌+◌, ◌-◌, ◌*◌, ◌/◌, ◌^◌};
 ghost use Rattle.bac_value.specs.Number.{width_of, half_width_of, distance, complement, unsigned_octets, signed_octets};
 

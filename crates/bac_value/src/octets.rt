@@ -1,6 +1,9 @@
+//! Octets that are read from the front.
 ghost use Rattle.std.specs.Prelude.{◌≡◌, ◌<◌, ◌≤◌, ◌+◌, ◌++◌, ◌∷◌, ℕ, List, [], length, take, drop, MatchOption, OnOk, OnErr, IfOk, vec_len, vec_capacity};
+ghost use Rattle.bac_value.specs.Appending.{Appends, Keeps, NeedsRoom};
 ghost use Rattle.bac_value.specs.Octets.{IsBytes};
-ghost use Rattle.bac_value.specs.Reading.{Reads, octet_at};
+ghost use Rattle.bac_value.specs.declared.fault.FaultKind.TheVariants.{Truncated};
+ghost use Rattle.bac_value.specs.Steps.{Reads, octet_at};
 
 use crate::fault::FaultKind;
 use crate::memory::NoMemory;
@@ -15,26 +18,26 @@ pub trait Octets: Copy {
         ensures count { result ≡ length (octets self) }
         ensures each { IsBytes (octets self) };
 
-    /// The first octet, and what is behind it.
+    /// The first octet, and what is left after it.
     fn first(self) -> Option<(u8, Self)>
         ensures { MatchOption result (octets self ≡ []) (λ r. octets self ≡ r.0 ∷ octets r.1) };
 
-    /// The first `count` octets, in one step: what is behind them is not looked for.
+    /// The first `count` octets, in one step: what comes after them is not looked for.
     fn front(self, count: usize) -> Self
         requires { count ≤ length (octets self) }
         ensures { octets result ≡ take count (octets self) };
 
-    /// The first `count` octets, and what is behind them.
+    /// The first `count` octets, and what is left after them.
     fn split(self, count: usize) -> (Self, Self)
         requires { count ≤ length (octets self) }
         ensures front { octets result.0 ≡ take count (octets self) }
-        ensures behind { octets result.1 ≡ drop count (octets self) };
+        ensures after { octets result.1 ≡ drop count (octets self) };
 
     /// Appends them, or changes nothing.
     fn append_to(self, out: &mut Vec<u8>) -> Result<(), NoMemory>
-        ensures ok { OnOk result (out.new.items ≡ out.old.items ++ octets self) }
-        ensures err { OnErr result (out.new.items ≡ out.old.items) }
-        ensures full { OnErr result (vec_capacity out.old < vec_len out.old + length (octets self)) };
+        ensures ok { Appends result out.old out.new (octets self) }
+        ensures err { Keeps result out.old out.new }
+        ensures full { NeedsRoom result out.old (octets self) };
 }
 
 impl Octets for &[u8] {
@@ -82,9 +85,9 @@ pub(crate) fn slice_len(octets: &[u8]) -> usize
     octets.len()
 }
 
-/// The first octet, and what is behind it.
+/// The first octet, and what is left after it.
 pub(crate) fn octet<O: Octets>(octets: O) -> Result<(u8, O), FaultKind>
-    ensures reads { Reads (λ x. x) O.octets (O.octets octets) result octet_at }
+    ensures reads { Reads (λ x. x) O.octets (O.octets octets) result (octet_at Truncated) }
     ensures onward { IfOk result (λ r. length (O.octets r.1) < length (O.octets octets)) }
 {
     match octets.first() {

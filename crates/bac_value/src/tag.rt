@@ -1,3 +1,4 @@
+//! Tags: number, class and form (clause 20.2.1).
 ghost use Rattle.std.specs.Prelude.{◌≡◌, ◌↔◌, IsTrue, IsSome, IfSome, true};
 ghost use Rattle.bac_value.specs.Limits.{tag_fits};
 

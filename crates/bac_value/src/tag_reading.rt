@@ -1,14 +1,21 @@
+//! Reading one tag (clause 20.2.1).
 ghost use Rattle.std.specs.Prelude.{◌≡◌, ◌<◌, ◌≤◌, ◌+◌, ◌^◌, ◌%◌, ◌/◌, ◌==◌, ◌++◌, ℕ, List, length, drop, take, true, false, IfOk, IfErr};
 ghost use Rattle.std.specs.Prelude.{MatchResult, Ok, Err};
 ghost use Rattle.std.specs.Int.{w16, w32};
-ghost use Rattle.bac_value.specs.Reading.{Reads, IsFound, IsRefused, octet_at, tag_number_at, length_at, wide_at, form_at, tag_at};
+ghost use Rattle.bac_value.specs.Steps.{Reads, IsFound, IsRefused, octet_at};
+ghost use Rattle.bac_value.specs.Reading.{tag_number_at, length_at, wide_at, form_at, tag_at};
 ghost use Rattle.bac_value.specs.Spelling.{Mark, SpellsTag};
-ghost use Rattle.bac_value.specs.Views.{mark};
+ghost use Rattle.bac_value.specs.Views.{tag_view};
 
 use crate::fault::{Fault, FaultKind};
 use crate::kinds;
 use crate::octets::{Octets, octet};
 use crate::tag::{Class, Form, Tag};
+
+/// Bit 3 of the first octet: the class is context (clause 20.2.1.1).
+const CONTEXT_CLASS: u8 = 0x08;
+/// Bits 2 to 0 of the first octet: a length, a Boolean's value or a type (clause 20.2.1.3).
+const LOW_BITS: u8 = 0x07;
 
 #[tactic(auto, unfolding(crate::specs::Reading::tag_number_at))]
 fn tag_number<O: Octets>(octets: O, high: u8) -> Result<(u8, O), FaultKind>
@@ -78,7 +85,7 @@ fn length<O: Octets>(octets: O, low: u8) -> Result<(u32, O), FaultKind>
 #[tactic(auto, unfolding(crate::specs::Reading::form_at))]
 fn context_tag<O: Octets>(octets: O, low: u8, number: u8) -> Result<(Tag, O), FaultKind>
     requires { number < 255 }
-    ensures { Reads mark O.octets (O.octets octets) result (form_at low true number) }
+    ensures { Reads tag_view O.octets (O.octets octets) result (form_at low true number) }
 {
     let class = Class::Context;
     let (form, next) = match low {
@@ -101,7 +108,7 @@ fn context_tag<O: Octets>(octets: O, low: u8, number: u8) -> Result<(Tag, O), Fa
 
 #[tactic(auto, unfolding(crate::specs::Reading::form_at))]
 fn application_tag<O: Octets>(octets: O, low: u8, number: u8) -> Result<(Tag, O), FaultKind>
-    ensures { Reads mark O.octets (O.octets octets) result (form_at low false number) }
+    ensures { Reads tag_view O.octets (O.octets octets) result (form_at low false number) }
 {
     let class = Class::Application;
     if number > 12 {
@@ -145,19 +152,19 @@ fn high_bits(first: u8) -> u8
 fn low_bits(first: u8) -> u8
     ensures { result ≡ first % 8 }
 {
-    first & 7
+    first & LOW_BITS
 }
 
 fn is_context(first: u8) -> bool
     ensures { result ≡ (first / 8 % 2 == 1) }
 {
-    first & 8 != 0
+    first & CONTEXT_CLASS != 0
 }
 
-/// The tag at the front, and what is behind it.
+/// The tag at the front, and what is left after it.
 #[tactic(auto, unfolding(crate::specs::Reading::tag_at))]
 pub fn take_tag<O: Octets>(octets: O) -> Result<(Tag, O), FaultKind>
-    ensures reads { Reads mark O.octets (O.octets octets) result tag_at }
+    ensures reads { Reads tag_view O.octets (O.octets octets) result tag_at }
     ensures onward { IfOk result (λ r. length (O.octets r.1) < length (O.octets octets)) }
 {
     let (first, next) = octet(octets)?;
@@ -171,7 +178,7 @@ pub fn take_tag<O: Octets>(octets: O) -> Result<(Tag, O), FaultKind>
 
 /// The tag at the front of any octets, and how many octets it has.
 pub(crate) fn tag_in<O: Octets>(octets: O) -> Result<(Tag, usize), FaultKind>
-    ensures { MatchResult result (λ r. IsFound tag_at SpellsTag (O.octets octets) (mark r.0) r.1)
+    ensures { MatchResult result (λ r. IsFound tag_at SpellsTag (O.octets octets) (tag_view r.0) r.1)
         (λ e. IsRefused tag_at SpellsTag (O.octets octets) e) }
 {
     let all = octets.len();
@@ -183,10 +190,10 @@ pub(crate) fn tag_in<O: Octets>(octets: O) -> Result<(Tag, usize), FaultKind>
 
 /// The tag at the front, and how many octets it has. A fault is at 0.
 pub fn read_tag(octets: &[u8]) -> Result<(Tag, usize), Fault>
-    ensures found { IfOk result (λ r. (r.1 ≤ length octets.now) × SpellsTag (mark r.0) (take r.1 octets.now)) }
+    ensures found { IfOk result (λ r. (r.1 ≤ length octets.now) × SpellsTag (tag_view r.0) (take r.1 octets.now)) }
     ensures refused { IfErr result (λ e. (t : Mark) (k : ℕ) → SpellsTag t (take k octets.now) → ⊥) }
     ensures place { IfErr result (λ e. e.at ≡ 0) }
-    ensures exact { MatchResult result (λ r. tag_at octets.now ≡ Ok (mark r.0, drop r.1 octets.now))
+    ensures exact { MatchResult result (λ r. tag_at octets.now ≡ Ok (tag_view r.0, drop r.1 octets.now))
         (λ e. tag_at octets.now ≡ Err e.kind) }
 {
     match tag_in(octets) {

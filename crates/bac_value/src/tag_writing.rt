@@ -1,7 +1,9 @@
+//! Writing one tag (clause 20.2.1).
 ghost use Rattle.std.specs.Prelude.{◌≡◌, ◌<◌, ◌≤◌, ◌+◌, ◌++◌, ◌^◌, OnOk, OnErr, length, vec_len, vec_capacity};
+ghost use Rattle.bac_value.specs.Appending.{Appends, Lengthens, Keeps, NeedsRoom};
 ghost use Rattle.bac_value.specs.Octets.{Begins};
 ghost use Rattle.bac_value.specs.Spelling.{class_bit, length_fits, form_bits, form_octets, length_octets, number_octets, number_bits, tag_spelling, SpellsTag};
-ghost use Rattle.bac_value.specs.Views.{mark};
+ghost use Rattle.bac_value.specs.Views.{tag_view};
 
 use crate::memory::NoMemory;
 use crate::tag::{Class, Form, Tag};
@@ -20,10 +22,10 @@ fn bits_of(form: Form) -> u8
 }
 
 fn put_length(len: u32, out: &mut Vec<u8>) -> Result<(), NoMemory>
-    ensures ok { OnOk result (out.new.items ≡ out.old.items ++ length_octets len) }
-    ensures len { OnOk result (vec_len out.new ≡ vec_len out.old + length (length_octets len)) }
+    ensures ok { Appends result out.old out.new (length_octets len) }
+    ensures len { Lengthens result out.old out.new (length_octets len) }
     ensures kept { Begins out.old.items out.new.items }
-    ensures full { OnErr result (vec_capacity out.old < vec_len out.old + length (length_octets len)) }
+    ensures full { NeedsRoom result out.old (length_octets len) }
     ensures grows { vec_capacity out.old ≤ vec_capacity out.new }
 {
     if len < 5 {
@@ -44,11 +46,11 @@ fn put_length(len: u32, out: &mut Vec<u8>) -> Result<(), NoMemory>
 /// Appends the one spelling of a tag. After an `Err` the old octets are a front of what is there.
 #[tactic(auto, unfolding(crate::specs::Spelling::tag_spelling))]
 pub fn put_tag(tag: &Tag, out: &mut Vec<u8>) -> Result<(), NoMemory>
-    ensures spelled { SpellsTag (mark tag.now) (tag_spelling (mark tag.now)) }
-    ensures ok { OnOk result (out.new.items ≡ out.old.items ++ tag_spelling (mark tag.now)) }
-    ensures len { OnOk result (vec_len out.new ≡ vec_len out.old + length (tag_spelling (mark tag.now))) }
+    ensures spelled { SpellsTag (tag_view tag.now) (tag_spelling (tag_view tag.now)) }
+    ensures ok { Appends result out.old out.new (tag_spelling (tag_view tag.now)) }
+    ensures len { Lengthens result out.old out.new (tag_spelling (tag_view tag.now)) }
     ensures kept { Begins out.old.items out.new.items }
-    ensures full { OnErr result (vec_capacity out.old < vec_len out.old + length (tag_spelling (mark tag.now))) }
+    ensures full { NeedsRoom result out.old (tag_spelling (tag_view tag.now)) }
     ensures grows { vec_capacity out.old ≤ vec_capacity out.new }
 {
     let number = if tag.number < 15 { tag.number } else { 15 };
@@ -68,10 +70,10 @@ pub fn put_tag(tag: &Tag, out: &mut Vec<u8>) -> Result<(), NoMemory>
 
 /// Appends the one spelling of a tag, or changes nothing.
 pub fn write_tag(tag: &Tag, out: &mut Vec<u8>) -> Result<(), NoMemory>
-    ensures spelled { SpellsTag (mark tag.now) (tag_spelling (mark tag.now)) }
-    ensures ok { OnOk result (out.new.items ≡ out.old.items ++ tag_spelling (mark tag.now)) }
-    ensures err { OnErr result (out.new.items ≡ out.old.items) }
-    ensures full { OnErr result (vec_capacity out.old < vec_len out.old + length (tag_spelling (mark tag.now))) }
+    ensures spelled { SpellsTag (tag_view tag.now) (tag_spelling (tag_view tag.now)) }
+    ensures ok { Appends result out.old out.new (tag_spelling (tag_view tag.now)) }
+    ensures err { Keeps result out.old out.new }
+    ensures full { NeedsRoom result out.old (tag_spelling (tag_view tag.now)) }
 {
     let before = out.len();
     let written = put_tag(tag, out);

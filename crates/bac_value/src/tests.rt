@@ -1,3 +1,4 @@
+//! Tables of octets whose readings and writings were worked out by hand.
 ghost use Rattle.std.specs.Prelude.{◌<◌};
 
 use super::*;
@@ -276,7 +277,7 @@ fn pieces_of(alloc: Global, octets: &[u8], size: usize) -> Result<Vec<Vec<u8>>, 
 /// The first place from which pieces give another tag or other data than the octets.
 fn first_difference(parts: &Parts<'_>, octets: &[u8]) -> Option<usize> {
     for from in 0..=parts.len() {
-        let Some(behind) = octets.get(from..) else {
+        let Some(rest) = octets.get(from..) else {
             return Some(from);
         };
         let tag = match read_tag_at(parts, from) {
@@ -287,7 +288,7 @@ fn first_difference(parts: &Parts<'_>, octets: &[u8]) -> Option<usize> {
             Ok(len) => (0, len),
             Err(fault) => (fault.kind.number(), fault.at - from),
         };
-        if tag != tag_outcome(behind) || data != data_outcome(behind) {
+        if tag != tag_outcome(rest) || data != data_outcome(rest) {
             return Some(from);
         }
     }
@@ -363,11 +364,11 @@ fn lends_copies_and_walks_data(rt: HostRuntime) -> Result<(), Fail> {
     let mut tags = Vec::new(alloc);
     let mut elements = data.elements();
     for _ in 0..octets.len() {
-        let Some((element, behind)) = elements.split_first() else {
+        let Some((element, rest)) = elements.split_first() else {
             break;
         };
         write_tag(&element.tag, &mut tags)?;
-        elements = behind;
+        elements = rest;
     }
     assert_eq!(rt; tags.as_slice(), octets_of(alloc, "0E210F1A")?.as_slice());
     assert_eq!(rt; copy.into_vec().len(), 7);
@@ -400,6 +401,39 @@ fn copies_out_of_pieces(rt: HostRuntime) -> Result<(), Fail> {
         copy_out(&parts, 1, 4, &mut out)?;
         assert_eq!(rt; out.as_slice(), [0xAA, 1, 2, 3, 4].as_slice());
     }
+    Ok(())
+}
+
+/// Octets, character and bit strings of 65,535 octets with their tags, through each call that copies or writes.
+#[test]
+fn copies_and_writes_65535_octets(rt: HostRuntime) -> Result<(), Fail> {
+    let alloc = rt.alloc();
+    for tag in ["65FEFFFB", "75FEFFFB", "85FEFFFB"] {
+        let mut octets = octets_of(alloc, tag)?;
+        octets.resize(65_535, 0)?;
+        let (data, _) = read_data(&octets)?;
+        let copy = data.to_owned(alloc)?;
+        let mut out = Vec::new(alloc);
+        write_data(copy.as_data(), &mut out)?;
+        assert!(rt; out == octets, "{tag}");
+        let (element, _) = read_element(&octets)?;
+        let value = value_of(alloc, element)?.ok_or("a value")?;
+        out.clear();
+        write_value(&value, &mut out)?;
+        assert!(rt; out == octets, "{tag}");
+        let pieces = pieces_of(alloc, &octets, 1000)?;
+        let parts = Parts::try_new(&pieces).ok_or("few octets")?;
+        if parts.len() != 65_535 {
+            return Err(Fail::from("too few octets"));
+        }
+        out.clear();
+        copy_out(&parts, 0, 65_535, &mut out)?;
+        assert!(rt; out == octets, "{tag}");
+    }
+    let tag = Tag::new(254, Class::Context, Form::Length(u32::MAX)).ok_or("a tag")?;
+    let mut out = Vec::new(alloc);
+    write_tag(&tag, &mut out)?;
+    assert_eq!(rt; out.as_slice(), b"\xFD\xFE\xFF\xFF\xFF\xFF\xFF".as_slice());
     Ok(())
 }
 

@@ -1,3 +1,4 @@
+//! The thirteen kinds of application values (clause 20.2).
 ghost use Rattle.std.specs.Prelude.{◌≡◌, ◌<◌, ◌+◌, ◌^◌, ◌↔◌, ◌∷◌, IsSome, IfSome, IsTrue, true, length};
 ghost use Rattle.bac_value.specs.Limits.{bits_fit};
 

@@ -1,9 +1,10 @@
+//! The value that an element is.
 ghost use Rattle.std.specs.Prelude.{◌≡◌, ◌<◌, ◌≤◌, ◌+◌, ◌∷◌, ◌^◌, ◌≢◌, length, slice_index, drop, IsTrue, None, IfOk, OnErr, MatchOption};
 ghost use Rattle.bac_value.specs.Element.{IsOfKind};
 ghost use Rattle.bac_value.specs.Meaning.{IsValueOf, copied, datum_in};
 ghost use Rattle.bac_value.specs.Reading.{length_in, flaw};
 ghost use Rattle.bac_value.specs.Value.{Datum, kind_number, IsContents};
-ghost use Rattle.bac_value.specs.Views.{datum, part};
+ghost use Rattle.bac_value.specs.Views.{value_view, element_view};
 
 use crate::contents::{flaw_in, is_length_in};
 use crate::element::Element;
@@ -33,7 +34,7 @@ fn array_of<O: Octets, const N: usize>(octets: O) -> [u8; N]
 
 fn octet_string<O: Octets>(alloc: Global, contents: O) -> Result<Value, NoMemory>
     requires { length (O.octets contents) < 2 ^ 32 }
-    ensures value { IfOk result (λ v. datum v ≡ datum_in 6 (O.octets contents)) }
+    ensures value { IfOk result (λ v. value_view v ≡ datum_in 6 (O.octets contents)) }
     ensures full { OnErr result (0 < length (copied (datum_in 6 (O.octets contents)))) }
 {
     let octets = copy_of(alloc, contents)?;
@@ -43,7 +44,7 @@ fn octet_string<O: Octets>(alloc: Global, contents: O) -> Result<Value, NoMemory
 fn character_string<O: Octets>(alloc: Global, contents: O) -> Result<Value, NoMemory>
     requires some { 0 < length (O.octets contents) }
     requires fits { length (O.octets contents) < 2 ^ 32 }
-    ensures value { IfOk result (λ v. datum v ≡ datum_in 7 (O.octets contents)) }
+    ensures value { IfOk result (λ v. value_view v ≡ datum_in 7 (O.octets contents)) }
     ensures full { OnErr result (0 < length (copied (datum_in 7 (O.octets contents)))) }
 {
     let Some((set, text)) = contents.first() else {
@@ -57,7 +58,7 @@ fn bit_string<O: Octets>(alloc: Global, contents: O) -> Result<Value, NoMemory>
     requires some { 0 < length (O.octets contents) }
     requires fits { length (O.octets contents) < 2 ^ 32 }
     requires right { flaw 8 (O.octets contents) ≡ None }
-    ensures value { IfOk result (λ v. datum v ≡ datum_in 8 (O.octets contents)) }
+    ensures value { IfOk result (λ v. value_view v ≡ datum_in 8 (O.octets contents)) }
     ensures full { OnErr result (0 < length (copied (datum_in 8 (O.octets contents)))) }
 {
     let Some((unused, octets)) = contents.first() else {
@@ -74,7 +75,7 @@ fn value_of_kind<O: Octets>(alloc: Global, kind: u8, contents: O) -> Result<Valu
     requires fits { length (O.octets contents) < 2 ^ 32 }
     requires sized { IsTrue (length_in kind (length (O.octets contents))) }
     requires right { flaw kind (O.octets contents) ≡ None }
-    ensures value { IfOk result (λ v. datum v ≡ datum_in kind (O.octets contents)) }
+    ensures value { IfOk result (λ v. value_view v ≡ datum_in kind (O.octets contents)) }
     ensures full { OnErr result (0 < length (copied (datum_in kind (O.octets contents)))) }
 {
     match kind {
@@ -97,9 +98,9 @@ fn value_of_kind<O: Octets>(alloc: Global, kind: u8, contents: O) -> Result<Valu
 ///
 /// An element that was read is a value exactly where its tag is of the application class.
 pub fn value_of<O: Octets>(alloc: Global, element: Element<O>) -> Result<Option<Value>, NoMemory>
-    ensures value { IfOk result (λ o. MatchOption o ((d : Datum) → IsValueOf d (part O.octets element) → ⊥)
-        (λ v. IsValueOf (datum v) (part O.octets element))) }
-    ensures full { OnErr result ((d : Datum) × IsValueOf d (part O.octets element) × (0 < length (copied d))) }
+    ensures value { IfOk result (λ o. MatchOption o ((d : Datum) → IsValueOf d (element_view O.octets element) → ⊥)
+        (λ v. IsValueOf (value_view v) (element_view O.octets element))) }
+    ensures full { OnErr result ((d : Datum) × IsValueOf d (element_view O.octets element) × (0 < length (copied d))) }
 {
     let len = element.contents.len();
     match (element.tag.class, element.tag.form) {

@@ -1,4 +1,6 @@
+//! Writing values, and contents under any tag (clause 20.2).
 ghost use Rattle.std.specs.Prelude.{◌≡◌, ◌<◌, ◌≤◌, ◌+◌, ◌*◌, ◌++◌, ◌^◌, ◌∷◌, ℕ, List, [], length, IsTrue, OnOk, OnErr, vec_len, vec_capacity};
+ghost use Rattle.bac_value.specs.Appending.{Appends, Lengthens, Keeps, NeedsRoom};
 ghost use Rattle.byteorder.specs.Endian.{big_bytes};
 ghost use Rattle.bac_value.specs.Octets.{Begins};
 ghost use Rattle.bac_value.specs.Limits.{length_tag_fits};
@@ -6,7 +8,7 @@ ghost use Rattle.bac_value.specs.Spelling.{tag_spelling};
 ghost use Rattle.bac_value.specs.Number.{unsigned_octets, signed_octets};
 ghost use Rattle.bac_value.specs.Value.{Datum, boolean, mark_for, IsValue, SpellsValue};
 ghost use Rattle.bac_value.specs.Writing.{primitive, object_octets, value_spelling, AppendsValue};
-ghost use Rattle.bac_value.specs.Views.{datum, object_id};
+ghost use Rattle.bac_value.specs.Views.{value_view, object_identifier_view};
 
 use crate::kinds;
 use crate::memory::NoMemory;
@@ -27,10 +29,10 @@ pub fn put_primitive(
 ) -> Result<(), NoMemory>
     requires tag { IsTrue (length_tag_fits number class) }
     requires fits { length contents.now < 2 ^ 32 }
-    ensures ok { OnOk result (out.new.items ≡ out.old.items ++ primitive class number contents.now) }
-    ensures len { OnOk result (vec_len out.new ≡ vec_len out.old + length (primitive class number contents.now)) }
+    ensures ok { Appends result out.old out.new (primitive class number contents.now) }
+    ensures len { Lengthens result out.old out.new (primitive class number contents.now) }
     ensures kept { Begins out.old.items out.new.items }
-    ensures full { OnErr result (vec_capacity out.old < vec_len out.old + length (primitive class number contents.now)) }
+    ensures full { NeedsRoom result out.old (primitive class number contents.now) }
     ensures grows { vec_capacity out.old ≤ vec_capacity out.new }
 {
     let form = Form::Length(contents.len() as u32);
@@ -56,10 +58,10 @@ fn put_number(
     requires some { 0 < count }
     requires most { count ≤ 8 }
     requires fits { number < 256 ^ count }
-    ensures ok { OnOk result (out.new.items ≡ out.old.items ++ primitive class tag (big_bytes count number)) }
-    ensures len { OnOk result (vec_len out.new ≡ vec_len out.old + length (primitive class tag (big_bytes count number))) }
+    ensures ok { Appends result out.old out.new (primitive class tag (big_bytes count number)) }
+    ensures len { Lengthens result out.old out.new (primitive class tag (big_bytes count number)) }
     ensures kept { Begins out.old.items out.new.items }
-    ensures full { OnErr result (vec_capacity out.old < vec_len out.old + length (primitive class tag (big_bytes count number))) }
+    ensures full { NeedsRoom result out.old (primitive class tag (big_bytes count number)) }
     ensures grows { vec_capacity out.old ≤ vec_capacity out.new }
 {
     let mut buffer = [0u8; 8];
@@ -74,10 +76,10 @@ fn put_number(
 #[tactic(auto, unfolding(crate::specs::Number::unsigned_octets))]
 pub fn put_unsigned(class: Class, tag: u8, number: u64, out: &mut Vec<u8>) -> Result<(), NoMemory>
     requires { IsTrue (length_tag_fits tag class) }
-    ensures ok { OnOk result (out.new.items ≡ out.old.items ++ primitive class tag (unsigned_octets number)) }
-    ensures len { OnOk result (vec_len out.new ≡ vec_len out.old + length (primitive class tag (unsigned_octets number))) }
+    ensures ok { Appends result out.old out.new (primitive class tag (unsigned_octets number)) }
+    ensures len { Lengthens result out.old out.new (primitive class tag (unsigned_octets number)) }
     ensures kept { Begins out.old.items out.new.items }
-    ensures full { OnErr result (vec_capacity out.old < vec_len out.old + length (primitive class tag (unsigned_octets number))) }
+    ensures full { NeedsRoom result out.old (primitive class tag (unsigned_octets number)) }
     ensures grows { vec_capacity out.old ≤ vec_capacity out.new }
 {
     put_number(class, tag, octets_of(number), number, out)
@@ -89,10 +91,10 @@ pub fn put_unsigned(class: Class, tag: u8, number: u64, out: &mut Vec<u8>) -> Re
 #[tactic(auto, unfolding(crate::specs::Number::signed_octets))]
 pub fn put_signed(class: Class, tag: u8, number: i64, out: &mut Vec<u8>) -> Result<(), NoMemory>
     requires { IsTrue (length_tag_fits tag class) }
-    ensures ok { OnOk result (out.new.items ≡ out.old.items ++ primitive class tag (signed_octets number)) }
-    ensures len { OnOk result (vec_len out.new ≡ vec_len out.old + length (primitive class tag (signed_octets number))) }
+    ensures ok { Appends result out.old out.new (primitive class tag (signed_octets number)) }
+    ensures len { Lengthens result out.old out.new (primitive class tag (signed_octets number)) }
     ensures kept { Begins out.old.items out.new.items }
-    ensures full { OnErr result (vec_capacity out.old < vec_len out.old + length (primitive class tag (signed_octets number))) }
+    ensures full { NeedsRoom result out.old (primitive class tag (signed_octets number)) }
     ensures grows { vec_capacity out.old ≤ vec_capacity out.new }
 {
     let count = signed_octets_of(distance_of(number));
@@ -109,10 +111,10 @@ pub fn put_object_identifier(
     out: &mut Vec<u8>,
 ) -> Result<(), NoMemory>
     requires { IsTrue (length_tag_fits tag class) }
-    ensures ok { OnOk result (out.new.items ≡ out.old.items ++ primitive class tag (object_octets (object_id id))) }
-    ensures len { OnOk result (vec_len out.new ≡ vec_len out.old + length (primitive class tag (object_octets (object_id id)))) }
+    ensures ok { Appends result out.old out.new (primitive class tag (object_octets (object_identifier_view id))) }
+    ensures len { Lengthens result out.old out.new (primitive class tag (object_octets (object_identifier_view id))) }
     ensures kept { Begins out.old.items out.new.items }
-    ensures full { OnErr result (vec_capacity out.old < vec_len out.old + length (primitive class tag (object_octets (object_id id)))) }
+    ensures full { NeedsRoom result out.old (primitive class tag (object_octets (object_identifier_view id))) }
     ensures grows { vec_capacity out.old ≤ vec_capacity out.new }
 {
     let number = u32::from(id.kind) * 0x40_0000 + id.instance;
@@ -123,10 +125,10 @@ pub fn put_object_identifier(
 ///
 /// After an `Err` the old octets are a front of what is there.
 pub fn put_boolean(value: bool, out: &mut Vec<u8>) -> Result<(), NoMemory>
-    ensures ok { OnOk result (out.new.items ≡ out.old.items ++ tag_spelling (mark_for (boolean value) 0)) }
-    ensures len { OnOk result (vec_len out.new ≡ vec_len out.old + length (tag_spelling (mark_for (boolean value) 0))) }
+    ensures ok { Appends result out.old out.new (tag_spelling (mark_for (boolean value) 0)) }
+    ensures len { Lengthens result out.old out.new (tag_spelling (mark_for (boolean value) 0)) }
     ensures kept { Begins out.old.items out.new.items }
-    ensures full { OnErr result (vec_capacity out.old < vec_len out.old + length (tag_spelling (mark_for (boolean value) 0))) }
+    ensures full { NeedsRoom result out.old (tag_spelling (mark_for (boolean value) 0)) }
     ensures grows { vec_capacity out.old ≤ vec_capacity out.new }
 {
     let tag = Tag {
@@ -141,10 +143,10 @@ pub fn put_boolean(value: bool, out: &mut Vec<u8>) -> Result<(), NoMemory>
 fn put_with_octet(kind: u8, octet: u8, octets: &[u8], out: &mut Vec<u8>) -> Result<(), NoMemory>
     requires tag { IsTrue (length_tag_fits kind Class.Application) }
     requires fits { length octets.now + 1 < 2 ^ 32 }
-    ensures ok { OnOk result (out.new.items ≡ out.old.items ++ primitive Class.Application kind (octet ∷ octets.now)) }
-    ensures len { OnOk result (vec_len out.new ≡ vec_len out.old + length (primitive Class.Application kind (octet ∷ octets.now))) }
+    ensures ok { Appends result out.old out.new (primitive Class.Application kind (octet ∷ octets.now)) }
+    ensures len { Lengthens result out.old out.new (primitive Class.Application kind (octet ∷ octets.now)) }
     ensures kept { Begins out.old.items out.new.items }
-    ensures full { OnErr result (vec_capacity out.old < vec_len out.old + length (primitive Class.Application kind (octet ∷ octets.now))) }
+    ensures full { NeedsRoom result out.old (primitive Class.Application kind (octet ∷ octets.now)) }
     ensures grows { vec_capacity out.old ≤ vec_capacity out.new }
 {
     let tag = Tag {
@@ -160,12 +162,12 @@ fn put_with_octet(kind: u8, octet: u8, octets: &[u8], out: &mut Vec<u8>) -> Resu
 
 /// Appends the one spelling of a value. After an `Err` the old octets are a front of what is there.
 pub fn put_value(value: &Value, out: &mut Vec<u8>) -> Result<(), NoMemory>
-    ensures ok { OnOk result (out.new.items ≡ out.old.items ++ value_spelling (datum value.now)) }
-    ensures len { OnOk result (vec_len out.new ≡ vec_len out.old + length (value_spelling (datum value.now))) }
+    ensures ok { Appends result out.old out.new (value_spelling (value_view value.now)) }
+    ensures len { Lengthens result out.old out.new (value_spelling (value_view value.now)) }
     ensures kept { Begins out.old.items out.new.items }
-    ensures full { OnErr result (vec_capacity out.old < vec_len out.old + length (value_spelling (datum value.now))) }
+    ensures full { NeedsRoom result out.old (value_spelling (value_view value.now)) }
     ensures grows { vec_capacity out.old ≤ vec_capacity out.new }
-    ensures value { IsValue (datum value.now) }
+    ensures value { IsValue (value_view value.now) }
 {
     let class = Class::Application;
     match value {
@@ -197,9 +199,9 @@ pub fn put_value(value: &Value, out: &mut Vec<u8>) -> Result<(), NoMemory>
 
 /// Appends the one spelling of a value, or changes nothing.
 pub fn write_value(value: &Value, out: &mut Vec<u8>) -> Result<(), NoMemory>
-    ensures ok { OnOk result (AppendsValue (datum value.now) out.old.items out.new.items) }
-    ensures err { OnErr result (out.new.items ≡ out.old.items) }
-    ensures full { OnErr result (vec_capacity out.old < vec_len out.old + length (value_spelling (datum value.now))) }
+    ensures ok { OnOk result (AppendsValue (value_view value.now) out.old.items out.new.items) }
+    ensures err { Keeps result out.old out.new }
+    ensures full { NeedsRoom result out.old (value_spelling (value_view value.now)) }
 {
     let before = out.len();
     let written = put_value(value, out);

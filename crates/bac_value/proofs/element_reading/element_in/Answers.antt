@@ -1,14 +1,14 @@
 use Rattle.std.proofs.Common.{arith}
 use Rattle.bac_value.specs.Element.{SpellsElement}
 use Rattle.bac_value.specs.Reading.{element_at}
-use Rattle.bac_value.specs.Views.{part}
+use Rattle.bac_value.specs.Views.{element_view}
 use Rattle.bac_value.proofs.Steps.{found, refused}
 use Rattle.bac_value.proofs.Elements.{element_exact}
 use Rattle.bac_value.proofs.element_reading.element_in.Goals as goal
 
 pub returns-in-Ok : goal.returns-in-Ok
 returns-in-Ok g c = found element_at SpellsElement element_exact (g.O.Octets.octets c.args.octets) (g.O.Octets.octets c.in-Ok.read.1) _
-    (part g.O.Octets.octets c.in-Ok.read.0) c.len-all.ensures.each (omega (arith, c.len-all.ensures.count, c.len.ensures.count)) c.in-Ok.ensures.reads.1
+    (element_view g.O.Octets.octets c.in-Ok.read.0) c.len-all.ensures.each (omega (arith, c.len-all.ensures.count, c.len.ensures.count)) c.in-Ok.ensures.reads.1
 
 pub returns-in-Err : goal.returns-in-Err
 returns-in-Err g c = refused element_at SpellsElement element_exact (g.O.Octets.octets c.args.octets) c.in-Err.kind c.in-Err.ensures.reads

@@ -1,11 +1,11 @@
 use Rattle.std.proofs.Common.{arith, ap, sym, length, ◌∙◌}
-use Rattle.bac_value.proofs.Joined.{left_behind}
+use Rattle.bac_value.proofs.Joined.{passed}
 use Rattle.bac_value.proofs.parts.settled.Goals as goal
 
 pub loop-part-preserved : goal.loop-part-preserved
 loop-part-preserved c =
     let inv = c.loop-part.invariant in
-    let more = left_behind c.loop-part.rest.now c.in-Some.behind.now c.in-Some.part.now c.deref-in-Some.result.now _ c.loop-part.over
+    let more = passed c.loop-part.rest.now c.in-Some.after.now c.in-Some.part.now c.deref-in-Some.result.now _ c.loop-part.over
     c.slice_len-over.result c.args.len c.in-Some.ensures.cases.0 c.deref-in-Some.ensures.value c.slice_len-over.ensures.count
     (omega (
       arith,

@@ -2,7 +2,7 @@ use Rattle.std.proofs.Common.{arith, ◌≡◌, ◌+◌, ◌-◌, ◌++◌, min,
 use Rattle.std.specs.Global.{Vec}
 use Rattle.bac_value.specs.Octets.{joined}
 use Rattle.bac_value.proofs.Joined.{copied, joined_rest}
-use Rattle.bac_value.proofs.parts_octets.append_pieces.Goals as goal
+use Rattle.bac_value.proofs.parts.append_pieces.Goals as goal
 
 pub loop-part-preserved : goal.loop-part-preserved
 loop-part-preserved c =

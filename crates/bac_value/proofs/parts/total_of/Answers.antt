@@ -3,7 +3,7 @@ use Rattle.std.specs.Global.{Vec}
 use Rattle.std.proofs.lemmas.List.{take_all, drop_all}
 use Rattle.bac_value.specs.Octets.{IsBytes, joined}
 use Rattle.bac_value.proofs.Joined.{joined_more, joined_rest, IsBytes-append}
-use Rattle.bac_value.proofs.parts_octets.total_of.Goals as goal
+use Rattle.bac_value.proofs.parts.total_of.Goals as goal
 
 pub loop-part-preserved : goal.loop-part-preserved
 loop-part-preserved c =

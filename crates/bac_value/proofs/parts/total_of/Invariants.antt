@@ -1,6 +1,6 @@
 use Rattle.std.proofs.Common.{◌≡◌, ◌+◌, ◌<◌, ◌^◌, length, drop, take}
 use Rattle.bac_value.specs.Octets.{IsBytes, joined}
-use Rattle.bac_value.proofs.parts_octets.total_of.Given as goal
+use Rattle.bac_value.proofs.parts.total_of.Given as goal
 
 abbrev pub invariant-loop-part : goal.invariant-loop-part
 invariant-loop-part l = record {

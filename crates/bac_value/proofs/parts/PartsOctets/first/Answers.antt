@@ -2,7 +2,7 @@ use Rattle.std.proofs.Common.{arith, subst, IsTrue, ◌∷◌}
 use Rattle.std.proofs.lemmas.Bool.{ltb-true}
 use Rattle.bac_value.specs.Octets.{begins_in_first}
 use Rattle.bac_value.proofs.Joined.{first_of}
-use Rattle.bac_value.proofs.parts_octets.PartsOctets.first.Goals as goal
+use Rattle.bac_value.proofs.parts.PartsOctets.first.Goals as goal
 
 pub returns : goal.returns
 returns c =

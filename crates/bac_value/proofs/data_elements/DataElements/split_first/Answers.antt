@@ -1,13 +1,13 @@
 use Rattle.std.proofs.Common.{arith, length, ◌<◌}
 use Rattle.std.proofs.Math.Logic.{∥∥₁_map, ∥∥₁_elim}
 use Rattle.bac_value.proofs.Elements.{element_takes}
-use Rattle.bac_value.proofs.ElementLists.{no_element, elements_behind}
-use Rattle.bac_value.proofs.walking.DataElements.split_first.Goals as goal
+use Rattle.bac_value.proofs.ElementLists.{no_element, elements_after}
+use Rattle.bac_value.proofs.data_elements.DataElements.split_first.Goals as goal
 
 pub invariant_of-result : goal.invariant_of-result
 invariant_of-result c =
     let some : 0 < length c.args.self.octets.now = omega (arith, c.slice_len.ensures.count) in
-    record { whole = ∥∥₁_map c.args.self.whole (elements_behind c.args.self.octets.now _ some c.in-Ok.ensures.reads.1) }
+    record { whole = ∥∥₁_map c.args.self.whole (elements_after c.args.self.octets.now _ some c.in-Ok.ensures.reads.1) }
 
 pub unreachable-requires : goal.unreachable-requires
 unreachable-requires c =

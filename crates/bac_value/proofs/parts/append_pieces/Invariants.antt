@@ -1,6 +1,6 @@
 use Rattle.std.proofs.Common.{◌≡◌, ◌+◌, ◌++◌, ◌≤◌, length, take, drop, vec_len, vec_capacity}
 use Rattle.bac_value.specs.Octets.{joined}
-use Rattle.bac_value.proofs.parts_octets.append_pieces.Given as goal
+use Rattle.bac_value.proofs.parts.append_pieces.Given as goal
 
 abbrev pub invariant-loop-part : goal.invariant-loop-part
 invariant-loop-part l = record {
