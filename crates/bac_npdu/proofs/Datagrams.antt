@@ -1,18 +1,14 @@
 -- What datagrams mean.
-use Rattle.std.proofs.Common.{◌≡◌, ℕ, ◌+◌, ◌<◌, ◌≤◌, Bool, List, [], ◌∷◌, length, Option, Some, None, refl, sym, ap, subst, ◌∙◌, arith, IsTrue, Ordering}
-use Rattle.std.proofs.Common.{Less, Equal, Greater}
-use Rattle.std.specs.Ordering.{nat_cmp, ordering_then}
-use Rattle.std.specs.Option.{option_cmp}
-use Rattle.std.specs.Cmp.Lexicographic.{slice_cmp}
+use Rattle.std.proofs.Common.{◌≡◌, ℕ, ◌+◌, ◌<◌, ◌≤◌, Bool, List, ◌∷◌, length, Option, Some, None, refl, sym, ap, subst, ◌∙◌, arith, IsTrue}
 use Rattle.std.proofs.lemmas.Bool.Decides.{nat_tests}
 use Rattle.std.proofs.lemmas.List.{length-append}
 use Rattle.bac_npdu.specs.declared.fault.Dropped.{Dropped}
 use Rattle.bac_npdu.specs.declared.fault.Dropped.TheVariants.{Bvll, Npdu, Routed, NetworkMessage}
-use Rattle.bac_npdu.specs.Peers.{RouteView, PeerView, route_fits, route_cmp, peer_cmp}
+use Rattle.bac_npdu.specs.Peers.{RouteView, PeerView, route_fits}
 use Rattle.bac_npdu.specs.Npdu.{NpduView, DestinationView, SpellsNpdu, SpellsBvll, all_of, destination_fits, npdu_spelling, members_spelling}
-use Rattle.bac_npdu.specs.Datagram.{IsFrameOf, Carries, towards, npdu_to, frame}
+use Rattle.bac_npdu.specs.Datagram.{IsFrameOf, Carries, Means, IsFrameTo, towards, npdu_to, frame}
 use Rattle.bac_npdu.specs.Causes.{IsCause}
-use Rattle.bac_npdu.proofs.Steps.{ok_is}
+use Rattle.bac_value.proofs.Steps.{ok_is}
 use Rattle.bac_npdu.proofs.Frames.{npdu_again, bvll_again}
 
 pub bvll_one : (m n octets : List ℕ) → SpellsBvll m octets → SpellsBvll n octets → m ≡ n
@@ -44,7 +40,7 @@ cause_none octets NetworkMessage cause link p a c =
 
 -- ---- the frame to a peer
 
-abbrev peer_at : List ℕ → Option RouteView → PeerView
+abbrev pub peer_at : List ℕ → Option RouteView → PeerView
 peer_at link route = record { link = link; route = route }
 
 towards_fits : (route : Option RouteView) → IsTrue (all_of route_fits route)
@@ -91,46 +87,35 @@ routed_on from to route expecting apdu p a fits short c =
     let none : some ≡ None = ap (λ (n : NpduView). n.destination) same ∙ c.stays in
     cc
 
--- ---- the order of peers tells any two apart
+-- ---- the same with APDUs of any kind, seen by their spelling
 
-both_equal : (r s : Ordering) → ordering_then r s ≡ Equal → (r ≡ Equal) × (s ≡ Equal)
-both_equal Less s e = absurd cc
-both_equal Equal s e = (refl, e)
-both_equal Greater s e = absurd cc
+-- what is sent to a peer without a route means that APDU, of the sender's link
+pub frame_means : {A : Type 0} (Spells : A → List ℕ → Type 0) (expects : A → Bool) (from to octets : List ℕ) (apdu : A)
+    → ((text : List ℕ) → Spells apdu text → length text ≤ 1476)
+    → IsFrameTo Spells expects (peer_at to None) apdu octets → Means Spells from octets (peer_at from None) apdu
+frame_means Spells expects from to octets apdu short f = record {
+  apdu_octets = f.apdu_octets;
+  carries = subst (λ (l : List ℕ). Carries from l (peer_at from None) f.apdu_octets) (sym f.is)
+      (arrives from to (expects apdu) f.apdu_octets (short f.apdu_octets f.spelled));
+  spelled = f.spelled;
+}
 
-numbers_equal : (x y : ℕ) → nat_cmp x y ≡ Equal → x ≡ y
-numbers_equal x y e = grind (arith, nat_tests, e)
+-- what is sent to a peer with a route means no APDU to the node at its link
+pub routed_means_none : {A : Type 0} (Spells : A → List ℕ → Type 0) (expects : A → Bool) (from to : List ℕ) (route : RouteView) (octets : List ℕ) (apdu : A)
+    → IsTrue (route_fits route) → ((text : List ℕ) → Spells apdu text → length text ≤ 1476)
+    → IsFrameTo Spells expects (peer_at to (Some route)) apdu octets → (p : PeerView) (a : A) → Means Spells from octets p a → ⊥
+routed_means_none Spells expects from to route octets apdu fits short f p a m =
+    routed_on from to route (expects apdu) f.apdu_octets p m.apdu_octets fits (short f.apdu_octets f.spelled)
+    (subst (λ (l : List ℕ). Carries from l p m.apdu_octets) f.is m.carries)
 
-lists_equal : (xs ys : List ℕ) → slice_cmp nat_cmp xs ys ≡ Equal → xs ≡ ys
-lists_equal [] [] e = refl
-lists_equal [] (y ∷ ys) e = absurd cc
-lists_equal (x ∷ xs) [] e = absurd cc
-lists_equal (x ∷ xs) (y ∷ ys) e =
-    let b = both_equal (nat_cmp x y) (slice_cmp nat_cmp xs ys) e in
-    let first = numbers_equal x y b.0 in
-    let rest = lists_equal xs ys b.1 in
-    cc
+-- a datagram means at most one APDU, of one peer, where no octets spell two APDUs
+pub means_one : {A : Type 0} (Spells : A → List ℕ → Type 0) → ((a b : A) (text : List ℕ) → Spells a text → Spells b text → a ≡ b)
+    → (link octets : List ℕ) (p q : PeerView) (a b : A) → Means Spells link octets p a → Means Spells link octets q b → (p ≡ q) × (a ≡ b)
+means_one Spells one link octets p q a b s t =
+    let same = carries_one link octets p q s.apdu_octets t.apdu_octets s.carries t.carries in
+    (same.0, one a b t.apdu_octets (subst (Spells a) same.1 s.spelled) t.spelled)
 
-routes_equal : (r s : RouteView) → route_cmp r s ≡ Equal → r ≡ s
-routes_equal r s e =
-    let b = both_equal (nat_cmp r.network s.network) (slice_cmp nat_cmp r.address s.address) e in
-    let network = numbers_equal r.network s.network b.0 in
-    let address = lists_equal r.address s.address b.1 in
-    let at_network : ℕ → RouteView = λ n. record { network = n; address = r.address } in
-    let at_address : List ℕ → RouteView = λ a. record { network = s.network; address = a } in
-    ap at_network network ∙ ap at_address address
-
-options_equal : (r s : Option RouteView) → option_cmp route_cmp r s ≡ Equal → r ≡ s
-options_equal None None e = refl
-options_equal None (Some s) e = absurd cc
-options_equal (Some r) None e = absurd cc
-options_equal (Some r) (Some s) e = ap Some (routes_equal r s e)
-
-pub peers_equal : (p q : PeerView) → peer_cmp p q ≡ Equal → p ≡ q
-peers_equal p q e =
-    let b = both_equal (slice_cmp nat_cmp p.link q.link) (option_cmp route_cmp p.route q.route) e in
-    let link = lists_equal p.link q.link b.0 in
-    let route = options_equal p.route q.route b.1 in
-    let at_link : List ℕ → PeerView = λ l. record { link = l; route = p.route } in
-    let at_route : Option RouteView → PeerView = λ r. record { link = q.link; route = r } in
-    ap at_link link ∙ ap at_route route
+-- a datagram that is dropped means no APDU
+pub dropped_means_none : {A : Type 0} (Spells : A → List ℕ → Type 0) (octets : List ℕ) (d : Dropped) → IsCause octets d
+    → (link : List ℕ) (p : PeerView) (a : A) → Means Spells link octets p a → ⊥
+dropped_means_none Spells octets d cause link p a m = cause_none octets d cause link p m.apdu_octets m.carries

@@ -11,8 +11,10 @@ use Rattle.bac_npdu.specs.declared.fault.FrameFault.TheVariants.{Truncated, Vers
 use Rattle.bac_npdu.specs.Peers.{RouteView, route_fits}
 use Rattle.bac_npdu.specs.Npdu.{DestinationView, MessageView, NpduView, optional, all_of, bit, control_octet, address_spelling, message_spelling}
 use Rattle.bac_npdu.specs.Npdu.{destination_fits, message_fits, members_spelling, npdu_spelling, SpellsNpdu, bvll_spelling, SpellsBvll}
-use Rattle.bac_npdu.specs.Reading.{◌>>=◌, IsBytes, place_at, optional_at, hops_at, message_at, has_bit, members_at, control_at, npdu_at, bvll_at}
-use Rattle.bac_npdu.proofs.Steps.{IsBytes-rest, IsBytes-take, bind_ok, unless_ok, where_ok, ok_is}
+use Rattle.bac_value.specs.Octets.{IsBytes}
+use Rattle.bac_value.specs.Steps.{◌>>=◌, has_bit}
+use Rattle.bac_npdu.specs.Reading.{place_at, optional_at, hops_at, message_at, members_at, control_at, npdu_at, bvll_at}
+use Rattle.bac_value.proofs.Steps.{IsBytes-rest, IsBytes-take, bind_ok, unless_ok, where_ok, ok_is}
 use Rattle.bac_npdu.proofs.Members.{place_takes_destination, place_takes_source, destination_again, source_again, optional_takes, optional_again, place_of}
 use Rattle.bac_npdu.proofs.Members.{hops_takes, hops_again, message_takes, message_again}
 
@@ -74,7 +76,7 @@ bits_are a b d e p lt c is =
       clear = rw (t.5, t.6) refl;
     }
 
--- ---- the members behind it
+-- ---- the members after it
 
 record IsMembers (control : ℕ) (bytes : List ℕ) (n : NpduView) : Type 0 where
   is : bytes ≡ members_spelling n

@@ -1,6 +1,5 @@
-pub mod Steps
 pub mod Members
 pub mod Frames
 pub mod Datagrams
+pub mod PeerOrder
 pub mod Writing
-pub mod Slots

@@ -12,16 +12,12 @@ use Rattle.bac_npdu.specs.declared.fault.FrameFault.{FrameFault}
 use Rattle.bac_npdu.specs.declared.fault.FrameFault.TheVariants.{Truncated, BadNet, BadLength}
 use Rattle.bac_npdu.specs.Peers.{RouteView, route_fits}
 use Rattle.bac_npdu.specs.Npdu.{DestinationView, MessageView, optional, all_of, address_spelling, message_spelling, destination_fits, message_fits}
-use Rattle.bac_npdu.specs.Reading.{◌>>=◌, IsBytes, octet_at, word_at, cut_at, network_in, count_in, address_at, place_at, optional_at, hops_at, message_at}
-use Rattle.bac_npdu.proofs.Steps.{IsBytes-drop, IsBytes-take, IsBytes-rest, bind_ok, chosen, unless_ok, where_ok, ok_is, Takes, Takes-then}
+use Rattle.bac_npdu.specs.Reading.{word_at, cut_at, network_in, count_in, address_at, place_at, optional_at, hops_at, message_at}
+use Rattle.bac_value.specs.Octets.{IsBytes}
+use Rattle.bac_value.specs.Steps.{◌>>=◌, octet_at}
+use Rattle.bac_value.proofs.Steps.{octet_takes, IsBytes-drop, IsBytes-take, IsBytes-rest, bind_ok, chosen, unless_ok, where_ok, ok_is, Takes, Takes-then}
 
 -- ---- octets
-
-pub octet_takes : (bytes : List ℕ) (x : ℕ × List ℕ) → IsBytes bytes → octet_at bytes ≡ Ok x → Takes bytes (x.0 ∷ []) x.1 × (x.0 < 256)
-octet_takes [] x fits e = absurd cc
-octet_takes (b ∷ rest) x fits e =
-    subst (λ (y : ℕ × List ℕ). Takes (b ∷ rest) (y.0 ∷ []) y.1 × (y.0 < 256)) (ok_is (b, rest) x e)
-    (record { parts = refl; rest_fits = IsBytes-rest b rest fits }, fits 0)
 
 pub word_takes : (bytes : List ℕ) (x : ℕ × List ℕ) → IsBytes bytes → word_at bytes ≡ Ok x → Takes bytes (to_be_bytes w16 x.0) x.1 × (x.0 < 2 ^ 16)
 unfolding word_at
@@ -71,8 +67,8 @@ address_takes : (is_source : Bool) (network : ℕ) (bytes : List ℕ) (x : Route
 unfolding address_at IsAddress
 address_takes is_source network bytes x fits e =
     let rest : ℕ × List ℕ → Result (RouteView × List ℕ) FrameFault = λ count. cut_at count.0 count.1 >>= λ address. Ok (place network address.0, address.1) in
-    let count = bind_ok (octet_at bytes) (λ count. cond (count_in is_source network count.0) (rest count) (Err BadLength)) x e in
-    let tc = octet_takes bytes count.0 fits count.1 in
+    let count = bind_ok (octet_at Truncated bytes) (λ count. cond (count_in is_source network count.0) (rest count) (Err BadLength)) x e in
+    let tc = octet_takes Truncated bytes count.0 fits count.1 in
     let g = where_ok (count_in is_source network count.0.0) BadLength (rest count.0) x count.2 in
     let cut = bind_ok (cut_at count.0.0 count.0.1) (λ address. Ok (place network address.0, address.1)) x g.1 in
     let ta = cut_takes count.0.0 count.0.1 cut.0 tc.0.rest_fits cut.1 in
@@ -172,8 +168,8 @@ hops_takes None bytes x fits e =
     subst (λ (y : Option DestinationView × List ℕ). Takes bytes (optional hops_of y.0) y.1 × (None ≡ option_map place_of y.0)) (ok_is (None, bytes) x e)
     (record { parts = refl; rest_fits = fits }, refl)
 hops_takes (Some r) bytes x fits e =
-    let one = bind_ok (octet_at bytes) (λ hops. Ok (Some (destination r hops.0), hops.1)) x e in
-    let t = octet_takes bytes one.0 fits one.1 in
+    let one = bind_ok (octet_at Truncated bytes) (λ hops. Ok (Some (destination r hops.0), hops.1)) x e in
+    let t = octet_takes Truncated bytes one.0 fits one.1 in
     subst (λ (y : Option DestinationView × List ℕ). Takes bytes (optional hops_of y.0) y.1 × (Some r ≡ option_map place_of y.0))
     (ok_is (Some (destination r one.0.0), one.0.1) x one.2)
     (t.0, refl)
@@ -200,8 +196,8 @@ unfolding message_at IsMessage
 message_takes bytes x fits e =
     let with_vendor : ℕ × List ℕ → Result (MessageView × List ℕ) FrameFault = λ kind. word_at kind.1 >>=
     λ vendor. Ok (message kind.0 (Some vendor.0), vendor.1) in
-    let kind = bind_ok (octet_at bytes) (λ kind. cond (ltb kind.0 128) (Ok (message kind.0 None, kind.1)) (with_vendor kind)) x e in
-    let tk = octet_takes bytes kind.0 fits kind.1 in
+    let kind = bind_ok (octet_at Truncated bytes) (λ kind. cond (ltb kind.0 128) (Ok (message kind.0 None, kind.1)) (with_vendor kind)) x e in
+    let tk = octet_takes Truncated bytes kind.0 fits kind.1 in
     elim (chosen (ltb kind.0.0 128) (Ok (message kind.0.0 None, kind.0.1)) (with_vendor kind.0) (Ok x) kind.2) [
       | inl c ↦ subst (IsMessage bytes) (ok_is (message kind.0.0 None, kind.0.1) x c.1) (tk.0, c.0)
       | inr c ↦

@@ -8,11 +8,8 @@ use Rattle.bac_npdu.specs.Datagram.{npdu_to, frame, IsFrameOf}
 use Rattle.bac_npdu.specs.Views.{route_view, peer_view}
 use Rattle.bac_npdu.specs.declared.route.Route.{Route}
 use Rattle.bac_npdu.specs.declared.peer.Peer.{Peer}
-use Rattle.bac_npdu.proofs.Datagrams.{frame_is}
+use Rattle.bac_npdu.proofs.Datagrams.{peer_at, frame_is}
 use Rattle.std.specs.Option.{option_map}
-
-abbrev peer_at : List ℕ → Option RouteView → PeerView
-peer_at link route = record { link = link; route = route }
 
 -- what stands in front of the contents
 abbrev head : PeerView → Bool → List ℕ
@@ -46,7 +43,7 @@ frame_parts p e apdu =
     rw (head_then p.link p.route e apdu) (omega (arith, length-append (npdu_spelling (npdu_to p e [])) apdu, same_head p e)) in
     rw (len, head_then p.link p.route e apdu) refl
 
--- written one behind the other, they are the frame
+-- written one after the other, they are the frame
 pub written : (p : PeerView) (e : Bool) (apdu old first second third all bytes : List ℕ) (n : ℕ) → n ≡ length (npdu_spelling (npdu_to p true []))
     → bytes ≡ to_be_bytes w16 (4 + n + length apdu)
     → first ≡ old ++ 0x81 ∷ 0x0A ∷ [] → second ≡ first ++ bytes → third ≡ second ++ npdu_spelling (npdu_to p e []) → all ≡ third ++ apdu

@@ -5,5 +5,4 @@ pub mod Addresses
 pub mod Views
 pub mod Reading
 pub mod Causes
-pub mod Slots
 pub mod Faults

@@ -2,6 +2,7 @@
 use Rattle.std.specs.Prelude.{◌≡◌, ℕ, ◌+◌, ◌<◌, ◌^◌, Bool, true, nat_lt, ◌==◌, ◌&&◌, ◌||◌, if◌then◌else◌, IsTrue, List, [], ◌∷◌, ◌++◌, length, Option, Some}
 use Rattle.std.specs.Prelude.{None, is_some}
 use Rattle.std.specs.Int.{w16, to_be_bytes}
+use Rattle.bac_npdu.specs.declared.control.TheConstants.{NETWORK_MESSAGE, DESTINATION, SOURCE, EXPECTING_REPLY}
 use Rattle.bac_npdu.specs.Peers.{RouteView, route_fits}
 
 -- where an NPDU is to be routed to (clause 6.2.2); network 65,535 is the global broadcast, and no octets of address a broadcast on the network
@@ -48,7 +49,9 @@ bit b weight = if b then weight else 0
 
 -- the control octet: bit 7 a network message, 5 a destination, 3 a source, 2 expecting reply, 1 and 0 the priority (clause 6.2.2)
 abbrev pub control_octet : NpduView → ℕ
-control_octet n = bit (is_some n.message) 128 + bit (is_some n.destination) 32 + bit (is_some n.source) 8 + bit n.expecting 4 + n.priority
+control_octet n =
+    bit (is_some n.message) NETWORK_MESSAGE + bit (is_some n.destination) DESTINATION + bit (is_some n.source) SOURCE
+    + bit n.expecting EXPECTING_REPLY + n.priority
 
 -- a network's number, the count of the address octets, and these
 abbrev pub address_spelling : ℕ → List ℕ → List ℕ
@@ -62,7 +65,7 @@ optional spelling (Some x) = spelling x
 abbrev pub message_spelling : MessageView → List ℕ
 message_spelling m = m.kind ∷ optional (to_be_bytes w16) m.vendor
 
--- what stands behind the control octet: the members that it announces, and the contents
+-- what stands after the control octet: the members that it announces, and the contents
 unfoldable pub members_spelling : NpduView → List ℕ
 members_spelling n =
     optional (λ d. address_spelling d.network d.address) n.destination

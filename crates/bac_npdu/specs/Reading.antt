@@ -1,24 +1,13 @@
 -- Reading from left to right, on lists alone.
-use Rattle.std.specs.Prelude.{◌≡◌, ℕ, ◌/◌, ◌%◌, ◌<◌, slice_index, List, [], ◌∷◌, length, take, drop, Result, Ok, Err, Option, Some, None, Bool, true, false}
+use Rattle.std.specs.Prelude.{ℕ, ◌%◌, slice_index, List, length, take, drop, Result, Ok, Err, Option, Some, None, Bool, true, false}
 use Rattle.std.specs.Prelude.{nat_lt, ◌==◌, ◌&&◌, ◌||◌, if◌then◌else◌}
 use Rattle.std.specs.Int.{w16, from_be_bytes}
+use Rattle.bac_value.specs.Steps.{◌>>=◌, octet_at, has_bit}
 use Rattle.bac_npdu.specs.declared.fault.FrameFault.{FrameFault}
 use Rattle.bac_npdu.specs.declared.fault.FrameFault.TheVariants.{Truncated, Version, ReservedBits, BadNet, BadLength, NotUnicast}
+use Rattle.bac_npdu.specs.declared.control.TheConstants.{NETWORK_MESSAGE, RESERVED_HIGH, DESTINATION, RESERVED_LOW, SOURCE, EXPECTING_REPLY}
 use Rattle.bac_npdu.specs.Peers.{RouteView}
 use Rattle.bac_npdu.specs.Npdu.{DestinationView, MessageView, NpduView}
-
-infixl 10 ◌>>=◌
-abbrev pub ◌>>=◌ : {A B : Type 0} → Result A FrameFault → (A → Result B FrameFault) → Result B FrameFault
-(Ok x) >>= f = f x
-(Err e) >>= f = Err e
-
--- each number is an octet
-abbrev pub IsBytes : List ℕ → Type 0
-IsBytes bytes = (i : ℕ) → slice_index bytes i < 256
-
-abbrev pub octet_at : List ℕ → Result (ℕ × List ℕ) FrameFault
-octet_at [] = Err Truncated
-octet_at (x ∷ xs) = Ok (x, xs)
 
 unfoldable pub word_at : List ℕ → Result (ℕ × List ℕ) FrameFault
 word_at bytes = if nat_lt (length bytes) 2 then Err Truncated else Ok (from_be_bytes w16 (take 2 bytes), drop 2 bytes)
@@ -35,7 +24,7 @@ count_in is_source network count = nat_lt count 9 && (if is_source then nat_lt 0
 
 unfoldable pub address_at : Bool → ℕ → List ℕ → Result (RouteView × List ℕ) FrameFault
 address_at is_source network bytes = do
-  count ← octet_at bytes
+  count ← octet_at Truncated bytes
   if count_in is_source network count.0 then (do
     address ← cut_at count.0 count.1
     Ok (record { network = network; address = address.0 }, address.1)) else Err BadLength
@@ -55,30 +44,26 @@ optional_at read true bytes = do
 abbrev pub hops_at : Option RouteView → List ℕ → Result (Option DestinationView × List ℕ) FrameFault
 hops_at None bytes = Ok (None, bytes)
 hops_at (Some place) bytes = do
-  hops ← octet_at bytes
+  hops ← octet_at Truncated bytes
   Ok (Some (record { network = place.network; address = place.address; hops = hops.0 }), hops.1)
 
 unfoldable pub message_at : List ℕ → Result (MessageView × List ℕ) FrameFault
 message_at bytes = do
-  kind ← octet_at bytes
+  kind ← octet_at Truncated bytes
   if nat_lt kind.0 128 then Ok (record { kind = kind.0; vendor = None }, kind.1) else (do
     vendor ← word_at kind.1
     Ok (record { kind = kind.0; vendor = Some vendor.0 }, vendor.1))
 
--- whether the bit of a weight is set
-abbrev pub has_bit : ℕ → ℕ → Bool
-has_bit octet weight = octet / weight % 2 == 1
-
 unfoldable pub members_at : ℕ → List ℕ → Result NpduView FrameFault
 members_at control bytes = do
-  place ← optional_at (place_at false) (has_bit control 32) bytes
-  source ← optional_at (place_at true) (has_bit control 8) place.1
+  place ← optional_at (place_at false) (has_bit control DESTINATION) bytes
+  source ← optional_at (place_at true) (has_bit control SOURCE) place.1
   destination ← hops_at place.0 source.1
-  message ← optional_at message_at (has_bit control 128) destination.1
+  message ← optional_at message_at (has_bit control NETWORK_MESSAGE) destination.1
   Ok (record {
     destination = destination.0;
     source = source.0;
-    expecting = has_bit control 4;
+    expecting = has_bit control EXPECTING_REPLY;
     priority = control % 4;
     message = message.0;
     contents = message.1;
@@ -86,12 +71,12 @@ members_at control bytes = do
 
 unfoldable pub control_at : List ℕ → Result NpduView FrameFault
 control_at bytes = do
-  control ← octet_at bytes
-  if has_bit control.0 64 || has_bit control.0 16 then Err ReservedBits else members_at control.0 control.1
+  control ← octet_at Truncated bytes
+  if has_bit control.0 RESERVED_HIGH || has_bit control.0 RESERVED_LOW then Err ReservedBits else members_at control.0 control.1
 
 unfoldable pub npdu_at : List ℕ → Result NpduView FrameFault
 npdu_at bytes = do
-  version ← octet_at bytes
+  version ← octet_at Truncated bytes
   if version.0 == 1 then control_at version.1 else Err Version
 
 unfoldable pub bvll_at : List ℕ → Result (List ℕ) FrameFault
@@ -102,8 +87,3 @@ bvll_at bytes =
     (if from_be_bytes w16 (take 2 (drop 2 bytes)) == length bytes then Ok (drop 4 bytes) else Err BadLength)
     else Err NotUnicast)
     else Err Version)
-
--- what a reader answered, seen by view and rest, is what reading on lists gives
-abbrev pub Reads : {X Y R : Type 0} → (X → Y) → (R → List ℕ) → List ℕ → Result (X × R) FrameFault → (List ℕ → Result (Y × List ℕ) FrameFault) → Type 0
-Reads view rest bytes (Ok r) read = read bytes ≡ Ok (view r.0, rest r.1)
-Reads view rest bytes (Err e) read = read bytes ≡ Err e

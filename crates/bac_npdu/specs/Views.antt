@@ -8,7 +8,7 @@ use Rattle.bac_npdu.specs.declared.npdu.Npdu.{Npdu}
 use Rattle.bac_npdu.specs.declared.place.Place.{Place}
 use Rattle.bac_npdu.specs.Peers.{RouteView, PeerView}
 use Rattle.bac_npdu.specs.Npdu.{DestinationView, MessageView, NpduView}
-use Rattle.bac_npdu.specs.Addresses.{address_view}
+pub use Rattle.bac_npdu.specs.Addresses.{address_view}
 
 abbrev pub route_view : Route → RouteView
 route_view r = record { network = r.network; address = address_view r.address }

@@ -1,3 +1,4 @@
+//! The address of a device on its network.
 ghost use Rattle.std.specs.Prelude.{◌≡◌, ◌≤◌, ◌↔◌, IsSome, IfSome, length};
 
 /// The address of a device on its network: 0 to 8 octets (8 is the own limit of this profile).

@@ -1,19 +1,26 @@
-ghost use Rattle.std.specs.Prelude.{◌≡◌, ℕ, List, IfOk, IfErr, MatchResult, Ok, Err};
+//! Reading a BVLL (clause J.2).
+ghost use Rattle.std.specs.Prelude.{◌≡◌, ℕ, List, IfOk, IfErr};
+ghost use Rattle.bac_value.specs.Steps.{ReadsAll};
 ghost use Rattle.bac_npdu.specs.Npdu.{SpellsBvll};
 ghost use Rattle.bac_npdu.specs.Reading.{bvll_at};
 
 use crate::fault::FrameFault;
 
+/// The first octet of a BVLL: BACnet/IP (clause J.2).
+pub(crate) const TYPE: u8 = 0x81;
+/// The second octet: the function Original-Unicast-NPDU (clause J.2.11).
+pub(crate) const ORIGINAL_UNICAST_NPDU: u8 = 0x0A;
+
 #[tactic(auto, unfolding(crate::specs::Reading::bvll_at))]
 fn npdu_in(octets: &[u8]) -> Result<&[u8], FrameFault>
-    ensures { MatchResult result (λ n. bvll_at octets.now ≡ Ok n.now) (λ e. bvll_at octets.now ≡ Err e) }
+    ensures { ReadsAll (λ n. n.now) result (bvll_at octets.now) }
 {
-    let [version, function, high, low, npdu @ ..] = octets else {
+    let [kind, function, high, low, npdu @ ..] = octets else {
         return Err(FrameFault::Truncated);
     };
-    if *version != 0x81 {
+    if *kind != TYPE {
         Err(FrameFault::Version)
-    } else if *function != 0x0A {
+    } else if *function != ORIGINAL_UNICAST_NPDU {
         Err(FrameFault::NotUnicast)
     } else if usize::from(u16::from_be_bytes([*high, *low])) != octets.len() {
         Err(FrameFault::BadLength)
@@ -29,7 +36,7 @@ pub fn read_bvll(octets: &[u8]) -> Result<&[u8], FrameFault>
     ensures found { IfOk result (λ n. SpellsBvll n.now octets.now) }
     ensures refused { IfErr result (λ e. (n : List ℕ) → SpellsBvll n octets.now → ⊥) }
     // The fault is the first from the left.
-    ensures exact { MatchResult result (λ n. bvll_at octets.now ≡ Ok n.now) (λ e. bvll_at octets.now ≡ Err e) }
+    ensures exact { ReadsAll (λ n. n.now) result (bvll_at octets.now) }
 {
     npdu_in(octets)
 }

@@ -1,3 +1,4 @@
+//! Reading the datagrams that come from a link.
 ghost use Rattle.std.specs.Prelude.{◌≡◌, ℕ, List, IfOk, IfErr};
 ghost use Rattle.bac_npdu.specs.Peers.{PeerView};
 ghost use Rattle.bac_npdu.specs.Datagram.{Carries};

@@ -1,12 +1,17 @@
+//! Writing the frame to a peer.
 ghost use Rattle.std.specs.Prelude.{◌≡◌, ◌+◌, ◌≤◌, ◌<◌, ◌++◌, ◌∷◌, [], length, OnOk, OnErr, vec_len, vec_capacity, true};
+ghost use Rattle.bac_value.specs.Appending.{Appends, Lengthens, Keeps, NeedsRoom};
 ghost use Rattle.bac_npdu.specs.Npdu.{address_spelling, npdu_spelling};
 ghost use Rattle.bac_npdu.specs.Datagram.{frame, npdu_to, IsFrameOf};
 ghost use Rattle.bac_npdu.specs.Views.{peer_view};
 ghost use Rattle.bac_npdu.specs.Addresses.{address_view};
 
+use crate::bvll::{ORIGINAL_UNICAST_NPDU, TYPE};
+use crate::control;
+use crate::npdu::{FIRST_HOPS, VERSION};
 use crate::peer::Peer;
 use crate::route::Route;
-use std::alloc::AllocError;
+use bac_value::NoMemory;
 
 /// How many octets the NPDU to a peer has in front of its contents.
 #[tactic(auto, unfolding(crate::specs::Npdu::npdu_spelling, crate::specs::Npdu::members_spelling))]
@@ -21,8 +26,8 @@ fn head_len(peer: &Peer) -> usize
 }
 
 /// The network's number, the count of the address octets, and these.
-fn put_address(route: &Route, out: &mut Vec<u8>) -> Result<(), AllocError>
-    ensures ok { OnOk result (out.new.items ≡ out.old.items ++ address_spelling route.now.network (address_view route.now.address)) }
+fn put_address(route: &Route, out: &mut Vec<u8>) -> Result<(), NoMemory>
+    ensures ok { Appends result out.old out.new (address_spelling route.now.network (address_view route.now.address)) }
     ensures len { OnOk result (vec_len out.new ≡ vec_len out.old + 3 + length (address_view route.now.address)) }
     ensures full { OnErr result (vec_capacity out.old < vec_len out.old + 3 + length (address_view route.now.address)) }
     ensures grows { vec_capacity out.old ≤ vec_capacity out.new }
@@ -30,47 +35,52 @@ fn put_address(route: &Route, out: &mut Vec<u8>) -> Result<(), AllocError>
     let address = route.address.octets();
     out.extend_from_slice(&route.network.to_be_bytes())?;
     out.push(address.len() as u8)?;
-    out.extend_from_slice(address)
+    out.extend_from_slice(address)?;
+    Ok(())
 }
 
 /// What the NPDU to a peer has in front of its contents.
 #[tactic(auto, unfolding(crate::specs::Npdu::npdu_spelling, crate::specs::Npdu::members_spelling))]
-fn put_head(peer: &Peer, expecting: bool, out: &mut Vec<u8>) -> Result<(), AllocError>
-    ensures ok { OnOk result (out.new.items ≡ out.old.items ++ npdu_spelling (npdu_to (peer_view peer.now) expecting [])) }
-    ensures len { OnOk result (vec_len out.new ≡ vec_len out.old + length (npdu_spelling (npdu_to (peer_view peer.now) expecting []))) }
-    ensures full { OnErr result (vec_capacity out.old < vec_len out.old + length (npdu_spelling (npdu_to (peer_view peer.now) expecting []))) }
+fn put_head(peer: &Peer, expecting: bool, out: &mut Vec<u8>) -> Result<(), NoMemory>
+    ensures ok { Appends result out.old out.new (npdu_spelling (npdu_to (peer_view peer.now) expecting [])) }
+    ensures len { Lengthens result out.old out.new (npdu_spelling (npdu_to (peer_view peer.now) expecting [])) }
+    ensures full { NeedsRoom result out.old (npdu_spelling (npdu_to (peer_view peer.now) expecting [])) }
     ensures grows { vec_capacity out.old ≤ vec_capacity out.new }
 {
-    let expecting = if expecting { 0x04 } else { 0 };
+    let expecting = if expecting {
+        control::EXPECTING_REPLY
+    } else {
+        0
+    };
     match &peer.route {
-        None => out.extend_from_slice(&[0x01, expecting]),
+        None => out.extend_from_slice(&[VERSION, expecting])?,
         Some(route) => {
-            out.extend_from_slice(&[0x01, 0x20 + expecting])?;
+            out.extend_from_slice(&[VERSION, control::DESTINATION + expecting])?;
             put_address(route, out)?;
-            out.push(0xFF)?;
-            Ok(())
+            out.push(FIRST_HOPS)?;
         }
     }
+    Ok(())
 }
 
 /// Appends the one frame that carries the octets of an APDU, at most 1,476, to a peer; `expecting` says that a reply is expected,
-/// as it is of Confirmed-Requests alone. Want of memory changes nothing.
+/// as it is of Confirmed-Requests alone. Nothing is changed where memory is lacking.
 #[tactic(auto, using(crate::proofs::Writing::frame_length, crate::proofs::Writing::same_head, crate::proofs::Writing::frame_parts))]
 pub fn write_datagram(
     peer: &Peer,
     expecting: bool,
     apdu: &[u8],
     out: &mut Vec<u8>,
-) -> Result<(), AllocError>
+) -> Result<(), NoMemory>
     requires { length apdu.now ≤ 1476 }
-    ensures ok { OnOk result (out.new.items ≡ out.old.items ++ frame (peer_view peer.now) expecting apdu.now) }
+    ensures ok { Appends result out.old out.new (frame (peer_view peer.now) expecting apdu.now) }
     ensures spelled { IsFrameOf (npdu_to (peer_view peer.now) expecting apdu.now) (frame (peer_view peer.now) expecting apdu.now) }
-    ensures err { OnErr result (out.new.items ≡ out.old.items) }
-    ensures full { OnErr result (vec_capacity out.old < vec_len out.old + length (frame (peer_view peer.now) expecting apdu.now)) }
+    ensures err { Keeps result out.old out.new }
+    ensures full { NeedsRoom result out.old (frame (peer_view peer.now) expecting apdu.now) }
 {
     let len = 4 + head_len(peer) + apdu.len();
     out.reserve(len)?;
-    out.extend_from_slice(&[0x81, 0x0A])?;
+    out.extend_from_slice(&[TYPE, ORIGINAL_UNICAST_NPDU])?;
     out.extend_from_slice(&(len as u16).to_be_bytes())?;
     put_head(peer, expecting, out)?;
     out.extend_from_slice(apdu)?;

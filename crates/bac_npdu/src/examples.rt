@@ -1,5 +1,5 @@
 //! Octets of whole datagrams, computed from the definitions: each function's contract is an example.
-#![tactic(auto, unfolding(crate::specs::Datagram::frame, crate::specs::Npdu::npdu_spelling, crate::specs::Npdu::bvll_spelling, crate::specs::Npdu::members_spelling,))]
+#![tactic(auto, unfolding(crate::specs::Datagram::frame, crate::specs::Npdu::npdu_spelling, crate::specs::Npdu::bvll_spelling, crate::specs::Npdu::members_spelling))]
 
 ghost use Rattle.std.specs.Prelude.{◌≡◌, List, [], ◌∷◌, Some, None, true, false, IsTrue};
 ghost use Rattle.std.specs.declared.cmp.Ordering.TheVariants.{Less, Greater};
@@ -18,7 +18,7 @@ fn answer_on_the_own_network()
     ensures { frame (record { link = []; route = None }) false (0x60 ∷ 0x04 ∷ 0x09 ∷ []) ≡ 0x81 ∷ 0x0A ∷ 0x00 ∷ 0x09 ∷ 0x01 ∷ 0x00 ∷ 0x60 ∷ 0x04 ∷ 0x09 ∷ [] }
 {}
 
-// An answer to device 2A of network 5: it is the destination, with hop count 255 behind it.
+// An answer to device 2A of network 5: it is the destination, with hop count 255 after it.
 fn answer_to_a_route()
     ensures { frame (record { link = []; route = Some (record { network = 5; address = 0x2A ∷ [] }) }) false (0x30 ∷ 0x01 ∷ 0x0C ∷ [])
         ≡ 0x81 ∷ 0x0A ∷ 0x00 ∷ 0x0E ∷ 0x01 ∷ 0x20 ∷ 0x00 ∷ 0x05 ∷ 0x01 ∷ 0x2A ∷ 0xFF ∷ 0x30 ∷ 0x01 ∷ 0x0C ∷ [] }
@@ -50,7 +50,7 @@ fn message_of_a_vendor()
         ≡ 0x81 ∷ 0x0A ∷ 0x00 ∷ 0x0A ∷ 0x01 ∷ 0x80 ∷ 0x80 ∷ 0x01 ∷ 0x05 ∷ 0xAA ∷ [] }
 {}
 
-// All members at once: the hop count stands behind the source.
+// All members at once: the hop count stands after the source.
 fn each_member_in_its_place()
     ensures { npdu_spelling (record {
       destination = Some (record { network = 65535; address = []; hops = 9 });
@@ -74,7 +74,7 @@ fn no_source_on_all_networks()
     ensures { route_fits (record { network = 65535; address = 0x01 ∷ [] }) ≡ false }
 {}
 
-// A vendor's identifier stands behind types from 128 on alone.
+// A vendor's identifier stands after types from 128 on alone.
 fn no_vendor_of_a_standard_message()
     ensures { message_fits 127 (Some 1) ≡ false }
 {}

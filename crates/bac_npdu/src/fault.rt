@@ -1,3 +1,4 @@
+//! Faults of frames, and why datagrams are dropped.
 ghost use Rattle.std.specs.Prelude.{◌≡◌};
 ghost use Rattle.bac_npdu.specs.Faults.{fault_number};
 

@@ -1,4 +1,4 @@
-//! Laws of the definitions: each function's contract is one.
+//! Laws of the definitions: each function's contract is one or two of them.
 ghost use Rattle.std.specs.Prelude.{◌≡◌, ℕ, List, ◌≤◌, length, Some, None, Bool, IsTrue};
 ghost use Rattle.std.specs.Cmp.{IsTotalOrder};
 ghost use Rattle.std.specs.declared.cmp.Ordering.TheVariants.{Equal};

@@ -3,6 +3,7 @@
 
 mod address;
 mod bvll;
+mod control;
 mod datagram_reading;
 mod datagram_writing;
 mod fault;
@@ -11,13 +12,8 @@ mod npdu;
 mod npdu_reading;
 mod octets;
 mod peer;
-mod peer_order;
 mod place;
-mod plain_slots;
 mod route;
-mod route_order;
-mod slot;
-mod slot_table;
 
 pub use address::Address;
 pub use bvll::read_bvll;
@@ -31,10 +27,7 @@ pub use laws::{
 pub use npdu::{Destination, Message, Npdu};
 pub use npdu_reading::read_npdu;
 pub use peer::Peer;
-pub use plain_slots::PlainSlots;
 pub use route::Route;
-pub use slot::Slot;
-pub use slot_table::{Count, SlotTable};
 
 #[cfg(test)]
 mod examples;

@@ -1,3 +1,4 @@
+//! Messages of the network layer and their members (clause 6.2).
 ghost use Rattle.std.specs.Prelude.{◌<◌, IsTrue, length};
 ghost use Rattle.bac_npdu.specs.Npdu.{destination_fits, message_fits};
 ghost use Rattle.bac_npdu.specs.Addresses.{address_view};
@@ -5,7 +6,13 @@ ghost use Rattle.bac_npdu.specs.Addresses.{address_view};
 use crate::address::Address;
 use crate::route::Route;
 
-/// Where an NPDU is to be routed to (clause 6.2.2): network 65,535 is the global broadcast, and an address of no octets a broadcast on the network.
+/// The first octet of an NPDU (clause 6.2.1).
+pub(crate) const VERSION: u8 = 1;
+/// The hop count of an NPDU that a node sends (clause 6.2.2).
+pub(crate) const FIRST_HOPS: u8 = 255;
+
+/// Where an NPDU is to be routed to (clause 6.2.2): network 65,535 is the global broadcast, and an address of no octets a
+/// broadcast on the network.
 #[derive(Clone, Copy, Debug)]
 pub struct Destination {
     /// 1 to 65,535.

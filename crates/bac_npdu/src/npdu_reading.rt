@@ -1,25 +1,20 @@
+//! Reading an NPDU, to the end of the octets (clause 6.2).
 ghost use Rattle.std.specs.Prelude.{MatchOption, ◌≡◌, ℕ, List, IfOk, IfErr, MatchResult, Ok, Err, Bool, ◌==◌, ◌/◌, ◌%◌, ◌<◌, length, IsTrue, true, false};
 ghost use Rattle.std.specs.Option.{option_map};
 ghost use Rattle.bac_npdu.specs.Peers.{RouteView, route_fits};
 ghost use Rattle.bac_npdu.specs.Npdu.{NpduView, SpellsNpdu, destination_fits};
 ghost use Rattle.bac_npdu.specs.Addresses.{address_view};
 ghost use Rattle.bac_npdu.specs.Views.{place_view, route_view, destination_view, message_view, npdu_view};
-ghost use Rattle.bac_npdu.specs.Reading.{Reads, has_bit, network_in, count_in, address_at, place_at, optional_at, hops_at, message_at, members_at};
+ghost use Rattle.bac_value.specs.Steps.{Reads, ReadsAll, has_bit};
+ghost use Rattle.bac_npdu.specs.Reading.{network_in, count_in, address_at, place_at, optional_at, hops_at, message_at, members_at};
 ghost use Rattle.bac_npdu.specs.Reading.{control_at, npdu_at};
 
-use crate::address::Address;
+use crate::control::{self, has};
 use crate::fault::FrameFault;
-use crate::npdu::{Destination, Message, Npdu};
-use crate::octets::{cut, octet, word};
+use crate::npdu::{Destination, Message, Npdu, VERSION};
+use crate::octets::{octet, word};
 use crate::place::Place;
 use crate::route::Route;
-
-fn has(octet: u8, weight: u8) -> bool
-    requires { 0 < weight }
-    ensures { result ≡ has_bit octet weight }
-{
-    octet / weight % 2 == 1
-}
 
 /// The type of a network message, and from type 128 on the vendor's identifier.
 #[tactic(auto, unfolding(crate::specs::Reading::message_at))]
@@ -40,62 +35,13 @@ fn message(octets: &[u8]) -> Result<(Message, &[u8]), FrameFault>
     ))
 }
 
-fn is_network_in(is_source: bool, network: u16) -> bool
-    ensures { result ≡ network_in is_source network }
-{
-    network > 0 && (network < 0xFFFF || !is_source)
-}
-
-fn is_count_in(is_source: bool, network: u16, count: u8) -> bool
-    ensures { result ≡ count_in is_source network count }
-{
-    count < 9
-        && if is_source {
-            count > 0
-        } else {
-            network < 0xFFFF || count == 0
-        }
-}
-
-/// The count of address octets, and these.
-#[tactic(auto, unfolding(crate::specs::Reading::address_at, crate::specs::Reading::cut_at))]
-fn address(octets: &[u8], is_source: bool, network: u16) -> Result<(Place, &[u8]), FrameFault>
-    ensures reads { Reads place_view (λ r. r.now) octets.now result (address_at is_source network) }
-    ensures same { IfOk result (λ r. r.0.network ≡ network) }
-    ensures within { IfOk result (λ r. IsTrue (count_in is_source network (length (address_view r.0.address)))) }
-{
-    let (count, rest) = octet(octets)?;
-    if !is_count_in(is_source, network, count) {
-        return Err(FrameFault::BadLength);
-    }
-    let (address, rest) = cut(rest, usize::from(count))?;
-    match Address::new(address) {
-        Some(address) => Ok((Place { network, address }, rest)),
-        None => Err(FrameFault::BadLength),
-    }
-}
-
-/// A network's number and an address.
-#[tactic(auto, unfolding(crate::specs::Reading::place_at))]
-fn place(octets: &[u8], is_source: bool) -> Result<(Place, &[u8]), FrameFault>
-    ensures reads { Reads place_view (λ r. r.now) octets.now result (place_at is_source) }
-    ensures network { IfOk result (λ r. IsTrue (network_in is_source r.0.network)) }
-    ensures count { IfOk result (λ r. IsTrue (count_in is_source r.0.network (length (address_view r.0.address)))) }
-{
-    let (network, rest) = word(octets)?;
-    if !is_network_in(is_source, network) {
-        return Err(FrameFault::BadNet);
-    }
-    address(rest, is_source, network)
-}
-
 fn source(octets: &[u8], is_there: bool) -> Result<(Option<Route>, &[u8]), FrameFault>
     ensures { Reads (option_map route_view) (λ r. r.now) octets.now result (optional_at (place_at true) is_there) }
 {
     if !is_there {
         return Ok((None, octets));
     }
-    let (place, rest) = place(octets, true)?;
+    let (place, rest) = Place::read(octets, true)?;
     Ok((
         Some(Route {
             network: place.network,
@@ -112,7 +58,7 @@ fn destination_place(octets: &[u8], is_there: bool) -> Result<(Option<Place>, &[
     if !is_there {
         return Ok((None, octets));
     }
-    let (place, rest) = place(octets, false)?;
+    let (place, rest) = Place::read(octets, false)?;
     Ok((Some(place), rest))
 }
 
@@ -148,20 +94,20 @@ fn optional_message(octets: &[u8], is_there: bool) -> Result<(Option<Message>, &
     Ok((Some(message), rest))
 }
 
-/// The members that the control octet announces, and the contents behind them.
+/// The members that the control octet announces, and the contents after them.
 #[tactic(auto, unfolding(crate::specs::Reading::members_at))]
-fn members(octets: &[u8], control: u8) -> Result<Npdu<'_>, FrameFault>
-    ensures { MatchResult result (λ n. members_at control octets.now ≡ Ok (npdu_view n)) (λ e. members_at control octets.now ≡ Err e) }
+fn members(octets: &[u8], bits: u8) -> Result<Npdu<'_>, FrameFault>
+    ensures { ReadsAll npdu_view result (members_at bits octets.now) }
 {
-    let (place, rest) = destination_place(octets, has(control, 32))?;
-    let (source, rest) = source(rest, has(control, 8))?;
+    let (place, rest) = destination_place(octets, has(bits, control::DESTINATION))?;
+    let (source, rest) = source(rest, has(bits, control::SOURCE))?;
     let (destination, rest) = destination(rest, place)?;
-    let (message, contents) = optional_message(rest, has(control, 128))?;
+    let (message, contents) = optional_message(rest, has(bits, control::NETWORK_MESSAGE))?;
     Ok(Npdu {
         destination,
         source,
-        expecting: has(control, 4),
-        priority: control % 4,
+        expecting: has(bits, control::EXPECTING_REPLY),
+        priority: bits % 4,
         message,
         contents,
     })
@@ -169,17 +115,17 @@ fn members(octets: &[u8], control: u8) -> Result<Npdu<'_>, FrameFault>
 
 #[tactic(auto, unfolding(crate::specs::Reading::control_at, crate::specs::Reading::npdu_at))]
 fn whole(octets: &[u8]) -> Result<Npdu<'_>, FrameFault>
-    ensures { MatchResult result (λ n. npdu_at octets.now ≡ Ok (npdu_view n)) (λ e. npdu_at octets.now ≡ Err e) }
+    ensures { ReadsAll npdu_view result (npdu_at octets.now) }
 {
     let (version, rest) = octet(octets)?;
-    if version != 1 {
+    if version != VERSION {
         return Err(FrameFault::Version);
     }
-    let (control, rest) = octet(rest)?;
-    if has(control, 64) || has(control, 16) {
+    let (bits, rest) = octet(rest)?;
+    if has(bits, control::RESERVED_HIGH) || has(bits, control::RESERVED_LOW) {
         return Err(FrameFault::ReservedBits);
     }
-    members(rest, control)
+    members(rest, bits)
 }
 
 /// The NPDU that the octets are, to their end (clause 6.2). Of several faults the first from the left is answered.
@@ -187,7 +133,7 @@ pub fn read_npdu(octets: &[u8]) -> Result<Npdu<'_>, FrameFault>
     ensures found { IfOk result (λ n. SpellsNpdu (npdu_view n) octets.now) }
     ensures refused { IfErr result (λ e. (n : NpduView) → SpellsNpdu n octets.now → ⊥) }
     // The fault is the first from the left.
-    ensures exact { MatchResult result (λ n. npdu_at octets.now ≡ Ok (npdu_view n)) (λ e. npdu_at octets.now ≡ Err e) }
+    ensures exact { ReadsAll npdu_view result (npdu_at octets.now) }
 {
     whole(octets)
 }

@@ -1,12 +1,15 @@
+//! Reading octets, numbers of two octets and runs of octets from the front.
 ghost use Rattle.std.specs.Prelude.{◌≡◌};
-ghost use Rattle.bac_npdu.specs.Reading.{Reads, octet_at, word_at, cut_at};
+ghost use Rattle.bac_value.specs.Steps.{Reads, octet_at};
+ghost use Rattle.bac_npdu.specs.declared.fault.FrameFault.TheVariants.{Truncated};
+ghost use Rattle.bac_npdu.specs.Reading.{word_at, cut_at};
 
 use crate::fault::FrameFault;
 use byteorder::{BigEndian, ByteOrder};
 
-/// The first octet, and what is behind it.
+/// The first octet, and what is left after it.
 pub(crate) fn octet(octets: &[u8]) -> Result<(u8, &[u8]), FrameFault>
-    ensures { Reads (λ x. x) (λ r. r.now) octets.now result octet_at }
+    ensures { Reads (λ x. x) (λ r. r.now) octets.now result (octet_at Truncated) }
 {
     match octets.split_first() {
         Some((first, rest)) => Ok((*first, rest)),
@@ -14,7 +17,7 @@ pub(crate) fn octet(octets: &[u8]) -> Result<(u8, &[u8]), FrameFault>
     }
 }
 
-/// The number of two octets, and what is behind it.
+/// The number of two octets, and what is left after it.
 #[tactic(auto, unfolding(crate::specs::Reading::word_at, crate::specs::Reading::cut_at))]
 pub(crate) fn word(octets: &[u8]) -> Result<(u16, &[u8]), FrameFault>
     ensures { Reads (λ x. x) (λ r. r.now) octets.now result word_at }
@@ -23,7 +26,7 @@ pub(crate) fn word(octets: &[u8]) -> Result<(u16, &[u8]), FrameFault>
     Ok((BigEndian::read_u16(number), rest))
 }
 
-/// So many octets, and what is behind them.
+/// So many octets, and what is left after them.
 #[tactic(auto, unfolding(crate::specs::Reading::cut_at))]
 pub(crate) fn cut(octets: &[u8], count: usize) -> Result<(&[u8], &[u8]), FrameFault>
     ensures { Reads (λ x. x.now) (λ r. r.now) octets.now result (cut_at count) }

@@ -1,9 +1,62 @@
-use crate::route::Route;
+//! Peers and their order: by link, then no route before a route, then by route.
+ghost use Rattle.std.specs.Prelude.{◌≡◌, ◌==◌, true, false};
+ghost use Rattle.std.proofs.Common.{rules};
+ghost use Rattle.std.specs.Ordering.{on, eq_by_cmp, as_partial_cmp};
+ghost use Rattle.std.specs.Cmp.{partial_order_from_own_ties};
+ghost use Rattle.std.specs.Cmp.Rules.{comparing};
+ghost use Rattle.bac_npdu.specs.Peers.{peer_cmp, peer_cmp_total};
+ghost use Rattle.bac_npdu.specs.Views.{peer_view};
 
-/// The other end of a transaction: its BACnet/IP address (four octets of IPv4 and two of the UDP port), and the way on from there where it is behind a router.
-/// Peers are ordered by link, then no route before a route, then by network number, then by the octets of the address, a front first.
+use crate::route::Route;
+use std::cmp::Ordering;
+
+/// The other end of a transaction: its BACnet/IP address (four octets of IPv4 and two of the UDP port, clause J.1.2), and the way
+/// on from there where it stands on a network behind a router.
+///
+/// Peers are ordered by link, then no route before a route, then by network number, then by the octets of the address, a front
+/// first.
 #[derive(Clone, Copy, Debug)]
 pub struct Peer {
     pub link: [u8; 6],
     pub route: Option<Route>,
+}
+
+impl Ord for Peer {
+    ghost cmp = { on peer_view peer_cmp };
+
+    ghost total = { Prim.search (peer_cmp_total, comparing, rules) };
+
+    ghost matches_partial_cmp = { Prim.search (peer_cmp_total, comparing, rules) };
+
+    ghost matches_eq = { Prim.search (peer_cmp_total, comparing, rules) };
+
+    fn cmp(&self, other: &Peer) -> Ordering {
+        self.link
+            .cmp(&other.link)
+            .then(self.route.cmp(&other.route))
+    }
+}
+
+impl PartialOrd for Peer {
+    ghost partial_cmp = { as_partial_cmp (on peer_view peer_cmp) };
+
+    ghost laws = { partial_order_from_own_ties (Prim.search (peer_cmp_total, comparing, rules)) (Prim.search (peer_cmp_total, comparing, rules)) };
+
+    fn partial_cmp(&self, other: &Peer) -> Option<Ordering> {
+        Some(self.cmp(other))
+    }
+}
+
+impl PartialEq for Peer {
+    ghost eq = { on peer_view (eq_by_cmp peer_cmp) };
+
+    ghost laws = { Prim.search (peer_cmp_total, comparing, rules) };
+
+    fn eq(&self, other: &Peer) -> bool {
+        self.cmp(other) == Ordering::Equal
+    }
+}
+
+impl Eq for Peer {
+    ghost laws = { Prim.search (peer_cmp_total, comparing, rules) };
 }

@@ -1,7 +1,6 @@
 //! Tables of octets whose readings and writings were worked out by hand.
 use crate::{
-    Address, Count, Dropped, FrameFault, Peer, PlainSlots, Route, SlotTable, read_bvll,
-    read_datagram, read_npdu, write_datagram,
+    Address, Dropped, FrameFault, Peer, Route, read_bvll, read_datagram, read_npdu, write_datagram,
 };
 use std::test::Fail;
 
@@ -209,6 +208,25 @@ fn frames(rt: HostRuntime) -> Result<(), Fail> {
     Ok(())
 }
 
+// The longest APDU, to the longest address.
+#[test]
+fn the_longest_frame(rt: HostRuntime) -> Result<(), Fail> {
+    let peer = Peer {
+        link: LINK,
+        route: Some(Route::new(65534, &[0x2A; 8]).ok_or("no route")?),
+    };
+    let apdu = [0x55; 1476];
+    let mut out = Vec::new(rt.alloc());
+    write_datagram(&peer, true, &apdu, &mut out)?;
+    assert_eq!(rt; out.len(), 1494);
+    assert_eq!(rt;
+        out[..18],
+        *b"\x81\x0A\x05\xD6\x01\x24\xFF\xFE\x08\x2A\x2A\x2A\x2A\x2A\x2A\x2A\x2A\xFF".as_slice()
+    );
+    assert_eq!(rt; out[18..], apdu[..]);
+    Ok(())
+}
+
 #[test]
 fn limits_of_routes(rt: HostRuntime) {
     let table: [(u16, &[u8], bool); 8] = [
@@ -260,45 +278,5 @@ fn order_of_peers(rt: HostRuntime) -> Result<(), Fail> {
             assert_eq!(rt; one.cmp(other), i.cmp(&j), "{i} {j}");
         }
     }
-    Ok(())
-}
-
-// A key that is there already is handed back, as it is where the table is full.
-fn put_absent<S: SlotTable<u32, u8>>(
-    table: &mut S,
-    key: u32,
-    begin: u64,
-    value: u8,
-) -> Result<(), (u32, u8)> {
-    if table.get(&key).is_some() {
-        return Err((key, value));
-    }
-    table.put(key, begin, value)
-}
-
-#[test]
-fn a_plain_table(rt: HostRuntime) -> Result<(), Fail> {
-    let mut table = PlainSlots::<u32, u8>::new(rt.alloc(), 3)?;
-    let mut count = Count { comparisons: 0 };
-    assert_eq!(rt; table.find(&7, &mut count), None);
-    for (key, begin, value) in [(7, 1, 70), (3, 2, 30), (5, 2, 50)] {
-        assert_eq!(rt; put_absent(&mut table, key, begin, value), Ok(()));
-    }
-    assert_eq!(rt; put_absent(&mut table, 9, 3, 90), Err((9, 90)));
-    assert_eq!(rt; (table.len(), table.room()), (3, 3));
-    assert_eq!(rt; table.find(&7, &mut count), Some(2));
-    assert_eq!(rt; table.find(&3, &mut count), Some(0));
-    assert_eq!(rt; table.find(&4, &mut count), None);
-    assert_eq!(rt; count.comparisons, 15);
-    assert_eq!(rt; table.at(1), Some((5, 2, &50)));
-    assert_eq!(rt; table.by_age(1), Some((3, 2, &30)));
-    assert_eq!(rt; table.at(3), None);
-    assert_eq!(rt; table.set(&3, 31), Some(30));
-    assert_eq!(rt; table.set(&4, 40), None);
-    assert_eq!(rt; table.remove(&7), Some(70));
-    assert_eq!(rt; table.remove(&7), None);
-    assert_eq!(rt; table.by_age(0), Some((3, 2, &31)));
-    assert_eq!(rt; put_absent(&mut table, 9, 3, 90), Ok(()));
-    assert_eq!(rt; table.at(2), Some((9, 3, &90)));
     Ok(())
 }
