@@ -15,16 +15,15 @@ use Rattle.bac_value.specs.Value.{IsNumber, SpellsValue, null, boolean, unsigned
 use Rattle.bac_value.specs.Value.{object}
 use Rattle.bac_value.specs.Element.{IsOfKind}
 use Rattle.bac_value.specs.Reading.{tag_at, kind_at, number_at, element_at}
-use Rattle.bac_value.proofs.Steps.{Takes, Takes-then}
-use Rattle.bac_value.proofs.Steps as value
+use Rattle.bac_value.proofs.Steps.{Takes, Takes-then, bind_ok, chosen, ok_is}
 use Rattle.bac_value.proofs.Tags.{tag_takes, tag_again}
 use Rattle.bac_value.proofs.RightContents.{kind_again}
 use Rattle.bac_value.proofs.Numbers.{few_octets, number_in-lt}
 use Rattle.bac_value.proofs.Elements.{kind_front, kind_of, right_again}
 use Rattle.bac_apdu.specs.declared.fault.ApduFault.TheVariants.{BadError}
 use Rattle.bac_apdu.specs.Spelling.{enumerated_spelling}
-use Rattle.bac_apdu.specs.Reading.{from_value, no_enumerated, is_enumerated, behind_tag, enumerated_at}
-use Rattle.bac_apdu.proofs.Steps.{bind_ok, from_value_ok}
+use Rattle.bac_apdu.specs.Reading.{from_value, no_enumerated, is_enumerated, after_tag, enumerated_at}
+use Rattle.bac_apdu.proofs.Steps.{from_value_ok}
 
 -- ---- a number in the fewest octets, at most four
 
@@ -127,7 +126,7 @@ unfolding tag_spelling
 few_bits k some few = let low : ltb k 5 ≡ true = lt-ltb k 5 (omega arith) in rw low refl
 
 pub enumerated_again : (n : ℕ) (rest : List ℕ) → n < 2 ^ 32 → enumerated_at (enumerated_spelling n ++ rest) ≡ Ok (n, rest)
-unfolding enumerated_at behind_tag is_enumerated number_at
+unfolding enumerated_at after_tag is_enumerated number_at
 enumerated_again n rest lt =
     let xs = number_octets n in
     let h = number_is n lt in
@@ -166,14 +165,14 @@ no_value : (bytes : List ℕ) (x : ℕ × List ℕ) → no_enumerated bytes ≡ 
 unfolding no_enumerated
 no_value bytes x e = let one = bind_ok (from_value (element_at bytes)) (λ element. Err BadError) x e in let no = one.2 in cc
 
-behind_takes : (n : ℕ) (c : Class) (f : Form) (rest bytes : List ℕ) (x : ℕ × List ℕ)
+after_tag_takes : (n : ℕ) (c : Class) (f : Form) (rest bytes : List ℕ) (x : ℕ × List ℕ)
     → Takes bytes (tag_spelling (record { number = n; class = c; form = f })) rest
-    → behind_tag (record { number = n; class = c; form = f }) f rest bytes ≡ Ok x → IsEnumerated bytes x
-unfolding behind_tag number_at IsEnumerated
-behind_takes n c (Length k) rest bytes x took e =
-    elim (value.chosen (is_enumerated c n) (from_value (number_at 9 k rest)) (no_enumerated bytes) (Ok x) e) [
+    → after_tag (record { number = n; class = c; form = f }) f rest bytes ≡ Ok x → IsEnumerated bytes x
+unfolding after_tag number_at IsEnumerated
+after_tag_takes n c (Length k) rest bytes x took e =
+    elim (chosen (is_enumerated c n) (from_value (number_at 9 k rest)) (no_enumerated bytes) (Ok x) e) [
       | inl h ↦
-          let contents = value.bind_ok (kind_at 9 k rest) (λ y. Ok (number_in y.0, y.1)) x (from_value_ok (number_at 9 k rest) x h.1) in
+          let contents = bind_ok (kind_at 9 k rest) (λ y. Ok (number_in y.0, y.1)) x (from_value_ok (number_at 9 k rest) x h.1) in
           let xs : List ℕ = contents.0.0 in
           let front = kind_front 9 k rest contents.0 took.rest_fits contents.1 in
           let number = number_of_kind xs (kind_of 9 k rest contents.0 (omega arith) front) in
@@ -186,21 +185,21 @@ behind_takes n c (Length k) rest bytes x took e =
           let both = Takes-then bytes (tag_spelling (mark n c)) rest xs contents.0.1 took front.raw.took in
           let octets-are : tag_spelling (mark n c) ++ xs ≡ enumerated_spelling (number_in xs) =
           ap (λ (t : List ℕ). t ++ xs) tag ∙ sym (spelled_number (number_in xs) xs number) in
-          subst (IsEnumerated bytes) (value.ok_is (number_in xs, contents.0.1) x contents.2)
+          subst (IsEnumerated bytes) (ok_is (number_in xs, contents.0.1) x contents.2)
           (subst (λ (t : List ℕ). Takes bytes t contents.0.1) octets-are both, few_octets xs 4 (number_in xs) number.few (number_in-lt xs front.raw.fits))
       | inr h ↦ absurd (no_value bytes x h.1)
     ]
-behind_takes n c (Boolean b) rest bytes x took e = absurd (no_value bytes x e)
-behind_takes n c Opening rest bytes x took e = absurd (no_value bytes x e)
-behind_takes n c Closing rest bytes x took e = absurd (no_value bytes x e)
+after_tag_takes n c (Boolean b) rest bytes x took e = absurd (no_value bytes x e)
+after_tag_takes n c Opening rest bytes x took e = absurd (no_value bytes x e)
+after_tag_takes n c Closing rest bytes x took e = absurd (no_value bytes x e)
 
 pub enumerated_takes : (bytes : List ℕ) (x : ℕ × List ℕ) → IsBytes bytes → enumerated_at bytes ≡ Ok x → Takes bytes (enumerated_spelling x.0) x.1
     × (x.0 < 2 ^ 32)
 unfolding enumerated_at IsEnumerated
 enumerated_takes bytes x fits e =
-    let tag = bind_ok (from_value (tag_at bytes)) (λ t. behind_tag t.0 t.0.form t.1 bytes) x e in
+    let tag = bind_ok (from_value (tag_at bytes)) (λ t. after_tag t.0 t.0.form t.1 bytes) x e in
     let took = tag_takes bytes tag.0 fits (from_value_ok (tag_at bytes) tag.0 tag.1) in
-    behind_takes tag.0.0.number tag.0.0.class tag.0.0.form tag.0.1 bytes x took.0 tag.2
+    after_tag_takes tag.0.0.number tag.0.0.class tag.0.0.form tag.0.1 bytes x took.0 tag.2
 
 -- it is the spelling of that value
 pub enumerated_value : (n : ℕ) → n < 2 ^ 32 → SpellsValue (enumerated n) (enumerated_spelling n)

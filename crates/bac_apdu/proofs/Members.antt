@@ -4,27 +4,21 @@ use Rattle.std.proofs.Common.{ap, subst, ◌∙◌, arith, IsTrue}
 use Rattle.std.specs.Prelude.{is_some}
 use Rattle.std.proofs.lemmas.Bool.{ltb-true, lt-ltb, and_parts, and_from}
 use Rattle.bac_value.specs.Octets.{IsBytes}
-use Rattle.bac_value.proofs.Steps.{IsBytes-rest, Takes, Takes-then}
+use Rattle.bac_value.specs.Steps.{◌>>=◌, octet_at}
+use Rattle.bac_value.proofs.Steps.{Takes, Takes-then, octet_takes, bind_ok, where_ok, ok_is}
 use Rattle.bac_apdu.specs.declared.fault.ApduFault.{ApduFault}
-use Rattle.bac_apdu.specs.declared.fault.ApduFault.TheVariants.{ReservedBits, ReservedCode, BadWindow}
-use Rattle.bac_apdu.specs.Apdu.{Segment}
-use Rattle.bac_apdu.specs.Spelling.{window_fits, codes_fit, segment_fits, bit, segment_bits, segment_octets}
-use Rattle.bac_apdu.specs.Reading.{◌>>=◌, octet_at, window_at, segment_at, codes_at}
-use Rattle.bac_apdu.proofs.Steps.{bind_ok, where_ok, ok_is}
-
-pub octet_takes : (bytes : List ℕ) (x : ℕ × List ℕ) → IsBytes bytes → octet_at bytes ≡ Ok x → Takes bytes (x.0 ∷ []) x.1 × (x.0 < 256)
-octet_takes [] x fits e = absurd cc
-octet_takes (b ∷ rest) x fits e =
-    subst (λ (y : ℕ × List ℕ). Takes (b ∷ rest) (y.0 ∷ []) y.1 × (y.0 < 256)) (ok_is (b, rest) x e)
-    (record { parts = refl; rest_fits = IsBytes-rest b rest fits }, fits 0)
+use Rattle.bac_apdu.specs.declared.fault.ApduFault.TheVariants.{Truncated, ReservedBits, ReservedCode, BadWindow}
+use Rattle.bac_apdu.specs.Apdu.{Limits, Segment}
+use Rattle.bac_apdu.specs.Spelling.{window_fits, limits_fit, segment_fits, bit, segment_bits, segment_octets}
+use Rattle.bac_apdu.specs.Reading.{window_at, segment_at, limits_at}
 
 -- ---- windows and segments
 
 pub window_takes : (bytes : List ℕ) (x : ℕ × List ℕ) → IsBytes bytes → window_at bytes ≡ Ok x → Takes bytes (x.0 ∷ []) x.1 × IsTrue (window_fits x.0)
 unfolding window_at
 window_takes bytes x fits e =
-    let one = bind_ok (octet_at bytes) (λ w. cond (window_fits w.0) (Ok (w.0, w.1)) (Err BadWindow)) x e in
-    let t = octet_takes bytes one.0 fits one.1 in
+    let one = bind_ok (octet_at Truncated bytes) (λ w. cond (window_fits w.0) (Ok (w.0, w.1)) (Err BadWindow)) x e in
+    let t = octet_takes Truncated bytes one.0 fits one.1 in
     let g = where_ok (window_fits one.0.0) BadWindow (Ok (one.0.0, one.0.1)) x one.2 in
     subst (λ (y : ℕ × List ℕ). Takes bytes (y.0 ∷ []) y.1 × IsTrue (window_fits y.0)) (ok_is (one.0.0, one.0.1) x g.1) (t.0, g.0)
 
@@ -45,8 +39,8 @@ unfolding segment_at IsSegment
 segment_takes false more bytes x fits e = subst (IsSegment false more bytes) (ok_is (None, bytes) x e) (record { parts = refl; rest_fits = fits }, refl, refl)
 segment_takes true more bytes x fits e =
     let after_window : ℕ → ℕ × List ℕ → Result (Option Segment × List ℕ) ApduFault = λ number window. Ok (Some (segment more number window.0), window.1) in
-    let number = bind_ok (octet_at bytes) (λ number. window_at number.1 >>= after_window number.0) x e in
-    let tn = octet_takes bytes number.0 fits number.1 in
+    let number = bind_ok (octet_at Truncated bytes) (λ number. window_at number.1 >>= after_window number.0) x e in
+    let tn = octet_takes Truncated bytes number.0 fits number.1 in
     let window = bind_ok (window_at number.0.1) (after_window number.0.0) x number.2 in
     let tw = window_takes number.0.1 window.0 tn.0.rest_fits window.1 in
     let both = Takes-then bytes (number.0.0 ∷ []) number.0.1 (window.0.0 ∷ []) window.0.1 tn.0 tw.0 in
@@ -60,30 +54,39 @@ segment_again (Some s) rest fits = rw fits refl
 
 -- ---- codes
 
-abbrev CodesRead : List ℕ → (ℕ × ℕ) × List ℕ → Type 0
-CodesRead bytes x = Takes bytes ((16 * x.0.0 + x.0.1) ∷ []) x.1 × IsTrue (codes_fit x.0.0 x.0.1)
+abbrev limits : Bool → ℕ → ℕ → Limits
+limits takes segments apdu = record { takes_segments = takes; max_segments = segments; max_apdu = apdu }
 
-pub codes_takes : (bytes : List ℕ) (x : (ℕ × ℕ) × List ℕ) → IsBytes bytes → codes_at bytes ≡ Ok x → Takes bytes ((16 * x.0.0 + x.0.1) ∷ []) x.1
-    × IsTrue (codes_fit x.0.0 x.0.1)
-unfolding codes_at
-codes_takes bytes x fits e =
-    let split : ℕ × List ℕ → Result ((ℕ × ℕ) × List ℕ) ApduFault = λ c. cond (ltb (c.0 % 16) 6) (Ok ((c.0 / 16, c.0 % 16), c.1)) (Err ReservedCode) in
-    let one = bind_ok (octet_at bytes) (λ c. cond (ltb c.0 128) (split c) (Err ReservedBits)) x e in
+abbrev LimitsRead : Bool → List ℕ → Limits × List ℕ → Type 0
+LimitsRead takes bytes x =
+    Takes bytes ((16 * x.0.max_segments + x.0.max_apdu) ∷ []) x.1 × IsTrue (limits_fit x.0) × (x.0.takes_segments ≡ takes)
+
+pub limits_takes : (takes : Bool) (bytes : List ℕ) (x : Limits × List ℕ) → IsBytes bytes → limits_at takes bytes ≡ Ok x
+    → Takes bytes ((16 * x.0.max_segments + x.0.max_apdu) ∷ []) x.1 × IsTrue (limits_fit x.0) × (x.0.takes_segments ≡ takes)
+unfolding limits_at
+limits_takes takes bytes x fits e =
+    let split : ℕ × List ℕ → Result (Limits × List ℕ) ApduFault =
+    λ c. cond (ltb (c.0 % 16) 6) (Ok (limits takes (c.0 / 16) (c.0 % 16), c.1)) (Err ReservedCode) in
+    let one = bind_ok (octet_at Truncated bytes) (λ c. cond (ltb c.0 128) (split c) (Err ReservedBits)) x e in
     let c : ℕ = one.0.0 in
-    let t = octet_takes bytes one.0 fits one.1 in
+    let t = octet_takes Truncated bytes one.0 fits one.1 in
     let g = where_ok (ltb c 128) ReservedBits (split one.0) x one.2 in
-    let h = where_ok (ltb (c % 16) 6) ReservedCode (Ok ((c / 16, c % 16), one.0.1)) x g.1 in
+    let h = where_ok (ltb (c % 16) 6) ReservedCode (Ok (limits takes (c / 16) (c % 16), one.0.1)) x g.1 in
     let whole : c ≡ 16 * (c / 16) + c % 16 = omega arith in
     let high : ltb (c / 16) 8 ≡ true = lt-ltb (c / 16) 8 (omega (arith, ltb-true _ _ g.0)) in
-    subst (CodesRead bytes) (ok_is ((c / 16, c % 16), one.0.1) x h.1)
-    (record { parts = t.0.parts ∙ ap (λ (n : ℕ). n ∷ one.0.1) whole; rest_fits = t.0.rest_fits }, and_from (ltb (c / 16) 8) (ltb (c % 16) 6) high h.0)
+    subst (LimitsRead takes bytes) (ok_is (limits takes (c / 16) (c % 16), one.0.1) x h.1) (
+      record { parts = t.0.parts ∙ ap (λ (n : ℕ). n ∷ one.0.1) whole; rest_fits = t.0.rest_fits },
+      and_from (ltb (c / 16) 8) (ltb (c % 16) 6) high h.0,
+      refl,
+    )
 
-pub codes_again : (a b : ℕ) (rest : List ℕ) → IsTrue (codes_fit a b) → codes_at ((16 * a + b) ∷ rest) ≡ Ok ((a, b), rest)
-unfolding codes_at
-codes_again a b rest fits =
-    let p = and_parts (ltb a 8) (ltb b 6) fits in
-    let la : a < 8 = ltb-true _ _ p.0 in
-    let lb : b < 6 = ltb-true _ _ p.1 in
-    let low : (16 * a + b) % 16 ≡ b = omega arith in
-    let high : (16 * a + b) / 16 ≡ a = omega arith in
-    rw (lt-ltb (16 * a + b) 128 (omega arith), low, high, p.1) refl
+pub limits_again : (l : Limits) (rest : List ℕ) → IsTrue (limits_fit l)
+    → limits_at l.takes_segments ((16 * l.max_segments + l.max_apdu) ∷ rest) ≡ Ok (l, rest)
+unfolding limits_at
+limits_again l rest fits =
+    let p = and_parts (ltb l.max_segments 8) (ltb l.max_apdu 6) fits in
+    let la : l.max_segments < 8 = ltb-true _ _ p.0 in
+    let lb : l.max_apdu < 6 = ltb-true _ _ p.1 in
+    let low : (16 * l.max_segments + l.max_apdu) % 16 ≡ l.max_apdu = omega arith in
+    let high : (16 * l.max_segments + l.max_apdu) / 16 ≡ l.max_segments = omega arith in
+    rw (lt-ltb (16 * l.max_segments + l.max_apdu) 128 (omega arith), low, high, p.1) refl

@@ -7,13 +7,26 @@ pub record Segment : Type 0 where
   pub number : ℕ
   pub window : ℕ
 
--- the two codes are those of the octet of codes (clause 20.1.2.4, 20.1.2.5); service data are the rest of the APDU
+-- what the sender of a request takes of the answer: whether in segments (clause 20.1.2.3), the code of how many of them (clause 20.1.2.4),
+-- and the code of the longest APDU (clause 20.1.2.5)
+pub record Limits : Type 0 where
+  pub takes_segments : Bool
+  pub max_segments : ℕ
+  pub max_apdu : ℕ
+
+-- what a SegmentACK says of the segments: whether one was out of order, the number of the last one taken in order modulo 256, and the actual window
+pub record Acknowledgement : Type 0 where
+  pub nak : Bool
+  pub number : ℕ
+  pub window : ℕ
+
+-- service data are the rest of the APDU; server says whether the sender is the server
 pub data Apdu : Type 0 where
-  ConfirmedRequest : (takes_segments : Bool) (max_segments max_apdu : ℕ) (invoke : ℕ) (segment : Option Segment) (choice : ℕ) (service : List ℕ) → Apdu
+  ConfirmedRequest : (limits : Limits) (invoke_id : ℕ) (segment : Option Segment) (choice : ℕ) (service : List ℕ) → Apdu
   UnconfirmedRequest : (choice : ℕ) (service : List ℕ) → Apdu
-  SimpleAck : (invoke choice : ℕ) → Apdu
-  ComplexAck : (invoke : ℕ) (segment : Option Segment) (choice : ℕ) (service : List ℕ) → Apdu
-  SegmentAck : (nak server : Bool) (invoke number window : ℕ) → Apdu
-  Error : (invoke choice class code : ℕ) → Apdu
-  Reject : (invoke reason : ℕ) → Apdu
-  Abort : (server : Bool) (invoke reason : ℕ) → Apdu
+  SimpleAck : (invoke_id choice : ℕ) → Apdu
+  ComplexAck : (invoke_id : ℕ) (segment : Option Segment) (choice : ℕ) (service : List ℕ) → Apdu
+  SegmentAck : (server : Bool) (invoke_id : ℕ) (acknowledgement : Acknowledgement) → Apdu
+  Error : (invoke_id choice class code : ℕ) → Apdu
+  Reject : (invoke_id reason : ℕ) → Apdu
+  Abort : (server : Bool) (invoke_id reason : ℕ) → Apdu

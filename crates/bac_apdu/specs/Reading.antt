@@ -1,5 +1,5 @@
 -- Reading from left to right, on lists alone.
-use Rattle.std.specs.Prelude.{◌≡◌, ℕ, ◌/◌, ◌%◌, List, [], ◌∷◌, Result, Ok, Err, Option, Some, None, Bool, true, false, nat_lt, ◌==◌, ◌&&◌, ◌||◌, not}
+use Rattle.std.specs.Prelude.{ℕ, ◌/◌, ◌%◌, List, [], ◌∷◌, Result, Ok, Err, Option, Some, None, Bool, true, false, nat_lt, ◌==◌, ◌&&◌, ◌||◌, not}
 use Rattle.std.specs.Prelude.{if◌then◌else◌}
 use Rattle.bac_value.specs.declared.fault.FaultKind as value
 use Rattle.bac_value.specs.declared.fault.FaultKind.TheVariants as fault
@@ -7,91 +7,73 @@ use Rattle.bac_value.specs.declared.tag.Class.{Class}
 use Rattle.bac_value.specs.declared.tag.Class.TheVariants.{Application, Context}
 use Rattle.bac_value.specs.declared.tag.Form.{Form}
 use Rattle.bac_value.specs.declared.tag.Form.TheVariants.{Length, Boolean, Opening, Closing}
+use Rattle.bac_value.specs.Steps.{◌>>=◌, octet_at, has_bit}
 use Rattle.bac_value.specs.Spelling.{Mark}
 use Rattle.bac_value.specs.Reading.{tag_at, number_at, element_at}
 use Rattle.bac_apdu.specs.declared.fault.ApduFault.{ApduFault}
 use Rattle.bac_apdu.specs.declared.fault.ApduFault.TheVariants.{Truncated, ReservedBits, ReservedCode, BadWindow, BadType, Trailing, MorWithoutSeg, BadError}
-use Rattle.bac_apdu.specs.Apdu.{Segment, Apdu, ConfirmedRequest, UnconfirmedRequest, SimpleAck, ComplexAck, SegmentAck, Error, Reject, Abort}
-use Rattle.bac_apdu.specs.Spelling.{window_fits}
+use Rattle.bac_apdu.specs.Apdu.{Limits, Segment, Apdu, ConfirmedRequest, UnconfirmedRequest, SimpleAck, ComplexAck, SegmentAck, Error, Reject, Abort}
+use Rattle.bac_apdu.specs.Spelling.{window_fits, SEG, MOR, SA, NAK, SRV}
 
-infixl 10 ◌>>=◌
-abbrev pub ◌>>=◌ : {A B : Type 0} → Result A ApduFault → (A → Result B ApduFault) → Result B ApduFault
-(Ok x) >>= f = f x
-(Err e) >>= f = Err e
-
--- what a reader answered, seen by view and rest, is what reading on lists gives
-abbrev pub Reads : {X Y R : Type 0} → (X → Y) → (R → List ℕ) → List ℕ → Result (X × R) ApduFault → (List ℕ → Result (Y × List ℕ) ApduFault) → Type 0
-Reads view rest bytes (Ok r) read = read bytes ≡ Ok (view r.0, rest r.1)
-Reads view rest bytes (Err e) read = read bytes ≡ Err e
-
--- the same of a reader of all that is left
-abbrev pub ReadsAll : {X Y : Type 0} → (X → Y) → Result X ApduFault → Result Y ApduFault → Type 0
-ReadsAll view (Ok x) read = read ≡ Ok (view x)
-ReadsAll view (Err e) read = read ≡ Err e
-
-abbrev pub octet_at : List ℕ → Result (ℕ × List ℕ) ApduFault
-octet_at [] = Err Truncated
-octet_at (x ∷ xs) = Ok (x, xs)
-
--- nothing is left behind the last member
+-- nothing is left after the last member
 abbrev pub end_at : List ℕ → Apdu → Result Apdu ApduFault
 end_at [] apdu = Ok apdu
 end_at (x ∷ xs) apdu = Err Trailing
 
--- whether the bit of a weight is set
-abbrev pub has_bit : ℕ → ℕ → Bool
-has_bit octet weight = octet / weight % 2 == 1
-
 unfoldable pub window_at : List ℕ → Result (ℕ × List ℕ) ApduFault
 window_at bytes = do
-  window ← octet_at bytes
+  window ← octet_at Truncated bytes
   if window_fits window.0 then Ok (window.0, window.1) else Err BadWindow
 
 unfoldable pub segment_at : Bool → Bool → List ℕ → Result (Option Segment × List ℕ) ApduFault
 segment_at false more bytes = Ok (None, bytes)
 segment_at true more bytes = do
-  number ← octet_at bytes
+  number ← octet_at Truncated bytes
   window ← window_at number.1
   Ok (Some (record { more = more; number = number.0; window = window.0 }), window.1)
 
--- the two codes
-unfoldable pub codes_at : List ℕ → Result ((ℕ × ℕ) × List ℕ) ApduFault
-codes_at bytes = do
-  codes ← octet_at bytes
-  if nat_lt codes.0 128 then (if nat_lt (codes.0 % 16) 6 then Ok ((codes.0 / 16, codes.0 % 16), codes.1) else Err ReservedCode) else Err ReservedBits
+-- the octet of the two codes, where the first octet says whether segments are taken
+unfoldable pub limits_at : Bool → List ℕ → Result (Limits × List ℕ) ApduFault
+limits_at takes bytes = do
+  codes ← octet_at Truncated bytes
+  if nat_lt codes.0 128
+      then (if nat_lt (codes.0 % 16) 6
+      then Ok (record { takes_segments = takes; max_segments = codes.0 / 16; max_apdu = codes.0 % 16 }, codes.1)
+      else Err ReservedCode)
+      else Err ReservedBits
 
 unfoldable pub confirmed_at : ℕ → List ℕ → Result Apdu ApduFault
 confirmed_at bits bytes = do
-  codes ← codes_at bytes
-  invoke ← octet_at codes.1
-  segment ← segment_at (has_bit bits 8) (has_bit bits 4) invoke.1
-  choice ← octet_at segment.1
-  Ok (ConfirmedRequest (has_bit bits 2) codes.0.0 codes.0.1 invoke.0 segment.0 choice.0 choice.1)
+  limits ← limits_at (has_bit bits SA) bytes
+  invoke_id ← octet_at Truncated limits.1
+  segment ← segment_at (has_bit bits SEG) (has_bit bits MOR) invoke_id.1
+  choice ← octet_at Truncated segment.1
+  Ok (ConfirmedRequest limits.0 invoke_id.0 segment.0 choice.0 choice.1)
 
 unfoldable pub unconfirmed_at : List ℕ → Result Apdu ApduFault
 unconfirmed_at bytes = do
-  choice ← octet_at bytes
+  choice ← octet_at Truncated bytes
   Ok (UnconfirmedRequest choice.0 choice.1)
 
 unfoldable pub simple_ack_at : List ℕ → Result Apdu ApduFault
 simple_ack_at bytes = do
-  invoke ← octet_at bytes
-  choice ← octet_at invoke.1
-  end_at choice.1 (SimpleAck invoke.0 choice.0)
+  invoke_id ← octet_at Truncated bytes
+  choice ← octet_at Truncated invoke_id.1
+  end_at choice.1 (SimpleAck invoke_id.0 choice.0)
 
 unfoldable pub complex_ack_at : ℕ → List ℕ → Result Apdu ApduFault
 complex_ack_at bits bytes = do
-  invoke ← octet_at bytes
-  segment ← segment_at (has_bit bits 8) (has_bit bits 4) invoke.1
-  choice ← octet_at segment.1
-  Ok (ComplexAck invoke.0 segment.0 choice.0 choice.1)
+  invoke_id ← octet_at Truncated bytes
+  segment ← segment_at (has_bit bits SEG) (has_bit bits MOR) invoke_id.1
+  choice ← octet_at Truncated segment.1
+  Ok (ComplexAck invoke_id.0 segment.0 choice.0 choice.1)
 
 unfoldable pub segment_ack_at : ℕ → List ℕ → Result Apdu ApduFault
 segment_ack_at bits bytes = do
-  invoke ← octet_at bytes
-  number ← octet_at invoke.1
+  invoke_id ← octet_at Truncated bytes
+  number ← octet_at Truncated invoke_id.1
   window ← window_at number.1
-  end_at window.1 (SegmentAck (has_bit bits 2) (has_bit bits 1) invoke.0 number.0 window.0)
+  end_at window.1 (SegmentAck (has_bit bits SRV) invoke_id.0 (record { nak = has_bit bits NAK; number = number.0; window = window.0 }))
 
 -- a fault of class or code: only what ends too early is Truncated
 abbrev pub element_fault : value.FaultKind → ApduFault
@@ -118,36 +100,36 @@ unfoldable pub is_enumerated : Class → ℕ → Bool
 is_enumerated Application number = number == 9
 is_enumerated Context number = false
 
-unfoldable pub behind_tag : Mark → Form → List ℕ → List ℕ → Result (ℕ × List ℕ) ApduFault
-behind_tag tag (Length k) rest bytes = if is_enumerated tag.class tag.number then from_value (number_at 9 k rest) else no_enumerated bytes
-behind_tag tag (Boolean b) rest bytes = no_enumerated bytes
-behind_tag tag Opening rest bytes = no_enumerated bytes
-behind_tag tag Closing rest bytes = no_enumerated bytes
+unfoldable pub after_tag : Mark → Form → List ℕ → List ℕ → Result (ℕ × List ℕ) ApduFault
+after_tag tag (Length k) rest bytes = if is_enumerated tag.class tag.number then from_value (number_at 9 k rest) else no_enumerated bytes
+after_tag tag (Boolean b) rest bytes = no_enumerated bytes
+after_tag tag Opening rest bytes = no_enumerated bytes
+after_tag tag Closing rest bytes = no_enumerated bytes
 
 unfoldable pub enumerated_at : List ℕ → Result (ℕ × List ℕ) ApduFault
 enumerated_at bytes = do
   tag ← from_value (tag_at bytes)
-  behind_tag tag.0 tag.0.form tag.1 bytes
+  after_tag tag.0 tag.0.form tag.1 bytes
 
 unfoldable pub error_at : List ℕ → Result Apdu ApduFault
 error_at bytes = do
-  invoke ← octet_at bytes
-  choice ← octet_at invoke.1
+  invoke_id ← octet_at Truncated bytes
+  choice ← octet_at Truncated invoke_id.1
   class ← enumerated_at choice.1
   code ← enumerated_at class.1
-  end_at code.1 (Error invoke.0 choice.0 class.0 code.0)
+  end_at code.1 (Error invoke_id.0 choice.0 class.0 code.0)
 
 unfoldable pub reject_at : List ℕ → Result Apdu ApduFault
 reject_at bytes = do
-  invoke ← octet_at bytes
-  reason ← octet_at invoke.1
-  end_at reason.1 (Reject invoke.0 reason.0)
+  invoke_id ← octet_at Truncated bytes
+  reason ← octet_at Truncated invoke_id.1
+  end_at reason.1 (Reject invoke_id.0 reason.0)
 
 unfoldable pub abort_at : ℕ → List ℕ → Result Apdu ApduFault
 abort_at bits bytes = do
-  invoke ← octet_at bytes
-  reason ← octet_at invoke.1
-  end_at reason.1 (Abort (has_bit bits 1) invoke.0 reason.0)
+  invoke_id ← octet_at Truncated bytes
+  reason ← octet_at Truncated invoke_id.1
+  end_at reason.1 (Abort (has_bit bits SRV) invoke_id.0 reason.0)
 
 -- what is left in bits 3 to 0 of the first octet where the bits that a type names are taken out
 abbrev pub reserved_of : ℕ → ℕ → ℕ
@@ -172,11 +154,11 @@ unfoldable pub kind_at : ℕ → ℕ → List ℕ → Result Apdu ApduFault
 kind_at kind bits bytes =
     if nat_lt 7 kind then Err BadType else
     (if reserved_of kind bits == 0 then
-    (if (kind == 0 || kind == 3) && has_bit bits 4 && not (has_bit bits 8) then Err MorWithoutSeg else members_at kind bits bytes)
+    (if (kind == 0 || kind == 3) && has_bit bits MOR && not (has_bit bits SEG) then Err MorWithoutSeg else members_at kind bits bytes)
     else Err ReservedBits)
 
 -- the first octet holds the type in bits 7 to 4
 unfoldable pub apdu_at : List ℕ → Result Apdu ApduFault
 apdu_at bytes = do
-  first ← octet_at bytes
+  first ← octet_at Truncated bytes
   kind_at (first.0 / 16) (first.0 % 16) first.1

@@ -1,7 +1,7 @@
 -- The one spelling of each APDU (clause 20.1).
 use Rattle.std.specs.Prelude.{◌≡◌, ℕ, ◌+◌, ◌*◌, ◌/◌, ◌%◌, ◌^◌, Bool, true, false, nat_lt, ◌&&◌, if◌then◌else◌, IsTrue, List, [], ◌∷◌, ◌++◌, Option, Some, None}
 use Rattle.std.specs.Int.{w16, w32, to_be_bytes}
-use Rattle.bac_apdu.specs.Apdu.{Segment, Apdu, ConfirmedRequest, UnconfirmedRequest, SimpleAck, ComplexAck, SegmentAck, Error, Reject, Abort}
+use Rattle.bac_apdu.specs.Apdu.{Limits, Segment, Apdu, ConfirmedRequest, UnconfirmedRequest, SimpleAck, ComplexAck, SegmentAck, Error, Reject, Abort}
 
 -- windows are 1 to 127 (clause 20.1.2.8)
 abbrev pub window_fits : ℕ → Bool
@@ -11,28 +11,48 @@ window_fits window = nat_lt 0 window && nat_lt window 128
 abbrev pub codes_fit : ℕ → ℕ → Bool
 codes_fit max_segments max_apdu = nat_lt max_segments 8 && nat_lt max_apdu 6
 
+abbrev pub limits_fit : Limits → Bool
+limits_fit l = codes_fit l.max_segments l.max_apdu
+
 abbrev pub segment_fits : Option Segment → Bool
 segment_fits None = true
 segment_fits (Some s) = window_fits s.window
 
 -- which APDUs have a spelling: codes and windows have their limits, and class and code are Enumerated of at most four octets (own limit of this profile)
 unfoldable pub apdu_fits : Apdu → Bool
-apdu_fits (ConfirmedRequest takes_segments max_segments max_apdu invoke segment choice service) = codes_fit max_segments max_apdu && segment_fits segment
+apdu_fits (ConfirmedRequest limits invoke_id segment choice service) = limits_fit limits && segment_fits segment
 apdu_fits (UnconfirmedRequest choice service) = true
-apdu_fits (SimpleAck invoke choice) = true
-apdu_fits (ComplexAck invoke segment choice service) = segment_fits segment
-apdu_fits (SegmentAck nak server invoke number window) = window_fits window
-apdu_fits (Error invoke choice class code) = nat_lt class (2 ^ 32) && nat_lt code (2 ^ 32)
-apdu_fits (Reject invoke reason) = true
-apdu_fits (Abort server invoke reason) = true
+apdu_fits (SimpleAck invoke_id choice) = true
+apdu_fits (ComplexAck invoke_id segment choice service) = segment_fits segment
+apdu_fits (SegmentAck server invoke_id acknowledgement) = window_fits acknowledgement.window
+apdu_fits (Error invoke_id choice class code) = nat_lt class (2 ^ 32) && nat_lt code (2 ^ 32)
+apdu_fits (Reject invoke_id reason) = true
+apdu_fits (Abort server invoke_id reason) = true
+
+-- The bits of the first octet, by their weights (clause 20.1.2.1 to 20.1.2.3, 20.1.6.1, 20.1.6.2 and 20.1.9.1):
+-- the APDU is a segment, more segments follow, and the sender takes segments
+abbrev pub SEG : ℕ
+SEG = 8
+
+abbrev pub MOR : ℕ
+MOR = 4
+
+abbrev pub SA : ℕ
+SA = 2
+
+-- a segment was out of order, and the sender is the server
+abbrev pub NAK : ℕ
+NAK = 2
+
+abbrev pub SRV : ℕ
+SRV = 1
 
 abbrev pub bit : Bool → ℕ → ℕ
 bit b weight = if b then weight else 0
 
--- bit 3 says that the APDU is a segment, and bit 2 that more follow
 abbrev pub segment_bits : Option Segment → ℕ
 segment_bits None = 0
-segment_bits (Some s) = 8 + bit s.more 4
+segment_bits (Some s) = SEG + bit s.more MOR
 
 abbrev pub segment_octets : Option Segment → List ℕ
 segment_octets None = []
@@ -48,15 +68,17 @@ enumerated_spelling n =
 
 -- the type stands in bits 7 to 4 of the first octet: 16 times the type is its weight
 unfoldable pub apdu_spelling : Apdu → List ℕ
-apdu_spelling (ConfirmedRequest takes_segments max_segments max_apdu invoke segment choice service) =
-    (segment_bits segment + bit takes_segments 2) ∷ (16 * max_segments + max_apdu) ∷ invoke ∷ (segment_octets segment ++ choice ∷ service)
+apdu_spelling (ConfirmedRequest limits invoke_id segment choice service) =
+    (segment_bits segment + bit limits.takes_segments SA) ∷ (16 * limits.max_segments + limits.max_apdu) ∷ invoke_id ∷
+    (segment_octets segment ++ choice ∷ service)
 apdu_spelling (UnconfirmedRequest choice service) = 0x10 ∷ choice ∷ service
-apdu_spelling (SimpleAck invoke choice) = 0x20 ∷ invoke ∷ choice ∷ []
-apdu_spelling (ComplexAck invoke segment choice service) = (0x30 + segment_bits segment) ∷ invoke ∷ (segment_octets segment ++ choice ∷ service)
-apdu_spelling (SegmentAck nak server invoke number window) = (0x40 + bit nak 2 + bit server 1) ∷ invoke ∷ number ∷ window ∷ []
-apdu_spelling (Error invoke choice class code) = 0x50 ∷ invoke ∷ choice ∷ (enumerated_spelling class ++ enumerated_spelling code)
-apdu_spelling (Reject invoke reason) = 0x60 ∷ invoke ∷ reason ∷ []
-apdu_spelling (Abort server invoke reason) = (0x70 + bit server 1) ∷ invoke ∷ reason ∷ []
+apdu_spelling (SimpleAck invoke_id choice) = 0x20 ∷ invoke_id ∷ choice ∷ []
+apdu_spelling (ComplexAck invoke_id segment choice service) = (0x30 + segment_bits segment) ∷ invoke_id ∷ (segment_octets segment ++ choice ∷ service)
+apdu_spelling (SegmentAck server invoke_id acknowledgement) =
+    (0x40 + bit acknowledgement.nak NAK + bit server SRV) ∷ invoke_id ∷ acknowledgement.number ∷ acknowledgement.window ∷ []
+apdu_spelling (Error invoke_id choice class code) = 0x50 ∷ invoke_id ∷ choice ∷ (enumerated_spelling class ++ enumerated_spelling code)
+apdu_spelling (Reject invoke_id reason) = 0x60 ∷ invoke_id ∷ reason ∷ []
+apdu_spelling (Abort server invoke_id reason) = (0x70 + bit server SRV) ∷ invoke_id ∷ reason ∷ []
 
 pub record SpellsApdu (apdu : Apdu) (octets : List ℕ) : Type 0 where
   pub fits : IsTrue (apdu_fits apdu)
@@ -64,14 +86,14 @@ pub record SpellsApdu (apdu : Apdu) (octets : List ℕ) : Type 0 where
 
 -- of these alone a reply is expected
 abbrev pub is_confirmed_request : Apdu → Bool
-is_confirmed_request (ConfirmedRequest takes_segments max_segments max_apdu invoke segment choice service) = true
+is_confirmed_request (ConfirmedRequest limits invoke_id segment choice service) = true
 is_confirmed_request (UnconfirmedRequest choice service) = false
-is_confirmed_request (SimpleAck invoke choice) = false
-is_confirmed_request (ComplexAck invoke segment choice service) = false
-is_confirmed_request (SegmentAck nak server invoke number window) = false
-is_confirmed_request (Error invoke choice class code) = false
-is_confirmed_request (Reject invoke reason) = false
-is_confirmed_request (Abort server invoke reason) = false
+is_confirmed_request (SimpleAck invoke_id choice) = false
+is_confirmed_request (ComplexAck invoke_id segment choice service) = false
+is_confirmed_request (SegmentAck server invoke_id acknowledgement) = false
+is_confirmed_request (Error invoke_id choice class code) = false
+is_confirmed_request (Reject invoke_id reason) = false
+is_confirmed_request (Abort server invoke_id reason) = false
 
 -- the octets are no APDU
 abbrev pub IsNoApdu : List ℕ → Type 0

@@ -1,20 +1,20 @@
+//! The eight kinds of APDU.
+
 ghost use Rattle.std.specs.Prelude.{◌≡◌};
 
-use crate::limits::{Codes, Segment, Window};
+use crate::limits::{Limits, Segment, Window};
 
 /// An APDU (clause 20.1).
 ///
-/// `invoke` is the invoke ID, `choice` the service choice, and `service` the octets of service data, or of one segment of them:
+/// `choice` is the service choice, and `service` the octets of service data, or of one segment of them:
 /// they run to the end of the APDU and may be empty.
 #[derive(Clone, Copy, Debug)]
 pub enum Apdu<'a> {
     /// A request that is to be answered (clause 20.1.2).
     ConfirmedRequest {
-        /// Whether the sender takes an answer in segments.
-        takes_segments: bool,
-        /// What the sender takes of an answer.
-        codes: Codes,
-        invoke: u8,
+        /// What the sender takes of the answer.
+        limits: Limits,
+        invoke_id: u8,
         /// None where the APDU has the whole request.
         segment: Option<Segment>,
         choice: u8,
@@ -27,12 +27,12 @@ pub enum Apdu<'a> {
     },
     /// An answer without data (clause 20.1.4).
     SimpleAck {
-        invoke: u8,
+        invoke_id: u8,
         choice: u8,
     },
     /// An answer with data (clause 20.1.5).
     ComplexAck {
-        invoke: u8,
+        invoke_id: u8,
         /// None where the APDU has the whole answer.
         segment: Option<Segment>,
         choice: u8,
@@ -44,7 +44,7 @@ pub enum Apdu<'a> {
         nak: bool,
         /// Whether the sender is the server.
         server: bool,
-        invoke: u8,
+        invoke_id: u8,
         /// The number of the last segment taken in order, modulo 256.
         number: u8,
         /// The actual window.
@@ -52,7 +52,7 @@ pub enum Apdu<'a> {
     },
     /// The request failed (clause 20.1.7).
     Error {
-        invoke: u8,
+        invoke_id: u8,
         choice: u8,
         /// The class of the error, a number of clause 18.
         class: u32,
@@ -61,7 +61,7 @@ pub enum Apdu<'a> {
     },
     /// The request was not understood (clause 20.1.8).
     Reject {
-        invoke: u8,
+        invoke_id: u8,
         /// Any octet; those in use are numbered in clause 18.9.
         reason: u8,
     },
@@ -69,7 +69,7 @@ pub enum Apdu<'a> {
     Abort {
         /// Whether the sender is the server.
         server: bool,
-        invoke: u8,
+        invoke_id: u8,
         /// Any octet; those in use are numbered in clause 18.10.
         reason: u8,
     },

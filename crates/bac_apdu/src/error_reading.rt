@@ -1,11 +1,14 @@
+//! Reading of Errors.
+
 ghost use Rattle.std.specs.Prelude.{◌≡◌, IfOk};
-ghost use Rattle.bac_value.specs.Views.{mark};
+ghost use Rattle.bac_value.specs.Views.{tag_view};
 ghost use Rattle.bac_apdu.specs.Views.{apdu_view};
-ghost use Rattle.bac_apdu.specs.Reading.{Reads, ReadsAll, element_fault, is_enumerated, no_enumerated, behind_tag, enumerated_at, error_at};
+ghost use Rattle.bac_value.specs.Steps.{Reads, ReadsAll};
+ghost use Rattle.bac_apdu.specs.Reading.{element_fault, is_enumerated, no_enumerated, after_tag, enumerated_at, error_at};
 
 use crate::apdu::Apdu;
 use crate::fault::ApduFault;
-use crate::member_reading::{ended, octet};
+use crate::octets::{ended, octet};
 use bac_value::{Class, FaultKind, Form, Tag, take_element, take_enumerated, take_tag};
 
 fn fault_of(kind: FaultKind) -> ApduFault
@@ -35,7 +38,7 @@ fn other_element(octets: &[u8]) -> Result<(u32, &[u8]), ApduFault>
     }
 }
 
-#[tactic(auto, unfolding(crate::specs::Reading::behind_tag, crate::specs::Reading::enumerated_at))]
+#[tactic(auto, unfolding(crate::specs::Reading::after_tag, crate::specs::Reading::enumerated_at))]
 fn enumerated(octets: &[u8]) -> Result<(u32, &[u8]), ApduFault>
     ensures { Reads (λ x. x) (λ r. r.now) octets.now result enumerated_at }
 {
@@ -56,12 +59,12 @@ fn enumerated(octets: &[u8]) -> Result<(u32, &[u8]), ApduFault>
 pub(crate) fn error(octets: &[u8]) -> Result<Apdu<'_>, ApduFault>
     ensures { ReadsAll apdu_view result (error_at octets.now) }
 {
-    let (invoke, rest) = octet(octets)?;
+    let (invoke_id, rest) = octet(octets)?;
     let (choice, rest) = octet(rest)?;
     let (class, rest) = enumerated(rest)?;
     let (code, rest) = enumerated(rest)?;
     let apdu = Apdu::Error {
-        invoke,
+        invoke_id,
         choice,
         class,
         code,

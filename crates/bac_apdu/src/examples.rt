@@ -2,17 +2,17 @@
 #![tactic(auto, unfolding(crate::specs::Spelling::apdu_spelling, crate::specs::Spelling::apdu_fits))]
 
 ghost use Rattle.std.specs.Prelude.{◌≡◌, List, [], ◌∷◌, Some, None, true, false, ℕ};
-ghost use Rattle.bac_apdu.specs.Apdu.{Segment, ConfirmedRequest, UnconfirmedRequest, SimpleAck, ComplexAck, SegmentAck, Error, Reject, Abort};
+ghost use Rattle.bac_apdu.specs.Apdu.{Limits, Acknowledgement, Segment, ConfirmedRequest, UnconfirmedRequest, SimpleAck, ComplexAck, SegmentAck, Error, Reject, Abort};
 ghost use Rattle.bac_apdu.specs.Spelling.{apdu_fits, apdu_spelling, enumerated_spelling};
 
 fn whole_request()
-    ensures { apdu_spelling (ConfirmedRequest false 0 5 1 None 12 (0x0C ∷ 0x00 ∷ 0x00 ∷ 0x00 ∷ 0x05 ∷ 0x19 ∷ 0x55 ∷ []))
+    ensures { apdu_spelling (ConfirmedRequest (record { takes_segments = false; max_segments = 0; max_apdu = 5 }) 1 None 12 (0x0C ∷ 0x00 ∷ 0x00 ∷ 0x00 ∷ 0x05 ∷ 0x19 ∷ 0x55 ∷ []))
         ≡ 0x00 ∷ 0x05 ∷ 0x01 ∷ 0x0C ∷ 0x0C ∷ 0x00 ∷ 0x00 ∷ 0x00 ∷ 0x05 ∷ 0x19 ∷ 0x55 ∷ [] }
 {}
 
 // The first of several segments, by a client that takes segments: SEG, MOR and SA are set.
 fn first_segment()
-    ensures { apdu_spelling (ConfirmedRequest true 7 5 0 (Some (record { more = true; number = 0; window = 32 })) 7 (0xC4 ∷ 0x02 ∷ 0x80 ∷ 0x00 ∷ 0x01 ∷ []))
+    ensures { apdu_spelling (ConfirmedRequest (record { takes_segments = true; max_segments = 7; max_apdu = 5 }) 0 (Some (record { more = true; number = 0; window = 32 })) 7 (0xC4 ∷ 0x02 ∷ 0x80 ∷ 0x00 ∷ 0x01 ∷ []))
         ≡ 0x0E ∷ 0x75 ∷ 0x00 ∷ 0x00 ∷ 0x20 ∷ 0x07 ∷ 0xC4 ∷ 0x02 ∷ 0x80 ∷ 0x00 ∷ 0x01 ∷ [] }
 {}
 
@@ -37,11 +37,11 @@ fn first_segment_of_an_answer()
 {}
 
 fn negative_ack_of_a_client()
-    ensures { apdu_spelling (SegmentAck true false 0 40 32) ≡ 0x42 ∷ 0x00 ∷ 0x28 ∷ 0x20 ∷ [] }
+    ensures { apdu_spelling (SegmentAck false 0 (record { nak = true; number = 40; window = 32 })) ≡ 0x42 ∷ 0x00 ∷ 0x28 ∷ 0x20 ∷ [] }
 {}
 
 fn ack_of_a_server()
-    ensures { apdu_spelling (SegmentAck false true 0 0 32) ≡ 0x41 ∷ 0x00 ∷ 0x00 ∷ 0x20 ∷ [] }
+    ensures { apdu_spelling (SegmentAck true 0 (record { nak = false; number = 0; window = 32 })) ≡ 0x41 ∷ 0x00 ∷ 0x00 ∷ 0x20 ∷ [] }
 {}
 
 // Write access is denied: class 2, code 40.
@@ -70,7 +70,7 @@ fn abort_of_a_client()
 {}
 
 fn no_window_of_zero()
-    ensures { apdu_fits (SegmentAck false false 0 0 0) ≡ false }
+    ensures { apdu_fits (SegmentAck false 0 (record { nak = false; number = 0; window = 0 })) ≡ false }
 {}
 
 fn no_window_above_127()
@@ -78,5 +78,5 @@ fn no_window_above_127()
 {}
 
 fn no_size_code_six()
-    ensures { apdu_fits (ConfirmedRequest true 0 6 0 None 12 []) ≡ false }
+    ensures { apdu_fits (ConfirmedRequest (record { takes_segments = true; max_segments = 0; max_apdu = 6 }) 0 None 12 []) ≡ false }
 {}

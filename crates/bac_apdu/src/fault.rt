@@ -1,3 +1,5 @@
+//! Why octets are no APDU.
+
 ghost use Rattle.std.specs.Prelude.{◌≡◌};
 ghost use Rattle.bac_apdu.specs.Faults.{fault_number};
 
@@ -14,7 +16,7 @@ pub enum ApduFault {
     BadWindow = 4,
     /// A type above 7.
     BadType = 5,
-    /// Octets behind the last member.
+    /// Octets after the last member.
     Trailing = 6,
     /// More segments follow what is no segment.
     MorWithoutSeg = 7,

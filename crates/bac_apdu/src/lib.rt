@@ -2,18 +2,20 @@
 #![tactic(auto)]
 
 mod apdu;
+mod bits;
 mod error_reading;
 mod fault;
 mod laws;
 mod limits;
-mod member_reading;
+mod limits_reading;
+mod octets;
 mod reading;
 mod writing;
 
 pub use apdu::Apdu;
 pub use fault::ApduFault;
 pub use laws::{error_members_are_values, one_apdu_spelling};
-pub use limits::{Codes, Segment, Window};
+pub use limits::{Limits, Segment, Window};
 pub use reading::read;
 pub use writing::write;
 

@@ -1,3 +1,5 @@
+//! What APDUs say of segments, windows and the sizes of APDUs, each within its limits.
+
 ghost use Rattle.std.specs.Prelude.{◌≡◌, ◌<◌, ◌↔◌, IsTrue, IsSome, IfSome, nat_lt, ◌&&◌};
 ghost use Rattle.bac_apdu.specs.Spelling.{window_fits, codes_fit};
 
@@ -33,26 +35,32 @@ pub struct Segment {
     pub window: Window,
 }
 
-/// How many segments and how long an APDU the sender of a request takes, as codes (clauses 20.1.2.4 and 20.1.2.5).
+/// What the sender of a request takes of the answer: whether segments, and by their codes how many and APDUs how long
+/// (clauses 20.1.2.3 to 20.1.2.5).
 ///
 /// Codes of segments are 0 (unspecified), 1 to 6 (2, 4, 8, 16, 32, 64) and 7 (more than 64); codes of octets are 0 to 5 (50, 128, 206, 480, 1,024, 1,476).
 #[derive(Clone, Copy, Debug, PartialEq, Eq)]
-pub struct Codes {
-    pub max_segments: u8,
+pub struct Limits {
+    /// The code of the longest APDU.
     pub max_apdu: u8,
+    /// Whether an answer in segments is taken.
+    pub takes_segments: bool,
+    /// The code of how many segments are taken.
+    pub max_segments: u8,
     pub ghost fits: { IsTrue (codes_fit max_segments max_apdu) },
 }
 
-impl Codes {
-    /// None where the code of segments is above 7, or that of octets above 5.
-    pub fn new(max_segments: u8, max_apdu: u8) -> Option<Codes>
+impl Limits {
+    /// None where the code of octets is above 5, or that of segments above 7.
+    pub fn new(max_apdu: u8, takes_segments: bool, max_segments: u8) -> Option<Limits>
         ensures some { IsSome result ↔ IsTrue (codes_fit max_segments max_apdu) }
-        ensures same { IfSome result (λ c. (c.max_segments ≡ max_segments) × (c.max_apdu ≡ max_apdu)) }
+        ensures same { IfSome result (λ l. (l.max_apdu ≡ max_apdu) × (l.takes_segments ≡ takes_segments) × (l.max_segments ≡ max_segments)) }
     {
-        if max_segments < 8 && max_apdu < 6 {
-            Some(Codes {
-                max_segments,
+        if max_apdu < 6 && max_segments < 8 {
+            Some(Limits {
                 max_apdu,
+                takes_segments,
+                max_segments,
             })
         } else {
             None

@@ -1,26 +1,30 @@
+//! Reading of APDUs.
+
 ghost use Rattle.std.specs.Prelude.{◌≡◌, ℕ, List, IfOk, IfErr, Bool, ◌&&◌, not, ◌<◌, ◌%◌, ◌/◌};
-ghost use Rattle.bac_apdu.specs.Spelling.{SpellsApdu, IsNoApdu};
+ghost use Rattle.bac_apdu.specs.Spelling.{SpellsApdu, IsNoApdu, MOR, SEG};
 ghost use Rattle.bac_apdu.specs.Views.{apdu_view};
-ghost use Rattle.bac_apdu.specs.Reading.{ReadsAll, confirmed_at, unconfirmed_at, simple_ack_at, complex_ack_at, segment_ack_at, reject_at, error_at};
-ghost use Rattle.bac_apdu.specs.Reading.{abort_at, has_bit, reserved_of, kind_at, apdu_at};
+ghost use Rattle.bac_value.specs.Steps.{ReadsAll, has_bit};
+ghost use Rattle.bac_apdu.specs.Reading.{confirmed_at, unconfirmed_at, simple_ack_at, complex_ack_at, segment_ack_at, reject_at, error_at};
+ghost use Rattle.bac_apdu.specs.Reading.{abort_at, reserved_of, kind_at, apdu_at};
 
 use crate::apdu::Apdu;
+use crate::bits::{MOR, NAK, SA, SEG, SRV, has};
 use crate::error_reading::error;
 use crate::fault::ApduFault;
-use crate::member_reading::{codes, ended, has, octet, segment, window};
+use crate::limits_reading::{limits, segment, window};
+use crate::octets::{ended, octet};
 
 #[tactic(auto, unfolding(crate::specs::Reading::confirmed_at))]
 fn confirmed_request(octets: &[u8], bits: u8) -> Result<Apdu<'_>, ApduFault>
     ensures { ReadsAll apdu_view result (confirmed_at bits octets.now) }
 {
-    let (codes, rest) = codes(octets)?;
-    let (invoke, rest) = octet(rest)?;
-    let (segment, rest) = segment(rest, has(bits, 8), has(bits, 4))?;
+    let (limits, rest) = limits(octets, has(bits, SA))?;
+    let (invoke_id, rest) = octet(rest)?;
+    let (segment, rest) = segment(rest, has(bits, SEG), has(bits, MOR))?;
     let (choice, service) = octet(rest)?;
     Ok(Apdu::ConfirmedRequest {
-        takes_segments: has(bits, 2),
-        codes,
-        invoke,
+        limits,
+        invoke_id,
         segment,
         choice,
         service,
@@ -39,20 +43,20 @@ fn unconfirmed_request(octets: &[u8]) -> Result<Apdu<'_>, ApduFault>
 fn simple_ack(octets: &[u8]) -> Result<Apdu<'_>, ApduFault>
     ensures { ReadsAll apdu_view result (simple_ack_at octets.now) }
 {
-    let (invoke, rest) = octet(octets)?;
+    let (invoke_id, rest) = octet(octets)?;
     let (choice, rest) = octet(rest)?;
-    ended(rest, Apdu::SimpleAck { invoke, choice })
+    ended(rest, Apdu::SimpleAck { invoke_id, choice })
 }
 
 #[tactic(auto, unfolding(crate::specs::Reading::complex_ack_at))]
 fn complex_ack(octets: &[u8], bits: u8) -> Result<Apdu<'_>, ApduFault>
     ensures { ReadsAll apdu_view result (complex_ack_at bits octets.now) }
 {
-    let (invoke, rest) = octet(octets)?;
-    let (segment, rest) = segment(rest, has(bits, 8), has(bits, 4))?;
+    let (invoke_id, rest) = octet(octets)?;
+    let (segment, rest) = segment(rest, has(bits, SEG), has(bits, MOR))?;
     let (choice, service) = octet(rest)?;
     Ok(Apdu::ComplexAck {
-        invoke,
+        invoke_id,
         segment,
         choice,
         service,
@@ -63,13 +67,13 @@ fn complex_ack(octets: &[u8], bits: u8) -> Result<Apdu<'_>, ApduFault>
 fn segment_ack(octets: &[u8], bits: u8) -> Result<Apdu<'_>, ApduFault>
     ensures { ReadsAll apdu_view result (segment_ack_at bits octets.now) }
 {
-    let (invoke, rest) = octet(octets)?;
+    let (invoke_id, rest) = octet(octets)?;
     let (number, rest) = octet(rest)?;
     let (window, rest) = window(rest)?;
     let apdu = Apdu::SegmentAck {
-        nak: has(bits, 2),
-        server: has(bits, 1),
-        invoke,
+        nak: has(bits, NAK),
+        server: has(bits, SRV),
+        invoke_id,
         number,
         window,
     };
@@ -80,20 +84,20 @@ fn segment_ack(octets: &[u8], bits: u8) -> Result<Apdu<'_>, ApduFault>
 fn reject(octets: &[u8]) -> Result<Apdu<'_>, ApduFault>
     ensures { ReadsAll apdu_view result (reject_at octets.now) }
 {
-    let (invoke, rest) = octet(octets)?;
+    let (invoke_id, rest) = octet(octets)?;
     let (reason, rest) = octet(rest)?;
-    ended(rest, Apdu::Reject { invoke, reason })
+    ended(rest, Apdu::Reject { invoke_id, reason })
 }
 
 #[tactic(auto, unfolding(crate::specs::Reading::abort_at))]
 fn abort(octets: &[u8], bits: u8) -> Result<Apdu<'_>, ApduFault>
     ensures { ReadsAll apdu_view result (abort_at bits octets.now) }
 {
-    let (invoke, rest) = octet(octets)?;
+    let (invoke_id, rest) = octet(octets)?;
     let (reason, rest) = octet(rest)?;
     let apdu = Apdu::Abort {
-        server: has(bits, 1),
-        invoke,
+        server: has(bits, SRV),
+        invoke_id,
         reason,
     };
     ended(rest, apdu)
@@ -101,9 +105,9 @@ fn abort(octets: &[u8], bits: u8) -> Result<Apdu<'_>, ApduFault>
 
 /// Whether more segments follow what is no segment.
 fn is_more_alone(bits: u8) -> bool
-    ensures { result ≡ (has_bit bits 4 && not (has_bit bits 8)) }
+    ensures { result ≡ (has_bit bits MOR && not (has_bit bits SEG)) }
 {
-    has(bits, 4) && !has(bits, 8)
+    has(bits, MOR) && !has(bits, SEG)
 }
 
 /// Which bits of the first octet are set that the kind does not name.

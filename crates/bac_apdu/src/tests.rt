@@ -1,5 +1,5 @@
 //! Tables of octets whose readings and writings were worked out by hand.
-use crate::{Apdu, ApduFault, Codes, Segment, Window, read, write};
+use crate::{Apdu, ApduFault, Limits, Segment, Window, read, write};
 use std::test::Fail;
 
 #[test]
@@ -86,16 +86,15 @@ fn spellings(rt: HostRuntime) -> Result<(), Fail> {
 fn members(rt: HostRuntime) -> Result<(), Fail> {
     match read(b"\x0E\x75\x09\x03\x20\x07\xC4\x02")? {
         Apdu::ConfirmedRequest {
-            takes_segments,
-            codes,
-            invoke,
+            limits,
+            invoke_id,
             segment,
             choice,
             service,
         } => {
-            assert!(rt; takes_segments);
-            assert_eq!(rt; (codes.max_segments, codes.max_apdu), (7, 5));
-            assert_eq!(rt; (invoke, choice), (9, 7));
+            assert!(rt; limits.takes_segments);
+            assert_eq!(rt; (limits.max_segments, limits.max_apdu), (7, 5));
+            assert_eq!(rt; (invoke_id, choice), (9, 7));
             let segment = segment.ok_or("no segment")?;
             assert!(rt; segment.more);
             assert_eq!(rt; (segment.number, segment.window.size), (3, 32));
@@ -107,23 +106,23 @@ fn members(rt: HostRuntime) -> Result<(), Fail> {
         Apdu::SegmentAck {
             nak,
             server,
-            invoke,
+            invoke_id,
             number,
             window,
         } => {
             assert_eq!(rt; (nak, server), (true, false));
-            assert_eq!(rt; (invoke, number, window.size), (7, 40, 32));
+            assert_eq!(rt; (invoke_id, number, window.size), (7, 40, 32));
         }
         _ => return Err("another kind".into()),
     }
     match read(b"\x50\x02\x0F\x92\x01\x02\x91\x28")? {
         Apdu::Error {
-            invoke,
+            invoke_id,
             choice,
             class,
             code,
         } => {
-            assert_eq!(rt; (invoke, choice), (2, 15));
+            assert_eq!(rt; (invoke_id, choice), (2, 15));
             assert_eq!(rt; (class, code), (258, 40));
         }
         _ => return Err("another kind".into()),
@@ -138,14 +137,14 @@ fn limits(rt: HostRuntime) {
     }
     for (segments, apdu, is_some) in [(7, 5, true), (8, 0, false), (0, 6, false), (0, 0, true)] {
         assert_eq!(rt;
-            Codes::new(segments, apdu).is_some(),
+            Limits::new(apdu, false, segments).is_some(),
             is_some,
             "{segments} {apdu}"
         );
     }
 }
 
-// What is written stands behind what was there.
+// What is written stands after what was there.
 #[test]
 fn appended(rt: HostRuntime) -> Result<(), Fail> {
     let window = Window::new(16).ok_or("no window")?;
@@ -155,7 +154,7 @@ fn appended(rt: HostRuntime) -> Result<(), Fail> {
         window,
     });
     let apdu = Apdu::ComplexAck {
-        invoke: 1,
+        invoke_id: 1,
         segment,
         choice: 12,
         service: b"\xAA",
@@ -164,5 +163,42 @@ fn appended(rt: HostRuntime) -> Result<(), Fail> {
     out.push(0x99)?;
     write(&apdu, &mut out)?;
     assert_eq!(rt; out.as_slice(), b"\x99\x3C\x01\xFF\x10\x0C\xAA".as_slice());
+    Ok(())
+}
+
+// 65,535 octets of service data in a segment, and an Error with the greatest class and code.
+#[test]
+fn the_longest(rt: HostRuntime) -> Result<(), Fail> {
+    let alloc = rt.alloc();
+    let service = vec![in alloc; 0x55u8; 65_535]?;
+    let window = Window::new(127).ok_or("no window")?;
+    let apdu = Apdu::ConfirmedRequest {
+        limits: Limits::new(5, true, 7).ok_or("no limits")?,
+        invoke_id: 255,
+        segment: Some(Segment {
+            more: false,
+            number: 255,
+            window,
+        }),
+        choice: 255,
+        service: &service,
+    };
+    let mut out = Vec::new(alloc);
+    write(&apdu, &mut out)?;
+    assert_eq!(rt; out.len(), 65_541);
+    assert!(rt; out.starts_with(b"\x0A\x75\xFF\xFF\x7F\xFF"));
+    assert!(rt; out.ends_with(&service));
+    out.clear();
+    let error = Apdu::Error {
+        invoke_id: 2,
+        choice: 15,
+        class: u32::MAX,
+        code: u32::MAX,
+    };
+    write(&error, &mut out)?;
+    assert_eq!(rt;
+        out.as_slice(),
+        b"\x50\x02\x0F\x94\xFF\xFF\xFF\xFF\x94\xFF\xFF\xFF\xFF".as_slice()
+    );
     Ok(())
 }

@@ -1,10 +1,14 @@
+//! Writing of APDUs.
+
 ghost use Rattle.std.specs.Prelude.{◌≡◌, ◌+◌, ◌*◌, ◌/◌, ◌%◌, ◌≤◌, ◌<◌, ◌++◌, ◌∷◌, [], length, slice_index, OnOk, OnErr, vec_len, vec_capacity, Bool};
+ghost use Rattle.bac_value.specs.Appending.{Appends, Lengthens, Keeps, NeedsRoom};
 ghost use Rattle.std.specs.Option.{option_map};
 ghost use Rattle.bac_value.specs.Octets.{Begins};
 ghost use Rattle.bac_apdu.specs.Spelling.{SpellsApdu, apdu_spelling, enumerated_spelling, bit, segment_bits, segment_octets};
 ghost use Rattle.bac_apdu.specs.Views.{segment_view, apdu_view};
 
 use crate::apdu::Apdu;
+use crate::bits::{MOR, NAK, SA, SEG, SRV};
 use crate::limits::Segment;
 use bac_value::NoMemory;
 
@@ -15,7 +19,7 @@ fn bits_of(segment: Option<Segment>) -> u8
 {
     match segment {
         None => 0,
-        Some(segment) => 8 + if segment.more { 4 } else { 0 },
+        Some(segment) => SEG + weight(segment.more, MOR),
     }
 }
 
@@ -27,8 +31,8 @@ fn weight(is_set: bool, weight: u8) -> u8
 
 /// Appends both, or changes nothing.
 fn append(head: &[u8], service: &[u8], out: &mut Vec<u8>) -> Result<(), NoMemory>
-    ensures ok { OnOk result (out.new.items ≡ out.old.items ++ (head.now ++ service.now)) }
-    ensures err { OnErr result (out.new.items ≡ out.old.items) }
+    ensures ok { Appends result out.old out.new (head.now ++ service.now) }
+    ensures err { Keeps result out.old out.new }
     ensures full { OnErr result (vec_capacity out.old < vec_len out.old + (length head.now + length service.now)) }
 {
     out.reserve(head.len() + service.len())?;
@@ -39,10 +43,10 @@ fn append(head: &[u8], service: &[u8], out: &mut Vec<u8>) -> Result<(), NoMemory
 
 /// Appends an application Enumerated, or changes nothing.
 fn put_enumerated(number: u32, out: &mut Vec<u8>) -> Result<(), NoMemory>
-    ensures ok { OnOk result (out.new.items ≡ out.old.items ++ enumerated_spelling number) }
-    ensures len { OnOk result (vec_len out.new ≡ vec_len out.old + length (enumerated_spelling number)) }
-    ensures err { OnErr result (out.new.items ≡ out.old.items) }
-    ensures full { OnErr result (vec_capacity out.old < vec_len out.old + length (enumerated_spelling number)) }
+    ensures ok { Appends result out.old out.new (enumerated_spelling number) }
+    ensures len { Lengthens result out.old out.new (enumerated_spelling number) }
+    ensures err { Keeps result out.old out.new }
+    ensures full { NeedsRoom result out.old (enumerated_spelling number) }
     ensures grows { vec_capacity out.old ≤ vec_capacity out.new }
 {
     if number < 0x100 {
@@ -64,25 +68,25 @@ fn put_enumerated(number: u32, out: &mut Vec<u8>) -> Result<(), NoMemory>
 fn append_request(
     first: u8,
     codes: u8,
-    invoke: u8,
+    invoke_id: u8,
     segment: Option<Segment>,
     choice: u8,
     service: &[u8],
     out: &mut Vec<u8>,
 ) -> Result<(), NoMemory>
-    ensures ok { OnOk result (out.new.items ≡ out.old.items ++
-        (first ∷ codes ∷ invoke ∷ (segment_octets (option_map segment_view segment) ++ choice ∷ service.now))) }
-    ensures err { OnErr result (out.new.items ≡ out.old.items) }
-    ensures full { OnErr result (vec_capacity out.old < vec_len out.old + length
-        (first ∷ codes ∷ invoke ∷ (segment_octets (option_map segment_view segment) ++ choice ∷ service.now))) }
+    ensures ok { Appends result out.old out.new
+        (first ∷ codes ∷ invoke_id ∷ (segment_octets (option_map segment_view segment) ++ choice ∷ service.now)) }
+    ensures err { Keeps result out.old out.new }
+    ensures full { NeedsRoom result out.old
+        (first ∷ codes ∷ invoke_id ∷ (segment_octets (option_map segment_view segment) ++ choice ∷ service.now)) }
 {
     match segment {
-        None => append(&[first, codes, invoke, choice], service, out),
+        None => append(&[first, codes, invoke_id, choice], service, out),
         Some(segment) => {
             let head = [
                 first,
                 codes,
-                invoke,
+                invoke_id,
                 segment.number,
                 segment.window.size,
                 choice,
@@ -95,21 +99,26 @@ fn append_request(
 /// The same of a ComplexACK: three or five octets, then its service data.
 fn append_answer(
     first: u8,
-    invoke: u8,
+    invoke_id: u8,
     segment: Option<Segment>,
     choice: u8,
     service: &[u8],
     out: &mut Vec<u8>,
 ) -> Result<(), NoMemory>
-    ensures ok { OnOk result (out.new.items ≡ out.old.items ++ (first ∷ invoke ∷ (segment_octets (option_map segment_view segment) ++ choice ∷ service.now))) }
-    ensures err { OnErr result (out.new.items ≡ out.old.items) }
-    ensures full { OnErr result (vec_capacity out.old < vec_len out.old + length
-        (first ∷ invoke ∷ (segment_octets (option_map segment_view segment) ++ choice ∷ service.now))) }
+    ensures ok { Appends result out.old out.new (first ∷ invoke_id ∷ (segment_octets (option_map segment_view segment) ++ choice ∷ service.now)) }
+    ensures err { Keeps result out.old out.new }
+    ensures full { NeedsRoom result out.old (first ∷ invoke_id ∷ (segment_octets (option_map segment_view segment) ++ choice ∷ service.now)) }
 {
     match segment {
-        None => append(&[first, invoke, choice], service, out),
+        None => append(&[first, invoke_id, choice], service, out),
         Some(segment) => {
-            let head = [first, invoke, segment.number, segment.window.size, choice];
+            let head = [
+                first,
+                invoke_id,
+                segment.number,
+                segment.window.size,
+                choice,
+            ];
             append(&head, service, out)
         }
     }
@@ -118,17 +127,17 @@ fn append_answer(
 /// Appends an Error. After an `Err` the old octets are a front of what is there.
 fn put_error(
     first: u8,
-    invoke: u8,
+    invoke_id: u8,
     choice: u8,
     class: u32,
     code: u32,
     out: &mut Vec<u8>,
 ) -> Result<(), NoMemory>
-    ensures ok { OnOk result (out.new.items ≡ out.old.items ++ (first ∷ invoke ∷ choice ∷ (enumerated_spelling class ++ enumerated_spelling code))) }
+    ensures ok { Appends result out.old out.new (first ∷ invoke_id ∷ choice ∷ (enumerated_spelling class ++ enumerated_spelling code)) }
     ensures kept { Begins out.old.items out.new.items }
     ensures full { OnErr result (vec_capacity out.old < vec_len out.old + (3 + length (enumerated_spelling class) + length (enumerated_spelling code))) }
 {
-    out.extend_from_slice(&[first, invoke, choice])?;
+    out.extend_from_slice(&[first, invoke_id, choice])?;
     put_enumerated(class, out)?;
     put_enumerated(code, out)
 }
@@ -136,18 +145,18 @@ fn put_error(
 /// Appends an Error, or changes nothing.
 fn append_error(
     first: u8,
-    invoke: u8,
+    invoke_id: u8,
     choice: u8,
     class: u32,
     code: u32,
     out: &mut Vec<u8>,
 ) -> Result<(), NoMemory>
-    ensures ok { OnOk result (out.new.items ≡ out.old.items ++ (first ∷ invoke ∷ choice ∷ (enumerated_spelling class ++ enumerated_spelling code))) }
-    ensures err { OnErr result (out.new.items ≡ out.old.items) }
+    ensures ok { Appends result out.old out.new (first ∷ invoke_id ∷ choice ∷ (enumerated_spelling class ++ enumerated_spelling code)) }
+    ensures err { Keeps result out.old out.new }
     ensures full { OnErr result (vec_capacity out.old < vec_len out.old + (3 + length (enumerated_spelling class) + length (enumerated_spelling code))) }
 {
     let len = out.len();
-    let written = put_error(first, invoke, choice, class, code, out);
+    let written = put_error(first, invoke_id, choice, class, code, out);
     if written.is_err() {
         out.truncate(len);
     }
@@ -161,62 +170,65 @@ fn first_octet(apdu: &Apdu) -> u8
 {
     match *apdu {
         Apdu::ConfirmedRequest {
-            takes_segments,
+            limits,
             segment,
             ..
-        } => bits_of(segment) + weight(takes_segments, 2),
+        } => bits_of(segment) + weight(limits.takes_segments, SA),
         Apdu::UnconfirmedRequest { .. } => 0x10,
         Apdu::SimpleAck { .. } => 0x20,
         Apdu::ComplexAck { segment, .. } => 0x30 + bits_of(segment),
-        Apdu::SegmentAck { nak, server, .. } => 0x40 + weight(nak, 2) + weight(server, 1),
+        Apdu::SegmentAck { nak, server, .. } => 0x40 + weight(nak, NAK) + weight(server, SRV),
         Apdu::Error { .. } => 0x50,
         Apdu::Reject { .. } => 0x60,
-        Apdu::Abort { server, .. } => 0x70 + weight(server, 1),
+        Apdu::Abort { server, .. } => 0x70 + weight(server, SRV),
     }
 }
 
-/// Appends the one spelling of an APDU (clause 20.1). Want of memory changes nothing.
+/// Appends the one spelling of an APDU (clause 20.1). Running out of memory changes nothing.
 #[tactic(auto, unfolding(crate::specs::Spelling::apdu_spelling, crate::specs::Spelling::apdu_fits))]
 pub fn write(apdu: &Apdu, out: &mut Vec<u8>) -> Result<(), NoMemory>
-    ensures ok { OnOk result (out.new.items ≡ out.old.items ++ apdu_spelling (apdu_view apdu.now)) }
+    ensures ok { Appends result out.old out.new (apdu_spelling (apdu_view apdu.now)) }
     ensures spelled { SpellsApdu (apdu_view apdu.now) (apdu_spelling (apdu_view apdu.now)) }
-    ensures err { OnErr result (out.new.items ≡ out.old.items) }
-    ensures full { OnErr result (vec_capacity out.old < vec_len out.old + length (apdu_spelling (apdu_view apdu.now))) }
+    ensures err { Keeps result out.old out.new }
+    ensures full { NeedsRoom result out.old (apdu_spelling (apdu_view apdu.now)) }
 {
     let first = first_octet(apdu);
     match *apdu {
         Apdu::ConfirmedRequest {
-            codes,
-            invoke,
+            limits,
+            invoke_id,
             segment,
             choice,
             service,
-            ..
         } => {
-            let codes = 16 * codes.max_segments + codes.max_apdu;
-            append_request(first, codes, invoke, segment, choice, service, out)
+            let codes = 16 * limits.max_segments + limits.max_apdu;
+            append_request(first, codes, invoke_id, segment, choice, service, out)
         }
         Apdu::UnconfirmedRequest { choice, service } => append(&[first, choice], service, out),
-        Apdu::SimpleAck { invoke, choice } => append(&[first, invoke, choice], &[], out),
+        Apdu::SimpleAck { invoke_id, choice } => append(&[first, invoke_id, choice], &[], out),
         Apdu::ComplexAck {
-            invoke,
+            invoke_id,
             segment,
             choice,
             service,
-        } => append_answer(first, invoke, segment, choice, service, out),
+        } => append_answer(first, invoke_id, segment, choice, service, out),
         Apdu::SegmentAck {
-            invoke,
+            invoke_id,
             number,
             window,
             ..
-        } => append(&[first, invoke, number, window.size], &[], out),
+        } => append(&[first, invoke_id, number, window.size], &[], out),
         Apdu::Error {
-            invoke,
+            invoke_id,
             choice,
             class,
             code,
-        } => append_error(first, invoke, choice, class, code, out),
-        Apdu::Reject { invoke, reason } => append(&[first, invoke, reason], &[], out),
-        Apdu::Abort { invoke, reason, .. } => append(&[first, invoke, reason], &[], out),
+        } => append_error(first, invoke_id, choice, class, code, out),
+        Apdu::Reject { invoke_id, reason } => append(&[first, invoke_id, reason], &[], out),
+        Apdu::Abort {
+            invoke_id,
+            reason,
+            ..
+        } => append(&[first, invoke_id, reason], &[], out),
     }
 }

@@ -1,6 +1,6 @@
 use Rattle.bac_apdu.specs.Views.{apdu_view}
 use Rattle.bac_apdu.specs.Reading.{apdu_at}
-use Rattle.bac_apdu.proofs.Steps.{ok_by, err_by}
+use Rattle.bac_value.proofs.Steps.{ok_by, err_by}
 use Rattle.bac_apdu.proofs.Apdus.{apdu_takes, apdu_again}
 use Rattle.bac_apdu.proofs.reading.read.Goals as goal
 
