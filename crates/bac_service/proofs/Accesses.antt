@@ -1,5 +1,5 @@
 -- The laws of priorities, of what is read or written of a file, and of octet strings in a row.
-use Rattle.std.proofs.Common.{◌≡◌, ℕ, zero, suc, ◌+◌, ◌-◌, ◌<◌, ◌≤◌, ℤ, Bool, true, false, cond, nat_eq, [], ◌++◌, length, take, Option, Some, is_some, ◌⊎◌}
+use Rattle.std.proofs.Common.{◌≡◌, ℕ, zero, suc, ◌+◌, ◌-◌, ◌<◌, ◌≤◌, ℤ, Bool, true, false, cond, nat_eq, [], ◌++◌, length, take, is_some, ◌⊎◌}
 use Rattle.std.proofs.Common.{inl, inr, refl, sym, ap, subst, ◌∙◌, append_assoc, arith, add-one, Ok, lit<}
 use Rattle.std.proofs.Math.Logic.{∥∥₁_elim}
 use Rattle.std.proofs.Props.{props}
@@ -7,6 +7,7 @@ use Rattle.bac_value.proofs.Joined.{IsBytes-append}
 use Rattle.std.proofs.lemmas.Bool.{eqb-true, eq-eqb, and_parts, ltb-true, lt-ltb}
 use Rattle.std.proofs.lemmas.Bool.Decides.{nat_tests}
 use Rattle.std.proofs.lemmas.List.{length-append, append-nil}
+use Rattle.bac_value.proofs.Steps.{bind_ok, ok_is}
 use Rattle.bac_value.specs.declared.tag.Class.TheVariants.{Application, Context}
 use Rattle.bac_value.specs.declared.tag.Form.TheVariants.{Opening, Closing}
 use Rattle.bac_value.specs.Octets.{IsBytes}
@@ -21,11 +22,13 @@ use Rattle.bac_service.specs.Values.WriteAccess.{WriteStream, WriteRecords}
 use Rattle.bac_service.specs.Members.{Octets, ◌⨾◌, Enclosed, Tagged, mark_of, IsPriority, IsString, ApplicationObject, ApplicationSigned, ApplicationUnsigned}
 use Rattle.bac_service.specs.Members.{ApplicationString, AreStrings}
 use Rattle.bac_service.specs.Requests.{SpellsReadAccess, SpellsWriteAccess, AreRecords}
-use Rattle.bac_service.specs.Reading.{◌>>=◌, kept, both_at, made_at, announced, member_at, is_opened, enclosed_at, that_at, is_priority, priority_at}
+use Rattle.bac_service.specs.declared.stop.Why.TheVariants.{OutOfRange, Inconsistent}
+use Rattle.bac_value.specs.Steps.{◌>>=◌}
+use Rattle.bac_service.specs.Reading.{Read, both_at, made_at, announced, next_tag, member_at, is_opened, enclosed_at, that_at, is_priority, priority_at}
 use Rattle.bac_service.specs.Reading.{application_object, application_signed, application_unsigned, application_string, extent_at, content_at, read_access_at}
 use Rattle.bac_service.specs.Reading.{strings_at, run_at, counted_at, are_counted, write_access_at}
-use Rattle.bac_service.proofs.Exact.{IsExact, Anything, Made, That, bind_some, some_is, left_fits, both_exact, made_exact, same_exact, that_exact, either_exact}
-use Rattle.bac_service.proofs.Heads.{announced_again, member_exact}
+use Rattle.bac_service.proofs.Exact.{IsExact, Anything, Made, That, left_fits, both_exact, made_exact, same_exact, that_exact, either_exact}
+use Rattle.bac_service.proofs.Heads.{next_tag_again, announced_again, member_exact}
 use Rattle.bac_service.proofs.Contents.{object_law, long_law, signed_law, string_law}
 use Rattle.bac_service.proofs.Pairs.{pair_mark, enclosed_exact, front_is}
 
@@ -58,7 +61,7 @@ pub priority_exact : IsExact Anything priority_at Priority
 unfolding priority_at
 priority_exact =
     same_exact Anything priority_at (That is_priority (λ n. Tagged Context 4 (IsNumber 8 n))) Priority
-    (that_exact Anything is_priority (member_at Context 4 (number_at 2)) (λ n. Tagged Context 4 (IsNumber 8 n))
+    (that_exact Anything OutOfRange is_priority (member_at Context 4 (number_at 2)) (λ n. Tagged Context 4 (IsNumber 8 n))
     (member_exact Context 4 (number_at 2) (IsNumber 8) (λ k. refl) long_law))
     (λ n text p. let r = in_range n p.0 in record {
       contents = p.1.contents;
@@ -70,14 +73,14 @@ priority_exact =
 
 -- ---- which access comes next
 
-opened_pair : (number n : ℕ) (rest : Octets) → n < 255 → is_opened number (opening n ++ rest) ≡ Some (nat_eq number n)
+opened_pair : (number n : ℕ) (rest : Octets) → n < 255 → is_opened number (opening n ++ rest) ≡ Ok (nat_eq number n)
 unfolding is_opened
 opened_pair number n rest lt =
     let tag : SpellsTag (pair_mark Opening n) (opening n) = record { fits = lt-ltb n 255 lt; length_in = tt; is = refl } in
-    rw (tag_exact.again (pair_mark Opening n) (opening n) rest tag) refl
+    rw (next_tag_again (opening n ++ rest) (pair_mark Opening n, rest) (tag_exact.again (pair_mark Opening n) (opening n) rest tag)) refl
 
 opened_enclosed : (number n : ℕ) (P : Octets → Type 0) (text rest : Octets) → n < 255 → Enclosed n P text
-    → is_opened number (text ++ rest) ≡ Some (nat_eq number n)
+    → is_opened number (text ++ rest) ≡ Ok (nat_eq number n)
 opened_enclosed number n P text rest lt s =
     ap (λ (t : Octets). is_opened number (t ++ rest)) s.is ∙ ap (is_opened number) (append_assoc (opening n) (s.inside ++ closing n) rest)
     ∙ opened_pair number n ((s.inside ++ closing n) ++ rest) lt
@@ -109,8 +112,8 @@ abbrev ReadsStream : ReadAccess → Octets → Type 0
 ReadsStream = Made stream_of (λ t. Enclosed 0 (Extent t))
 
 read_told : (a : ReadAccess) (text rest : Octets) → SpellsReadAccess a text → Anything rest
-    → (ReadsRecords a text × (is_opened 1 (text ++ rest) ≡ Some true) × Anything rest) ⊎
-    (ReadsStream a text × (is_opened 1 (text ++ rest) ≡ Some false) × Anything rest)
+    → (ReadsRecords a text × (is_opened 1 (text ++ rest) ≡ Ok true) × Anything rest) ⊎
+    (ReadsStream a text × (is_opened 1 (text ++ rest) ≡ Ok false) × Anything rest)
 read_told (ReadStream z n) text rest s f = inr (((z, n), refl, s), opened_enclosed 1 0 (Extent (z, n)) text rest (lit< tt) s, tt)
 read_told (ReadRecords z n) text rest s f = inl (((z, n), refl, s), opened_enclosed 1 1 (Extent (z, n)) text rest (lit< tt) s, tt)
 
@@ -141,38 +144,39 @@ no_string_closing n rest lt =
     let tag : SpellsTag (pair_mark Closing n) (closing n) = record { fits = lt-ltb n 255 lt; length_in = tt; is = refl } in
     ((pair_mark Closing n, rest), tag_exact.again (pair_mark Closing n) (closing n) rest tag, refl)
 
-one_more : Octets × Octets → ℕ → Option (ℕ × Octets)
-one_more s most = strings_at most s.1 >>= λ n. Some (n.0 + 1, n.1)
+one_more : Octets × Octets → ℕ → Read ℕ
+one_more s most = strings_at most s.1 >>= λ n. Ok (n.0 + 1, n.1)
 
--- what strings in a row are, with what is left behind them
+-- what strings in a row are, with what is left after them
 abbrev Strings : ℕ → Octets → Octets → Octets → Type 0
 Strings n bytes text rest = (bytes ≡ text ++ rest) × AreStrings n text
 
 StringsTaken : ℕ → Type 0
-StringsTaken most = (bytes : Octets) (x : ℕ × Octets) → IsBytes bytes → strings_at most bytes ≡ Some x → (text : Octets) × Strings x.0 bytes text x.1
+StringsTaken most = (bytes : Octets) (x : ℕ × Octets) → IsBytes bytes → strings_at most bytes ≡ Ok x → (text : Octets) × Strings x.0 bytes text x.1
 
 strings_went : (most : ℕ) → StringsTaken most → (bytes : Octets) (x : ℕ × Octets) → IsBytes bytes → (b : Bool)
-    → cond b (application_string bytes >>= λ s. one_more s most) (Some (0, bytes)) ≡ Some x → (text : Octets) × Strings x.0 bytes text x.1
+    → cond b (application_string bytes >>= λ s. one_more s most) (Ok (0, bytes)) ≡ Ok x → (text : Octets) × Strings x.0 bytes text x.1
 unfolding StringsTaken one_more
 strings_went most taken bytes x fits true h =
-    let s = bind_some (application_string bytes) (λ s. one_more s most) x h in
-    let n = bind_some (strings_at most s.0.1) (λ n. Some (n.0 + 1, n.1)) x s.2 in
+    let s = bind_ok (application_string bytes) (λ s. one_more s most) x h in
+    let n = bind_ok (strings_at most s.0.1) (λ n. Ok (n.0 + 1, n.1)) x s.2 in
     let u = string_exact.takes bytes s.0 fits s.1 in
     let more = taken s.0.1 n.0 (left_fits application_string ApplicationString string_exact bytes s.0 fits s.1) n.1 in
     let is : bytes ≡ (u.0 ++ more.0) ++ n.0.1 = u.1 ∙ ap (λ (r : Octets). u.0 ++ r) more.1.0 ∙ sym (append_assoc u.0 more.0 n.0.1) in
     let string : Tagged Application 6 (λ xs. Unit {0}) u.0 = record { contents = u.2.contents; are = tt; fits = u.2.fits; is = u.2.is } in
     let strings : AreStrings (suc n.0.0) (u.0 ++ more.0) = record { front = u.0; back = more.0; first = string; second = more.1.1; is = refl } in
-    subst (λ (y : ℕ × Octets). (text : Octets) × Strings y.0 bytes text y.1) (some_is (n.0.0 + 1, n.0.1) x n.2)
+    subst (λ (y : ℕ × Octets). (text : Octets) × Strings y.0 bytes text y.1) (ok_is (n.0.0 + 1, n.0.1) x n.2)
     (u.0 ++ more.0, (is, subst (λ (m : ℕ). AreStrings m (u.0 ++ more.0)) (sym (add-one n.0.0)) strings))
 strings_went most taken bytes x fits false h =
-    subst (λ (y : ℕ × Octets). (text : Octets) × Strings y.0 bytes text y.1) (some_is (0, bytes) x h) ([], (refl, refl))
+    subst (λ (y : ℕ × Octets). (text : Octets) × Strings y.0 bytes text y.1) (ok_is (0, bytes) x h) ([], (refl, refl))
 
 strings_takes : (most : ℕ) → StringsTaken most
 unfolding strings_at one_more StringsTaken
-strings_takes zero bytes x fits e = absurd cc
+strings_takes zero bytes x fits e =
+    subst (λ (y : ℕ × Octets). (text : Octets) × Strings y.0 bytes text y.1) (ok_is (0, bytes) x e) ([], (refl, refl))
 strings_takes (suc most) bytes x fits e =
-    let t = bind_some (kept (tag_at bytes)) (λ t. cond (is_some (announced Application 6 t.0)) (application_string bytes >>= λ s. one_more s most)
-    (Some (0, bytes))) x e in
+    let t = bind_ok (next_tag bytes) (λ t. cond (is_some (announced Application 6 t.0)) (application_string bytes >>= λ s. one_more s most)
+    (Ok (0, bytes))) x e in
     strings_went most (strings_takes most) bytes x fits (is_some (announced Application 6 t.0.0)) t.2
 
 -- strings in a row are at least as many octets
@@ -184,10 +188,10 @@ strings_len (suc n) text s =
     let first : 1 ≤ length s.front = omega (arith, ap length s.first.is) in
     omega (arith, ap length s.is, length-append s.front s.back)
 
-strings_again : (most n : ℕ) (text rest : Octets) → n < most → AreStrings n text → NoString rest → strings_at most (text ++ rest) ≡ Some (n, rest)
+strings_again : (most n : ℕ) (text rest : Octets) → n < most → AreStrings n text → NoString rest → strings_at most (text ++ rest) ≡ Ok (n, rest)
 unfolding strings_at
 strings_again zero n text rest lt s none = absurd (omega arith)
-strings_again (suc most) zero text rest lt s none = rw (s, none.1, none.2) refl
+strings_again (suc most) zero text rest lt s none = rw (s, next_tag_again rest none.0 none.1, none.2) refl
 strings_again (suc most) (suc n) text rest lt s none =
     let head = mark_of Application 6 (length s.first.contents) in
     let more = s.back ++ rest in
@@ -196,10 +200,10 @@ strings_again (suc most) (suc n) text rest lt s none =
     let parts : text ++ rest ≡ s.front ++ more = ap (λ (t : Octets). t ++ rest) s.is ∙ append_assoc s.front s.back rest in
     let tagged : tag_at (s.front ++ more) ≡ Ok (head, s.first.contents ++ more) = ap (λ (t : Octets). tag_at (t ++ more)) s.first.is
     ∙ ap tag_at (append_assoc (tag_spelling head) s.first.contents more) ∙ tag_exact.again head (tag_spelling head) (s.first.contents ++ more) tag in
-    let read : application_string (s.front ++ more) ≡ Some (s.first.contents, more) = string_exact.again s.first.contents s.front more string tt in
+    let read : application_string (s.front ++ more) ≡ Ok (s.first.contents, more) = string_exact.again s.first.contents s.front more string tt in
     rw (
       parts,
-      tagged,
+      next_tag_again (s.front ++ more) (head, s.first.contents ++ more) tagged,
       announced_again Application 6 (length s.first.contents),
       read,
       strings_again most n s.back rest (omega arith) s.second none,
@@ -213,11 +217,11 @@ pub run_exact : IsExact NoString run_at Run
 unfolding run_at StringsTaken
 run_exact = record {
   takes = λ bytes x fits e.
-      let n = bind_some (strings_at (suc (length bytes)) bytes) (λ n. Some ((n.0, take (length bytes - length n.1) bytes), n.1)) x e in
+      let n = bind_ok (strings_at (suc (length bytes)) bytes) (λ n. Ok ((n.0, take (length bytes - length n.1) bytes), n.1)) x e in
       let t = strings_takes (suc (length bytes)) bytes n.0 fits n.1 in
       let front : take (length bytes - length n.0.1) bytes ≡ t.0 = ap (λ (b : Octets). take (length b - length n.0.1) b) t.1.0 ∙ front_is t.0 n.0.1 in
       subst (λ (y : (ℕ × Octets) × Octets). (text : Octets) × (bytes ≡ text ++ y.1) × Run y.0 text)
-      (some_is ((n.0.0, take (length bytes - length n.0.1) bytes), n.0.1) x n.2)
+      (ok_is ((n.0.0, take (length bytes - length n.0.1) bytes), n.0.1) x n.2)
       (t.0, t.1.0, (subst (AreStrings n.0.0) (sym front) t.1.1, sym front));
   again = λ y text rest s none.
       let strings : AreStrings y.0 text = subst (AreStrings y.0) (sym s.1) s.0 in
@@ -267,8 +271,8 @@ records_to a text (t, make, (counted, s)) =
     })
 
 write_told : (a : WriteAccess) (text rest : Octets) → SpellsWriteAccess a text → Anything rest
-    → (WritesRecords a text × (is_opened 1 (text ++ rest) ≡ Some true) × Anything rest) ⊎
-    (WritesStream a text × (is_opened 1 (text ++ rest) ≡ Some false) × Anything rest)
+    → (WritesRecords a text × (is_opened 1 (text ++ rest) ≡ Ok true) × Anything rest) ⊎
+    (WritesStream a text × (is_opened 1 (text ++ rest) ≡ Ok false) × Anything rest)
 write_told (WriteStream z octets) text rest s f = inr (((z, octets), refl, s), opened_enclosed 1 0 (Content (z, octets)) text rest (lit< tt) s, tt)
 write_told (WriteRecords z n run) text rest s f =
     let e = s.are in
@@ -296,17 +300,17 @@ pub write_access_exact : IsExact Anything write_access_at SpellsWriteAccess
 unfolding write_access_at
 write_access_exact =
     let records = enclosed_exact 1 (lit< tt) NoString counted_at Counted counted_exact (λ rest. no_string_closing 1 rest (lit< tt)) in
-    let counted = that_exact Anything are_counted (enclosed_at 1 counted_at) (λ t. Enclosed 1 (Counted t)) records in
-    let one = made_exact Anything written_records (that_at are_counted (enclosed_at 1 counted_at)) (That are_counted (λ t. Enclosed 1 (Counted t))) counted in
+    let counted = that_exact Anything Inconsistent are_counted (enclosed_at 1 counted_at) (λ t. Enclosed 1 (Counted t)) records in
+    let one = made_exact Anything written_records (that_at Inconsistent are_counted (enclosed_at 1 counted_at)) (That are_counted (λ t. Enclosed 1 (Counted t))) counted in
     let other = made_exact Anything written_stream (enclosed_at 0 content_at) (λ t. Enclosed 0 (Content t))
     (enclosed_exact 0 (lit< tt) Anything content_at Content content_exact (λ rest. tt)) in
-    either_exact Anything Anything Anything (is_opened 1) (made_at written_records (that_at are_counted (enclosed_at 1 counted_at)))
+    either_exact Anything Anything Anything (is_opened 1) (made_at written_records (that_at Inconsistent are_counted (enclosed_at 1 counted_at)))
     (made_at written_stream (enclosed_at 0 content_at)) WritesRecords WritesStream SpellsWriteAccess
     (record { one = records_to; other = λ a text p. subst (λ r. SpellsWriteAccess r text) p.1 p.2; told = write_told }) one other
 
 -- ---- that octets are octet strings is known whole where it is known at all
 
-read_run_prop : (bytes : Octets) (n : ℕ) (run rest : Octets) → IsProp (run_at bytes ≡ Some ((n, run), rest))
+read_run_prop : (bytes : Octets) (n : ℕ) (run rest : Octets) → IsProp (run_at bytes ≡ Ok ((n, run), rest))
 read_run_prop bytes n run rest = hlevel props
 
 closing_bytes : (n : ℕ) → n < 15 → IsBytes (closing n)
@@ -318,7 +322,7 @@ pub whole_strings : (n : ℕ) (text : Octets) → IsBytes text → ∥ AreString
 whole_strings n text fits known =
     let rest = closing 1 in
     let bytes = IsBytes-append text rest fits (closing_bytes 1 (lit< tt)) in
-    let read : run_at (text ++ rest) ≡ Some ((n, text), rest) =
+    let read : run_at (text ++ rest) ≡ Ok ((n, text), rest) =
     ∥∥₁_elim known (read_run_prop (text ++ rest) n text rest)
     (λ s. run_exact.again (n, text) text rest (s, refl) (subst NoString (append-nil rest) (no_string_closing 1 [] (lit< tt)))) in
     let t = run_exact.takes (text ++ rest) ((n, text), rest) bytes read in

@@ -1,10 +1,12 @@
 -- Going over octet strings up to the end of some octets.
-use Rattle.std.proofs.Common.{◌≡◌, ℕ, zero, suc, ◌+◌, ◌<◌, ◌≤◌, [], ◌∷◌, length, Some, None, refl, sym, ap, subst, ◌∙◌, zero-add, add-zero, arith}
+use Rattle.std.proofs.Common.{◌≡◌, ℕ, zero, suc, ◌+◌, ◌<◌, ◌≤◌, [], ◌∷◌, length, Ok, Err, refl, sym, ap, subst, ◌∙◌, zero-add, add-zero, arith}
+use Rattle.bac_value.proofs.Steps.{ok_is}
 use Rattle.bac_value.specs.Octets.{IsBytes}
 use Rattle.bac_service.specs.Members.{Octets, Tagged, ApplicationString, AreStrings, IsCount}
 use Rattle.bac_value.specs.declared.tag.Class.TheVariants.{Application}
+use Rattle.bac_service.specs.declared.stop.Stop.{Stop}
 use Rattle.bac_service.specs.Reading.{application_string}
-use Rattle.bac_service.proofs.Exact.{left_fits, some_is}
+use Rattle.bac_service.proofs.Exact.{left_fits}
 use Rattle.bac_service.proofs.Accesses.{string_exact, strings_len}
 
 -- so many strings were passed, and the rest is left
@@ -24,13 +26,13 @@ begins run fits = record {
 
 -- what stands before the rest of at least one string
 string_front : (k : ℕ) (rest : Octets) → 0 < length rest → AreStrings k rest → (j : ℕ) × (back : Octets) × (contents : Octets) × (k ≡ suc j)
-    × (application_string rest ≡ Some (contents, back)) × AreStrings j back
+    × (application_string rest ≡ Ok (contents, back)) × AreStrings j back
 string_front zero rest some s = absurd (omega (arith, ap length s))
 string_front (suc j) rest some s =
     let string : ApplicationString s.first.contents s.front = record { contents = s.first.contents; are = refl; fits = s.first.fits; is = s.first.is } in
     (j, s.back, s.first.contents, refl, ap application_string s.is ∙ string_exact.again s.first.contents s.front s.back string tt, s.second)
 
-pub passes : (run rest contents next : Octets) (count : ℕ) → IsPassed run count rest → application_string rest ≡ Some (contents, next)
+pub passes : (run rest contents next : Octets) (count : ℕ) → IsPassed run count rest → application_string rest ≡ Ok (contents, next)
     → length next < length rest → IsPassed run (count + 1) next
 passes run rest contents next count p e lt =
     let t = string_exact.takes rest (contents, next) p.bytes e in
@@ -45,7 +47,7 @@ passes run rest contents next count p e lt =
       backward = λ m s.
           let b = p.backward m s in
           let f = string_front b.0 rest (omega arith) b.2 in
-          let back : f.1 ≡ next = ap (λ (x : Octets × Octets). x.1) (some_is (f.2, f.1) (contents, next) (sym f.4 ∙ e)) in
+          let back : f.1 ≡ next = ap (λ (x : Octets × Octets). x.1) (ok_is (f.2, f.1) (contents, next) (sym f.4 ∙ e)) in
           (f.0, omega (arith, b.1, f.3), subst (AreStrings f.0) back f.5);
     }
 
@@ -56,8 +58,9 @@ ends run [] count p none = record {
 }
 ends run (x ∷ rest) count p none = absurd (omega arith)
 
-pub fails : (run rest : Octets) (count : ℕ) → IsPassed run count rest → 0 < length rest → application_string rest ≡ None → (m : ℕ) → AreStrings m run → ⊥
-fails run rest count p some e m s =
+pub fails : (run rest : Octets) (count : ℕ) (d : Stop) → IsPassed run count rest → 0 < length rest → application_string rest ≡ Err d → (m : ℕ)
+    → AreStrings m run → ⊥
+fails run rest count d p some e m s =
     let b = p.backward m s in
     let f = string_front b.0 rest some b.2 in
     let found = f.4 in

@@ -1,5 +1,5 @@
 -- Worked examples of the definitions, by computing.
-use Rattle.std.proofs.Common.{◌≡◌, ℕ, ◌<◌, zero, suc, [], ◌∷◌, ◌++◌, Option, Some, None, true, refl, subst, arith, pos, replicate}
+use Rattle.std.proofs.Common.{◌≡◌, ℕ, ◌<◌, zero, suc, [], ◌∷◌, ◌++◌, Option, Some, None, Err, true, refl, subst, arith, pos, replicate}
 use Rattle.bac_value.specs.declared.tag.Class.TheVariants.{Application}
 use Rattle.bac_value.specs.declared.tag.Form.TheVariants.{Length}
 use Rattle.bac_value.specs.Data.{Forest, none, leaf, pair, spelling, IsWithin, IsData}
@@ -10,9 +10,9 @@ use Rattle.bac_value.specs.Value.{ObjectId, real}
 use Rattle.bac_value.specs.Reading.{tag_at, tag_number_at, form_at, length_at, raw_at, kind_at, class_at, contents_at, element_at}
 use Rattle.bac_value.specs.Reading.{number_at, signed_at, object_at, turn, step_at, data_at}
 use Rattle.bac_service.specs.Members.{Octets, Tagged, AreStrings}
-use Rattle.bac_service.specs.Reading.{announced, head_at, member_at, is_next, optional_at, is_opened, tag_that, enclosed_at, values_at, that_at}
+use Rattle.bac_service.specs.Reading.{announced, next_tag, head_at, member_at, is_next, optional_at, is_opened, tag_that, enclosed_at, values_at, that_at}
 use Rattle.bac_service.specs.Reading.{reference_at, priority_at, write_property_at, read_access_at, strings_at, run_at, counted_at, write_access_at}
-use Rattle.bac_service.specs.Reading.{request_at}
+use Rattle.bac_service.specs.Services.{request_at}
 use Rattle.bac_service.specs.Values.{Reference, Request, Complex, choice_of, complex_choice_of}
 use Rattle.bac_service.specs.Values.ReadAccess.{ReadStream, ReadRecords}
 use Rattle.bac_service.specs.Values.WriteAccess.{WriteStream, WriteRecords}
@@ -20,7 +20,7 @@ use Rattle.bac_service.specs.Values.Request.{ReadFile, WriteFile, ReadProperty, 
 use Rattle.bac_service.specs.Values.Complex.{FileRead, StreamWritten, RecordsWritten, PropertyRead}
 use Rattle.bac_service.specs.Requests.{SpellsRequest}
 use Rattle.bac_service.specs.Replies.{SpellsComplex}
-use Rattle.bac_service.specs.Spellings.{request_spelling, answer_spelling, IsReference, IsFile, IsRequest, IsAnswer}
+use Rattle.bac_service.specs.Spellings.{request_spelling, complex_spelling, IsReference, IsFile, IsRequest, IsComplex}
 use Rattle.bac_service.proofs.Spelled.{request_spelled, complex_spelled}
 use Rattle.bac_service.proofs.Wholes.{request_again}
 
@@ -28,19 +28,19 @@ use Rattle.bac_service.proofs.Wholes.{request_again}
 spelled : (r : Request) (bytes : Octets) → IsRequest r → request_spelling r ≡ bytes → SpellsRequest (choice_of r) r bytes
 spelled r bytes is same = subst (SpellsRequest (choice_of r) r) same (request_spelled r is)
 
-answered : (c : Complex) (bytes : Octets) → IsAnswer c → answer_spelling c ≡ bytes → SpellsComplex (complex_choice_of c) c bytes
-answered c bytes is same = subst (SpellsComplex (complex_choice_of c) c) same (complex_spelled c is)
+spelled_complex : (c : Complex) (bytes : Octets) → IsComplex c → complex_spelling c ≡ bytes → SpellsComplex (complex_choice_of c) c bytes
+spelled_complex c bytes is same = subst (SpellsComplex (complex_choice_of c) c) same (complex_spelled c is)
 
-abbrev IsRefused : ℕ → Octets → Type 0
-IsRefused choice bytes = (r : Request) → SpellsRequest choice r bytes → ⊥
+-- the octets are rejected for that reason (clause 18.9), and are no request
+record Refuses (choice : ℕ) (bytes : Octets) (reason : ℕ) : Type 0 where
+  reads : request_at choice bytes ≡ Err reason
+  none : (r : Request) → SpellsRequest choice r bytes → ⊥
 
 -- octets that are not read are no request
-refused : (choice : ℕ) (bytes : Octets) → request_at choice bytes ≡ None → IsRefused choice bytes
-refused choice bytes none_read r s =
-    let read = request_again choice bytes r s in
-    absurd cc
+refused : (choice : ℕ) (bytes : Octets) (reason : ℕ) → request_at choice bytes ≡ Err reason → Refuses choice bytes reason
+refused choice bytes reason e = record { reads = e; none = λ r s. let read = request_again choice bytes r s in absurd cc }
 
--- ---- what the requests and answers below are of
+-- ---- what the requests and the service data below are of
 
 abbrev object : ℕ → ℕ → ObjectId
 object kind instance = record { kind = kind; instance = instance }
@@ -153,45 +153,45 @@ eight_pairs = spelled _ _ (is_value_1, eight_pairs_are_data, tt) refl
 -- two records counted where one is there; an index of five octets; no property; a member of another service; an object of three octets;
 -- a value cut short; unbalanced data; priority 0; another service
 refused_requests :
-    IsRefused 7 (0xC4 ∷ 0x02 ∷ 0x80 ∷ 0x00 ∷ 0x01 ∷ 0x1E ∷ 0x31 ∷ 0x00 ∷ 0x21 ∷ 0x02 ∷ 0x62 ∷ 0xAB ∷ 0xCD ∷ 0x1F ∷ [])
-    × IsRefused 12 (0x0C ∷ 0x00 ∷ 0x00 ∷ 0x00 ∷ 0x05 ∷ 0x19 ∷ 0x55 ∷ 0x2D ∷ 0x05 ∷ 0x01 ∷ 0x00 ∷ 0x00 ∷ 0x00 ∷ 0x00 ∷ [])
-    × IsRefused 12 (0x0C ∷ 0x00 ∷ 0x00 ∷ 0x00 ∷ 0x05 ∷ 0x29 ∷ 0x55 ∷ [])
-    × IsRefused 12 (0x0C ∷ 0x00 ∷ 0x00 ∷ 0x00 ∷ 0x05 ∷ 0x19 ∷ 0x55 ∷ 0x39 ∷ 0x00 ∷ [])
-    × IsRefused 12 (0x0B ∷ 0x00 ∷ 0x00 ∷ 0x05 ∷ 0x19 ∷ 0x55 ∷ [])
-    × IsRefused 15 (0x0C ∷ 0x00 ∷ 0x80 ∷ 0x00 ∷ 0x01 ∷ 0x19 ∷ 0x55 ∷ 0x3E ∷ 0x44 ∷ 0x43 ∷ 0x34 ∷ 0x00 ∷ [])
-    × IsRefused 15 (0x0C ∷ 0x00 ∷ 0x80 ∷ 0x00 ∷ 0x01 ∷ 0x19 ∷ 0x55 ∷ 0x3E ∷ 0x2E ∷ 0x3F ∷ 0x3F ∷ [])
-    × IsRefused 15 (0x0C ∷ 0x00 ∷ 0x80 ∷ 0x00 ∷ 0x01 ∷ 0x19 ∷ 0x55 ∷ 0x3E ∷ 0x44 ∷ 0x43 ∷ 0x34 ∷ 0x00 ∷ 0x00 ∷ 0x3F ∷ 0x49 ∷ 0x00 ∷ [])
-    × IsRefused 9 (0x0C ∷ 0x00 ∷ 0x00 ∷ 0x00 ∷ 0x05 ∷ 0x19 ∷ 0x55 ∷ [])
+    Refuses 7 (0xC4 ∷ 0x02 ∷ 0x80 ∷ 0x00 ∷ 0x01 ∷ 0x1E ∷ 0x31 ∷ 0x00 ∷ 0x21 ∷ 0x02 ∷ 0x62 ∷ 0xAB ∷ 0xCD ∷ 0x1F ∷ []) 2
+    × Refuses 12 (0x0C ∷ 0x00 ∷ 0x00 ∷ 0x00 ∷ 0x05 ∷ 0x19 ∷ 0x55 ∷ 0x2D ∷ 0x05 ∷ 0x01 ∷ 0x00 ∷ 0x00 ∷ 0x00 ∷ 0x00 ∷ []) 3
+    × Refuses 12 (0x0C ∷ 0x00 ∷ 0x00 ∷ 0x00 ∷ 0x05 ∷ 0x29 ∷ 0x55 ∷ []) 4
+    × Refuses 12 (0x0C ∷ 0x00 ∷ 0x00 ∷ 0x00 ∷ 0x05 ∷ 0x19 ∷ 0x55 ∷ 0x39 ∷ 0x00 ∷ []) 7
+    × Refuses 12 (0x0B ∷ 0x00 ∷ 0x00 ∷ 0x05 ∷ 0x19 ∷ 0x55 ∷ []) 3
+    × Refuses 15 (0x0C ∷ 0x00 ∷ 0x80 ∷ 0x00 ∷ 0x01 ∷ 0x19 ∷ 0x55 ∷ 0x3E ∷ 0x44 ∷ 0x43 ∷ 0x34 ∷ 0x00 ∷ []) 5
+    × Refuses 15 (0x0C ∷ 0x00 ∷ 0x80 ∷ 0x00 ∷ 0x01 ∷ 0x19 ∷ 0x55 ∷ 0x3E ∷ 0x2E ∷ 0x3F ∷ 0x3F ∷ []) 4
+    × Refuses 15 (0x0C ∷ 0x00 ∷ 0x80 ∷ 0x00 ∷ 0x01 ∷ 0x19 ∷ 0x55 ∷ 0x3E ∷ 0x44 ∷ 0x43 ∷ 0x34 ∷ 0x00 ∷ 0x00 ∷ 0x3F ∷ 0x49 ∷ 0x00 ∷ []) 6
+    × Refuses 9 (0x0C ∷ 0x00 ∷ 0x00 ∷ 0x00 ∷ 0x05 ∷ 0x19 ∷ 0x55 ∷ []) 9
 unfolding tag_at tag_number_at form_at length_at raw_at kind_at class_at contents_at element_at number_at signed_at object_at turn step_at data_at
-    announced head_at member_at is_next optional_at is_opened tag_that enclosed_at values_at that_at reference_at priority_at write_property_at
+    announced next_tag head_at member_at is_next optional_at is_opened tag_that enclosed_at values_at that_at reference_at priority_at write_property_at
     read_access_at strings_at run_at counted_at write_access_at request_at
 refused_requests = (
-  refused _ _ refl,
-  refused _ _ refl,
-  refused _ _ refl,
-  refused _ _ refl,
-  refused _ _ refl,
-  refused _ _ refl,
-  refused _ _ refl,
-  refused _ _ refl,
-  refused _ _ refl,
+  refused _ _ _ refl,
+  refused _ _ _ refl,
+  refused _ _ _ refl,
+  refused _ _ _ refl,
+  refused _ _ _ refl,
+  refused _ _ _ refl,
+  refused _ _ _ refl,
+  refused _ _ _ refl,
+  refused _ _ _ refl,
 )
 
--- ---- answers
+-- ---- service data of ComplexACKs
 
 end_of_a_file : SpellsComplex 6 (FileRead true (pos 0) (0x4F ∷ 0x4B ∷ [])) (0x11 ∷ 0x0E ∷ 0x31 ∷ 0x00 ∷ 0x62 ∷ 0x4F ∷ 0x4B ∷ 0x0F ∷ [])
 unfolding tag_spelling unsigned_octets signed_octets
-end_of_a_file = answered _ _ (omega arith, omega arith) refl
+end_of_a_file = spelled_complex _ _ (omega arith, omega arith) refl
 
 written_at_position_2 : SpellsComplex 7 (StreamWritten (pos 2)) (0x09 ∷ 0x02 ∷ [])
 unfolding tag_spelling unsigned_octets signed_octets
-written_at_position_2 = answered _ _ (omega arith) refl
+written_at_position_2 = spelled_complex _ _ (omega arith) refl
 
 written_at_record_2 : SpellsComplex 7 (RecordsWritten (pos 2)) (0x19 ∷ 0x02 ∷ [])
 unfolding tag_spelling unsigned_octets signed_octets
-written_at_record_2 = answered _ _ (omega arith) refl
+written_at_record_2 = spelled_complex _ _ (omega arith) refl
 
 value_of_input_5 : SpellsComplex 12 (PropertyRead (input_5 None) a_real)
     (0x0C ∷ 0x00 ∷ 0x00 ∷ 0x00 ∷ 0x05 ∷ 0x19 ∷ 0x55 ∷ 0x3E ∷ 0x44 ∷ 0x43 ∷ 0x34 ∷ 0x00 ∷ 0x00 ∷ 0x3F ∷ [])
 unfolding tag_spelling unsigned_octets signed_octets
-value_of_input_5 = answered _ _ (is_input_5, real_is_data) refl
+value_of_input_5 = spelled_complex _ _ (is_input_5, real_is_data) refl

@@ -1,7 +1,8 @@
--- The laws of members: a tag of a class and number, with contents behind it.
-use Rattle.std.proofs.Common.{◌≡◌, ℕ, ◌<◌, ◌^◌, Bool, true, false, cond, nat_eq, ◌++◌, length, Some, None, Result, Ok, Err, IsTrue, refl, sym, ap, subst, ◌∙◌}
+-- The laws of members: a tag of a class and number, with contents after it.
+use Rattle.std.proofs.Common.{◌≡◌, ℕ, ◌<◌, ◌^◌, Bool, true, false, cond, nat_eq, ◌++◌, length, [], ◌∷◌, Option, Some, None, Result, Ok, Err, IsTrue, refl, sym, ap, subst, ◌∙◌}
 use Rattle.std.proofs.Common.{append_assoc}
 use Rattle.std.proofs.lemmas.Bool.{eqb-true, eq-eqb}
+use Rattle.bac_value.proofs.Steps.{bind_ok, ok_is}
 use Rattle.bac_value.specs.declared.fault.FaultKind.{FaultKind}
 use Rattle.bac_value.specs.declared.tag.Class.{Class}
 use Rattle.bac_value.specs.declared.tag.Class.TheVariants.{Application, Context}
@@ -13,12 +14,32 @@ use Rattle.bac_value.specs.Spelling.{Mark, tag_spelling, SpellsTag}
 use Rattle.bac_value.specs.Reading.{tag_at}
 use Rattle.bac_value.proofs.Tags.{tag_exact}
 use Rattle.bac_service.specs.Members.{Octets, mark_of, Tagged}
-use Rattle.bac_service.specs.Reading.{◌>>=◌, kept, length_of, announced, head_at, member_at}
-use Rattle.bac_service.proofs.Exact.{IsExact, Anything, bind_some, some_is, bytes_behind}
+use Rattle.bac_service.specs.Stops.{told_at}
+use Rattle.bac_value.specs.Steps.{◌>>=◌}
+use Rattle.bac_service.specs.Reading.{length_of, announced, next_tag, expected, head_at, member_at}
+use Rattle.bac_service.proofs.Exact.{IsExact, Anything, bytes_behind}
 
-pub kept_some : {A E : Type 0} (r : Result A E) (x : A) → kept r ≡ Some x → r ≡ Ok x
-kept_some (Ok y) x e = ap Ok (some_is y x e)
-kept_some (Err d) x e = absurd cc
+pub told_ok : {A : Type 0} (bytes : Octets) (r : Result A FaultKind) (x : A) → told_at bytes r ≡ Ok x → r ≡ Ok x
+told_ok bytes (Ok y) x e = ap Ok (ok_is y x e)
+told_ok bytes (Err d) x e = absurd cc
+
+-- the next tag is the tag in front
+pub next_tag_ok : (bytes : Octets) (t : Mark × Octets) → next_tag bytes ≡ Ok t → tag_at bytes ≡ Ok t
+unfolding next_tag
+next_tag_ok [] t e = absurd cc
+next_tag_ok (b ∷ bytes) t e = told_ok (b ∷ bytes) (tag_at (b ∷ bytes)) t e
+
+pub next_tag_again : (bytes : Octets) (t : Mark × Octets) → tag_at bytes ≡ Ok t → next_tag bytes ≡ Ok t
+unfolding next_tag tag_at
+next_tag_again [] t e = absurd cc
+next_tag_again (b ∷ bytes) t e = ap (told_at (b ∷ bytes)) e
+
+pub some_is : {A : Type 0} (x y : A) → Some x ≡ Some y → x ≡ y
+some_is x y e = cc
+
+pub expected_ok : {A : Type 0} (bytes : Octets) (o : Option A) (x : A) → expected bytes o ≡ Ok x → o ≡ Some x
+expected_ok bytes (Some y) x e = ap Some (ok_is y x e)
+expected_ok bytes None x e = absurd cc
 
 abbrev of : ℕ → Class → Form → Mark
 of n c f = record { number = n; class = c; form = f }
@@ -55,32 +76,34 @@ pub announced_other : (number n k : ℕ) → nat_eq number n ≡ false → annou
 unfolding announced
 announced_other number n k t = rw t refl
 
--- a tag was taken, with so many octets of contents behind it
+-- a tag was taken, with so many octets of contents after it
 pub record TookHead (class : Class) (number : ℕ) (bytes : Octets) (k : ℕ) (rest : Octets) : Type 0 where
   pub is : bytes ≡ tag_spelling (mark_of class number k) ++ rest
   pub spelled : SpellsTag (mark_of class number k) (tag_spelling (mark_of class number k))
 
-pub head_takes : (class : Class) (number : ℕ) (bytes : Octets) (x : ℕ × Octets) → IsBytes bytes → head_at class number bytes ≡ Some x
+pub head_takes : (class : Class) (number : ℕ) (bytes : Octets) (x : ℕ × Octets) → IsBytes bytes → head_at class number bytes ≡ Ok x
     → TookHead class number bytes x.0 x.1
 unfolding head_at
 head_takes class number bytes x fits e =
-    let t = bind_some (kept (tag_at bytes)) (λ t. announced class number t.0 >>= λ k. Some (k, t.1)) x e in
-    let k = bind_some (announced class number t.0.0) (λ k. Some (k, t.0.1)) x t.2 in
-    let took = tag_exact.takes bytes t.0 fits (kept_some (tag_at bytes) t.0 t.1) in
-    let m = announced_is class number t.0.0 k.0 k.1 in
+    let t = bind_ok (next_tag bytes) (λ t. expected bytes (announced class number t.0) >>= λ k. Ok (k, t.1)) x e in
+    let k = bind_ok (expected bytes (announced class number t.0.0)) (λ k. Ok (k, t.0.1)) x t.2 in
+    let took = tag_exact.takes bytes t.0 fits (next_tag_ok bytes t.0 t.1) in
+    let m = announced_is class number t.0.0 k.0 (expected_ok bytes (announced class number t.0.0) k.0 k.1) in
     let spelled : SpellsTag (mark_of class number k.0) took.0 = subst (λ (m : Mark). SpellsTag m took.0) m took.2 in
     let whole_is : bytes ≡ tag_spelling (mark_of class number k.0) ++ t.0.1 = took.1 ∙ ap (λ (s : Octets). s ++ t.0.1) spelled.is in
     let alone : SpellsTag (mark_of class number k.0) (tag_spelling (mark_of class number k.0)) =
     record { fits = spelled.fits; length_in = spelled.length_in; is = refl } in
     let made : TookHead class number bytes k.0 t.0.1 = record { is = whole_is; spelled = alone } in
-    subst (λ (y : ℕ × Octets). TookHead class number bytes y.0 y.1) (some_is (k.0, t.0.1) x k.2) made
+    subst (λ (y : ℕ × Octets). TookHead class number bytes y.0 y.1) (ok_is (k.0, t.0.1) x k.2) made
 
 pub head_again : (class : Class) (number k : ℕ) (rest : Octets) → IsTrue (tag_fits number class (Length k)) → k < 2 ^ 32
-    → head_at class number (tag_spelling (mark_of class number k) ++ rest) ≡ Some (k, rest)
+    → head_at class number (tag_spelling (mark_of class number k) ++ rest) ≡ Ok (k, rest)
 unfolding head_at
 head_again class number k rest fits short =
     let s : SpellsTag (mark_of class number k) (tag_spelling (mark_of class number k)) = record { fits = fits; length_in = short; is = refl } in
-    rw (tag_exact.again (mark_of class number k) (tag_spelling (mark_of class number k)) rest s, announced_again class number k) refl
+    let bytes = tag_spelling (mark_of class number k) ++ rest in
+    let next = next_tag_again bytes (mark_of class number k, rest) (tag_exact.again (mark_of class number k) (tag_spelling (mark_of class number k)) rest s) in
+    rw (next, announced_again class number k) refl
 
 -- contents that are read with their length
 pub record IsContentsLaw {A : Type 0} (read : ℕ → Octets → Result (A × Octets) FaultKind) (Is : A → Octets → Type 0) : Type 0 where
@@ -88,7 +111,7 @@ pub record IsContentsLaw {A : Type 0} (read : ℕ → Octets → Result (A × Oc
       × Is x.0 text
   pub again : (y : A) (text rest : Octets) → Is y text → read (length text) (text ++ rest) ≡ Ok (y, rest)
 
--- each length of contents may stand behind a tag of this class and number
+-- each length of contents may stand after a tag of this class and number
 abbrev pub Tags : Class → ℕ → Type 0
 Tags class number = (k : ℕ) → IsTrue (tag_fits number class (Length k))
 
@@ -98,10 +121,10 @@ pub member_exact : {A : Type 0} → (class : Class) (number : ℕ) (read : ℕ �
 unfolding member_at
 member_exact {A = A} class number read Is fit law = record {
   takes = λ bytes x fits e.
-      let h = bind_some (head_at class number bytes) (λ h. kept (read h.0 h.1)) x e in
+      let h = bind_ok (head_at class number bytes) (λ h. told_at bytes (read h.0 h.1)) x e in
       let took = head_takes class number bytes h.0 fits h.1 in
       let c = law.takes h.0.0 h.0.1 x (bytes_behind (tag_spelling (mark_of class number h.0.0)) h.0.1 (subst IsBytes took.is fits))
-      (kept_some (read h.0.0 h.0.1) x h.2) in
+      (told_ok bytes (read h.0.0 h.0.1) x h.2) in
       let head = tag_spelling (mark_of class number h.0.0) in
       let is : bytes ≡ (head ++ c.0) ++ x.1 = took.is ∙ ap (λ (r : Octets). head ++ r) c.1 ∙ sym (append_assoc head c.0 x.1) in
       let short : length c.0 < 2 ^ 32 = subst (λ (k : ℕ). k < 2 ^ 32) (sym c.2) took.spelled.length_in in

@@ -17,10 +17,10 @@ use Rattle.bac_service.specs.Values.ReadAccess.{ReadStream, ReadRecords}
 use Rattle.bac_service.specs.Values.WriteAccess.{WriteStream, WriteRecords}
 use Rattle.bac_service.specs.Values.Request.{ReadFile, WriteFile, ReadProperty, WriteProperty}
 use Rattle.bac_service.specs.Values.Complex.{FileRead, StreamWritten, RecordsWritten, PropertyRead}
-use Rattle.bac_service.specs.Spellings.{index_spelling, reference_spelling, enclosed_spelling, content_spelling, answer_spelling, extent_spelling}
+use Rattle.bac_service.specs.Spellings.{index_spelling, reference_spelling, enclosed_spelling, content_spelling, complex_spelling, extent_spelling}
 use Rattle.bac_service.specs.Spellings.{read_access_spelling, records_spelling, write_access_spelling, priority_spelling, request_spelling}
 use Rattle.bac_service.specs.Lengths.{member_length, unsigned_length, signed_length, OBJECT_LENGTH, index_length, reference_length, enclosed_length}
-use Rattle.bac_service.specs.Lengths.{content_length, extent_length, read_access_length, write_access_length, priority_length, request_length, answer_length}
+use Rattle.bac_service.specs.Lengths.{content_length, extent_length, read_access_length, write_access_length, priority_length, request_length, complex_length}
 
 length-tag : (class : Class) (number k : ℕ) → number < 15 → length (tag_spelling (length_mark class number k)) ≡ 1 + length (length_octets k)
 unfolding tag_spelling
@@ -119,12 +119,12 @@ length_request (WriteProperty r values priority) =
     let all = length-append (reference_spelling r) (enclosed_spelling 3 values ++ priority_spelling priority) in
     omega (arith, all, behind, front, pair, back)
 
-pub length_answer : (c : Complex) → length (answer_spelling c) ≡ answer_length c
+pub length_complex : (c : Complex) → length (complex_spelling c) ≡ complex_length c
 unfolding tag_spelling
-length_answer (FileRead end_of_file start octets) = let content = length-content start octets in omega (arith, content)
-length_answer (StreamWritten start) = length-integer Context 0 start (lit< tt)
-length_answer (RecordsWritten start) = length-integer Context 1 start (lit< tt)
-length_answer (PropertyRead r values) =
+length_complex (FileRead end_of_file start octets) = let content = length-content start octets in omega (arith, content)
+length_complex (StreamWritten start) = length-integer Context 0 start (lit< tt)
+length_complex (RecordsWritten start) = length-integer Context 1 start (lit< tt)
+length_complex (PropertyRead r values) =
     let front = length-reference r in
     let pair = length-pair 3 values (lit< tt) in
     let all = length-append (reference_spelling r) (enclosed_spelling 3 values) in

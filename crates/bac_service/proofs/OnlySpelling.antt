@@ -1,5 +1,6 @@
--- No request and no answer has two spellings, and no service data of one service are two of them.
+-- No request and no service data of a ComplexACK have two spellings, and no octets are two of them.
 use Rattle.std.proofs.Common.{◌≡◌, ℕ, ℤ, ◌++◌, length, Option, Some, None, sym, ap, ◌∙◌}
+use Rattle.bac_value.proofs.Steps.{ok_is}
 use Rattle.bac_value.specs.declared.tag.Class.{Class}
 use Rattle.bac_value.specs.declared.tag.Class.TheVariants.{Application, Context}
 use Rattle.bac_value.specs.Spelling.{tag_spelling}
@@ -14,8 +15,7 @@ use Rattle.bac_service.specs.Values.WriteAccess.{WriteStream, WriteRecords}
 use Rattle.bac_service.specs.Values.Request.{ReadFile, WriteFile, ReadProperty, WriteProperty}
 use Rattle.bac_service.specs.Values.Complex.{FileRead, StreamWritten, RecordsWritten, PropertyRead}
 use Rattle.bac_service.specs.Requests.{SpellsReference, AreRecords, SpellsReadAccess, SpellsWriteAccess, SpellsMembers, SpellsRequest}
-use Rattle.bac_service.specs.Replies.{SpellsAnswer, SpellsComplex}
-use Rattle.bac_service.proofs.Exact.{some_is}
+use Rattle.bac_service.specs.Replies.{SpellsComplexMembers, SpellsComplex}
 use Rattle.bac_service.proofs.Wholes.{request_again, complex_again}
 
 -- only one list of octets is so
@@ -116,22 +116,22 @@ members_only (WriteProperty r values priority) =
     let rest = after_only (Enclosed 3 (AreData values)) (Optional (λ (p : ℕ). Tagged Context 4 (IsPriority p)) priority) (values_only values) last in
     after_only (SpellsReference r) (Enclosed 3 (AreData values) ⨾ Optional (λ (p : ℕ). Tagged Context 4 (IsPriority p)) priority) (reference_only r) rest
 
-answer_only : (c : Complex) → IsOnly (SpellsAnswer c)
-answer_only (FileRead end_of_file start octets) =
+complex_only : (c : Complex) → IsOnly (SpellsComplexMembers c)
+complex_only (FileRead end_of_file start octets) =
     after_only (ApplicationBoolean end_of_file) (Enclosed 0 (ApplicationSigned start ⨾ ApplicationString octets)) (λ a b s t. s ∙ sym t)
     (content_only start octets)
-answer_only (StreamWritten start) = tagged_only Context 0 (IsInteger 8 start) (integer_only 8 start)
-answer_only (RecordsWritten start) = tagged_only Context 1 (IsInteger 8 start) (integer_only 8 start)
-answer_only (PropertyRead r values) = after_only (SpellsReference r) (Enclosed 3 (AreData values)) (reference_only r) (values_only values)
+complex_only (StreamWritten start) = tagged_only Context 0 (IsInteger 8 start) (integer_only 8 start)
+complex_only (RecordsWritten start) = tagged_only Context 1 (IsInteger 8 start) (integer_only 8 start)
+complex_only (PropertyRead r values) = after_only (SpellsReference r) (Enclosed 3 (AreData values)) (reference_only r) (values_only values)
 
 pub one_spelling : (choice : ℕ) (r : Request) (a b : Octets) → SpellsRequest choice r a → SpellsRequest choice r b → a ≡ b
 one_spelling choice r a b s t = members_only r a b s.members t.members
 
 pub one_request : (choice : ℕ) (q r : Request) (bytes : Octets) → SpellsRequest choice q bytes → SpellsRequest choice r bytes → q ≡ r
-one_request choice q r bytes s t = some_is q r (sym (request_again choice bytes q s) ∙ request_again choice bytes r t)
+one_request choice q r bytes s t = ok_is q r (sym (request_again choice bytes q s) ∙ request_again choice bytes r t)
 
-pub one_answer_spelling : (choice : ℕ) (c : Complex) (a b : Octets) → SpellsComplex choice c a → SpellsComplex choice c b → a ≡ b
-one_answer_spelling choice c a b s t = answer_only c a b s.members t.members
+pub one_complex_spelling : (choice : ℕ) (c : Complex) (a b : Octets) → SpellsComplex choice c a → SpellsComplex choice c b → a ≡ b
+one_complex_spelling choice c a b s t = complex_only c a b s.members t.members
 
-pub one_answer : (choice : ℕ) (c d : Complex) (bytes : Octets) → SpellsComplex choice c bytes → SpellsComplex choice d bytes → c ≡ d
-one_answer choice c d bytes s t = some_is c d (sym (complex_again choice bytes c s) ∙ complex_again choice bytes d t)
+pub one_complex : (choice : ℕ) (c d : Complex) (bytes : Octets) → SpellsComplex choice c bytes → SpellsComplex choice d bytes → c ≡ d
+one_complex choice c d bytes s t = ok_is c d (sym (complex_again choice bytes c s) ∙ complex_again choice bytes d t)

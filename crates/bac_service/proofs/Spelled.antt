@@ -21,8 +21,8 @@ use Rattle.bac_service.specs.Values.WriteAccess.{WriteStream, WriteRecords}
 use Rattle.bac_service.specs.Values.Request.{ReadFile, WriteFile, ReadProperty, WriteProperty}
 use Rattle.bac_service.specs.Values.Complex.{FileRead, StreamWritten, RecordsWritten, PropertyRead}
 use Rattle.bac_service.specs.Requests.{SpellsReference, SpellsReadAccess, SpellsWriteAccess, SpellsMembers, SpellsRequest, AreRecords}
-use Rattle.bac_service.specs.Replies.{SpellsAnswer, SpellsComplex}
-use Rattle.bac_service.specs.Spellings.{index_spelling, reference_spelling, enclosed_spelling, answer_spelling, IsIndex, IsReference, IsAnswer}
+use Rattle.bac_service.specs.Replies.{SpellsComplexMembers, SpellsComplex}
+use Rattle.bac_service.specs.Spellings.{index_spelling, reference_spelling, enclosed_spelling, complex_spelling, IsIndex, IsReference, IsComplex}
 use Rattle.bac_service.specs.Spellings.{extent_spelling, read_access_spelling, records_spelling, write_access_spelling, priority_spelling, request_spelling}
 use Rattle.bac_service.specs.Spellings.{IsFile, IsExtent, IsReadAccess, IsWriteAccess, IsUrgency, IsRequest}
 
@@ -92,8 +92,8 @@ content_spelled start octets lt short =
     } in
     record { inside = primitive Application 3 (signed_octets start) ++ primitive Application 6 octets; are = both; is = refl }
 
-pub answer_spelled : (c : Complex) → IsAnswer c → SpellsAnswer c (answer_spelling c)
-answer_spelled (FileRead end_of_file start octets) h =
+pub complex_members_spelled : (c : Complex) → IsComplex c → SpellsComplexMembers c (complex_spelling c)
+complex_members_spelled (FileRead end_of_file start octets) h =
     record {
       front = _;
       back = enclosed_spelling 0 (primitive Application 3 (signed_octets start) ++ primitive Application 6 octets);
@@ -101,13 +101,13 @@ answer_spelled (FileRead end_of_file start octets) h =
       second = content_spelled start octets h.0 h.1;
       is = refl;
     }
-answer_spelled (StreamWritten start) h = signed_tagged Context 0 start h
-answer_spelled (RecordsWritten start) h = signed_tagged Context 1 start h
-answer_spelled (PropertyRead r values) h =
+complex_members_spelled (StreamWritten start) h = signed_tagged Context 0 start h
+complex_members_spelled (RecordsWritten start) h = signed_tagged Context 1 start h
+complex_members_spelled (PropertyRead r values) h =
     record { front = reference_spelling r; back = enclosed_spelling 3 values; first = reference_spelled r h.0; second = enclosed_data values h.1; is = refl }
 
-pub complex_spelled : (c : Complex) → IsAnswer c → SpellsComplex (complex_choice_of c) c (answer_spelling c)
-complex_spelled c h = record { choice_is = refl; members = answer_spelled c h }
+pub complex_spelled : (c : Complex) → IsComplex c → SpellsComplex (complex_choice_of c) c (complex_spelling c)
+complex_spelled c h = record { choice_is = refl; members = complex_members_spelled c h }
 
 -- ---- requests
 

@@ -8,7 +8,7 @@ use Rattle.bac_service.specs.Values.WriteAccess.{WriteStream, WriteRecords}
 use Rattle.bac_service.specs.Values.Request.{ReadFile, WriteFile, ReadProperty, WriteProperty}
 use Rattle.bac_service.specs.Values.Complex.{FileRead, StreamWritten, RecordsWritten, PropertyRead}
 
--- so many octets of contents behind a tag whose number stands in its first octet
+-- so many octets of contents after a tag whose number stands in its first octet
 abbrev pub member_length : ℕ → ℕ
 member_length k = 1 + length (length_octets k) + k
 
@@ -57,8 +57,8 @@ request_length (WriteFile file access) = OBJECT_LENGTH + write_access_length acc
 request_length (ReadProperty r) = reference_length r
 request_length (WriteProperty r values priority) = reference_length r + enclosed_length (length values) + priority_length priority
 
-abbrev pub answer_length : Complex → ℕ
-answer_length (FileRead end_of_file start octets) = 1 + content_length start (length octets)
-answer_length (StreamWritten start) = signed_length start
-answer_length (RecordsWritten start) = signed_length start
-answer_length (PropertyRead r values) = reference_length r + enclosed_length (length values)
+abbrev pub complex_length : Complex → ℕ
+complex_length (FileRead end_of_file start octets) = 1 + content_length start (length octets)
+complex_length (StreamWritten start) = signed_length start
+complex_length (RecordsWritten start) = signed_length start
+complex_length (PropertyRead r values) = reference_length r + enclosed_length (length values)

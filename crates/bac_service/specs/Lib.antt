@@ -1,3 +1,4 @@
+pub mod Choices
 pub mod Values
 pub mod Members
 pub mod Requests
@@ -8,3 +9,4 @@ pub mod Services
 pub mod Spellings
 pub mod Lengths
 pub mod Refusals
+pub mod Stops

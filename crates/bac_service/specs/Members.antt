@@ -1,4 +1,4 @@
--- The members of a production (clause 21): each is a value's contents behind a tag, and they follow each other.
+-- The members of a production (clause 21): each is a value's contents after a tag, and they follow each other.
 use Rattle.std.specs.Prelude.{◌≡◌, ℕ, ℤ, Bool, ◌^◌, ◌<◌, ◌≤◌, zero, suc, List, [], ◌++◌, length, Option, Some, None}
 use Rattle.bac_value.specs.declared.tag.Class.{Class}
 use Rattle.bac_value.specs.declared.tag.Class.TheVariants.{Application}
@@ -10,7 +10,7 @@ use Rattle.bac_value.specs.Data.{opening, closing, IsData}
 abbrev pub Octets : Type 0
 Octets = List ℕ
 
--- one behind the other
+-- one after the other
 infixr 15 ◌⨾◌
 pub record ◌⨾◌ (P Q : Octets → Type 0) (bytes : Octets) : Type 0 where
   pub front : Octets
@@ -30,7 +30,7 @@ pub record Enclosed (number : ℕ) (P : Octets → Type 0) (bytes : Octets) : Ty
   pub are : P inside
   pub is : bytes ≡ opening number ++ (inside ++ closing number)
 
--- a tag of that class and number, with so many octets of contents behind it
+-- a tag of that class and number, with so many octets of contents after it
 abbrev pub mark_of : Class → ℕ → ℕ → Mark
 mark_of class number len = record { number = number; class = class; form = form.Length len }
 

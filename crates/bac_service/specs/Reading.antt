@@ -1,6 +1,6 @@
--- Reading members from left to right, on lists alone: the value and what is left behind it, or None where the octets are refused.
--- That what is read is exactly what is spelled are laws beside the readers in code.
-use Rattle.std.specs.Prelude.{◌≡◌, ℕ, ℤ, zero, suc, ◌+◌, ◌-◌, ◌≤◌, Bool, true, false, ◌&&◌, ◌==◌, nat_lt, nat_le, [], ◌∷◌, length, take, Option, Some, None}
+-- Reading members from left to right, on lists alone: the value and what is left after it, or why reading stopped and how many octets were left
+-- at the tag where it did. That what is read is exactly what is spelled are laws beside the readers in code.
+use Rattle.std.specs.Prelude.{ℕ, ℤ, zero, suc, ◌+◌, ◌-◌, Bool, true, false, ◌&&◌, ◌==◌, nat_lt, nat_le, [], ◌∷◌, length, take, Option, Some, None}
 use Rattle.std.specs.Prelude.{is_some, Result, Ok, Err, if◌then◌else◌}
 use Rattle.bac_value.specs.declared.fault.FaultKind.{FaultKind}
 use Rattle.bac_value.specs.declared.tag.Class.{Class}
@@ -9,40 +9,35 @@ use Rattle.bac_value.specs.declared.tag.Form.{Form}
 use Rattle.bac_value.specs.declared.tag.Form.TheVariants.{Length, Boolean, Opening, Closing}
 use Rattle.bac_value.specs.Spelling.{Mark}
 use Rattle.bac_value.specs.Value.{ObjectId}
-use Rattle.bac_value.specs.Reading.{tag_at, kind_at, number_at, signed_at, object_at, data_of}
-use Rattle.bac_service.specs.Values.{Reference, ReadAccess, WriteAccess, Request, Complex, READ_FILE, WRITE_FILE, READ_PROPERTY, WRITE_PROPERTY}
+use Rattle.bac_value.specs.Steps.{◌>>=◌}
+use Rattle.bac_value.specs.Reading.{tag_at, kind_at, number_at, signed_at, object_at, data_of, fault_place}
+use Rattle.bac_service.specs.declared.stop.Stop.{Stop}
+use Rattle.bac_service.specs.declared.stop.Why.{Why}
+use Rattle.bac_service.specs.declared.stop.Why.TheVariants.{Fault, Missing, Unexpected, OutOfRange, Inconsistent, Surplus}
+use Rattle.bac_service.specs.Values.{Reference, ReadAccess, WriteAccess, Request, Complex}
 use Rattle.bac_service.specs.Values.ReadAccess.{ReadStream, ReadRecords}
 use Rattle.bac_service.specs.Values.WriteAccess.{WriteStream, WriteRecords}
-use Rattle.bac_service.specs.Values.Request.{ReadFile, WriteFile, ReadProperty, WriteProperty}
+use Rattle.bac_service.specs.Values.Request.{WriteProperty}
 use Rattle.bac_service.specs.Values.Complex.{FileRead, StreamWritten, RecordsWritten, PropertyRead}
 use Rattle.bac_service.specs.Members.{Octets}
+use Rattle.bac_service.specs.Stops.{stop, told_at}
 
-infixl 10 ◌>>=◌
-abbrev pub ◌>>=◌ : {A B : Type 0} → Option A → (A → Option B) → Option B
-None >>= f = None
-(Some x) >>= f = f x
+-- what is read in front of octets and what is left after it, or why reading stopped
+abbrev pub Read : Type 0 → Type 0
+Read A = Result (A × Octets) Stop
 
-abbrev pub kept : {A E : Type 0} → Result A E → Option A
-kept (Ok x) = Some x
-kept (Err e) = None
+-- ---- one after the other
 
--- what a reader in code answered, seen by view and rest, is what reading on lists gives
-abbrev pub Reads : {X Y R E : Type 0} → (X → Y) → (R → Octets) → Octets → Result (X × R) E → (Octets → Option (Y × Octets)) → Type 0
-Reads view rest bytes (Ok r) read = (length (rest r.1) ≤ length bytes) × (read bytes ≡ Some (view r.0, rest r.1))
-Reads view rest bytes (Err e) read = read bytes ≡ None
-
--- ---- one behind the other
-
-abbrev pub both_at : {A B : Type 0} → (Octets → Option (A × Octets)) → (Octets → Option (B × Octets)) → Octets → Option ((A × B) × Octets)
+abbrev pub both_at : {A B : Type 0} → (Octets → Read A) → (Octets → Read B) → Octets → Read (A × B)
 both_at first second bytes = do
   a ← first bytes
   b ← second a.1
-  Some ((a.0, b.0), b.1)
+  Ok ((a.0, b.0), b.1)
 
-abbrev pub made_at : {A B : Type 0} → (A → B) → (Octets → Option (A × Octets)) → Octets → Option (B × Octets)
+abbrev pub made_at : {A B : Type 0} → (A → B) → (Octets → Read A) → Octets → Read B
 made_at make read bytes = do
   a ← read bytes
-  Some (make a.0, a.1)
+  Ok (make a.0, a.1)
 
 -- ---- members
 
@@ -69,31 +64,41 @@ boolean_of Closing = None
 unfoldable pub announced : Class → ℕ → Mark → Option ℕ
 announced class number m = if same_class class m.class && (number == m.number) then length_of m.form else None
 
--- a tag of that class and number: how many octets of contents are behind it
-unfoldable pub head_at : Class → ℕ → Octets → Option (ℕ × Octets)
+-- the next tag
+unfoldable pub next_tag : Octets → Read Mark
+next_tag [] = stop Missing []
+next_tag (b ∷ bytes) = told_at (b ∷ bytes) (tag_at (b ∷ bytes))
+
+-- what the tag in front of these octets has, where it is the tag that is wanted
+abbrev pub expected : {A : Type 0} → Octets → Option A → Result A Stop
+expected bytes (Some x) = Ok x
+expected bytes None = stop Unexpected bytes
+
+-- a tag of that class and number: how many octets of contents are after it
+unfoldable pub head_at : Class → ℕ → Octets → Read ℕ
 head_at class number bytes = do
-  t ← kept (tag_at bytes)
-  k ← announced class number t.0
-  Some (k, t.1)
+  t ← next_tag bytes
+  k ← expected bytes (announced class number t.0)
+  Ok (k, t.1)
 
 -- such a tag, and contents that are read with their length
-unfoldable pub member_at : {A : Type 0} → Class → ℕ → (ℕ → Octets → Result (A × Octets) FaultKind) → Octets → Option (A × Octets)
+unfoldable pub member_at : {A : Type 0} → Class → ℕ → (ℕ → Octets → Result (A × Octets) FaultKind) → Octets → Read A
 member_at class number read bytes = do
   h ← head_at class number bytes
-  kept (read h.0 h.1)
+  told_at bytes (read h.0 h.1)
 
 -- whether the next tag is that of an optional member, of context class with contents; nothing comes next at the end
-unfoldable pub is_next : ℕ → Octets → Option Bool
-is_next number [] = Some false
+unfoldable pub is_next : ℕ → Octets → Result Bool Stop
+is_next number [] = Ok false
 is_next number (b ∷ bytes) = do
-  t ← kept (tag_at (b ∷ bytes))
-  Some (is_some (announced Context number t.0))
+  t ← next_tag (b ∷ bytes)
+  Ok (is_some (announced Context number t.0))
 
-abbrev pub present : {A : Type 0} → Bool → (Octets → Option (A × Octets)) → Octets → Option (Option A × Octets)
+abbrev pub present : {A : Type 0} → Bool → (Octets → Read A) → Octets → Read (Option A)
 present true read bytes = made_at Some read bytes
-present false read bytes = Some (None, bytes)
+present false read bytes = Ok (None, bytes)
 
-unfoldable pub optional_at : {A : Type 0} → ℕ → (Octets → Option (A × Octets)) → Octets → Option (Option A × Octets)
+unfoldable pub optional_at : {A : Type 0} → ℕ → (Octets → Read A) → Octets → Read (Option A)
 optional_at number read bytes = do
   next ← is_next number bytes
   present next read bytes
@@ -113,62 +118,65 @@ is_closing Opening = false
 is_closing Closing = true
 
 -- whether the next tag is the opening tag of that number
-unfoldable pub is_opened : ℕ → Octets → Option Bool
+unfoldable pub is_opened : ℕ → Octets → Result Bool Stop
 is_opened number bytes = do
-  t ← kept (tag_at bytes)
-  Some (is_opening t.0.form && (number == t.0.number))
+  t ← next_tag bytes
+  Ok (is_opening t.0.form && (number == t.0.number))
 
 -- a tag that a test takes
-unfoldable pub tag_that : (Mark → Bool) → Octets → Option Octets
+unfoldable pub tag_that : (Mark → Bool) → Octets → Result Octets Stop
 tag_that test bytes = do
-  t ← kept (tag_at bytes)
-  if test t.0 then Some t.1 else None
+  t ← next_tag bytes
+  if test t.0 then Ok t.1 else stop Unexpected bytes
 
-abbrev pub opening_at : ℕ → Octets → Option Octets
+abbrev pub opening_at : ℕ → Octets → Result Octets Stop
 opening_at number = tag_that (λ m. is_opening m.form && (number == m.number))
 
-abbrev pub closing_at : ℕ → Octets → Option Octets
+abbrev pub closing_at : ℕ → Octets → Result Octets Stop
 closing_at number = tag_that (λ m. is_closing m.form && (number == m.number))
 
-unfoldable pub enclosed_at : {A : Type 0} → ℕ → (Octets → Option (A × Octets)) → Octets → Option (A × Octets)
+unfoldable pub enclosed_at : {A : Type 0} → ℕ → (Octets → Read A) → Octets → Read A
 enclosed_at number read bytes = do
   inside ← opening_at number bytes
   x ← read inside
   behind ← closing_at number x.1
-  Some (x.0, behind)
+  Ok (x.0, behind)
 
 -- ---- what stands between them
 
--- data, up to the end or a closing tag
-unfoldable pub values_at : Octets → Option (Octets × Octets)
-values_at bytes = do
-  rest ← kept (data_of bytes)
-  Some (take (length bytes - length rest) bytes, rest)
+-- what stands before the rest; a fault in data is told at its own place
+abbrev pub front_or_stop : Octets → Result Octets FaultKind → Read Octets
+front_or_stop bytes (Ok rest) = Ok (take (length bytes - length rest) bytes, rest)
+front_or_stop bytes (Err e) = Err (record { why = Fault e; left = length bytes - fault_place bytes })
 
-abbrev pub application_object : Octets → Option (ObjectId × Octets)
+-- data, up to the end or a closing tag
+unfoldable pub values_at : Octets → Read Octets
+values_at bytes = front_or_stop bytes (data_of bytes)
+
+abbrev pub application_object : Octets → Read ObjectId
 application_object = member_at Application 12 object_at
 
-abbrev pub application_signed : Octets → Option (ℤ × Octets)
+abbrev pub application_signed : Octets → Read ℤ
 application_signed = member_at Application 3 signed_at
 
-abbrev pub application_unsigned : Octets → Option (ℕ × Octets)
+abbrev pub application_unsigned : Octets → Read ℕ
 application_unsigned = member_at Application 2 (number_at 2)
 
-abbrev pub application_string : Octets → Option (Octets × Octets)
+abbrev pub application_string : Octets → Read Octets
 application_string = member_at Application 6 (kind_at 6)
 
--- a value that a test takes
-unfoldable pub that_at : {A : Type 0} → (A → Bool) → (Octets → Option (A × Octets)) → Octets → Option (A × Octets)
-that_at test read bytes = do
+-- a value that a test takes; where it does not, reading stops at its first tag for that reason
+unfoldable pub that_at : {A : Type 0} → Why → (A → Bool) → (Octets → Read A) → Octets → Read A
+that_at otherwise test read bytes = do
   x ← read bytes
-  if test x.0 then Some x else None
+  if test x.0 then Ok x else stop otherwise bytes
 
 -- ---- ReadProperty and WriteProperty
 
 abbrev pub reference_of : ObjectId × (ℕ × Option ℕ) → Reference
 reference_of t = record { object = t.0; property = t.1.0; index = t.1.1 }
 
-unfoldable pub reference_at : Octets → Option (Reference × Octets)
+unfoldable pub reference_at : Octets → Read Reference
 reference_at =
     made_at reference_of (both_at (member_at Context 0 object_at)
     (both_at (member_at Context 1 (number_at 9)) (optional_at 2 (member_at Context 2 (number_at 9)))))
@@ -176,108 +184,95 @@ reference_at =
 abbrev pub is_priority : ℕ → Bool
 is_priority n = nat_lt 0 n && nat_le n 16
 
-unfoldable pub priority_at : Octets → Option (ℕ × Octets)
-priority_at = that_at is_priority (member_at Context 4 (number_at 2))
+unfoldable pub priority_at : Octets → Read ℕ
+priority_at = that_at OutOfRange is_priority (member_at Context 4 (number_at 2))
 
 abbrev pub write_property_of : Reference × (Octets × Option ℕ) → Request
 write_property_of t = WriteProperty t.0 t.1.0 t.1.1
 
-unfoldable pub write_property_at : Octets → Option (Request × Octets)
+unfoldable pub write_property_at : Octets → Read Request
 write_property_at = made_at write_property_of (both_at reference_at (both_at (enclosed_at 3 values_at) (optional_at 4 priority_at)))
 
 -- ---- AtomicReadFile and AtomicWriteFile
 
-abbrev pub chosen_at : {A : Type 0} → Bool → (Octets → Option (A × Octets)) → (Octets → Option (A × Octets)) → Octets → Option (A × Octets)
+abbrev pub chosen_at : {A : Type 0} → Bool → (Octets → Read A) → (Octets → Read A) → Octets → Read A
 chosen_at true one other bytes = one bytes
 chosen_at false one other bytes = other bytes
 
 -- one where a test of what comes next takes it, otherwise the other
-abbrev pub either_at : {A : Type 0} → (Octets → Option Bool) → (Octets → Option (A × Octets)) → (Octets → Option (A × Octets)) → Octets → Option (A × Octets)
+abbrev pub either_at : {A : Type 0} → (Octets → Result Bool Stop) → (Octets → Read A) → (Octets → Read A) → Octets → Read A
 either_at test one other bytes = do
   b ← test bytes
   chosen_at b one other bytes
 
-abbrev pub extent_at : Octets → Option ((ℤ × ℕ) × Octets)
+abbrev pub extent_at : Octets → Read (ℤ × ℕ)
 extent_at = both_at application_signed application_unsigned
 
 -- [1] where it comes next, [0] otherwise
-unfoldable pub read_access_at : Octets → Option (ReadAccess × Octets)
+unfoldable pub read_access_at : Octets → Read ReadAccess
 read_access_at = either_at (is_opened 1) (made_at (λ t. ReadRecords t.0 t.1) (enclosed_at 1 extent_at))
     (made_at (λ t. ReadStream t.0 t.1) (enclosed_at 0 extent_at))
 
--- octet strings one behind the other, as long as they come next, at most so many: how many they are
-unfoldable pub strings_at : ℕ → Octets → Option (ℕ × Octets)
-strings_at zero bytes = None
+-- octet strings one after the other, as long as they come next, at most so many: how many they are
+unfoldable pub strings_at : ℕ → Octets → Read ℕ
+strings_at zero bytes = Ok (0, bytes)
 strings_at (suc most) bytes = do
-  t ← kept (tag_at bytes)
+  t ← next_tag bytes
   if is_some (announced Application 6 t.0) then (do
     s ← application_string bytes
     n ← strings_at most s.1
-    Some (n.0 + 1, n.1)) else Some (0, bytes)
+    Ok (n.0 + 1, n.1)) else Ok (0, bytes)
 
 -- how many there are, and the octets of all of them
-unfoldable pub run_at : Octets → Option ((ℕ × Octets) × Octets)
+unfoldable pub run_at : Octets → Read (ℕ × Octets)
 run_at bytes = do
   n ← strings_at (suc (length bytes)) bytes
-  Some ((n.0, take (length bytes - length n.1) bytes), n.1)
+  Ok ((n.0, take (length bytes - length n.1) bytes), n.1)
 
--- a count that is the number of strings behind it
-unfoldable pub counted_at : Octets → Option ((ℤ × (ℕ × (ℕ × Octets))) × Octets)
+-- a count that is the number of strings after it
+unfoldable pub counted_at : Octets → Read (ℤ × (ℕ × (ℕ × Octets)))
 counted_at = both_at application_signed (both_at application_unsigned run_at)
 
 abbrev pub are_counted : ℤ × (ℕ × (ℕ × Octets)) → Bool
 are_counted t = t.1.0 == t.1.1.0
 
-abbrev pub content_at : Octets → Option ((ℤ × Octets) × Octets)
+abbrev pub content_at : Octets → Read (ℤ × Octets)
 content_at = both_at application_signed application_string
 
-unfoldable pub write_access_at : Octets → Option (WriteAccess × Octets)
+unfoldable pub write_access_at : Octets → Read WriteAccess
 write_access_at =
-    either_at (is_opened 1) (made_at (λ t. WriteRecords t.0 t.1.0 t.1.1.1) (that_at are_counted (enclosed_at 1 counted_at)))
+    either_at (is_opened 1) (made_at (λ t. WriteRecords t.0 t.1.0 t.1.1.1) (that_at Inconsistent are_counted (enclosed_at 1 counted_at)))
     (made_at (λ t. WriteStream t.0 t.1) (enclosed_at 0 content_at))
 
-abbrev pub file_at : {A : Type 0} → (ObjectId → A → Request) → (Octets → Option (A × Octets)) → Octets → Option (Request × Octets)
+abbrev pub file_at : {A : Type 0} → (ObjectId → A → Request) → (Octets → Read A) → Octets → Read Request
 file_at make access = made_at (λ t. make t.0 t.1) (both_at application_object access)
 
--- ---- a whole request
+-- ---- whole service data
 
--- nothing is left behind it
-abbrev pub ends : {A : Type 0} → A → Octets → Option A
-ends x [] = Some x
-ends x (b ∷ bytes) = None
+-- nothing is left after it
+abbrev pub ends : {A : Type 0} → A → Octets → Result A Stop
+ends x [] = Ok x
+ends x (b ∷ rest) = stop Surplus (b ∷ rest)
 
-abbrev pub whole : {A : Type 0} → (Octets → Option (A × Octets)) → Octets → Option A
+abbrev pub whole : {A : Type 0} → (Octets → Read A) → Octets → Result A Stop
 whole read bytes = do
   x ← read bytes
   ends x.0 x.1
 
-unfoldable pub request_at : ℕ → Octets → Option Request
-request_at choice bytes =
-    if choice == READ_FILE then whole (file_at ReadFile read_access_at) bytes else
-    (if choice == WRITE_FILE then whole (file_at WriteFile write_access_at) bytes else
-    (if choice == READ_PROPERTY then whole (made_at ReadProperty reference_at) bytes else
-    (if choice == WRITE_PROPERTY then whole write_property_at bytes else None)))
+-- ---- service data of ComplexACKs
 
--- ---- a whole answer
-
-unfoldable pub end_of_file_at : Octets → Option (Bool × Octets)
+unfoldable pub end_of_file_at : Octets → Read Bool
 end_of_file_at bytes = do
-  t ← kept (tag_at bytes)
-  b ← boolean_of t.0.form
-  Some (b, t.1)
+  t ← next_tag bytes
+  b ← expected bytes (boolean_of t.0.form)
+  Ok (b, t.1)
 
-unfoldable pub file_read_at : Octets → Option (Complex × Octets)
+unfoldable pub file_read_at : Octets → Read Complex
 file_read_at = made_at (λ t. FileRead t.0 t.1.0 t.1.1) (both_at end_of_file_at (enclosed_at 0 content_at))
 
 -- [1] where it comes next, [0] otherwise
-unfoldable pub file_written_at : Octets → Option (Complex × Octets)
+unfoldable pub file_written_at : Octets → Read Complex
 file_written_at = either_at (is_next 1) (made_at RecordsWritten (member_at Context 1 signed_at)) (made_at StreamWritten (member_at Context 0 signed_at))
 
-unfoldable pub property_read_at : Octets → Option (Complex × Octets)
+unfoldable pub property_read_at : Octets → Read Complex
 property_read_at = made_at (λ t. PropertyRead t.0 t.1) (both_at reference_at (enclosed_at 3 values_at))
-
-unfoldable pub complex_at : ℕ → Octets → Option Complex
-complex_at choice bytes =
-    if choice == READ_FILE then whole file_read_at bytes else
-    (if choice == WRITE_FILE then whole file_written_at bytes else
-    (if choice == READ_PROPERTY then whole property_read_at bytes else None))

@@ -1,5 +1,5 @@
--- The numbers of reasons, and what is said of a refusal, want of memory aside.
-use Rattle.std.specs.Prelude.{ℕ, Result, Ok, Err}
+-- The numbers of reasons, and what is said of a refusal, out of memory aside.
+use Rattle.std.specs.Prelude.{◌≡◌, ℕ, Result, Ok, Err}
 use Rattle.bac_service.specs.declared.reject.Reject.{Reject}
 use Rattle.bac_service.specs.declared.reject.Reject.TheVariants as reject
 use Rattle.bac_service.specs.declared.read_error.ReadError as code
@@ -14,6 +14,17 @@ abbrev pub IfNoMemory : {A E : Type 0} → Result A (code.ReadError E) → Type 
 IfNoMemory (Ok x) P = Unit {0}
 IfNoMemory (Err (Refused e)) P = Unit {0}
 IfNoMemory (Err NoMemory) P = P
+
+-- what a call answered, seen by views of values and of refusals, is this
+abbrev pub Gives : {X E Y F : Type 0} → (X → Y) → (E → F) → Result X E → Result Y F → Type 0
+Gives value refusal (Ok x) answer = answer ≡ Ok (value x)
+Gives value refusal (Err e) answer = answer ≡ Err (refusal e)
+
+-- the same, where memory did not run out
+abbrev pub GivesInMemory : {X E Y F : Type 0} → (X → Y) → (E → F) → Result X (code.ReadError E) → Result Y F → Type 0
+GivesInMemory value refusal (Ok x) answer = answer ≡ Ok (value x)
+GivesInMemory value refusal (Err (Refused e)) answer = answer ≡ Err (refusal e)
+GivesInMemory value refusal (Err NoMemory) answer = Unit {0}
 
 -- clause 18.9
 abbrev pub reason_number : Reject → ℕ

@@ -8,26 +8,35 @@ use Rattle.bac_service.specs.Values.Complex.{FileRead, StreamWritten, RecordsWri
 use Rattle.bac_service.specs.Members.{Octets, ◌⨾◌, Enclosed, Tagged, ApplicationBoolean, ApplicationSigned, ApplicationString, AreData}
 use Rattle.bac_service.specs.Requests.{SpellsReference}
 
-abbrev pub SpellsAnswer : Complex → Octets → Type 0
-SpellsAnswer (FileRead end_of_file start octets) = ApplicationBoolean end_of_file ⨾ Enclosed 0 (ApplicationSigned start ⨾ ApplicationString octets)
-SpellsAnswer (StreamWritten start) = Tagged Context 0 (IsInteger 8 start)
-SpellsAnswer (RecordsWritten start) = Tagged Context 1 (IsInteger 8 start)
-SpellsAnswer (PropertyRead r values) = SpellsReference r ⨾ Enclosed 3 (AreData values)
+abbrev pub SpellsComplexMembers : Complex → Octets → Type 0
+SpellsComplexMembers (FileRead end_of_file start octets) = ApplicationBoolean end_of_file ⨾ Enclosed 0 (ApplicationSigned start ⨾ ApplicationString octets)
+SpellsComplexMembers (StreamWritten start) = Tagged Context 0 (IsInteger 8 start)
+SpellsComplexMembers (RecordsWritten start) = Tagged Context 1 (IsInteger 8 start)
+SpellsComplexMembers (PropertyRead r values) = SpellsReference r ⨾ Enclosed 3 (AreData values)
 
--- the octets are the service data of an answer to a request of this choice
+-- the octets are the service data of a ComplexACK of this choice
 pub record SpellsComplex (choice : ℕ) (c : Complex) (bytes : Octets) : Type 0 where
   pub choice_is : choice ≡ complex_choice_of c
-  pub members : SpellsAnswer c bytes
+  pub members : SpellsComplexMembers c bytes
 
--- the octets are an answer that holds some of them, so that a copy of it needs memory
+-- the octets are no service data of a ComplexACK of this choice
+abbrev pub IsNoComplex : ℕ → Octets → Type 0
+IsNoComplex choice bytes = (c : Complex) → SpellsComplex choice c bytes → ⊥
+
+-- the octets are service data that hold some of them, so that a copy needs memory
 pub record ReplyNeedsMemory (choice : ℕ) (bytes : Octets) : Type 0 where
   pub complex : Complex
   pub spelled : SpellsComplex choice complex bytes
   pub holds : 0 < length (held_in complex)
 
--- what an answer's content and data are, whatever else it says
+-- what the content and the data of a ComplexACK are, whatever else it says
 abbrev pub IsMadeOf : Complex → Type 0
 IsMadeOf (FileRead end_of_file start octets) = length octets < 2 ^ 32
 IsMadeOf (StreamWritten start) = Unit {0}
 IsMadeOf (RecordsWritten start) = Unit {0}
 IsMadeOf (PropertyRead r values) = ∥ IsData values ∥₁
+
+-- the octets are the service data of some ComplexACK of this choice
+pub record IsReply (choice : ℕ) (bytes : Octets) : Type 0 where
+  pub complex : Complex
+  pub spelled : SpellsComplex choice complex bytes

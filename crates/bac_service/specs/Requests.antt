@@ -3,7 +3,8 @@ use Rattle.std.specs.Prelude.{◌≡◌, ◌≢◌, ℕ, ◌^◌, ◌<◌, lengt
 use Rattle.bac_value.specs.declared.tag.Class.TheVariants.{Context}
 use Rattle.bac_value.specs.Value.{IsNumber, IsObject}
 use Rattle.bac_value.specs.Data.{IsData}
-use Rattle.bac_service.specs.Values.{Reference, ReadAccess, WriteAccess, Request, choice_of, held, READ_FILE, WRITE_FILE, READ_PROPERTY, WRITE_PROPERTY}
+use Rattle.bac_service.specs.Choices.{ATOMIC_READ_FILE, ATOMIC_WRITE_FILE, READ_PROPERTY, WRITE_PROPERTY}
+use Rattle.bac_service.specs.Values.{Reference, ReadAccess, WriteAccess, Request, choice_of, held}
 use Rattle.bac_service.specs.Values.ReadAccess.{ReadStream, ReadRecords}
 use Rattle.bac_service.specs.Values.WriteAccess.{WriteStream, WriteRecords}
 use Rattle.bac_service.specs.Values.Request.{ReadFile, WriteFile, ReadProperty, WriteProperty}
@@ -41,6 +42,10 @@ pub record SpellsRequest (choice : ℕ) (r : Request) (bytes : Octets) : Type 0 
   pub choice_is : choice ≡ choice_of r
   pub members : SpellsMembers r bytes
 
+-- the octets spell no request of this choice
+abbrev pub IsNoRequest : ℕ → Octets → Type 0
+IsNoRequest choice bytes = (r : Request) → SpellsRequest choice r bytes → ⊥
+
 -- what a request's strings and data are, whatever else it says
 abbrev pub IsWritten : WriteAccess → Type 0
 IsWritten (WriteStream start octets) = length octets < 2 ^ 32
@@ -60,7 +65,7 @@ pub record NeedsMemory (choice : ℕ) (bytes : Octets) : Type 0 where
 
 -- a choice of another service
 pub record IsUnknown (choice : ℕ) : Type 0 where
-  pub no_read_file : choice ≢ READ_FILE
-  pub no_write_file : choice ≢ WRITE_FILE
+  pub no_read_file : choice ≢ ATOMIC_READ_FILE
+  pub no_write_file : choice ≢ ATOMIC_WRITE_FILE
   pub no_read_property : choice ≢ READ_PROPERTY
   pub no_write_property : choice ≢ WRITE_PROPERTY

@@ -1,4 +1,4 @@
--- The one spelling of each request and of each answer, as a function of it: what writers append.
+-- The one spelling of each request and of the service data of each ComplexACK, as a function: what writers append.
 use Rattle.std.specs.Prelude.{◌<◌, ◌≤◌, ◌^◌, ℕ, ℤ, [], ◌++◌, length, Option, Some, None}
 use Rattle.bac_value.specs.declared.tag.Class.TheVariants.{Application, Context}
 use Rattle.bac_value.specs.declared.tag.Form.TheVariants as form
@@ -27,12 +27,12 @@ enclosed_spelling number inside = opening number ++ (inside ++ closing number)
 abbrev pub content_spelling : ℤ → Octets → Octets
 content_spelling start octets = primitive Application 3 (signed_octets start) ++ primitive Application 6 octets
 
-abbrev pub answer_spelling : Complex → Octets
-answer_spelling (FileRead end_of_file start octets) =
+abbrev pub complex_spelling : Complex → Octets
+complex_spelling (FileRead end_of_file start octets) =
     tag_spelling (record { number = 1; class = Application; form = form.Boolean end_of_file }) ++ enclosed_spelling 0 (content_spelling start octets)
-answer_spelling (StreamWritten start) = primitive Context 0 (signed_octets start)
-answer_spelling (RecordsWritten start) = primitive Context 1 (signed_octets start)
-answer_spelling (PropertyRead r values) = reference_spelling r ++ enclosed_spelling 3 values
+complex_spelling (StreamWritten start) = primitive Context 0 (signed_octets start)
+complex_spelling (RecordsWritten start) = primitive Context 1 (signed_octets start)
+complex_spelling (PropertyRead r values) = reference_spelling r ++ enclosed_spelling 3 values
 
 -- ---- what the types in code say of what they hold
 
@@ -46,12 +46,12 @@ pub record IsReference (r : Reference) : Type 0 where
   pub property_fits : r.property < 2 ^ 32
   pub index_fits : IsIndex r.index
 
--- what the type of an answer says of it
-abbrev pub IsAnswer : Complex → Type 0
-IsAnswer (FileRead end_of_file start octets) = (distance start < 2 ^ 63) × (length octets < 2 ^ 32)
-IsAnswer (StreamWritten start) = distance start < 2 ^ 63
-IsAnswer (RecordsWritten start) = distance start < 2 ^ 63
-IsAnswer (PropertyRead r values) = IsReference r × IsData values
+-- what the type in code says of the service data of a ComplexACK
+abbrev pub IsComplex : Complex → Type 0
+IsComplex (FileRead end_of_file start octets) = (distance start < 2 ^ 63) × (length octets < 2 ^ 32)
+IsComplex (StreamWritten start) = distance start < 2 ^ 63
+IsComplex (RecordsWritten start) = distance start < 2 ^ 63
+IsComplex (PropertyRead r values) = IsReference r × IsData values
 
 -- ---- requests
 

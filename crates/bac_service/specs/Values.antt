@@ -1,6 +1,7 @@
 -- The requests and replies of the four services (clause 21), as plain values.
 use Rattle.std.specs.Prelude.{ℕ, ℤ, Bool, List, [], Option}
 use Rattle.bac_value.specs.Value.{ObjectId}
+use Rattle.bac_service.specs.Choices.{ATOMIC_READ_FILE, ATOMIC_WRITE_FILE, READ_PROPERTY, WRITE_PROPERTY}
 
 -- which property of which object, and which element of it
 pub record Reference : Type 0 where
@@ -25,7 +26,7 @@ pub data Request : Type 0 where
   ReadProperty : (reference : Reference) → Request
   WriteProperty : (reference : Reference) (values : List ℕ) (priority : Option ℕ) → Request
 
--- what a ComplexACK answers
+-- the service data of a ComplexACK
 pub data Complex : Type 0 where
   FileRead : (end_of_file : Bool) (start : ℤ) (octets : List ℕ) → Complex
   StreamWritten : (start : ℤ) → Complex
@@ -50,7 +51,7 @@ held (WriteFile file access) = for_file access
 held (ReadProperty reference) = []
 held (WriteProperty reference values priority) = values
 
--- the octets of data or of a file that an answer holds
+-- the octets of data or of a file that the service data of a ComplexACK hold
 abbrev pub held_in : Complex → List ℕ
 held_in (FileRead end_of_file start octets) = octets
 held_in (StreamWritten start) = []
@@ -63,27 +64,14 @@ held_by (Whole c) = held_in c
 held_by (Error class code) = []
 held_by (Reject reason) = []
 
--- the service choices (clause 21, BACnetConfirmedServiceChoice)
-abbrev pub READ_FILE : ℕ
-READ_FILE = 6
-
-abbrev pub WRITE_FILE : ℕ
-WRITE_FILE = 7
-
-abbrev pub READ_PROPERTY : ℕ
-READ_PROPERTY = 12
-
-abbrev pub WRITE_PROPERTY : ℕ
-WRITE_PROPERTY = 15
-
 abbrev pub choice_of : Request → ℕ
-choice_of (ReadFile file access) = READ_FILE
-choice_of (WriteFile file access) = WRITE_FILE
+choice_of (ReadFile file access) = ATOMIC_READ_FILE
+choice_of (WriteFile file access) = ATOMIC_WRITE_FILE
 choice_of (ReadProperty reference) = READ_PROPERTY
 choice_of (WriteProperty reference values priority) = WRITE_PROPERTY
 
 abbrev pub complex_choice_of : Complex → ℕ
-complex_choice_of (FileRead end_of_file start octets) = READ_FILE
-complex_choice_of (StreamWritten start) = WRITE_FILE
-complex_choice_of (RecordsWritten start) = WRITE_FILE
+complex_choice_of (FileRead end_of_file start octets) = ATOMIC_READ_FILE
+complex_choice_of (StreamWritten start) = ATOMIC_WRITE_FILE
+complex_choice_of (RecordsWritten start) = ATOMIC_WRITE_FILE
 complex_choice_of (PropertyRead reference values) = READ_PROPERTY

@@ -1,7 +1,9 @@
 //! Laws of spelling: functions that do nothing, whose contracts are the laws.
-ghost use Rattle.std.specs.Prelude.{◌≡◌, ℕ, List};
-ghost use Rattle.bac_service.specs.Replies.{SpellsComplex};
+ghost use Rattle.std.specs.Prelude.{◌≡◌, ℕ, List, [], Ok, true};
+ghost use Rattle.bac_value.specs.Octets.{IsBytes};
+ghost use Rattle.bac_service.specs.Replies.{SpellsComplex, IsReply};
 ghost use Rattle.bac_service.specs.Requests.{SpellsRequest};
+ghost use Rattle.bac_service.specs.Services.{request_at, complex_at, reads_reply};
 ghost use Rattle.bac_service.specs.Values.{Request, Complex};
 
 /// No request has two spellings, and service data spell at most one request of a service choice.
@@ -10,8 +12,24 @@ pub fn one_request_spelling()
     ensures apart { (choice : ℕ) (q r : Request) (bytes : List ℕ) → SpellsRequest choice q bytes → SpellsRequest choice r bytes → q ≡ r }
 {}
 
-/// No answer has two spellings, and service data spell at most one answer to a request of a service choice.
+/// No service data of a ComplexACK have two spellings, and octets spell at most one of them for a service choice.
 pub fn one_reply_spelling()
     ensures only { (choice : ℕ) (c : Complex) (a b : List ℕ) → SpellsComplex choice c a → SpellsComplex choice c b → a ≡ b }
     ensures apart { (choice : ℕ) (c d : Complex) (bytes : List ℕ) → SpellsComplex choice c bytes → SpellsComplex choice d bytes → c ≡ d }
+{}
+
+/// What spells a request is read as that request, and what is read as a request spells it. No request is spelled by no octets.
+pub fn requests_are_read()
+    ensures read { (choice : ℕ) (r : Request) (bytes : List ℕ) → SpellsRequest choice r bytes → request_at choice bytes ≡ Ok r }
+    ensures spelled { (choice : ℕ) (r : Request) (bytes : List ℕ) → IsBytes bytes → request_at choice bytes ≡ Ok r → SpellsRequest choice r bytes }
+    ensures some { (choice : ℕ) (r : Request) → SpellsRequest choice r [] → ⊥ }
+{}
+
+/// The same of the service data of a ComplexACK; they can be read exactly where they spell some.
+pub fn replies_are_read()
+    ensures read { (choice : ℕ) (c : Complex) (bytes : List ℕ) → SpellsComplex choice c bytes → complex_at choice bytes ≡ Ok c }
+    ensures spelled { (choice : ℕ) (c : Complex) (bytes : List ℕ) → IsBytes bytes → complex_at choice bytes ≡ Ok c → SpellsComplex choice c bytes }
+    ensures some { (choice : ℕ) (c : Complex) → SpellsComplex choice c [] → ⊥ }
+    ensures readable { (choice : ℕ) (bytes : List ℕ) → IsReply choice bytes → reads_reply choice bytes ≡ true }
+    ensures only { (choice : ℕ) (bytes : List ℕ) → IsBytes bytes → reads_reply choice bytes ≡ true → IsReply choice bytes }
 {}

@@ -1,6 +1,7 @@
-//! Lending requests and answers that have memory of their own.
+//! Lending requests and replies that have memory of their own.
 ghost use Rattle.std.specs.Prelude.{◌≡◌};
-ghost use Rattle.bac_service.specs.Views.{write_access, seen, lent, owned, complex, owned_complex, replied};
+ghost use Rattle.bac_service.specs.Views.{lent, owned, owned_complex_view, owned_reply_view, owned_request_view, write_access_view};
+ghost use Rattle.bac_service.specs.Views.{complex_view, reply_view, request_view};
 
 use crate::owned::{OwnedComplex, OwnedReply, OwnedRequest};
 use crate::owned_records::OwnedRecords;
@@ -22,7 +23,7 @@ fn lent_content(string: &OctetString) -> Content<'_>
 fn lent_access(
     access: &WriteAccess<OctetString, OwnedRecords>,
 ) -> WriteAccess<Content<'_>, Records<'_>>
-    ensures { write_access lent result ≡ write_access owned access.now }
+    ensures { write_access_view lent result ≡ write_access_view owned access.now }
 {
     match access {
         WriteAccess::Stream(write) => {
@@ -41,7 +42,7 @@ fn lent_access(
 impl OwnedRequest {
     /// Lends the request. It takes no memory.
     pub fn as_request(&self) -> Request<'_>
-        ensures { seen lent result ≡ seen owned self.now }
+        ensures { request_view result ≡ owned_request_view self.now }
     {
         match self {
             AnyRequest::ReadFile(read) => AnyRequest::ReadFile(*read),
@@ -64,9 +65,9 @@ impl OwnedRequest {
 }
 
 impl OwnedComplex {
-    /// Lends the answer. It takes no memory.
+    /// Lends the value. It takes no memory.
     pub fn as_complex(&self) -> Complex<'_>
-        ensures { complex result ≡ owned_complex self.now }
+        ensures { complex_view result ≡ owned_complex_view self.now }
     {
         match self {
             AnyComplex::FileRead(read) => {
@@ -90,9 +91,9 @@ impl OwnedComplex {
 }
 
 impl OwnedReply {
-    /// Lends the answer. It takes no memory.
+    /// Lends the value. It takes no memory.
     pub fn as_reply(&self) -> Reply<'_>
-        ensures { replied complex result ≡ replied owned_complex self.now }
+        ensures { reply_view result ≡ owned_reply_view self.now }
     {
         match self {
             AnyReply::Simple => AnyReply::Simple,

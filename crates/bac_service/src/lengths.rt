@@ -2,15 +2,15 @@
 ghost use Rattle.std.specs.Prelude.{◌≡◌, ◌+◌, ◌<◌, ◌≤◌, ◌^◌, length};
 ghost use Rattle.bac_value.specs.Number.{distance};
 ghost use Rattle.bac_service.specs.Lengths.{member_length, unsigned_length, signed_length, reference_length, index_length, content_length, extent_length};
-ghost use Rattle.bac_service.specs.Lengths.{read_access_length, write_access_length, priority_length, request_length, answer_length};
+ghost use Rattle.bac_service.specs.Lengths.{read_access_length, write_access_length, priority_length, request_length, complex_length};
 ghost use Rattle.bac_service.specs.Members.{AreStrings};
 ghost use Rattle.bac_service.specs.Replies.{SpellsComplex};
 ghost use Rattle.bac_service.specs.Requests.{SpellsRequest};
-ghost use Rattle.bac_service.specs.Spellings.{request_spelling, answer_spelling, IsReference, IsExtent, IsReadAccess, IsWriteAccess, IsUrgency};
-ghost use Rattle.bac_service.specs.Spellings.{IsRequest, IsAnswer};
+ghost use Rattle.bac_service.specs.Spellings.{request_spelling, complex_spelling, IsReference, IsExtent, IsReadAccess, IsWriteAccess, IsUrgency};
+ghost use Rattle.bac_service.specs.Spellings.{IsRequest, IsComplex};
 ghost use Rattle.bac_service.specs.Values.{choice_of, complex_choice_of};
 ghost use Rattle.bac_service.specs.Values.WriteAccess.{WriteRecords as PlainWriteRecords};
-ghost use Rattle.bac_service.specs.Views.{reference, number_of, read_access, write_access, seen, lent, complex, request};
+ghost use Rattle.bac_service.specs.Views.{complex_view, lent, priority_view, property_reference_view, read_access_view, request_view, write_access_view};
 
 use crate::reply::{AnyComplex, Complex, FileWritten};
 use crate::request::{AnyRequest, ReadAccess, Request, WriteAccess, WriteRecords};
@@ -23,7 +23,7 @@ const OBJECT_LEN: usize = 5;
 /// How many octets a pair of opening and closing tags has.
 const PAIR_LEN: usize = 2;
 
-/// So many octets of contents behind a tag with a number below 15 (clause 20.2.1.3).
+/// So many octets of contents after a tag with a number below 15 (clause 20.2.1.3).
 fn member_len(contents: usize) -> usize
     requires { contents < 2 ^ 63 }
     ensures { result ≡ member_length contents }
@@ -40,7 +40,7 @@ fn member_len(contents: usize) -> usize
     1 + length_octets + contents
 }
 
-/// A number in the fewest octets (clause 20.2.4) behind a tag.
+/// A number in the fewest octets (clause 20.2.4) after a tag.
 #[tactic(auto, using(crate::proofs::LengthLaws::unsigned_width))]
 fn unsigned_member_len(number: u64) -> usize
     ensures is { result ≡ unsigned_length number }
@@ -49,7 +49,7 @@ fn unsigned_member_len(number: u64) -> usize
     member_len(unsigned_len(number))
 }
 
-/// A number in the fewest octets of two's complement (clause 20.2.5) behind a tag.
+/// A number in the fewest octets of two's complement (clause 20.2.5) after a tag.
 fn signed_member_len(number: i64) -> usize
     ensures is { result ≡ signed_length number }
     ensures few { result ≤ 10 }
@@ -67,8 +67,8 @@ fn index_len(index: Option<u32>) -> usize
 }
 
 fn reference_len(to: PropertyReference) -> usize
-    ensures len { result ≡ reference_length (reference to) }
-    ensures is { IsReference (reference to) }
+    ensures len { result ≡ reference_length (property_reference_view to) }
+    ensures is { IsReference (property_reference_view to) }
 {
     OBJECT_LEN + unsigned_member_len(u64::from(to.property)) + index_len(to.index)
 }
@@ -91,8 +91,8 @@ fn extent_len(start: i64, count: u64) -> usize
 }
 
 fn read_access_len(access: ReadAccess) -> usize
-    ensures len { result ≡ read_access_length (read_access access) }
-    ensures is { IsReadAccess (read_access access) }
+    ensures len { result ≡ read_access_length (read_access_view access) }
+    ensures is { IsReadAccess (read_access_view access) }
     ensures fits { result + 5 < 2 ^ 64 }
 {
     match access {
@@ -112,8 +112,8 @@ fn records_len(write: WriteRecords<Records<'_>>) -> usize
 }
 
 fn write_access_len(access: WriteAccess<Content<'_>, Records<'_>>) -> usize
-    ensures len { result ≡ write_access_length (write_access lent access.entry) }
-    ensures is { IsWriteAccess (write_access lent access.entry) }
+    ensures len { result ≡ write_access_length (write_access_view lent access.entry) }
+    ensures is { IsWriteAccess (write_access_view lent access.entry) }
     ensures fits { result + 5 < 2 ^ 64 }
 {
     match access {
@@ -123,8 +123,8 @@ fn write_access_len(access: WriteAccess<Content<'_>, Records<'_>>) -> usize
 }
 
 fn priority_len(priority: Option<Priority>) -> usize
-    ensures len { result ≡ priority_length (number_of priority) }
-    ensures is { IsUrgency (number_of priority) }
+    ensures len { result ≡ priority_length (priority_view priority) }
+    ensures is { IsUrgency (priority_view priority) }
 {
     match priority {
         Some(priority) => unsigned_member_len(u64::from(priority.number)),
@@ -134,8 +134,8 @@ fn priority_len(priority: Option<Priority>) -> usize
 
 #[tactic(auto, using(crate::proofs::Spelled::whole_data))]
 fn members_len(request: Request<'_>) -> usize
-    ensures len { result ≡ request_length (seen lent request.entry) }
-    ensures is { IsRequest (seen lent request.entry) }
+    ensures len { result ≡ request_length (request_view request.entry) }
+    ensures is { IsRequest (request_view request.entry) }
 {
     match request {
         AnyRequest::ReadFile(read) => OBJECT_LEN + read_access_len(read.access),
@@ -151,16 +151,16 @@ fn members_len(request: Request<'_>) -> usize
 /// How many octets the service data of a request have. It takes no memory.
 #[tactic(auto, using(crate::proofs::LengthLaws::length_request))]
 pub fn request_len(request: Request<'_>) -> usize
-    ensures len { result ≡ length (request_spelling (seen lent request.entry)) }
-    ensures spelled { SpellsRequest (choice_of (seen lent request.entry)) (seen lent request.entry) (request_spelling (seen lent request.entry)) }
+    ensures len { result ≡ length (request_spelling (request_view request.entry)) }
+    ensures spelled { SpellsRequest (choice_of (request_view request.entry)) (request_view request.entry) (request_spelling (request_view request.entry)) }
 {
     members_len(request)
 }
 
 #[tactic(auto, using(crate::proofs::Spelled::whole_data))]
-fn answer_len(reply: Complex<'_>) -> usize
-    ensures len { result ≡ answer_length (complex reply.entry) }
-    ensures is { IsAnswer (complex reply.entry) }
+fn complex_len(reply: Complex<'_>) -> usize
+    ensures len { result ≡ complex_length (complex_view reply.entry) }
+    ensures is { IsComplex (complex_view reply.entry) }
 {
     match reply {
         AnyComplex::FileRead(read) => 1 + content_len(read.start, read.content),
@@ -174,10 +174,10 @@ fn answer_len(reply: Complex<'_>) -> usize
 }
 
 /// How many octets the service data of a ComplexACK have. It takes no memory.
-#[tactic(auto, using(crate::proofs::LengthLaws::length_answer, crate::proofs::Spelled::complex_spelled))]
+#[tactic(auto, using(crate::proofs::LengthLaws::length_complex, crate::proofs::Spelled::complex_spelled))]
 pub fn reply_len(reply: Complex<'_>) -> usize
-    ensures len { result ≡ length (answer_spelling (complex reply.entry)) }
-    ensures spelled { SpellsComplex (complex_choice_of (complex reply.entry)) (complex reply.entry) (answer_spelling (complex reply.entry)) }
+    ensures len { result ≡ length (complex_spelling (complex_view reply.entry)) }
+    ensures spelled { SpellsComplex (complex_choice_of (complex_view reply.entry)) (complex_view reply.entry) (complex_spelling (complex_view reply.entry)) }
 {
-    answer_len(reply)
+    complex_len(reply)
 }

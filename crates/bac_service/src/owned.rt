@@ -1,11 +1,13 @@
-//! Requests and answers with memory of their own.
+//! Requests and replies with memory of their own.
 ghost use Rattle.std.specs.Prelude.{◌≡◌, ◌<◌, ◌^◌, length, IfOk, OnErr};
 ghost use Rattle.bac_service.specs.Replies.{IsMadeOf};
 ghost use Rattle.bac_service.specs.Requests.{IsMade, IsWritten};
 ghost use Rattle.bac_service.specs.Values.{for_file, held, held_in, held_by};
-ghost use Rattle.bac_service.specs.Views.{write_access, seen, lent, left, owned, answered, complex, owned_complex, replied};
+ghost use Rattle.bac_service.specs.Views.{left, lent, owned, owned_complex_view, owned_reply_view, owned_request_view, write_access_view};
+ghost use Rattle.bac_service.specs.Views.{complex_over_view, complex_view, reply_view, request_over_view, request_view};
 
 use crate::owned_records::OwnedRecords;
+use crate::records_reading::Run;
 use crate::reply::{AnyComplex, AnyReply, Complex, ComplexOver, FileRead, PropertyRead, Reply};
 use crate::reply_reading::Told;
 use crate::request::{
@@ -13,7 +15,6 @@ use crate::request::{
     WriteStream,
 };
 use crate::request_reading::Found;
-use crate::run::Run;
 use crate::value::{Content, Records};
 use bac_value::{DataBuf, NoMemory, OctetString, Octets, copy_of};
 use std::alloc::Global;
@@ -24,7 +25,7 @@ pub type OwnedRequest = RequestOver<DataBuf, OctetString, OwnedRecords>;
 /// The service data of a ComplexACK with their memory.
 pub type OwnedComplex = ComplexOver<DataBuf, OctetString>;
 
-/// An answer with its memory.
+/// A reply with its memory.
 pub type OwnedReply = AnyReply<OwnedComplex>;
 
 fn string_copy<O: Octets>(alloc: Global, octets: O) -> Result<OctetString, NoMemory>
@@ -40,9 +41,9 @@ fn access_copy<O: Octets>(
     alloc: Global,
     access: WriteAccess<O, Run<O>>,
 ) -> Result<WriteAccess<OctetString, OwnedRecords>, NoMemory>
-    requires { IsWritten (write_access (left O.octets) access) }
-    ensures same { IfOk result (λ a. write_access owned a ≡ write_access (left O.octets) access) }
-    ensures full { OnErr result (0 < length (for_file (write_access (left O.octets) access))) }
+    requires { IsWritten (write_access_view (left O.octets) access) }
+    ensures same { IfOk result (λ a. write_access_view owned a ≡ write_access_view (left O.octets) access) }
+    ensures full { OnErr result (0 < length (for_file (write_access_view (left O.octets) access))) }
 {
     match access {
         WriteAccess::Stream(write) => {
@@ -63,9 +64,9 @@ pub(crate) fn request_copy<O: Octets>(
     alloc: Global,
     found: Found<O>,
 ) -> Result<OwnedRequest, NoMemory>
-    requires { IsMade (seen (left O.octets) found) }
-    ensures same { IfOk result (λ r. seen owned r ≡ seen (left O.octets) found) }
-    ensures full { OnErr result (0 < length (held (seen (left O.octets) found))) }
+    requires { IsMade (request_over_view (left O.octets) found) }
+    ensures same { IfOk result (λ r. owned_request_view r ≡ request_over_view (left O.octets) found) }
+    ensures full { OnErr result (0 < length (held (request_over_view (left O.octets) found))) }
 {
     match found {
         AnyRequest::ReadFile(read) => Ok(AnyRequest::ReadFile(read)),
@@ -86,14 +87,14 @@ pub(crate) fn request_copy<O: Octets>(
     }
 }
 
-/// A copy of an answer, in one allocation where it has octets.
+/// A copy of the service data of a ComplexACK, in one allocation where they have octets of data or of a file.
 pub(crate) fn complex_copy<O: Octets>(
     alloc: Global,
     told: Told<O>,
 ) -> Result<OwnedComplex, NoMemory>
-    requires { IsMadeOf (answered O.octets O.octets told) }
-    ensures same { IfOk result (λ c. owned_complex c ≡ answered O.octets O.octets told) }
-    ensures full { OnErr result (0 < length (held_in (answered O.octets O.octets told))) }
+    requires { IsMadeOf (complex_over_view O.octets O.octets told) }
+    ensures same { IfOk result (λ c. owned_complex_view c ≡ complex_over_view O.octets O.octets told) }
+    ensures full { OnErr result (0 < length (held_in (complex_over_view O.octets O.octets told))) }
 {
     match told {
         AnyComplex::FileRead(read) => {
@@ -118,8 +119,8 @@ pub(crate) fn complex_copy<O: Octets>(
 fn access_found<'a>(
     access: WriteAccess<Content<'a>, Records<'a>>,
 ) -> WriteAccess<&'a [u8], Run<&'a [u8]>>
-    ensures same { write_access (left (λ s. s.now)) result ≡ write_access lent access.entry }
-    ensures made { IsWritten (write_access lent access.entry) }
+    ensures same { write_access_view (left (λ s. s.now)) result ≡ write_access_view lent access.entry }
+    ensures made { IsWritten (write_access_view lent access.entry) }
 {
     match access {
         WriteAccess::Stream(write) => {
@@ -139,8 +140,8 @@ fn access_found<'a>(
 }
 
 fn request_found(request: Request<'_>) -> Found<&[u8]>
-    ensures same { seen (left (λ s. s.now)) result ≡ seen lent request.entry }
-    ensures made { IsMade (seen lent request.entry) }
+    ensures same { request_over_view (left (λ s. s.now)) result ≡ request_view request.entry }
+    ensures made { IsMade (request_view request.entry) }
 {
     match request {
         AnyRequest::ReadFile(read) => AnyRequest::ReadFile(read),
@@ -162,8 +163,8 @@ fn request_found(request: Request<'_>) -> Found<&[u8]>
 }
 
 fn complex_found(reply: Complex<'_>) -> Told<&[u8]>
-    ensures same { answered (λ s. s.now) (λ s. s.now) result ≡ complex reply.entry }
-    ensures made { IsMadeOf (complex reply.entry) }
+    ensures same { complex_over_view (λ s. s.now) (λ s. s.now) result ≡ complex_view reply.entry }
+    ensures made { IsMadeOf (complex_view reply.entry) }
 {
     match reply {
         AnyComplex::FileRead(read) => {
@@ -188,28 +189,28 @@ fn complex_found(reply: Complex<'_>) -> Told<&[u8]>
 impl Request<'_> {
     /// A copy with its own memory, in one allocation where the request has octets, otherwise in none.
     pub fn to_owned(self, alloc: Global) -> Result<OwnedRequest, NoMemory>
-        ensures same { IfOk result (λ r. seen owned r ≡ seen lent self.entry) }
-        ensures full { OnErr result (0 < length (held (seen lent self.entry))) }
+        ensures same { IfOk result (λ r. owned_request_view r ≡ request_view self.entry) }
+        ensures full { OnErr result (0 < length (held (request_view self.entry))) }
     {
         request_copy(alloc, request_found(self))
     }
 }
 
 impl Complex<'_> {
-    /// A copy with its own memory, in one allocation where the answer has octets, otherwise in none.
+    /// A copy with its own memory, in one allocation where the value has octets of data or of a file, otherwise in none.
     pub fn to_owned(self, alloc: Global) -> Result<OwnedComplex, NoMemory>
-        ensures same { IfOk result (λ c. owned_complex c ≡ complex self.entry) }
-        ensures full { OnErr result (0 < length (held_in (complex self.entry))) }
+        ensures same { IfOk result (λ c. owned_complex_view c ≡ complex_view self.entry) }
+        ensures full { OnErr result (0 < length (held_in (complex_view self.entry))) }
     {
         complex_copy(alloc, complex_found(self))
     }
 }
 
 impl Reply<'_> {
-    /// A copy with its own memory, in one allocation where the answer has octets, otherwise in none.
+    /// A copy with its own memory, in one allocation where the value has octets of data or of a file, otherwise in none.
     pub fn to_owned(self, alloc: Global) -> Result<OwnedReply, NoMemory>
-        ensures same { IfOk result (λ r. replied owned_complex r ≡ replied complex self.entry) }
-        ensures full { OnErr result (0 < length (held_by (replied complex self.entry))) }
+        ensures same { IfOk result (λ r. owned_reply_view r ≡ reply_view self.entry) }
+        ensures full { OnErr result (0 < length (held_by (reply_view self.entry))) }
     {
         match self {
             AnyReply::Simple => Ok(AnyReply::Simple),

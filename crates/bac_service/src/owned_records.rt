@@ -1,3 +1,4 @@
+//! Records of a file with memory of their own.
 ghost use Rattle.std.specs.Prelude.{◌≡◌, ◌<◌, length, IfOk, OnErr};
 ghost use Rattle.bac_service.specs.Members.{AreStrings};
 

@@ -1,3 +1,5 @@
+//! Why nothing was read from octets in pieces: refused, or out of memory.
+
 /// Why nothing was read from octets in pieces.
 #[derive(Clone, Copy, Debug, Drop, PartialEq, Eq)]
 pub enum ReadError<E> {

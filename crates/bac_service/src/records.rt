@@ -2,11 +2,11 @@
 ghost use Rattle.std.specs.Prelude.{◌≡◌, ℕ, ◌↔◌, IsSome, IfSome, MatchOption};
 ghost use Rattle.bac_service.specs.Members.{AreStrings, IsCount};
 
-use crate::typed::string;
 use crate::value::Records;
+use crate::value_reading::string;
 use bac_value::Octets;
 
-/// How many octet strings some octets are, with their application tags, one behind the other; None where they are none such.
+/// How many octet strings some octets are, with their application tags, one after the other; None where they are none such.
 fn strings_in(run: &[u8]) -> Option<u64>
     ensures { MatchOption result ((n : ℕ) → AreStrings n run.now → ⊥) (λ count. IsCount run.now count) }
 {
@@ -25,7 +25,7 @@ fn strings_in(run: &[u8]) -> Option<u64>
 }
 
 impl<'a> Records<'a> {
-    /// None exactly where the octets are not so many octet strings, with their application tags, one behind the other.
+    /// None exactly where the octets are not so many octet strings, with their application tags, one after the other.
     pub fn new(run: &'a [u8], count: u64) -> Option<Records<'a>>
         ensures some { IsSome result ↔ ∥ AreStrings count run.entry.now ∥₁ }
         ensures same { IfSome result (λ r. (r.run.now ≡ run.entry.now) × (r.count ≡ count)) }

@@ -1,3 +1,4 @@
+//! The reasons of a Reject (clause 18.9).
 ghost use Rattle.std.specs.Prelude.{◌≡◌};
 ghost use Rattle.bac_service.specs.Refusals.{reason_number};
 
@@ -28,7 +29,7 @@ pub enum Reject {
     /// A priority outside 1 to 16.
     #[error("parameter out of range")]
     ParameterOutOfRange,
-    /// Octets behind the last member.
+    /// Octets after the last member.
     #[error("too many arguments")]
     TooManyArguments,
     /// No reader of this crate answers it.

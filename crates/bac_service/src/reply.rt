@@ -1,4 +1,4 @@
-//! Answers of the four services, over whatever holds their octets.
+//! Replies of the four services, over whatever holds their octets.
 use crate::value::{Content, PropertyReference};
 use bac_value::Data;
 
@@ -41,7 +41,7 @@ pub type ComplexOver<D, C> = AnyComplex<FileRead<C>, FileWritten, PropertyRead<D
 /// The service data of a ComplexACK that borrow their octets.
 pub type Complex<'a> = ComplexOver<Data<'a>, Content<'a>>;
 
-/// An answer, over what holds the service data of a ComplexACK.
+/// A reply, over what holds the service data of a ComplexACK.
 #[derive(Clone, Copy, Debug, Drop)]
 pub enum AnyReply<C> {
     /// It was done, and there is nothing to tell.
@@ -53,5 +53,5 @@ pub enum AnyReply<C> {
     Reject(u8),
 }
 
-/// An answer that borrows its octets.
+/// A reply that borrows its octets.
 pub type Reply<'a> = AnyReply<Complex<'a>>;

@@ -1,10 +1,10 @@
-//! Writing answers.
+//! Writing the service data of ComplexACKs.
 ghost use Rattle.std.specs.Prelude.{◌≡◌, ◌+◌, ◌++◌, ◌<◌, ◌≤◌, OnOk, OnErr, length, vec_len, vec_capacity};
 ghost use Rattle.bac_value.specs.Data.{opening, closing};
-ghost use Rattle.bac_service.specs.Spellings.{index_spelling, reference_spelling, content_spelling, enclosed_spelling, answer_spelling};
+ghost use Rattle.bac_service.specs.Spellings.{index_spelling, reference_spelling, content_spelling, enclosed_spelling, complex_spelling};
 ghost use Rattle.bac_service.specs.Replies.{SpellsComplex};
 ghost use Rattle.bac_service.specs.Values.{complex_choice_of};
-ghost use Rattle.bac_service.specs.Views.{reference, complex};
+ghost use Rattle.bac_service.specs.Views.{complex_view, property_reference_view};
 
 use crate::lengths::reply_len;
 use crate::reply::{AnyComplex, Complex, FileWritten};
@@ -58,9 +58,9 @@ fn put_index(index: Option<u32>, out: &mut Vec<u8>) -> Result<(), NoMemory>
 
 /// Appends what names a property.
 pub(crate) fn put_reference(to: PropertyReference, out: &mut Vec<u8>) -> Result<(), NoMemory>
-    ensures ok { OnOk result (out.new.items ≡ out.old.items ++ reference_spelling (reference to)) }
-    ensures len { OnOk result (vec_len out.new ≡ vec_len out.old + length (reference_spelling (reference to))) }
-    ensures full { OnErr result (vec_capacity out.old < vec_len out.old + length (reference_spelling (reference to))) }
+    ensures ok { OnOk result (out.new.items ≡ out.old.items ++ reference_spelling (property_reference_view to)) }
+    ensures len { OnOk result (vec_len out.new ≡ vec_len out.old + length (reference_spelling (property_reference_view to))) }
+    ensures full { OnErr result (vec_capacity out.old < vec_len out.old + length (reference_spelling (property_reference_view to))) }
     ensures grows { vec_capacity out.old ≤ vec_capacity out.new }
 {
     put_object_identifier(Class::Context, 0, to.object, out)?;
@@ -98,9 +98,9 @@ pub(crate) fn put_content(
 }
 
 fn put_complex(reply: Complex<'_>, out: &mut Vec<u8>) -> Result<(), NoMemory>
-    ensures ok { OnOk result (out.new.items ≡ out.old.items ++ answer_spelling (complex reply.entry)) }
-    ensures len { OnOk result (vec_len out.new ≡ vec_len out.old + length (answer_spelling (complex reply.entry))) }
-    ensures full { OnErr result (vec_capacity out.old < vec_len out.old + length (answer_spelling (complex reply.entry))) }
+    ensures ok { OnOk result (out.new.items ≡ out.old.items ++ complex_spelling (complex_view reply.entry)) }
+    ensures len { OnOk result (vec_len out.new ≡ vec_len out.old + length (complex_spelling (complex_view reply.entry))) }
+    ensures full { OnErr result (vec_capacity out.old < vec_len out.old + length (complex_spelling (complex_view reply.entry))) }
     ensures grows { vec_capacity out.old ≤ vec_capacity out.new }
 {
     match reply {
@@ -123,10 +123,10 @@ fn put_complex(reply: Complex<'_>, out: &mut Vec<u8>) -> Result<(), NoMemory>
 
 /// Appends the service data of a ComplexACK in their one spelling (clause 21), or answers `NoMemory` and changes nothing.
 pub fn write_reply(reply: Complex<'_>, out: &mut Vec<u8>) -> Result<(), NoMemory>
-    ensures ok { OnOk result (out.new.items ≡ out.old.items ++ answer_spelling (complex reply.entry)) }
+    ensures ok { OnOk result (out.new.items ≡ out.old.items ++ complex_spelling (complex_view reply.entry)) }
     ensures err { OnErr result (out.new.items ≡ out.old.items) }
-    ensures full { OnErr result (vec_capacity out.old < vec_len out.old + length (answer_spelling (complex reply.entry))) }
-    ensures spelled { SpellsComplex (complex_choice_of (complex reply.entry)) (complex reply.entry) (answer_spelling (complex reply.entry)) }
+    ensures full { OnErr result (vec_capacity out.old < vec_len out.old + length (complex_spelling (complex_view reply.entry))) }
+    ensures spelled { SpellsComplex (complex_choice_of (complex_view reply.entry)) (complex_view reply.entry) (complex_spelling (complex_view reply.entry)) }
 {
     out.reserve(reply_len(reply))?;
     put_complex(reply, out)

@@ -4,7 +4,7 @@ ghost use Rattle.bac_service.specs.Spellings.{enclosed_spelling, extent_spelling
 ghost use Rattle.bac_service.specs.Spellings.{priority_spelling, request_spelling};
 ghost use Rattle.bac_service.specs.Requests.{SpellsRequest};
 ghost use Rattle.bac_service.specs.Values.{choice_of};
-ghost use Rattle.bac_service.specs.Views.{reference, number_of, read_access, write_access, seen, lent};
+ghost use Rattle.bac_service.specs.Views.{lent, priority_view, read_access_view, request_view, write_access_view};
 
 use crate::lengths::request_len;
 use crate::reply_writing::{put_closing, put_content, put_opening, put_reference, put_values};
@@ -42,9 +42,9 @@ fn put_enclosed_extent(
 }
 
 fn put_read_access(access: ReadAccess, out: &mut Vec<u8>) -> Result<(), NoMemory>
-    ensures ok { OnOk result (out.new.items ≡ out.old.items ++ read_access_spelling (read_access access)) }
-    ensures len { OnOk result (vec_len out.new ≡ vec_len out.old + length (read_access_spelling (read_access access))) }
-    ensures full { OnErr result (vec_capacity out.old < vec_len out.old + length (read_access_spelling (read_access access))) }
+    ensures ok { OnOk result (out.new.items ≡ out.old.items ++ read_access_spelling (read_access_view access)) }
+    ensures len { OnOk result (vec_len out.new ≡ vec_len out.old + length (read_access_spelling (read_access_view access))) }
+    ensures full { OnErr result (vec_capacity out.old < vec_len out.old + length (read_access_spelling (read_access_view access))) }
     ensures grows { vec_capacity out.old ≤ vec_capacity out.new }
 {
     match access {
@@ -73,9 +73,9 @@ fn put_write_access(
     access: WriteAccess<Content<'_>, Records<'_>>,
     out: &mut Vec<u8>,
 ) -> Result<(), NoMemory>
-    ensures ok { OnOk result (out.new.items ≡ out.old.items ++ write_access_spelling (write_access lent access.entry)) }
-    ensures len { OnOk result (vec_len out.new ≡ vec_len out.old + length (write_access_spelling (write_access lent access.entry))) }
-    ensures full { OnErr result (vec_capacity out.old < vec_len out.old + length (write_access_spelling (write_access lent access.entry))) }
+    ensures ok { OnOk result (out.new.items ≡ out.old.items ++ write_access_spelling (write_access_view lent access.entry)) }
+    ensures len { OnOk result (vec_len out.new ≡ vec_len out.old + length (write_access_spelling (write_access_view lent access.entry))) }
+    ensures full { OnErr result (vec_capacity out.old < vec_len out.old + length (write_access_spelling (write_access_view lent access.entry))) }
     ensures grows { vec_capacity out.old ≤ vec_capacity out.new }
 {
     match access {
@@ -85,9 +85,9 @@ fn put_write_access(
 }
 
 fn put_priority(priority: Option<Priority>, out: &mut Vec<u8>) -> Result<(), NoMemory>
-    ensures ok { OnOk result (out.new.items ≡ out.old.items ++ priority_spelling (number_of priority)) }
-    ensures len { OnOk result (vec_len out.new ≡ vec_len out.old + length (priority_spelling (number_of priority))) }
-    ensures full { OnErr result (vec_capacity out.old < vec_len out.old + length (priority_spelling (number_of priority))) }
+    ensures ok { OnOk result (out.new.items ≡ out.old.items ++ priority_spelling (priority_view priority)) }
+    ensures len { OnOk result (vec_len out.new ≡ vec_len out.old + length (priority_spelling (priority_view priority))) }
+    ensures full { OnErr result (vec_capacity out.old < vec_len out.old + length (priority_spelling (priority_view priority))) }
     ensures grows { vec_capacity out.old ≤ vec_capacity out.new }
 {
     match priority {
@@ -97,9 +97,9 @@ fn put_priority(priority: Option<Priority>, out: &mut Vec<u8>) -> Result<(), NoM
 }
 
 fn put_request(request: Request<'_>, out: &mut Vec<u8>) -> Result<(), NoMemory>
-    ensures ok { OnOk result (out.new.items ≡ out.old.items ++ request_spelling (seen lent request.entry)) }
-    ensures len { OnOk result (vec_len out.new ≡ vec_len out.old + length (request_spelling (seen lent request.entry))) }
-    ensures full { OnErr result (vec_capacity out.old < vec_len out.old + length (request_spelling (seen lent request.entry))) }
+    ensures ok { OnOk result (out.new.items ≡ out.old.items ++ request_spelling (request_view request.entry)) }
+    ensures len { OnOk result (vec_len out.new ≡ vec_len out.old + length (request_spelling (request_view request.entry))) }
+    ensures full { OnErr result (vec_capacity out.old < vec_len out.old + length (request_spelling (request_view request.entry))) }
     ensures grows { vec_capacity out.old ≤ vec_capacity out.new }
 {
     match request {
@@ -122,10 +122,10 @@ fn put_request(request: Request<'_>, out: &mut Vec<u8>) -> Result<(), NoMemory>
 
 /// Appends the service data of a request in their one spelling (clause 21), or answers `NoMemory` and changes nothing.
 pub fn write_request(request: Request<'_>, out: &mut Vec<u8>) -> Result<(), NoMemory>
-    ensures ok { OnOk result (out.new.items ≡ out.old.items ++ request_spelling (seen lent request.entry)) }
+    ensures ok { OnOk result (out.new.items ≡ out.old.items ++ request_spelling (request_view request.entry)) }
     ensures err { OnErr result (out.new.items ≡ out.old.items) }
-    ensures full { OnErr result (vec_capacity out.old < vec_len out.old + length (request_spelling (seen lent request.entry))) }
-    ensures spelled { SpellsRequest (choice_of (seen lent request.entry)) (seen lent request.entry) (request_spelling (seen lent request.entry)) }
+    ensures full { OnErr result (vec_capacity out.old < vec_len out.old + length (request_spelling (request_view request.entry))) }
+    ensures spelled { SpellsRequest (choice_of (request_view request.entry)) (request_view request.entry) (request_spelling (request_view request.entry)) }
 {
     out.reserve(request_len(request))?;
     put_request(request, out)

@@ -1,24 +1,66 @@
+//! The four services by their choices (clause 21, BACnetConfirmedServiceChoice).
 ghost use Rattle.std.specs.Prelude.{◌≡◌};
-ghost use Rattle.bac_service.specs.Services.{service_at};
+ghost use Rattle.bac_service.specs.Choices.{has_simple_ack, has_complex_ack};
+ghost use Rattle.bac_service.specs.Services.{service_at, choice_number};
 
-/// The four services by their choices (clause 21).
+/// The service choice of AtomicReadFile (clause 21).
+pub const ATOMIC_READ_FILE: u8 = 6;
+
+/// The service choice of AtomicWriteFile (clause 21).
+pub const ATOMIC_WRITE_FILE: u8 = 7;
+
+/// The service choice of ReadProperty (clause 21).
+pub const READ_PROPERTY: u8 = 12;
+
+/// The service choice of WriteProperty (clause 21).
+pub const WRITE_PROPERTY: u8 = 15;
+
+/// A service of this stack.
 #[derive(Clone, Copy, Debug, PartialEq, Eq)]
-pub(crate) enum Service {
-    ReadFile,
-    WriteFile,
+pub enum Service {
+    AtomicReadFile,
+    AtomicWriteFile,
     ReadProperty,
     WriteProperty,
 }
 
-/// The service of a choice; None where the choice is another.
-pub(crate) fn service_of(choice: u8) -> Option<Service>
-    ensures { result ≡ service_at choice }
-{
-    match choice {
-        6 => Some(Service::ReadFile),
-        7 => Some(Service::WriteFile),
-        12 => Some(Service::ReadProperty),
-        15 => Some(Service::WriteProperty),
-        _ => None,
+impl Service {
+    /// The service of a choice; None where this stack has no service of that choice.
+    pub fn of(choice: u8) -> Option<Service>
+        ensures { result ≡ service_at choice }
+    {
+        match choice {
+            ATOMIC_READ_FILE => Some(Service::AtomicReadFile),
+            ATOMIC_WRITE_FILE => Some(Service::AtomicWriteFile),
+            READ_PROPERTY => Some(Service::ReadProperty),
+            WRITE_PROPERTY => Some(Service::WriteProperty),
+            _ => None,
+        }
+    }
+
+    /// The service choice.
+    pub fn choice(self) -> u8
+        ensures { result ≡ choice_number self }
+    {
+        match self {
+            Service::AtomicReadFile => ATOMIC_READ_FILE,
+            Service::AtomicWriteFile => ATOMIC_WRITE_FILE,
+            Service::ReadProperty => READ_PROPERTY,
+            Service::WriteProperty => WRITE_PROPERTY,
+        }
+    }
+
+    /// Whether a request that was performed is answered by a SimpleACK: WriteProperty alone.
+    pub fn has_simple_ack(self) -> bool
+        ensures { result ≡ has_simple_ack (choice_number self) }
+    {
+        matches!(self, Service::WriteProperty)
+    }
+
+    /// Whether a request that was performed is answered by a ComplexACK: all but WriteProperty.
+    pub fn has_complex_ack(self) -> bool
+        ensures { result ≡ has_complex_ack (choice_number self) }
+    {
+        !self.has_simple_ack()
     }
 }

@@ -1,4 +1,6 @@
-ghost use Rattle.std.specs.Prelude.{◌≢◌, ◌≤◌};
+//! Why reading stopped, as a reason for rejecting a request and as a fault of the service data of a ComplexACK.
+ghost use Rattle.std.specs.Prelude.{◌≡◌, ◌≢◌, ◌≤◌};
+ghost use Rattle.bac_service.specs.Stops.{fault_reason, reason_of, kind_of, fault_of};
 
 use crate::reject::Reject;
 use bac_value::{Fault, FaultKind};
@@ -16,7 +18,7 @@ pub(crate) enum Why {
     OutOfRange,
     /// A count that is not the number of what it counts.
     Inconsistent,
-    /// Octets behind the last member.
+    /// Octets after the last member.
     Surplus,
 }
 
@@ -27,21 +29,35 @@ pub(crate) struct Stop {
     pub left: usize,
 }
 
+/// The reason for a fault of a tag, of contents or of data.
+fn reason_for(kind: FaultKind) -> Reject
+    ensures { result ≡ fault_reason kind }
+{
+    match kind {
+        FaultKind::Truncated => Reject::MissingRequiredParameter,
+        FaultKind::ReservedTag | FaultKind::Unbalanced | FaultKind::TooDeep => Reject::InvalidTag,
+        FaultKind::LongForm
+        | FaultKind::BadLength
+        | FaultKind::NotShortest
+        | FaultKind::ReservedBits => Reject::InvalidParameterDataType,
+    }
+}
+
 impl Stop {
-    pub(crate) fn new(why: Why, left: usize) -> Stop {
+    pub(crate) fn new(why: Why, left: usize) -> Stop
+        ensures { result ≡ record { why = why; left = left } }
+    {
         Stop { why, left }
     }
 
-    /// The reason with which a request is rejected.
+    /// The reason with which a request is rejected (own rule of this profile, see docs/PROTOCOL.md).
     pub(crate) fn reject(self) -> Reject
-        ensures { result ≢ Reject.UnrecognizedService }
+        ensures same { result ≡ reason_of self.why }
+        ensures known { result ≢ Reject.UnrecognizedService }
     {
         match self.why {
-            Why::Fault(FaultKind::Truncated) | Why::Missing => Reject::MissingRequiredParameter,
-            Why::Fault(FaultKind::ReservedTag | FaultKind::Unbalanced | FaultKind::TooDeep) => {
-                Reject::InvalidTag
-            }
-            Why::Fault(_) => Reject::InvalidParameterDataType,
+            Why::Fault(kind) => reason_for(kind),
+            Why::Missing => Reject::MissingRequiredParameter,
             Why::Unexpected => Reject::InvalidTag,
             Why::OutOfRange => Reject::ParameterOutOfRange,
             Why::Inconsistent => Reject::InconsistentParameters,
@@ -49,10 +65,11 @@ impl Stop {
         }
     }
 
-    /// The fault of an answer that had `all` octets (own rule of this profile: a member that is missing or another is
-    /// `ReservedTag` at its place, octets behind the last member are `BadLength` at theirs).
+    /// The fault of service data of a ComplexACK that had `all` octets (own rule of this profile: a member that is missing or
+    /// another is `ReservedTag` at its place, octets after the last member are `BadLength` at theirs).
     pub(crate) fn fault_in(self, all: usize) -> Fault
-        ensures { result.at ≤ all }
+        ensures same { result ≡ fault_of all self }
+        ensures place { result.at ≤ all }
     {
         let kind = match self.why {
             Why::Fault(kind) => kind,

@@ -6,6 +6,7 @@ use bac_value::{Fault, NoMemory, ObjectIdentifier, Parts};
 use std::alloc::Global;
 use std::test::Fail;
 
+mod limits;
 mod pieces;
 mod replies;
 mod requests;
@@ -43,7 +44,7 @@ fn numbers_of(fault: Fault) -> (u8, usize) {
     (fault.kind.number(), fault.at)
 }
 
-/// None where the answer is read, otherwise the number of the fault and its place.
+/// None where the service data are read, otherwise the number of the fault and its place.
 fn reply_outcome(choice: u8, octets: &[u8]) -> Option<(u8, usize)> {
     match read_reply(choice, octets) {
         Ok(_) => None,

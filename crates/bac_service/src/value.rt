@@ -1,4 +1,4 @@
-//! What requests and answers are made of.
+//! What requests and replies are made of.
 ghost use Rattle.std.specs.Prelude.{◌≡◌, ◌<◌, ◌≤◌, ◌^◌, ◌↔◌, IsSome, IfSome, length};
 ghost use Rattle.bac_service.specs.Members.{AreStrings};
 
@@ -58,7 +58,7 @@ impl<'a> Content<'a> {
     }
 }
 
-/// Records of a file: so many octet strings, each spelled with its application tag, one behind the other.
+/// Records of a file: so many octet strings, each spelled with its application tag, one after the other.
 #[derive(Clone, Copy, Debug)]
 pub struct Records<'a> {
     pub run: &'a [u8],

@@ -1,3 +1,4 @@
+//! Rows read from pieces.
 ghost use Rattle.std.specs.Prelude.{◌<◌};
 
 use super::*;
@@ -120,7 +121,7 @@ fn pieces_of_requests_give_what_the_octets_give(rt: HostRuntime) -> Result<(), F
 }
 
 #[test]
-fn pieces_of_answers_give_what_the_octets_give(rt: HostRuntime) -> Result<(), Fail> {
+fn pieces_of_replies_give_what_the_octets_give(rt: HostRuntime) -> Result<(), Fail> {
     let alloc = rt.alloc();
     let rows = [
         (7, "0902", None),
@@ -144,8 +145,8 @@ fn pieces_of_answers_give_what_the_octets_give(rt: HostRuntime) -> Result<(), Fa
     Ok(())
 }
 
-/// None of the rows is refused. In runs in which one allocation is refused, only a request that holds octets wants memory in
-/// vain, and then the next call has it. How many allocations a call takes is counted in bench/growths.
+/// None of the rows is refused. In runs in which one allocation is refused, only a request that holds octets is out of memory,
+/// and then the next call has it. How many allocations a call takes is counted in tests/memory.
 #[test]
 fn only_copies_of_octets_want_memory(rt: HostRuntime) -> Result<(), Fail> {
     let alloc = rt.alloc();

@@ -1,6 +1,7 @@
+//! Rows of service data of ComplexACKs.
 use super::*;
 
-/// Whether an answer is read, has as many octets, and is written as them, by itself and by its copy.
+/// Whether service data are read, have as many octets, and are written as them, by themselves and by their copy.
 fn is_written_back(alloc: Global, choice: u8, octets: &[u8]) -> Result<bool, Fail> {
     let Ok(complex) = read_reply(choice, octets) else {
         return Ok(false);
@@ -15,7 +16,7 @@ fn is_written_back(alloc: Global, choice: u8, octets: &[u8]) -> Result<bool, Fai
 }
 
 #[test]
-fn reads_worked_answers(rt: HostRuntime) -> Result<(), Fail> {
+fn reads_worked_replies(rt: HostRuntime) -> Result<(), Fail> {
     let rows = [
         (7, "0902", None),
         (7, "1902", None),
@@ -46,7 +47,7 @@ fn reads_worked_answers(rt: HostRuntime) -> Result<(), Fail> {
 
 /// Octets of an independent program, and what it answers for them.
 #[test]
-fn reads_answers_as_another_program_does(rt: HostRuntime) -> Result<(), Fail> {
+fn reads_replies_as_another_program_does(rt: HostRuntime) -> Result<(), Fail> {
     let rows = [
         (6, "100E310061EC0F", None),
         (6, "100E330100006505A82318A5A30F", None),
@@ -128,7 +129,7 @@ fn reads_a_position_and_a_record(rt: HostRuntime) -> Result<(), Fail> {
 }
 
 #[test]
-fn copies_answers_of_each_kind(rt: HostRuntime) -> Result<(), Fail> {
+fn copies_replies_of_each_kind(rt: HostRuntime) -> Result<(), Fail> {
     let alloc = rt.alloc();
     let octets = octets_of(alloc, "0C0000000519553E444290999A3F")?;
     let simple: Reply<'_> = AnyReply::Simple;
@@ -150,7 +151,7 @@ fn copies_answers_of_each_kind(rt: HostRuntime) -> Result<(), Fail> {
     let reply: Reply<'_> = AnyReply::Complex(complex);
     let copy = reply.to_owned(alloc)?;
     let AnyReply::Complex(told) = copy.as_reply() else {
-        return Err(Fail::from("no answer"));
+        return Err(Fail::from("no ComplexACK"));
     };
     let mut out = Vec::new(alloc);
     write_reply(told, &mut out)?;

@@ -1,3 +1,4 @@
+//! Rows of requests.
 use super::*;
 
 /// Whether a request is read, has as many octets, and is written as them, by itself and by its copy.

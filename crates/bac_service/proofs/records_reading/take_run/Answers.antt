@@ -1,6 +1,6 @@
 use Rattle.std.proofs.Common.{arith}
 use Rattle.bac_service.proofs.Runs.{run_is}
-use Rattle.bac_service.proofs.request_reading.run.Goals as goal
+use Rattle.bac_service.proofs.records_reading.take_run.Goals as goal
 
 pub returns : goal.returns
 returns g c =

@@ -1,6 +1,6 @@
 use Rattle.std.proofs.Common.{length}
 use Rattle.bac_service.proofs.Runs.{IsUnderway}
-use Rattle.bac_service.proofs.request_reading.strings.Given as goal
+use Rattle.bac_service.proofs.records_reading.strings.Given as goal
 
 abbrev pub invariant-loop-next : goal.invariant-loop-next
 invariant-loop-next g l = IsUnderway (g.O.Octets.octets l.fn.octets) l.count (g.O.Octets.octets l.rest)

@@ -1,35 +1,31 @@
-//! Members one by one: a tag that is looked at first, and then the contents behind it.
-ghost use Rattle.std.specs.Prelude.{◌≡◌, ◌≤◌, ◌<◌, ◌==◌, ◌&&◌, ◌-◌, length, IfOk, MatchResult, Some, None, Ok};
-ghost use Rattle.bac_value.specs.Views.{mark};
-ghost use Rattle.bac_value.specs.Reading.{tag_at};
-ghost use Rattle.bac_service.specs.Reading.{Reads, kept, announced, head_at, is_next, is_opened, tag_that, opening_at};
-ghost use Rattle.bac_service.specs.Reading.{closing_at, values_at};
+//! Tags of members: which comes next, and what each announces.
+ghost use Rattle.std.specs.Prelude.{◌≡◌, ◌≤◌, ◌<◌, ◌==◌, ◌&&◌, ◌-◌, length, IfOk, MatchResult, Some, None, Ok, Err};
+ghost use Rattle.bac_value.specs.Views.{tag_view};
+ghost use Rattle.bac_value.specs.Steps.{Reads};
+ghost use Rattle.bac_service.specs.Reading.{announced, next_tag, head_at, is_next, is_opened, tag_that, opening_at, closing_at};
 
 use crate::stop::{Stop, Why};
-use bac_value::{Class, Form, Octets, Tag, take_data, take_tag};
+use bac_value::{Class, Form, Octets, Tag, take_tag};
 
 /// The next tag.
+#[tactic(auto, unfolding(crate::specs::Reading::next_tag))]
 pub(crate) fn tag<O: Octets>(octets: O) -> Result<(Tag, O), Stop>
-    ensures reads { Reads mark O.octets (O.octets octets) result (λ bytes. kept (tag_at bytes)) }
+    ensures reads { Reads tag_view O.octets (O.octets octets) result next_tag }
     ensures onward { IfOk result (λ r. length (O.octets r.1) < length (O.octets octets)) }
 {
     let left = octets.len();
+    if left == 0 {
+        return Err(Stop::new(Why::Missing, left));
+    }
     match take_tag(octets) {
         Ok(read) => Ok(read),
-        Err(kind) => {
-            let why = if left == 0 {
-                Why::Missing
-            } else {
-                Why::Fault(kind)
-            };
-            Err(Stop::new(why, left))
-        }
+        Err(kind) => Err(Stop::new(Why::Fault(kind), left)),
     }
 }
 
 #[tactic(auto, unfolding(crate::specs::Reading::announced))]
 pub(crate) fn announced_by(tag: Tag, class: Class, number: u8) -> Option<usize>
-    ensures { result ≡ announced class number (mark tag) }
+    ensures { result ≡ announced class number (tag_view tag) }
 {
     let is_same = match (class, tag.class) {
         (Class::Application, Class::Application) | (Class::Context, Class::Context) => true,
@@ -58,7 +54,7 @@ pub(crate) fn head<O: Octets>(octets: O, class: Class, number: u8) -> Result<(us
 /// Whether the next tag is that of an optional member; at the end none comes.
 #[tactic(auto, unfolding(crate::specs::Reading::is_next))]
 pub(crate) fn comes_next<O: Octets>(octets: O, number: u8) -> Result<bool, Stop>
-    ensures { MatchResult result (λ b. is_next number (O.octets octets) ≡ Some b) (λ e. is_next number (O.octets octets) ≡ None) }
+    ensures { result ≡ is_next number (O.octets octets) }
 {
     if octets.len() == 0 {
         return Ok(false);
@@ -70,17 +66,17 @@ pub(crate) fn comes_next<O: Octets>(octets: O, number: u8) -> Result<bool, Stop>
 /// Whether the next tag is the opening tag of a number.
 #[tactic(auto, unfolding(crate::specs::Reading::is_opened))]
 pub(crate) fn opens_next<O: Octets>(octets: O, number: u8) -> Result<bool, Stop>
-    ensures { MatchResult result (λ b. is_opened number (O.octets octets) ≡ Some b) (λ e. is_opened number (O.octets octets) ≡ None) }
+    ensures { result ≡ is_opened number (O.octets octets) }
 {
     let (tag, _) = tag(octets)?;
     Ok(matches!(tag.form, Form::Opening) && number == tag.number)
 }
 
-/// What is behind the opening tag of a number.
+/// What comes after the opening tag of a number.
 #[tactic(auto, unfolding(crate::specs::Reading::tag_that))]
 pub(crate) fn opening<O: Octets>(octets: O, number: u8) -> Result<O, Stop>
-    ensures { MatchResult result (λ rest. (length (O.octets rest) ≤ length (O.octets octets)) × (opening_at number (O.octets octets) ≡ Some (O.octets rest)))
-        (λ e. opening_at number (O.octets octets) ≡ None) }
+    ensures { MatchResult result (λ rest. (length (O.octets rest) ≤ length (O.octets octets)) × (opening_at number (O.octets octets) ≡ Ok (O.octets rest)))
+        (λ e. opening_at number (O.octets octets) ≡ Err e) }
 {
     let left = octets.len();
     let (tag, rest) = tag(octets)?;
@@ -90,28 +86,16 @@ pub(crate) fn opening<O: Octets>(octets: O, number: u8) -> Result<O, Stop>
     }
 }
 
-/// What is behind the closing tag of a number.
+/// What comes after the closing tag of a number.
 #[tactic(auto, unfolding(crate::specs::Reading::tag_that))]
 pub(crate) fn closing<O: Octets>(octets: O, number: u8) -> Result<O, Stop>
-    ensures { MatchResult result (λ rest. (length (O.octets rest) ≤ length (O.octets octets)) × (closing_at number (O.octets octets) ≡ Some (O.octets rest)))
-        (λ e. closing_at number (O.octets octets) ≡ None) }
+    ensures { MatchResult result (λ rest. (length (O.octets rest) ≤ length (O.octets octets)) × (closing_at number (O.octets octets) ≡ Ok (O.octets rest)))
+        (λ e. closing_at number (O.octets octets) ≡ Err e) }
 {
     let left = octets.len();
     let (tag, rest) = tag(octets)?;
     match tag.form {
         Form::Closing if number == tag.number => Ok(rest),
         _ => Err(Stop::new(Why::Unexpected, left)),
-    }
-}
-
-/// Data up to the end or a closing tag, and what is behind them.
-#[tactic(auto, unfolding(crate::specs::Reading::values_at))]
-pub(crate) fn values<O: Octets>(octets: O) -> Result<(O, O), Stop>
-    ensures { Reads O.octets O.octets (O.octets octets) result values_at }
-{
-    let left = octets.len();
-    match take_data(octets) {
-        Ok(read) => Ok(read),
-        Err(fault) => Err(Stop::new(Why::Fault(fault.kind), left - fault.at)),
     }
 }
