@@ -1,5 +1,5 @@
 -- Parts that are taken one after another.
-use Rattle.std.proofs.Common.{◌≡◌, ℕ, ◌+◌, ◌≤◌, List, [], ◌∷◌, ◌++◌, length, map, refl, ap, sym, ◌∙◌, arith, length-append, append_assoc}
+use Rattle.std.proofs.Common.{◌≡◌, ℕ, ◌+◌, ◌-◌, ◌<◌, ◌≤◌, List, [], ◌∷◌, ◌++◌, length, map, refl, ap, sym, ◌∙◌, arith, length-append, append_assoc}
 use Rattle.std.proofs.lemmas.List.{append-nil, length_push}
 use Rattle.std.specs.Global.{Vec}
 use Rattle.bac_value.specs.Octets.{joined}
@@ -27,6 +27,21 @@ CountsOctets-push parts more octets total fresh counts is short few =
       few = omega (arith, parts_are);
       fresh = omega (arith, parts_are, counts.fresh);
     }
+
+-- the last part is counted no more
+pub CountsOctets-pop : (parts more : List (List ℕ)) (octets : List ℕ) (total fresh then : ℕ) → CountsOctets total fresh more
+    → more ≡ parts ++ octets ∷ [] → then < length more → (length octets ≤ total) × CountsOctets (total - length octets) then parts
+CountsOctets-pop parts more octets total fresh then counts is few =
+    let octets_are = ap (λ l. length (join l)) is ∙ length-join-push parts octets in
+    let parts_are = ap length is ∙ length_push parts octets in (
+      omega (arith, octets_are, counts.counted),
+      record {
+        counted = omega (arith, octets_are, counts.counted);
+        short = omega (arith, counts.short);
+        few = omega (arith, parts_are, counts.few);
+        fresh = omega (arith, parts_are, few);
+      },
+    )
 
 -- the parts' octets, joined in the words of either crate
 pub joined_are-join : (parts : List (Vec ℕ)) → joined parts ≡ join (map (λ p. p.items) parts)

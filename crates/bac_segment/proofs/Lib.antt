@@ -3,3 +3,4 @@ pub mod Joined
 pub mod Reach
 pub mod Unique
 pub mod Same
+pub mod Back

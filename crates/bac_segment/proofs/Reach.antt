@@ -51,15 +51,15 @@ takes_only_expected V W inc some bound = λ p more octets reach other. refused p
         grind (arith, is)
 
 -- what a segment does, by its four tests
-branches : (inc : Incoming) (octets : List ℕ) (expected long more ack : Bool) → Taking
+unfoldable pub branches : (inc : Incoming) (octets : List ℕ) (expected long more ack : Bool) → Taking
 branches inc octets false long more ack = Taking.Nak (record inc { unacknowledged = 0 })
 branches inc octets true true more ack = Taking.TooLong
-branches inc octets true false false ack = Taking.Complete (inc.parts ++ octets ∷ [])
+branches inc octets true false false ack = Taking.Whole (inc.parts ++ octets ∷ [])
 branches inc octets true false true true = Taking.Taken true (record inc { parts = inc.parts ++ octets ∷ []; unacknowledged = 0 })
 branches inc octets true false true false =
     Taking.Taken false (record inc { parts = inc.parts ++ octets ∷ []; unacknowledged = inc.unacknowledged + 1 })
 
-branches_are : (inc : Incoming) (number : ℕ) (octets : List ℕ) (expected long more ack : Bool) → is_expected inc number ≡ expected
+pub branches_are : (inc : Incoming) (number : ℕ) (octets : List ℕ) (expected long more ack : Bool) → is_expected inc number ≡ expected
     → is_too_long inc octets ≡ long → is_acknowledged inc ≡ ack → takes inc number more octets ≡ branches inc octets expected long more ack
 unfolding branches
 branches_are inc number octets false long more ack e l a = grind (arith, e)

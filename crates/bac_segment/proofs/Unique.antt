@@ -1,7 +1,7 @@
 -- The pieces of some octets are one list.
 use Rattle.std.proofs.Common.{◌≡◌, ℕ, suc, ◌+◌, ◌-◌, ◌*◌, ◌<◌, ◌≤◌, min, List, []}
 use Rattle.std.proofs.Common.{◌∷◌, length, take, drop, refl, ap, sym, subst, ◌∙◌, arith, length-append}
-use Rattle.std.proofs.Math.Nat.{lt_of_mul-lt-mul_right}
+use Rattle.std.proofs.Math.Nat.{lt_of_mul-lt-mul_right, mul-le-mul_left}
 use Rattle.std.proofs.lemmas.Grind.{div_ceil_times}
 use Rattle.std.proofs.lemmas.List.{append-nil, length-take, length-drop, take_all, take_at, drop_at}
 use Rattle.bac_segment.specs.Pieces.{join, piece_at, ArePieces, count_of, cut, pieces_of}
@@ -83,3 +83,11 @@ pieces_are_one size octets pieces positive are =
     let many = count-le (count_of size octets) (length pieces) size (length octets) ours.1 theirs.0 in
     let count : length pieces ≡ count_of size octets = omega arith in
     are_cut size octets pieces are ∙ ap (λ count. cut count size octets) count
+
+-- there are no more pieces than octets
+pub pieces_are_few : (size : ℕ) (octets : List ℕ) → 1 ≤ size → length (pieces_of size octets) ≤ length octets
+pieces_are_few size octets positive =
+    let ours = div_ceil_times (length octets) size positive in
+    let enough = mul-le-mul_left (length octets) positive in
+    let few = count-le (count_of size octets) (length octets) size (length octets) ours.1 (omega (arith, enough)) in
+    omega (arith, length-pieces_of size octets, few)

@@ -24,21 +24,21 @@ TimesOut next old GivenUp new = (next ≡ None) × (new ≡ old)
 -- what a segment is answered, with ample memory
 abbrev pub answer_of : Taking → Result Step SegmentFault
 answer_of (Taking.Taken ack next) = Ok (step.Taken ack)
-answer_of (Taking.Complete parts) = Ok step.Whole
+answer_of (Taking.Whole parts) = Ok step.Whole
 answer_of (Taking.Nak next) = Ok step.Nak
 answer_of Taking.TooLong = Err fault.TooLong
 
 -- whether the segment's octets are to be kept, which is all that takes memory
 abbrev pub IsKept : Taking → Type 0
 IsKept (Taking.Taken ack next) = Unit {0}
-IsKept (Taking.Complete parts) = Unit {0}
+IsKept (Taking.Whole parts) = Unit {0}
 IsKept (Taking.Nak next) = ⊥
 IsKept Taking.TooLong = ⊥
 
 -- The answer to a segment. The first argument is what it does by the definition.
 abbrev pub Takes : Taking → Incoming → Result Step SegmentFault → Incoming → Type 0
 Takes does old (Ok (step.Taken ack)) new = does ≡ Taking.Taken ack new
-Takes does old (Ok step.Whole) new = (does ≡ Taking.Complete new.parts) × (new ≡ record old { parts = new.parts; unacknowledged = 0 })
+Takes does old (Ok step.Whole) new = (does ≡ Taking.Whole new.parts) × (new ≡ record old { parts = new.parts; unacknowledged = 0 })
 Takes does old (Ok step.Nak) new = does ≡ Taking.Nak new
 Takes does old (Err fault.TooLong) new = (does ≡ Taking.TooLong) × (new ≡ old)
 Takes does old (Err fault.NoMemory) new = IsKept does × (new ≡ old)

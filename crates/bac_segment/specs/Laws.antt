@@ -1,9 +1,11 @@
 -- What holds of the definitions of pieces and windows. The functions of src/laws.rt carry the proofs.
-use Rattle.std.specs.Prelude.{◌≡◌, ◌≢◌, ℕ, ◌+◌, ◌%◌, ◌<◌, ◌≤◌, min, Bool, List, length, Some}
+use Rattle.std.specs.Prelude.{◌≡◌, ◌≢◌, ℕ, ◌+◌, ◌%◌, ◌<◌, ◌≤◌, min, Bool, List, length, Some, Ok}
+use Rattle.bac_segment.specs.Answers.{IsKept, Takes}
 use Rattle.bac_segment.specs.Limits.{RETRIES}
 use Rattle.bac_segment.specs.Numbers.{IsInReach}
 use Rattle.bac_segment.specs.Pieces.{piece_at}
-use Rattle.bac_segment.specs.Window.{Outgoing, in_window, acknowledged, Incoming, Taking, takes, parts_after, AreFirst}
+use Rattle.bac_segment.specs.Window.{Outgoing, in_window, acknowledged, Incoming, Taking, takes, taken_back, parts_after, AreFirst}
+use Rattle.bac_segment.specs.declared.incoming.Step.{Step}
 
 -- no two whole numbers in reach have the same remainder
 abbrev pub AreDifferent : (V W a : ℕ) → Type 0
@@ -33,3 +35,9 @@ abbrev pub AcknowledgesWindow : (own : ℕ) → Outgoing → Type 0
 AcknowledgesWindow own out =
     (p window : ℕ) → out.first ≤ p → p < out.first + in_window out
     → acknowledged own out (p % 256) window ≡ Some (record out { first = p + 1; window = min window own; retries = RETRIES })
+
+-- a segment that was taken is taken back: the receiver is as it was before
+abbrev pub IsUndone : Type 0
+IsUndone =
+    (before : Incoming) (number : ℕ) (more : Bool) (octets : List ℕ) (step : Step) (after : Incoming) → IsKept (takes before number more octets)
+    → Takes (takes before number more octets) before (Ok step) after → taken_back before.unacknowledged after ≡ before

@@ -1,10 +1,11 @@
--- The limits of a transfer in segments (own rules of this profile).
+-- The limits of a transfer (own rules of this profile), as the code states them.
 use Rattle.std.specs.Prelude.{ℕ}
+use Rattle.bac_segment.specs.declared.limits.TheConstants as code
 
 -- how often a window is sent again before the sender gives up
 abbrev pub RETRIES : ℕ
-RETRIES = 3
+RETRIES = code.RETRIES
 
 -- the most octets of service data, and the most segments of one transfer
 abbrev pub DATA : ℕ
-DATA = 65535
+DATA = code.DATA

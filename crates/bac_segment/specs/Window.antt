@@ -65,7 +65,7 @@ incoming W proposed = record { parts = []; unacknowledged = 0; window = min prop
 -- the expected one and gets a negative SegmentACK, or the transfer has grown too long and nothing changes
 pub data Taking : Type 0 where
   Taken : (ack : Bool) (next : Incoming) → Taking
-  Complete : (parts : List (List ℕ)) → Taking
+  Whole : (parts : List (List ℕ)) → Taking
   Nak : (next : Incoming) → Taking
   TooLong : Taking
 
@@ -83,7 +83,7 @@ is_acknowledged inc = nat_eq (length inc.parts) 0 || nat_le inc.window (inc.unac
 
 -- the expected segment is taken
 abbrev pub takes_expected : Incoming → Bool → List ℕ → Taking
-takes_expected inc false octets = Complete (inc.parts ++ octets ∷ [])
+takes_expected inc false octets = Whole (inc.parts ++ octets ∷ [])
 takes_expected inc true octets =
     if is_acknowledged inc
     then Taken true (record inc { parts = inc.parts ++ octets ∷ []; unacknowledged = 0 })
@@ -97,10 +97,14 @@ takes inc number more octets =
     then (if is_too_long inc octets then TooLong else takes_expected inc more octets)
     else Nak (record inc { unacknowledged = 0 })
 
+-- the last segment was not taken after all; so many were taken since the last SegmentACK then
+abbrev pub taken_back : ℕ → Incoming → Incoming
+taken_back unacknowledged inc = record inc { parts = take (length inc.parts - 1) inc.parts; unacknowledged = unacknowledged }
+
 -- the parts that the receiver holds then
 abbrev pub parts_after : Incoming → Taking → List (List ℕ)
 parts_after inc (Taking.Taken ack next) = next.parts
-parts_after inc (Taking.Complete parts) = parts
+parts_after inc (Taking.Whole parts) = parts
 parts_after inc (Taking.Nak next) = next.parts
 parts_after inc Taking.TooLong = inc.parts
 

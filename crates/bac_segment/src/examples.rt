@@ -19,17 +19,17 @@ fn cuts()
 fn counts_ahead()
     ensures same { ahead 0 256 ≡ 0 }
     ensures next { ahead 1 256 ≡ 1 }
-    ensures behind { ahead 255 256 ≡ 255 }
+    ensures before { ahead 255 256 ≡ 255 }
     ensures round { ahead 4 510 ≡ 6 }
 {}
 
-/// A sender of three pieces: acknowledgements of piece 0, of pieces behind and ahead of the window, and of the last.
+/// A sender of three pieces: acknowledgements of piece 0, of pieces before and after the window, and of the last.
 fn sends()
     ensures start { window_pieces (outgoing ((1 ∷ []) ∷ (2 ∷ []) ∷ (3 ∷ []) ∷ [])) ≡ (1 ∷ []) ∷ [] }
     ensures first { acknowledged 32 (outgoing ((1 ∷ []) ∷ (2 ∷ []) ∷ (3 ∷ []) ∷ [])) 0 127
         ≡ Some (record { pieces = (1 ∷ []) ∷ (2 ∷ []) ∷ (3 ∷ []) ∷ []; first = 1; window = 32; retries = 3 }) }
     ensures ahead { acknowledged 32 (outgoing ((1 ∷ []) ∷ (2 ∷ []) ∷ (3 ∷ []) ∷ [])) 1 32 ≡ None }
-    ensures behind { acknowledged 32 (outgoing ((1 ∷ []) ∷ (2 ∷ []) ∷ (3 ∷ []) ∷ [])) 255 32 ≡ None }
+    ensures before { acknowledged 32 (outgoing ((1 ∷ []) ∷ (2 ∷ []) ∷ (3 ∷ []) ∷ [])) 255 32 ≡ None }
     ensures window { window_pieces (record { pieces = (1 ∷ []) ∷ (2 ∷ []) ∷ (3 ∷ []) ∷ []; first = 1; window = 32; retries = 3 })
         ≡ (2 ∷ []) ∷ (3 ∷ []) ∷ [] }
     ensures last { acknowledged 32 (record { pieces = (1 ∷ []) ∷ (2 ∷ []) ∷ (3 ∷ []) ∷ []; first = 1; window = 32; retries = 0 }) 2 16
@@ -60,7 +60,7 @@ fn receives()
     ensures two { takes (record { parts = (7 ∷ []) ∷ [] ∷ []; unacknowledged = 1; window = 2 }) 2 true (8 ∷ [])
         ≡ Taking.Taken true (record { parts = (7 ∷ []) ∷ [] ∷ (8 ∷ []) ∷ []; unacknowledged = 0; window = 2 }) }
     ensures last { takes (record { parts = (7 ∷ []) ∷ [] ∷ []; unacknowledged = 1; window = 2 }) 2 false (8 ∷ [])
-        ≡ Taking.Complete ((7 ∷ []) ∷ [] ∷ (8 ∷ []) ∷ []) }
+        ≡ Taking.Whole ((7 ∷ []) ∷ [] ∷ (8 ∷ []) ∷ []) }
     ensures other { takes (record { parts = (7 ∷ []) ∷ [] ∷ []; unacknowledged = 1; window = 2 }) 1 true []
         ≡ Taking.Nak (record { parts = (7 ∷ []) ∷ [] ∷ []; unacknowledged = 0; window = 2 }) }
 {}

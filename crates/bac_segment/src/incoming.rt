@@ -1,13 +1,14 @@
 //! The receiver of a transfer. It keeps the octets of each segment in a vector of their own, and joins nothing.
-ghost use Rattle.std.specs.Prelude.{◌≡◌, ◌+◌, ◌≤◌, ◌↔◌, ◌∷◌, ◌++◌, [], length, IsTrue, OnOk, OnErr, IsOkUnless};
-ghost use Rattle.bac_value.specs.Views.{octets_in};
+ghost use Rattle.std.specs.Prelude.{◌≡◌, ◌+◌, ◌<◌, ◌≤◌, ◌↔◌, ◌∷◌, ◌++◌, [], length, min, IsTrue, OnOk, OnErr, IsOkUnless};
+ghost use Rattle.bac_value.specs.Octets.{IsBytes};
+ghost use Rattle.bac_value.specs.Views.{parts_view};
 ghost use Rattle.bac_segment.specs.Answers.{Takes, answer_of};
-ghost use Rattle.bac_segment.specs.Limits.{DATA};
 ghost use Rattle.bac_segment.specs.Pieces.{join};
-ghost use Rattle.bac_segment.specs.Window.{incoming, takes};
+ghost use Rattle.bac_segment.specs.Window.{incoming, takes, taken_back};
 
-use crate::limits::DATA_LIMIT;
-use bac_value::Parts;
+use crate::limits::DATA;
+use bac_apdu::Window;
+use bac_value::{Octets, Parts};
 use std::alloc::Global;
 use std::marker::Model;
 
@@ -38,7 +39,7 @@ pub struct Incoming {
     parts: Vec<Vec<u8>>,
     total: usize,
     unacknowledged: usize,
-    window: u8,
+    window: Window,
 }
 
 impl Model for Incoming {
@@ -49,7 +50,7 @@ impl Model for Incoming {
     ghost use Rattle.std.specs.Prelude.{map};
     ghost use Rattle.bac_segment.specs.Kept.{CountsOctets};
 
-    ghost view = { λ i. record { parts = map (λ p. p.items) i.parts.items; unacknowledged = i.unacknowledged; window = i.window } };
+    ghost view = { λ i. record { parts = map (λ p. p.items) i.parts.items; unacknowledged = i.unacknowledged; window = i.window.size } };
 
     ghost invariant = { λ i. CountsOctets i.total i.unacknowledged (map (λ p. p.items) i.parts.items) };
 }
@@ -57,15 +58,15 @@ impl Model for Incoming {
 impl Incoming {
     /// A receiver that has taken nothing, of a transfer whose segments propose that window, on a node whose own
     /// greatest window is `own`. It takes memory as segments are taken, and none now.
-    pub fn new(alloc: Global, proposed: u8, own: u8) -> Incoming
-        ensures { result ≡ incoming own proposed }
+    pub fn new(alloc: Global, proposed: Window, own: Window) -> Incoming
+        ensures { result ≡ incoming own.size proposed.size }
     {
         Incoming {
             alloc,
             parts: Vec::new(alloc),
             total: 0,
             unacknowledged: 0,
-            window: proposed.min(own),
+            window: lesser(proposed, own),
         }
     }
 
@@ -85,22 +86,26 @@ impl Incoming {
         self.total
     }
 
-    /// The octets that were taken, as they came: nothing is copied. It goes over the segments once.
+    /// The octets that were taken, joined; nothing is copied. It goes over the segments once.
     pub fn parts(&self) -> Parts<'_>
-        ensures { octets_in result ≡ join self.now.parts }
+        ensures joined { parts_view result ≡ join self.now.parts }
+        ensures each { IsBytes (join self.now.parts) }
     {
-        Parts::new(&self.parts)
+        let parts = Parts::new(&self.parts);
+        let len = parts.len();
+        prove!(len == self.total);
+        parts
     }
 
-    /// The actual window, in segments.
-    pub fn window(&self) -> u8
-        ensures { result ≡ self.now.window }
+    /// The actual window.
+    pub fn window(&self) -> Window
+        ensures { result.size ≡ self.now.window }
     {
         self.window
     }
 
-    /// What a segment would do: its number on the wire, whether more follow, and its octets. It changes nothing, takes
-    /// no memory, and refuses nothing for want of it.
+    /// What a segment would do: its number on the wire, whether more follow, and its octets. It changes nothing,
+    /// takes no memory, and never answers `NoMemory`.
     pub fn answer(&self, number: u8, more: bool, octets: &[u8]) -> Result<Step, SegmentFault>
         ensures { result ≡ answer_of (takes self.now number more octets.now) }
     {
@@ -108,13 +113,13 @@ impl Incoming {
         if number as usize != taken % 256 {
             return Ok(Step::Nak);
         }
-        if octets.len() > DATA_LIMIT - self.total || taken >= DATA_LIMIT {
+        if octets.len() > DATA - self.total || taken >= DATA {
             return Err(SegmentFault::TooLong);
         }
         if !more {
             return Ok(Step::Whole);
         }
-        let ack = taken == 0 || self.window as usize <= self.unacknowledged + 1;
+        let ack = taken == 0 || self.window.size as usize <= self.unacknowledged + 1;
         Ok(Step::Taken { ack })
     }
 
@@ -142,6 +147,27 @@ impl Incoming {
         Ok(step)
     }
 
+    /// How many segments were taken since the last SegmentACK of either kind.
+    pub fn unacknowledged(&self) -> usize
+        ensures number { result ≡ self.now.unacknowledged }
+        ensures few { result ≤ length self.now.parts }
+    {
+        self.unacknowledged
+    }
+
+    /// The last segment was not taken after all: this undoes a step that the caller could not finish. `unacknowledged` is what
+    /// [`unacknowledged`](Incoming::unacknowledged) answered before that segment came.
+    pub fn take_back(&mut self, unacknowledged: usize)
+        requires { unacknowledged < length self.old.parts }
+        ensures { self.new ≡ taken_back unacknowledged self.old }
+    {
+        let Some(part) = self.parts.pop() else {
+            return;
+        };
+        self.total -= part.len();
+        self.unacknowledged = unacknowledged;
+    }
+
     /// Whether both hold the same parts and stand alike.
     pub fn same(&self, other: &Incoming) -> bool
         ensures { IsTrue result ↔ (self.now ≡ other.now) }
@@ -149,7 +175,7 @@ impl Incoming {
         if self.unacknowledged != other.unacknowledged {
             return false;
         }
-        if self.window != other.window {
+        if self.window.size != other.window.size {
             return false;
         }
         self.parts == other.parts
@@ -172,4 +198,11 @@ impl Incoming {
         self.total += octets.len();
         Ok(())
     }
+}
+
+/// The lesser of two windows.
+pub(crate) fn lesser(a: Window, b: Window) -> Window
+    ensures { result.size ≡ min a.size b.size }
+{
+    if a.size < b.size { a } else { b }
 }

@@ -1,15 +1,23 @@
 //! Laws on the definitions, as contracts of functions that do nothing. V is how many later copies may pass one in the
 //! network, W the greatest window.
-ghost use Rattle.std.specs.Prelude.{◌≡◌, ℕ, ◌+◌, ◌*◌, ◌≤◌, List};
-ghost use Rattle.bac_segment.specs.Laws.{AreDifferent, TakesOnlyExpected, KeepsFirst, AcknowledgesOnlyWindow, AcknowledgesWindow};
+ghost use Rattle.std.specs.Prelude.{◌≡◌, ℕ, ◌+◌, ◌*◌, ◌≤◌, List, [], length};
+ghost use Rattle.bac_segment.specs.Laws.{AreDifferent, TakesOnlyExpected, KeepsFirst, AcknowledgesOnlyWindow, AcknowledgesWindow, IsUndone};
 ghost use Rattle.bac_segment.specs.Pieces.{ArePieces, pieces_of};
 ghost use Rattle.bac_segment.specs.Window.{Outgoing, Incoming, incoming, AreFirst};
 
 /// Some octets have just one list of pieces of a size.
-#[tactic(auto, using(crate::proofs::Unique::pieces_are_one))]
+#[tactic(auto, using(crate::proofs::Unique::pieces_are, crate::proofs::Unique::pieces_are_one))]
 pub fn pieces_are_unique()
-    ensures { (size : ℕ) (octets : List ℕ) (pieces : List (List ℕ)) → 1 ≤ size
+    ensures are { (size : ℕ) (octets : List ℕ) → 1 ≤ size → ArePieces size octets (pieces_of size octets) }
+    ensures only { (size : ℕ) (octets : List ℕ) (pieces : List (List ℕ)) → 1 ≤ size
         → ArePieces size octets pieces → pieces ≡ pieces_of size octets }
+{}
+
+/// Octets have no more pieces than octets, and no octets have none.
+#[tactic(auto, using(crate::proofs::Unique::pieces_are_few))]
+pub fn pieces_are_few()
+    ensures few { (size : ℕ) (octets : List ℕ) → 1 ≤ size → length (pieces_of size octets) ≤ length octets }
+    ensures none { (size : ℕ) → pieces_of size [] ≡ [] }
 {}
 
 /// The whole numbers in reach have different remainders modulo 256 where V + 2W is at most 255, and only there.
@@ -39,4 +47,10 @@ pub fn segment_ack_is_of_the_window()
     ensures meant { (V W own : ℕ) (out : Outgoing) → V + 2 * W ≤ 255 → out.window ≤ W
         → AcknowledgesOnlyWindow V W own out }
     ensures each { (own : ℕ) (out : Outgoing) → out.window ≤ 256 → AcknowledgesWindow own out }
+{}
+
+/// `take_back` undoes each step that took a segment.
+#[tactic(auto, using(crate::proofs::Back::is_undone))]
+pub fn taking_back_undoes()
+    ensures { IsUndone }
 {}

@@ -2,7 +2,7 @@
 //! the other.
 //!
 //! Pieces have whole numbers from 0 on. The wire carries the remainder modulo 256, and only the calls that are handed
-//! a number of the wire know of it.
+//! a number of the wire know of it. Windows are those of bac_apdu: 1 to 127 segments.
 #![tactic(auto)]
 
 mod incoming;
@@ -12,10 +12,10 @@ mod outgoing;
 
 pub use incoming::{Incoming, SegmentFault, Step};
 pub use laws::{
-    numbers_in_reach_differ, parts_are_the_first_pieces, pieces_are_unique,
-    segment_ack_is_of_the_window, segment_is_the_expected_one,
+    numbers_in_reach_differ, parts_are_the_first_pieces, pieces_are_few, pieces_are_unique,
+    segment_ack_is_of_the_window, segment_is_the_expected_one, taking_back_undoes,
 };
-pub use limits::{DATA_LIMIT, RETRY_LIMIT};
+pub use limits::{DATA, RETRIES};
 pub use outgoing::{Outgoing, Position, Progress, Timeout};
 
 #[cfg(test)]

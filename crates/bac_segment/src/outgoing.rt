@@ -5,7 +5,9 @@ ghost use Rattle.bac_segment.specs.Pieces.{ArePieces, join, piece_at, pieces_of}
 ghost use Rattle.bac_segment.specs.Window.{outgoing, in_window, window_pieces, is_finished, acknowledged, again, restart, resume};
 ghost use Rattle.bac_segment.specs.Answers.{Moves, TimesOut};
 
-use crate::limits::RETRY_LIMIT;
+use crate::incoming::lesser;
+use crate::limits::RETRIES;
+use bac_apdu::Window;
 use std::marker::Model;
 use std::ops::Range;
 
@@ -35,7 +37,7 @@ pub struct Position {
     /// The first unacknowledged piece, from 0 on.
     pub first: usize,
     /// The window, in pieces.
-    pub window: u8,
+    pub window: Window,
     /// How often the window may be sent again.
     pub retries: u8,
 }
@@ -44,8 +46,8 @@ impl Position {
     /// Nothing was sent: the first window has one piece.
     const START: Position = Position {
         first: 0,
-        window: 1,
-        retries: RETRY_LIMIT,
+        window: Window { size: 1 },
+        retries: RETRIES,
     };
 }
 
@@ -66,7 +68,7 @@ impl Model for Outgoing {
     ghost use Rattle.bac_segment.specs.Pieces.{pieces_of};
     ghost use Rattle.bac_segment.specs.Kept.{CountsPieces};
 
-    ghost view = { λ o. record { pieces = pieces_of o.size o.octets.items; first = o.at.first; window = o.at.window; retries = o.at.retries } };
+    ghost view = { λ o. record { pieces = pieces_of o.size o.octets.items; first = o.at.first; window = o.at.window.size; retries = o.at.retries } };
 
     ghost invariant = { λ o. CountsPieces o.size o.count o.at.first o.octets.items };
 }
@@ -104,7 +106,9 @@ impl Outgoing {
 
     /// Where the sender stands.
     pub fn position(&self) -> Position
-        ensures same { result ≡ record { first = self.now.first; window = self.now.window; retries = self.now.retries } }
+        ensures first { result.first ≡ self.now.first }
+        ensures window { result.window.size ≡ self.now.window }
+        ensures retries { result.retries ≡ self.now.retries }
         ensures within { result.first ≤ length self.now.pieces }
     {
         self.at
@@ -119,7 +123,7 @@ impl Outgoing {
     {
         let first = self.at.first;
         let left = self.count - first;
-        first..first + left.min(self.at.window as usize)
+        first..first + left.min(self.at.window.size as usize)
     }
 
     /// How many pieces are in the window.
@@ -151,17 +155,17 @@ impl Outgoing {
     /// A SegmentACK comes, of either kind: its number, its actual window, and the greatest window of the node itself.
     /// Where its number is one of the window, the pieces up to that one are acknowledged, the window is the lesser
     /// of the two, and the retries are full.
-    pub fn on_ack(&mut self, number: u8, window: u8, own: u8) -> Progress
-        ensures moves { Moves (acknowledged own self.old number window) self.old result self.new }
+    pub fn on_ack(&mut self, number: u8, window: Window, own: Window) -> Progress
+        ensures moves { Moves (acknowledged own.size self.old number window.size) self.old result self.new }
         ensures forward { self.old.first ≤ self.new.first }
-        ensures bounded { self.old.window ≤ own → self.new.window ≤ own }
+        ensures bounded { self.old.window ≤ own.size → self.new.window ≤ own.size }
     {
         let by = number.wrapping_sub((self.at.first % 256) as u8) as usize;
         if by >= self.in_window() {
             return Progress::Ignored;
         }
         self.at.first += by + 1;
-        self.at.window = window.min(own);
+        self.at.window = lesser(window, own);
         self.resume();
         if self.is_finished() {
             Progress::Finished
@@ -199,7 +203,7 @@ impl Outgoing {
     pub fn resume(&mut self)
         ensures { self.new ≡ resume self.old }
     {
-        self.at.retries = RETRY_LIMIT;
+        self.at.retries = RETRIES;
     }
 
     /// Whether both have the same pieces and stand alike.
@@ -223,7 +227,7 @@ impl Outgoing {
     /// finish.
     pub fn go_back(&mut self, to: Position)
         requires { to.first ≤ length self.old.pieces }
-        ensures { self.new ≡ record self.old { first = to.first; window = to.window; retries = to.retries } }
+        ensures { self.new ≡ record self.old { first = to.first; window = to.window.size; retries = to.retries } }
     {
         self.at = to;
     }

@@ -1,12 +1,19 @@
 //! Worked transfers: numbers that were worked out by hand.
 ghost use Rattle.std.specs.Prelude.{◌≤◌};
 
-use crate::{Incoming, Outgoing, Progress, SegmentFault, Step, Timeout};
+use crate::{DATA, Incoming, Outgoing, Progress, SegmentFault, Step, Timeout};
+use bac_apdu::Window;
 use bac_value::Octets;
 use std::alloc::Global;
 use std::test::Fail;
 
 mod network;
+
+const SIXTEEN: Window = Window { size: 16 };
+
+const THIRTY_TWO: Window = Window { size: 32 };
+
+const MOST: Window = Window { size: 127 };
 
 /// A sender of octets that tell their places.
 fn sender(alloc: Global, len: usize, size: usize) -> Result<Outgoing, Fail>
@@ -72,13 +79,13 @@ fn cuts_into_pieces(rt: HostRuntime) -> Result<(), Fail> {
 #[test]
 fn answers_other_segments_negatively(rt: HostRuntime) -> Result<(), Fail> {
     let mut out = sender(rt.alloc(), 111, 44)?;
-    let mut inc = Incoming::new(rt.alloc(), 32, 32);
+    let mut inc = Incoming::new(rt.alloc(), THIRTY_TWO, THIRTY_TWO);
     assert_eq!(rt; out.in_window(), 1);
     assert_eq!(rt;
         offer(&mut inc, &out, 0),
         Some(Ok(Step::Taken { ack: true }))
     );
-    assert_eq!(rt; out.on_ack(0, 32, 32), Progress::Moved);
+    assert_eq!(rt; out.on_ack(0, THIRTY_TWO, THIRTY_TWO), Progress::Moved);
     assert_eq!(rt; (out.window().start, out.window().end), (1, 3));
     let arrivals = [
         (2, Step::Nak, 1),
@@ -91,14 +98,14 @@ fn answers_other_segments_negatively(rt: HostRuntime) -> Result<(), Fail> {
         assert_eq!(rt; inc.taken(), taken, "segment {n}");
     }
     // the SegmentACKs of the three segments that were not the expected ones
-    assert_eq!(rt; out.on_ack(0, 32, 32), Progress::Ignored);
-    assert_eq!(rt; out.on_ack(0, 32, 32), Progress::Ignored);
-    assert_eq!(rt; out.on_ack(1, 32, 32), Progress::Moved);
+    assert_eq!(rt; out.on_ack(0, THIRTY_TWO, THIRTY_TWO), Progress::Ignored);
+    assert_eq!(rt; out.on_ack(0, THIRTY_TWO, THIRTY_TWO), Progress::Ignored);
+    assert_eq!(rt; out.on_ack(1, THIRTY_TWO, THIRTY_TWO), Progress::Moved);
     assert_eq!(rt; (out.window().start, out.window().end), (2, 3));
     assert!(rt; !out.is_finished());
     assert_eq!(rt; offer(&mut inc, &out, 2), Some(Ok(Step::Whole)));
     assert_eq!(rt; inc.len(), 111);
-    assert_eq!(rt; out.on_ack(2, 32, 32), Progress::Finished);
+    assert_eq!(rt; out.on_ack(2, THIRTY_TWO, THIRTY_TWO), Progress::Finished);
     assert!(rt; out.is_finished());
     Ok(())
 }
@@ -107,57 +114,88 @@ fn answers_other_segments_negatively(rt: HostRuntime) -> Result<(), Fail> {
 #[test]
 fn reads_only_numbers_of_the_window(rt: HostRuntime) -> Result<(), Fail> {
     let mut out = sender(rt.alloc(), 111, 44)?;
-    assert_eq!(rt; out.on_ack(1, 32, 32), Progress::Ignored);
-    assert_eq!(rt; out.on_ack(255, 32, 32), Progress::Ignored);
-    assert_eq!(rt; out.on_ack(0, 127, 32), Progress::Moved);
+    assert_eq!(rt; out.on_ack(1, THIRTY_TWO, THIRTY_TWO), Progress::Ignored);
+    assert_eq!(rt; out.on_ack(255, THIRTY_TWO, THIRTY_TWO), Progress::Ignored);
+    assert_eq!(rt; out.on_ack(0, MOST, THIRTY_TWO), Progress::Moved);
     let at = out.position();
-    assert_eq!(rt; (at.first, at.window, at.retries), (1, 32, 3));
+    assert_eq!(rt; (at.first, at.window, at.retries), (1, THIRTY_TWO, 3));
     assert_eq!(rt; out.in_window(), 2);
-    assert_eq!(rt; Incoming::new(rt.alloc(), 127, 32).window(), 32);
-    assert_eq!(rt; Incoming::new(rt.alloc(), 16, 32).window(), 16);
+    assert_eq!(rt;
+        Incoming::new(rt.alloc(), MOST, THIRTY_TWO).window(),
+        THIRTY_TWO
+    );
+    assert_eq!(rt;
+        Incoming::new(rt.alloc(), SIXTEEN, THIRTY_TWO).window(),
+        SIXTEEN
+    );
     Ok(())
 }
 
+/// With ample memory, segments of no octets and of one, as many as a transfer may have.
 #[test]
 fn takes_the_most_segments(rt: HostRuntime) {
-    let mut inc = Incoming::new(rt.alloc(), 32, 32);
-    for n in 0..65_535u32 {
-        let ack = n % 32 == 0;
-        assert_eq!(rt;
-            inc.on_segment((n % 256) as u8, true, &[]),
-            Ok(Step::Taken { ack }),
-            "segment {n}"
-        );
+    let table: [(&[u8], usize); 2] = [(&[], 0), (&[7], DATA)];
+    for (octets, all) in table {
+        let mut inc = Incoming::new(rt.alloc(), THIRTY_TWO, THIRTY_TWO);
+        for n in 0..65_534u32 {
+            let ack = n % 32 == 0;
+            assert_eq!(rt;
+                inc.on_segment((n % 256) as u8, true, octets),
+                Ok(Step::Taken { ack }),
+                "segment {n}"
+            );
+        }
+        assert_eq!(rt; inc.on_segment(254, false, octets), Ok(Step::Whole));
+        assert_eq!(rt; inc.answer(255, true, &[]), Err(SegmentFault::TooLong));
+        assert_eq!(rt; inc.on_segment(255, true, &[]), Err(SegmentFault::TooLong));
+        assert_eq!(rt; inc.on_segment(255, false, &[]), Err(SegmentFault::TooLong));
+        assert_eq!(rt; (inc.taken(), inc.len()), (DATA, all));
+        assert_eq!(rt; inc.on_segment(0, true, &[]), Ok(Step::Nak));
     }
-    assert_eq!(rt; inc.answer(255, true, &[]), Err(SegmentFault::TooLong));
-    assert_eq!(rt; inc.on_segment(255, true, &[]), Err(SegmentFault::TooLong));
-    assert_eq!(rt; inc.on_segment(255, false, &[]), Err(SegmentFault::TooLong));
-    assert_eq!(rt; (inc.taken(), inc.len()), (65_535, 0));
-    assert_eq!(rt; inc.on_segment(0, true, &[]), Ok(Step::Nak));
 }
 
+/// With ample memory, one segment of as many octets as a transfer may have.
 #[test]
 fn takes_the_most_octets(rt: HostRuntime) -> Result<(), Fail> {
     let alloc = rt.alloc();
     let most = vec![in alloc; 7u8; 65_535]?;
     let more = vec![in alloc; 7u8; 65_536]?;
-    let mut inc = Incoming::new(alloc, 32, 32);
+    let mut inc = Incoming::new(alloc, THIRTY_TWO, THIRTY_TWO);
     assert_eq!(rt; inc.on_segment(0, true, &more), Err(SegmentFault::TooLong));
     assert_eq!(rt;
         inc.on_segment(0, true, &most),
         Ok(Step::Taken { ack: true })
     );
     assert_eq!(rt; inc.on_segment(1, true, &[7]), Err(SegmentFault::TooLong));
-    assert_eq!(rt; (inc.taken(), inc.len()), (1, 65_535));
+    assert_eq!(rt; (inc.taken(), inc.len()), (1, DATA));
     assert_eq!(rt; inc.on_segment(1, false, &[]), Ok(Step::Whole));
     Ok(())
+}
+
+#[test]
+fn takes_a_segment_back(rt: HostRuntime) {
+    let mut inc = Incoming::new(rt.alloc(), THIRTY_TWO, THIRTY_TWO);
+    assert_eq!(rt;
+        inc.on_segment(0, true, b"ab"),
+        Ok(Step::Taken { ack: true })
+    );
+    assert_eq!(rt;
+        inc.on_segment(1, true, b"c"),
+        Ok(Step::Taken { ack: false })
+    );
+    let before = inc.unacknowledged();
+    assert_eq!(rt; inc.on_segment(2, false, b"d"), Ok(Step::Whole));
+    assert!(rt; before < inc.taken());
+    inc.take_back(before);
+    assert_eq!(rt; (inc.taken(), inc.unacknowledged(), inc.len()), (2, 1, 3));
+    assert_eq!(rt; inc.on_segment(2, false, b"d"), Ok(Step::Whole));
 }
 
 /// A window is sent again three times; then the transfer stops, and goes on with the same window.
 #[test]
 fn stops_and_goes_on(rt: HostRuntime) -> Result<(), Fail> {
     let mut out = sender(rt.alloc(), 4_013, 45)?;
-    let mut inc = Incoming::new(rt.alloc(), 32, 32);
+    let mut inc = Incoming::new(rt.alloc(), THIRTY_TWO, THIRTY_TWO);
     for n in 0..41 {
         let ack = n == 0 || n == 32;
         assert_eq!(rt;
@@ -166,11 +204,14 @@ fn stops_and_goes_on(rt: HostRuntime) -> Result<(), Fail> {
             "segment {n}"
         );
         if ack {
-            assert_eq!(rt; out.on_ack((n % 256) as u8, 32, 32), Progress::Moved);
+            assert_eq!(rt;
+                out.on_ack((n % 256) as u8, THIRTY_TWO, THIRTY_TWO),
+                Progress::Moved
+            );
         }
     }
     assert_eq!(rt; offer(&mut inc, &out, 42), Some(Ok(Step::Nak)));
-    assert_eq!(rt; out.on_ack(40, 32, 32), Progress::Moved);
+    assert_eq!(rt; out.on_ack(40, THIRTY_TWO, THIRTY_TWO), Progress::Moved);
     for again in [true, true, true, false] {
         assert_eq!(rt; out.has_retry(), again);
         let want = if again {
@@ -185,7 +226,7 @@ fn stops_and_goes_on(rt: HostRuntime) -> Result<(), Fail> {
     assert_eq!(rt; (out.window().start, out.window().end), (41, 73));
     let there = out.position();
     assert_eq!(rt; out.on_timeout(), Timeout::Again);
-    assert_eq!(rt; out.on_ack(41, 32, 32), Progress::Moved);
+    assert_eq!(rt; out.on_ack(41, THIRTY_TWO, THIRTY_TWO), Progress::Moved);
     assert_eq!(rt; out.position().retries, 3);
     assert!(rt; there.first <= out.count());
     out.go_back(there);
@@ -222,10 +263,10 @@ fn tells_what_is_the_same(rt: HostRuntime) -> Result<(), Fail> {
         let _ = out.on_timeout();
         assert!(rt; !out.same(&other));
     }
-    let mut inc = Incoming::new(rt.alloc(), 32, 32);
-    let mut other = Incoming::new(rt.alloc(), 64, 32);
+    let mut inc = Incoming::new(rt.alloc(), THIRTY_TWO, THIRTY_TWO);
+    let mut other = Incoming::new(rt.alloc(), MOST, THIRTY_TWO);
     assert!(rt; inc.same(&other));
-    assert!(rt; !inc.same(&Incoming::new(rt.alloc(), 16, 32)));
+    assert!(rt; !inc.same(&Incoming::new(rt.alloc(), SIXTEEN, THIRTY_TWO)));
     assert_eq!(rt;
         inc.on_segment(0, true, b"ab"),
         Ok(Step::Taken { ack: true })
@@ -242,7 +283,7 @@ fn tells_what_is_the_same(rt: HostRuntime) -> Result<(), Fail> {
 /// Run with each allocation refused in turn, too: a refused segment changes nothing, and is taken when it comes again.
 #[test]
 fn takes_a_segment_that_was_refused(rt: HostRuntime) {
-    let mut inc = Incoming::new(rt.alloc(), 4, 32);
+    let mut inc = Incoming::new(rt.alloc(), Window { size: 4 }, THIRTY_TWO);
     for n in 0..12u8 {
         let ack = n % 4 == 0;
         let before = (inc.taken(), inc.len());

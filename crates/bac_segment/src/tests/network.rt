@@ -1,13 +1,14 @@
 //! Both sides against each other: in order, and over a network that loses, repeats and reorders.
 use super::{offer, sender};
 use crate::{Incoming, Outgoing, Progress, Step, Timeout};
+use bac_apdu::Window;
 use bac_value::Octets;
 use std::alloc::{AllocError, Global};
 use std::test::Fail;
 
 /// Sends each window once, in order. It answers how many segments and SegmentACKs that took; None where a segment
 /// or a SegmentACK was not taken as it was meant.
-fn in_order(out: &mut Outgoing, inc: &mut Incoming, own: u8) -> Option<(u32, u32)> {
+fn in_order(out: &mut Outgoing, inc: &mut Incoming, own: Window) -> Option<(u32, u32)> {
     let mut segments = 0u32;
     let mut acks = 0u32;
     for _ in 0..2_000 {
@@ -47,9 +48,11 @@ fn acknowledges_each_window_once(rt: HostRuntime) -> Result<(), Fail> {
     for (len, size, own, other, segments, acks) in table {
         assert!(rt; size > 0);
         let mut out = sender(rt.alloc(), len, size)?;
-        let mut inc = Incoming::new(rt.alloc(), own, other);
+        let window = Window::new(own).ok_or("no window")?;
+        let peers = Window::new(other).ok_or("no window")?;
+        let mut inc = Incoming::new(rt.alloc(), window, peers);
         assert_eq!(rt;
-            in_order(&mut out, &mut inc, own),
+            in_order(&mut out, &mut inc, window),
             Some((segments, acks)),
             "{len} octets, windows {own} and {other}"
         );
@@ -72,7 +75,7 @@ struct Transfer {
     receiver: Incoming,
     copies: Vec<Sent>,
     due: usize,
-    own: u8,
+    own: Window,
     overtake: u16,
     random: u64,
     whole: bool,
@@ -84,7 +87,7 @@ impl Transfer {
     fn new(
         alloc: Global,
         pieces: usize,
-        own: u8,
+        own: Window,
         overtake: u16,
         random: u64,
     ) -> Result<Transfer, Fail> {
@@ -214,8 +217,9 @@ fn no_number_is_misread_within_the_bound(rt: HostRuntime) -> Result<(), Fail> {
         (1, 0),
     ];
     for (own, overtake) in table {
+        let window = Window::new(own).ok_or("no window")?;
         for seed in 0..2 {
-            let mut transfer = Transfer::new(rt.alloc(), 400, own, overtake, seed)?;
+            let mut transfer = Transfer::new(rt.alloc(), 400, window, overtake, seed)?;
             for _ in 0..60_000 {
                 if transfer.finished {
                     break;
@@ -247,7 +251,8 @@ fn no_number_is_misread_within_the_bound(rt: HostRuntime) -> Result<(), Fail> {
 #[test]
 fn numbers_are_misread_beyond_the_bound(rt: HostRuntime) -> Result<(), Fail> {
     for (own, overtake) in [(32, 2_000), (64, 2_000), (1, 2_000)] {
-        let mut transfer = Transfer::new(rt.alloc(), 400, own, overtake, 1)?;
+        let window = Window::new(own).ok_or("no window")?;
+        let mut transfer = Transfer::new(rt.alloc(), 400, window, overtake, 1)?;
         for _ in 0..200_000 {
             if transfer.misread || transfer.finished {
                 break;

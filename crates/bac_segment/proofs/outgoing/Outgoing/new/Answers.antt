@@ -4,8 +4,8 @@ use Rattle.bac_segment.proofs.Cut.{length-pieces_of}
 use Rattle.bac_segment.proofs.Unique.{pieces_are}
 use Rattle.bac_segment.proofs.outgoing.Outgoing.new.Goals as goal
 
-pub invariant_of-result : goal.invariant_of-result
-invariant_of-result c = record {
+pub invariant_of-result-2 : goal.invariant_of-result-2
+invariant_of-result-2 c = record {
   some = c.requires;
   counted = cc (length-pieces_of c.args.size c.args.octets.items);
   within = omega arith;
