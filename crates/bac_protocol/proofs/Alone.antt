@@ -7,7 +7,7 @@ use Rattle.bac_protocol.specs.Server.{Entry}
 use Rattle.bac_protocol.specs.Server as server
 use Rattle.bac_protocol.specs.Log.{Fact}
 use Rattle.bac_protocol.specs.Log.Fact.{Asked}
-use Rattle.bac_protocol.specs.Transaction.{Key, Rules, Copy, ended, performed}
+use Rattle.bac_protocol.specs.Transaction.{Key, Rules, Copy, ended, performed, client_context}
 use Rattle.bac_protocol.specs.World.{Net, copies_of}
 
 pub record Transaction : Type 0 where
@@ -33,12 +33,12 @@ server_does w v = record w { entry = v.entry; copies = sent w.now v.sends w.copi
 -- a new ask
 abbrev pub asked_by : Rules → Key → Transaction → Ask → Transaction
 asked_by x key w ask =
-    let c = x.settings key.client in
+    let c = client_context x key w.now in
     record w {
       asks = w.asks + 1;
       number = w.asks;
-      ticket = Some (asked_ticket c key.id w.now ask);
-      copies = sent w.now (sends_of (asks c key.id ask)) w.copies;
+      ticket = Some (asked_ticket c ask);
+      copies = sent w.now (sends_of (asks c ask)) w.copies;
       log = Asked w.asks key.client key.server (request_of ask) ∷ w.log;
     }
 

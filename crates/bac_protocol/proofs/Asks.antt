@@ -8,12 +8,12 @@ use Rattle.bac_protocol.specs.Wire.{Each}
 use Rattle.bac_protocol.specs.Client as client
 use Rattle.bac_protocol.specs.Client.{Ask, request_of, Ticket}
 use Rattle.bac_protocol.specs.Server.{Entry}
-use Rattle.bac_protocol.specs.Log.{Fact, asks_in, IsUnperformed}
+use Rattle.bac_protocol.specs.Log.{Fact, asks_in, IsUnperformed, IsOrderly}
 use Rattle.bac_protocol.specs.Log.Fact.{Asked}
-use Rattle.bac_protocol.specs.Transaction.{Key, Rules, Copy}
+use Rattle.bac_protocol.specs.Transaction.{Key, Rules, Copy, client_context}
 use Rattle.bac_protocol.proofs.Alone.{Transaction, sent, asked_by}
 use Rattle.bac_protocol.specs.Claims.{EachCopy}
-use Rattle.bac_protocol.proofs.Sound.{IsBelow, IsOrderly, Up, Down, Says, Fits, ServerFits, IsSound}
+use Rattle.bac_protocol.proofs.Sound.{IsBelow, Up, Down, Says, Fits, ServerFits, IsSound}
 use Rattle.bac_protocol.proofs.Sound.Up.{Reading}
 use Rattle.bac_protocol.proofs.Sound.Down.{Unsent}
 use Rattle.bac_protocol.proofs.Facts.{below_more, below_unperformed, below_unended, all_map, each_sent, says_time, pieces_all}
@@ -62,7 +62,7 @@ asked_sound W some x key w spent choice front rest true = let ask : Ask = record
     upload = record { behind = omega arith; near = omega arith; within = omega arith; some = omega arith };
     download = tt;
     arriving = asked_copies W w ask (Asked w.asks key.client key.server (request_of ask) ∷ w.log) (Reading 0 0)
-        (client.request_apdu (x.settings key.client) key.id ask ∷ []) spent refl ((λ k. (omega arith, refl, refl, refl)), tt);
+        (client.request_apdu (client_context x key w.now) ask ∷ []) spent refl ((λ k. (omega arith, refl, refl, refl)), tt);
   },
 )
 asked_sound W some x key w spent choice front rest false = let ask : Ask =
@@ -83,9 +83,9 @@ asked_sound W some x key w spent choice front rest false = let ask : Ask =
         upload = record { behind = omega arith; near = omega arith; within = omega arith; some = omega arith };
         download = tt;
         arriving = asked_copies W w ask (Asked w.asks key.client key.server (request_of ask) ∷ w.log) (Reading 0 1)
-            (client.request_window (x.settings key.client) key.id choice (outgoing ask.pieces)) spent refl
+            (client.request_window (client_context x key w.now) choice (outgoing ask.pieces)) spent refl
             (pieces_all (λ a. (k : ℕ) → Says W w.asks ask (Asked w.asks key.client key.server (request_of ask) ∷ w.log) (Reading 0 1) Unsent w.now k a)
-            (client.request_piece (x.settings key.client) key.id choice ask.pieces) 0 (in_window (outgoing ask.pieces))
+            (client.request_piece (client_context x key w.now) choice ask.pieces) 0 (in_window (outgoing ask.pieces))
             (λ p lo hi k. (
               omega arith,
               refl,

@@ -11,9 +11,9 @@ use Rattle.bac_segment.specs.Window.{Outgoing}
 use Rattle.bac_protocol.specs.Times.{LIFE}
 use Rattle.bac_protocol.specs.Service.{Octets, Reply as reply}
 use Rattle.bac_protocol.specs.Client.{Ask, Phase, Ticket}
-use Rattle.bac_protocol.specs.Client.Phase.{Sending, Awaiting, Collecting, Over}
+use Rattle.bac_protocol.specs.Client.Phase.{AwaitConfirmation, SegmentedConf, Idle}
 use Rattle.bac_protocol.specs.Server.{Transfer, State, Entry}
-use Rattle.bac_protocol.specs.Server.State.{Receiving, Done, Giving, Dropped}
+use Rattle.bac_protocol.specs.Server.State.{Done, SegmentedResponse, Dropped}
 use Rattle.bac_protocol.specs.Log.{Fact, Shop}
 use Rattle.bac_protocol.specs.Transaction.{Key, Rules}
 use Rattle.bac_protocol.specs.World.{Net, Post, Event, later, is_deliverable, copies_of, run, start}
@@ -66,15 +66,15 @@ piece_down_of W k number ask log up (Sent ps tk sn) o g octets fits h = (ps, ser
 
 says_of : (W m k number : ℕ) (ask : Ask) (log : List Fact) (up : Up) (down : Down) (o : Option Entry) → ServerFits W number ask o up down log → (a : Apdu)
     → Says W number ask log up down m k a → (m ≤ sent_until ask a) × IsOfAsk number ask log a
-says_of W m k number ask log up down o fits (ConfirmedRequest sa ms ma id None choice octets) h = (h.0, (h.1, h.2, h.3))
-says_of W m k number ask log up down o fits (ConfirmedRequest sa ms ma id (Some g) choice octets) h = (h.0, (h.1, h.2, piece_up_of W k ask up g octets h.3))
+says_of W m k number ask log up down o fits (ConfirmedRequest limits id None choice octets) h = (h.0, (h.1, h.2, h.3))
+says_of W m k number ask log up down o fits (ConfirmedRequest limits id (Some g) choice octets) h = (h.0, (h.1, h.2, piece_up_of W k ask up g octets h.3))
 says_of W m k number ask log up down o fits (UnconfirmedRequest choice octets) h = absurd h
 says_of W m k number ask log up down o fits (SimpleAck id choice) h = (h.0, (h.2, h.1))
 says_of W m k number ask log up down o fits (ComplexAck id None choice octets) h = (h.0, (h.2, h.1))
 says_of W m k number ask log up down o fits (ComplexAck id (Some g) choice octets) h =
     (h.0, (h.2, piece_down_of W k number ask log up down o g octets fits h.1))
-says_of W m k number ask log up down o fits (SegmentAck nak true id n window) h = (h.0, tt)
-says_of W m k number ask log up down o fits (SegmentAck nak false id n window) h = (h.0, tt)
+says_of W m k number ask log up down o fits (SegmentAck true id ack) h = (h.0, tt)
+says_of W m k number ask log up down o fits (SegmentAck false id ack) h = (h.0, tt)
 says_of W m k number ask log up down o fits (Error id choice class code) h = (h.0, (h.2, h.1))
 says_of W m k number ask log up down o fits (Reject id reason) h = (h, tt)
 says_of W m k number ask log up down o fits (Abort true id reason) h = (h, tt)
@@ -115,15 +115,15 @@ module _ (V W : ℕ) (some : 0 < W) (room : V + 2 * W ≤ 255) (k : ℕ) (late :
 
   near_up : (number m : ℕ) (ask : Ask) (log : List Fact) (down : Down) → ask.pieces ≡ ps → (a : Apdu) → Says W number ask log (Reading tk sn) down m k a
       → IsNearUp W ps tk sn k a
-  near_up number m ask log down is (ConfirmedRequest sa ms ma id (Some g) choice o) h =
+  near_up number m ask log down is (ConfirmedRequest limits id (Some g) choice o) h =
       reads_piece g o (subst (λ (qs : List Octets). IsPiece W qs sn k g o) is h.3)
-  near_up number m ask log down is (SegmentAck nak true id n window) h = reads_taken n h.1
+  near_up number m ask log down is (SegmentAck true id ack) h = reads_taken ack.number h.1
   near_up number m ask log down is _ h = tt
 
   near_down : (number m : ℕ) (ask : Ask) (log : List Fact) (up : Up) (a : Apdu) → Says W number ask log up (Sent ps tk sn) m k a
       → IsNearDown W ps tk sn k a
   near_down number m ask log up (ComplexAck id (Some g) choice o) h = reads_piece g o h.1
-  near_down number m ask log up (SegmentAck nak false id n window) h = reads_taken n h.1
+  near_down number m ask log up (SegmentAck false id ack) h = reads_taken ack.number h.1
   near_down number m ask log up _ h = tt
 
 -- in the first pass of a request in segments
@@ -134,11 +134,11 @@ all_read ask tk sn whole (inr is) = is
 
 state_has_taken : (W number : ℕ) (ask : Ask) (log : List Fact) (tk sn : ℕ) (st : State) (down : Down) → ask.whole ≡ false
     → StateFits W number ask st (Reading tk sn) down log → StateHasTaken ask.pieces st tk
-state_has_taken W number ask log tk sn (Receiving inc since) Unsent whole h = record { taken_is = h.front.taken_is; parts_are = h.front.parts_are }
+state_has_taken W number ask log tk sn (State.SegmentedRequest inc since) Unsent whole h = record { taken_is = h.front.taken_is; parts_are = h.front.parts_are }
 state_has_taken W number ask log tk sn (Done kept) Unsent whole h = all_read ask tk sn whole h.0
-state_has_taken W number ask log tk sn (Giving out transfer since) down whole h = all_read ask tk sn whole h.read
+state_has_taken W number ask log tk sn (SegmentedResponse out transfer since) down whole h = all_read ask tk sn whole h.read
 state_has_taken W number ask log tk sn Dropped Unsent whole h = h.0
-state_has_taken W number ask log tk sn (Receiving inc since) (Sent ps a b) whole h = absurd h
+state_has_taken W number ask log tk sn (State.SegmentedRequest inc since) (Sent ps a b) whole h = absurd h
 state_has_taken W number ask log tk sn (Done kept) (Sent ps a b) whole h = absurd h
 state_has_taken W number ask log tk sn Dropped (Sent ps a b) whole h = absurd h
 
@@ -156,9 +156,9 @@ server_has_taken W number ask log tk sn down (Some e) whole (inr b) = inr (b.aft
 -- where pieces of the reply were sent, the request was read
 state_read : (W number : ℕ) (ask : Ask) (log : List Fact) (up : Up) (ps : List Octets) (a b : ℕ) (st : State)
     → StateFits W number ask st up (Sent ps a b) log → IsRead ask up
-state_read W number ask log up ps a b (Giving out transfer since) h = h.read
-state_read W number ask log (Reading tk sn) ps a b (Receiving inc since) h = absurd h
-state_read W number ask log Repeated ps a b (Receiving inc since) h = absurd h
+state_read W number ask log up ps a b (SegmentedResponse out transfer since) h = h.read
+state_read W number ask log (Reading tk sn) ps a b (State.SegmentedRequest inc since) h = absurd h
+state_read W number ask log Repeated ps a b (State.SegmentedRequest inc since) h = absurd h
 state_read W number ask log up ps a b (Done kept) h = absurd h
 state_read W number ask log (Reading tk sn) ps a b Dropped h = absurd h
 state_read W number ask log Repeated ps a b Dropped h = absurd h
@@ -171,13 +171,13 @@ server_read W number ask log up ps a b (Some e) (inr begun) = state_read W numbe
 
 client_in_window : (W number : ℕ) (ask : Ask) (log : List Fact) (tk sn : ℕ) (down : Down) (o : Option Entry) (phase : Phase) → ask.whole ≡ false
     → ServerFits W number ask o (Reading tk sn) down log → ClientFits W ask phase (Reading tk sn) down → ClientIsInWindow W ask phase tk sn
-client_in_window W number ask log tk sn down o (Sending out all_sent) whole fits h =
+client_in_window W number ask log tk sn down o (Phase.SegmentedRequest out all_sent) whole fits h =
     record { window = h.window; acknowledged_taken = h.sends.behind; sent_window = h.sends.near }
-client_in_window W number ask log tk sn down o Awaiting whole fits h = all_read ask tk sn whole h.0
-client_in_window W number ask log tk sn Unsent o (Collecting inc) whole fits h = absurd h
-client_in_window W number ask log tk sn (Sent ps a b) o (Collecting inc) whole fits h =
+client_in_window W number ask log tk sn down o AwaitConfirmation whole fits h = all_read ask tk sn whole h.0
+client_in_window W number ask log tk sn Unsent o (SegmentedConf inc) whole fits h = absurd h
+client_in_window W number ask log tk sn (Sent ps a b) o (SegmentedConf inc) whole fits h =
     all_read ask tk sn whole (server_read W number ask log (Reading tk sn) ps a b o fits)
-client_in_window W number ask log tk sn down o Over whole fits h = tt
+client_in_window W number ask log tk sn down o Idle whole fits h = tt
 
 unrepeated : (ask : Ask) (repeats : ℕ) → repeats ≡ RETRIES → PassFits ask repeats Repeated → ⊥
 unrepeated ask repeats full less = omega arith
@@ -207,14 +207,14 @@ requests_in W x bound n s key t at whole full =
 
 client_has_taken : (W : ℕ) (ask : Ask) (up : Up) (ps : List Octets) (tk sn : ℕ) (phase : Phase) → ClientFits W ask phase up (Sent ps tk sn)
     → DownFits W (Sent ps tk sn) → ClientHasTaken ps phase tk
-client_has_taken W ask up ps tk sn (Sending out all_sent) h u = h.untaken
-client_has_taken W ask up ps tk sn Awaiting h u = h.1
-client_has_taken W ask up ps tk sn (Collecting inc) h u = record { taken_is = h.taken_is; parts_are = h.parts_are }
-client_has_taken W ask up ps tk sn Over h u = let a = u.behind in let b = u.within in omega arith
+client_has_taken W ask up ps tk sn (Phase.SegmentedRequest out all_sent) h u = h.untaken
+client_has_taken W ask up ps tk sn AwaitConfirmation h u = h.1
+client_has_taken W ask up ps tk sn (SegmentedConf inc) h u = record { taken_is = h.taken_is; parts_are = h.parts_are }
+client_has_taken W ask up ps tk sn Idle h u = let a = u.behind in let b = u.within in omega arith
 
 reply_pass : (W : ℕ) (x : Rules) → IsBounded W x → (n : Net) (key : Key) (t : Ticket) (out : Outgoing) (transfer : Transfer) (since : ℕ) (up : Up)
     (down : Down) → Sound W key n.now n.asks (n.numbers key) t (n.entries key) (copies_of key n.posts) n.log up down
-    → StateFits W (n.numbers key) t.ask (Giving out transfer since) up down n.log → IsReplyPass W x n key t out
+    → StateFits W (n.numbers key) t.ask (SegmentedResponse out transfer since) up down n.log → IsReplyPass W x n key t out
 reply_pass W x bound n key t out transfer since up Unsent s st = absurd st.sends
 reply_pass W x bound n key t out transfer since up (Sent ps tk sn) s st = record {
   taken = tk;
@@ -234,7 +234,7 @@ reply_pass W x bound n key t out transfer since up (Sent ps tk sn) s st = record
 
 of_no_pass : (W number : ℕ) (ask : Ask) (log : List Fact) (up : Up) (m k : ℕ) (a : Apdu) → Says W number ask log up Unsent m k a → IsOfNoPass a
 of_no_pass W number ask log up m k (ComplexAck id (Some g) choice o) h = h.1
-of_no_pass W number ask log up m k (SegmentAck nak false id n window) h = h.1
+of_no_pass W number ask log up m k (SegmentAck false id ack) h = h.1
 of_no_pass W number ask log up m k _ h = tt
 
 module _ (W : ℕ) (x : Rules) (bound : IsBounded W x) (key : Key) (n : Net) (t : Ticket) where
@@ -250,9 +250,9 @@ module _ (W : ℕ) (x : Rules) (bound : IsBounded W x) (key : Key) (n : Net) (t 
 
   state_gives : (up : Up) (down : Down) → SoundWith up down → (st : State) → StateFits W (n.numbers key) t.ask st up down n.log
       → StateGives W x n key t st
-  state_gives (Reading tk sn) Unsent s (Receiving inc since) h = is_unsent (Reading tk sn) s
+  state_gives (Reading tk sn) Unsent s (State.SegmentedRequest inc since) h = is_unsent (Reading tk sn) s
   state_gives up Unsent s (Done kept) h = is_unsent up s
-  state_gives up down s (Giving out transfer since) h = reply_pass W x bound n key t out transfer since up down s h
+  state_gives up down s (SegmentedResponse out transfer since) h = reply_pass W x bound n key t out transfer since up down s h
   state_gives (Reading tk sn) Unsent s Dropped h = is_unsent (Reading tk sn) s
   state_gives _ _ s _ h = absurd h
 
@@ -275,23 +275,23 @@ repeated_read ask repeats (Reading tk sn) whole less (inr full) = absurd (omega 
 
 read_by : (W number : ℕ) (ask : Ask) (log : List Fact) (phase : Phase) (repeats : ℕ) (up : Up) (down : Down) (o : Option Entry) → ask.whole ≡ false
     → IsPastFirstPass phase repeats → ClientFits W ask phase up down → PassFits ask repeats up → ServerFits W number ask o up down log → IsRead ask up
-read_by W number ask log (Sending out all_sent) repeats up down o whole past c passes fits = repeated_read ask repeats up whole past passes
-read_by W number ask log Awaiting repeats up down o whole past c passes fits = c.0
-read_by W number ask log (Collecting inc) repeats up Unsent o whole past c passes fits = absurd c
-read_by W number ask log (Collecting inc) repeats up (Sent ps a b) o whole past c passes fits = server_read W number ask log up ps a b o fits
-read_by W number ask log Over repeats up down o whole past c passes fits = repeated_read ask repeats up whole past passes
+read_by W number ask log (Phase.SegmentedRequest out all_sent) repeats up down o whole past c passes fits = repeated_read ask repeats up whole past passes
+read_by W number ask log AwaitConfirmation repeats up down o whole past c passes fits = c.0
+read_by W number ask log (SegmentedConf inc) repeats up Unsent o whole past c passes fits = absurd c
+read_by W number ask log (SegmentedConf inc) repeats up (Sent ps a b) o whole past c passes fits = server_read W number ask log up ps a b o fits
+read_by W number ask log Idle repeats up down o whole past c passes fits = repeated_read ask repeats up whole past passes
 
 done_by : (W number : ℕ) (ask : Ask) (st : State) (up : Up) (down : Down) (log : List Fact) → ask.whole ≡ false → IsRead ask up
     → StateFits W number ask st up down log → IsDone st
-done_by W number ask (Receiving inc since) (Reading tk sn) Unsent log whole read h = unread W ask tk sn whole h.front.left read
+done_by W number ask (State.SegmentedRequest inc since) (Reading tk sn) Unsent log whole read h = unread W ask tk sn whole h.front.left read
 done_by W number ask (Done kept) up down log whole read h = tt
-done_by W number ask (Giving out transfer since) up down log whole read h = tt
+done_by W number ask (SegmentedResponse out transfer since) up down log whole read h = tt
 done_by W number ask Dropped (Reading tk sn) Unsent log whole read h = unread W ask tk sn whole h.0 read
 done_by W number ask _ _ _ log whole read h = absurd h
 
 segment_time : (W number : ℕ) (ask : Ask) (log : List Fact) (up : Up) (down : Down) (m k : ℕ) (a : Apdu) → IsSegmentOfRequest a
     → Says W number ask log up down m k a → m ≤ client_until ask
-segment_time W number ask log up down m k (ConfirmedRequest sa ms ma id (Some g) choice o) is h = h.0
+segment_time W number ask log up down m k (ConfirmedRequest limits id (Some g) choice o) is h = h.0
 segment_time W number ask log up down m k _ is h = absurd is
 
 has_done : (W number now m : ℕ) (ask : Ask) (log : List Fact) (up : Up) (down : Down) (o : Option Entry) → ask.whole ≡ false → UpFits W ask up

@@ -5,21 +5,22 @@ use Rattle.std.proofs.lemmas.Bool.Decides.{nat_tests}
 use Rattle.bac_apdu.specs.Apdu.{Apdu, Segment}
 use Rattle.bac_apdu.specs.Apdu.Apdu.{SimpleAck, ComplexAck, SegmentAck, Error, Reject, Abort}
 use Rattle.bac_segment.specs.Numbers.{ahead}
+use Rattle.bac_service.specs.Choices.{has_simple_ack, has_complex_ack}
 use Rattle.bac_segment.specs.Limits.{RETRIES}
 use Rattle.bac_segment.specs.Pieces.{join}
 use Rattle.bac_segment.specs.Window.{Outgoing, outgoing, in_window, is_finished, acknowledged, again, Incoming, incoming, takes}
 use Rattle.bac_segment.specs.Window.Taking.{Taken}
 use Rattle.bac_protocol.specs.Times.{T_OUT, T_SEG, WAIT_SEG}
-use Rattle.bac_protocol.specs.Sizes.{Settings}
+use Rattle.bac_protocol.specs.Context.{Settings, Context}
 use Rattle.bac_protocol.specs.Service.{Octets, Ending, Readable, Reply as reply}
 use Rattle.bac_protocol.specs.Service.Ending.{Answered, Rejected, Aborted, TimedOut, Expired}
 use Rattle.bac_protocol.specs.Wire.{is_from_server, segment_of, Each}
 use Rattle.bac_protocol.specs.Client as client
 use Rattle.bac_protocol.specs.Client.{Ask, request_of, Phase, Ticket, Reaction}
-use Rattle.bac_protocol.specs.Client.Phase.{Sending, Awaiting, Collecting, Over}
+use Rattle.bac_protocol.specs.Client.Phase.{AwaitConfirmation, SegmentedConf, Idle}
 use Rattle.bac_protocol.specs.Client.Reaction.{Stays, GoesOn, Repeats, Ends}
 use Rattle.bac_protocol.specs.Server.{State, Entry}
-use Rattle.bac_protocol.specs.Server.State.{Receiving, Done, Giving, Dropped}
+use Rattle.bac_protocol.specs.Server.State.{Done, SegmentedResponse, Dropped}
 use Rattle.bac_protocol.specs.Log.{Fact, IsUnended, MayEnd, WasAsked}
 use Rattle.bac_protocol.specs.Log.Fact.{Asked, Ended}
 use Rattle.bac_protocol.specs.Transaction.{Key}
@@ -39,16 +40,16 @@ abbrev pub SoundOf : ℕ → Key → Transaction → Ticket → Up → Down → 
 SoundOf W key w t up down = Sound W key w.now w.asks w.number t w.entry w.copies w.log up down
 
 pub opens_in : (phase : Phase) (n : ℕ) (log : List Fact) → IsUnended n log → IsOpenIn phase n log
-opens_in (Sending out all_sent) n log h = h
-opens_in Awaiting n log h = h
-opens_in (Collecting inc) n log h = h
-opens_in Over n log h = tt
+opens_in (Phase.SegmentedRequest out all_sent) n log h = h
+opens_in AwaitConfirmation n log h = h
+opens_in (SegmentedConf inc) n log h = h
+opens_in Idle n log h = tt
 
-pub is_open : (phase : Phase) (n : ℕ) (log : List Fact) → client.is_over phase ≡ false → IsOpenIn phase n log → IsUnended n log
-is_open (Sending out all_sent) n log e h = h
-is_open Awaiting n log e h = h
-is_open (Collecting inc) n log e h = h
-is_open Over n log e h = absurd cc
+pub is_open : (phase : Phase) (n : ℕ) (log : List Fact) → client.is_idle phase ≡ false → IsOpenIn phase n log → IsUnended n log
+is_open (Phase.SegmentedRequest out all_sent) n log e h = h
+is_open AwaitConfirmation n log e h = h
+is_open (SegmentedConf inc) n log e h = h
+is_open Idle n log e h = absurd cc
 
 -- The server's side as the client's ghosts move.
 
@@ -68,10 +69,10 @@ unbegun_ends number how log _ _ h = absurd h
 
 state_ends : (W number : ℕ) (ask : Ask) (how : Ending) (log : List Fact) (st : State) (up : Up) (down : Down) → StateFits W number ask st up down log
     → StateFits W number ask st up down (Ended number how ∷ log)
-state_ends W number ask how log (Receiving inc since) (Reading t s) Unsent h =
+state_ends W number ask how log (State.SegmentedRequest inc since) (Reading t s) Unsent h =
     record { in_pieces = h.in_pieces; front = h.front; unperformed = h.unperformed }
 state_ends W number ask how log (Done kept) up Unsent h = (h.0, kept_ends number ask how log kept h.1)
-state_ends W number ask how log (Giving out transfer since) up down h =
+state_ends W number ask how log (SegmentedResponse out transfer since) up down h =
     record { read = h.read; window = h.window; performed = inr h.performed; sends = h.sends }
 state_ends W number ask how log Dropped (Reading t s) Unsent h = h
 state_ends W number ask how log _ _ _ h = absurd h
@@ -99,9 +100,9 @@ unbegun_widened number out log _ _ h = absurd h
 
 state_widened : (W number : ℕ) (ask : Ask) (out : Outgoing) (log : List Fact) (st : State) (up : Up) (down : Down) → StateFits W number ask st up down log
     → StateFits W number ask st (widened out up) down log
-state_widened W number ask out log (Receiving inc since) (Reading t s) Unsent h = h
+state_widened W number ask out log (State.SegmentedRequest inc since) (Reading t s) Unsent h = h
 state_widened W number ask out log (Done kept) up Unsent h = (read_widened ask out up h.0, h.1)
-state_widened W number ask out log (Giving out' transfer since) up down h =
+state_widened W number ask out log (SegmentedResponse out' transfer since) up down h =
     record { read = read_widened ask out up h.read; window = h.window; performed = h.performed; sends = h.sends }
 state_widened W number ask out log Dropped (Reading t s) Unsent h = h
 state_widened W number ask out log _ _ _ h = absurd h
@@ -131,9 +132,9 @@ unbegun_unread W number ask log Repeated down whole u read h = h
 
 state_repeated : (W number : ℕ) (ask : Ask) (log : List Fact) (st : State) (up : Up) (down : Down) → ask.whole ≡ false → IsRead ask up
     → StateFits W number ask st up down log → StateFits W number ask st Repeated down log
-state_repeated W number ask log (Receiving inc since) (Reading t s) Unsent whole read h = absurd (unread W ask t s whole (h.front).left read)
+state_repeated W number ask log (State.SegmentedRequest inc since) (Reading t s) Unsent whole read h = absurd (unread W ask t s whole (h.front).left read)
 state_repeated W number ask log (Done kept) up Unsent whole read h = (tt, h.1)
-state_repeated W number ask log (Giving out transfer since) up down whole read h =
+state_repeated W number ask log (SegmentedResponse out transfer since) up down whole read h =
     record { read = tt; window = h.window; performed = h.performed; sends = h.sends }
 state_repeated W number ask log Dropped (Reading t s) Unsent whole read h = absurd (unread W ask t s whole h.0 read)
 state_repeated W number ask log _ _ _ whole read h = absurd h
@@ -151,10 +152,10 @@ sends_taken W out ps t s h = (h.0, record { behind = omega (arith, h.1.behind); 
 
 state_taken : (W number : ℕ) (ask : Ask) (log : List Fact) (ps : List Octets) (t s : ℕ) (st : State) (up : Up)
     → StateFits W number ask st up (Sent ps t s) log → StateFits W number ask st up (Sent ps (t + 1) s) log
-state_taken W number ask log ps t s (Giving out transfer since) up h =
+state_taken W number ask log ps t s (SegmentedResponse out transfer since) up h =
     record { read = h.read; window = h.window; performed = h.performed; sends = sends_taken W out ps t s h.sends }
-state_taken W number ask log ps t s (Receiving inc since) (Reading a b) h = absurd h
-state_taken W number ask log ps t s (Receiving inc since) Repeated h = absurd h
+state_taken W number ask log ps t s (State.SegmentedRequest inc since) (Reading a b) h = absurd h
+state_taken W number ask log ps t s (State.SegmentedRequest inc since) Repeated h = absurd h
 state_taken W number ask log ps t s (Done kept) up h = absurd h
 state_taken W number ask log ps t s Dropped (Reading a b) h = absurd h
 state_taken W number ask log ps t s Dropped Repeated h = absurd h
@@ -173,10 +174,10 @@ server_taken W number ask log up ps t s (Some e) (inr h) = inr
 -- where pieces of a reply are sent, the request was performed with that reply
 state_performed : (W number : ℕ) (ask : Ask) (log : List Fact) (ps : List Octets) (t s : ℕ) (st : State) (up : Up)
     → StateFits W number ask st up (Sent ps t s) log → WasPerformed number ask (reply.Complex (join ps)) log
-state_performed W number ask log ps t s (Giving out transfer since) up h = subst
+state_performed W number ask log ps t s (SegmentedResponse out transfer since) up h = subst
     (λ (xs : List Octets). WasPerformed number ask (reply.Complex (join xs)) log) h.sends.0 h.performed
-state_performed W number ask log ps t s (Receiving inc since) (Reading a b) h = absurd h
-state_performed W number ask log ps t s (Receiving inc since) Repeated h = absurd h
+state_performed W number ask log ps t s (State.SegmentedRequest inc since) (Reading a b) h = absurd h
+state_performed W number ask log ps t s (State.SegmentedRequest inc since) Repeated h = absurd h
 state_performed W number ask log ps t s (Done kept) up h = absurd h
 state_performed W number ask log ps t s Dropped (Reading a b) h = absurd h
 state_performed W number ask log ps t s Dropped Repeated h = absurd h
@@ -188,8 +189,11 @@ server_performed W number ask log up ps t s (Some e) (inl h) = absurd (unbegun_u
 server_performed W number ask log up ps t s (Some e) (inr h) = state_performed W number ask log ps t s e.state up h.state
 
 -- One transaction, whose ticket is t.
-module _ (W V : ℕ) (some : 0 < W) (room : V + 2 * W ≤ 255) (c : Settings) (own : c.window ≤ W) (readable : Readable) (key : Key) (w : Transaction)
-    (t : Ticket) where
+module _ (W V : ℕ) (some : 0 < W) (room : V + 2 * W ≤ 255) (settings : Settings) (own : settings.window ≤ W) (readable : Readable) (key : Key)
+    (w : Transaction) (t : Ticket) where
+  abbrev c : Context
+  c = record { settings = settings; invoke_id = key.invoke_id; now = w.now }
+
   -- it goes on as that ticket, after these sends
   abbrev Goes : Ticket → List Apdu → Type 0
   Goes t' sends = (up : Up) × (down : Down) × Sound W key w.now w.asks w.number t' w.entry (sent w.now sends w.copies) w.log up down
@@ -276,10 +280,10 @@ module _ (W V : ℕ) (some : 0 < W) (room : V + 2 * W ≤ 255) (c : Settings) (o
   may_answer : (p : reply) → WasPerformed w.number t.ask p w.log → MayEnd w.number (Answered p) w.log
   may_answer p h = (request_of t.ask, h)
 
-  refused_kept : (up : Up) (down : Down) → SoundOf W key w t up down → IsUnended w.number w.log → (a : Apdu) → IsKept (client.refused a)
-  refused_kept up down s opened (Reject id r) = ends up down s opened [] (Rejected r) (was_asked up down s) tt
-  refused_kept up down s opened (Abort true id r) = ends up down s opened [] (Aborted r) (was_asked up down s) tt
-  refused_kept up down s opened _ = (up, down, s)
+  refusal_kept : (up : Up) (down : Down) → SoundOf W key w t up down → IsUnended w.number w.log → (a : Apdu) → IsKept (client.gets_refusal a)
+  refusal_kept up down s opened (Reject id r) = ends up down s opened [] (Rejected r) (was_asked up down s) tt
+  refusal_kept up down s opened (Abort true id r) = ends up down s opened [] (Aborted r) (was_asked up down s) tt
+  refusal_kept up down s opened _ = (up, down, s)
 
   module _ (opened : IsUnended w.number w.log) (early : w.now ≤ client_until t.ask) where
     -- whole service data came, of a reply with which the ask was performed
@@ -287,15 +291,15 @@ module _ (W V : ℕ) (some : 0 < W) (room : V + 2 * W ≤ 255) (c : Settings) (o
         → WasPerformed w.number t.ask (reply.Complex octets) w.log
         → (down' : Down) → ((d : ℕ) → DownGoes d down down') → ServerFits W w.number t.ask w.entry up down' w.log → DownFits W down'
         → ((log : List Fact) → Each (λ a. (k : ℕ) → Says W w.number t.ask log up down' w.now k a) acks)
-        → ((log : List Fact) → Each (λ a. (k : ℕ) → Says W w.number t.ask log up down' w.now k a) (acks ++ Abort false key.id 0 ∷ []))
-        → IsKept (client.answered_with readable key.id choice acks octets)
+        → ((log : List Fact) → Each (λ a. (k : ℕ) → Says W w.number t.ask log up down' w.now k a) (acks ++ Abort false key.invoke_id 0 ∷ []))
+        → IsKept (client.answered_with c readable choice acks octets)
     answered_kept up down s choice acks octets h down' gd server download says aborts = go (readable choice octets)
       where
-        go : (b : Bool) → IsKept (if b then Ends acks (Answered (reply.Complex octets)) else Ends (acks ++ Abort false key.id 0 ∷ []) (Aborted 0))
+        go : (b : Bool) → IsKept (if b then Ends acks (Answered (reply.Complex octets)) else Ends (acks ++ Abort false key.invoke_id 0 ∷ []) (Aborted 0))
         go true = ends_with up down s opened acks (Answered (reply.Complex octets)) (may_answer (reply.Complex octets) h) down' (gd (length acks)) server
             download (says (Ended w.number (Answered (reply.Complex octets)) ∷ w.log))
-        go false = ends_with up down s opened (acks ++ Abort false key.id 0 ∷ []) (Aborted 0) (was_asked up down s) down'
-            (gd (length (acks ++ Abort false key.id 0 ∷ []))) server download (aborts (Ended w.number (Aborted 0) ∷ w.log))
+        go false = ends_with up down s opened (acks ++ Abort false key.invoke_id 0 ∷ []) (Aborted 0) (was_asked up down s) down'
+            (gd (length (acks ++ Abort false key.invoke_id 0 ∷ []))) server download (aborts (Ended w.number (Aborted 0) ∷ w.log))
 
     -- a piece of the reply comes, of which tk were taken
     module _ (up : Up) (ps : List Octets) (tk sn : ℕ) (s : SoundOf W key w t up (Sent ps tk sn)) (inc : Incoming) (taken : length inc.parts ≡ tk)
@@ -332,25 +336,25 @@ module _ (W V : ℕ) (some : 0 < W) (room : V + 2 * W ≤ 255) (c : Settings) (o
       next_ack e j = let near = s.download.near in record { piece = tk; number_is = number_is e; below = omega arith; near = omega arith }
 
       next : (sends : List Apdu) → g.number ≡ length inc.parts % 256 → g.more ≡ true → (n : ℕ) → Each (SaysNow up (Sent ps (tk + 1) sn)) sends
-          → IsKept (GoesOn (Collecting (with_piece inc o n)) sends)
-      next sends e m n says = goes up (Sent ps tk sn) s opened (Collecting (with_piece inc o n)) t.repeats w.now sends up (Sent ps (tk + 1) sn)
+          → IsKept (GoesOn (SegmentedConf (with_piece inc o n)) sends)
+      next sends e m n says = goes up (Sent ps tk sn) s opened (SegmentedConf (with_piece inc o n)) t.repeats w.now sends up (Sent ps (tk + 1) sn)
           (up_same (length sends) up) (refl, omega arith, omega arith, omega arith) (front e m n) s.passes
           (server_taken W w.number t.ask w.log up ps tk sn w.entry s.server) s.upload (under e) says
 
       goes_on : g.number ≡ length inc.parts % 256 → g.more ≡ true → (ack : Bool) (n : ℕ)
-          → IsKept (client.collects readable key.id choice g.number inc.window (Taken ack (with_piece inc o n)))
-      goes_on e m true n = next (client.client_ack false key.id g.number inc.window ∷ []) e m n (λ j. (early, next_ack e j), tt)
+          → IsKept (client.conf_segment_taken c readable choice g.number inc.window (Taken ack (with_piece inc o n)))
+      goes_on e m true n = next (client.client_ack c false g.number inc.window ∷ []) e m n (λ j. (early, next_ack e j), tt)
       goes_on e m false n = next [] e m n tt
 
-      collects_kept : IsKept (client.collects readable key.id choice g.number inc.window (takes inc g.number g.more o))
-      collects_kept =
-          takes_cases inc g.number g.more o (λ x. IsKept (client.collects readable key.id choice g.number inc.window x))
-          (λ ne. goes_same up (Sent ps tk sn) s opened (Collecting (record inc { unacknowledged = 0 })) t.repeats w.now
-          (client.client_ack true key.id ((length inc.parts - 1) % 256) inc.window ∷ [])
+      conf_segment_kept : IsKept (client.conf_segment_taken c readable choice g.number inc.window (takes inc g.number g.more o))
+      conf_segment_kept =
+          takes_cases inc g.number g.more o (λ x. IsKept (client.conf_segment_taken c readable choice g.number inc.window x))
+          (λ ne. goes_same up (Sent ps tk sn) s opened (SegmentedConf (record inc { unacknowledged = 0 })) t.repeats w.now
+          (client.client_ack c true ((length inc.parts - 1) % 256) inc.window ∷ [])
           (record { taken_is = taken; some = first ne; left = left; parts_are = parts }) s.passes
           (λ j. (early, nak_ack (first ne) j), tt))
-          (ends up (Sent ps tk sn) s opened (Abort false key.id 1 ∷ []) (Aborted 1) (was_asked up (Sent ps tk sn) s) (λ j. early, tt))
-          (λ e m. answered_kept up (Sent ps tk sn) s choice (client.client_ack false key.id g.number inc.window ∷ []) (join (inc.parts ++ o ∷ []))
+          (ends up (Sent ps tk sn) s opened (Abort false key.invoke_id 1 ∷ []) (Aborted 1) (was_asked up (Sent ps tk sn) s) (λ j. early, tt))
+          (λ e m. answered_kept up (Sent ps tk sn) s choice (client.client_ack c false g.number inc.window ∷ []) (join (inc.parts ++ o ∷ []))
           (subst (λ (x : Octets). WasPerformed w.number t.ask (reply.Complex x) w.log) (sym (all e m))
           (server_performed W w.number t.ask w.log up ps tk sn w.entry s.server))
           (Sent ps (tk + 1) sn) (λ d. (refl, omega arith, omega arith, omega arith))
@@ -378,48 +382,48 @@ module _ (W V : ℕ) (some : 0 < W) (room : V + 2 * W ≤ 255) (c : Settings) (o
 
     piece_says : (k p : ℕ) (log : List Fact) (out : Outgoing) (up : Up) (down : Down) → t.ask.whole ≡ false → out.window ≤ W → out.pieces ≡ t.ask.pieces
         → SendsUp W out up → out.first ≤ p → p < out.first + in_window out
-        → Says W w.number t.ask log (widened out up) down w.now k (client.request_piece c key.id t.ask.choice out.pieces p)
+        → Says W w.number t.ask log (widened out up) down w.now k (client.request_piece c t.ask.choice out.pieces p)
     piece_says k p log out (Reading tk sn) down whole small is h lo hi = (
       early,
       whole,
       refl,
-      subst (λ (ps : List Octets). IsPiece W ps (sent_to out sn) k (segment_of c.window out.pieces p) (get_or out.pieces p [])) is
-          (window_piece W c.window out tk sn k p small h lo hi),
+      subst (λ (ps : List Octets). IsPiece W ps (sent_to out sn) k (segment_of settings.window out.pieces p) (get_or out.pieces p [])) is
+          (window_piece W settings.window out tk sn k p small h lo hi),
     )
     piece_says k p log out Repeated down whole small is h lo hi = (
       early,
       whole,
       refl,
-      subst (λ (ps : List Octets). IsPieceOf ps (segment_of c.window out.pieces p) (get_or out.pieces p [])) is
-          (p, piece_at_is c.window out.pieces p (omega arith)),
+      subst (λ (ps : List Octets). IsPieceOf ps (segment_of settings.window out.pieces p) (get_or out.pieces p [])) is
+          (p, piece_at_is settings.window out.pieces p (omega arith)),
     )
 
     -- the window is sent
     window_goes : (up : Up) (down : Down) → SoundOf W key w t up down → (repeats : ℕ) → PassFits t.ask repeats up
         → (out : Outgoing) (all_sent : Bool) → IsSendingFor W t.ask out up down
-        → Goes (record t { phase = Sending out all_sent; repeats = repeats; since = w.now }) (client.request_window c key.id t.ask.choice out)
+        → Goes (record t { phase = Phase.SegmentedRequest out all_sent; repeats = repeats; since = w.now }) (client.request_window c t.ask.choice out)
     window_goes up down s repeats passes out all_sent h =
-        goes up down s opened (Sending out all_sent) repeats w.now (client.request_window c key.id t.ask.choice out) (widened out up) down
+        goes up down s opened (Phase.SegmentedRequest out all_sent) repeats w.now (client.request_window c t.ask.choice out) (widened out up) down
         (rw pieces_length (up_widens out up s.upload h.sends))
-        (down_same (length (client.request_window c key.id t.ask.choice out)) down)
+        (down_same (length (client.request_window c t.ask.choice out)) down)
         (record { in_pieces = h.in_pieces; pieces = h.pieces; window = h.window; sends = sends_up_widened out up h.window h.sends; untaken = h.untaken })
         (passes_widened t.ask repeats out up passes)
         (server_widened W w.number t.ask out w.log up down w.entry s.server)
         (up_fits_widened out up h.window h.pieces s.upload h.sends)
         s.download
-        (pieces_all (SaysNow (widened out up) down) (client.request_piece c key.id t.ask.choice out.pieces) out.first (in_window out)
+        (pieces_all (SaysNow (widened out up) down) (client.request_piece c t.ask.choice out.pieces) out.first (in_window out)
         (λ p lo hi k. piece_says k p w.log out up down h.in_pieces h.window h.pieces h.sends lo hi))
 
     window_kept : (up : Up) (down : Down) → SoundOf W key w t up down → (out : Outgoing) (all_sent : Bool) → IsSendingFor W t.ask out up down
-        → IsKept (client.sends_window c key.id t.ask.choice out all_sent)
+        → IsKept (client.sends_request_window c t.ask.choice out all_sent)
     window_kept up down s out all_sent h = window_goes up down s t.repeats s.passes out (all_sent || nat_le (length out.pieces) (out.first + in_window out)) h
 
     -- What comes to the client.
 
     moved_up : (out : Outgoing) (up : Up) (k number window : ℕ) → k ≤ V → out.window ≤ W → UpFits W t.ask up → SendsUp W out up → IsAckUp W up k number
-        → ahead number out.first < in_window out → SendsUp W (moved c.window out number window) up
+        → ahead number out.first < in_window out → SendsUp W (moved settings.window out number window) up
     moved_up out (Reading tk sn) k number window late small u h ack lt =
-        moved_sender c.window W out tk sn number window h (acknowledges_taken V W out tk sn k number room late small u.behind h ack lt)
+        moved_sender settings.window W out tk sn number window h (acknowledges_taken V W out tk sn k number room late small u.behind h ack lt)
     moved_up out Repeated k number window late small u h ack lt = tt
 
     finished_up : (out : Outgoing) (up : Up) → out.pieces ≡ t.ask.pieces → UpFits W t.ask up → SendsUp W out up → is_finished out ≡ true
@@ -435,19 +439,19 @@ module _ (W V : ℕ) (some : 0 < W) (room : V + 2 * W ≤ 255) (c : Settings) (o
 
     moves_kept : (up : Up) (down : Down) → SoundOf W key w t up down → (out : Outgoing) (all_sent : Bool) → IsSendingFor W t.ask out up down
         → (k number window : ℕ) → k ≤ V → IsAckUp W up k number
-        → IsKept (client.moves c key.id t.ask.choice all_sent (acknowledged c.window out number window))
+        → IsKept (client.moves_request_window c t.ask.choice all_sent (acknowledged settings.window out number window))
     moves_kept up down s out all_sent h k number window late ack =
-        acknowledged_cases c.window out number window (λ x. IsKept (client.moves c key.id t.ask.choice all_sent x)) (up, down, s)
-        (λ lt. by_end lt (is_finished (moved c.window out number window)) refl)
+        acknowledged_cases settings.window out number window (λ x. IsKept (client.moves_request_window c t.ask.choice all_sent x)) (up, down, s)
+        (λ lt. by_end lt (is_finished (moved settings.window out number window)) refl)
       where
-        by_end : ahead number out.first < in_window out → (b : Bool) → is_finished (moved c.window out number window) ≡ b
-            → IsKept (if b then GoesOn Awaiting [] else client.sends_window c key.id t.ask.choice (moved c.window out number window) all_sent)
-        by_end lt true is = goes_same up down s opened Awaiting t.repeats w.now [] (
-          finished_up (moved c.window out number window) up h.pieces s.upload
+        by_end : ahead number out.first < in_window out → (b : Bool) → is_finished (moved settings.window out number window) ≡ b
+            → IsKept (if b then GoesOn AwaitConfirmation [] else client.sends_request_window c t.ask.choice (moved settings.window out number window) all_sent)
+        by_end lt true is = goes_same up down s opened AwaitConfirmation t.repeats w.now [] (
+          finished_up (moved settings.window out number window) up h.pieces s.upload
               (moved_up out up k number window late h.window s.upload h.sends ack lt) is,
           h.untaken,
         ) s.passes tt
-        by_end lt false is = window_kept up down s (moved c.window out number window) all_sent
+        by_end lt false is = window_kept up down s (moved settings.window out number window) all_sent
             (record {
               in_pieces = h.in_pieces;
               pieces = h.pieces;
@@ -459,11 +463,11 @@ module _ (W V : ℕ) (some : 0 < W) (room : V + 2 * W ≤ 255) (c : Settings) (o
 
     first_piece : (up : Up) (down : Down) → SoundOf W key w t up down → IsUntaken down → (k : ℕ) → k ≤ V → (g : Segment) (o : Octets) → g.number ≡ 0
         → IsPieceDown W down k g o → (choice proposed : ℕ)
-        → IsKept (client.collects readable key.id choice g.number (incoming c.window proposed).window (takes (incoming c.window proposed) g.number g.more o))
+        → IsKept (client.conf_segment_taken c readable choice g.number (incoming settings.window proposed).window (takes (incoming settings.window proposed) g.number g.more o))
     first_piece up Unsent s untaken k late g o e piece choice proposed = absurd piece
     first_piece up (Sent ps tk sn) s untaken k late g o e piece choice proposed =
         let some = s.download.some in
-        collects_kept up ps tk sn s (incoming c.window proposed) (sym untaken) (ap (λ n. take n ps) (sym untaken)) (omega arith) k late g o piece
+        conf_segment_kept up ps tk sn s (incoming settings.window proposed) (sym untaken) (ap (λ n. take n ps) (sym untaken)) (omega arith) k late g o piece
         (λ ne. absurd (ne e)) choice
 
     -- an answer, where its choice and kind fit
@@ -473,86 +477,86 @@ module _ (W V : ℕ) (some : 0 < W) (room : V + 2 * W ≤ 255) (c : Settings) (o
     answer_kept up down s p h false = (up, down, s)
 
     complex_kept : (up : Up) (down : Down) → SoundOf W key w t up down → (octets : Octets) → WasPerformed w.number t.ask (reply.Complex octets) w.log
-        → (b : Bool) → IsKept (if b then client.answered_with readable key.id t.ask.choice [] octets else Stays)
+        → (b : Bool) → IsKept (if b then client.answered_with c readable t.ask.choice [] octets else Stays)
     complex_kept up down s octets h true = answered_kept up down s t.ask.choice [] octets h down (λ d. down_same d down) s.server s.download (λ log. tt)
         (λ log. (λ j. early, tt))
     complex_kept up down s octets h false = (up, down, s)
 
     first_kept : (up : Up) (down : Down) → SoundOf W key w t up down → IsUntaken down → (k : ℕ) → k ≤ V → (g : Segment) (choice : ℕ) (o : Octets)
-        → IsPieceDown W down k g o → IsKept (client.gets_first c readable key.id t.ask g choice o)
-    first_kept up down s untaken k late g choice o piece = go (nat_eq choice t.ask.choice) (client.answers_with_data t.ask.choice) c.takes_segments
+        → IsPieceDown W down k g o → IsKept (client.gets_first_segment c readable t.ask g choice o)
+    first_kept up down s untaken k late g choice o piece = go (nat_eq choice t.ask.choice) (has_complex_ack t.ask.choice) settings.limits.takes_segments
         (nat_eq g.number 0) refl
       where
         go : (x y z b : Bool) → nat_eq g.number 0 ≡ b → IsKept
-            (if x && (y && (z && b)) then client.collects readable key.id t.ask.choice g.number (incoming c.window g.window).window
-            (takes (incoming c.window g.window) g.number g.more o) else Stays)
+            (if x && (y && (z && b)) then client.conf_segment_taken c readable t.ask.choice g.number (incoming settings.window g.window).window
+            (takes (incoming settings.window g.window) g.number g.more o) else Stays)
         go true true true true is = first_piece up down s untaken k late g o (grind (arith, nat_tests)) piece t.ask.choice g.window
         go true true true false is = (up, down, s)
         go true true false b is = (up, down, s)
         go true false z b is = (up, down, s)
         go false y z b is = (up, down, s)
 
-    awaiting_kept : (up : Up) (down : Down) → SoundOf W key w t up down → IsUntaken down → (m k : ℕ) → k ≤ V → (a : Apdu)
-        → Says W w.number t.ask w.log up down m k a → IsKept (client.awaiting_gets c readable key.id t.ask a)
-    awaiting_kept up down s untaken m k late (SimpleAck id choice) says = answer_kept up down s reply.Simple says.1
-        (nat_eq choice t.ask.choice && client.answers_simply t.ask.choice)
-    awaiting_kept up down s untaken m k late (ComplexAck id None choice o) says = complex_kept up down s o says.1
-        (nat_eq choice t.ask.choice && client.answers_with_data t.ask.choice)
-    awaiting_kept up down s untaken m k late (ComplexAck id (Some g) choice o) says = first_kept up down s untaken k late g choice o says.1
-    awaiting_kept up down s untaken m k late (Error id choice class code) says = answer_kept up down s (reply.Error class code) says.1
+    await_confirmation_kept : (up : Up) (down : Down) → SoundOf W key w t up down → IsUntaken down → (m k : ℕ) → k ≤ V → (a : Apdu)
+        → Says W w.number t.ask w.log up down m k a → IsKept (client.await_confirmation_gets c readable t.ask a)
+    await_confirmation_kept up down s untaken m k late (SimpleAck id choice) says = answer_kept up down s reply.Simple says.1
+        (nat_eq choice t.ask.choice && has_simple_ack t.ask.choice)
+    await_confirmation_kept up down s untaken m k late (ComplexAck id None choice o) says = complex_kept up down s o says.1
+        (nat_eq choice t.ask.choice && has_complex_ack t.ask.choice)
+    await_confirmation_kept up down s untaken m k late (ComplexAck id (Some g) choice o) says = first_kept up down s untaken k late g choice o says.1
+    await_confirmation_kept up down s untaken m k late (Error id choice class code) says = answer_kept up down s (reply.Error class code) says.1
         (nat_eq choice t.ask.choice)
-    awaiting_kept up down s untaken m k late (Reject id r) says = refused_kept up down s opened (Reject id r)
-    awaiting_kept up down s untaken m k late (Abort true id r) says = refused_kept up down s opened (Abort true id r)
-    awaiting_kept up down s untaken m k late _ says = (up, down, s)
+    await_confirmation_kept up down s untaken m k late (Reject id r) says = refusal_kept up down s opened (Reject id r)
+    await_confirmation_kept up down s untaken m k late (Abort true id r) says = refusal_kept up down s opened (Abort true id r)
+    await_confirmation_kept up down s untaken m k late _ says = (up, down, s)
 
-    sending_kept : (up : Up) (down : Down) → SoundOf W key w t up down → (out : Outgoing) (all_sent : Bool) → IsSendingFor W t.ask out up down → (m k : ℕ)
-        → k ≤ V → (a : Apdu) → Says W w.number t.ask w.log up down m k a → IsKept (client.sending_gets c readable key.id t.ask out all_sent a)
-    sending_kept up down s out all_sent h m k late (SegmentAck nak true id number window) says =
-        moves_kept up down s out all_sent h k number window late says.1
-    sending_kept up down s out true h m k late a says = awaiting_kept up down s h.untaken m k late a says
-    sending_kept up down s out false h m k late a says = refused_kept up down s opened a
+    segmented_request_kept : (up : Up) (down : Down) → SoundOf W key w t up down → (out : Outgoing) (all_sent : Bool) → IsSendingFor W t.ask out up down → (m k : ℕ)
+        → k ≤ V → (a : Apdu) → Says W w.number t.ask w.log up down m k a → IsKept (client.segmented_request_gets c readable t.ask out all_sent a)
+    segmented_request_kept up down s out all_sent h m k late (SegmentAck true id ack) says =
+        moves_kept up down s out all_sent h k ack.number ack.window late says.1
+    segmented_request_kept up down s out true h m k late a says = await_confirmation_kept up down s h.untaken m k late a says
+    segmented_request_kept up down s out false h m k late a says = refusal_kept up down s opened a
 
     next_piece : (up : Up) (down : Down) → SoundOf W key w t up down → (inc : Incoming) → CollectsDown inc down → (k : ℕ) → k ≤ V
         → (g : Segment) (o : Octets) → IsPieceDown W down k g o → (choice : ℕ)
-        → IsKept (client.collects readable key.id choice g.number inc.window (takes inc g.number g.more o))
+        → IsKept (client.conf_segment_taken c readable choice g.number inc.window (takes inc g.number g.more o))
     next_piece up Unsent s inc h k late g o piece choice = absurd h
-    next_piece up (Sent ps tk sn) s inc h k late g o piece choice = collects_kept up ps tk sn s inc h.taken_is h.parts_are h.left k late g o piece
+    next_piece up (Sent ps tk sn) s inc h k late g o piece choice = conf_segment_kept up ps tk sn s inc h.taken_is h.parts_are h.left k late g o piece
         (λ ne. h.some) choice
 
     next_kept : (up : Up) (down : Down) → SoundOf W key w t up down → (inc : Incoming) → CollectsDown inc down → (k : ℕ) → k ≤ V
         → (g : Segment) (o : Octets) → IsPieceDown W down k g o → (b : Bool)
-        → IsKept (if b then client.collects readable key.id t.ask.choice g.number inc.window (takes inc g.number g.more o) else Stays)
+        → IsKept (if b then client.conf_segment_taken c readable t.ask.choice g.number inc.window (takes inc g.number g.more o) else Stays)
     next_kept up down s inc h k late g o piece true = next_piece up down s inc h k late g o piece t.ask.choice
     next_kept up down s inc h k late g o piece false = (up, down, s)
 
-    collecting_kept : (up : Up) (down : Down) → SoundOf W key w t up down → (inc : Incoming) → CollectsDown inc down → (m k : ℕ) → k ≤ V → (a : Apdu)
-        → Says W w.number t.ask w.log up down m k a → IsKept (client.collecting_gets readable key.id t.ask inc a)
-    collecting_kept up down s inc h m k late (ComplexAck id (Some g) choice o) says = next_kept up down s inc h k late g o says.1 (nat_eq choice t.ask.choice)
-    collecting_kept up down s inc h m k late a says = refused_kept up down s opened a
+    segmented_conf_kept : (up : Up) (down : Down) → SoundOf W key w t up down → (inc : Incoming) → CollectsDown inc down → (m k : ℕ) → k ≤ V → (a : Apdu)
+        → Says W w.number t.ask w.log up down m k a → IsKept (client.segmented_conf_gets c readable t.ask inc a)
+    segmented_conf_kept up down s inc h m k late (ComplexAck id (Some g) choice o) says = next_kept up down s inc h k late g o says.1 (nat_eq choice t.ask.choice)
+    segmented_conf_kept up down s inc h m k late a says = refusal_kept up down s opened a
 
     open_gets_kept : (up : Up) (down : Down) → SoundOf W key w t up down → (phase : Phase) → ClientFits W t.ask phase up down → (m k : ℕ) → k ≤ V
-        → (a : Apdu) → Says W w.number t.ask w.log up down m k a → IsKept (client.open_gets c readable key.id t.ask phase a)
-    open_gets_kept up down s (Sending out all_sent) h m k late a says = sending_kept up down s out all_sent h m k late a says
-    open_gets_kept up down s Awaiting h m k late a says = awaiting_kept up down s h.1 m k late a says
-    open_gets_kept up down s (Collecting inc) h m k late a says = collecting_kept up down s inc h m k late a says
-    open_gets_kept up down s Over h m k late a says = (up, down, s)
+        → (a : Apdu) → Says W w.number t.ask w.log up down m k a → IsKept (client.open_gets c readable t.ask phase a)
+    open_gets_kept up down s (Phase.SegmentedRequest out all_sent) h m k late a says = segmented_request_kept up down s out all_sent h m k late a says
+    open_gets_kept up down s AwaitConfirmation h m k late a says = await_confirmation_kept up down s h.1 m k late a says
+    open_gets_kept up down s (SegmentedConf inc) h m k late a says = segmented_conf_kept up down s inc h m k late a says
+    open_gets_kept up down s Idle h m k late a says = (up, down, s)
 
     -- What the client does in time.
 
-    repeats_whole_kept : (up : Up) (down : Down) → SoundOf W key w t up down → t.ask.whole ≡ true → IsKept (client.repeats_whole c key.id t)
+    repeats_whole_kept : (up : Up) (down : Down) → SoundOf W key w t up down → t.ask.whole ≡ true → IsKept (client.repeats_whole c t)
     repeats_whole_kept up down s whole = go (nat_eq t.repeats 0)
       where
         passes : (up : Up) → PassFits t.ask t.repeats up → PassFits t.ask (t.repeats - 1) up
         passes (Reading tk sn) h = inl whole
         passes Repeated h = omega (arith, h)
 
-        go : (b : Bool) → IsKept (if b then Ends [] TimedOut else Repeats t.phase (client.request_apdu c key.id t.ask ∷ []))
+        go : (b : Bool) → IsKept (if b then Ends [] TimedOut else Repeats t.phase (client.request_apdu c t.ask ∷ []))
         go true = ends up down s opened [] TimedOut (was_asked up down s) tt
-        go false = goes_same up down s opened t.phase (t.repeats - 1) w.now (client.request_apdu c key.id t.ask ∷ []) s.client (passes up s.passes)
+        go false = goes_same up down s opened t.phase (t.repeats - 1) w.now (client.request_apdu c t.ask ∷ []) s.client (passes up s.passes)
             (λ k. (early, whole, refl, refl), tt)
 
     repeats_pieces_kept : (up : Up) (down : Down) → SoundOf W key w t up down → IsRead t.ask up → IsUntaken down → t.ask.whole ≡ false
-        → IsKept (client.repeats_pieces c key.id t)
+        → IsKept (client.repeats_pieces c t)
     repeats_pieces_kept up down s read untaken whole = go (nat_eq t.repeats 0) refl
       where
         passes : (up : Up) → PassFits t.ask t.repeats up → nat_eq t.repeats 0 ≡ false → t.repeats - 1 < RETRIES
@@ -564,19 +568,19 @@ module _ (W V : ℕ) (some : 0 < W) (room : V + 2 * W ≤ 255) (c : Settings) (o
         out = outgoing t.ask.pieces
 
         sends : List Apdu
-        sends = client.request_window c key.id t.ask.choice out
+        sends = client.request_window c t.ask.choice out
 
-        go : (b : Bool) → nat_eq t.repeats 0 ≡ b → IsKept (if b then Ends [] TimedOut else Repeats (Sending out true) sends)
+        go : (b : Bool) → nat_eq t.repeats 0 ≡ b → IsKept (if b then Ends [] TimedOut else Repeats (Phase.SegmentedRequest out true) sends)
         go true e = ends up down s opened [] TimedOut (was_asked up down s) tt
-        go false e = goes up down s opened (Sending out true) (t.repeats - 1) w.now sends Repeated down (up_repeated (length sends) up)
+        go false e = goes up down s opened (Phase.SegmentedRequest out true) (t.repeats - 1) w.now sends Repeated down (up_repeated (length sends) up)
             (down_same (length sends) down)
             (record { in_pieces = whole; pieces = refl; window = omega arith; sends = tt; untaken = untaken }) (passes up s.passes e)
             (server_repeated W w.number t.ask w.log up down w.entry whole s.upload read s.server) tt s.download
-            (pieces_all (SaysNow Repeated down) (client.request_piece c key.id t.ask.choice out.pieces) out.first (in_window out)
+            (pieces_all (SaysNow Repeated down) (client.request_piece c t.ask.choice out.pieces) out.first (in_window out)
             (λ p lo hi k. piece_says k p w.log out Repeated down whole (omega arith) refl tt lo hi))
 
     repeats_kept : (up : Up) (down : Down) → SoundOf W key w t up down → IsRead t.ask up → IsUntaken down → (b : Bool) → t.ask.whole ≡ b
-        → IsKept (if b then client.repeats_whole c key.id t else client.repeats_pieces c key.id t)
+        → IsKept (if b then client.repeats_whole c t else client.repeats_pieces c t)
     repeats_kept up down s read untaken true whole = repeats_whole_kept up down s whole
     repeats_kept up down s read untaken false whole = repeats_pieces_kept up down s read untaken whole
 
@@ -585,62 +589,62 @@ module _ (W V : ℕ) (some : 0 < W) (room : V + 2 * W ≤ 255) (c : Settings) (o
     again_up out n Repeated h = tt
 
     sends_again_kept : (up : Up) (down : Down) → SoundOf W key w t up down → (out : Outgoing) (all_sent : Bool) → IsSendingFor W t.ask out up down
-        → IsKept (client.sends_again c key.id t.ask.choice all_sent (again out))
+        → IsKept (client.sends_request_again c t.ask.choice all_sent (again out))
     sends_again_kept up down s out all_sent h = go (nat_eq out.retries 0)
       where
-        go : (b : Bool) → IsKept (client.sends_again c key.id t.ask.choice all_sent (if b then None else Some (record out { retries = out.retries - 1 })))
+        go : (b : Bool) → IsKept (client.sends_request_again c t.ask.choice all_sent (if b then None else Some (record out { retries = out.retries - 1 })))
         go true = ends up down s opened [] TimedOut (was_asked up down s) tt
         go false = window_kept up down s (record out { retries = out.retries - 1 }) all_sent
             (record { in_pieces = h.in_pieces; pieces = h.pieces; window = h.window; sends = again_up out (out.retries - 1) up h.sends; untaken = h.untaken })
 
     open_ticks_kept : (up : Up) (down : Down) → SoundOf W key w t up down → (phase : Phase) → ClientFits W t.ask phase up down
-        → IsKept (client.open_ticks c key.id w.now t phase)
-    open_ticks_kept up down s (Sending out all_sent) h = by_due (nat_le T_SEG (w.now - t.since))
+        → IsKept (client.open_ticks c t phase)
+    open_ticks_kept up down s (Phase.SegmentedRequest out all_sent) h = by_due (nat_le T_SEG (w.now - t.since))
       where
-        by_due : (b : Bool) → IsKept (if b then client.sends_again c key.id t.ask.choice all_sent (again out) else Stays)
+        by_due : (b : Bool) → IsKept (if b then client.sends_request_again c t.ask.choice all_sent (again out) else Stays)
         by_due true = sends_again_kept up down s out all_sent h
         by_due false = (up, down, s)
-    open_ticks_kept up down s Awaiting h = by_due (nat_le T_OUT (w.now - t.since))
+    open_ticks_kept up down s AwaitConfirmation h = by_due (nat_le T_OUT (w.now - t.since))
       where
-        by_due : (b : Bool) → IsKept (if b then client.repeats c key.id t else Stays)
+        by_due : (b : Bool) → IsKept (if b then client.repeats c t else Stays)
         by_due true = repeats_kept up down s h.0 h.1 t.ask.whole refl
         by_due false = (up, down, s)
-    open_ticks_kept up down s (Collecting inc) h = by_due (nat_le WAIT_SEG (w.now - t.since))
+    open_ticks_kept up down s (SegmentedConf inc) h = by_due (nat_le WAIT_SEG (w.now - t.since))
       where
-        by_whole : (b : Bool) → t.ask.whole ≡ b → IsKept (if b then client.repeats_whole c key.id t else Ends [] TimedOut)
+        by_whole : (b : Bool) → t.ask.whole ≡ b → IsKept (if b then client.repeats_whole c t else Ends [] TimedOut)
         by_whole true is = repeats_whole_kept up down s is
         by_whole false is = ends up down s opened [] TimedOut (was_asked up down s) tt
 
-        by_due : (b : Bool) → IsKept (if b then (if t.ask.whole then client.repeats_whole c key.id t else Ends [] TimedOut) else Stays)
+        by_due : (b : Bool) → IsKept (if b then (if t.ask.whole then client.repeats_whole c t else Ends [] TimedOut) else Stays)
         by_due true = by_whole t.ask.whole refl
         by_due false = (up, down, s)
-    open_ticks_kept up down s Over h = (up, down, s)
+    open_ticks_kept up down s Idle h = (up, down, s)
 
   -- Any copy of the transaction that arrives.
   pub client_gets_kept : (up : Up) (down : Down) → SoundOf W key w t up down → (m k : ℕ) → k ≤ V → (a : Apdu) → Says W w.number t.ask w.log up down m k a
-      → IsKept (client.client_gets c readable key.id w.now t a)
-  client_gets_kept up down s m k late a says = by_phase (client.is_over t.phase) refl (not (is_from_server a))
+      → IsKept (client.client_gets c readable t a)
+  client_gets_kept up down s m k late a says = by_phase (client.is_idle t.phase) refl (not (is_from_server a))
     where
       by_time : IsUnended w.number w.log → (b : Bool) → client.is_expired w.now t.ask ≡ b
-          → IsKept (if b then Ends [] Expired else client.open_gets c readable key.id t.ask t.phase a)
+          → IsKept (if b then Ends [] Expired else client.open_gets c readable t.ask t.phase a)
       by_time opened true is = ends up down s opened [] Expired (was_asked up down s) tt
       by_time opened false is = open_gets_kept opened (grind (arith, nat_tests)) up down s t.phase s.client m k late a says
 
-      by_phase : (b : Bool) → client.is_over t.phase ≡ b → (d : Bool)
-          → IsKept (if b || d then Stays else if client.is_expired w.now t.ask then Ends [] Expired else client.open_gets c readable key.id t.ask t.phase a)
+      by_phase : (b : Bool) → client.is_idle t.phase ≡ b → (d : Bool)
+          → IsKept (if b || d then Stays else if client.is_expired w.now t.ask then Ends [] Expired else client.open_gets c readable t.ask t.phase a)
       by_phase true is d = (up, down, s)
       by_phase false is true = (up, down, s)
       by_phase false is false = by_time (is_open t.phase w.number w.log is s.unended) (client.is_expired w.now t.ask) refl
 
-  pub client_ticks_kept : (up : Up) (down : Down) → SoundOf W key w t up down → IsKept (client.client_ticks c key.id w.now t)
-  client_ticks_kept up down s = by_phase (client.is_over t.phase) refl
+  pub client_ticks_kept : (up : Up) (down : Down) → SoundOf W key w t up down → IsKept (client.client_ticks c t)
+  client_ticks_kept up down s = by_phase (client.is_idle t.phase) refl
     where
       by_time : IsUnended w.number w.log → (b : Bool) → client.is_expired w.now t.ask ≡ b
-          → IsKept (if b then Ends [] Expired else client.open_ticks c key.id w.now t t.phase)
+          → IsKept (if b then Ends [] Expired else client.open_ticks c t t.phase)
       by_time opened true is = ends up down s opened [] Expired (was_asked up down s) tt
       by_time opened false is = open_ticks_kept opened (grind (arith, nat_tests)) up down s t.phase s.client
 
-      by_phase : (b : Bool) → client.is_over t.phase ≡ b
-          → IsKept (if b then Stays else if client.is_expired w.now t.ask then Ends [] Expired else client.open_ticks c key.id w.now t t.phase)
+      by_phase : (b : Bool) → client.is_idle t.phase ≡ b
+          → IsKept (if b then Stays else if client.is_expired w.now t.ask then Ends [] Expired else client.open_ticks c t t.phase)
       by_phase true is = (up, down, s)
       by_phase false is = by_time (is_open t.phase w.number w.log is s.unended) (client.is_expired w.now t.ask) refl

@@ -5,7 +5,7 @@ use Rattle.bac_protocol.specs.Examples.{FourCopies, LostAnswer, LastMoment, TooL
 use Rattle.bac_protocol.specs.Examples.{Unreadable, LostAck, OutOfOrder, InTime, OutOfTime, LaterPass, StoppedReply, Sizes, OddAcks, OtherAnswers}
 use Rattle.bac_protocol.specs.Examples.{KeptReply, DroppedEntry, RequestSizes, LongestRequest, OvertakenCopy, OtherCopies, TwoClients}
 use Rattle.bac_protocol.specs.Examples.{LostAckOfPut, TwoSegments, RefusedReplies, KeptSegments, LongestReassembly, TooLongTransfers}
-use Rattle.bac_protocol.specs.Examples.{ApduSizes, SegmentLimits, RequestsOfAllSizes, ReceivingSteps, SegmentedEntry, GivingSteps, Refusals}
+use Rattle.bac_protocol.specs.Examples.{ApduSizes, SegmentLimits, RequestsOfAllSizes, SegmentedRequestSteps, SegmentedEntry, SegmentedResponseSteps, Refusals}
 use Rattle.bac_protocol.specs.Examples.{UnreadableSegments, TimeOuts}
 
 pub four_copies : FourCopies
@@ -119,14 +119,14 @@ segment_limits = (refl, refl, refl, refl, refl, refl)
 pub requests_of_all_sizes : RequestsOfAllSizes
 requests_of_all_sizes = (refl, refl, refl, refl)
 
-pub receiving_steps : ReceivingSteps
-receiving_steps = (refl, refl, refl)
+pub segmented_request_steps : SegmentedRequestSteps
+segmented_request_steps = (refl, refl, refl)
 
 pub segmented_entry : SegmentedEntry
 segmented_entry = (refl, refl, refl)
 
-pub giving_steps : GivingSteps
-giving_steps = (refl, refl, refl, refl, refl, refl, refl, refl)
+pub segmented_response_steps : SegmentedResponseSteps
+segmented_response_steps = (refl, refl, refl, refl, refl, refl, refl, refl)
 
 pub refusals : Refusals
 refusals = (refl, refl, refl, refl)

@@ -126,8 +126,8 @@ grows_more g log f h = inr h
 
 pub says_goes : (W d m k number : ℕ) (ask : Ask) (log log' : List Fact) (up up' : Up) (down down' : Down) → Grows log log' → UpGoes d up up'
     → DownGoes d down down' → (a : Apdu) → Says W number ask log up down m k a → Says W number ask log' up' down' m (d + k) a
-says_goes W d m k number ask log log' up up' down down' grows gu gd (ConfirmedRequest sa ms ma id None choice o) h = h
-says_goes W d m k number ask log log' up up' down down' grows gu gd (ConfirmedRequest sa ms ma id (Some g) choice o) h =
+says_goes W d m k number ask log log' up up' down down' grows gu gd (ConfirmedRequest limits id None choice o) h = h
+says_goes W d m k number ask log log' up up' down down' grows gu gd (ConfirmedRequest limits id (Some g) choice o) h =
     (h.0, h.1, h.2, piece_up_goes W d k ask up up' g o gu h.3)
 says_goes W d m k number ask log log' up up' down down' grows gu gd (UnconfirmedRequest choice o) h = h
 says_goes W d m k number ask log log' up up' down down' grows gu gd (SimpleAck id choice) h =
@@ -136,8 +136,8 @@ says_goes W d m k number ask log log' up up' down down' grows gu gd (ComplexAck 
     (h.0, grows (Performed number (request_of ask) (reply.Complex o)) h.1, h.2)
 says_goes W d m k number ask log log' up up' down down' grows gu gd (ComplexAck id (Some g) choice o) h =
     (h.0, piece_down_goes W d k down down' g o gd h.1, h.2)
-says_goes W d m k number ask log log' up up' down down' grows gu gd (SegmentAck nak true id n win) h = (h.0, ack_up_goes W d k n up up' gu h.1)
-says_goes W d m k number ask log log' up up' down down' grows gu gd (SegmentAck nak false id n win) h = (h.0, ack_down_goes W d k n down down' gd h.1)
+says_goes W d m k number ask log log' up up' down down' grows gu gd (SegmentAck true id ack) h = (h.0, ack_up_goes W d k ack.number up up' gu h.1)
+says_goes W d m k number ask log log' up up' down down' grows gu gd (SegmentAck false id ack) h = (h.0, ack_down_goes W d k ack.number down down' gd h.1)
 says_goes W d m k number ask log log' up up' down down' grows gu gd (Error id choice class code) h =
     (h.0, grows (Performed number (request_of ask) (reply.Error class code)) h.1, h.2)
 says_goes W d m k number ask log log' up up' down down' grows gu gd (Reject id r) h = h
@@ -158,14 +158,14 @@ copies_go W now number ask log log' up up' down down' sends copies grows gu gd c
 -- all copies of an ask are sent in time
 pub says_time : (W m k number : ℕ) (ask : Ask) (log : List Fact) (up : Up) (down : Down) (a : Apdu) → Says W number ask log up down m k a
     → m ≤ server_until ask
-says_time W m k number ask log up down (ConfirmedRequest sa ms ma id None choice o) h = omega (arith, h.0)
-says_time W m k number ask log up down (ConfirmedRequest sa ms ma id (Some g) choice o) h = omega (arith, h.0)
+says_time W m k number ask log up down (ConfirmedRequest limits id None choice o) h = omega (arith, h.0)
+says_time W m k number ask log up down (ConfirmedRequest limits id (Some g) choice o) h = omega (arith, h.0)
 says_time W m k number ask log up down (UnconfirmedRequest choice o) h = absurd h
 says_time W m k number ask log up down (SimpleAck id choice) h = h.0
 says_time W m k number ask log up down (ComplexAck id None choice o) h = h.0
 says_time W m k number ask log up down (ComplexAck id (Some g) choice o) h = h.0
-says_time W m k number ask log up down (SegmentAck nak true id n win) h = h.0
-says_time W m k number ask log up down (SegmentAck nak false id n win) h = omega (arith, h.0)
+says_time W m k number ask log up down (SegmentAck true id ack) h = h.0
+says_time W m k number ask log up down (SegmentAck false id ack) h = omega (arith, h.0)
 says_time W m k number ask log up down (Error id choice class code) h = h.0
 says_time W m k number ask log up down (Reject id r) h = h
 says_time W m k number ask log up down (Abort true id r) h = h

@@ -6,11 +6,11 @@ use Rattle.bac_apdu.specs.Apdu.{Apdu}
 use Rattle.bac_protocol.specs.Times.{LIFE}
 use Rattle.bac_protocol.specs.Wire.{is_from_client}
 use Rattle.bac_protocol.specs.Client as client
-use Rattle.bac_protocol.specs.Client.{Ticket, is_over}
+use Rattle.bac_protocol.specs.Client.{Ticket, is_idle}
 use Rattle.bac_protocol.specs.Server as server
 use Rattle.bac_protocol.specs.Server.{Entry, is_live, live_entry, is_none_live}
 use Rattle.bac_protocol.specs.Log.{Shop}
-use Rattle.bac_protocol.specs.Transaction.{Key, Rules, ended, performed}
+use Rattle.bac_protocol.specs.Transaction.{Key, Rules, ended, performed, client_context, server_context}
 use Rattle.bac_protocol.specs.World.{World, Post, Event, count_of, later, post_of, stored, serves, reacts, takes_at_client, takes_at_server}
 use Rattle.bac_protocol.specs.World.{delivered, happens}
 use Rattle.bac_protocol.specs.World.Event.{Deliver}
@@ -127,10 +127,10 @@ module _ (S : Type 0) (shop : Shop S) (x : Rules) (now number : ℕ) (key : Key)
     }
 
     abbrev serving : (m : ℕ) → (ℕ → S) → Option Entry → Bool → server.Reaction
-    serving m stores o free = server.server_gets (x.settings key.server) key.id m (shop.outcome (stores key.server)) o free a
+    serving m stores o free = server.server_gets (server_context x key m) (shop.outcome (stores key.server)) o free a
 
     abbrev reacting : (m : ℕ) → client.Reaction
-    reacting m = client.client_gets (x.settings key.client) x.readable key.id m q.ticket a
+    reacting m = client.client_gets (client_context x key m) x.readable q.ticket a
 
     -- a slot is free, or none is needed
     abbrev IsRoom : Bool → Option Entry → Type 0
@@ -142,10 +142,10 @@ module _ (S : Type 0) (shop : Shop S) (x : Rules) (now number : ℕ) (key : Key)
     room_same free (Some e) (inr live) = go (is_live now e) live
       where
         go : (b : Bool) → (if b then false else true) ≡ false
-            → (if b then server.live_gets (x.settings key.server) key.id now (shop.outcome (q.stores key.server)) e e.state a else server.new_gets
-            (x.settings key.server) key.id now (shop.outcome (q.stores key.server)) (Some e) free a)
-            ≡ (if b then server.live_gets (x.settings key.server) key.id now (shop.outcome (q.stores key.server)) e e.state a else server.new_gets
-            (x.settings key.server) key.id now (shop.outcome (q.stores key.server)) (Some e) true a)
+            → (if b then server.live_gets (server_context x key now) (shop.outcome (q.stores key.server)) e e.state a else server.idle_gets
+            (server_context x key now) (shop.outcome (q.stores key.server)) (Some e) free a)
+            ≡ (if b then server.live_gets (server_context x key now) (shop.outcome (q.stores key.server)) e e.state a else server.idle_gets
+            (server_context x key now) (shop.outcome (q.stores key.server)) (Some e) true a)
         go true h = refl
         go false h = absurd cc
 
@@ -157,14 +157,14 @@ module _ (S : Type 0) (shop : Shop S) (x : Rules) (now number : ℕ) (key : Key)
         let live : live_entry now o ≡ live_entry now q.entry = ap (λ (m : ℕ). live_entry m o) (sym h.moment) ∙ h.entry in
         let from = serving w.net.now w.stores o free in
         let to = serving now q.stores q.entry true in
-        let d = x.settings key.server in
+        let d = server_context x key now in
         let service = shop.outcome (q.stores key.server) in
         same_then now from (by o) to (same_of now from (by o) (λ i. serving (h.moment i) (h.stores i) o free))
-        (same_then now (by o) (by (live_entry now o)) to (gets_same d key.id now service o free a)
+        (same_then now (by o) (by (live_entry now o)) to (gets_same d service o free a)
         (same_then now (by (live_entry now o)) (by (live_entry now q.entry)) to
         (same_of now (by (live_entry now o)) (by (live_entry now q.entry)) (ap by live))
         (same_then now (by (live_entry now q.entry)) (by q.entry) to
-        (same_back now (by q.entry) (by (live_entry now q.entry)) (gets_same d key.id now service q.entry free a))
+        (same_back now (by q.entry) (by (live_entry now q.entry)) (gets_same d service q.entry free a))
         (same_of now (by q.entry) to (room_same free q.entry room)))))
 
     abbrev acts : Bool → Bool → World S
@@ -207,10 +207,10 @@ module _ (S : Type 0) (shop : Shop S) (x : Rules) (now number : ℕ) (key : Key)
         let c = h.count in
         omega arith
 
-  still_open : (w : World S) (q : Duo S) (first : ℕ) → Shows w q first → is_ended (w.net.tickets key) ≡ is_over q.ticket.phase
+  still_open : (w : World S) (q : Duo S) (first : ℕ) → Shows w q first → is_ended (w.net.tickets key) ≡ is_idle q.ticket.phase
   still_open w q first h = ap is_ended h.ticket
 
-  not_stopped : (w u : World S) (q : Duo S) (first : ℕ) (xs : List Apdu) (a : Apdu) → Shows w q first → q.pending ≡ a ∷ xs → is_over q.ticket.phase ≡ false
+  not_stopped : (w u : World S) (q : Duo S) (first : ℕ) (xs : List Apdu) (a : Apdu) → Shows w q first → q.pending ≡ a ∷ xs → is_idle q.ticket.phase ≡ false
       → w ≡ u → Stops S key (first + 0) u → ⊥
   not_stopped w u q first xs a h is going same (inl e) = let f : is_ended (w.net.tickets key) ≡ true = ap
       (λ (v : World S). is_ended (v.net.tickets key)) same ∙ e in let g = still_open w q first h in cc
@@ -239,7 +239,7 @@ module _ (S : Type 0) (shop : Shop S) (x : Rules) (now number : ℕ) (key : Key)
         (machine w (Deliver first free) u goes) (step_shows w q first h xs a is free le room)
 
     -- each straight run goes as the two ends do
-    run_follows : (count j first : ℕ) (w u : World S) (p q : Duo S) → Leads S shop x now number key count p q → is_over q.ticket.phase ≡ true
+    run_follows : (count j first : ℕ) (w u : World S) (p q : Duo S) → Leads S shop x now number key count p q → is_idle q.ticket.phase ≡ true
         → Shows w p first → Straight S Step key false j first w u → Stops S key (first + j) u → Ran j count first u q
     run_follows zero zero first w u p q h over s run stops =
         record {
@@ -247,14 +247,14 @@ module _ (S : Type 0) (shop : Shop S) (x : Rules) (now number : ℕ) (key : Key)
           shows = shows_at first (first + 0) u q (omega arith)
               (subst (λ (v : World S). Shows v q first) run (subst (λ (d : Duo S). Shows w d first) h s));
         }
-    run_follows zero (suc j) first w u p q h over s run stops = let e : is_over p.ticket.phase ≡ true = ap (λ (d : Duo S). is_over d.ticket.phase) h
+    run_follows zero (suc j) first w u p q h over s run stops = let e : is_idle p.ticket.phase ≡ true = ap (λ (d : Duo S). is_idle d.ticket.phase) h
         ∙ over in let f = still_open w p first s in let g = run.2 in absurd cc
     run_follows (suc count) zero first w u p q h over s run stops = absurd (not_stopped w u p first h.0 h.1 s h.2 h.4 run stops)
     run_follows (suc count) (suc j) first w u p q h over s run stops =
         ran_suc j count first u q (run_follows count j (suc first) run.4 u (step S shop x now number key p h.0 h.1) q h.6 over
         (went w run.4 p first h.0 h.1 run.0 run.5 s h.2 h.3 (inr h.5)) run.6 (stops_at (first + suc j) (suc first + j) u (omega arith) stops))
 
-    pub start_follows : (most j first : ℕ) (w u : World S) (p q : Duo S) → (h : Starts S shop x now number key most p q) → is_over q.ticket.phase ≡ true
+    pub start_follows : (most j first : ℕ) (w u : World S) (p q : Duo S) → (h : Starts S shop x now number key most p q) → is_idle q.ticket.phase ≡ true
         → Shows w p first → Straight S Step key true j first w u → Stops S key (first + j) u → Ran j (suc h.count) first u q
     start_follows most zero first w u p q h over s run stops = absurd (not_stopped w u p first h.xs h.a s h.is h.going run stops)
     start_follows most (suc j) first w u p q h over s run stops =

@@ -9,16 +9,15 @@ use Rattle.bac_protocol.specs.Client as client
 use Rattle.bac_protocol.specs.Client.{Ask, request_of, Ticket}
 use Rattle.bac_protocol.specs.Server as server
 use Rattle.bac_protocol.specs.Server.{Entry, Effect}
-use Rattle.bac_protocol.specs.Log.{Fact, Has, asks_in, Shop, IsOnce}
+use Rattle.bac_protocol.specs.Log.{Fact, Has, asks_in, Shop, IsOnce, IsOrderly}
 use Rattle.bac_protocol.specs.Log.Fact.{Asked, Performed, Ended}
-use Rattle.bac_protocol.specs.Transaction.{Key, Rules, Copy, ended}
+use Rattle.bac_protocol.specs.Transaction.{Key, Rules, Copy, ended, client_context, server_context}
 use Rattle.bac_protocol.specs.World.{Net, World, Post, Event, later, client_acts, server_acts, asked_at, is_key_held, service_of, reacts}
 use Rattle.bac_protocol.specs.World.{serves, ask_made, takes_at_client, takes_at_server, arrives, delivered, ticks_ticket, ticks_as_client}
 use Rattle.bac_protocol.specs.World.{ticks_as_server, stored, happens, run, start}
 use Rattle.bac_protocol.specs.World.Event.{MakeAsk, Deliver, Tick, Noise, Advance}
 use Rattle.bac_protocol.specs.Claims.{IsBounded}
 use Rattle.bac_protocol.proofs.Alone.{one}
-use Rattle.bac_protocol.proofs.Sound.{IsOrderly}
 use Rattle.bac_protocol.proofs.ClientKeeps.{client_gets_kept, client_ticks_kept}
 use Rattle.bac_protocol.proofs.ServerKeeps.{server_gets_kept, server_ticks_kept}
 use Rattle.bac_protocol.proofs.Keys.{copy_at, set_nothing}
@@ -53,7 +52,7 @@ asked_once n c s d u q r (Ended m how ∷ log) o (inr h) (inl f) = absurd cc
 asked_once n c s d u q r (Ended m how ∷ log) o (inr h) (inr k) = asked_once n c s d u q r log o.2 h k
 
 pub net_log : (W : ℕ) (n : Net) → NetSound W n → IsLogOf n.asks n.log
-net_log W n s = let key : Key = record { client = 0; server = 0; id = 0 } in log_of W key (n.tickets key) (one n key) (s.each key)
+net_log W n s = let key : Key = record { client = 0; server = 0; invoke_id = 0 } in log_of W key (n.tickets key) (one n key) (s.each key)
 
 none_there : (k : ℕ) (c : Copy) → slice_get [] k ≡ Some c → ⊥
 none_there k c e = cc
@@ -122,8 +121,8 @@ module _ (S : Type 0) (shop : Shop S) (opening : ℕ → S) (W : ℕ) (x : Rules
     arrives_kept (Some t) at young few free true =
         let f = sound_at W w.net p.key (Some t) at s.net in
         let says = ((f.2).arriving (later p.key number w.net.posts) p.copy (copy_at number w.net.posts p at_number) young).1 in
-        let v = server.server_gets (x.settings p.key.server) p.key.id w.net.now (service_of S shop w p.key) (w.net.entries p.key) free p.copy.apdu in
-        serves_kept w s p.key t at v (gets_served (x.settings p.key.server) p.key.id w.net.now (service_of S shop w p.key)
+        let v = server.server_gets (server_context x p.key w.net.now) (service_of S shop w p.key) (w.net.entries p.key) free p.copy.apdu in
+        serves_kept w s p.key t at v (gets_served (server_context x p.key w.net.now) (service_of S shop w p.key)
         (w.net.entries p.key) free p.copy.apdu)
         (net_server W w.net p.key t at s.net v
         (server_gets_kept W x.overtake bound.some bound.room (x.settings p.key.server) (bound.windows p.key.server) (service_of S shop w p.key) p.key
@@ -131,7 +130,7 @@ module _ (S : Type 0) (shop : Shop S) (opening : ℕ → S) (W : ℕ) (x : Rules
     arrives_kept (Some t) at young few free false =
         let f = sound_at W w.net p.key (Some t) at s.net in
         let says = ((f.2).arriving (later p.key number w.net.posts) p.copy (copy_at number w.net.posts p at_number) young).1 in
-        let r = client.client_gets (x.settings p.key.client) x.readable p.key.id w.net.now t p.copy.apdu in
+        let r = client.client_gets (client_context x p.key w.net.now) x.readable t p.copy.apdu in
         reacts_kept w s p.key t r
         (net_client W w.net p.key t at s.net r
         (client_gets_kept W x.overtake bound.some bound.room (x.settings p.key.client) (bound.windows p.key.client) x.readable p.key
@@ -155,7 +154,7 @@ module _ (S : Type 0) (shop : Shop S) (opening : ℕ → S) (W : ℕ) (x : Rules
   ticket_kept w s key None at = s
   ticket_kept w s key (Some t) at =
       let f = sound_at W w.net key (Some t) at s.net in
-      let r = client.client_ticks (x.settings key.client) key.id w.net.now t in
+      let r = client.client_ticks (client_context x key w.net.now) t in
       reacts_kept w s key t r (net_client W w.net key t at s.net r
       (client_ticks_kept W x.overtake bound.some bound.room (x.settings key.client) (bound.windows key.client) x.readable key
       (one w.net key) t f.0 f.1 f.2))
@@ -169,11 +168,11 @@ module _ (S : Type 0) (shop : Shop S) (opening : ℕ → S) (W : ℕ) (x : Rules
   quiet w key v e = subst (IsServed (service_of S shop w key)) (sym e) tt
 
   entry_kept : (w : World S) → Kept w → (key : Key) (o : Option Ticket) → w.net.tickets key ≡ o
-      → Kept (serves S shop w key (server.server_ticks (x.settings key.server) key.id w.net.now (w.net.entries key)))
+      → Kept (serves S shop w key (server.server_ticks (server_context x key w.net.now) (w.net.entries key)))
   entry_kept w s key (Some t) at =
       let f = sound_at W w.net key (Some t) at s.net in
-      let v = server.server_ticks (x.settings key.server) key.id w.net.now (w.net.entries key) in
-      serves_kept w s key t at v (quiet w key v (ticks_quiet (x.settings key.server) key.id w.net.now (w.net.entries key)))
+      let v = server.server_ticks (server_context x key w.net.now) (w.net.entries key) in
+      serves_kept w s key t at v (quiet w key v (ticks_quiet (server_context x key w.net.now) (w.net.entries key)))
       (net_server W w.net key t at s.net v (server_ticks_kept W x.overtake bound.some bound.room (x.settings key.server) (bound.windows key.server)
       (service_of S shop w key) key (one w.net key) t (w.net.entries key) f.0 f.1 f.2))
   entry_kept w s key None at = go (w.net.entries key) refl (sound_at W w.net key None at s.net).no_entry
@@ -182,7 +181,7 @@ module _ (S : Type 0) (shop : Shop S) (opening : ℕ → S) (W : ℕ) (x : Rules
       all_there [] = refl
       all_there (p ∷ posts) = ap (λ ps. p ∷ ps) (all_there posts)
 
-      go : (o : Option Entry) → w.net.entries key ≡ o → o ≡ None → Kept (serves S shop w key (server.server_ticks (x.settings key.server) key.id w.net.now o))
+      go : (o : Option Entry) → w.net.entries key ≡ o → o ≡ None → Kept (serves S shop w key (server.server_ticks (server_context x key w.net.now) o))
       go (Some e) is nil = absurd cc
       go None is nil = subst (λ (n : Net). Kept (record { net = n; stores = w.stores }))
           (λ i. record (w.net) { entries = sym (set_nothing w.net.entries key None is) i; posts = sym (all_there w.net.posts) i }) s
@@ -190,7 +189,7 @@ module _ (S : Type 0) (shop : Shop S) (opening : ℕ → S) (W : ℕ) (x : Rules
   servers_kept : (keys : List Key) (w : World S) → Kept w → Kept (ticks_as_server S shop x keys w)
   servers_kept [] w s = s
   servers_kept (key ∷ keys) w s = servers_kept keys (serves S shop w key
-      (server.server_ticks (x.settings key.server) key.id w.net.now (w.net.entries key))) (entry_kept w s key (w.net.tickets key) refl)
+      (server.server_ticks (server_context x key w.net.now) (w.net.entries key))) (entry_kept w s key (w.net.tickets key) refl)
 
   pub event_kept : (w : World S) → Kept w → (e : Event) → Kept (happens S shop x w e)
   event_kept w s (MakeAsk key choice whole front rest) = asks_kept w s key choice whole front rest (is_key_held w.net.now (w.net.tickets key)) refl

@@ -25,3 +25,6 @@ pub mod StraightRuns
 pub mod Loops
 pub mod Own
 pub mod Owned
+pub mod SingleMoves
+pub mod Consulting
+pub mod Short

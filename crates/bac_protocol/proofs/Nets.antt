@@ -8,16 +8,16 @@ use Rattle.bac_protocol.specs.Times.{HOLD}
 use Rattle.bac_protocol.specs.Service.{Octets, Ending}
 use Rattle.bac_protocol.specs.Client as client
 use Rattle.bac_protocol.specs.Client.{Ask, request_of, Phase, Ticket}
-use Rattle.bac_protocol.specs.Client.Phase.{Sending, Awaiting, Collecting, Over}
+use Rattle.bac_protocol.specs.Client.Phase.{AwaitConfirmation, SegmentedConf, Idle}
 use Rattle.bac_protocol.specs.Server as server
 use Rattle.bac_protocol.specs.Server.{State, Entry, Effect}
-use Rattle.bac_protocol.specs.Server.State.{Receiving, Done, Giving, Dropped}
-use Rattle.bac_protocol.specs.Log.{Fact, asks_in, IsUnperformed, IsUnended}
+use Rattle.bac_protocol.specs.Server.State.{Done, SegmentedResponse, Dropped}
+use Rattle.bac_protocol.specs.Log.{Fact, asks_in, IsUnperformed, IsUnended, IsOrderly}
 use Rattle.bac_protocol.specs.Log.Fact.{Asked, Performed, Ended}
-use Rattle.bac_protocol.specs.Transaction.{Key, Rules, ended, performed}
+use Rattle.bac_protocol.specs.Transaction.{Key, Rules, ended, performed, client_context}
 use Rattle.bac_protocol.specs.World.{Net, set_at, client_acts, server_acts, asked_at, is_key_held, net_start}
 use Rattle.bac_protocol.proofs.Alone.{Transaction, client_does, server_does, asked_by, one}
-use Rattle.bac_protocol.proofs.Sound.{number_of, IsBelow, IsOrderly, Up, Down, IsKeptFor, IsUnbegun, StateFits, ServerFits, IsOpenIn, IsSoundAt, IsSound}
+use Rattle.bac_protocol.proofs.Sound.{number_of, IsBelow, Up, Down, IsKeptFor, IsUnbegun, StateFits, ServerFits, IsOpenIn, IsSoundAt, IsSound}
 use Rattle.bac_protocol.proofs.Sound.Up.{Reading}
 use Rattle.bac_protocol.proofs.Sound.Down.{Unsent}
 use Rattle.bac_protocol.proofs.Facts.{below_has, says_goes, up_same, down_same, grows_more}
@@ -37,10 +37,10 @@ unended_more n (Performed m r p) log ne h = h
 unended_more n (Ended m how) log ne h = (ne, h)
 
 open_more : (phase : Phase) (n : ℕ) (f : Fact) (log : List Fact) → number_of f ≢ n → IsOpenIn phase n log → IsOpenIn phase n (f ∷ log)
-open_more (Sending out all_sent) n f log ne h = unended_more n f log ne h
-open_more Awaiting n f log ne h = unended_more n f log ne h
-open_more (Collecting inc) n f log ne h = unended_more n f log ne h
-open_more Over n f log ne h = tt
+open_more (Phase.SegmentedRequest out all_sent) n f log ne h = unended_more n f log ne h
+open_more AwaitConfirmation n f log ne h = unended_more n f log ne h
+open_more (SegmentedConf inc) n f log ne h = unended_more n f log ne h
+open_more Idle n f log ne h = tt
 
 kept_more : (number : ℕ) (ask : Ask) (f : Fact) (log : List Fact) (a : Apdu) → number_of f ≢ number → IsKeptFor number ask a log
     → IsKeptFor number ask a (f ∷ log)
@@ -58,10 +58,10 @@ unbegun_more number f log _ _ ne h = absurd h
 
 state_more : (W number : ℕ) (ask : Ask) (f : Fact) (log : List Fact) (st : State) (up : Up) (down : Down) → number_of f ≢ number
     → StateFits W number ask st up down log → StateFits W number ask st up down (f ∷ log)
-state_more W number ask f log (Receiving inc since) (Reading t s) Unsent ne h =
+state_more W number ask f log (State.SegmentedRequest inc since) (Reading t s) Unsent ne h =
     record { in_pieces = h.in_pieces; front = h.front; unperformed = unperformed_more number f log ne h.unperformed }
 state_more W number ask f log (Done kept) up Unsent ne h = (h.0, kept_more number ask f log kept ne h.1)
-state_more W number ask f log (Giving out transfer since) up down ne h =
+state_more W number ask f log (SegmentedResponse out transfer since) up down ne h =
     record { read = h.read; window = h.window; performed = inr h.performed; sends = h.sends }
 state_more W number ask f log Dropped (Reading t s) Unsent ne h = (h.0, unperformed_more number f log ne h.1)
 state_more W number ask f log _ _ _ ne h = absurd h
@@ -275,17 +275,17 @@ net_asked W some x n key s spent choice whole front rest = net_keeps W n (asked_
     ask = record { first = n.now; choice = choice; whole = whole; pieces = front ∷ rest }
 
     made : Ticket
-    made = client.asked_ticket (x.settings key.client) key.id n.now ask
+    made = client.asked_ticket (client_context x key n.now) ask
 
     sends : List Apdu
-    sends = client.sends_of (client.asks (x.settings key.client) key.id ask)
+    sends = client.sends_of (client.asks (client_context x key n.now) ask)
 
 -- an ask where the invoke ID is free
 pub spent_at : (W : ℕ) (n : Net) (key : Key) (o : Option Ticket) → n.tickets key ≡ o → IsSoundAt W key o (one n key) → is_key_held n.now o ≡ false
     → IsSpent (one n key)
 spent_at W n key None at s free = subst IsSpent (λ i. record (one n key) { ticket = sym at i; entry = sym s.no_entry i; copies = sym s.no_copies i })
     (spent_fresh (one n key) s.numbers s.counted s.orderly)
-spent_at W n key (Some t) at s free = spent_of W key (one n key) t s.0 s.1 s.2 (go (client.is_over t.phase) free)
+spent_at W n key (Some t) at s free = spent_of W key (one n key) t s.0 s.1 s.2 (go (client.is_idle t.phase) free)
   where
     go : (b : Bool) → (not b || nat_le (n.now - t.ask.first) HOLD) ≡ false → t.ask.first + HOLD < n.now
     go true e = let clock = (s.2).clock in grind (arith, nat_tests)

@@ -11,7 +11,7 @@ use Rattle.bac_protocol.specs.Service.{Reply}
 use Rattle.bac_protocol.specs.Server as server
 use Rattle.bac_protocol.specs.Server.{Entry}
 use Rattle.bac_protocol.specs.Log.{Shop}
-use Rattle.bac_protocol.specs.Transaction.{Key, Rules}
+use Rattle.bac_protocol.specs.Transaction.{Key, Rules, client_context, server_context}
 use Rattle.bac_protocol.specs.World.{Net, World, Post, Event, post_of, set_at, later, client_acts, server_acts, is_key_held, ask_made}
 use Rattle.bac_protocol.specs.World.{takes_at_client, takes_at_server, arrives, delivered, ticks_ticket, ticks_as_client, ticks_as_server, serves}
 use Rattle.bac_protocol.specs.World.{service_of, happens, run, start}
@@ -23,16 +23,16 @@ use Rattle.bac_protocol.proofs.Own.{ServerSends, BeginsRequest, IsOwnAs, server_
 
 module _ (x : Rules) where
   -- what each end sends has its window, and the lesser of both in SegmentACKs
-  client_has : (key : Key) → ClientSends (x.settings key.client) key.id (IsSentByClient x key) (IsLesser x key)
-  client_has key = record {
+  client_has : (key : Key) (now : ℕ) → ClientSends (client_context x key now) (IsSentByClient x key) (IsLesser x key)
+  client_has key now = record {
     whole = λ ask. ((refl, refl), tt);
     piece = λ choice ps n. ((refl, refl), refl);
     ack = λ nak number window h. ((refl, refl), h);
     abort = λ reason. ((refl, refl), tt);
   }
 
-  server_has : (key : Key) → ServerSends (x.settings key.server) key.id (IsSentByServer x key) (IsLesser x key)
-  server_has key = record {
+  server_has : (key : Key) (now : ℕ) → ServerSends (server_context x key now) (IsSentByServer x key) (IsLesser x key)
+  server_has key now = record {
     whole = whole;
     piece = λ choice ps n. ((refl, refl), refl);
     ack = λ nak number window h. ((refl, refl), h);
@@ -40,7 +40,7 @@ module _ (x : Rules) where
     abort = λ reason. ((refl, refl), tt);
   }
     where
-      whole : (choice : ℕ) (p : Reply) → IsSentByServer x key (server.reply_apdu key.id choice p)
+      whole : (choice : ℕ) (p : Reply) → IsSentByServer x key (server.reply_apdu (server_context x key now) choice p)
       whole choice Reply.Simple = ((refl, refl), tt)
       whole choice (Reply.Complex o) = ((refl, refl), tt)
       whole choice (Reply.Error class code) = ((refl, refl), tt)
@@ -50,8 +50,8 @@ module _ (x : Rules) where
 
   -- so a reassembly begins with the lesser of both
   begins_request : (key : Key) (a : Apdu) → is_from_client a ≡ true → IsSent key a → BeginsRequest (x.settings key.server).window (IsLesser x key) a
-  begins_request key (ConfirmedRequest sa ms ma i (Some g) choice o) up (inl h) = let own = h.1 in omega arith
-  begins_request key (ConfirmedRequest sa ms ma i (Some g) choice o) up (inr h) = let other = h.0.0 in absurd cc
+  begins_request key (ConfirmedRequest limits i (Some g) choice o) up (inl h) = let own = h.1 in omega arith
+  begins_request key (ConfirmedRequest limits i (Some g) choice o) up (inr h) = let other = h.0.0 in absurd cc
   begins_request key _ up h = tt
 
   begins_answer : (key : Key) (a : Apdu) → is_from_client a ≡ false → IsSent key a → BeginsAnswer (x.settings key.client).window (IsLesser x key) a
@@ -111,14 +111,14 @@ module _ (x : Rules) where
 
   -- the reaction of a client is its own
   abbrev IsOwn : Key → ℕ → client.Reaction → Type 0
-  IsOwn key now r = Own (x.settings key.client) x.readable key.id now (IsSentByClient x key) (IsLesser x key) (client_has key) r
+  IsOwn key now r = Own (client_context x key now) x.readable (IsSentByClient x key) (IsLesser x key) (client_has key now) r
 
   client_owned : (n : Net) → Owned n → (key : Key) (t : Ticket) → PhaseHas (IsLesser x key) t.phase → (r : client.Reaction) → IsOwn key n.now r
       → Owned (client_acts n key t r)
   client_owned n h key t k r own =
-      let c = x.settings key.client in
-      let sends = own_sends c x.readable key.id n.now (IsSentByClient x key) (IsLesser x key) (client_has key) r own in
-      let next = own_after c x.readable key.id n.now (IsSentByClient x key) (IsLesser x key) (client_has key) t k r own in
+      let c = client_context x key n.now in
+      let sends = own_sends c x.readable (IsSentByClient x key) (IsLesser x key) (client_has key n.now) r own in
+      let next = own_after c x.readable (IsSentByClient x key) (IsLesser x key) (client_has key n.now) t k r own in
       record {
         posts = own_join n.posts (map (post_of key n.now) (client.sends_of r)) h.posts (from_client key n.now (client.sends_of r) sends);
         entries = h.entries;
@@ -137,32 +137,32 @@ module _ (x : Rules) where
     ask_owned : (w : World S) → Owned w.net → (key : Key) (ask : Ask) (b : Bool) → Owned (if b then w else ask_made S x w key ask).net
     ask_owned w h key ask true = h
     ask_owned w h key ask false =
-        let c = x.settings key.client in
+        let c = client_context x key w.net.now in
         let now = w.net.now in
-        let r = client.asks c key.id ask in
-        let own = asks_own c x.readable key.id now (IsSentByClient x key) (IsLesser x key) (client_has key) ask in
-        let sends = own_sends c x.readable key.id now (IsSentByClient x key) (IsLesser x key) (client_has key) r own in
-        let next = own_after c x.readable key.id now (IsSentByClient x key) (IsLesser x key) (client_has key) (new_ticket now ask) tt r own in
+        let r = client.asks c ask in
+        let own = asks_own c x.readable (IsSentByClient x key) (IsLesser x key) (client_has key w.net.now) ask in
+        let sends = own_sends c x.readable (IsSentByClient x key) (IsLesser x key) (client_has key w.net.now) r own in
+        let next = own_after c x.readable (IsSentByClient x key) (IsLesser x key) (client_has key w.net.now) (new_ticket now ask) tt r own in
         record {
           posts = own_join w.net.posts (map (post_of key now) (client.sends_of r)) h.posts (from_client key now (client.sends_of r) sends);
           entries = h.entries;
-          tickets = tickets_set w.net.tickets h.tickets key (Some (client.asked_ticket c key.id now ask)) next;
+          tickets = tickets_set w.net.tickets h.tickets key (Some (client.asked_ticket c ask)) next;
         }
 
     takes_owned : (w : World S) → Owned w.net → (key : Key) (a : Apdu) → is_from_client a ≡ false → IsSent key a → (o : Option Ticket)
         → TicketHas (IsLesser x key) o → Owned (takes_at_client S x w key a o).net
     takes_owned w h key a down sent None k = h
     takes_owned w h key a down sent (Some t) k =
-        let c = x.settings key.client in
-        client_owned w.net h key t k (client.client_gets c x.readable key.id w.net.now t a)
-        (gets_own c x.readable key.id w.net.now (IsSentByClient x key) (IsLesser x key) (client_has key) t k a (begins_answer key a down sent))
+        let c = client_context x key w.net.now in
+        client_owned w.net h key t k (client.client_gets c x.readable t a)
+        (gets_own c x.readable (IsSentByClient x key) (IsLesser x key) (client_has key w.net.now) t k a (begins_answer key a down sent))
 
     arrives_owned : (w : World S) → Owned w.net → (key : Key) (free : Bool) (a : Apdu) → IsSent key a → (up : Bool) → is_from_client a ≡ up
         → Owned (if up then takes_at_server S shop x w key free a else takes_at_client S x w key a (w.net.tickets key)).net
     arrives_owned w h key free a sent true up =
-        let c = x.settings key.server in
-        server_owned w.net h key (server.server_gets c key.id w.net.now (service_of S shop w key) (w.net.entries key) free a)
-        (server_gets_own c key.id w.net.now (service_of S shop w key) (IsSentByServer x key) (IsLesser x key) (server_has key) (w.net.entries key) free a
+        let c = server_context x key w.net.now in
+        server_owned w.net h key (server.server_gets c (service_of S shop w key) (w.net.entries key) free a)
+        (server_gets_own c (service_of S shop w key) (IsSentByServer x key) (IsLesser x key) (server_has key w.net.now) (w.net.entries key) free a
         (begins_request key a up sent) (h.entries key))
     arrives_owned w h key free a sent false down = takes_owned w h key a down sent (w.net.tickets key) (h.tickets key)
 
@@ -178,9 +178,9 @@ module _ (x : Rules) where
     ticket_owned : (w : World S) → Owned w.net → (key : Key) (o : Option Ticket) → TicketHas (IsLesser x key) o → Owned (ticks_ticket S x w key o).net
     ticket_owned w h key None k = h
     ticket_owned w h key (Some t) k =
-        let c = x.settings key.client in
-        client_owned w.net h key t k (client.client_ticks c key.id w.net.now t)
-        (ticks_own c x.readable key.id w.net.now (IsSentByClient x key) (IsLesser x key) (client_has key) t k)
+        let c = client_context x key w.net.now in
+        client_owned w.net h key t k (client.client_ticks c t)
+        (ticks_own c x.readable (IsSentByClient x key) (IsLesser x key) (client_has key w.net.now) t k)
 
     clients_owned : (keys : List Key) (w : World S) → Owned w.net → Owned (ticks_as_client S x keys w).net
     clients_owned [] w h = h
@@ -190,10 +190,10 @@ module _ (x : Rules) where
     servers_owned : (keys : List Key) (w : World S) → Owned w.net → Owned (ticks_as_server S shop x keys w).net
     servers_owned [] w h = h
     servers_owned (key ∷ keys) w h =
-        let c = x.settings key.server in
-        let v = server.server_ticks c key.id w.net.now (w.net.entries key) in
+        let c = server_context x key w.net.now in
+        let v = server.server_ticks c (w.net.entries key) in
         servers_owned keys (serves S shop w key v) (server_owned w.net h key v
-        (server_ticks_own c key.id w.net.now (IsSentByServer x key) (IsLesser x key) (server_has key) (w.net.entries key) (h.entries key)))
+        (server_ticks_own c (IsSentByServer x key) (IsLesser x key) (server_has key w.net.now) (w.net.entries key) (h.entries key)))
 
     event_owned : (w : World S) → Owned w.net → (e : Event) → Owned (happens S shop x w e).net
     event_owned w h (MakeAsk key choice whole front rest) = ask_owned w h key

@@ -3,31 +3,31 @@ use Rattle.std.proofs.Common.{◌≡◌, ℕ, ◌+◌, ◌-◌, ◌*◌, ◌%◌
 use Rattle.std.proofs.Common.{Some, None, if◌then◌else◌, nat_lt, nat_le, append-nil, refl, ap, ◌∙◌, arith}
 use Rattle.std.proofs.lemmas.Bool.Decides.{nat_tests}
 use Rattle.bac_apdu.specs.Apdu.{Apdu}
-use Rattle.bac_apdu.specs.Apdu.Apdu.{Abort}
 use Rattle.bac_segment.specs.Limits.{RETRIES}
 use Rattle.bac_segment.specs.Pieces.{join}
 use Rattle.bac_segment.specs.Window.{Outgoing, outgoing, in_window, is_finished, acknowledged, Incoming, incoming, Taking, takes}
-use Rattle.bac_segment.specs.Window.Taking.{Taken, Complete}
+use Rattle.bac_segment.specs.Window.Taking.{Taken, Whole}
 use Rattle.bac_protocol.specs.Times.{KEEP, DEADLINE, WAIT_SEG}
-use Rattle.bac_protocol.specs.Sizes.{Settings}
-use Rattle.bac_protocol.specs.Service.{Octets, Reply, Outcome}
+use Rattle.bac_protocol.specs.Context.{Context}
+use Rattle.bac_protocol.specs.Sizes.{Way, reply_way_of}
+use Rattle.bac_protocol.specs.Service.{Octets, Reply, OTHER, Outcome}
 use Rattle.bac_protocol.specs.Service.Outcome.{Replies}
 use Rattle.bac_protocol.specs.Service.Ending.{Expired}
 use Rattle.bac_protocol.specs.Wire.{is_from_client, is_from_server, pieces_from}
 use Rattle.bac_protocol.specs.Client as client
 use Rattle.bac_protocol.specs.Client.{Ask, request_of, Phase, Ticket}
-use Rattle.bac_protocol.specs.Client.Phase.{Sending, Awaiting, Over}
+use Rattle.bac_protocol.specs.Client.Phase.{AwaitConfirmation, Idle}
 use Rattle.bac_protocol.specs.Client.Reaction.{Stays, GoesOn, Ends}
 use Rattle.bac_protocol.specs.Server as server
-use Rattle.bac_protocol.specs.Server.{Terms, State, Entry, Effect, Service, Way, is_live, way_of}
+use Rattle.bac_protocol.specs.Server.{State, Entry, Effect, Service, is_live}
 use Rattle.bac_protocol.specs.Server.Transfer.{Running}
-use Rattle.bac_protocol.specs.Server.State.{Receiving, Done, Giving, Dropped}
-use Rattle.bac_protocol.specs.Server.Way.{AtOnce, InPieces, Unsendable}
+use Rattle.bac_protocol.specs.Server.State.{Done, SegmentedResponse, Dropped}
+use Rattle.bac_protocol.specs.Sizes.Way.{InOne, InSegments, Refused}
 use Rattle.bac_protocol.specs.Log.{Fact, Shop}
 use Rattle.bac_protocol.specs.Log.Fact.{Performed}
-use Rattle.bac_protocol.specs.Transaction.{Key, Rules}
+use Rattle.bac_protocol.specs.Transaction.{Key, Rules, client_context, server_context}
 use Rattle.bac_protocol.specs.World.{stored}
-use Rattle.bac_protocol.specs.Straight.{WayFits, terms_of}
+use Rattle.bac_protocol.specs.Straight.{WayFits}
 use Rattle.bac_protocol.specs.Server.{is_none_live}
 use Rattle.bac_protocol.proofs.Queue.{Duo, Within, within_then, one_step, Starts, starts_then, first_step, step, served, reacted}
 use Rattle.bac_protocol.proofs.Windows.{takes_one, takes_last, after_piece, taken_next, parts_next, next_window, acknowledged_last, finished}
@@ -49,28 +49,28 @@ is_waiting : (now : ℕ) → nat_le WAIT_SEG (now - now) ≡ false
 is_waiting now = grind (arith, nat_tests)
 
 -- The client: an open ticket that was asked now takes what comes.
-pub client_open : (x : Rules) (key : Key) (now : ℕ) (t : Ticket) (a : Apdu) → t.ask.first ≡ now → client.is_over t.phase ≡ false → is_from_server a ≡ true
-    → client.client_gets (x.settings key.client) x.readable key.id now t a ≡ client.open_gets (x.settings key.client) x.readable key.id t.ask t.phase a
+pub client_open : (x : Rules) (key : Key) (now : ℕ) (t : Ticket) (a : Apdu) → t.ask.first ≡ now → client.is_idle t.phase ≡ false → is_from_server a ≡ true
+    → client.client_gets (client_context x key now) x.readable t a ≡ client.open_gets (client_context x key now) x.readable t.ask t.phase a
 client_open x key now t a first going comes =
     let late : client.is_expired now t.ask ≡ false = ap (λ (f : ℕ). nat_lt DEADLINE (now - f)) first ∙ is_in_time now in
-    let then_by : client.Reaction = client.open_gets (x.settings key.client) x.readable key.id t.ask t.phase a in
+    let then_by : client.Reaction = client.open_gets (client_context x key now) x.readable t.ask t.phase a in
     ap (λ b. if b || not (is_from_server a) then Stays else if client.is_expired now t.ask then Ends [] Expired else then_by) going
     ∙ ap (λ b. if not b then Stays else if client.is_expired now t.ask then Ends [] Expired else then_by) comes
     ∙ ap (λ b. if b then Ends [] Expired else then_by) late
 
 -- What a server that performs the request keeps and sends.
-module _ (d : Settings) (id now choice : ℕ) (p : Reply) where
-  abbrev pub kept_state : Way → State
-  kept_state AtOnce = Done (server.reply_apdu id choice p)
-  kept_state (InPieces ps) = Giving (outgoing ps) Running now
-  kept_state (Unsendable reason) = Dropped
+module _ (d : Context) (choice : ℕ) (p : Reply) where
+  abbrev pub kept_state : Way ℕ → State
+  kept_state InOne = Done (server.reply_apdu d choice p)
+  kept_state (InSegments ps) = SegmentedResponse (outgoing ps) Running d.now
+  kept_state (Refused reason) = Dropped
 
-  abbrev pub first_sent : Way → Apdu
-  first_sent AtOnce = server.reply_apdu id choice p
-  first_sent (InPieces ps) = server.reply_piece d id choice ps 0
-  first_sent (Unsendable reason) = Abort true id reason
+  abbrev pub first_sent : Way ℕ → Apdu
+  first_sent InOne = server.reply_apdu d choice p
+  first_sent (InSegments ps) = server.reply_piece d choice ps 0
+  first_sent (Refused reason) = server.server_abort d reason
 
-  abbrev pub gives_as : Entry → List Apdu → Octets → Way → server.Reaction
+  abbrev pub gives_as : Entry → List Apdu → Octets → Way ℕ → server.Reaction
   gives_as e acks octets way = record {
     entry = Some (record e { state = kept_state way });
     sends = acks ++ first_sent way ∷ [];
@@ -78,61 +78,58 @@ module _ (d : Settings) (id now choice : ℕ) (p : Reply) where
         server.effect_of e octets p;
   }
 
-gives_is : (d : Settings) (id now : ℕ) (p : Reply) (e : Entry) (acks : List Apdu) (octets : Octets) (way : Way) → WayFits way
-    → server.gives d id now e acks octets p way ≡ gives_as d id now e.terms.choice p e acks octets way
-gives_is d id now p e acks octets AtOnce h = refl
-gives_is d id now p e acks octets (InPieces ps) h = refl
-gives_is d id now p e acks octets (Unsendable reason) h = absurd h
+gives_is : (d : Context) (p : Reply) (e : Entry) (acks : List Apdu) (octets : Octets) (way : Way ℕ) → WayFits way
+    → server.sends_reply d e acks octets p way ≡ gives_as d e.choice p e acks octets way
+gives_is d p e acks octets InOne h = refl
+gives_is d p e acks octets (InSegments ps) h = refl
+gives_is d p e acks octets (Refused reason) h = absurd h
 
 -- no entry is live
-pub server_new : (d : Settings) (id now : ℕ) (service : Service) (o : Option Entry) (a : Apdu) → is_none_live now o ≡ true
-    → server.server_gets d id now service o true a ≡ server.new_gets d id now service o true a
-server_new d id now service None a h = refl
-server_new d id now service (Some e) a h = go (is_live now e) h
+pub server_new : (d : Context) (service : Service) (o : Option Entry) (a : Apdu) → is_none_live d.now o ≡ true
+    → server.server_gets d service o true a ≡ server.idle_gets d service o true a
+server_new d service None a h = refl
+server_new d service (Some e) a h = go (is_live d.now e) h
   where
     go : (b : Bool) → (if b then false else true) ≡ true
-        → (if b then server.live_gets d id now service e e.state a else server.new_gets d id now service (Some e) true a) ≡ server.new_gets d id now
+        → (if b then server.live_gets d service e e.state a else server.idle_gets d service (Some e) true a) ≡ server.idle_gets d
         service (Some e) true a
     go true h = absurd cc
     go false h = refl
 
 module _ (S : Type 0) (shop : Shop S) (x : Rules) (now number : ℕ) (key : Key) (ask : Ask) (first : ask.first ≡ now) (stores : ℕ → S) (log : List Fact) where
-  abbrev c : Settings
-  c = x.settings key.client
+  abbrev c : Context
+  c = client_context x key now
 
-  abbrev d : Settings
-  d = x.settings key.server
+  abbrev d : Context
+  d = server_context x key now
 
   abbrev service : Service
   service = shop.outcome (stores key.server)
 
   -- the actual window of the request's transfer
   abbrev pub actual : ℕ
-  actual = min c.window d.window
-
-  abbrev terms : Terms
-  terms = terms_of c ask.choice
+  actual = min c.settings.window d.settings.window
 
   abbrev n : ℕ
   n = length ask.pieces
 
   abbrev piece : ℕ → Apdu
-  piece = client.request_piece c key.id ask.choice ask.pieces
+  piece = client.request_piece c ask.choice ask.pieces
 
   abbrev ack : ℕ → Apdu
-  ack i = server.server_ack false key.id i actual
+  ack i = server.server_ack d false i actual
 
   abbrev in_phase : Phase → Ticket
   in_phase phase = record { ask = ask; phase = phase; repeats = RETRIES; since = now }
 
   abbrev sending : Sender → Ticket
-  sending s = in_phase (Sending s.out s.all_sent)
+  sending s = in_phase (Phase.SegmentedRequest s.out s.all_sent)
 
   abbrev begun : Option Octets → State → Entry
-  begun kept state = record { begin = now; terms = terms; request = kept; state = state }
+  begun kept state = record { begin = now; choice = ask.choice; limits = c.settings.limits; request = kept; state = state }
 
   abbrev receiving : Incoming → Entry
-  receiving inc = begun None (Receiving inc now)
+  receiving inc = begun None (State.SegmentedRequest inc now)
 
   -- the request is under way
   abbrev requesting : Sender → Incoming → List Apdu → Duo S
@@ -142,15 +139,15 @@ module _ (S : Type 0) (shop : Shop S) (x : Rules) (now number : ℕ) (key : Key)
   Leads1 p q = Within S shop x now number key 1 p q
 
   server_takes : (inc : Incoming) (t : ℕ) (y : Taking) → takes inc (t % 256) (nat_lt (t + 1) n) (get_or ask.pieces t []) ≡ y
-      → server.server_gets d key.id now service (Some (receiving inc)) true (piece t) ≡ server.receives d key.id now service (receiving inc)
+      → server.server_gets d service (Some (receiving inc)) true (piece t) ≡ server.request_segment_taken d service (receiving inc)
       (t % 256) inc.window y
   server_takes inc t y is =
       let e = receiving inc in
-      ap (λ b. if b then server.live_gets d key.id now service e (Receiving inc now) (piece t) else server.new_gets d key.id now service (Some e) true
+      ap (λ b. if b then server.live_gets d service e (State.SegmentedRequest inc now) (piece t) else server.idle_gets d service (Some e) true
       (piece t)) (is_alive now)
-      ∙ ap (λ b. if b then server.becomes e Dropped (server.abort_0 key.id ∷ []) else server.receives d key.id now service e (t % 256) inc.window
+      ∙ ap (λ b. if b then server.becomes e Dropped (server.server_abort d OTHER ∷ []) else server.request_segment_taken d service e (t % 256) inc.window
       (takes inc (t % 256) (nat_lt (t + 1) n) (get_or ask.pieces t []))) (is_waiting now)
-      ∙ ap (λ (z : Taking). server.receives d key.id now service e (t % 256) inc.window z) is
+      ∙ ap (λ (z : Taking). server.request_segment_taken d service e (t % 256) inc.window z) is
 
   request_acks : (s : Sender) (inc inc' : Incoming) (t : ℕ) → inc.window ≡ actual
       → takes inc (t % 256) (nat_lt (t + 1) n) (get_or ask.pieces t []) ≡ Taken true inc'
@@ -159,7 +156,7 @@ module _ (S : Type 0) (shop : Shop S) (x : Rules) (now number : ℕ) (key : Key)
       let from = requesting s inc (piece t ∷ []) in
       one_step S shop x now number key from (requesting s inc' (ack (t % 256) ∷ [])) [] (piece t) refl (omega arith) refl (is_begun now (receiving inc) refl)
       (ap (λ (v : server.Reaction). served S shop x now number key from [] v) (server_takes inc t (Taken true inc') e)
-      ∙ ap (λ (i : ℕ). requesting s inc' (server.server_ack false key.id (t % 256) i ∷ [])) is)
+      ∙ ap (λ (i : ℕ). requesting s inc' (server.server_ack d false (t % 256) i ∷ [])) is)
 
   request_keeps : (s : Sender) (inc inc' : Incoming) (t : ℕ) (xs : List Apdu) → length xs ≤ x.overtake
       → takes inc (t % 256) (nat_lt (t + 1) n) (get_or ask.pieces t []) ≡ Taken false inc' → Leads1 (requesting s inc (piece t ∷ xs)) (requesting s inc' xs)
@@ -169,12 +166,12 @@ module _ (S : Type 0) (shop : Shop S) (x : Rules) (now number : ℕ) (key : Key)
       (ap (λ (v : server.Reaction). served S shop x now number key from xs v) (server_takes inc t (Taken false inc') e)
       ∙ ap (λ (ys : List Apdu). requesting s inc' ys) (append-nil xs))
 
-  client_moves : (s : Sender) (i : ℕ) (y : Option Outgoing) → acknowledged c.window s.out i actual ≡ y
-      → client.client_gets c x.readable key.id now (sending s) (ack i) ≡ client.moves c key.id ask.choice s.all_sent y
+  client_moves : (s : Sender) (i : ℕ) (y : Option Outgoing) → acknowledged c.settings.window s.out i actual ≡ y
+      → client.client_gets c x.readable (sending s) (ack i) ≡ client.moves_request_window c ask.choice s.all_sent y
   client_moves s i y is = client_open x key now (sending s) (ack i) first refl refl
-      ∙ ap (λ (z : Option Outgoing). client.moves c key.id ask.choice s.all_sent z) is
+      ∙ ap (λ (z : Option Outgoing). client.moves_request_window c ask.choice s.all_sent z) is
 
-  request_moves : (s : Sender) (inc : Incoming) (i : ℕ) (out : Outgoing) → out.pieces ≡ ask.pieces → acknowledged c.window s.out i actual ≡ Some out
+  request_moves : (s : Sender) (inc : Incoming) (i : ℕ) (out : Outgoing) → out.pieces ≡ ask.pieces → acknowledged c.settings.window s.out i actual ≡ Some out
       → is_finished out ≡ false
       → Leads1 (requesting s inc (ack i ∷ [])) (requesting (moved s out) inc (pieces_from piece out.first (in_window out)))
   request_moves s inc i out same is going =
@@ -182,19 +179,19 @@ module _ (S : Type 0) (shop : Shop S) (x : Rules) (now number : ℕ) (key : Key)
       one_step S shop x now number key from (requesting (moved s out) inc (pieces_from piece out.first (in_window out))) [] (ack i) refl (omega arith) refl
       (is_begun now (receiving inc) refl)
       (ap (λ (r : client.Reaction). reacted S shop x now number key from [] r)
-      (client_moves s i (Some out) is ∙ ap (λ b. if b then GoesOn Awaiting [] else client.sends_window c key.id ask.choice out s.all_sent) going)
-      ∙ ap (λ (ps : List Octets). requesting (moved s out) inc (pieces_from (client.request_piece c key.id ask.choice ps) out.first (in_window out))) same)
+      (client_moves s i (Some out) is ∙ ap (λ b. if b then GoesOn AwaitConfirmation [] else client.sends_request_window c ask.choice out s.all_sent) going)
+      ∙ ap (λ (ps : List Octets). requesting (moved s out) inc (pieces_from (client.request_piece c ask.choice ps) out.first (in_window out))) same)
 
-  carries_request : Carries S shop x now number key actual c.window ask.pieces
+  carries_request : Carries S shop x now number key actual c.settings.window ask.pieces
   carries_request = record { ends = requesting; piece = piece; ack = ack; acks = request_acks; keeps = request_keeps; moves = request_moves }
 
   -- The server's store gives the reply p, which can reach the client.
-  module _ (p : Reply) (outcome_is : service ask.choice (join ask.pieces) ≡ Replies p) (fits : WayFits (way_of d terms p)) where
-    abbrev way : Way
-    way = way_of d terms p
+  module _ (p : Reply) (outcome_is : service ask.choice (join ask.pieces) ≡ Replies p) (fits : WayFits (reply_way_of d.settings c.settings.limits p)) where
+    abbrev way : Way ℕ
+    way = reply_way_of d.settings c.settings.limits p
 
     abbrev sent_first : Apdu
-    sent_first = first_sent d key.id now ask.choice p way
+    sent_first = first_sent d ask.choice p way
 
     abbrev effect : Effect
     effect = record { request = request_of ask; reply = p }
@@ -209,7 +206,7 @@ module _ (S : Type 0) (shop : Shop S) (x : Rules) (now number : ℕ) (key : Key)
     abbrev pub performed : Ticket → Option Octets → List Apdu → Duo S
     performed t kept pending = record {
       ticket = t;
-      entry = Some (begun kept (kept_state d key.id now ask.choice p way));
+      entry = Some (begun kept (kept_state d ask.choice p way));
       pending = pending;
       stores =
           stores_after;
@@ -217,27 +214,27 @@ module _ (S : Type 0) (shop : Shop S) (x : Rules) (now number : ℕ) (key : Key)
     }
 
     abbrev awaiting : Ticket
-    awaiting = in_phase Awaiting
+    awaiting = in_phase AwaitConfirmation
 
     -- one copy is left
     abbrev pub asking : Phase → Option Entry → Apdu → Duo S
     asking phase o a = record { ticket = in_phase phase; entry = o; pending = a ∷ []; stores = stores; log = log }
 
     performs_is : (kept : Option Octets) (state : State) (acks : List Apdu)
-        → server.performs d key.id now service (begun kept state) acks (join ask.pieces) ≡ gives_as d key.id now ask.choice p (begun kept state) acks
+        → server.performs d service (begun kept state) acks (join ask.pieces) ≡ gives_as d ask.choice p (begun kept state) acks
         (join ask.pieces) way
     performs_is kept state acks =
-        ap (λ (o : Outcome). server.performs_so d key.id now (begun kept state) acks (join ask.pieces) o) outcome_is
-        ∙ gives_is d key.id now p (begun kept state) acks (join ask.pieces) way fits
+        ap (λ (o : Outcome). server.performs_so d (begun kept state) acks (join ask.pieces) o) outcome_is
+        ∙ gives_is d p (begun kept state) acks (join ask.pieces) way fits
 
     -- the whole request was taken, and is performed
     performs_now : (phase : Phase) (o : Option Entry) (kept : Option Octets) (state : State) (a : Apdu) (acks : List Apdu) → is_from_client a ≡ true
-        → server.server_gets d key.id now service o true a ≡ server.performs d key.id now service (begun kept state) acks (join ask.pieces)
+        → server.server_gets d service o true a ≡ server.performs d service (begun kept state) acks (join ask.pieces)
         → step S shop x now number key (asking phase o a) [] a ≡ performed (in_phase phase) kept (acks ++ sent_first ∷ [])
     performs_now phase o kept state a acks up is =
         let from : Duo S = asking phase o a in
-        ap (λ b. if b then served S shop x now number key from [] (server.server_gets d key.id now service o true a)
-        else reacted S shop x now number key from [] (client.client_gets c x.readable key.id now (in_phase phase) a)) up
+        ap (λ b. if b then served S shop x now number key from [] (server.server_gets d service o true a)
+        else reacted S shop x now number key from [] (client.client_gets c x.readable (in_phase phase) a)) up
         ∙ ap (λ (v : server.Reaction). served S shop x now number key from [] v) (is ∙ performs_is kept state acks)
 
     -- the acknowledgement of the last piece is delivered
@@ -246,42 +243,42 @@ module _ (S : Type 0) (shop : Shop S) (x : Rules) (now number : ℕ) (key : Key)
         → Leads1 (performed (sending s) None (ack (i % 256) ∷ sent_first ∷ [])) (performed awaiting None (sent_first ∷ []))
     last_acked s i room small same le full last =
         let from = performed (sending s) None (ack (i % 256) ∷ sent_first ∷ []) in
-        let e = acknowledged_last actual c.window s.out i small le full in
+        let e = acknowledged_last actual c.settings.window s.out i small le full in
         let len : length s.out.pieces ≡ n = ap length same in
-        let f = finished (next_window actual c.window s.out i) (omega arith) in
+        let f = finished (next_window actual c.settings.window s.out i) (omega arith) in
         one_step S shop x now number key from (performed awaiting None (sent_first ∷ [])) (sent_first ∷ []) (ack (i % 256)) refl (omega arith) refl
-        (is_begun now (begun None (kept_state d key.id now ask.choice p way)) refl)
+        (is_begun now (begun None (kept_state d ask.choice p way)) refl)
         (ap (λ (r : client.Reaction). reacted S shop x now number key from (sent_first ∷ []) r)
-        (client_moves s (i % 256) (Some (next_window actual c.window s.out i)) e
-        ∙ ap (λ b. if b then GoesOn Awaiting [] else client.sends_window c key.id ask.choice (next_window actual c.window s.out i) s.all_sent) f))
+        (client_moves s (i % 256) (Some (next_window actual c.settings.window s.out i)) e
+        ∙ ap (λ b. if b then GoesOn AwaitConfirmation [] else client.sends_request_window c ask.choice (next_window actual c.settings.window s.out i) s.all_sent) f))
 
     pub whole_read : (o : Option Entry) → is_none_live now o ≡ true
-        → Starts S shop x now number key 1 (asking Awaiting o (client.request_apdu c key.id ask))
+        → Starts S shop x now number key 1 (asking AwaitConfirmation o (client.request_apdu c ask))
         (performed awaiting (Some (join ask.pieces)) (sent_first ∷ []))
     whole_read o dead =
-        let a = client.request_apdu c key.id ask in
-        first_step S shop x now number key (asking Awaiting o a) (performed awaiting (Some (join ask.pieces)) (sent_first ∷ [])) [] a refl (omega arith) refl
-        (performs_now Awaiting o (Some (join ask.pieces)) Dropped a [] refl (server_new d key.id now service o a dead))
+        let a = client.request_apdu c ask in
+        first_step S shop x now number key (asking AwaitConfirmation o a) (performed awaiting (Some (join ask.pieces)) (sent_first ∷ [])) [] a refl (omega arith) refl
+        (performs_now AwaitConfirmation o (Some (join ask.pieces)) Dropped a [] refl (server_new d service o a dead))
 
     abbrev pub start : Sender
     start = record { out = outgoing ask.pieces; all_sent = nat_le n (0 + in_window (outgoing ask.pieces)) }
 
     abbrev empty : Incoming
-    empty = incoming d.window c.window
+    empty = incoming d.settings.window c.settings.window
 
     first_taken : (o : Option Entry) (y : Taking) → is_none_live now o ≡ true → takes empty (0 % 256) (nat_lt (0 + 1) n) (get_or ask.pieces 0 []) ≡ y
-        → server.server_gets d key.id now service o true (piece 0) ≡ server.receives d key.id now service (begun None Dropped) 0 actual y
-    first_taken o y dead e = server_new d key.id now service o (piece 0) dead
-        ∙ ap (λ (z : Taking). server.receives d key.id now service (begun None Dropped) 0 actual z) e
+        → server.server_gets d service o true (piece 0) ≡ server.request_segment_taken d service (begun None Dropped) 0 actual y
+    first_taken o y dead e = server_new d service o (piece 0) dead
+        ∙ ap (λ (z : Taking). server.request_segment_taken d service (begun None Dropped) 0 actual z) e
 
     abbrev end : Duo S
     end = performed awaiting None (sent_first ∷ [])
 
     abbrev from_start : Option Entry → Duo S
-    from_start o = asking (Sending start.out start.all_sent) o (piece 0)
+    from_start o = asking (Phase.SegmentedRequest start.out start.all_sent) o (piece 0)
 
     -- a request of one piece
-    one_piece : (o : Option Entry) → is_none_live now o ≡ true → Fitting x.overtake actual c.window ask.pieces → 0 + 1 ≡ n
+    one_piece : (o : Option Entry) → is_none_live now o ≡ true → Fitting x.overtake actual c.settings.window ask.pieces → 0 + 1 ≡ n
         → Starts S shop x now number key (2 * n) (from_start o) end
     one_piece o dead sizes one =
         let some = sizes.some in
@@ -292,11 +289,11 @@ module _ (S : Type 0) (shop : Shop S) (x : Rules) (now number : ℕ) (key : Key)
         let done = performed (sending start) None (ack 0 ∷ sent_first ∷ []) in
         starts_then S shop x now number key 1 1 (2 * n) (from_start o) done end (omega arith)
         (first_step S shop x now number key (from_start o) done [] (piece 0) refl (omega arith) refl
-        (performs_now (Sending start.out start.all_sent) o None Dropped (piece 0) acks refl (first_taken o (Complete ask.pieces) dead e)))
+        (performs_now (Phase.SegmentedRequest start.out start.all_sent) o None Dropped (piece 0) acks refl (first_taken o (Whole ask.pieces) dead e)))
         (last_acked start 0 (omega arith) (omega arith) refl (omega arith) (omega arith) one)
 
     -- a request of more
-    more_pieces : (o : Option Entry) → is_none_live now o ≡ true → Fitting x.overtake actual c.window ask.pieces → 0 + 1 < n
+    more_pieces : (o : Option Entry) → is_none_live now o ≡ true → Fitting x.overtake actual c.settings.window ask.pieces → 0 + 1 < n
         → Starts S shop x now number key (2 * n) (from_start o) end
     unfolding carries_request
     more_pieces o dead sizes more =
@@ -320,25 +317,25 @@ module _ (S : Type 0) (shop : Shop S) (x : Rules) (now number : ℕ) (key : Key)
           acknowledged = refl;
           parts = parts_next ask.pieces empty 0 0 (omega arith) refl;
         } in
-        let z = all_but_last S shop x now number key actual c.window ask.pieces sizes carries_request n start inc 0 (2 * n - 3) taken more (omega arith)
+        let z = all_but_last S shop x now number key actual c.settings.window ask.pieces sizes carries_request n start inc 0 (2 * n - 3) taken more (omega arith)
         (omega arith) in
         let b = z.before in
         let len : length z.s.out.pieces ≡ n = ap length b.pieces in
         let last = z.last in
         let full = b.full in
         let win = b.window in
-        let f = server_takes z.inc z.p (Complete ask.pieces) (takes_last ask.pieces z.inc z.p z.last sizes.few sizes.short b.taken b.parts)
-        ∙ ap (λ (i : ℕ). server.receives d key.id now service (receiving z.inc) (z.p % 256) i (Complete ask.pieces)) b.actual_is in
+        let f = server_takes z.inc z.p (Whole ask.pieces) (takes_last ask.pieces z.inc z.p z.last sizes.few sizes.short b.taken b.parts)
+        ∙ ap (λ (i : ℕ). server.request_segment_taken d service (receiving z.inc) (z.p % 256) i (Whole ask.pieces)) b.actual_is in
         let before = requesting z.s z.inc (piece z.p ∷ []) in
         let done = performed (sending z.s) None (ack (z.p % 256) ∷ sent_first ∷ []) in
         starts_then S shop x now number key 1 (2 * n - 1) (2 * n) (from_start o) acked end (omega arith) one
         (within_then S shop x now number key (2 * n - 3) 2 (2 * n - 1) acked before end (omega arith) z.reaches
         (within_then S shop x now number key 1 1 2 before done end (omega arith)
         (one_step S shop x now number key before done [] (piece z.p) refl (omega arith) refl (is_begun now (receiving z.inc) refl)
-        (performs_now (Sending z.s.out z.s.all_sent) (Some (receiving z.inc)) None (Receiving z.inc now) (piece z.p) (ack (z.p % 256) ∷ []) refl f))
+        (performs_now (Phase.SegmentedRequest z.s.out z.s.all_sent) (Some (receiving z.inc)) None (State.SegmentedRequest z.inc now) (piece z.p) (ack (z.p % 256) ∷ []) refl f))
         (last_acked z.s z.p (omega arith) (omega arith) b.pieces b.behind b.full z.last)))
 
-    pub pieces_read : (o : Option Entry) → is_none_live now o ≡ true → 0 < n → Fitting x.overtake actual c.window ask.pieces
+    pub pieces_read : (o : Option Entry) → is_none_live now o ≡ true → 0 < n → Fitting x.overtake actual c.settings.window ask.pieces
         → Starts S shop x now number key (2 * n) (from_start o) end
     pieces_read o dead any sizes = go (nat_lt 1 n) refl
       where

@@ -8,10 +8,10 @@ use Rattle.bac_segment.specs.Window.{Outgoing, Incoming}
 use Rattle.bac_protocol.specs.Times.{LIFE, DEADLINE, KEEP}
 use Rattle.bac_protocol.specs.Service.{Octets, Reply as reply}
 use Rattle.bac_protocol.specs.Client.{Ask, request_of, Phase, Ticket}
-use Rattle.bac_protocol.specs.Client.Phase.{Sending, Awaiting, Collecting, Over}
+use Rattle.bac_protocol.specs.Client.Phase.{AwaitConfirmation, SegmentedConf, Idle}
 use Rattle.bac_protocol.specs.Server.{State, Entry}
-use Rattle.bac_protocol.specs.Server.State.{Receiving, Done, Giving, Dropped}
-use Rattle.bac_protocol.specs.Log.{Fact, Has, asks_in, IsUnperformed, IsUnended, MayEnd}
+use Rattle.bac_protocol.specs.Server.State.{Done, SegmentedResponse, Dropped}
+use Rattle.bac_protocol.specs.Log.{Fact, Has, asks_in, IsUnperformed, IsUnended, IsOrderly}
 use Rattle.bac_protocol.specs.Log.Fact.{Asked, Performed, Ended}
 use Rattle.bac_protocol.specs.Transaction.{Key, Copy}
 use Rattle.bac_protocol.proofs.Alone.{Transaction}
@@ -28,13 +28,6 @@ number_of (Ended n how) = n
 abbrev pub IsBelow : ℕ → List Fact → Type 0
 IsBelow asks [] = Unit {0}
 IsBelow asks (f ∷ log) = (number_of f < asks) × IsBelow asks log
-
--- the log is right, where stores are not looked at
-abbrev pub IsOrderly : List Fact → Type 0
-IsOrderly [] = Unit {0}
-IsOrderly (Asked n c s r ∷ log) = (n ≡ asks_in log) × IsOrderly log
-IsOrderly (Performed n r p ∷ log) = ((c : ℕ) × (s : ℕ) × Has (Asked n c s r) log) × IsUnperformed n log × IsOrderly log
-IsOrderly (Ended n how ∷ log) = MayEnd n how log × IsUnended n log × IsOrderly log
 
 -- A transfer in pieces, in whole numbers.
 
@@ -92,9 +85,9 @@ server_until ask = ask.first + DEADLINE + LIFE + KEEP
 
 -- a copy with k later ones is of this ask, and was sent in time
 abbrev pub Says : ℕ → ℕ → Ask → List Fact → Up → Down → ℕ → ℕ → Apdu → Type 0
-Says W number ask log up down moment k (ConfirmedRequest sa ms ma id None choice octets) = (moment ≤ client_until ask) × (ask.whole ≡ true)
+Says W number ask log up down moment k (ConfirmedRequest limits id None choice octets) = (moment ≤ client_until ask) × (ask.whole ≡ true)
     × (choice ≡ ask.choice) × (octets ≡ join ask.pieces)
-Says W number ask log up down moment k (ConfirmedRequest sa ms ma id (Some segment) choice octets) = (moment ≤ client_until ask) × (ask.whole ≡ false)
+Says W number ask log up down moment k (ConfirmedRequest limits id (Some segment) choice octets) = (moment ≤ client_until ask) × (ask.whole ≡ false)
     × (choice ≡ ask.choice) × IsPieceUp W ask up k segment octets
 Says W number ask log up down moment k (UnconfirmedRequest choice octets) = ⊥
 Says W number ask log up down moment k (SimpleAck id choice) = (moment ≤ server_until ask) × WasPerformed number ask reply.Simple log
@@ -103,8 +96,8 @@ Says W number ask log up down moment k (ComplexAck id None choice octets) = (mom
     × WasPerformed number ask (reply.Complex octets) log × (choice ≡ ask.choice)
 Says W number ask log up down moment k (ComplexAck id (Some segment) choice octets) = (moment ≤ server_until ask)
     × IsPieceDown W down k segment octets × (choice ≡ ask.choice)
-Says W number ask log up down moment k (SegmentAck nak true id n window) = (moment ≤ server_until ask) × IsAckUp W up k n
-Says W number ask log up down moment k (SegmentAck nak false id n window) = (moment ≤ client_until ask) × IsAckDown W down k n
+Says W number ask log up down moment k (SegmentAck true id ack) = (moment ≤ server_until ask) × IsAckUp W up k ack.number
+Says W number ask log up down moment k (SegmentAck false id ack) = (moment ≤ client_until ask) × IsAckDown W down k ack.number
 Says W number ask log up down moment k (Error id choice class code) = (moment ≤ server_until ask)
     × WasPerformed number ask (reply.Error class code) log × (choice ≡ ask.choice)
 Says W number ask log up down moment k (Reject id reason) = moment ≤ server_until ask
@@ -149,10 +142,10 @@ CollectsDown inc (Sent pieces taken sent) = IsFront pieces inc taken
 
 -- a request in pieces is waited for only when its first pass was read
 abbrev pub ClientFits : ℕ → Ask → Phase → Up → Down → Type 0
-ClientFits W ask (Sending out all_sent) up down = IsSendingFor W ask out up down
-ClientFits W ask Awaiting up down = IsRead ask up × IsUntaken down
-ClientFits W ask (Collecting inc) up down = CollectsDown inc down
-ClientFits W ask Over up down = Unit {0}
+ClientFits W ask (Phase.SegmentedRequest out all_sent) up down = IsSendingFor W ask out up down
+ClientFits W ask AwaitConfirmation up down = IsRead ask up × IsUntaken down
+ClientFits W ask (SegmentedConf inc) up down = CollectsDown inc down
+ClientFits W ask Idle up down = Unit {0}
 
 -- The server.
 
@@ -185,9 +178,9 @@ pub record IsGivingFor (W number : ℕ) (ask : Ask) (out : Outgoing) (up : Up) (
   pub sends : SendsDown W out down
 
 abbrev pub StateFits : ℕ → ℕ → Ask → State → Up → Down → List Fact → Type 0
-StateFits W number ask (Receiving inc since) (Reading taken sent) Unsent log = IsReceivingFor number ask inc taken log
+StateFits W number ask (State.SegmentedRequest inc since) (Reading taken sent) Unsent log = IsReceivingFor number ask inc taken log
 StateFits W number ask (Done kept) up Unsent log = IsRead ask up × IsKeptFor number ask kept log
-StateFits W number ask (Giving out transfer since) up down log = IsGivingFor W number ask out up down log
+StateFits W number ask (SegmentedResponse out transfer since) up down log = IsGivingFor W number ask out up down log
 StateFits W number ask Dropped (Reading taken sent) Unsent log = (taken < length ask.pieces) × IsUnperformed number log
 StateFits W number ask _ _ _ log = ⊥
 
@@ -195,7 +188,7 @@ StateFits W number ask _ _ _ log = ⊥
 pub record IsBegunFor (W number : ℕ) (ask : Ask) (e : Entry) (up : Up) (down : Down) (log : List Fact) : Type 0 where
   pub after : ask.first ≤ e.begin
   pub before : e.begin ≤ ask.first + DEADLINE + LIFE
-  pub choice : e.terms.choice ≡ ask.choice
+  pub choice : e.choice ≡ ask.choice
   pub state : StateFits W number ask e.state up down log
 
 -- the entry was dead before the ask was made
@@ -218,10 +211,10 @@ DownFits W Unsent = Unit {0}
 DownFits W (Sent pieces taken sent) = IsUnderway W taken sent (length pieces)
 
 abbrev pub IsOpenIn : Phase → ℕ → List Fact → Type 0
-IsOpenIn (Sending out all_sent) n log = IsUnended n log
-IsOpenIn Awaiting n log = IsUnended n log
-IsOpenIn (Collecting inc) n log = IsUnended n log
-IsOpenIn Over n log = Unit {0}
+IsOpenIn (Phase.SegmentedRequest out all_sent) n log = IsUnended n log
+IsOpenIn AwaitConfirmation n log = IsUnended n log
+IsOpenIn (SegmentedConf inc) n log = IsUnended n log
+IsOpenIn Idle n log = Unit {0}
 
 pub record Sound (W : ℕ) (key : Key) (now asks number : ℕ) (t : Ticket) (entry : Option Entry) (copies : List Copy) (log : List Fact) (up : Up)
     (down : Down) : Type 0 where

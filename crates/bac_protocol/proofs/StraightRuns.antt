@@ -7,17 +7,17 @@ use Rattle.bac_segment.specs.Limits.{RETRIES}
 use Rattle.bac_segment.specs.Pieces.{join}
 use Rattle.bac_segment.specs.Window.{outgoing, in_window}
 use Rattle.bac_protocol.specs.Times.{KEEP}
-use Rattle.bac_protocol.specs.Sizes.{Settings}
+use Rattle.bac_protocol.specs.Context.{Context}
 use Rattle.bac_protocol.specs.Service.{Octets, Request, Reply}
 use Rattle.bac_protocol.specs.Service.Ending.{Answered}
 use Rattle.bac_protocol.specs.Wire.{pieces_from}
 use Rattle.bac_protocol.specs.Client as client
 use Rattle.bac_protocol.specs.Client.{Ask, request_of, Phase, Ticket}
-use Rattle.bac_protocol.specs.Client.Phase.{Sending, Awaiting, Over}
+use Rattle.bac_protocol.specs.Client.Phase.{AwaitConfirmation, Idle}
 use Rattle.bac_protocol.specs.Server.{Entry}
 use Rattle.bac_protocol.specs.Log.{Fact, Shop}
 use Rattle.bac_protocol.specs.Log.Fact.{Asked, Ended}
-use Rattle.bac_protocol.specs.Transaction.{Key, Rules}
+use Rattle.bac_protocol.specs.Transaction.{Key, Rules, client_context}
 use Rattle.bac_protocol.specs.World.{World, Event, post_of, ask_made, happens, run, start}
 use Rattle.bac_protocol.specs.World.Event.{MakeAsk}
 use Rattle.bac_protocol.specs.Claims.{IsBounded}
@@ -33,8 +33,8 @@ use Rattle.bac_protocol.proofs.Replied.{given, reply_read}
 use Rattle.bac_protocol.proofs.Follow.{IsMachine, Shows, like_shows, start_follows, follows_start}
 
 module _ (S : Type 0) (shop : Shop S) (x : Rules) (w : World S) (key : Key) where
-  abbrev c : Settings
-  c = x.settings key.client
+  abbrev c : Context
+  c = client_context x key w.net.now
 
   abbrev now : ℕ
   now = w.net.now
@@ -50,12 +50,12 @@ module _ (S : Type 0) (shop : Shop S) (x : Rules) (w : World S) (key : Key) wher
   asked_log ask = Asked number key.client key.server (request_of ask) ∷ w.net.log
 
   abbrev first_phase : Ask → Bool → Phase
-  first_phase ask true = Awaiting
-  first_phase ask false = Sending (outgoing ask.pieces) (nat_le (length ask.pieces) (0 + in_window (outgoing ask.pieces)))
+  first_phase ask true = AwaitConfirmation
+  first_phase ask false = Phase.SegmentedRequest (outgoing ask.pieces) (nat_le (length ask.pieces) (0 + in_window (outgoing ask.pieces)))
 
   abbrev first_apdu : Ask → Bool → Apdu
-  first_apdu ask true = client.request_apdu c key.id ask
-  first_apdu ask false = client.request_piece c key.id ask.choice ask.pieces 0
+  first_apdu ask true = client.request_apdu c ask
+  first_apdu ask false = client.request_piece c ask.choice ask.pieces 0
 
   abbrev first_duo : Ask → Bool → Duo S
   first_duo ask whole = record {
@@ -67,13 +67,13 @@ module _ (S : Type 0) (shop : Shop S) (x : Rules) (w : World S) (key : Key) wher
   }
 
   abbrev first_reaction : Ask → Bool → client.Reaction
-  first_reaction ask whole = if whole then client.Reaction.GoesOn Awaiting (client.request_apdu c key.id ask ∷ [])
-      else client.sends_window c key.id ask.choice (outgoing ask.pieces) false
+  first_reaction ask whole = if whole then client.Reaction.GoesOn AwaitConfirmation (client.request_apdu c ask ∷ [])
+      else client.sends_request_window c ask.choice (outgoing ask.pieces) false
 
   first_sends : (ask : Ask) → 0 < length ask.pieces → (whole : Bool) → client.sends_of (first_reaction ask whole) ≡ first_apdu ask whole ∷ []
   first_sends ask any true = refl
   first_sends ask any false = let e : in_window (outgoing ask.pieces) ≡ 1 = omega arith in ap
-      (λ (n : ℕ). pieces_from (client.request_piece c key.id ask.choice ask.pieces) 0 n) e
+      (λ (n : ℕ). pieces_from (client.request_piece c ask.choice ask.pieces) 0 n) e
 
   first_ticket : (ask : Ask) (whole : Bool) → client.after now (client.new_ticket now ask) (first_reaction ask whole) ≡ (first_duo ask whole).ticket
   first_ticket ask true = refl
@@ -81,7 +81,7 @@ module _ (S : Type 0) (shop : Shop S) (x : Rules) (w : World S) (key : Key) wher
 
   asked_shows : (ask : Ask) → 0 < length ask.pieces → Shows S shop x now number key (asked ask) (first_duo ask ask.whole) (length w.net.posts)
   asked_shows ask any = record {
-    ticket = set_same w.net.tickets key (Some (client.asked_ticket c key.id now ask)) ∙ ap (λ (t : Ticket). Some t) (first_ticket ask ask.whole);
+    ticket = set_same w.net.tickets key (Some (client.asked_ticket c ask)) ∙ ap (λ (t : Ticket). Some t) (first_ticket ask ask.whole);
     entry = refl;
     number_is = set_same w.net.numbers key number;
     old = w.net.posts;
@@ -102,7 +102,7 @@ module _ (S : Type 0) (shop : Shop S) (x : Rules) (w : World S) (key : Key) wher
     request = record { choice = choice; service = join (front ∷ rest) }
 
     abbrev m : ℕ
-    m = way_count (way_to x key choice p)
+    m = way_count (way_to x key p)
 
     abbrev st : Bool → ℕ → S
     st b = stores_after S shop x now number key (ask_of b) refl w.stores (asked_log (ask_of b)) p can.outcome can.way
@@ -112,7 +112,7 @@ module _ (S : Type 0) (shop : Shop S) (x : Rules) (w : World S) (key : Key) wher
 
     -- the request was performed, and the reply begins
     abbrev halfway : Bool → Option Octets → Duo S
-    halfway b kept = given S shop x now number key (ask_of b) refl kept (st b) (lg b) p (way_to x key choice p)
+    halfway b kept = given S shop x now number key (ask_of b) refl kept (st b) (lg b) p (way_to x key p)
 
     pub record Reads (b : Bool) : Type 0 where
       pub kept : Option Octets
@@ -150,7 +150,7 @@ module _ (S : Type 0) (shop : Shop S) (x : Rules) (w : World S) (key : Key) wher
 
     pub record EndsAnswered (b : Bool) : Type 0 where
       pub end : Duo S
-      pub over : client.is_over end.ticket.phase ≡ true
+      pub over : client.is_idle end.ticket.phase ≡ true
       pub stores : end.stores ≡ st b
       pub log : end.log ≡ Ended number (Answered p) ∷ lg b
       pub reaches : Starts S shop x now number key (cost (request_count b (front ∷ rest)) m) (first_duo (ask_of b) b) end
@@ -162,10 +162,10 @@ module _ (S : Type 0) (shop : Shop S) (x : Rules) (w : World S) (key : Key) wher
         let e = good.server in
         let s = good.small in
         let f = good.room in
-        let k = reply_read S shop x now number key (ask_of b) refl h.kept (st b) (lg b) p (way_to x key choice p) refl can.way can.kind (omega arith)
+        let k = reply_read S shop x now number key (ask_of b) refl h.kept (st b) (lg b) p (way_to x key p) refl can.way can.kind (omega arith)
         (omega arith) (omega arith) in
         let end : Duo S = record {
-          ticket = record { ask = ask_of b; phase = Over; repeats = RETRIES; since = now };
+          ticket = record { ask = ask_of b; phase = Idle; repeats = RETRIES; since = now };
           entry = k.entry;
           pending = k.pending;
           stores = st b;
@@ -239,7 +239,7 @@ straight_exists S shop x w key good choice whole front rest p can =
 
 -- In a world that was reached, no entry is live for an invoke ID that is free.
 
-none_live_of : (now : ℕ) (o : Option Entry) → ((e : Entry) → o ≡ Some e → e.begin + KEEP < now) → is_none_live now o ≡ true
+pub none_live_of : (now : ℕ) (o : Option Entry) → ((e : Entry) → o ≡ Some e → e.begin + KEEP < now) → is_none_live now o ≡ true
 none_live_of now None dead = refl
 none_live_of now (Some e) dead =
     let d = dead e refl in

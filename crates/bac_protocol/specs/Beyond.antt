@@ -13,7 +13,7 @@ abbrev pub wide : Rules
 wide = record (rules 64) { overtake = 300 }
 
 -- 300 pieces: segment 0 and its SegmentACK, then windows of 64 with theirs. Where segment 257 is expected, copy 2, which is segment 1, comes again;
--- then the SegmentACK of segment 256, copy 261, and of the window behind it all but segment 257, copy 262
+-- then the SegmentACK of segment 256, copy 261, and of the window after it all but segment 257, copy 262
 abbrev pub misreading : List Event
 misreading =
     MakeAsk key 7 false (0 ∷ 0 ∷ []) (pieces 299 1) ∷ in_order 0 261 ++ Deliver 2 true ∷ Deliver 261 true ∷ in_order 263 42

@@ -11,9 +11,9 @@ use Rattle.bac_protocol.specs.Times.{LIFE, DEADLINE, KEEP}
 use Rattle.bac_protocol.specs.Service.{Octets, Reply as reply}
 use Rattle.bac_protocol.specs.Wire.{is_from_client}
 use Rattle.bac_protocol.specs.Client.{Ask, request_of, Phase, Ticket}
-use Rattle.bac_protocol.specs.Client.Phase.{Sending, Awaiting, Collecting, Over}
+use Rattle.bac_protocol.specs.Client.Phase.{AwaitConfirmation, SegmentedConf, Idle}
 use Rattle.bac_protocol.specs.Server.{State, Entry, is_live}
-use Rattle.bac_protocol.specs.Server.State.{Receiving, Done, Giving, Dropped}
+use Rattle.bac_protocol.specs.Server.State.{Done, SegmentedResponse, Dropped}
 use Rattle.bac_protocol.specs.Log.{Fact, Has}
 use Rattle.bac_protocol.specs.Log.Fact.{Asked, Performed}
 use Rattle.bac_protocol.specs.Transaction.{Key, Rules, Copy}
@@ -58,16 +58,16 @@ WasPerformed number ask p log = Has (Performed number (request_of ask) p) log
 -- an APDU is of the ask: its request, or a piece of it; the reply with which it was performed, or a piece of it, for its service choice; or a
 -- SegmentACK, Reject or Abort
 abbrev pub IsOfAsk : ℕ → Ask → List Fact → Apdu → Type 0
-IsOfAsk number ask log (ConfirmedRequest takes_segments max_segments max_apdu invoke None choice service) =
+IsOfAsk number ask log (ConfirmedRequest limits invoke_id None choice service) =
     (ask.whole ≡ true) × (choice ≡ ask.choice) × (service ≡ join ask.pieces)
-IsOfAsk number ask log (ConfirmedRequest takes_segments max_segments max_apdu invoke (Some segment) choice service) =
+IsOfAsk number ask log (ConfirmedRequest limits invoke_id (Some segment) choice service) =
     (ask.whole ≡ false) × (choice ≡ ask.choice) × IsPieceOf ask.pieces segment service
 IsOfAsk number ask log (UnconfirmedRequest choice service) = ⊥
-IsOfAsk number ask log (SimpleAck invoke choice) = (choice ≡ ask.choice) × WasPerformed number ask reply.Simple log
-IsOfAsk number ask log (ComplexAck invoke None choice service) = (choice ≡ ask.choice) × WasPerformed number ask (reply.Complex service) log
-IsOfAsk number ask log (ComplexAck invoke (Some segment) choice service) =
+IsOfAsk number ask log (SimpleAck invoke_id choice) = (choice ≡ ask.choice) × WasPerformed number ask reply.Simple log
+IsOfAsk number ask log (ComplexAck invoke_id None choice service) = (choice ≡ ask.choice) × WasPerformed number ask (reply.Complex service) log
+IsOfAsk number ask log (ComplexAck invoke_id (Some segment) choice service) =
     (choice ≡ ask.choice) × ((pieces : List Octets) × WasPerformed number ask (reply.Complex (join pieces)) log × IsPieceOf pieces segment service)
-IsOfAsk number ask log (Error invoke choice class code) = (choice ≡ ask.choice) × WasPerformed number ask (reply.Error class code) log
+IsOfAsk number ask log (Error invoke_id choice class code) = (choice ≡ ask.choice) × WasPerformed number ask (reply.Error class code) log
 IsOfAsk number ask log _ = Unit {0}
 
 -- the last moment at which an APDU of the ask is sent: its client sends for DEADLINE; a copy that it sent then may arrive a LIFE later, and begin
@@ -84,7 +84,7 @@ pub record IsCopyOf (number : ℕ) (ask : Ask) (log : List Fact) (c : Copy) : Ty
 pub record IsEntryOf (ask : Ask) (e : Entry) : Type 0 where
   pub after : ask.first ≤ e.begin
   pub before : e.begin ≤ ask.first + DEADLINE + LIFE
-  pub choice : e.terms.choice ≡ ask.choice
+  pub choice : e.choice ≡ ask.choice
 
 abbrev pub LiveIsOf : ℕ → Ask → Option Entry → Type 0
 LiveIsOf now ask None = Unit {0}
@@ -145,16 +145,16 @@ IsReadAsTaken W taken sent number = (out : Outgoing) → IsInWindow W out taken 
 
 -- all this of the APDUs of a request's transfer
 abbrev pub IsNearUp : (W : ℕ) → List Octets → (taken sent : ℕ) → ℕ → Apdu → Type 0
-IsNearUp W pieces taken sent k (ConfirmedRequest takes_segments max_segments max_apdu invoke (Some segment) choice service) =
+IsNearUp W pieces taken sent k (ConfirmedRequest limits invoke_id (Some segment) choice service) =
     IsPiece W pieces sent k segment service × IsReadAsNext pieces taken segment service
-IsNearUp W pieces taken sent k (SegmentAck nak true invoke number window) = IsAck W taken sent k number × IsReadAsTaken W taken sent number
+IsNearUp W pieces taken sent k (SegmentAck true invoke_id ack) = IsAck W taken sent k ack.number × IsReadAsTaken W taken sent ack.number
 IsNearUp W pieces taken sent k _ = Unit {0}
 
 -- and of a reply's
 abbrev pub IsNearDown : (W : ℕ) → List Octets → (taken sent : ℕ) → ℕ → Apdu → Type 0
-IsNearDown W pieces taken sent k (ComplexAck invoke (Some segment) choice service) =
+IsNearDown W pieces taken sent k (ComplexAck invoke_id (Some segment) choice service) =
     IsPiece W pieces sent k segment service × IsReadAsNext pieces taken segment service
-IsNearDown W pieces taken sent k (SegmentAck nak false invoke number window) = IsAck W taken sent k number × IsReadAsTaken W taken sent number
+IsNearDown W pieces taken sent k (SegmentAck false invoke_id ack) = IsAck W taken sent k ack.number × IsReadAsTaken W taken sent ack.number
 IsNearDown W pieces taken sent k _ = Unit {0}
 
 -- in a pass over so many pieces, taken ≤ sent ≤ taken + W; the whole number p of each copy that may arrive has p < sent ≤ p + 1 + W + k, and it is
@@ -172,9 +172,9 @@ pub record HasFront (pieces : List Octets) (inc : Incoming) (taken : ℕ) : Type
 
 -- how many pieces an entry that was begun for the ask has taken of its request: those that it holds, or all, or, where it was dropped, not all
 abbrev pub StateHasTaken : List Octets → State → ℕ → Type 0
-StateHasTaken pieces (Receiving inc since) taken = HasFront pieces inc taken
+StateHasTaken pieces (State.SegmentedRequest inc since) taken = HasFront pieces inc taken
 StateHasTaken pieces (Done kept) taken = taken ≡ length pieces
-StateHasTaken pieces (Giving out transfer since) taken = taken ≡ length pieces
+StateHasTaken pieces (SegmentedResponse out transfer since) taken = taken ≡ length pieces
 StateHasTaken pieces Dropped taken = taken < length pieces
 
 -- and it has taken none, where no entry was begun for the ask
@@ -182,12 +182,12 @@ abbrev pub ServerHasTaken : Ask → Option Entry → ℕ → Type 0
 ServerHasTaken ask None taken = taken ≡ 0
 ServerHasTaken ask (Some e) taken = ((e.begin < ask.first) × (taken ≡ 0)) ⊎ ((ask.first ≤ e.begin) × StateHasTaken ask.pieces e.state taken)
 
--- where the request's sender stands: it sends; all was acknowledged; a segment of its answer came; or its ticket is over, and it sends no more
+-- where the request's sender stands: it sends; all was acknowledged; a segment of its reply came; or its ticket is over, and it sends no more
 abbrev pub ClientIsInWindow : ℕ → Ask → Phase → (taken sent : ℕ) → Type 0
-ClientIsInWindow W ask (Sending out all_sent) taken sent = IsInWindow W out taken sent
-ClientIsInWindow W ask Awaiting taken sent = taken ≡ length ask.pieces
-ClientIsInWindow W ask (Collecting inc) taken sent = taken ≡ length ask.pieces
-ClientIsInWindow W ask Over taken sent = Unit {0}
+ClientIsInWindow W ask (Phase.SegmentedRequest out all_sent) taken sent = IsInWindow W out taken sent
+ClientIsInWindow W ask AwaitConfirmation taken sent = taken ≡ length ask.pieces
+ClientIsInWindow W ask (SegmentedConf inc) taken sent = taken ≡ length ask.pieces
+ClientIsInWindow W ask Idle taken sent = Unit {0}
 
 -- the first pass of a request in segments
 pub record IsRequestPass (W : ℕ) (x : Rules) (n : Net) (key : Key) (t : Ticket) : Type 0 where
@@ -204,10 +204,10 @@ RequestsAreInWindow W x n =
 
 -- how many pieces of its reply a ticket has taken: none yet; those that it holds; where it is over, that is not known any more
 abbrev pub ClientHasTaken : List Octets → Phase → ℕ → Type 0
-ClientHasTaken pieces (Sending out all_sent) taken = taken ≡ 0
-ClientHasTaken pieces Awaiting taken = taken ≡ 0
-ClientHasTaken pieces (Collecting inc) taken = HasFront pieces inc taken
-ClientHasTaken pieces Over taken = taken ≤ length pieces
+ClientHasTaken pieces (Phase.SegmentedRequest out all_sent) taken = taken ≡ 0
+ClientHasTaken pieces AwaitConfirmation taken = taken ≡ 0
+ClientHasTaken pieces (SegmentedConf inc) taken = HasFront pieces inc taken
+ClientHasTaken pieces Idle taken = taken ≤ length pieces
 
 -- the one pass of a reply in segments
 pub record IsReplyPass (W : ℕ) (x : Rules) (n : Net) (key : Key) (t : Ticket) (out : Outgoing) : Type 0 where
@@ -220,15 +220,15 @@ pub record IsReplyPass (W : ℕ) (x : Rules) (n : Net) (key : Key) (t : Ticket) 
 
 -- where no reply was begun in segments, no segment of one may arrive, and no SegmentACK of its client
 abbrev pub IsOfNoPass : Apdu → Type 0
-IsOfNoPass (ComplexAck invoke (Some segment) choice service) = ⊥
-IsOfNoPass (SegmentAck nak false invoke number window) = ⊥
+IsOfNoPass (ComplexAck invoke_id (Some segment) choice service) = ⊥
+IsOfNoPass (SegmentAck false invoke_id ack) = ⊥
 IsOfNoPass _ = Unit {0}
 
 abbrev pub IsUnsent : Rules → Net → Key → Type 0
 IsUnsent x n key = EachCopy (λ k c. MayArrive x.overtake n.now k c → IsOfNoPass c.apdu) (copies_of key n.posts)
 
 abbrev pub StateGives : (W : ℕ) → Rules → Net → Key → Ticket → State → Type 0
-StateGives W x n key t (Giving out transfer since) = IsReplyPass W x n key t out
+StateGives W x n key t (SegmentedResponse out transfer since) = IsReplyPass W x n key t out
 StateGives W x n key t _ = IsUnsent x n key
 
 abbrev pub ServerGives : (W : ℕ) → Rules → Net → Key → Ticket → Option Entry → Type 0
@@ -242,17 +242,17 @@ RepliesAreInWindow W x n = (key : Key) (t : Ticket) → n.tickets key ≡ Some t
 
 -- Later passes.
 
--- a later pass of a request was begun, or its first was acknowledged, or a segment of its answer came
+-- a later pass of a request was begun, or its first was acknowledged, or a segment of its reply came
 abbrev pub IsPastFirstPass : Phase → (repeats : ℕ) → Type 0
-IsPastFirstPass (Sending out all_sent) repeats = repeats < RETRIES
-IsPastFirstPass Awaiting repeats = Unit {0}
-IsPastFirstPass (Collecting inc) repeats = Unit {0}
-IsPastFirstPass Over repeats = repeats < RETRIES
+IsPastFirstPass (Phase.SegmentedRequest out all_sent) repeats = repeats < RETRIES
+IsPastFirstPass AwaitConfirmation repeats = Unit {0}
+IsPastFirstPass (SegmentedConf inc) repeats = Unit {0}
+IsPastFirstPass Idle repeats = repeats < RETRIES
 
 abbrev pub IsDone : State → Type 0
-IsDone (Receiving inc since) = ⊥
+IsDone (State.SegmentedRequest inc since) = ⊥
 IsDone (Done kept) = Unit {0}
-IsDone (Giving out transfer since) = Unit {0}
+IsDone (SegmentedResponse out transfer since) = Unit {0}
 IsDone Dropped = ⊥
 
 abbrev pub HasDone : ℕ → Ask → Option Entry → Type 0
@@ -260,7 +260,7 @@ HasDone now ask None = ⊥
 HasDone now ask (Some e) = (ask.first ≤ e.begin) × (is_live now e ≡ true) × IsDone e.state
 
 abbrev pub IsSegmentOfRequest : Apdu → Type 0
-IsSegmentOfRequest (ConfirmedRequest takes_segments max_segments max_apdu invoke (Some segment) choice service) = Unit {0}
+IsSegmentOfRequest (ConfirmedRequest limits invoke_id (Some segment) choice service) = Unit {0}
 IsSegmentOfRequest _ = ⊥
 
 -- from then on, while a segment of the request may arrive, the entry that was begun for this ask is live and done

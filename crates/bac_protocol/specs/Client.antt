@@ -6,10 +6,11 @@ use Rattle.bac_apdu.specs.Apdu.Apdu.{ConfirmedRequest, SimpleAck, ComplexAck, Se
 use Rattle.bac_segment.specs.Limits.{RETRIES}
 use Rattle.bac_segment.specs.Pieces.{join, piece_at}
 use Rattle.bac_segment.specs.Window.{Outgoing, outgoing, in_window, is_finished, acknowledged, again, Incoming, incoming, Taking, takes}
-use Rattle.bac_segment.specs.Window.Taking.{Taken, Complete, Nak, TooLong}
+use Rattle.bac_segment.specs.Window.Taking.{Taken, Whole, Nak, TooLong}
+use Rattle.bac_service.specs.Choices.{has_simple_ack, has_complex_ack}
 use Rattle.bac_protocol.specs.Times.{T_OUT, T_SEG, WAIT_SEG, DEADLINE, HOLD}
-use Rattle.bac_protocol.specs.Sizes.{Settings}
-use Rattle.bac_protocol.specs.Service.{Octets, Request, Reply as reply, Ending, Readable}
+use Rattle.bac_protocol.specs.Context.{Context}
+use Rattle.bac_protocol.specs.Service.{Octets, Request, Reply as reply, OTHER, BUFFER_OVERFLOW, Ending, Readable}
 use Rattle.bac_protocol.specs.Service.Ending.{Answered, Rejected, Aborted, TimedOut, Expired}
 use Rattle.bac_protocol.specs.Wire.{is_from_server, segment_of, pieces_from}
 
@@ -24,12 +25,13 @@ pub record Ask : Type 0 where
 abbrev pub request_of : Ask → Request
 request_of ask = record { choice = ask.choice; service = join ask.pieces }
 
--- the states of a ticket: SEGMENTED_REQUEST with SentAllSegments, AWAIT_CONFIRMATION, SEGMENTED_CONF, and one that has ended but is held
+-- the states of clause 5.4.4: SEGMENTED_REQUEST with SentAllSegments, AWAIT_CONFIRMATION, SEGMENTED_CONF, and IDLE, to which a ticket's end leads:
+-- its slot is held, and remembers the ticket
 pub data Phase : Type 0 where
-  Sending : (out : Outgoing) (all_sent : Bool) → Phase
-  Awaiting : Phase
-  Collecting : (inc : Incoming) → Phase
-  Over : Phase
+  SegmentedRequest : (out : Outgoing) (all_sent : Bool) → Phase
+  AwaitConfirmation : Phase
+  SegmentedConf : (inc : Incoming) → Phase
+  Idle : Phase
 
 -- what a slot keeps of its ticket: the ask, the state, the repeats that are left, and the moment from which its timer runs
 pub record Ticket : Type 0 where
@@ -50,7 +52,7 @@ abbrev pub after : ℕ → Ticket → Reaction → Ticket
 after now t Stays = t
 after now t (GoesOn phase sends) = record t { phase = phase; since = now }
 after now t (Repeats phase sends) = record t { phase = phase; repeats = t.repeats - 1; since = now }
-after now t (Ends sends how) = record t { phase = Over }
+after now t (Ends sends how) = record t { phase = Idle }
 
 -- what it sends, in order of sending
 abbrev pub sends_of : Reaction → List Apdu
@@ -66,9 +68,10 @@ ending_of (GoesOn phase sends) = None
 ending_of (Repeats phase sends) = None
 ending_of (Ends sends how) = Some how
 
-abbrev pub is_over : Phase → Bool
-is_over Over = true
-is_over _ = false
+-- whether the ticket has ended
+abbrev pub is_idle : Phase → Bool
+is_idle Idle = true
+is_idle _ = false
 
 -- nothing is sent later than DEADLINE after the first sending (own rule of this profile)
 abbrev pub is_expired : ℕ → Ask → Bool
@@ -76,178 +79,189 @@ is_expired now ask = nat_lt DEADLINE (now - ask.first)
 
 -- a slot is held, and with it its invoke ID, while its ticket is open or no more than HOLD has passed (own rule of this profile)
 abbrev pub is_held : ℕ → Ticket → Bool
-is_held now t = not (is_over t.phase) || nat_le (now - t.ask.first) HOLD
+is_held now t = not (is_idle t.phase) || nat_le (now - t.ask.first) HOLD
 
 -- What is sent.
 
 -- the whole request
-abbrev pub request_apdu : Settings → (id : ℕ) → Ask → Apdu
-request_apdu c id ask = ConfirmedRequest c.takes_segments c.max_segments c.max_apdu id None ask.choice (join ask.pieces)
+abbrev pub request_apdu : Context → Ask → Apdu
+request_apdu c ask = ConfirmedRequest c.settings.limits c.invoke_id None ask.choice (join ask.pieces)
 
 -- piece n of the request
-abbrev pub request_piece : Settings → (id choice : ℕ) → List Octets → ℕ → Apdu
-request_piece c id choice pieces n = ConfirmedRequest c.takes_segments c.max_segments c.max_apdu id (Some (segment_of c.window pieces n)) choice
-    (piece_at pieces n)
+abbrev pub request_piece : Context → (choice : ℕ) → List Octets → ℕ → Apdu
+request_piece c choice pieces n = ConfirmedRequest c.settings.limits c.invoke_id (Some (segment_of c.settings.window pieces n)) choice (piece_at pieces n)
 
 -- the window of a request
-abbrev pub request_window : Settings → (id choice : ℕ) → Outgoing → List Apdu
-request_window c id choice out = pieces_from (request_piece c id choice out.pieces) out.first (in_window out)
+abbrev pub request_window : Context → (choice : ℕ) → Outgoing → List Apdu
+request_window c choice out = pieces_from (request_piece c choice out.pieces) out.first (in_window out)
 
 -- the window is sent; SentAllSegments is true once the last piece was sent (clause 5.4.4.2), and stays true (own rule of this profile)
-abbrev pub sends_window : Settings → (id choice : ℕ) → Outgoing → Bool → Reaction
-sends_window c id choice out all_sent =
-    GoesOn (Sending out (all_sent || nat_le (length out.pieces) (out.first + in_window out))) (request_window c id choice out)
+abbrev pub sends_request_window : Context → (choice : ℕ) → Outgoing → Bool → Reaction
+sends_request_window c choice out all_sent =
+    GoesOn (SegmentedRequest out (all_sent || nat_le (length out.pieces) (out.first + in_window out))) (request_window c choice out)
 
 -- a client's SegmentACK
-abbrev pub client_ack : (nak : Bool) (id number window : ℕ) → Apdu
-client_ack nak id number window = SegmentAck nak false id number window
+abbrev pub client_ack : Context → (nak : Bool) (number window : ℕ) → Apdu
+client_ack c nak number window = SegmentAck false c.invoke_id (record { nak = nak; number = number; window = window })
 
--- Answers.
+-- a client's Abort
+abbrev pub client_abort : Context → (reason : ℕ) → Apdu
+client_abort c reason = Abort false c.invoke_id reason
 
--- the kind of answer that fits a service choice: WriteProperty has a SimpleACK,
--- AtomicReadFile, AtomicWriteFile and ReadProperty have a ComplexACK; an Error fits all
-abbrev pub answers_simply : ℕ → Bool
-answers_simply choice = nat_eq choice 15
+-- The service data of a ComplexACK.
 
-abbrev pub answers_with_data : ℕ → Bool
-answers_with_data choice = nat_eq choice 6 || (nat_eq choice 7 || nat_eq choice 12)
-
--- the service data of an answer are whole: the ticket ends with them or, where they can't be read, with Abort 0 after the SegmentACK, if any
+-- they are whole: the ticket ends with them or, where they can't be read, with an Abort after the SegmentACK, if any
 -- (that Abort is an own rule of this profile)
-abbrev pub answered_with : Readable → (id choice : ℕ) → List Apdu → Octets → Reaction
-answered_with readable id choice acks octets =
-    if readable choice octets then Ends acks (Answered (reply.Complex octets)) else Ends (acks ++ Abort false id 0 ∷ []) (Aborted 0)
+abbrev pub answered_with : Context → Readable → (choice : ℕ) → List Apdu → Octets → Reaction
+answered_with c readable choice acks octets =
+    if readable choice octets then Ends acks (Answered (reply.Complex octets)) else Ends (acks ++ client_abort c OTHER ∷ []) (Aborted OTHER)
 
--- a segment of the answer came (clause 5.4.4.4): its number, and what was taken; the actual window is that of the reassembly it came to.
--- 1 is buffer-overflow (where a reassembly is too long is an own rule of this profile)
-abbrev pub collects : Readable → (id choice number window : ℕ) → Taking → Reaction
-collects readable id choice number window (Taken true inc) = GoesOn (Collecting inc) (client_ack false id number window ∷ [])
-collects readable id choice number window (Taken false inc) = GoesOn (Collecting inc) []
-collects readable id choice number window (Complete parts) = answered_with readable id choice (client_ack false id number window ∷ []) (join parts)
-collects readable id choice number window (Nak inc) = GoesOn (Collecting inc) (client_ack true id ((length inc.parts - 1) % 256) window ∷ [])
-collects readable id choice number window TooLong = Ends (Abort false id 1 ∷ []) (Aborted 1)
+-- a segment of them came (clause 5.4.4.4): its number, and what was taken; the actual window is that of the reassembly it came to
+-- (where a reassembly is too long is an own rule of this profile)
+abbrev pub conf_segment_taken : Context → Readable → (choice number window : ℕ) → Taking → Reaction
+conf_segment_taken c readable choice number window (Taken true inc) = GoesOn (SegmentedConf inc) (client_ack c false number window ∷ [])
+conf_segment_taken c readable choice number window (Taken false inc) = GoesOn (SegmentedConf inc) []
+conf_segment_taken c readable choice number window (Whole parts) = answered_with c readable choice (client_ack c false number window ∷ []) (join parts)
+conf_segment_taken c readable choice number window (Nak inc) =
+    GoesOn (SegmentedConf inc) (client_ack c true ((length inc.parts - 1) % 256) window ∷ [])
+conf_segment_taken c readable choice number window TooLong = Ends (client_abort c BUFFER_OVERFLOW ∷ []) (Aborted BUFFER_OVERFLOW)
 
 -- What comes for an open ticket.
 
 -- a Reject, or an Abort with SRV 1, ends a ticket in any state; nothing else is looked at
-abbrev pub refused : Apdu → Reaction
-refused (Reject invoke reason) = Ends [] (Rejected reason)
-refused (Abort true invoke reason) = Ends [] (Aborted reason)
-refused _ = Stays
+abbrev pub gets_refusal : Apdu → Reaction
+gets_refusal (Reject invoke_id reason) = Ends [] (Rejected reason)
+gets_refusal (Abort true invoke_id reason) = Ends [] (Aborted reason)
+gets_refusal _ = Stays
 
--- a SimpleACK, a ComplexACK without SEG, an Error
-abbrev pub gets_simple : Ask → ℕ → Reaction
-gets_simple ask choice = if nat_eq choice ask.choice && answers_simply ask.choice then Ends [] (Answered reply.Simple) else Stays
+-- a SimpleACK, a ComplexACK without SEG, an Error: of the service choice that was asked, and of the kind that fits it
+abbrev pub gets_simple_ack : Ask → (choice : ℕ) → Reaction
+gets_simple_ack ask choice = if nat_eq choice ask.choice && has_simple_ack ask.choice then Ends [] (Answered reply.Simple) else Stays
 
-abbrev pub gets_complex : Readable → (id : ℕ) → Ask → ℕ → Octets → Reaction
-gets_complex readable id ask choice service =
-    if nat_eq choice ask.choice && answers_with_data ask.choice then answered_with readable id ask.choice [] service else Stays
+abbrev pub gets_complex_ack : Context → Readable → Ask → (choice : ℕ) → Octets → Reaction
+gets_complex_ack c readable ask choice service =
+    if nat_eq choice ask.choice && has_complex_ack ask.choice then answered_with c readable ask.choice [] service else Stays
 
 abbrev pub gets_error : Ask → (choice class code : ℕ) → Reaction
 gets_error ask choice class code = if nat_eq choice ask.choice then Ends [] (Answered (reply.Error class code)) else Stays
 
--- the first segment of an answer, where the client takes answers in segments: its reassembly has the lesser of the proposed window and its own
-abbrev pub gets_first : Settings → Readable → (id : ℕ) → Ask → Segment → ℕ → Octets → Reaction
-gets_first c readable id ask segment choice service =
-    let inc = incoming c.window segment.window in
-    if nat_eq choice ask.choice && (answers_with_data ask.choice && (c.takes_segments && nat_eq segment.number 0))
-    then collects readable id ask.choice segment.number inc.window (takes inc segment.number segment.more service)
+-- segment 0 of a ComplexACK, where the client takes segments: its reassembly has the lesser of the proposed window and its own
+abbrev pub gets_first_segment : Context → Readable → Ask → Segment → (choice : ℕ) → Octets → Reaction
+gets_first_segment c readable ask segment choice service =
+    let inc = incoming c.settings.window segment.window in
+    if nat_eq choice ask.choice && (has_complex_ack ask.choice && (c.settings.limits.takes_segments && nat_eq segment.number 0))
+    then conf_segment_taken c readable ask.choice segment.number inc.window (takes inc segment.number segment.more service)
     else Stays
 
--- SEGMENTED_REQUEST with SentAllSegments, but for SegmentACKs, and AWAIT_CONFIRMATION (clauses 5.4.4.2 and 5.4.4.3)
-abbrev pub awaiting_gets : Settings → Readable → (id : ℕ) → Ask → Apdu → Reaction
-awaiting_gets c readable id ask (SimpleAck invoke choice) = gets_simple ask choice
-awaiting_gets c readable id ask (ComplexAck invoke None choice service) = gets_complex readable id ask choice service
-awaiting_gets c readable id ask (ComplexAck invoke (Some segment) choice service) = gets_first c readable id ask segment choice service
-awaiting_gets c readable id ask (Error invoke choice class code) = gets_error ask choice class code
-awaiting_gets c readable id ask (Reject invoke reason) = Ends [] (Rejected reason)
-awaiting_gets c readable id ask (Abort true invoke reason) = Ends [] (Aborted reason)
-awaiting_gets c readable id ask _ = Stays
+-- AWAIT_CONFIRMATION (clause 5.4.4.3), and SEGMENTED_REQUEST with SentAllSegments, but for SegmentACKs (clause 5.4.4.2)
+abbrev pub await_confirmation_gets : Context → Readable → Ask → Apdu → Reaction
+await_confirmation_gets c readable ask (SimpleAck invoke_id choice) = gets_simple_ack ask choice
+await_confirmation_gets c readable ask (ComplexAck invoke_id None choice service) = gets_complex_ack c readable ask choice service
+await_confirmation_gets c readable ask (ComplexAck invoke_id (Some segment) choice service) = gets_first_segment c readable ask segment choice service
+await_confirmation_gets c readable ask (Error invoke_id choice class code) = gets_error ask choice class code
+await_confirmation_gets c readable ask (Reject invoke_id reason) = Ends [] (Rejected reason)
+await_confirmation_gets c readable ask (Abort true invoke_id reason) = Ends [] (Aborted reason)
+await_confirmation_gets c readable ask _ = Stays
 
 -- a SegmentACK of the request's segments: Ignored, Finished or Moved
-abbrev pub moves : Settings → (id choice : ℕ) → Bool → Option Outgoing → Reaction
-moves c id choice all_sent None = Stays
-moves c id choice all_sent (Some out) = if is_finished out then GoesOn Awaiting [] else sends_window c id choice out all_sent
+abbrev pub moves_request_window : Context → (choice : ℕ) → Bool → Option Outgoing → Reaction
+moves_request_window c choice all_sent None = Stays
+moves_request_window c choice all_sent (Some out) =
+    if is_finished out then GoesOn AwaitConfirmation [] else sends_request_window c choice out all_sent
 
 -- SEGMENTED_REQUEST (clause 5.4.4.2)
-abbrev pub sending_gets : Settings → Readable → (id : ℕ) → Ask → Outgoing → Bool → Apdu → Reaction
-sending_gets c readable id ask out all_sent (SegmentAck nak true invoke number window) = moves c id ask.choice all_sent
-    (acknowledged c.window out number window)
-sending_gets c readable id ask out true apdu = awaiting_gets c readable id ask apdu
-sending_gets c readable id ask out false apdu = refused apdu
+abbrev pub segmented_request_gets : Context → Readable → Ask → Outgoing → Bool → Apdu → Reaction
+segmented_request_gets c readable ask out all_sent (SegmentAck true invoke_id ack) = moves_request_window c ask.choice all_sent
+    (acknowledged c.settings.window out ack.number ack.window)
+segmented_request_gets c readable ask out true apdu = await_confirmation_gets c readable ask apdu
+segmented_request_gets c readable ask out false apdu = gets_refusal apdu
 
--- a further segment of an answer; one of another service choice is ignored (own rule of this profile)
-abbrev pub gets_next : Readable → (id : ℕ) → Ask → Incoming → Segment → ℕ → Octets → Reaction
-gets_next readable id ask inc segment choice service =
-    if nat_eq choice ask.choice then collects readable id ask.choice segment.number inc.window (takes inc segment.number segment.more service) else Stays
+-- a further segment of a ComplexACK; one of another service choice is ignored (own rule of this profile)
+abbrev pub gets_next_segment : Context → Readable → Ask → Incoming → Segment → (choice : ℕ) → Octets → Reaction
+gets_next_segment c readable ask inc segment choice service =
+    if nat_eq choice ask.choice
+    then conf_segment_taken c readable ask.choice segment.number inc.window (takes inc segment.number segment.more service)
+    else Stays
 
 -- SEGMENTED_CONF (clause 5.4.4.4)
-abbrev pub collecting_gets : Readable → (id : ℕ) → Ask → Incoming → Apdu → Reaction
-collecting_gets readable id ask inc (ComplexAck invoke (Some segment) choice service) = gets_next readable id ask inc segment choice service
-collecting_gets readable id ask inc apdu = refused apdu
+abbrev pub segmented_conf_gets : Context → Readable → Ask → Incoming → Apdu → Reaction
+segmented_conf_gets c readable ask inc (ComplexAck invoke_id (Some segment) choice service) = gets_next_segment c readable ask inc segment choice service
+segmented_conf_gets c readable ask inc apdu = gets_refusal apdu
 
-abbrev pub open_gets : Settings → Readable → (id : ℕ) → Ask → Phase → Apdu → Reaction
-open_gets c readable id ask (Sending out all_sent) apdu = sending_gets c readable id ask out all_sent apdu
-open_gets c readable id ask Awaiting apdu = awaiting_gets c readable id ask apdu
-open_gets c readable id ask (Collecting inc) apdu = collecting_gets readable id ask inc apdu
-open_gets c readable id ask Over apdu = Stays
+abbrev pub open_gets : Context → Readable → Ask → Phase → Apdu → Reaction
+open_gets c readable ask (SegmentedRequest out all_sent) apdu = segmented_request_gets c readable ask out all_sent apdu
+open_gets c readable ask AwaitConfirmation apdu = await_confirmation_gets c readable ask apdu
+open_gets c readable ask (SegmentedConf inc) apdu = segmented_conf_gets c readable ask inc apdu
+open_gets c readable ask Idle apdu = Stays
 
 -- an APDU comes for the ticket's peer and invoke ID: one that no server sends is ignored, and so is all after the ticket's end;
 -- past DEADLINE the ticket ends as Expired before anything else is looked at
-abbrev pub client_gets : Settings → Readable → (id : ℕ) → (now : ℕ) → Ticket → Apdu → Reaction
-client_gets c readable id now t apdu =
-    if is_over t.phase || not (is_from_server apdu) then Stays
-    else if is_expired now t.ask then Ends [] Expired
-    else open_gets c readable id t.ask t.phase apdu
+abbrev pub client_gets : Context → Readable → Ticket → Apdu → Reaction
+client_gets c readable t apdu =
+    if is_idle t.phase || not (is_from_server apdu) then Stays
+    else if is_expired c.now t.ask then Ends [] Expired
+    else open_gets c readable t.ask t.phase apdu
 
 -- Time.
 
 -- the whole request is sent again in the state it is in, where a repeat is left (in SEGMENTED_CONF an own rule of this profile)
-abbrev pub repeats_whole : Settings → (id : ℕ) → Ticket → Reaction
-repeats_whole c id t = if nat_eq t.repeats 0 then Ends [] TimedOut else Repeats t.phase (request_apdu c id t.ask ∷ [])
+abbrev pub repeats_whole : Context → Ticket → Reaction
+repeats_whole c t = if nat_eq t.repeats 0 then Ends [] TimedOut else Repeats t.phase (request_apdu c t.ask ∷ [])
 
 -- a request in pieces is sent again from segment 0 on, with window 1, where a repeat is left; all segments were sent before
-abbrev pub repeats_pieces : Settings → (id : ℕ) → Ticket → Reaction
-repeats_pieces c id t =
+abbrev pub repeats_pieces : Context → Ticket → Reaction
+repeats_pieces c t =
     if nat_eq t.repeats 0
     then Ends [] TimedOut
-    else Repeats (Sending (outgoing t.ask.pieces) true) (request_window c id t.ask.choice (outgoing t.ask.pieces))
+    else Repeats (SegmentedRequest (outgoing t.ask.pieces) true) (request_window c t.ask.choice (outgoing t.ask.pieces))
 
--- AWAIT_CONFIRMATION (clause 5.4.4.3): T_OUT is due
-abbrev pub repeats : Settings → (id : ℕ) → Ticket → Reaction
-repeats c id t = if t.ask.whole then repeats_whole c id t else repeats_pieces c id t
+abbrev pub repeats : Context → Ticket → Reaction
+repeats c t = if t.ask.whole then repeats_whole c t else repeats_pieces c t
 
--- SEGMENTED_REQUEST (clause 5.4.4.2): T_SEG is due, Again or GivenUp
-abbrev pub sends_again : Settings → (id choice : ℕ) → Bool → Option Outgoing → Reaction
-sends_again c id choice all_sent None = Ends [] TimedOut
-sends_again c id choice all_sent (Some out) = sends_window c id choice out all_sent
+-- the window is sent again, where a retry is left: Again or GivenUp
+abbrev pub sends_request_again : Context → (choice : ℕ) → Bool → Option Outgoing → Reaction
+sends_request_again c choice all_sent None = Ends [] TimedOut
+sends_request_again c choice all_sent (Some out) = sends_request_window c choice out all_sent
 
-abbrev pub open_ticks : Settings → (id now : ℕ) → Ticket → Phase → Reaction
-open_ticks c id now t (Sending out all_sent) = if nat_le T_SEG (now - t.since) then sends_again c id t.ask.choice all_sent (again out) else Stays
-open_ticks c id now t Awaiting = if nat_le T_OUT (now - t.since) then repeats c id t else Stays
-open_ticks c id now t (Collecting inc) =
-    if nat_le WAIT_SEG (now - t.since)
-    then (if t.ask.whole then repeats_whole c id t else Ends [] TimedOut)
+-- SEGMENTED_REQUEST (clause 5.4.4.2)
+abbrev pub segmented_request_ticks : Context → Ticket → Outgoing → Bool → Reaction
+segmented_request_ticks c t out all_sent =
+    if nat_le T_SEG (c.now - t.since) then sends_request_again c t.ask.choice all_sent (again out) else Stays
+
+-- AWAIT_CONFIRMATION (clause 5.4.4.3)
+abbrev pub await_confirmation_ticks : Context → Ticket → Reaction
+await_confirmation_ticks c t = if nat_le T_OUT (c.now - t.since) then repeats c t else Stays
+
+-- SEGMENTED_CONF (clause 5.4.4.4)
+abbrev pub segmented_conf_ticks : Context → Ticket → Reaction
+segmented_conf_ticks c t =
+    if nat_le WAIT_SEG (c.now - t.since)
+    then (if t.ask.whole then repeats_whole c t else Ends [] TimedOut)
     else Stays
-open_ticks c id now t Over = Stays
+
+abbrev pub open_ticks : Context → Ticket → Phase → Reaction
+open_ticks c t (SegmentedRequest out all_sent) = segmented_request_ticks c t out all_sent
+open_ticks c t AwaitConfirmation = await_confirmation_ticks c t
+open_ticks c t (SegmentedConf inc) = segmented_conf_ticks c t
+open_ticks c t Idle = Stays
 
 -- a tick
-abbrev pub client_ticks : Settings → (id now : ℕ) → Ticket → Reaction
-client_ticks c id now t =
-    if is_over t.phase then Stays
-    else if is_expired now t.ask then Ends [] Expired
-    else open_ticks c id now t t.phase
+abbrev pub client_ticks : Context → Ticket → Reaction
+client_ticks c t =
+    if is_idle t.phase then Stays
+    else if is_expired c.now t.ask then Ends [] Expired
+    else open_ticks c t t.phase
 
 -- IDLE (clause 5.4.4.1).
 
 -- the ticket of a new ask, before it sends
 abbrev pub new_ticket : ℕ → Ask → Ticket
-new_ticket now ask = record { ask = ask; phase = Awaiting; repeats = RETRIES; since = now }
+new_ticket now ask = record { ask = ask; phase = AwaitConfirmation; repeats = RETRIES; since = now }
 
 -- an ask sends the whole request, or segment 0
-abbrev pub asks : Settings → (id : ℕ) → Ask → Reaction
-asks c id ask = if ask.whole then GoesOn Awaiting (request_apdu c id ask ∷ []) else sends_window c id ask.choice (outgoing ask.pieces) false
+abbrev pub asks : Context → Ask → Reaction
+asks c ask = if ask.whole then GoesOn AwaitConfirmation (request_apdu c ask ∷ []) else sends_request_window c ask.choice (outgoing ask.pieces) false
 
 -- the ticket of a new ask, after it has sent
-abbrev pub asked_ticket : Settings → (id now : ℕ) → Ask → Ticket
-asked_ticket c id now ask = after now (new_ticket now ask) (asks c id ask)
+abbrev pub asked_ticket : Context → Ask → Ticket
+asked_ticket c ask = after c.now (new_ticket c.now ask) (asks c ask)

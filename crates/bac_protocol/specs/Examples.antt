@@ -2,25 +2,26 @@
 use Rattle.bac_segment.specs.Pieces.{join}
 use Rattle.bac_segment.specs.Window.{Incoming, outgoing, is_too_long}
 use Rattle.std.specs.Prelude.{◌≡◌, ℕ, zero, suc, ◌+◌, ◌/◌, ◌%◌, length, Bool, true, false, List, [], ◌∷◌, ◌++◌, map, take, drop, Option, Some, None}
-use Rattle.bac_apdu.specs.Apdu.{Apdu}
+use Rattle.bac_apdu.specs.Apdu.{Apdu, Limits}
 use Rattle.bac_apdu.specs.Apdu.Apdu.{ConfirmedRequest, SimpleAck, ComplexAck, SegmentAck, Error, Reject, Abort}
 use Rattle.bac_protocol.specs.Service.{Octets, Request, Reply, Reply as reply}
 use Rattle.bac_protocol.specs.Service.Reply.{Complex}
 use Rattle.bac_protocol.specs.Service.Outcome.{Replies}
 use Rattle.bac_protocol.specs.Service.Ending.{Answered, Rejected, Aborted, TimedOut, Expired}
-use Rattle.bac_protocol.specs.Client.{Ticket, Reaction, client_gets, client_ticks, asked_ticket}
-use Rattle.bac_protocol.specs.Client.Phase.{Sending, Awaiting, Collecting}
+use Rattle.bac_protocol.specs.Context.{Context}
+use Rattle.bac_protocol.specs.Client.{Phase, Ticket, Reaction, client_gets, client_ticks, asked_ticket}
+use Rattle.bac_protocol.specs.Client.Phase.{AwaitConfirmation, SegmentedConf}
 use Rattle.bac_protocol.specs.Client.Reaction.{Stays, GoesOn, Repeats, Ends}
-use Rattle.bac_protocol.specs.Sizes.{apdu_size, allows_segments, transfer_size, Limits, RequestWay, request_way_of}
-use Rattle.bac_protocol.specs.Sizes.RequestWay.{InOne, InSegments, NeedsSegments, TooLong}
+use Rattle.bac_protocol.specs.Sizes.{apdu_size, allows_segments, transfer_size, Way, RequestFault, request_way_of, reply_way_of}
+use Rattle.bac_protocol.specs.Sizes.RequestFault.{NeedsSegments, TooLong}
 use Rattle.bac_protocol.specs.Server as server
-use Rattle.bac_protocol.specs.Server.{Terms, Transfer, Entry, Way, way_of, server_gets, server_ticks, is_live}
-use Rattle.bac_protocol.specs.Server.State.{Receiving, Done, Giving, Dropped}
+use Rattle.bac_protocol.specs.Server.{Transfer, State, Entry, server_gets, server_ticks, is_live}
+use Rattle.bac_protocol.specs.Server.State.{Done, SegmentedResponse, Dropped}
 use Rattle.bac_protocol.specs.Server.Transfer.{Running, Stopped, Finished}
-use Rattle.bac_protocol.specs.Server.Way.{AtOnce, InPieces, Unsendable}
+use Rattle.bac_protocol.specs.Sizes.Way.{InOne, InSegments, Refused}
 use Rattle.bac_protocol.specs.Log.{Fact, Shop}
 use Rattle.bac_protocol.specs.Log.Fact.{Asked, Performed, Ended}
-use Rattle.bac_protocol.specs.Transaction.{Key, Rules}
+use Rattle.bac_protocol.specs.Transaction.{Key, Rules, client_context, server_context}
 use Rattle.bac_protocol.specs.World.{Post, World, Event, run, start, post_of, is_deliverable}
 use Rattle.bac_protocol.specs.World.Event.{MakeAsk, Deliver, Tick, Advance}
 
@@ -36,10 +37,14 @@ apdu_of p = p.copy.apdu
 abbrev pub seen : World ℕ → Seen
 seen w = record { sent = map apdu_of w.net.posts; log = w.net.log; effects = w.stores 1 }
 
+-- APDUs of 50 octets
+abbrev pub limits : Bool → ℕ → Limits
+limits takes_segments max_segments = record { takes_segments = takes_segments; max_segments = max_segments; max_apdu = 0 }
+
 -- all nodes propose that window, take replies in segments without limit, and have APDUs of 50 octets
 abbrev pub rules : ℕ → Rules
 rules window = record {
-  settings = λ node. record { window = window; takes_segments = true; max_segments = 7; max_apdu = 0 };
+  settings = λ node. record { limits = limits true 7; window = window };
   readable =
       λ choice octets. true;
   overtake = 128;
@@ -50,7 +55,7 @@ abbrev pub shop : Reply → Shop ℕ
 shop p = record { outcome = λ s choice octets. Replies p; after = λ s request. suc s }
 
 abbrev pub key : Key
-key = record { client = 0; server = 1; id = 0 }
+key = record { client = 0; server = 1; invoke_id = 0 }
 
 -- what happens between node 0 and node 1, with windows of that size
 abbrev pub shows : ℕ → Reply → List Event → Seen
@@ -58,6 +63,10 @@ shows window p events = seen (run ℕ (shop p) (rules window) events (start ℕ 
 
 abbrev pub tick : Event
 tick = Tick (key ∷ []) (key ∷ [])
+
+-- what the client's machine is told
+abbrev pub at : (now : ℕ) → Context
+at now = client_context (rules 32) key now
 
 -- Requests and replies of one APDU: `AABBCC` is appended to a file, at position 2.
 
@@ -71,7 +80,7 @@ abbrev pub ask_append : Event
 ask_append = MakeAsk key 7 true append []
 
 abbrev pub append_apdu : Apdu
-append_apdu = ConfirmedRequest true 7 0 0 None 7 append
+append_apdu = ConfirmedRequest (limits true 7) 0 None 7 append
 
 abbrev pub position_apdu : Apdu
 position_apdu = ComplexAck 0 None 7 (9 ∷ 2 ∷ [])
@@ -92,7 +101,7 @@ FourCopies =
       effects = 1;
     }
 
--- the answer is lost; a tick at 2,999 sends nothing, one at 3,000 sends the request again
+-- the reply is lost; a tick at 2,999 sends nothing, one at 3,000 sends the request again
 abbrev pub LostAnswer : Type 0
 LostAnswer =
     shows 32 position (ask_append ∷ Deliver 0 true ∷ Advance 2999 ∷ tick ∷ Advance 1 ∷ tick ∷ Deliver 2 true ∷ Deliver 3 true ∷ [])
@@ -160,7 +169,7 @@ posts_of name zero = []
 posts_of name (suc n) = post_of name 0 append_apdu ∷ posts_of name n
 
 abbrev pub other_key : ℕ → Key
-other_key id = record { client = 2; server = 1; id = id }
+other_key invoke_id = record { client = 2; server = 1; invoke_id = invoke_id }
 
 abbrev pub is_first_deliverable : List Post → Bool
 is_first_deliverable later = is_deliverable (rules 32) 0 0 (post_of key 0 append_apdu ∷ later) (post_of key 0 append_apdu)
@@ -186,10 +195,10 @@ abbrev pub ask_read : Key → Event
 ask_read name = MakeAsk name 12 true read []
 
 abbrev pub read_apdu : ℕ → Apdu
-read_apdu id = ConfirmedRequest true 7 0 id None 12 read
+read_apdu invoke_id = ConfirmedRequest (limits true 7) invoke_id None 12 read
 
 abbrev pub value_apdu : ℕ → Apdu
-value_apdu id = ComplexAck id None 12 value
+value_apdu invoke_id = ComplexAck invoke_id None 12 value
 
 -- the first client asks at 0; the other at 0, at 65,000 and at 65,001
 abbrev pub of_two_clients : World ℕ
@@ -202,7 +211,8 @@ of_two_clients = run ℕ (shop (Complex value)) (rules 32)
 abbrev pub slot : Entry
 slot = record {
   begin = 0;
-  terms = record { choice = 12; takes_segments = true; max_segments = 7; max_apdu = 0 };
+  choice = 12;
+  limits = limits true 7;
   request = Some read;
   state =
       Done (value_apdu 0);
@@ -228,11 +238,11 @@ TwoClients =
     × (of_two_clients.net.entries (other_key 0) ≡ None)
     × (of_two_clients.net.entries (other_key 1) ≡ None)
 
--- an answer whose service data can't be read is answered by Abort 0
+-- a ComplexACK whose service data can't be read is answered by Abort 0
 abbrev pub Unreadable : Type 0
 Unreadable =
-    client_gets ((rules 32).settings 0) (λ choice octets. false) 0 0
-    (record { ask = record { first = 0; choice = 7; whole = true; pieces = append ∷ [] }; phase = Awaiting; repeats = 3; since = 0 })
+    client_gets (at 0) (λ choice octets. false)
+    (record { ask = record { first = 0; choice = 7; whole = true; pieces = append ∷ [] }; phase = AwaitConfirmation; repeats = 3; since = 0 })
     (ComplexAck 0 None 7 (255 ∷ []))
     ≡ Ends (Abort false 0 0 ∷ []) (Aborted 0)
 
@@ -254,7 +264,7 @@ abbrev pub ask_pieces : Event
 ask_pieces = MakeAsk key 7 false one (two ∷ three ∷ [])
 
 abbrev pub segment_apdu : ℕ → Bool → Octets → Apdu
-segment_apdu number more octets = ConfirmedRequest true 7 0 0 (Some (record { more = more; number = number; window = 32 })) 7 octets
+segment_apdu number more octets = ConfirmedRequest (limits true 7) 0 (Some (record { more = more; number = number; window = 32 })) 7 octets
 
 abbrev pub segment_0 : Apdu
 segment_0 = segment_apdu 0 true one
@@ -267,9 +277,9 @@ segment_2 = segment_apdu 2 false three
 
 -- a SegmentACK of the server
 abbrev pub ack_of : Bool → ℕ → Apdu
-ack_of nak number = SegmentAck nak true 0 number 32
+ack_of nak number = SegmentAck true 0 (record { nak = nak; number = number; window = 32 })
 
--- the answer and the last SegmentACK are lost; segments 1 and 2 are sent again, and answered by the kept reply
+-- the reply and the last SegmentACK are lost; segments 1 and 2 are sent again, and answered by the kept reply
 abbrev pub LostAck : Type 0
 LostAck =
     shows 32 position (ask_pieces ∷ Deliver 0 true ∷ Deliver 1 true ∷ Deliver 2 true ∷ Deliver 3 true ∷ Advance 2000 ∷ tick ∷ Deliver 6 true ∷ Deliver 8
@@ -348,7 +358,7 @@ OutOfTime =
       effects = 0;
     }
 
--- everything is delivered but the answer: the request is sent again from segment 0 on, and answered by the kept reply
+-- everything is delivered but the reply: the request is sent again from segment 0 on, and answered by the kept reply
 abbrev pub LaterPass : Type 0
 LaterPass =
     shows 32 position (ask_pieces ∷ Deliver 0 true ∷ Deliver 1 true ∷ Deliver 2 true ∷ Deliver 3 true ∷ Deliver 4 true ∷ Advance 3000 ∷ tick ∷ Deliver 6
@@ -370,7 +380,7 @@ part_apdu number = ComplexAck 0 (Some (record { more = true; number = number; wi
 
 -- a SegmentACK of the client
 abbrev pub took : Bool → ℕ → Apdu
-took nak number = SegmentAck nak false 0 number 3
+took nak number = SegmentAck false 0 (record { nak = nak; number = number; window = 3 })
 
 -- piece 2 is lost, and the client says so; the window is sent again three times, then the transfer stops; a copy of the request resumes it
 abbrev pub StoppedReply : Type 0
@@ -396,8 +406,8 @@ TwoSegments =
     shows 32 (Complex (zeros 48)) (ask_append ∷ Deliver 0 true ∷ Deliver 1 true ∷ Deliver 2 true ∷ Deliver 3 true ∷ Deliver 4 true ∷ [])
     ≡ record {
       sent =
-          (append_apdu ∷ ComplexAck 0 (Some (record { more = true; number = 0; window = 32 })) 7 (zeros 45) ∷ SegmentAck false false 0 0 32 ∷ [])
-          ++ (ComplexAck 0 (Some (record { more = false; number = 1; window = 32 })) 7 (zeros 3) ∷ SegmentAck false false 0 1 32 ∷ []);
+          (append_apdu ∷ ComplexAck 0 (Some (record { more = true; number = 0; window = 32 })) 7 (zeros 45) ∷ SegmentAck false 0 (record { nak = false; number = 0; window = 32 }) ∷ [])
+          ++ (ComplexAck 0 (Some (record { more = false; number = 1; window = 32 })) 7 (zeros 3) ∷ SegmentAck false 0 (record { nak = false; number = 1; window = 32 }) ∷ []);
       log = Ended 0 (Answered (Complex (zeros 48))) ∷ performed append (Complex (zeros 48)) ∷ asked append ∷ [];
       effects = 1;
     }
@@ -405,13 +415,13 @@ TwoSegments =
 -- all nodes take replies in segments so
 abbrev pub rules_of : Bool → ℕ → Rules
 rules_of takes_segments max_segments = record {
-  settings = λ node. record { window = 32; takes_segments = takes_segments; max_segments = max_segments; max_apdu = 0 };
+  settings = λ node. record { limits = limits takes_segments max_segments; window = 32 };
   readable =
       λ choice octets. true;
   overtake = 128;
 }
 
--- the request arrives twice, and the second answer before the first; the reply has so many octets
+-- the request arrives twice, and the second reply to it before the first; the reply has so many octets
 abbrev pub refuses : Bool → ℕ → ℕ → Seen
 refuses takes_segments max_segments octets = seen
     (run ℕ (shop (Complex (zeros octets))) (rules_of takes_segments max_segments)
@@ -421,7 +431,7 @@ refuses takes_segments max_segments octets = seen
 abbrev pub IsRefused : Bool → ℕ → (reason : ℕ) → Seen → Type 0
 IsRefused takes_segments max_segments reason s =
     s ≡ record {
-      sent = ConfirmedRequest takes_segments max_segments 0 0 None 7 append ∷ Abort true 0 reason ∷ Abort true 0 reason ∷ [];
+      sent = ConfirmedRequest (limits takes_segments max_segments) 0 None 7 append ∷ Abort true 0 reason ∷ Abort true 0 reason ∷ [];
       log = Ended 0 (Aborted reason) ∷ asked append ∷ [];
       effects = 0;
     }
@@ -432,27 +442,21 @@ RefusedReplies = IsRefused false 7 4 (refuses false 7 48) × IsRefused true 1 1 
 
 -- Sizes: how a reply of so many octets goes, at 50 octets an APDU.
 
-abbrev pub terms_with : Bool → ℕ → Terms
-terms_with takes_segments max_segments = record { choice = 12; takes_segments = takes_segments; max_segments = max_segments; max_apdu = 0 }
-
-abbrev pub way : Bool → ℕ → ℕ → Way
-way takes_segments max_segments octets = way_of ((rules 32).settings 1) (terms_with takes_segments max_segments) (Complex (zeros octets))
+abbrev pub way : Bool → ℕ → ℕ → Way ℕ
+way takes_segments max_segments octets = reply_way_of ((rules 32).settings 1) (limits takes_segments max_segments) (Complex (zeros octets))
 
 -- 47 octets go in one APDU; 48 go in pieces of 45 and 3 to one who takes segments, and otherwise not
 abbrev pub Sizes : Type 0
 Sizes =
-    (way false 7 47 ≡ AtOnce)
-    × (way false 7 48 ≡ Unsendable 4)
-    × (way true 7 48 ≡ InPieces (zeros 45 ∷ zeros 3 ∷ []))
-    × (way true 1 90 ≡ InPieces (zeros 45 ∷ zeros 45 ∷ []))
-    × (way true 1 91 ≡ Unsendable 1)
-    × (way true 0 91 ≡ InPieces (zeros 45 ∷ zeros 45 ∷ zeros 1 ∷ []))
+    (way false 7 47 ≡ InOne)
+    × (way false 7 48 ≡ Refused 4)
+    × (way true 7 48 ≡ InSegments (zeros 45 ∷ zeros 3 ∷ []))
+    × (way true 1 90 ≡ InSegments (zeros 45 ∷ zeros 45 ∷ []))
+    × (way true 1 91 ≡ Refused 1)
+    × (way true 0 91 ≡ InSegments (zeros 45 ∷ zeros 45 ∷ zeros 1 ∷ []))
 
 -- how a request of so many octets goes
-abbrev pub limits : Bool → ℕ → Limits
-limits takes_segments max_segments = record { max_apdu = 0; takes_segments = takes_segments; max_segments = max_segments }
-
-abbrev pub request_way : Bool → ℕ → ℕ → RequestWay
+abbrev pub request_way : Bool → ℕ → ℕ → Way RequestFault
 request_way takes_segments max_segments octets = request_way_of ((rules 32).settings 0) (limits takes_segments max_segments) (zeros octets)
 
 -- 46 octets go in one APDU; 47 go in pieces of 44 and 3 to one who takes segments, and otherwise not; 111 octets need three segments:
@@ -460,15 +464,15 @@ request_way takes_segments max_segments octets = request_way_of ((rules 32).sett
 abbrev pub RequestSizes : Type 0
 RequestSizes =
     (request_way false 7 46 ≡ InOne)
-    × (request_way false 7 47 ≡ NeedsSegments)
+    × (request_way false 7 47 ≡ Refused NeedsSegments)
     × (request_way true 7 47 ≡ InSegments (zeros 44 ∷ zeros 3 ∷ []))
     × (request_way true 2 111 ≡ InSegments (zeros 44 ∷ zeros 44 ∷ zeros 23 ∷ []))
-    × (request_way true 1 111 ≡ NeedsSegments)
-    × (request_way false 2 111 ≡ NeedsSegments)
+    × (request_way true 1 111 ≡ Refused NeedsSegments)
+    × (request_way false 2 111 ≡ Refused NeedsSegments)
 
 -- 65,536 octets are too long, whatever the peer takes; 65,535 are not
 abbrev pub LongestRequest : Type 0
-LongestRequest = (request_way false 0 65535 ≡ NeedsSegments) × (request_way false 0 65536 ≡ TooLong) × (request_way true 0 65536 ≡ TooLong)
+LongestRequest = (request_way false 0 65535 ≡ Refused NeedsSegments) × (request_way false 0 65536 ≡ Refused TooLong) × (request_way true 0 65536 ≡ Refused TooLong)
 
 -- the APDU sizes of the codes; a transfer has the lesser of its ends' sizes
 abbrev pub ApduSizes : Type 0
@@ -489,9 +493,9 @@ SegmentLimits =
     × (allows_segments 7 65 ≡ true)
 
 -- at 1,476 octets an APDU 1,472 octets of service data go in one; 1,473 go in pieces of 1,470 and 3, unless the peer's APDUs have 50 octets
-abbrev pub request_between : (own peer octets : ℕ) → RequestWay
+abbrev pub request_between : (own peer octets : ℕ) → Way RequestFault
 request_between own peer octets =
-    request_way_of (record ((rules 32).settings 0) { max_apdu = own }) (record (limits true 7) { max_apdu = peer }) (zeros octets)
+    request_way_of (record ((rules 32).settings 0) { limits = record (limits true 7) { max_apdu = own } }) (record (limits true 7) { max_apdu = peer }) (zeros octets)
 
 abbrev pub RequestsOfAllSizes : Type 0
 RequestsOfAllSizes =
@@ -504,24 +508,24 @@ RequestsOfAllSizes =
 
 -- the ticket of three pieces, after its ask
 abbrev pub sending : Ticket
-sending = asked_ticket ((rules 32).settings 0) 0 0 (record { first = 0; choice = 7; whole = false; pieces = one ∷ two ∷ three ∷ [] })
+sending = asked_ticket (at 0) (record { first = 0; choice = 7; whole = false; pieces = one ∷ two ∷ three ∷ [] })
 
 abbrev pub hears : Ticket → Apdu → Reaction
-hears = client_gets ((rules 32).settings 0) (λ choice octets. true) 0 0
+hears = client_gets (at 0) (λ choice octets. true)
 
 -- SegmentACKs of pieces that were not sent are ignored; an actual window of 127 sets the sender's own, 32
 abbrev pub OddAcks : Type 0
 OddAcks =
-    (hears sending (SegmentAck false true 0 1 32) ≡ Stays)
-    × (hears sending (SegmentAck false true 0 255 32) ≡ Stays)
-    × (hears sending (SegmentAck false true 0 0 127) ≡ GoesOn
-    (Sending (record { pieces = one ∷ two ∷ three ∷ []; first = 1; window = 32; retries = 3 }) true) (segment_1 ∷ segment_2 ∷ []))
+    (hears sending (SegmentAck true 0 (record { nak = false; number = 1; window = 32 })) ≡ Stays)
+    × (hears sending (SegmentAck true 0 (record { nak = false; number = 255; window = 32 })) ≡ Stays)
+    × (hears sending (SegmentAck true 0 (record { nak = false; number = 0; window = 127 })) ≡ GoesOn
+    (Phase.SegmentedRequest (record { pieces = one ∷ two ∷ three ∷ []; first = 1; window = 32; retries = 3 }) true) (segment_1 ∷ segment_2 ∷ []))
 
--- a ticket that waits for its answer
+-- a ticket that waits for its reply
 abbrev pub awaiting : Ticket
-awaiting = record { ask = record { first = 0; choice = 7; whole = true; pieces = append ∷ [] }; phase = Awaiting; repeats = 3; since = 0 }
+awaiting = record { ask = record { first = 0; choice = 7; whole = true; pieces = append ∷ [] }; phase = AwaitConfirmation; repeats = 3; since = 0 }
 
--- before all segments were sent, and where the service choice or the kind is another, answers are ignored
+-- before all segments were sent, and where the service choice or the kind is another, replies are ignored
 abbrev pub OtherAnswers : Type 0
 OtherAnswers =
     (hears sending (ComplexAck 0 None 7 (9 ∷ 2 ∷ [])) ≡ Stays)
@@ -532,13 +536,14 @@ OtherAnswers =
 
 -- what a server with a free slot makes of an APDU, with that entry, at that moment
 abbrev pub serves : ℕ → Option Entry → Apdu → server.Reaction
-serves now entry apdu = server_gets ((rules 32).settings 1) 0 now ((shop position).outcome 0) entry true apdu
+serves now entry apdu = server_gets (server_context (rules 32) key now) ((shop position).outcome 0) entry true apdu
 
 -- the entry of a request without SEG that was performed at 0
 abbrev pub done : Entry
 done = record {
   begin = 0;
-  terms = record { choice = 7; takes_segments = true; max_segments = 7; max_apdu = 0 };
+  choice = 7;
+  limits = limits true 7;
   request = Some append;
   state =
       Done position_apdu;
@@ -549,8 +554,8 @@ done = record {
 abbrev pub KeptReply : Type 0
 KeptReply =
     (serves 65000 (Some done) append_apdu ≡ record { entry = Some done; sends = position_apdu ∷ []; effect = None })
-    × (serves 65000 (Some done) (ConfirmedRequest true 7 0 0 None 12 append) ≡ record { entry = Some done; sends = Abort true 0 0 ∷ []; effect = None })
-    × (serves 65000 (Some done) (ConfirmedRequest true 7 0 0 None 7 one) ≡ record { entry = Some done; sends = Abort true 0 0 ∷ []; effect = None })
+    × (serves 65000 (Some done) (ConfirmedRequest (limits true 7) 0 None 12 append) ≡ record { entry = Some done; sends = Abort true 0 0 ∷ []; effect = None })
+    × (serves 65000 (Some done) (ConfirmedRequest (limits true 7) 0 None 7 one) ≡ record { entry = Some done; sends = Abort true 0 0 ∷ []; effect = None })
     × (serves 65000 (Some done) segment_0 ≡ record { entry = Some done; sends = Abort true 0 0 ∷ []; effect = None })
     × (serves 65001 (Some done) append_apdu ≡ record {
       entry = Some (record done { begin = 65001 });
@@ -560,7 +565,7 @@ KeptReply =
 
 -- the entry after segment 0, and after the client's Abort
 abbrev pub receiving : Entry
-receiving = record { begin = 0; terms = done.terms; request = None; state = Receiving (record { parts = one ∷ []; unacknowledged = 0; window = 32 }) 0 }
+receiving = record { begin = 0; choice = 7; limits = limits true 7; request = None; state = State.SegmentedRequest (record { parts = one ∷ []; unacknowledged = 0; window = 32 }) 0 }
 
 abbrev pub dropped : Entry
 dropped = record receiving { state = Dropped }
@@ -575,19 +580,19 @@ DroppedEntry =
 
 -- an entry with a kept reply of two segments, whose transfer has stopped
 abbrev pub stopped : Entry
-stopped = record done { state = Giving (outgoing (zeros 45 ∷ zeros 3 ∷ [])) Stopped 0 }
+stopped = record done { state = SegmentedResponse (outgoing (zeros 45 ∷ zeros 3 ∷ [])) Stopped 0 }
 
 -- a kept reply in segments is given to the kept request alone: another choice or other data get Abort 0, without an effect
 abbrev pub KeptSegments : Type 0
 KeptSegments =
     (serves 65000 (Some stopped) append_apdu ≡ record {
-      entry = Some (record stopped { state = Giving (outgoing (zeros 45 ∷ zeros 3 ∷ [])) Running 65000 });
+      entry = Some (record stopped { state = SegmentedResponse (outgoing (zeros 45 ∷ zeros 3 ∷ [])) Running 65000 });
       sends = ComplexAck 0 (Some (record { more = true; number = 0; window = 32 })) 7 (zeros 45) ∷ [];
       effect = None;
     })
-    × (serves 65000 (Some stopped) (ConfirmedRequest true 7 0 0 None 12 append) ≡ record
+    × (serves 65000 (Some stopped) (ConfirmedRequest (limits true 7) 0 None 12 append) ≡ record
     { entry = Some stopped; sends = Abort true 0 0 ∷ []; effect = None })
-    × (serves 65000 (Some stopped) (ConfirmedRequest true 7 0 0 None 7 one) ≡ record { entry = Some stopped; sends = Abort true 0 0 ∷ []; effect = None })
+    × (serves 65000 (Some stopped) (ConfirmedRequest (limits true 7) 0 None 7 one) ≡ record { entry = Some stopped; sends = Abort true 0 0 ∷ []; effect = None })
 
 -- so many segments without octets
 abbrev pub empties : ℕ → List Octets
@@ -609,9 +614,9 @@ LongestReassembly =
 -- one octet more: the server sends Abort 1 and drops what was received, and the client sends Abort 1 and ends its ticket
 abbrev pub TooLongTransfers : Type 0
 TooLongTransfers =
-    (serves 0 (Some (record receiving { state = Receiving (holding (zeros 65535 ∷ [])) 0 })) segment_1 ≡ record
+    (serves 0 (Some (record receiving { state = State.SegmentedRequest (holding (zeros 65535 ∷ [])) 0 })) segment_1 ≡ record
     { entry = Some dropped; sends = Abort true 0 1 ∷ []; effect = None })
-    × (hears (record awaiting { phase = Collecting (holding (zeros 65535 ∷ [])) })
+    × (hears (record awaiting { phase = SegmentedConf (holding (zeros 65535 ∷ [])) })
     (ComplexAck 0 (Some (record { more = false; number = 1; window = 32 })) 7 one)
     ≡ Ends (Abort false 0 1 ∷ []) (Aborted 1))
 
@@ -621,11 +626,11 @@ abbrev pub stays_as : Entry → List Apdu → server.Reaction
 stays_as e sends = record { entry = Some e; sends = sends; effect = None }
 
 abbrev pub ticks_entry : ℕ → Entry → server.Reaction
-ticks_entry now e = server_ticks ((rules 32).settings 1) 0 now (Some e)
+ticks_entry now e = server_ticks (server_context (rules 32) key now) (Some e)
 
 -- a request without SEG to an entry that is receiving is ignored; 8,000 after the last segment a tick drops the entry, and sends nothing
-abbrev pub ReceivingSteps : Type 0
-ReceivingSteps =
+abbrev pub SegmentedRequestSteps : Type 0
+SegmentedRequestSteps =
     (serves 0 (Some receiving) append_apdu ≡ stays_as receiving [])
     × (ticks_entry 7999 receiving ≡ stays_as receiving [])
     × (ticks_entry 8000 receiving ≡ stays_as dropped [])
@@ -643,62 +648,62 @@ SegmentedEntry =
 
 -- an entry that gives its reply in two segments, with so many retries left
 abbrev pub giving : (retries : ℕ) → Transfer → (since : ℕ) → Entry
-giving retries transfer since = record done { state = Giving (record (outgoing (zeros 45 ∷ zeros 3 ∷ [])) { retries = retries }) transfer since }
+giving retries transfer since = record done { state = SegmentedResponse (record (outgoing (zeros 45 ∷ zeros 3 ∷ [])) { retries = retries }) transfer since }
 
 abbrev pub given_apdu : Apdu
 given_apdu = ComplexAck 0 (Some (record { more = true; number = 0; window = 32 })) 7 (zeros 45)
 
 -- 2,000 after its window was sent a tick sends it again, or stops the transfer where no retry is left; an Abort of its client finishes it,
 -- and then a tick, a SegmentACK and a copy of the request do nothing
-abbrev pub GivingSteps : Type 0
-GivingSteps =
+abbrev pub SegmentedResponseSteps : Type 0
+SegmentedResponseSteps =
     (ticks_entry 1999 (giving 3 Running 0) ≡ stays_as (giving 3 Running 0) [])
     × (ticks_entry 2000 (giving 3 Running 0) ≡ stays_as (giving 2 Running 2000) (given_apdu ∷ []))
     × (ticks_entry 2000 (giving 0 Running 0) ≡ stays_as (giving 0 Stopped 0) [])
     × (serves 0 (Some (giving 3 Running 0)) append_apdu ≡ stays_as (giving 3 Running 0) [])
     × (serves 0 (Some (giving 3 Running 0)) (Abort false 0 0) ≡ stays_as (giving 3 Finished 0) [])
     × (ticks_entry 2000 (giving 3 Finished 0) ≡ stays_as (giving 3 Finished 0) [])
-    × (serves 0 (Some (giving 3 Finished 0)) (SegmentAck false false 0 0 32) ≡ stays_as (giving 3 Finished 0) [])
+    × (serves 0 (Some (giving 3 Finished 0)) (SegmentAck false 0 (record { nak = false; number = 0; window = 32 })) ≡ stays_as (giving 3 Finished 0) [])
     × (serves 0 (Some (giving 3 Finished 0)) append_apdu ≡ stays_as (giving 3 Finished 0) [])
 
--- a Reject and a server's Abort end a ticket; a client that takes no segments ignores segment 0 of an answer
+-- a Reject and a server's Abort end a ticket; a client that takes no segments ignores segment 0 of a reply
 abbrev pub Refusals : Type 0
 Refusals =
     (hears awaiting (Reject 0 9) ≡ Ends [] (Rejected 9))
     × (hears sending (Abort true 0 4) ≡ Ends [] (Aborted 4))
     × (hears awaiting (Abort false 0 4) ≡ Stays)
-    × (client_gets ((rules_of false 7).settings 0) (λ choice octets. true) 0 0 awaiting given_apdu ≡ Stays)
+    × (client_gets (client_context (rules_of false 7) key 0) (λ choice octets. true) awaiting given_apdu ≡ Stays)
 
--- a ticket whose request went so, and which has segment 0 of its answer
+-- a ticket whose request went so, and which has segment 0 of its reply
 abbrev pub collecting : Ticket → Ticket
-collecting t = record t { phase = Collecting (holding (one ∷ [])) }
+collecting t = record t { phase = SegmentedConf (holding (one ∷ [])) }
 
-abbrev pub last_of_answer : Apdu
-last_of_answer = ComplexAck 0 (Some (record { more = false; number = 1; window = 32 })) 7 two
+abbrev pub last_of_reply : Apdu
+last_of_reply = ComplexAck 0 (Some (record { more = false; number = 1; window = 32 })) 7 two
 
--- the last segment of an answer that can't be read is acknowledged, and then gets Abort 0
+-- the last segment of a reply that can't be read is acknowledged, and then gets Abort 0
 abbrev pub UnreadableSegments : Type 0
 UnreadableSegments =
-    client_gets ((rules 32).settings 0) (λ choice octets. false) 0 0 (collecting awaiting) last_of_answer
-    ≡ Ends (SegmentAck false false 0 1 32 ∷ Abort false 0 0 ∷ []) (Aborted 0)
+    client_gets (at 0) (λ choice octets. false) (collecting awaiting) last_of_reply
+    ≡ Ends (SegmentAck false 0 (record { nak = false; number = 1; window = 32 }) ∷ Abort false 0 0 ∷ []) (Aborted 0)
 
 abbrev pub ticks_ticket : ℕ → Ticket → Reaction
-ticks_ticket now t = client_ticks ((rules 32).settings 0) 0 now t
+ticks_ticket now t = client_ticks (at now) t
 
 -- a ticket that sends segment 0 of three, with so many retries left
 abbrev pub sending_with : (retries : ℕ) → Ticket
-sending_with retries = record sending { phase = Sending (record (outgoing (one ∷ two ∷ three ∷ [])) { retries = retries }) false }
+sending_with retries = record sending { phase = Phase.SegmentedRequest (record (outgoing (one ∷ two ∷ three ∷ [])) { retries = retries }) false }
 
--- 2,000 after its window was sent a tick sends it again, or ends the ticket where no retry is left; 8,000 after the last segment of an answer
+-- 2,000 after its window was sent a tick sends it again, or ends the ticket where no retry is left; 8,000 after the last segment of a reply
 -- a whole request is sent again, and one in segments is not
 abbrev pub TimeOuts : Type 0
 TimeOuts =
     (ticks_ticket 1999 (sending_with 3) ≡ Stays)
     × (ticks_ticket 2000 (sending_with 3)
-    ≡ GoesOn (Sending (record (outgoing (one ∷ two ∷ three ∷ [])) { retries = 2 }) false) (segment_0 ∷ []))
+    ≡ GoesOn (Phase.SegmentedRequest (record (outgoing (one ∷ two ∷ three ∷ [])) { retries = 2 }) false) (segment_0 ∷ []))
     × (ticks_ticket 2000 (sending_with 0) ≡ Ends [] TimedOut)
     × (ticks_ticket 7999 (collecting awaiting) ≡ Stays)
-    × (ticks_ticket 8000 (collecting awaiting) ≡ Repeats (Collecting (holding (one ∷ []))) (append_apdu ∷ []))
+    × (ticks_ticket 8000 (collecting awaiting) ≡ Repeats (SegmentedConf (holding (one ∷ []))) (append_apdu ∷ []))
     × (ticks_ticket 8000 (record (collecting awaiting) { repeats = 0 }) ≡ Ends [] TimedOut)
     × (ticks_ticket 8000 (collecting sending) ≡ Ends [] TimedOut)
 
@@ -722,7 +727,7 @@ IsAnsweredAfter sent octets p s =
 abbrev pub LongReply : Type 0
 LongReply = IsAnsweredAfter 95 append (Complex (zeros 4013)) (shows 32 (Complex (zeros 4013)) (ask_append ∷ in_order 0 94))
 
--- 312 deliveries for a request of 300 pieces: 300 segments, 11 SegmentACKs and the answer
+-- 312 deliveries for a request of 300 pieces: 300 segments, 11 SegmentACKs and the reply
 abbrev pub LongRequest : Type 0
 LongRequest =
     IsAnsweredAfter 312 (join ((0 ∷ 0 ∷ []) ∷ pieces 299 1)) position (shows 32 position (MakeAsk key 7 false (0 ∷ 0 ∷ []) (pieces 299 1) ∷ in_order 0 312))

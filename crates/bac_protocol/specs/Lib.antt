@@ -1,4 +1,5 @@
 pub mod Times
+pub mod Context
 pub mod Sizes
 pub mod Service
 pub mod Wire
@@ -13,3 +14,5 @@ pub mod Straight
 pub mod Steps
 pub mod Examples
 pub mod Beyond
+pub mod Moves
+pub mod Short

@@ -1,44 +1,41 @@
 -- The server's transaction state machine (clause 5.4.5) over its reply table (own rule of this profile): what each event makes of one entry.
-use Rattle.std.specs.Prelude.{ℕ, ◌+◌, ◌-◌, ◌%◌, Bool, true, false, ◌&&◌, not, is_some, List, [], ◌∷◌, ◌++◌, length, Option, Some, None}
+use Rattle.std.specs.Prelude.{ℕ, ◌-◌, ◌%◌, Bool, true, false, ◌&&◌, not, is_some, List, [], ◌∷◌, ◌++◌, length, Option, Some, None}
 use Rattle.std.specs.Prelude.{if◌then◌else◌, nat_eq, nat_le}
 use Rattle.std.specs.Str.{bytes_eq}
-use Rattle.bac_apdu.specs.Apdu.{Apdu, Apdu as apdu, Segment}
+use Rattle.bac_apdu.specs.Apdu.{Apdu, Apdu as apdu, Limits, Segment}
 use Rattle.bac_apdu.specs.Apdu.Apdu.{ConfirmedRequest, SimpleAck, ComplexAck, SegmentAck, Reject, Abort}
-use Rattle.bac_segment.specs.Pieces.{join, piece_at, pieces_of}
+use Rattle.bac_segment.specs.Pieces.{join, piece_at}
 use Rattle.bac_segment.specs.Window.{Outgoing, outgoing, in_window, is_finished, acknowledged, again, resume, Incoming, incoming, Taking, takes}
-use Rattle.bac_segment.specs.Window.Taking.{Taken, Complete, Nak, TooLong}
+use Rattle.bac_segment.specs.Window.Taking.{Taken, Whole, Nak, TooLong}
 use Rattle.bac_protocol.specs.Times.{T_SEG, WAIT_SEG, KEEP}
-use Rattle.bac_protocol.specs.Sizes.{Settings, allows_segments, transfer_size}
-use Rattle.bac_protocol.specs.Service.{Octets, Request, Reply, Outcome}
+use Rattle.bac_protocol.specs.Context.{Context}
+use Rattle.bac_protocol.specs.Sizes.{Way, reply_way_of}
+use Rattle.bac_protocol.specs.Sizes.Way.{InOne, InSegments, Refused}
+use Rattle.bac_protocol.specs.Service.{Octets, Request, Reply, OTHER, BUFFER_OVERFLOW, Outcome}
 use Rattle.bac_protocol.specs.Service.Reply.{Simple, Complex, Error}
 use Rattle.bac_protocol.specs.Service.Outcome.{Replies, Rejects}
 use Rattle.bac_protocol.specs.Wire.{segment_of, pieces_from}
 
--- what a request says beside its service data; of a request in segments segment 0 says it
-pub record Terms : Type 0 where
-  pub choice : ℕ
-  pub takes_segments : Bool
-  pub max_segments : ℕ
-  pub max_apdu : ℕ
-
--- the transfer of a reply in pieces
+-- the transfer of a reply in segments
 pub data Transfer : Type 0 where
   Running : Transfer
   Stopped : Transfer
   Finished : Transfer
 
--- the states of an entry: a request is being received; done, with a kept reply of one APDU, or with one in pieces; dropped.
--- A moment is that of the last segment that arrived, or the one from which the timer runs.
+-- the states of an entry: SEGMENTED_REQUEST; done, with a kept reply of one APDU; SEGMENTED_RESPONSE, done too, with a kept reply in segments; dropped.
+-- Done and Dropped are the reply table's own. A moment is that of the last segment that arrived, or the one from which the timer runs.
 pub data State : Type 0 where
-  Receiving : (inc : Incoming) (since : ℕ) → State
+  SegmentedRequest : (inc : Incoming) (since : ℕ) → State
   Done : (kept : Apdu) → State
-  Giving : (out : Outgoing) (transfer : Transfer) (since : ℕ) → State
+  SegmentedResponse : (out : Outgoing) (transfer : Transfer) (since : ℕ) → State
   Dropped : State
 
--- an entry of the reply table; it keeps the service data of a request that came without SEG
+-- an entry of the reply table: the moment of the request's first copy, what the request says beside its service data (in segments, its segment 0),
+-- the service data of a request that came without SEG, and the state
 pub record Entry : Type 0 where
   pub begin : ℕ
-  pub terms : Terms
+  pub choice : ℕ
+  pub limits : Limits
   pub request : Option Octets
   pub state : State
 
@@ -76,205 +73,194 @@ rests entry sends = record { entry = entry; sends = sends; effect = None }
 abbrev pub becomes : Entry → State → List Apdu → Reaction
 becomes e state sends = rests (Some (record e { state = state })) sends
 
--- what a server sends as Abort 0
-abbrev pub abort_0 : (id : ℕ) → Apdu
-abort_0 id = Abort true id 0
+-- a server's Abort
+abbrev pub server_abort : Context → (reason : ℕ) → Apdu
+server_abort c reason = Abort true c.invoke_id reason
 
 -- a server's SegmentACK
-abbrev pub server_ack : (nak : Bool) (id number window : ℕ) → Apdu
-server_ack nak id number window = SegmentAck nak true id number window
+abbrev pub server_ack : Context → (nak : Bool) (number window : ℕ) → Apdu
+server_ack c nak number window = SegmentAck true c.invoke_id (record { nak = nak; number = number; window = window })
 
 -- The reply.
 
 -- a reply of one APDU (clause 5.4.5.3)
-abbrev pub reply_apdu : (id choice : ℕ) → Reply → Apdu
-reply_apdu id choice Simple = SimpleAck id choice
-reply_apdu id choice (Complex service) = ComplexAck id None choice service
-reply_apdu id choice (Error class code) = apdu.Error id choice class code
+abbrev pub reply_apdu : Context → (choice : ℕ) → Reply → Apdu
+reply_apdu c choice Simple = SimpleAck c.invoke_id choice
+reply_apdu c choice (Complex service) = ComplexAck c.invoke_id None choice service
+reply_apdu c choice (Error class code) = apdu.Error c.invoke_id choice class code
 
 -- piece n of a reply
-abbrev pub reply_piece : Settings → (id choice : ℕ) → List Octets → ℕ → Apdu
-reply_piece c id choice pieces n = ComplexAck id (Some (segment_of c.window pieces n)) choice (piece_at pieces n)
+abbrev pub reply_piece : Context → (choice : ℕ) → List Octets → ℕ → Apdu
+reply_piece c choice pieces n = ComplexAck c.invoke_id (Some (segment_of c.settings.window pieces n)) choice (piece_at pieces n)
 
 -- the window of a reply
-abbrev pub reply_window : Settings → (id choice : ℕ) → Outgoing → List Apdu
-reply_window c id choice out = pieces_from (reply_piece c id choice out.pieces) out.first (in_window out)
-
--- how a reply reaches its client: in one APDU, in pieces, or not at all, for that reason of an Abort
-pub data Way : Type 0 where
-  AtOnce : Way
-  InPieces : (pieces : List Octets) → Way
-  Unsendable : (reason : ℕ) → Way
-
--- the service data of a ComplexACK go in one APDU where they and 3 octets fit, otherwise in pieces of size - 5;
--- 4 is segmentation-not-supported, 1 is buffer-overflow
-abbrev pub way_in_pieces : Terms → List Octets → Way
-way_in_pieces terms pieces =
-    if not terms.takes_segments then Unsendable 4
-    else if allows_segments terms.max_segments (length pieces) then InPieces pieces
-    else Unsendable 1
-
-abbrev pub way_of_data : (size : ℕ) → Terms → Octets → Way
-way_of_data size terms service = if nat_le (length service + 3) size then AtOnce else way_in_pieces terms (pieces_of (size - 5) service)
-
-abbrev pub way_of : Settings → Terms → Reply → Way
-way_of c terms Simple = AtOnce
-way_of c terms (Complex service) = way_of_data (transfer_size c.max_apdu terms.max_apdu) terms service
-way_of c terms (Error class code) = AtOnce
+abbrev pub reply_window : Context → (choice : ℕ) → Outgoing → List Apdu
+reply_window c choice out = pieces_from (reply_piece c choice out.pieces) out.first (in_window out)
 
 abbrev pub effect_of : Entry → Octets → Reply → Option Effect
-effect_of e octets reply = Some (record { request = record { choice = e.terms.choice; service = octets }; reply = reply })
+effect_of e octets reply = Some (record { request = record { choice = e.choice; service = octets }; reply = reply })
 
 -- AWAIT_RESPONSE (clause 5.4.5.3), which lasts no time (own rule of this profile): the request is performed in that entry, after these sends; where
 -- its reply can't be sent, it is not
-abbrev pub gives : Settings → (id now : ℕ) → Entry → List Apdu → Octets → Reply → Way → Reaction
-gives c id now e sends octets reply AtOnce =
+abbrev pub sends_reply : Context → Entry → List Apdu → Octets → Reply → Way ℕ → Reaction
+sends_reply c e sends octets reply InOne =
     record {
-      entry = Some (record e { state = Done (reply_apdu id e.terms.choice reply) });
-      sends = sends ++ reply_apdu id e.terms.choice reply ∷ [];
+      entry = Some (record e { state = Done (reply_apdu c e.choice reply) });
+      sends = sends ++ reply_apdu c e.choice reply ∷ [];
       effect = effect_of e octets reply;
     }
-gives c id now e sends octets reply (InPieces pieces) =
+sends_reply c e sends octets reply (InSegments pieces) =
     record {
-      entry = Some (record e { state = Giving (outgoing pieces) Running now });
-      sends = sends ++ reply_piece c id e.terms.choice pieces 0 ∷ [];
+      entry = Some (record e { state = SegmentedResponse (outgoing pieces) Running c.now });
+      sends = sends ++ reply_piece c e.choice pieces 0 ∷ [];
       effect = effect_of e octets reply;
     }
-gives c id now e sends octets reply (Unsendable reason) = becomes e (Done (Abort true id reason)) (sends ++ Abort true id reason ∷ [])
+sends_reply c e sends octets reply (Refused reason) = becomes e (Done (server_abort c reason)) (sends ++ server_abort c reason ∷ [])
 
-abbrev pub performs_so : Settings → (id now : ℕ) → Entry → List Apdu → Octets → Outcome → Reaction
-performs_so c id now e sends octets (Replies reply) = gives c id now e sends octets reply (way_of c e.terms reply)
-performs_so c id now e sends octets (Rejects reason) = becomes e (Done (Reject id reason)) (sends ++ Reject id reason ∷ [])
+abbrev pub performs_so : Context → Entry → List Apdu → Octets → Outcome → Reaction
+performs_so c e sends octets (Replies reply) = sends_reply c e sends octets reply (reply_way_of c.settings e.limits reply)
+performs_so c e sends octets (Rejects reason) = becomes e (Done (Reject c.invoke_id reason)) (sends ++ Reject c.invoke_id reason ∷ [])
 
-abbrev pub performs : Settings → (id now : ℕ) → Service → Entry → List Apdu → Octets → Reaction
-performs c id now service e sends octets = performs_so c id now e sends octets (service e.terms.choice octets)
+abbrev pub performs : Context → Service → Entry → List Apdu → Octets → Reaction
+performs c service e sends octets = performs_so c e sends octets (service e.choice octets)
 
 -- The request.
 
--- a segment of the request came (clause 5.4.5.2): its number, and what was taken; the actual window is that of the reassembly it came to
-abbrev pub receives : Settings → (id now : ℕ) → Service → Entry → (number window : ℕ) → Taking → Reaction
-receives c id now service e number window (Taken true inc) = becomes e (Receiving inc now) (server_ack false id number window ∷ [])
-receives c id now service e number window (Taken false inc) = becomes e (Receiving inc now) []
-receives c id now service e number window (Complete parts) = performs c id now service e (server_ack false id number window ∷ []) (join parts)
-receives c id now service e number window (Nak inc) = becomes e (Receiving inc now) (server_ack true id ((length inc.parts - 1) % 256) window ∷ [])
-receives c id now service e number window TooLong = becomes e Dropped (Abort true id 1 ∷ [])
+-- a segment of it came (clause 5.4.5.2): its number, and what was taken; the actual window is that of the reassembly it came to
+abbrev pub request_segment_taken : Context → Service → Entry → (number window : ℕ) → Taking → Reaction
+request_segment_taken c service e number window (Taken true inc) = becomes e (SegmentedRequest inc c.now) (server_ack c false number window ∷ [])
+request_segment_taken c service e number window (Taken false inc) = becomes e (SegmentedRequest inc c.now) []
+request_segment_taken c service e number window (Whole parts) = performs c service e (server_ack c false number window ∷ []) (join parts)
+request_segment_taken c service e number window (Nak inc) =
+    becomes e (SegmentedRequest inc c.now) (server_ack c true ((length inc.parts - 1) % 256) window ∷ [])
+request_segment_taken c service e number window TooLong = becomes e Dropped (server_abort c BUFFER_OVERFLOW ∷ [])
 
 -- an entry that begins now
-abbrev pub begins : ℕ → Terms → Option Octets → Entry
-begins now terms request = record { begin = now; terms = terms; request = request; state = Dropped }
+abbrev pub begins : Context → (choice : ℕ) → Limits → Option Octets → Entry
+begins c choice limits request = record { begin = c.now; choice = choice; limits = limits; request = request; state = Dropped }
 
 -- IDLE (clause 5.4.5.1).
 
 -- no entry is live: a request without SEG is performed, where a slot is free
-abbrev pub new_request : Settings → (id now : ℕ) → Service → (dead : Option Entry) → (free : Bool) → Terms → Octets → Reaction
-new_request c id now service dead free terms octets =
-    if free then performs c id now service (begins now terms (Some octets)) [] octets else rests dead (abort_0 id ∷ [])
+abbrev pub idle_gets_request : Context → Service → (dead : Option Entry) → (free : Bool) → (choice : ℕ) → Limits → Octets → Reaction
+idle_gets_request c service dead free choice limits octets =
+    if free then performs c service (begins c choice limits (Some octets)) [] octets else rests dead (server_abort c OTHER ∷ [])
 
 -- no entry is live: segment 0 begins one, where a slot is free; any other segment is dropped (own rule of this profile)
-abbrev pub new_segment : Settings → (id now : ℕ) → Service → (dead : Option Entry) → (free : Bool) → Terms → Segment → Octets → Reaction
-new_segment c id now service dead free terms segment octets =
-    let inc = incoming c.window segment.window in
+abbrev pub idle_gets_segment : Context → Service → (dead : Option Entry) → (free : Bool) → (choice : ℕ) → Limits → Segment → Octets → Reaction
+idle_gets_segment c service dead free choice limits segment octets =
+    let inc = incoming c.settings.window segment.window in
     if not (nat_eq segment.number 0) then rests dead []
-    else if free then receives c id now service (begins now terms None) segment.number inc.window (takes inc segment.number segment.more octets)
-    else rests dead (abort_0 id ∷ [])
+    else if free
+    then request_segment_taken c service (begins c choice limits None) segment.number inc.window (takes inc segment.number segment.more octets)
+    else rests dead (server_abort c OTHER ∷ [])
 
-abbrev pub new_gets : Settings → (id now : ℕ) → Service → (dead : Option Entry) → (free : Bool) → Apdu → Reaction
-new_gets c id now service dead free (ConfirmedRequest takes_segments max_segments max_apdu invoke None choice octets) =
-    new_request c id now service dead free (record { choice = choice; takes_segments = takes_segments; max_segments = max_segments; max_apdu = max_apdu })
-    octets
-new_gets c id now service dead free (ConfirmedRequest takes_segments max_segments max_apdu invoke (Some segment) choice octets) =
-    new_segment c id now service dead free (record { choice = choice; takes_segments = takes_segments; max_segments = max_segments; max_apdu = max_apdu })
-    segment octets
-new_gets c id now service dead free _ = rests dead []
+abbrev pub idle_gets : Context → Service → (dead : Option Entry) → (free : Bool) → Apdu → Reaction
+idle_gets c service dead free (ConfirmedRequest limits invoke_id None choice octets) = idle_gets_request c service dead free choice limits octets
+idle_gets c service dead free (ConfirmedRequest limits invoke_id (Some segment) choice octets) =
+    idle_gets_segment c service dead free choice limits segment octets
+idle_gets c service dead free _ = rests dead []
 
 -- SEGMENTED_REQUEST (clause 5.4.5.2): a segment that comes WAIT_SEG after the last one, or later, ends the reassembly, which is remembered as dropped
 -- (own rule of this profile); a request without SEG is ignored
-abbrev pub receiving_segment : Settings → (id now : ℕ) → Service → Entry → Incoming → (since : ℕ) → Segment → Octets → Reaction
-receiving_segment c id now service e inc since segment octets =
-    if nat_le WAIT_SEG (now - since) then becomes e Dropped (abort_0 id ∷ [])
-    else receives c id now service e segment.number inc.window (takes inc segment.number segment.more octets)
+abbrev pub segmented_request_gets_segment : Context → Service → Entry → Incoming → (since : ℕ) → Segment → Octets → Reaction
+segmented_request_gets_segment c service e inc since segment octets =
+    if nat_le WAIT_SEG (c.now - since) then becomes e Dropped (server_abort c OTHER ∷ [])
+    else request_segment_taken c service e segment.number inc.window (takes inc segment.number segment.more octets)
 
-abbrev pub receiving_gets : Settings → (id now : ℕ) → Service → Entry → Incoming → (since : ℕ) → Apdu → Reaction
-receiving_gets c id now service e inc since (ConfirmedRequest takes_segments max_segments max_apdu invoke (Some segment) choice octets) =
-    receiving_segment c id now service e inc since segment octets
-receiving_gets c id now service e inc since (Abort false invoke reason) = becomes e Dropped []
-receiving_gets c id now service e inc since _ = rests (Some e) []
+abbrev pub segmented_request_gets : Context → Service → Entry → Incoming → (since : ℕ) → Apdu → Reaction
+segmented_request_gets c service e inc since (ConfirmedRequest limits invoke_id (Some segment) choice octets) =
+    segmented_request_gets_segment c service e inc since segment octets
+segmented_request_gets c service e inc since (Abort false invoke_id reason) = becomes e Dropped []
+segmented_request_gets c service e inc since _ = rests (Some e) []
 
 -- Done: a reply that is kept and given again is an own rule of this profile, but for its transfer in segments (SEGMENTED_RESPONSE, clause 5.4.5.4).
 
 -- whether a request without SEG is the kept one; none is kept where the entry began with a segment
 abbrev pub is_kept : Entry → Option Octets → (choice : ℕ) → Octets → Bool
 is_kept e None choice octets = false
-is_kept e (Some kept) choice octets = nat_eq choice e.terms.choice && bytes_eq octets kept
+is_kept e (Some kept) choice octets = nat_eq choice e.choice && bytes_eq octets kept
 
 -- done, with a kept reply of one APDU: it is sent again, to the kept request or to a segment where the entry began with one
-abbrev pub done_gets : (id : ℕ) → Entry → (kept : Apdu) → Apdu → Reaction
-done_gets id e kept (ConfirmedRequest takes_segments max_segments max_apdu invoke None choice octets) =
-    rests (Some e) ((if is_kept e e.request choice octets then kept else abort_0 id) ∷ [])
-done_gets id e kept (ConfirmedRequest takes_segments max_segments max_apdu invoke (Some segment) choice octets) =
-    rests (Some e) ((if is_some e.request then abort_0 id else kept) ∷ [])
-done_gets id e kept _ = rests (Some e) []
+abbrev pub done_gets : Context → Entry → (kept : Apdu) → Apdu → Reaction
+done_gets c e kept (ConfirmedRequest limits invoke_id None choice octets) =
+    rests (Some e) ((if is_kept e e.request choice octets then kept else server_abort c OTHER) ∷ [])
+done_gets c e kept (ConfirmedRequest limits invoke_id (Some segment) choice octets) =
+    rests (Some e) ((if is_some e.request then server_abort c OTHER else kept) ∷ [])
+done_gets c e kept _ = rests (Some e) []
 
 -- the window of a reply is sent (clause 5.4.5.4)
-abbrev pub gives_window : Settings → (id now : ℕ) → Entry → Outgoing → Reaction
-gives_window c id now e out = becomes e (Giving out Running now) (reply_window c id e.terms.choice out)
+abbrev pub sends_reply_window : Context → Entry → Outgoing → Reaction
+sends_reply_window c e out = becomes e (SegmentedResponse out Running c.now) (reply_window c e.choice out)
 
 -- a copy of the request sets a stopped transfer going again, with full retries; a running or finished one stays (own rule of this profile)
-abbrev pub resumes : Settings → (id now : ℕ) → Entry → Outgoing → Transfer → Reaction
-resumes c id now e out Stopped = gives_window c id now e (resume out)
-resumes c id now e out Running = rests (Some e) []
-resumes c id now e out Finished = rests (Some e) []
+abbrev pub resumes : Context → Entry → Outgoing → Transfer → Reaction
+resumes c e out Stopped = sends_reply_window c e (resume out)
+resumes c e out Running = rests (Some e) []
+resumes c e out Finished = rests (Some e) []
 
 -- a SegmentACK of the reply's segments (clause 5.4.5.4): Ignored, Finished or Moved
-abbrev pub gives_on : Settings → (id now : ℕ) → Entry → Option Outgoing → Reaction
-gives_on c id now e None = rests (Some e) []
-gives_on c id now e (Some out) = if is_finished out then becomes e (Giving out Finished now) [] else gives_window c id now e out
+abbrev pub moves_reply_window : Context → Entry → Option Outgoing → Reaction
+moves_reply_window c e None = rests (Some e) []
+moves_reply_window c e (Some out) = if is_finished out then becomes e (SegmentedResponse out Finished c.now) [] else sends_reply_window c e out
 
-abbrev pub giving_gets_ack : Settings → (id now : ℕ) → Entry → Outgoing → Transfer → (number window : ℕ) → Reaction
-giving_gets_ack c id now e out Running number window = gives_on c id now e (acknowledged c.window out number window)
-giving_gets_ack c id now e out Stopped number window = rests (Some e) []
-giving_gets_ack c id now e out Finished number window = rests (Some e) []
+abbrev pub segmented_response_gets_ack : Context → Entry → Outgoing → Transfer → (number window : ℕ) → Reaction
+segmented_response_gets_ack c e out Running number window = moves_reply_window c e (acknowledged c.settings.window out number window)
+segmented_response_gets_ack c e out Stopped number window = rests (Some e) []
+segmented_response_gets_ack c e out Finished number window = rests (Some e) []
 
--- done, with a reply in pieces; an Abort of its client finishes the transfer (clause 5.4.5.4)
-abbrev pub giving_gets : Settings → (id now : ℕ) → Entry → Outgoing → Transfer → (since : ℕ) → Apdu → Reaction
-giving_gets c id now e out transfer since (ConfirmedRequest takes_segments max_segments max_apdu invoke None choice octets) =
-    if is_kept e e.request choice octets then resumes c id now e out transfer else rests (Some e) (abort_0 id ∷ [])
-giving_gets c id now e out transfer since (ConfirmedRequest takes_segments max_segments max_apdu invoke (Some segment) choice octets) =
-    if is_some e.request then rests (Some e) (abort_0 id ∷ []) else resumes c id now e out transfer
-giving_gets c id now e out transfer since (SegmentAck nak false invoke number window) = giving_gets_ack c id now e out transfer number window
-giving_gets c id now e out transfer since (Abort false invoke reason) = becomes e (Giving out Finished since) []
-giving_gets c id now e out transfer since _ = rests (Some e) []
+-- SEGMENTED_RESPONSE (clause 5.4.5.4): an Abort of its client finishes the transfer
+abbrev pub segmented_response_gets : Context → Entry → Outgoing → Transfer → (since : ℕ) → Apdu → Reaction
+segmented_response_gets c e out transfer since (ConfirmedRequest limits invoke_id None choice octets) =
+    if is_kept e e.request choice octets then resumes c e out transfer else rests (Some e) (server_abort c OTHER ∷ [])
+segmented_response_gets c e out transfer since (ConfirmedRequest limits invoke_id (Some segment) choice octets) =
+    if is_some e.request then rests (Some e) (server_abort c OTHER ∷ []) else resumes c e out transfer
+segmented_response_gets c e out transfer since (SegmentAck false invoke_id ack) = segmented_response_gets_ack c e out transfer ack.number ack.window
+segmented_response_gets c e out transfer since (Abort false invoke_id reason) = becomes e (SegmentedResponse out Finished since) []
+segmented_response_gets c e out transfer since _ = rests (Some e) []
 
--- dropped: each request and each segment gets Abort 0 (own rule of this profile)
-abbrev pub dropped_gets : (id : ℕ) → Entry → Apdu → Reaction
-dropped_gets id e (ConfirmedRequest takes_segments max_segments max_apdu invoke segment choice octets) = rests (Some e) (abort_0 id ∷ [])
-dropped_gets id e _ = rests (Some e) []
+-- dropped: each request and each segment gets an Abort (own rule of this profile)
+abbrev pub dropped_gets : Context → Entry → Apdu → Reaction
+dropped_gets c e (ConfirmedRequest limits invoke_id segment choice octets) = rests (Some e) (server_abort c OTHER ∷ [])
+dropped_gets c e _ = rests (Some e) []
 
-abbrev pub live_gets : Settings → (id now : ℕ) → Service → Entry → State → Apdu → Reaction
-live_gets c id now service e (Receiving inc since) apdu = receiving_gets c id now service e inc since apdu
-live_gets c id now service e (Done kept) apdu = done_gets id e kept apdu
-live_gets c id now service e (Giving out transfer since) apdu = giving_gets c id now e out transfer since apdu
-live_gets c id now service e Dropped apdu = dropped_gets id e apdu
+abbrev pub live_gets : Context → Service → Entry → State → Apdu → Reaction
+live_gets c service e (SegmentedRequest inc since) apdu = segmented_request_gets c service e inc since apdu
+live_gets c service e (Done kept) apdu = done_gets c e kept apdu
+live_gets c service e (SegmentedResponse out transfer since) apdu = segmented_response_gets c e out transfer since apdu
+live_gets c service e Dropped apdu = dropped_gets c e apdu
 
 -- an APDU comes for the entry's peer and invoke ID; free says whether a slot of the reply table has no live entry
-abbrev pub server_gets : Settings → (id now : ℕ) → Service → Option Entry → (free : Bool) → Apdu → Reaction
-server_gets c id now service None free apdu = new_gets c id now service None free apdu
-server_gets c id now service (Some e) free apdu =
-    if is_live now e then live_gets c id now service e e.state apdu else new_gets c id now service (Some e) free apdu
+abbrev pub server_gets : Context → Service → Option Entry → (free : Bool) → Apdu → Reaction
+server_gets c service None free apdu = idle_gets c service None free apdu
+server_gets c service (Some e) free apdu =
+    if is_live c.now e then live_gets c service e e.state apdu else idle_gets c service (Some e) free apdu
 
 -- Time.
 
--- T_SEG is due (clause 5.4.5.4): Again or, where it is given up, a transfer that stops and can go on (own rule of this profile)
-abbrev pub gives_again : Settings → (id now : ℕ) → Entry → Outgoing → (since : ℕ) → Option Outgoing → Reaction
-gives_again c id now e out since None = becomes e (Giving out Stopped since) []
-gives_again c id now e out since (Some next) = gives_window c id now e next
+-- the window is sent again or, where no retry is left, the transfer stops and can go on (that is an own rule of this profile)
+abbrev pub sends_reply_again : Context → Entry → Outgoing → (since : ℕ) → Option Outgoing → Reaction
+sends_reply_again c e out since None = becomes e (SegmentedResponse out Stopped since) []
+sends_reply_again c e out since (Some next) = sends_reply_window c e next
 
-abbrev pub live_ticks : Settings → (id now : ℕ) → Entry → State → Reaction
-live_ticks c id now e (Receiving inc since) = if nat_le WAIT_SEG (now - since) then becomes e Dropped [] else rests (Some e) []
-live_ticks c id now e (Giving out Running since) = if nat_le T_SEG (now - since) then gives_again c id now e out since (again out) else rests (Some e) []
-live_ticks c id now e _ = rests (Some e) []
+-- SEGMENTED_REQUEST (clause 5.4.5.2)
+abbrev pub segmented_request_ticks : Context → Entry → (since : ℕ) → Reaction
+segmented_request_ticks c e since = if nat_le WAIT_SEG (c.now - since) then becomes e Dropped [] else rests (Some e) []
+
+-- SEGMENTED_RESPONSE (clause 5.4.5.4)
+abbrev pub segmented_response_ticks : Context → Entry → Outgoing → Transfer → (since : ℕ) → Reaction
+segmented_response_ticks c e out Running since =
+    if nat_le T_SEG (c.now - since) then sends_reply_again c e out since (again out) else rests (Some e) []
+segmented_response_ticks c e out Stopped since = rests (Some e) []
+segmented_response_ticks c e out Finished since = rests (Some e) []
+
+abbrev pub live_ticks : Context → Entry → State → Reaction
+live_ticks c e (SegmentedRequest inc since) = segmented_request_ticks c e since
+live_ticks c e (Done kept) = rests (Some e) []
+live_ticks c e (SegmentedResponse out transfer since) = segmented_response_ticks c e out transfer since
+live_ticks c e Dropped = rests (Some e) []
 
 -- a tick; an entry that is not live sends nothing
-abbrev pub server_ticks : Settings → (id now : ℕ) → Option Entry → Reaction
-server_ticks c id now None = rests None []
-server_ticks c id now (Some e) = if is_live now e then live_ticks c id now e e.state else rests (Some e) []
+abbrev pub server_ticks : Context → Option Entry → Reaction
+server_ticks c None = rests None []
+server_ticks c (Some e) = if is_live c.now e then live_ticks c e e.state else rests (Some e) []

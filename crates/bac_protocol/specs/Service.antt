@@ -20,6 +20,16 @@ pub data Outcome : Type 0 where
   Replies : (reply : Reply) → Outcome
   Rejects : (reason : ℕ) → Outcome
 
+-- reasons of an Abort (clause 18.10)
+abbrev pub OTHER : ℕ
+OTHER = 0
+
+abbrev pub BUFFER_OVERFLOW : ℕ
+BUFFER_OVERFLOW = 1
+
+abbrev pub SEGMENTATION_NOT_SUPPORTED : ℕ
+SEGMENTATION_NOT_SUPPORTED = 4
+
 -- how a ticket ends
 pub data Ending : Type 0 where
   Answered : (reply : Reply) → Ending

@@ -1,15 +1,11 @@
--- What an end says of itself, and what fits into its APDUs (clauses 20.1.2.4, 20.1.2.5 and 5.2).
-use Rattle.std.specs.Prelude.{ℕ, ◌+◌, ◌-◌, ◌^◌, min, Bool, ◌&&◌, ◌||◌, if◌then◌else◌, nat_eq, nat_lt, nat_le, List, length}
+-- What fits into the APDUs of a transfer, and so how data go (clauses 20.1.2.4, 20.1.2.5 and 5.2).
+use Rattle.std.specs.Prelude.{ℕ, ◌+◌, ◌-◌, ◌^◌, min, Bool, not, ◌&&◌, ◌||◌, if◌then◌else◌, nat_eq, nat_lt, nat_le, List, length}
+use Rattle.bac_apdu.specs.Apdu.{Limits}
 use Rattle.bac_segment.specs.Limits.{DATA}
 use Rattle.bac_segment.specs.Pieces.{pieces_of}
-use Rattle.bac_protocol.specs.Service.{Octets}
-
--- what a node is set to
-pub record Settings : Type 0 where
-  pub window : ℕ  -- the greatest window that it proposes or grants
-  pub takes_segments : Bool  -- whether it takes replies in segments
-  pub max_segments : ℕ  -- the code of how many segments it takes
-  pub max_apdu : ℕ  -- the code of its greatest APDU
+use Rattle.bac_protocol.specs.Context.{Settings}
+use Rattle.bac_protocol.specs.Service.{Octets, Reply, BUFFER_OVERFLOW, SEGMENTATION_NOT_SUPPORTED}
+use Rattle.bac_protocol.specs.Service.Reply.{Simple, Complex, Error}
 
 -- the octets that a code of max APDU stands for (codes above 5 are reserved and never read)
 abbrev pub apdu_size : ℕ → ℕ
@@ -29,30 +25,49 @@ allows_segments code count = nat_eq code 0 || (nat_le 7 code || nat_le count (2 
 abbrev pub transfer_size : (one other : ℕ) → ℕ
 transfer_size one other = min (apdu_size one) (apdu_size other)
 
--- what a peer takes of a request: the code of its greatest APDU, whether it takes segments, and the code of how many
-pub record Limits : Type 0 where
-  pub max_apdu : ℕ
-  pub takes_segments : Bool
-  pub max_segments : ℕ
+-- how data go: in one APDU, in segments with these pieces, or not at all, for that reason
+pub data Way (R : Type 0) : Type 0 where
+  InOne : Way R
+  InSegments : (pieces : List Octets) → Way R
+  Refused : (why : R) → Way R
 
--- how a request reaches its server: in one APDU, in segments with these pieces, or not at all: since the peer takes no segments
--- or fewer than are needed, or since the service data are longer than any transfer
-pub data RequestWay : Type 0 where
-  InOne : RequestWay
-  InSegments : (pieces : List Octets) → RequestWay
-  NeedsSegments : RequestWay
-  TooLong : RequestWay
+-- Requests.
 
-abbrev pub way_in_segments : Limits → List Octets → RequestWay
-way_in_segments peer pieces = if peer.takes_segments && allows_segments peer.max_segments (length pieces) then InSegments pieces else NeedsSegments
+-- why a request can't go: its server takes no segments or fewer than are needed, or its service data are longer than any transfer
+pub data RequestFault : Type 0 where
+  NeedsSegments : RequestFault
+  TooLong : RequestFault
+
+abbrev pub request_way_in_segments : Limits → List Octets → Way RequestFault
+request_way_in_segments peer pieces =
+    if peer.takes_segments && allows_segments peer.max_segments (length pieces) then InSegments pieces else Refused NeedsSegments
 
 -- the service data of a request go in one APDU where they and 4 octets fit, otherwise in pieces of size - 6
-abbrev pub request_way_of_size : (size : ℕ) → Limits → Octets → RequestWay
+abbrev pub request_way_of_size : (size : ℕ) → Limits → Octets → Way RequestFault
 request_way_of_size size peer service =
-    if nat_lt DATA (length service) then TooLong
+    if nat_lt DATA (length service) then Refused TooLong
     else if nat_le (length service + 4) size then InOne
-    else way_in_segments peer (pieces_of (size - 6) service)
+    else request_way_in_segments peer (pieces_of (size - 6) service)
 
--- how a request of a node that is set so reaches a peer that takes so much
-abbrev pub request_way_of : Settings → Limits → Octets → RequestWay
-request_way_of c peer service = request_way_of_size (transfer_size c.max_apdu peer.max_apdu) peer service
+-- how a request of a node that is set so goes to a peer that takes so much
+abbrev pub request_way_of : Settings → Limits → Octets → Way RequestFault
+request_way_of s peer service = request_way_of_size (transfer_size s.limits.max_apdu peer.max_apdu) peer service
+
+-- Replies: where one can't go, an Abort with that reason goes in its place.
+
+abbrev pub reply_way_in_segments : Limits → List Octets → Way ℕ
+reply_way_in_segments peer pieces =
+    if not peer.takes_segments then Refused SEGMENTATION_NOT_SUPPORTED
+    else if allows_segments peer.max_segments (length pieces) then InSegments pieces
+    else Refused BUFFER_OVERFLOW
+
+-- the service data of a ComplexACK go in one APDU where they and 3 octets fit, otherwise in pieces of size - 5
+abbrev pub reply_way_of_size : (size : ℕ) → Limits → Octets → Way ℕ
+reply_way_of_size size peer service =
+    if nat_le (length service + 3) size then InOne else reply_way_in_segments peer (pieces_of (size - 5) service)
+
+-- how a reply of a node that is set so goes to a peer that takes so much
+abbrev pub reply_way_of : Settings → Limits → Reply → Way ℕ
+reply_way_of s peer Simple = InOne
+reply_way_of s peer (Complex service) = reply_way_of_size (transfer_size s.limits.max_apdu peer.max_apdu) peer service
+reply_way_of s peer (Error class code) = InOne

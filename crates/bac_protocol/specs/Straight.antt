@@ -2,14 +2,15 @@
 use Rattle.std.specs.Prelude.{[], ◌≡◌, ℕ, zero, suc, ◌+◌, ◌*◌, ◌<◌, ◌≤◌, ◌⊎◌, Bool, true, false, List, ◌∷◌, length, Option, Some, None, if◌then◌else◌, nat_eq}
 use Rattle.bac_segment.specs.Limits.{DATA}
 use Rattle.bac_segment.specs.Pieces.{join}
-use Rattle.bac_protocol.specs.Sizes.{Settings}
+use Rattle.bac_service.specs.Choices.{has_simple_ack, has_complex_ack}
+use Rattle.bac_protocol.specs.Sizes.{Way, reply_way_of}
 use Rattle.bac_protocol.specs.Service.{Octets, Request, Reply, Readable}
 use Rattle.bac_protocol.specs.Service.Reply.{Simple, Complex, Error}
 use Rattle.bac_protocol.specs.Service.Outcome.{Replies}
 use Rattle.bac_protocol.specs.Service.Ending.{Answered}
-use Rattle.bac_protocol.specs.Client.{Ticket, is_over, answers_simply, answers_with_data}
-use Rattle.bac_protocol.specs.Server.{Terms, Way, way_of, live_entry, is_none_live}
-use Rattle.bac_protocol.specs.Server.Way.{AtOnce, InPieces, Unsendable}
+use Rattle.bac_protocol.specs.Client.{Ticket, is_idle}
+use Rattle.bac_protocol.specs.Server.{live_entry, is_none_live}
+use Rattle.bac_protocol.specs.Sizes.Way.{InOne, InSegments, Refused}
 use Rattle.bac_protocol.specs.Log.{Shop}
 use Rattle.bac_protocol.specs.Log.Fact.{Asked, Performed, Ended}
 use Rattle.bac_protocol.specs.Transaction.{Key, Rules}
@@ -39,7 +40,7 @@ like_machine S shop x key w e v = IsLike S key v (happens S shop x w e)
 
 abbrev pub is_ended : Option Ticket → Bool
 is_ended None = true
-is_ended (Some t) = is_over t.phase
+is_ended (Some t) = is_idle t.phase
 
 -- so many copies are delivered, from that number on, each while the ticket is open; where the server had a slot for the first, has_slot is true
 abbrev pub Straight : (S : Type 0) → WorldSteps S → Key → (has_slot : Bool) → (count number : ℕ) → (old new : World S) → Type 0
@@ -69,33 +70,29 @@ RequestFits false pieces = FitsData pieces
 
 -- the reply's kind is that of the service choice, and its service data can be read
 abbrev pub KindFits : Readable → (choice : ℕ) → Reply → Type 0
-KindFits readable choice Simple = answers_simply choice ≡ true
-KindFits readable choice (Complex service) = (answers_with_data choice ≡ true) × (readable choice service ≡ true)
+KindFits readable choice Simple = has_simple_ack choice ≡ true
+KindFits readable choice (Complex service) = (has_complex_ack choice ≡ true) × (readable choice service ≡ true)
 KindFits readable choice (Error class code) = Unit {0}
 
 -- it goes in one APDU, or the client takes so many segments
-abbrev pub WayFits : Way → Type 0
-WayFits AtOnce = Unit {0}
-WayFits (InPieces pieces) = FitsData pieces
-WayFits (Unsendable reason) = ⊥
-
--- what a client's request says beside its service data
-abbrev pub terms_of : Settings → (choice : ℕ) → Terms
-terms_of c choice = record { choice = choice; takes_segments = c.takes_segments; max_segments = c.max_segments; max_apdu = c.max_apdu }
+abbrev pub WayFits : Way ℕ → Type 0
+WayFits InOne = Unit {0}
+WayFits (InSegments pieces) = FitsData pieces
+WayFits (Refused reason) = ⊥
 
 -- how a reply goes from the key's server to its client
-abbrev pub way_to : Rules → Key → (choice : ℕ) → Reply → Way
-way_to x key choice p = way_of (x.settings key.server) (terms_of (x.settings key.client) choice) p
+abbrev pub way_to : Rules → Key → Reply → Way ℕ
+way_to x key p = reply_way_of (x.settings key.server) (x.settings key.client).limits p
 
 -- in how many APDUs the data go
 abbrev pub request_count : (whole : Bool) → List Octets → ℕ
 request_count true pieces = 1
 request_count false pieces = length pieces
 
-abbrev pub way_count : Way → ℕ
-way_count AtOnce = 1
-way_count (InPieces pieces) = length pieces
-way_count (Unsendable reason) = 1
+abbrev pub way_count : Way ℕ → ℕ
+way_count InOne = 1
+way_count (InSegments pieces) = length pieces
+way_count (Refused reason) = 1
 
 -- each datagram once, with at most one SegmentACK for each segment
 abbrev pub cost : (n m : ℕ) → ℕ
@@ -109,7 +106,7 @@ pub record CanAsk (S : Type 0) (shop : Shop S) (x : Rules) (w : World S) (key : 
   pub request : RequestFits whole pieces
   pub outcome : shop.outcome (w.stores key.server) choice (join pieces) ≡ Replies reply
   pub kind : KindFits x.readable choice reply
-  pub way : WayFits (way_to x key choice reply)
+  pub way : WayFits (way_to x key reply)
 
 -- the ask was performed once, and its ticket ended with the reply
 pub record IsAnswered (S : Type 0) (shop : Shop S) (x : Rules) (key : Key) (request : Request) (reply : Reply) (n count : ℕ)
@@ -119,7 +116,7 @@ pub record IsAnswered (S : Type 0) (shop : Shop S) (x : Rules) (key : Key) (requ
   pub stores : (node : ℕ) → new.stores node ≡ (if nat_eq node key.server then shop.after (old.stores key.server) request else old.stores node)
   pub ended : is_ended (new.net.tickets key) ≡ true
   pub now : new.net.now ≡ old.net.now
-  pub cheap : count ≤ cost n (way_count (way_to x key request.choice reply))
+  pub cheap : count ≤ cost n (way_count (way_to x key reply))
 
 -- windows of at least 1, no greater than the overtaking limit
 pub record AreStraight (x : Rules) (key : Key) : Type 0 where

@@ -11,10 +11,10 @@ use Rattle.bac_protocol.specs.Server.{Entry, Effect, Service, server_gets, serve
 use Rattle.bac_protocol.specs.Server as server
 use Rattle.bac_protocol.specs.Log.{Fact, Shop}
 use Rattle.bac_protocol.specs.Log.Fact.{Asked}
-use Rattle.bac_protocol.specs.Transaction.{Key, Rules, Copy, ended, performed}
+use Rattle.bac_protocol.specs.Transaction.{Key, Rules, client_context, server_context, Copy, ended, performed}
 
 abbrev pub same_key : Key → Key → Bool
-same_key a b = nat_eq a.client b.client && (nat_eq a.server b.server && nat_eq a.id b.id)
+same_key a b = nat_eq a.client b.client && (nat_eq a.server b.server && nat_eq a.invoke_id b.invoke_id)
 
 -- a copy that was sent, with its transaction
 pub record Post : Type 0 where
@@ -42,7 +42,7 @@ abbrev pub count_of : Key → List Post → ℕ
 count_of key [] = 0
 count_of key (p ∷ posts) = if same_key p.key key then suc (count_of key posts) else count_of key posts
 
--- how many members of the list behind that one are the transaction's
+-- how many members of the list after that one are the transaction's
 abbrev pub later : Key → ℕ → List Post → ℕ
 later key number [] = 0
 later key zero (p ∷ posts) = count_of key posts
@@ -87,12 +87,12 @@ server_acts n key v =
 -- an accepted ask
 abbrev pub asked_at : Rules → Net → Key → Ask → Net
 asked_at x n key ask =
-    let c = x.settings key.client in
+    let c = client_context x key n.now in
     record n {
       asks = n.asks + 1;
       numbers = set_at n.numbers key n.asks;
-      tickets = set_at n.tickets key (Some (asked_ticket c key.id n.now ask));
-      posts = n.posts ++ map (post_of key n.now) (sends_of (asks c key.id ask));
+      tickets = set_at n.tickets key (Some (asked_ticket c ask));
+      posts = n.posts ++ map (post_of key n.now) (sends_of (asks c ask));
       log = Asked n.asks key.client key.server (request_of ask) ∷ n.log;
     }
 
@@ -124,11 +124,11 @@ service_of S shop w key = shop.outcome (w.stores key.server)
 
 abbrev pub takes_at_client : (S : Type 0) → Rules → World S → Key → Apdu → Option Ticket → World S
 takes_at_client S x w key a None = w
-takes_at_client S x w key a (Some t) = reacts S w key t (client_gets (x.settings key.client) x.readable key.id w.net.now t a)
+takes_at_client S x w key a (Some t) = reacts S w key t (client_gets (client_context x key w.net.now) x.readable t a)
 
 abbrev pub takes_at_server : (S : Type 0) → Shop S → Rules → World S → Key → (free : Bool) → Apdu → World S
 takes_at_server S shop x w key free a = serves S shop w key
-    (server_gets (x.settings key.server) key.id w.net.now (service_of S shop w key) (w.net.entries key) free a)
+    (server_gets (server_context x key w.net.now) (service_of S shop w key) (w.net.entries key) free a)
 
 -- a copy reaches the other end of its transaction
 abbrev pub arrives : (S : Type 0) → Shop S → Rules → World S → Key → (free : Bool) → Apdu → World S
@@ -141,7 +141,7 @@ delivered S shop x w number free (Some p) = if is_deliverable x w.net.now number
 
 abbrev pub ticks_ticket : (S : Type 0) → Rules → World S → Key → Option Ticket → World S
 ticks_ticket S x w key None = w
-ticks_ticket S x w key (Some t) = reacts S w key t (client_ticks (x.settings key.client) key.id w.net.now t)
+ticks_ticket S x w key (Some t) = reacts S w key t (client_ticks (client_context x key w.net.now) t)
 
 abbrev pub ticks_as_client : (S : Type 0) → Rules → List Key → World S → World S
 ticks_as_client S x [] w = w
@@ -150,7 +150,7 @@ ticks_as_client S x (key ∷ keys) w = ticks_as_client S x keys (ticks_ticket S 
 abbrev pub ticks_as_server : (S : Type 0) → Shop S → Rules → List Key → World S → World S
 ticks_as_server S shop x [] w = w
 ticks_as_server S shop x (key ∷ keys) w = ticks_as_server S shop x keys
-    (serves S shop w key (server_ticks (x.settings key.server) key.id w.net.now (w.net.entries key)))
+    (serves S shop w key (server_ticks (server_context x key w.net.now) (w.net.entries key)))
 
 abbrev pub ask_made : (S : Type 0) → Rules → World S → Key → Ask → World S
 ask_made S x w key ask = record { net = asked_at x w.net key ask; stores = w.stores }

@@ -6,7 +6,7 @@ ghost use Rattle.bac_protocol.specs.Examples.{HeldLong, LostAck};
 ghost use Rattle.bac_protocol.specs.Examples.{OutOfOrder, LaterPass, InTime, OutOfTime, StoppedReply, Sizes, OddAcks, OtherAnswers, KeptReply, DroppedEntry};
 ghost use Rattle.bac_protocol.specs.Examples.{RequestSizes, LongestRequest, OvertakenCopy, OtherCopies, TwoClients, LostAckOfPut};
 ghost use Rattle.bac_protocol.specs.Examples.{TwoSegments, RefusedReplies, KeptSegments, LongestReassembly, TooLongTransfers};
-ghost use Rattle.bac_protocol.specs.Examples.{ApduSizes, SegmentLimits, RequestsOfAllSizes, ReceivingSteps, SegmentedEntry, GivingSteps, Refusals};
+ghost use Rattle.bac_protocol.specs.Examples.{ApduSizes, SegmentLimits, RequestsOfAllSizes, SegmentedRequestSteps, SegmentedEntry, SegmentedResponseSteps, Refusals};
 ghost use Rattle.bac_protocol.specs.Examples.{UnreadableSegments, TimeOuts};
 
 /// Whole requests: a request that is delivered four times, a lost answer, and one that can't be read.
@@ -125,11 +125,11 @@ pub fn ends_of_a_ticket()
 {}
 
 /// An entry that is receiving a request, that of a request in segments, and one that gives its reply in segments.
-#[tactic(auto, using(crate::proofs::Computed::receiving_steps, crate::proofs::Computed::segmented_entry, crate::proofs::Computed::giving_steps))]
+#[tactic(auto, using(crate::proofs::Computed::segmented_request_steps, crate::proofs::Computed::segmented_entry, crate::proofs::Computed::segmented_response_steps))]
 pub fn states_of_an_entry()
-    ensures receiving { ReceivingSteps }
+    ensures segmented_request { SegmentedRequestSteps }
     ensures in_segments { SegmentedEntry }
-    ensures giving { GivingSteps }
+    ensures segmented_response { SegmentedResponseSteps }
 {}
 
 /// A kept reply in segments is not given to another request.

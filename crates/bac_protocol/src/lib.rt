@@ -5,8 +5,11 @@
 #![tactic(auto)]
 
 pub mod examples;
+pub mod moves;
+pub mod sizes;
 pub mod steps;
 pub mod straight;
+pub mod times;
 
 ghost use Rattle.std.specs.Prelude.{◌≡◌, ℕ, ◌+◌, ◌*◌, ◌%◌, ◌<◌, ◌≤◌, List, Some, length, take, slice_get};
 ghost use Rattle.bac_segment.specs.Numbers.{ahead};

@@ -1,0 +1,74 @@
+-- Single moves of a net, for whoever joins it with nodes: the stores are left out, and a delivery says what its server's service makes of requests,
+-- so a service may answer otherwise each time. Each ticket and each entry ticks on its own.
+use Rattle.std.specs.Prelude.{◌≡◌, ℕ, ◌+◌, Bool, true, false, ◌∷◌, Option, Some, None, List, slice_get, if◌then◌else◌}
+use Rattle.bac_protocol.specs.Service.{Octets}
+use Rattle.bac_protocol.specs.Wire.{is_from_client}
+use Rattle.bac_protocol.specs.Client.{Ticket, request_of, client_gets, client_ticks}
+use Rattle.bac_protocol.specs.Server.{Service, is_none_live, server_gets, server_ticks}
+use Rattle.bac_protocol.specs.Log.{Has, asks_in, IsOrderly}
+use Rattle.bac_protocol.specs.Log.Fact.{Asked}
+use Rattle.bac_protocol.specs.Transaction.{Key, Rules, client_context, server_context}
+use Rattle.bac_protocol.specs.World.{Net, Post, set_at, is_key_held, asked_at, client_acts, server_acts, is_deliverable}
+use Rattle.bac_protocol.specs.Own.{IsOwnEntry}
+
+-- an ask; a copy arrives, at a server with that service; one ticket's tick; one entry's tick; time passes
+pub data Move : Type 0 where
+  Asks : (key : Key) (choice : ℕ) (whole : Bool) (front : Octets) (rest : List Octets) → Move
+  Arrives : (number : ℕ) (free : Bool) (service : Service) → Move
+  TicksTicket : (key : Key) → Move
+  TicksEntry : (key : Key) → Move
+  Passes : (by : ℕ) → Move
+
+abbrev pub taken_by_client : Rules → Net → Post → Option Ticket → Net
+taken_by_client x n p None = n
+taken_by_client x n p (Some t) = client_acts n p.key t (client_gets (client_context x p.key n.now) x.readable t p.copy.apdu)
+
+abbrev pub taken_by_server : Rules → Net → Post → (free : Bool) → Service → Net
+taken_by_server x n p free service =
+    server_acts n p.key (server_gets (server_context x p.key n.now) service (n.entries p.key) free p.copy.apdu)
+
+abbrev pub arrived : Rules → Net → (number : ℕ) → (free : Bool) → Service → Option Post → Net
+arrived x n number free service None = n
+arrived x n number free service (Some p) =
+    if is_deliverable x n.now number n.posts p
+    then (if is_from_client p.copy.apdu then taken_by_server x n p free service else taken_by_client x n p (n.tickets p.key))
+    else n
+
+abbrev pub ticket_ticked : Rules → Net → Key → Option Ticket → Net
+ticket_ticked x n key None = n
+ticket_ticked x n key (Some t) = client_acts n key t (client_ticks (client_context x key n.now) t)
+
+-- the net after a move
+abbrev pub moved : Rules → Net → Move → Net
+moved x n (Asks key choice whole front rest) =
+    if is_key_held n.now (n.tickets key) then n
+    else asked_at x n key (record { first = n.now; choice = choice; whole = whole; pieces = front ∷ rest })
+moved x n (Arrives number free service) = arrived x n number free service (slice_get n.posts number)
+moved x n (TicksTicket key) = ticket_ticked x n key (n.tickets key)
+moved x n (TicksEntry key) = server_acts n key (server_ticks (server_context x key n.now) (n.entries key))
+moved x n (Passes by) = record n { now = n.now + by }
+
+-- a net to which moves lead
+pub data IsReached (x : Rules) (from : Net) : Net → Type 0 where
+  Still : IsReached x from from
+  Moved : (n : Net) (m : Move) → IsReached x from n → IsReached x from (moved x n m)
+
+-- what is known of it
+pub record IsInOrder (n : Net) : Type 0 where
+  -- the log is right, where stores are not looked at, and asks are numbered by those before them
+  pub orderly : IsOrderly n.log
+  pub counted : n.asks ≡ asks_in n.log
+  -- a ticket's request is the one that was asked under its number
+  pub asked : (key : Key) (t : Ticket) → n.tickets key ≡ Some t → Has (Asked (n.numbers key) key.client key.server (request_of t.ask)) n.log
+  -- where copies or an entry are, there is a ticket
+  pub posted : (number : ℕ) (p : Post) → slice_get n.posts number ≡ Some p → n.tickets p.key ≡ None → ⊥
+  pub entered : (key : Key) → n.tickets key ≡ None → n.entries key ≡ None
+  -- entries are their transaction's own
+  pub own : (key : Key) → IsOwnEntry key.invoke_id (n.entries key)
+  -- no entry is live for an invoke ID that is free
+  pub dead : (key : Key) → is_key_held n.now (n.tickets key) ≡ false → is_none_live n.now (n.entries key) ≡ true
+
+-- What stands in a table by key after one place was set.
+pub record SetsOnePlace (A : Type 0) : Type 0 where
+  pub same : (f : Key → A) (key : Key) (a : A) → set_at f key a key ≡ a
+  pub other : (f : Key → A) (key : Key) (a : A) (k : Key) → (key ≡ k → ⊥) → set_at f key a k ≡ f k
