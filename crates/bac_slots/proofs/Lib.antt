@@ -1,0 +1,5 @@
+pub mod Slots
+pub mod KeyOrder
+pub mod Indexes
+pub mod Swept
+pub mod Values

@@ -1,0 +1,19 @@
+-- The key is none of those before and none of those from the end on; each step halves what is left.
+use Rattle.std.proofs.Common.{◌-◌, ◌+◌, ◌≤◌, length}
+use Rattle.bac_slots.specs.Slots.{in_order, digits}
+use Rattle.bac_slots.proofs.Indexes.{AllBelow, AllAbove}
+use Rattle.bac_slots.proofs.index_slots.search.Given as goal
+
+abbrev pub invariant-loop-first : goal.invariant-loop-first
+invariant-loop-first g l =
+    record {
+      ordered : l.first ≤ l.end;
+      within : l.end ≤ length l.places.items;
+      below : AllBelow g.K.Ord.cmp l.key l.first (in_order g.K.Ord.cmp l.slots.items);
+      above : AllAbove g.K.Ord.cmp l.key l.end (in_order g.K.Ord.cmp l.slots.items);
+      counted : l.initial.count.comparisons ≤ l.count.comparisons;
+      few : l.count.comparisons + digits (l.end - l.first) ≤ l.initial.count.comparisons + digits (length l.places.items);
+    }
+
+abbrev pub decreases-loop-first : goal.decreases-loop-first
+decreases-loop-first g l = l.end - l.first

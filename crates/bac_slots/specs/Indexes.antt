@@ -1,0 +1,20 @@
+-- The index of a table: the places of its slots in order of putting, sorted by key.
+use Rattle.std.specs.Prelude.{◌≡◌, ℕ, ◌-◌, ◌<◌, ◌≤◌, Bool, List, map, length, slice_get, Some, None, Result, Ok, Err, if◌then◌else◌, nat_lt}
+use Rattle.std.specs.declared.cmp.Ordering.{Ordering}
+use Rattle.bac_slots.specs.declared.slot.Slot.{Slot}
+use Rattle.bac_slots.specs.declared.index_slots.Found.{Found}
+use Rattle.bac_slots.specs.Slots.{value_at, rank, in_order, IsAt}
+
+-- the places name the slots in ascending order of their keys
+abbrev pub IsIndex : {K T : Type 0} → (K → K → Ordering) → List ℕ → List (Slot K T) → Type 0
+IsIndex cmp places slots = map (λ n. slice_get slots n) places ≡ map Some (in_order cmp slots)
+
+-- a place once the slot at `gone` was taken out
+abbrev pub lowered : ℕ → ℕ → ℕ
+lowered gone n = if nat_lt gone n then n - 1 else n
+
+-- what a search answers: the key's place in order of keys, and its slot's place in order of putting; or where it would stand
+abbrev pub IsSearched : {K T : Type 0} → (K → K → Bool) → (K → K → Ordering) → K → List (Slot K T) → Result Found ℕ → Type 0
+IsSearched eq cmp key slots (Ok found) =
+    (found.rank ≡ rank cmp key slots) × (found.rank < length slots) × (found.place < length slots) × IsAt eq key found.place slots
+IsSearched eq cmp key slots (Err n) = (n ≡ rank cmp key slots) × (n ≤ length slots) × (value_at eq key slots ≡ None)

@@ -1,0 +1,226 @@
+//! A table with an index that is sorted by key.
+ghost use Rattle.std.specs.Prelude.{◌≡◌, ◌≢◌, ℕ, ◌+◌, ◌<◌, ◌≤◌, List, length, Some, None, MatchOption, map, slice_get, min, vec_capacity};
+ghost use Rattle.bac_slots.specs.Slots.{rank, value_at, in_order, digits, IsDistinct};
+ghost use Rattle.bac_slots.specs.Indexes.{lowered, IsIndex, IsSearched};
+
+use crate::slot::Slot;
+use crate::slot_table::{Count, SlotTable};
+use std::alloc::{AllocError, Global};
+use std::cmp::Ordering;
+use std::marker::Model;
+
+/// A table whose slots stand in order of putting, with an index of their places that is sorted by key: a key is found by halving the index.
+#[derive(Drop)]
+pub struct IndexSlots<K: Ord, T> {
+    slots: Vec<Slot<K, T>>,
+    places: Vec<usize>,
+    capacity: usize,
+}
+
+impl<K: Ord, T> Model for IndexSlots<K, T> {
+    ghost use Rattle.std.specs.Prelude.{◌≡◌, ℕ, ◌≤◌, List, length, vec_capacity};
+    ghost use Rattle.bac_slots.specs.declared.slot.Slot.{Slot};
+    ghost use Rattle.bac_slots.specs.Slots.{IsDistinct};
+    ghost use Rattle.bac_slots.specs.Indexes.{IsIndex};
+
+    ghost Value = { List (Slot K T) × ℕ };
+
+    ghost view = { λ t. (t.slots.items, t.capacity) };
+
+    ghost invariant = { λ t. (t.capacity ≤ vec_capacity t.slots) × (t.capacity ≤ vec_capacity t.places) × (length t.slots.items ≤ t.capacity)
+        × IsDistinct K.eq t.slots.items × IsIndex K.cmp t.places.items t.slots.items };
+}
+
+impl<K: Ord + Copy + Drop, T: Drop> SlotTable<K, T> for IndexSlots<K, T> {
+    ghost slots = { λ t. t.0 };
+
+    ghost capacity = { λ t. t.1 };
+
+    fn new(alloc: Global, room: usize) -> Result<Self, AllocError> {
+        Ok(IndexSlots {
+            slots: Vec::with_capacity(alloc, room)?,
+            places: Vec::with_capacity(alloc, room)?,
+            capacity: room,
+        })
+    }
+
+    fn len(&self) -> usize {
+        self.slots.len()
+    }
+
+    fn room(&self) -> usize {
+        self.capacity
+    }
+
+    /// Adds at most as many comparisons as the number of slots has binary digits.
+    fn find(&self, key: &K, count: &mut Count) -> Option<usize>
+        ensures counted { count.old.comparisons ≤ count.new.comparisons }
+        ensures place { MatchOption result (value_at K.eq key.now self.now.0 ≡ None)
+            (λ n. (value_at K.eq key.now self.now.0 ≢ None) × (n ≡ rank K.cmp key.now self.now.0)) }
+        ensures few { count.new.comparisons ≤ count.old.comparisons + digits (length self.now.0) }
+    {
+        match search(&self.slots, &self.places, key, count) {
+            Ok(found) => Some(found.rank),
+            Err(_) => None,
+        }
+    }
+
+    fn at(&self, n: usize) -> Option<(K, u64, &T)> {
+        if n >= self.places.len() {
+            return None;
+        }
+        let slot = nth(&self.slots, &self.places, n);
+        Some((slot.key, slot.begin, &slot.value))
+    }
+
+    fn by_age(&self, n: usize) -> Option<(K, u64, &T)> {
+        let slot = self.slots.get(n)?;
+        Some((slot.key, slot.begin, &slot.value))
+    }
+
+    fn get(&self, key: &K) -> Option<&T> {
+        let Some(found) = look_up(&self.slots, &self.places, key) else {
+            return None;
+        };
+        Some(&self.slots[found.place].value)
+    }
+
+    fn put(&mut self, key: K, begin: u64, value: T) -> Result<(), (K, T)> {
+        let len = self.slots.len();
+        if len >= self.capacity {
+            return Err((key, value));
+        }
+        let n = gap(&self.slots, &self.places, &key);
+        match self.places.insert(n, len) {
+            Ok(()) => {}
+            Err(_) => unreachable!(),
+        }
+        match self.slots.push(Slot { key, begin, value }) {
+            Ok(()) => Ok(()),
+            Err(_) => unreachable!(),
+        }
+    }
+
+    fn set(&mut self, key: &K, value: T) -> Option<T> {
+        let Some(found) = look_up(&self.slots, &self.places, key) else {
+            return None;
+        };
+        let slot = &mut self.slots[found.place];
+        Some(std::mem::replace(&mut slot.value, value))
+    }
+
+    fn remove(&mut self, key: &K) -> Option<T> {
+        let Some(found) = look_up(&self.slots, &self.places, key) else {
+            return None;
+        };
+        self.places.remove(found.rank);
+        lower(&mut self.places, found.place);
+        let Slot {
+            key: _,
+            begin: _,
+            value,
+        } = self.slots.remove(found.place);
+        Some(value)
+    }
+}
+
+/// Where a key stands: in the order of the keys, and in order of putting.
+#[derive(Clone, Copy)]
+struct Found {
+    rank: usize,
+    place: usize,
+}
+
+/// The n-th slot in the order of the keys.
+fn nth<'a, K: Ord, T>(slots: &'a Vec<Slot<K, T>>, places: &Vec<usize>, n: usize) -> &'a Slot<K, T>
+    requires distinct { IsDistinct K.eq slots.now.items }
+    requires index { IsIndex K.cmp places.now.items slots.now.items }
+    requires within { n < length places.now.items }
+    ensures { slice_get (in_order K.cmp slots.now.items) n ≡ Some result.now }
+{
+    &slots[places[n]]
+}
+
+/// Compares two keys and counts it.
+fn compare<K: Ord>(one: &K, other: &K, count: &mut Count) -> Ordering
+    ensures value { result ≡ K.cmp one.now other.now }
+    ensures counted { count.new.comparisons ≡ min (count.old.comparisons + 1) u64.MAX }
+{
+    count.add(1);
+    one.cmp(other)
+}
+
+/// Halves the part of the index where the key can be, until it is found or the part is empty.
+fn search<K: Ord, T>(
+    slots: &Vec<Slot<K, T>>,
+    places: &Vec<usize>,
+    key: &K,
+    count: &mut Count,
+) -> Result<Found, usize>
+    requires distinct { IsDistinct K.eq slots.now.items }
+    requires index { IsIndex K.cmp places.now.items slots.now.items }
+    ensures place { IsSearched K.eq K.cmp key.now slots.now.items result }
+    ensures counted { count.old.comparisons ≤ count.new.comparisons }
+    ensures few { count.new.comparisons ≤ count.old.comparisons + digits (length slots.now.items) }
+{
+    let mut first = 0;
+    let mut end = places.len();
+    while first < end {
+        let middle = first + (end - first) / 2;
+        match compare(&nth(slots, places, middle).key, key, count) {
+            Ordering::Less => first = middle + 1,
+            Ordering::Equal => {
+                return Ok(Found {
+                    rank: middle,
+                    place: places[middle],
+                });
+            }
+            Ordering::Greater => end = middle,
+        }
+    }
+    Err(first)
+}
+
+/// Where the key stands, or None where it is absent.
+fn look_up<K: Ord, T>(slots: &Vec<Slot<K, T>>, places: &Vec<usize>, key: &K) -> Option<Found>
+    requires distinct { IsDistinct K.eq slots.now.items }
+    requires index { IsIndex K.cmp places.now.items slots.now.items }
+    ensures { MatchOption result (value_at K.eq key.now slots.now.items ≡ None) (λ found. IsSearched K.eq K.cmp key.now slots.now.items (Ok found)) }
+{
+    let mut count = Count { comparisons: 0 };
+    match search(slots, places, key, &mut count) {
+        Ok(found) => Some(found),
+        Err(_) => None,
+    }
+}
+
+/// Where a key that is absent would stand in the order of the keys.
+fn gap<K: Ord, T>(slots: &Vec<Slot<K, T>>, places: &Vec<usize>, key: &K) -> usize
+    requires distinct { IsDistinct K.eq slots.now.items }
+    requires index { IsIndex K.cmp places.now.items slots.now.items }
+    requires absent { value_at K.eq key.now slots.now.items ≡ None }
+    ensures rank { result ≡ rank K.cmp key.now slots.now.items }
+    ensures within { result ≤ length slots.now.items }
+{
+    let mut count = Count { comparisons: 0 };
+    match search(slots, places, key, &mut count) {
+        Ok(_) => unreachable!(),
+        Err(n) => n,
+    }
+}
+
+/// The slots after one that is taken out move down by one place.
+fn lower(places: &mut Vec<usize>, gone: usize)
+    ensures places { places.new.items ≡ map (lowered gone) places.old.items }
+    ensures capacity { vec_capacity places.new ≡ vec_capacity places.old }
+{
+    for place in places.iter_mut() {
+        *place = lowered(*place, gone);
+    }
+}
+
+fn lowered(place: usize, gone: usize) -> usize
+    ensures { result ≡ lowered gone place }
+{
+    if gone < place { place - 1 } else { place }
+}

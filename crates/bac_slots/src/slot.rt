@@ -1,0 +1,7 @@
+/// A key with the moment at which its life began, in milliseconds, and its value.
+#[derive(Drop)]
+pub struct Slot<K, T> {
+    pub key: K,
+    pub begin: u64,
+    pub value: T,
+}

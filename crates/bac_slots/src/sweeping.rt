@@ -1,0 +1,73 @@
+//! Slots whose value passes a test: how many there are, and taking out the others.
+ghost use Rattle.std.specs.Prelude.{◌≡◌, ◌<◌, Bool, true, false, filter, count_by, length, MatchOption, Some, slice_get};
+ghost use Rattle.bac_slots.specs.declared.slot.Slot.{Slot};
+ghost use Rattle.bac_slots.specs.Slots.{without};
+
+use crate::slot_table::SlotTable;
+
+/// A test on values.
+pub trait Test<T> {
+    ghost passes: { Self → T → Bool };
+
+    /// Whether the value passes.
+    fn passes(&self, value: &T) -> bool
+        ensures { result ≡ passes self.now value.now };
+}
+
+/// Takes out each slot whose value fails the test; the others stay as they are, in their order.
+pub fn sweep<K: Ord + Copy + Drop, T: Drop, S: SlotTable<K, T>, P: Test<T>>(table: &mut S, test: &P)
+    ensures slots { S.slots table.new ≡ filter (λ s. P.passes test.now s.value) (S.slots table.old) }
+    ensures same { S.capacity table.new ≡ S.capacity table.old }
+{
+    let total = table.len();
+    for n in (0..total).rev() {
+        let Some(key) = failing_at(table, n, test) else {
+            continue;
+        };
+        take_out(table, &key);
+    }
+}
+
+/// How many slots have a value that passes the test: as many as a sweep leaves.
+pub fn count_passing<K: Ord + Copy + Drop, T, S: SlotTable<K, T>, P: Test<T>>(
+    table: &S,
+    test: &P,
+) -> usize
+    ensures { result ≡ count_by (λ s. P.passes test.now s.value) (S.slots table.now) }
+{
+    let total = table.len();
+    let mut failing = 0;
+    for n in 0..total {
+        let Some(_key) = failing_at(table, n, test) else {
+            continue;
+        };
+        failing += 1;
+    }
+    total - failing
+}
+
+// The key of the n-th slot in order of putting, where its value fails the test.
+fn failing_at<K: Ord + Copy + Drop, T, S: SlotTable<K, T>, P: Test<T>>(
+    table: &S,
+    n: usize,
+    test: &P,
+) -> Option<K>
+    ensures { MatchOption result ((s : Slot K T) → slice_get (S.slots table.now) n ≡ Some s → P.passes test.now s.value ≡ true)
+        (λ k. (s : Slot K T) × (slice_get (S.slots table.now) n ≡ Some s) × (s.key ≡ k) × (P.passes test.now s.value ≡ false)) }
+{
+    let Some(slot) = table.by_age(n) else {
+        return None;
+    };
+    if test.passes(slot.2) {
+        None
+    } else {
+        Some(slot.0)
+    }
+}
+
+fn take_out<K: Ord + Copy + Drop, T: Drop, S: SlotTable<K, T>>(table: &mut S, key: &K)
+    ensures slots { S.slots table.new ≡ without K.eq key.now (S.slots table.old) }
+    ensures same { S.capacity table.new ≡ S.capacity table.old }
+{
+    let _ = table.remove(key);
+}
