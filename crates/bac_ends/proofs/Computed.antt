@@ -1,0 +1,21 @@
+-- The examples, computed.
+use Rattle.std.proofs.Common.{refl}
+use Rattle.bac_ends.specs.Examples.{LeastInvokeId, HeldFor, SlotHeldFor, TickOrder, KeptReply, FullTable}
+
+pub least_invoke_id : LeastInvokeId
+least_invoke_id = record { gap = refl; other_peer = refl }
+
+pub held_for : HeldFor
+held_for = record { last = refl; after = refl }
+
+pub slot_held_for : SlotHeldFor
+slot_held_for = record { last = refl; after = refl }
+
+pub tick_order : TickOrder
+tick_order = refl
+
+pub kept_reply : KeptReply
+kept_reply = refl
+
+pub full_table : FullTable
+full_table = record { full = refl; replaced = refl; performed = refl }

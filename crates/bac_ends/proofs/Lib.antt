@@ -1,0 +1,4 @@
+pub mod Short
+pub mod Keyed
+pub mod Computed
+pub mod KeyOrder

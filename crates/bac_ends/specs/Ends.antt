@@ -1,0 +1,293 @@
+-- Both ends of a node as plain lists of slots, and what each call makes of them, by the machines on the one slot.
+use Rattle.std.specs.Prelude.{◌≡◌, ℕ, zero, suc, ◌+◌, ◌-◌, Bool, true, false, ◌||◌, not, List, [], ◌∷◌, ◌++◌, map, filter, count_by, Option, Some, None}
+use Rattle.std.specs.Prelude.{if◌then◌else◌, nat_lt, nat_le}
+use Rattle.bac_apdu.specs.Apdu.{Apdu, Limits}
+use Rattle.bac_npdu.specs.Peers.{PeerView}
+use Rattle.bac_slots.specs.declared.slot.Slot.{Slot}
+use Rattle.bac_slots.specs.Slots.{value_at, with_value, in_order}
+use Rattle.bac_protocol.specs.declared.times.TheConstants.{HOLD}
+use Rattle.bac_protocol.specs.Context.{Settings, Context}
+use Rattle.bac_protocol.specs.Sizes.{Way, RequestFault, request_way_of}
+use Rattle.bac_protocol.specs.Service.{Octets, Ending, Readable}
+use Rattle.bac_protocol.specs.Own.{invoke_id_of}
+use Rattle.bac_protocol.specs.Client as client
+use Rattle.bac_protocol.specs.Client.{Ask, Ticket, is_idle, client_gets, client_ticks, asked_ticket, asks}
+use Rattle.bac_protocol.specs.Server as server
+use Rattle.bac_protocol.specs.Server.{Entry, Effect, Service, is_live, is_none_live, server_gets, server_ticks}
+use Rattle.bac_ends.specs.Keys.{PeerKey, peer_key_cmp, same_key}
+use Rattle.bac_ends.specs.Sends.{Send, to_all}
+
+-- what a list of lists has, from the first on
+abbrev pub from_each : {A B : Type 0} → (A → List B) → List A → List B
+from_each f [] = []
+from_each f (x ∷ xs) = f x ++ from_each f xs
+
+-- what a machine is told of its transaction
+abbrev pub context_of : Settings → (now : ℕ) → PeerKey → Context
+context_of c now key = record { settings = c; invoke_id = key.invoke_id; now = now }
+
+-- The client's end.
+
+-- what a slot keeps of a ticket: all of an open one, and of one that has ended the moment of its first sending
+pub data Held : Type 0 where
+  Open : (ticket : Ticket) → Held
+  Closed : (first : ℕ) → Held
+
+abbrev pub open_unless : Bool → Ticket → Held
+open_unless true t = Closed t.ask.first
+open_unless false t = Open t
+
+abbrev pub kept : Ticket → Held
+kept t = open_unless (is_idle t.phase) t
+
+-- tickets are numbered
+pub record Client : Type 0 where
+  pub number : ℕ
+  pub held : Held
+
+-- a slot's life begins with the first sending
+abbrev pub ClientSlot : Type 0
+ClientSlot = Slot PeerKey Client
+
+-- asked is how many asks were accepted
+pub record ClientEnd : Type 0 where
+  pub slots : List ClientSlot
+  pub capacity : ℕ
+  pub asked : ℕ
+
+-- a slot is held, and with it its invoke ID, while its ticket is open or no more than HOLD has passed (own rule of this profile)
+abbrev pub is_held : ℕ → Held → Bool
+is_held now (Open t) = true
+is_held now (Closed first) = nat_le (now - first) HOLD
+
+abbrev pub is_slot_held : ℕ → ClientSlot → Bool
+is_slot_held now s = is_held now s.value.held
+
+-- a ticket has ended: its number, and the service choice of its request
+pub record Ended : Type 0 where
+  pub number : ℕ
+  pub choice : ℕ
+  pub how : Ending
+
+-- what one event makes of the client's end, what is sent, in order of sending, and what has ended
+pub record ClientTurn : Type 0 where
+  pub end : ClientEnd
+  pub sends : List Send
+  pub ended : List Ended
+
+abbrev pub stays : ClientEnd → ClientTurn
+stays e = record { end = e; sends = []; ended = [] }
+
+abbrev pub ended_with : (number choice : ℕ) → Option Ending → List Ended
+ended_with number choice None = []
+ended_with number choice (Some how) = record { number = number; choice = choice; how = how } ∷ []
+
+abbrev pub client_after : (now number : ℕ) → Ticket → client.Reaction → Client
+client_after now number t r = record { number = number; held = kept (client.after now t r) }
+
+-- one open ticket goes on by its machine
+abbrev pub client_goes : (now : ℕ) → ClientEnd → PeerKey → (number : ℕ) → Ticket → client.Reaction → ClientTurn
+client_goes now e key number t r =
+    record {
+      end = record e { slots = with_value same_key key (client_after now number t r) e.slots };
+      sends = to_all key.peer (client.sends_of r);
+      ended = ended_with number t.ask.choice (client.ending_of r);
+    }
+
+abbrev pub client_hears_held : Settings → Readable → (now : ℕ) → Apdu → ClientEnd → PeerKey → (number : ℕ) → Held → ClientTurn
+client_hears_held c readable now a e key number (Closed first) = stays e
+client_hears_held c readable now a e key number (Open t) = client_goes now e key number t (client_gets (context_of c now key) readable t a)
+
+abbrev pub client_hears_at : Settings → Readable → (now : ℕ) → Apdu → ClientEnd → PeerKey → Option Client → ClientTurn
+client_hears_at c readable now a e key None = stays e
+client_hears_at c readable now a e key (Some s) = client_hears_held c readable now a e key s.number s.held
+
+abbrev pub key_of : PeerView → Apdu → PeerKey
+key_of peer a = record { peer = peer; invoke_id = invoke_id_of a }
+
+-- an APDU comes from a peer
+abbrev pub client_hears : Settings → Readable → (now : ℕ) → PeerView → Apdu → ClientEnd → ClientTurn
+client_hears c readable now peer a e = client_hears_at c readable now a e (key_of peer a) (value_at same_key (key_of peer a) e.slots)
+
+-- A tick of the client's end.
+
+abbrev pub held_ticked : Context → (number : ℕ) → Held → Client
+held_ticked c number (Closed first) = record { number = number; held = Closed first }
+held_ticked c number (Open t) = client_after c.now number t (client_ticks c t)
+
+abbrev pub client_ticked : Settings → (now : ℕ) → ClientSlot → ClientSlot
+client_ticked c now s = record s { value = held_ticked (context_of c now s.key) s.value.number s.value.held }
+
+abbrev pub held_tick_sends : Context → PeerView → Held → List Send
+held_tick_sends c peer (Closed first) = []
+held_tick_sends c peer (Open t) = to_all peer (client.sends_of (client_ticks c t))
+
+abbrev pub client_tick_sends : Settings → (now : ℕ) → ClientSlot → List Send
+client_tick_sends c now s = held_tick_sends (context_of c now s.key) s.key.peer s.value.held
+
+abbrev pub held_tick_ends : Context → (number : ℕ) → Held → List Ended
+held_tick_ends c number (Closed first) = []
+held_tick_ends c number (Open t) = ended_with number t.ask.choice (client.ending_of (client_ticks c t))
+
+abbrev pub client_tick_ends : Settings → (now : ℕ) → ClientSlot → List Ended
+client_tick_ends c now s = held_tick_ends (context_of c now s.key) s.value.number s.value.held
+
+-- all slots go on; what they send and end stands in ascending order of keys
+abbrev pub clients_tick : Settings → (now : ℕ) → ClientEnd → ClientTurn
+clients_tick c now e =
+    record {
+      end = record e { slots = map (client_ticked c now) e.slots };
+      sends = from_each (client_tick_sends c now) (in_order peer_key_cmp e.slots);
+      ended = from_each (client_tick_ends c now) (in_order peer_key_cmp e.slots);
+    }
+
+-- An ask.
+
+-- why an ask is refused: all slots are held, or no further ticket has a number; all invoke IDs of the peer are held; or the request can't go
+pub data AskRefusal : Type 0 where
+  NoSlot : AskRefusal
+  NoInvokeId : AskRefusal
+  CannotGo : (why : RequestFault) → AskRefusal
+
+abbrev pub is_held_there : ℕ → Option Client → Bool
+is_held_there now None = false
+is_held_there now (Some s) = is_held now s.held
+
+-- a held slot has that invoke ID for the peer
+abbrev pub is_id_held : ℕ → List ClientSlot → PeerView → ℕ → Bool
+is_id_held now slots peer invoke_id = is_held_there now (value_at same_key (record { peer = peer; invoke_id = invoke_id }) slots)
+
+-- the least of so many numbers from one on that a test refuses
+abbrev pub least_not : (ℕ → Bool) → (count from : ℕ) → Option ℕ
+least_not test zero from = None
+least_not test (suc count) from = if test from then least_not test count (from + 1) else Some from
+
+-- as many tickets as 64 bits number
+abbrev pub LAST_TICKET : ℕ
+LAST_TICKET = 18446744073709551615
+
+abbrev pub has_no_slot : ℕ → ClientEnd → Bool
+has_no_slot now e = nat_le e.capacity (count_by (is_slot_held now) e.slots) || nat_le LAST_TICKET e.asked
+
+-- an accepted ask
+pub record Accepted : Type 0 where
+  pub end : ClientEnd
+  pub ticket : ℕ
+  pub invoke_id : ℕ
+  pub ask : Ask
+  pub sends : List Send
+
+pub data Answer : Type 0 where
+  Refused : (why : AskRefusal) → Answer
+  Asked : (accepted : Accepted) → Answer
+
+abbrev pub new_client : Context → (number : ℕ) → Ask → Client
+new_client c number ask = record { number = number; held = kept (asked_ticket c ask) }
+
+-- the slots that are not held go, and a new one comes
+abbrev pub accepts : Settings → (now : ℕ) → PeerKey → Ask → ClientEnd → Accepted
+accepts c now key ask e =
+    record {
+      end = record {
+        slots = filter (is_slot_held now) e.slots ++ record { key = key; begin = now; value = new_client (context_of c now key) e.asked ask } ∷ [];
+        capacity = e.capacity;
+        asked = e.asked + 1;
+      };
+      ticket = e.asked;
+      invoke_id = key.invoke_id;
+      ask = ask;
+      sends = to_all key.peer (client.sends_of (asks (context_of c now key) ask));
+    }
+
+abbrev pub asks_with_id : Settings → (now : ℕ) → PeerView → Ask → ClientEnd → Option ℕ → Answer
+asks_with_id c now peer ask e None = Answer.Refused NoInvokeId
+asks_with_id c now peer ask e (Some invoke_id) =
+    if has_no_slot now e then Answer.Refused NoSlot else Asked (accepts c now (record { peer = peer; invoke_id = invoke_id }) ask e)
+
+-- it takes the least invoke ID that is not held for the peer
+abbrev pub asks_for : Settings → (now : ℕ) → PeerView → Ask → ClientEnd → Answer
+asks_for c now peer ask e = asks_with_id c now peer ask e (least_not (is_id_held now e.slots peer) 256 0)
+
+abbrev pub asks_by_way : Settings → (now : ℕ) → PeerView → (choice : ℕ) → Octets → ClientEnd → Way RequestFault → Answer
+asks_by_way c now peer choice octets e Way.InOne =
+    asks_for c now peer (record { first = now; choice = choice; whole = true; pieces = octets ∷ [] }) e
+asks_by_way c now peer choice octets e (Way.InSegments pieces) =
+    asks_for c now peer (record { first = now; choice = choice; whole = false; pieces = pieces }) e
+asks_by_way c now peer choice octets e (Way.Refused why) = Answer.Refused (CannotGo why)
+
+-- a request with these service data, to a peer that takes so much
+abbrev pub client_asks : Settings → (now : ℕ) → PeerView → Limits → (choice : ℕ) → Octets → ClientEnd → Answer
+client_asks c now peer limits choice octets e = asks_by_way c now peer choice octets e (request_way_of c limits octets)
+
+-- The server's end.
+
+abbrev pub ServerSlot : Type 0
+ServerSlot = Slot PeerKey Entry
+
+-- the reply table (own rule of this profile); a slot's life begins with that of its entry
+pub record ServerEnd : Type 0 where
+  pub slots : List ServerSlot
+  pub capacity : ℕ
+
+-- an effect, and for which transaction
+pub record Act : Type 0 where
+  pub key : PeerKey
+  pub effect : Effect
+
+-- what one event makes of the server's end, what is sent, in order of sending, and what was performed
+pub record ServerTurn : Type 0 where
+  pub end : ServerEnd
+  pub sends : List Send
+  pub act : Option Act
+
+abbrev pub is_slot_live : ℕ → ServerSlot → Bool
+is_slot_live now s = is_live now s.value
+
+-- a slot has no live entry
+abbrev pub is_free : ℕ → ServerEnd → Bool
+is_free now e = nat_lt (count_by (is_slot_live now) e.slots) e.capacity
+
+-- an entry that is live is set in its place; where none was, those that are not live go, and the new one comes
+abbrev pub set_or_put : ℕ → PeerKey → Entry → List ServerSlot → (dead : Bool) → List ServerSlot
+set_or_put now key d slots false = with_value same_key key d slots
+set_or_put now key d slots true = filter (is_slot_live now) slots ++ record { key = key; begin = d.begin; value = d } ∷ []
+
+-- one that is not live stays where it is
+abbrev pub put_entry : ℕ → PeerKey → Option Entry → List ServerSlot → List ServerSlot
+put_entry now key None slots = slots
+put_entry now key (Some d) slots = if is_live now d then set_or_put now key d slots (is_none_live now (value_at same_key key slots)) else slots
+
+abbrev pub act_at : PeerKey → Option Effect → Option Act
+act_at key None = None
+act_at key (Some x) = Some (record { key = key; effect = x })
+
+abbrev pub server_goes : (now : ℕ) → ServerEnd → PeerKey → server.Reaction → ServerTurn
+server_goes now e key v =
+    record { end = record e { slots = put_entry now key v.entry e.slots }; sends = to_all key.peer v.sends; act = act_at key v.effect }
+
+-- an APDU comes from a peer
+abbrev pub server_hears : Settings → (now : ℕ) → Service → PeerView → Apdu → ServerEnd → ServerTurn
+server_hears c now service peer a e =
+    server_goes now e (key_of peer a) (server_gets (context_of c now (key_of peer a)) service (value_at same_key (key_of peer a) e.slots) (is_free now e) a)
+
+-- A tick of the server's end.
+
+-- the entry after a reaction to it
+abbrev pub entry_or : Entry → Option Entry → Entry
+entry_or old None = old
+entry_or old (Some d) = d
+
+abbrev pub server_ticked : Settings → (now : ℕ) → ServerSlot → ServerSlot
+server_ticked c now s = record s { value = entry_or s.value (server_ticks (context_of c now s.key) (Some s.value)).entry }
+
+abbrev pub server_tick_sends : Settings → (now : ℕ) → ServerSlot → List Send
+server_tick_sends c now s = to_all s.key.peer (server_ticks (context_of c now s.key) (Some s.value)).sends
+
+-- all slots go on; what they send stands in ascending order of keys
+abbrev pub servers_tick : Settings → (now : ℕ) → ServerEnd → ServerTurn
+servers_tick c now e =
+    record {
+      end = record e { slots = map (server_ticked c now) e.slots };
+      sends = from_each (server_tick_sends c now) (in_order peer_key_cmp e.slots);
+      act = None;
+    }

@@ -1,0 +1,64 @@
+//! Datagrams that carry what an end sends.
+ghost use Rattle.std.specs.Prelude.{◌≡◌, ◌≤◌, length, IfOk};
+ghost use Rattle.bac_apdu.specs.Views.{apdu_view};
+ghost use Rattle.bac_npdu.specs.Views.{peer_view};
+ghost use Rattle.bac_ends.specs.Sends.{to_peer, IsSent, IsShort};
+
+use bac_apdu::{Apdu, write};
+use bac_npdu::{Peer, write_datagram};
+use bac_value::NoMemory;
+use std::alloc::Global;
+use std::marker::Model;
+
+/// A datagram for a link: four octets of IPv4 address and two of UDP port (clause J.1.2), and its octets.
+#[derive(Drop)]
+pub struct Datagram {
+    to: [u8; 6],
+    octets: Vec<u8>,
+}
+
+impl Model for Datagram {
+    ghost use Rattle.bac_ends.specs.Sends as sends;
+
+    ghost Value = { sends.Datagram };
+
+    ghost view = { λ d. record { to = d.to; octets = d.octets.items } };
+}
+
+impl Datagram {
+    /// The link that it goes to.
+    pub fn to(&self) -> [u8; 6]
+        ensures { result ≡ self.now.to }
+    {
+        self.to
+    }
+
+    /// Its octets.
+    pub fn octets(&self) -> &[u8]
+        ensures { result.now ≡ self.now.octets }
+    {
+        &self.octets
+    }
+
+    /// Its octets, without a copy.
+    pub fn into_octets(self) -> Vec<u8>
+        ensures { result.items ≡ self.octets }
+    {
+        self.octets
+    }
+}
+
+/// The datagram that carries an APDU to a peer, as the one frame of it.
+pub fn datagram_of(alloc: Global, peer: &Peer, apdu: &Apdu<'_>) -> Result<Datagram, NoMemory>
+    requires { IsShort (apdu_view apdu.now) }
+    ensures { IfOk result (IsSent (to_peer (peer_view peer.now) (apdu_view apdu.now))) }
+{
+    let mut spelled = Vec::new(alloc);
+    write(apdu, &mut spelled)?;
+    let mut octets = Vec::new(alloc);
+    write_datagram(peer, apdu.expects_reply(), &spelled, &mut octets)?;
+    Ok(Datagram {
+        to: peer.link,
+        octets,
+    })
+}

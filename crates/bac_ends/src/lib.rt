@@ -1,0 +1,25 @@
+//! What both ends of a transaction stand on: how slots are found, what is sent, and both ends as plain values.
+//!
+//! The definitions stand in `specs/`; the code of the client's and the server's end cites them.
+#![tactic(auto)]
+
+mod datagram;
+pub mod examples;
+mod invoke_id;
+mod laws;
+mod peer_key;
+mod peer_key_order;
+mod settings;
+mod short_sending;
+mod sizes;
+
+pub use datagram::{Datagram, datagram_of};
+pub use invoke_id::invoke_id_of;
+pub use laws::keys_in_order;
+pub use peer_key::PeerKey;
+pub use settings::Settings;
+pub use short_sending::{abort_datagram, ack_datagram};
+pub use sizes::{allows_segments, apdu_size, transfer_size};
+
+#[cfg(test)]
+mod tests;
