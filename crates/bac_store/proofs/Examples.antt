@@ -111,8 +111,8 @@ read access = ReadFile (id 10 1) access
 writes_records : reply_to house (write (WriteRecords (pos 0) 1 (0x62 ∷ 0xAB ∷ 0xCD ∷ []))) ≡ Error 5 10
 writes_records = refl
 
-writes_behind_the_end : reply_to house (write (WriteStream (pos 3) (0xAA ∷ []))) ≡ Error 5 11
-writes_behind_the_end = refl
+writes_after_the_end : reply_to house (write (WriteStream (pos 3) (0xAA ∷ []))) ≡ Error 5 11
+writes_after_the_end = refl
 
 writes_below : reply_to house (write (WriteStream (negsuc 1) (0xAA ∷ []))) ≡ Error 5 11
 writes_below = refl
@@ -150,8 +150,8 @@ reads_to_the_end = refl
 reads_at_the_end : reply_to house (read (ReadStream (pos 2) 1)) ≡ Whole (FileRead true (pos 2) [])
 reads_at_the_end = refl
 
-reads_behind_the_end : reply_to house (read (ReadStream (pos 3) 1)) ≡ Error 5 11
-reads_behind_the_end = refl
+reads_after_the_end : reply_to house (read (ReadStream (pos 3) 1)) ≡ Error 5 11
+reads_after_the_end = refl
 
 reads_below : reply_to house (read (ReadStream (negsuc 0) 1)) ≡ Error 5 11
 reads_below = refl

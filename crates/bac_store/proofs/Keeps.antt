@@ -8,7 +8,7 @@ use Rattle.std.proofs.lemmas.List.{with_items_is}
 use Rattle.std.specs.Global.{Vec}
 use Rattle.std.specs.Vec.{with_items}
 use Rattle.bac_store.specs.declared.entry.Entry.{Entry}
-use Rattle.bac_store.specs.Views.{entry}
+use Rattle.bac_store.specs.Views.{entry_view}
 use Rattle.bac_store.specs.Changes.{where_that, with_own_values, with_values, with_contents, with_octets}
 use Rattle.bac_store.specs.Kept.{object_number, IsShort, IsKept, IsInOrder, Fits}
 use Rattle.bac_store.specs.Limits.{VALUE_LIMIT, FILE_LIMIT}
@@ -83,7 +83,7 @@ changed_in_order (Change.Octets id octets) f s o = record {
 }
 
 -- what a change of the objects in their vector leaves
-pub vector_in_order : (v : Vec Entry) (ws : List Entry) (c : Change) → Fits c → IsInOrder (map entry v.items) → length ws ≡ v.len
-    → map entry ws ≡ changed c (map entry v.items) → IsInOrder (map entry (with_items v ws).items)
+pub vector_in_order : (v : Vec Entry) (ws : List Entry) (c : Change) → Fits c → IsInOrder (map entry_view v.items) → length ws ≡ v.len
+    → map entry_view ws ≡ changed c (map entry_view v.items) → IsInOrder (map entry_view (with_items v ws).items)
 vector_in_order v ws c f o kept is =
-    subst (λ xs. IsInOrder (map entry xs)) (sym (with_items_is v ws kept)) (subst IsInOrder (sym is) (changed_in_order c f (map entry v.items) o))
+    subst (λ xs. IsInOrder (map entry_view xs)) (sym (with_items_is v ws kept)) (subst IsInOrder (sym is) (changed_in_order c f (map entry_view v.items) o))

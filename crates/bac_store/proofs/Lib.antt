@@ -9,7 +9,9 @@ pub mod Distinct
 pub mod Sorting
 pub mod Stored
 pub mod HouseLaws
+pub mod ReplyKinds
 pub mod ReplySizes
+pub mod Equal
 pub mod KindLaws
 pub mod OrderLaws
 pub mod WriteLaws

@@ -11,7 +11,7 @@ use Rattle.std.proofs.lemmas.Bool.Decides.{nat_tests}
 use Rattle.std.proofs.lemmas.List.Elements.{All-head, All-tail}
 use Rattle.std.proofs.lemmas.List.{length-map}
 use Rattle.std.proofs.Math.ListN.{get_or-map}
-use Rattle.bac_store.specs.Found.{IsOnly, IsPlaceOf}
+use Rattle.bac_store.specs.Lookups.{IsOnly, IsPlaceOf}
 use Rattle.bac_store.specs.Stores.{first_that}
 use Rattle.bac_store.specs.Changes.{where_that}
 

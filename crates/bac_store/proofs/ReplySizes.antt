@@ -50,6 +50,14 @@ value_most : (d : Datum) → length (value_spelling d) ≤ 7 + length (contents_
 value_most d =
     omega (arith, length-append (tag_spelling (mark_for d (length (contents_of d)))) (contents_of d), tag_most (mark_for d (length (contents_of d))))
 
+tag_some : (m : Mark) → 1 ≤ length (tag_spelling m)
+unfolding tag_spelling
+tag_some m = omega (arith, length-append (number_octets m.number) (form_octets m.form))
+
+pub value_some : (d : Datum) → 1 ≤ length (value_spelling d)
+value_some d =
+    omega (arith, length-append (tag_spelling (mark_for d (length (contents_of d)))) (contents_of d), tag_some (mark_for d (length (contents_of d))))
+
 width_most : (n : ℕ) → width_of n ≤ 8
 width_most n = grind (arith, nat_tests)
 

@@ -13,7 +13,7 @@ use Rattle.std.proofs.lemmas.List.Elements.{All-map}
 use Rattle.std.proofs.lemmas.List.Sorted.{IsPermutation-map, IsPermutation-sym, All-permutation}
 use Rattle.bac_value.specs.declared.value.ObjectIdentifier.{ObjectIdentifier}
 use Rattle.bac_value.specs.Value.{ObjectId}
-use Rattle.bac_value.specs.Views.{object_id}
+use Rattle.bac_value.specs.Views.{object_identifier_view}
 use Rattle.bac_store.specs.declared.object.Object as thing
 use Rattle.bac_store.specs.Kept.{object_number, IsInOrder, IsKept, IsShort}
 use Rattle.bac_store.specs.Limits.{FILE_LIMIT}
@@ -21,18 +21,19 @@ use Rattle.bac_store.specs.Made.{IsBad, IsGood, IsMadeOf, IsRefused}
 use Rattle.bac_store.specs.Objects.{AreDistinct, AreLike, IsLike, IsRight, IsStoreOf, is_right_file, is_right_property}
 use Rattle.bac_store.specs.Ordered.{AreSorted, IsSorting}
 use Rattle.bac_store.specs.Stores.{Store, File, Object, Property, is_number, is_object, is_same, object_in}
-use Rattle.bac_store.specs.Views.{object}
+use Rattle.bac_store.specs.Views.{object_view}
 use Rattle.bac_store.proofs.Distinct.{AllPairs-map, AllPairs-unmap, apart_from_rise, first_permuted, keys_permute}
 use Rattle.bac_store.proofs.PlanLaws.{same_numbers}
 use Rattle.bac_store.proofs.ValueData.{fits_name}
 
 abbrev number : thing.Object → ℕ
-number o = object_number (object_id o.id)
+number o = object_number (object_identifier_view o.id)
 
 same_parts : (a b c d : ℕ) → b < 2 ^ 22 → d < 2 ^ 22 → a * 2 ^ 22 + b ≡ c * 2 ^ 22 + d → record { kind : a ≡ c; instance : b ≡ d }
 same_parts a b c d p q e = record { kind = omega arith; instance = omega arith }
 
-same_id : (a b : ObjectIdentifier) → object_number (object_id a) ≡ object_number (object_id b) → object_id a ≡ object_id b
+same_id : (a b : ObjectIdentifier) → object_number (object_identifier_view a) ≡ object_number (object_identifier_view b)
+    → object_identifier_view a ≡ object_identifier_view b
 same_id a b e =
     let p = same_parts a.kind a.instance b.kind b.instance a.instance_fits b.instance_fits e in
     λ i. record { kind = p.kind i; instance = p.instance i }
@@ -49,13 +50,13 @@ right_file_fits k (Some f) h = grind (arith, nat_tests)
 All-weaker : {A : Type 0} (P Q : A → Type 0) → ((x : A) → P x → Q x) → (xs : List A) → All P xs → All Q xs
 All-weaker P Q f xs all i d l = f (get_or xs i d) (all i d l)
 
-kept_from_sorting : (old : Object) (new : thing.Object) → IsSorting old (object new) → IsKept (object new)
+kept_from_sorting : (old : Object) (new : thing.Object) → IsSorting old (object_view new) → IsKept (object_view new)
 kept_from_sorting old new s = record {
   kind_fits = new.id.kind_fits;
   instance_fits = new.id.instance_fits;
   named = let short = fits_name old.name s.right.name in rw s.reordered.name (omega arith);
   rise = s.rise;
-  short = All-permutation IsShort old.properties (object new).properties s.reordered.properties
+  short = All-permutation IsShort old.properties (object_view new).properties s.reordered.properties
       (All-weaker (λ p. IsTrue (is_right_property old.id.kind p)) IsShort (right_is_short old.id.kind) old.properties s.right.each);
   file_fits = subst (λ f. IfSome f (λ g. length g.octets ≤ FILE_LIMIT)) (sym s.reordered.file) (right_file_fits old.id.kind old.file s.right.file);
 }
@@ -78,75 +79,76 @@ like_from_sorting old new s = record {
 }
 
 likes : (id : ObjectId) (olds news : List thing.Object) → length news ≡ length olds
-    → ((i : ℕ) (d : thing.Object) → i < length olds → IsSorting (object (get_or olds i d)) (object (get_or news i d)))
-    → AreLike (object_in (map object news) id) (object_in (map object olds) id)
+    → ((i : ℕ) (d : thing.Object) → i < length olds → IsSorting (object_view (get_or olds i d)) (object_view (get_or news i d)))
+    → AreLike (object_in (map object_view news) id) (object_in (map object_view olds) id)
 likes id [] [] same each = tt
 likes id [] (n ∷ news) same each = absurd (omega arith)
 likes id (o ∷ olds) [] same each = absurd (omega arith)
 likes id (o ∷ olds) (n ∷ news) same each =
-    go (is_object id (object o)) (ap (is_same id) head.reordered.id) refl (likes id olds news (omega arith) (λ i d l. each (suc i) d (omega arith)))
+    go (is_object id (object_view o)) (ap (is_same id) head.reordered.id) refl (likes id olds news (omega arith) (λ i d l. each (suc i) d (omega arith)))
   where
-    head : IsSorting (object o) (object n)
+    head : IsSorting (object_view o) (object_view n)
     head = each 0 o (omega arith)
 
-    go : (b : Bool) → is_object id (object n) ≡ is_object id (object o) → is_object id (object o) ≡ b
-        → AreLike (object_in (map object news) id) (object_in (map object olds) id)
-        → AreLike (object_in (map object (n ∷ news)) id) (object_in (map object (o ∷ olds)) id)
-    go true same e rest = rw (same, e) (like_from_sorting (object o) (object n) head)
+    go : (b : Bool) → is_object id (object_view n) ≡ is_object id (object_view o) → is_object id (object_view o) ≡ b
+        → AreLike (object_in (map object_view news) id) (object_in (map object_view olds) id)
+        → AreLike (object_in (map object_view (n ∷ news)) id) (object_in (map object_view (o ∷ olds)) id)
+    go true same e rest = rw (same, e) (like_from_sorting (object_view o) (object_view n) head)
     go false same e rest = rw (same, e) rest
 
 -- ---- all of it
 
 module _ (old sorted : List thing.Object) (moved : IsPermutation old sorted) where
-  pub not_distinct : (AllPairs (λ a b. object_number (object_id a.id) ≢ object_number (object_id b.id)) sorted → ⊥) → AreDistinct (map object old) → ⊥
+  pub not_distinct : (AllPairs (λ a b. object_number (object_identifier_view a.id) ≢ object_number (object_identifier_view b.id)) sorted → ⊥)
+      → AreDistinct (map object_view old) → ⊥
   not_distinct twice apart =
-      let ids = AllPairs-unmap object (λ a b. a.id ≢ b.id) old apart in
+      let ids = AllPairs-unmap object_view (λ a b. a.id ≢ b.id) old apart in
       twice (keys_permute number old sorted moved (λ i j d l within e. ids i j d l within (same_id (get_or old i d).id (get_or old j d).id e)))
 
-  distinct : AllPairs (λ a b. object_number (object_id a.id) < object_number (object_id b.id)) sorted → AreDistinct (map object old)
+  distinct : AllPairs (λ a b. object_number (object_identifier_view a.id) < object_number (object_identifier_view b.id)) sorted → AreDistinct (map object_view old)
   distinct rise =
       let numbers = keys_permute number sorted old (IsPermutation-sym old sorted moved) (apart_from_rise number sorted rise) in
-      AllPairs-map object (λ a b. a.id ≢ b.id) old (λ i j d l within e. numbers i j d l within (ap object_number e))
+      AllPairs-map object_view (λ a b. a.id ≢ b.id) old (λ i j d l within e. numbers i j d l within (ap object_number e))
 
-  pub bad : AllPairs (λ a b. object_number (object_id a.id) < object_number (object_id b.id)) sorted → (All IsRight (map object sorted) → ⊥)
-      → IsBad (map object old)
+  pub bad : AllPairs (λ a b. object_number (object_identifier_view a.id) < object_number (object_identifier_view b.id)) sorted
+      → (All IsRight (map object_view sorted) → ⊥) → IsBad (map object_view old)
   bad rise wrong = record {
     distinct = distinct rise;
-    wrong = λ all. wrong (All-permutation IsRight (map object old) (map object sorted) (IsPermutation-map object old sorted moved) all);
+    wrong = λ all. wrong (All-permutation IsRight (map object_view old) (map object_view sorted) (IsPermutation-map object_view old sorted moved) all);
   }
 
-  module _ (new : List thing.Object) (rise : AllPairs (λ a b. object_number (object_id a.id) < object_number (object_id b.id)) sorted)
+  module _ (new : List thing.Object) (rise : AllPairs (λ a b. object_number (object_identifier_view a.id) < object_number (object_identifier_view b.id)) sorted)
       (all : AreSorted sorted new) where
-    pub good : IsGood (map object old)
+    pub good : IsGood (map object_view old)
     good = record {
       distinct = distinct rise;
-      right = All-permutation IsRight (map object sorted) (map object old)
-          (IsPermutation-sym (map object old) (map object sorted) (IsPermutation-map object old sorted moved))
-          (All-map IsRight object sorted (λ i d l. (all.each i d l).right));
+      right = All-permutation IsRight (map object_view sorted) (map object_view old)
+          (IsPermutation-sym (map object_view old) (map object_view sorted) (IsPermutation-map object_view old sorted moved))
+          (All-map IsRight object_view sorted (λ i d l. (all.each i d l).right));
     }
 
-    pub in_order : IsInOrder (map object new)
+    pub in_order : IsInOrder (map object_view new)
     in_order = record {
-      rise = AllPairs-map object (λ a b. object_number a.id < object_number b.id) new (λ i j d l within.
+      rise = AllPairs-map object_view (λ a b. object_number a.id < object_number b.id) new (λ i j d l within.
           let inside : j < length sorted = omega (arith, all.same_length) in
           let before : i < length sorted = omega arith in
-          subst (λ x. object_number x < object_number (object (get_or new j d)).id) (sym (all.each i d before).reordered.id)
-          (subst (λ x. object_number (object (get_or sorted i d)).id < object_number x) (sym (all.each j d inside).reordered.id) (rise i j d l inside)));
-      each = All-map IsKept object new (λ i d l.
+          subst (λ x. object_number x < object_number (object_view (get_or new j d)).id) (sym (all.each i d before).reordered.id)
+          (subst (λ x. object_number (object_view (get_or sorted i d)).id < object_number x) (sym (all.each j d inside).reordered.id) (rise i j d l inside)));
+      each = All-map IsKept object_view new (λ i d l.
           let inside : i < length sorted = omega (arith, all.same_length) in
-          kept_from_sorting (object (get_or sorted i d)) (get_or new i d) (all.each i d inside));
+          kept_from_sorting (object_view (get_or sorted i d)) (get_or new i d) (all.each i d inside));
     }
 
-    store_of : IsStoreOf (map object old) (map object new)
+    store_of : IsStoreOf (map object_view old) (map object_view new)
     store_of id =
-        let one = one_object id (map object sorted) (AllPairs-map object (λ a b. object_number a.id < object_number b.id) sorted rise) in
-        let same = first_permuted (is_object id) (map object old) (map object sorted) one (IsPermutation-map object old sorted moved) in
-        subst (AreLike (object_in (map object new) id)) same (likes id sorted new all.same_length all.each)
+        let one = one_object id (map object_view sorted) (AllPairs-map object_view (λ a b. object_number a.id < object_number b.id) sorted rise) in
+        let same = first_permuted (is_object id) (map object_view old) (map object_view sorted) one (IsPermutation-map object_view old sorted moved) in
+        subst (AreLike (object_in (map object_view new) id)) same (likes id sorted new all.same_length all.each)
 
-    pub made : IsMadeOf (map object old) (map object new)
+    pub made : IsMadeOf (map object_view old) (map object_view new)
     made = record { distinct = good.distinct; right = good.right; store = store_of }
 
--- want of memory comes last
+-- out of memory comes last
 pub refused : (objects : List Object) (r : Result Store StoreFault) → IsErrAnd r (λ e. e ≡ fault.NoMemory) → IsGood objects
     → MatchResult r (IsMadeOf objects) (IsRefused objects)
 refused objects (Ok s) h g = absurd h

@@ -1,18 +1,9 @@
--- What contracts see of plans and of refusals in code.
+-- Which Error a refusal in code is answered with.
 use Rattle.std.specs.Prelude.{Option, Some, None}
-use Rattle.bac_value.specs.Views.{object_id}
 use Rattle.bac_service.specs.Values.{Reply}
-use Rattle.bac_store.specs.declared.planned.Change as code
-use Rattle.bac_store.specs.declared.planned.Change.TheVariants as variant
 use Rattle.bac_store.specs.declared.refusal.Refusal.{Refusal}
 use Rattle.bac_store.specs.declared.refusal.Refusal.TheVariants as case
-use Rattle.bac_store.specs.Plans.{Change}
 use Rattle.bac_store.specs.Replies as reply
-
-abbrev pub change_view : code.Change → Change
-change_view variant.Nothing = Change.Nothing
-change_view (variant.Values id n values) = Change.Values (object_id id) n values.octets.items
-change_view (variant.Octets id octets) = Change.Octets (object_id id) octets.items
 
 abbrev pub refused : Refusal → Reply
 refused case.UnknownObject = reply.UNKNOWN_OBJECT

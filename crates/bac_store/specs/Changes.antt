@@ -1,13 +1,13 @@
 -- What a request makes of a store.
-use Rattle.std.specs.Prelude.{◌≡◌, ℕ, Bool, true, false, List, map, if◌then◌else◌}
+use Rattle.std.specs.Prelude.{◌≡◌, ℕ, ◌+◌, ◌≤◌, Bool, true, false, List, length, map, IfSome, if◌then◌else◌}
 use Rattle.std.specs.Option.{option_map}
 use Rattle.bac_value.specs.Value.{ObjectId}
-use Rattle.bac_service.specs.Values.{Request, Reply}
+use Rattle.bac_service.specs.Values.{Request, Reply, for_file, held_by}
 use Rattle.bac_service.specs.Values.WriteAccess.{WriteStream, WriteRecords}
 use Rattle.bac_service.specs.Values.Request.{ReadFile, WriteFile, ReadProperty, WriteProperty}
 use Rattle.bac_service.specs.Values.Reply.{Simple, Whole, Error, Reject}
-use Rattle.bac_store.specs.Stores.{Store, Object, Property, File, is_object, is_number}
-use Rattle.bac_store.specs.Replies.{reply_to, written}
+use Rattle.bac_store.specs.Stores.{Store, Object, Property, File, is_object, is_number, object_in}
+use Rattle.bac_store.specs.Replies.{file_of, reply_to, written}
 
 -- the list with a change to each element that a test takes
 abbrev pub where_that : {A : Type 0} → (A → Bool) → (A → A) → List A → List A
@@ -41,6 +41,13 @@ is_done (Reject reason) = false
 -- no case of the tables holds for the request: its reply is no Error
 abbrev pub IsGranted : Store → Request → Type 0
 IsGranted s r = is_done (reply_to s r) ≡ true
+
+-- the reply to the request, or the change that it makes, holds octets: only then it takes memory
+abbrev pub HoldsOctets : Store → Request → Type 0
+HoldsOctets s (ReadFile id access) = 1 ≤ length (held_by (reply_to s (ReadFile id access)))
+HoldsOctets s (WriteFile id access) = IfSome (file_of (object_in s id)) (λ f. 1 ≤ length f.octets + length (for_file access))
+HoldsOctets s (ReadProperty r) = 1 ≤ length (held_by (reply_to s (ReadProperty r)))
+HoldsOctets s (WriteProperty r values priority) = 1 ≤ length values
 
 -- what a request is for, where it is done
 abbrev pub done : Request → Store → Store

@@ -7,9 +7,10 @@ pub mod Objects
 pub mod Views
 pub mod Kept
 pub mod Answers
-pub mod Found
+pub mod Lookups
 pub mod Made
 pub mod Ordered
+pub mod ReplyKinds
 pub mod ReplyLengths
 pub mod Kinds
 pub mod House

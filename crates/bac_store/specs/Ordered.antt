@@ -5,7 +5,7 @@ use Rattle.std.specs.List.Sorted.{IsPermutation}
 use Rattle.bac_store.specs.declared.object.Object as thing
 use Rattle.bac_store.specs.Objects.{IsRight}
 use Rattle.bac_store.specs.Stores.{Object}
-use Rattle.bac_store.specs.Views.{object}
+use Rattle.bac_store.specs.Views.{object_view}
 
 -- the object with its properties in another order
 pub record IsReordered (old new : Object) : Type 0 where
@@ -25,8 +25,8 @@ SortsObject sorted old new = MatchBool sorted (IsSorting old new) (IsRight old �
 
 pub record AreSorted (old new : List thing.Object) : Type 0 where
   pub same_length : length new ≡ length old
-  pub each : (i : ℕ) (d : thing.Object) → i < length old → IsSorting (object (slice_index_or old i d)) (object (slice_index_or new i d))
+  pub each : (i : ℕ) (d : thing.Object) → i < length old → IsSorting (object_view (slice_index_or old i d)) (object_view (slice_index_or new i d))
 
 -- whether all objects are right
 abbrev pub SortsObjects : Bool → List thing.Object → List thing.Object → Type 0
-SortsObjects sorted old new = MatchBool sorted (AreSorted old new) (All IsRight (map object old) → ⊥)
+SortsObjects sorted old new = MatchBool sorted (AreSorted old new) (All IsRight (map object_view old) → ⊥)

@@ -109,7 +109,7 @@ at_file (Some f) answer = answer f
 abbrev pub of_file : Store → ObjectId → (File → Reply) → Reply
 of_file s id answer = at_file (file_of (object_in s id)) answer
 
--- a position to read from: none below 0, none behind the end
+-- a position to read from: none below 0, none after the end
 abbrev pub is_no_read_start : ℤ → List ℕ → Bool
 is_no_read_start (pos n) octets = nat_lt (length octets) n
 is_no_read_start (negsuc n) octets = true
@@ -134,7 +134,7 @@ read_file_reply (ReadRecords start count) f = INVALID_FILE_ACCESS_METHOD
 read_file_reply (ReadStream start count) f =
     first_case ((is_no_read_start start f.octets ⟶ INVALID_FILE_START_POSITION) ∷ []) (file_read (read_start start) count f.octets)
 
--- a position to write at: -1 is the end; none below -1, none behind the end
+-- a position to write at: -1 is the end; none below -1, none after the end
 abbrev pub is_no_write_start : ℤ → List ℕ → Bool
 is_no_write_start (pos n) octets = nat_lt (length octets) n
 is_no_write_start (negsuc zero) octets = false
@@ -145,7 +145,7 @@ abbrev pub write_start : ℤ → List ℕ → ℕ
 write_start (pos n) octets = n
 write_start (negsuc n) octets = length octets
 
--- the first of the octets, the new ones, and what lies behind those
+-- the first of the octets, the new ones, and what comes after those
 abbrev pub overwritten : ℕ → List ℕ → List ℕ → List ℕ
 overwritten start new octets = take start octets ++ (new ++ drop (start + length new) octets)
 

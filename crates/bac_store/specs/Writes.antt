@@ -29,7 +29,7 @@ pub record IsValueWrite (r : Reference) (values : List ℕ) (old new : Store) : 
   pub file : file_at new r.object ≡ file_at old r.object
   pub other_objects : (id : ObjectId) → is_same r.object id ≡ false → object_in new id ≡ object_in old id
 
--- clause 14.2: the file has the first of its octets, the new ones, and what lay behind those, with the mark that it had; all else is as it was
+-- clause 14.2: the file has the first of its octets, the new ones, and what came after those, with the mark that it had; all else is as it was
 pub record IsFileWrite (id : ObjectId) (start : ℤ) (octets : List ℕ) (old new : Store) : Type 0 where
   pub there : file_at new id ≡ option_map (with_contents (written start octets)) (file_at old id)
   pub properties : (n : ℕ) → listed_at new id n ≡ listed_at old id n

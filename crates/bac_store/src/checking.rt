@@ -3,12 +3,12 @@ ghost use Rattle.std.specs.Prelude.{◌≡◌, ◌≤◌, ◌↔◌, true, IsTru
 ghost use Rattle.std.specs.List.{All};
 ghost use Rattle.std.specs.Option.{option_map};
 ghost use Rattle.bac_value.specs.Value.{characters};
-ghost use Rattle.bac_value.specs.Views.{object_id};
+ghost use Rattle.bac_value.specs.Views.{object_identifier_view};
 ghost use Rattle.bac_value.specs.Writing.{value_spelling};
 ghost use Rattle.bac_store.specs.Limits.{VALUE_LIMIT as VALUE_MOST};
 ghost use Rattle.bac_store.specs.Objects.{are_right_values as values_in, is_right_file as file_in, is_right_id as id_in};
 ghost use Rattle.bac_store.specs.Objects.{is_right_number as number_in, is_right_property as property_in};
-ghost use Rattle.bac_store.specs.Views.{property as property_view, file as file_view};
+ghost use Rattle.bac_store.specs.Views.{property_view, file_view};
 
 use crate::kind::{is_of_kind, is_state};
 use crate::limits::{
@@ -24,7 +24,7 @@ const NAME_OVERHEAD: usize = 5;
 
 /// Whether an object may have the identifier: a type of the profile, and an instance that does not stand for any.
 pub(crate) fn is_right_id(id: ObjectIdentifier) -> bool
-    ensures { result ≡ id_in (object_id id) }
+    ensures { result ≡ id_in (object_identifier_view id) }
 {
     let is_right_type = match id.kind {
         ANALOG_INPUT | ANALOG_VALUE | BINARY_VALUE | DEVICE | FILE => true,

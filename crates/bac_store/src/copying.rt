@@ -1,7 +1,7 @@
 //! Copies.
-ghost use Rattle.std.specs.Prelude.{◌≡◌, map, IfOk};
+ghost use Rattle.std.specs.Prelude.{◌≡◌, ◌≤◌, length, map, IfOk, OnErr};
 ghost use Rattle.std.specs.Option.{option_map};
-ghost use Rattle.bac_store.specs.Views.{entry as entry_view, file as file_view, slot as slot_view};
+ghost use Rattle.bac_store.specs.Views.{entry_view, file_view, slot_view};
 
 use crate::entry::{Entry, Slot};
 use crate::object::File;
@@ -60,8 +60,12 @@ fn copied_entry(alloc: Global, entry: &Entry) -> Result<Entry, NoMemory>
 
 /// Equal objects.
 pub(crate) fn copied(alloc: Global, objects: &[Entry]) -> Result<Vec<Entry>, NoMemory>
-    ensures { IfOk result (λ v. map entry_view v.items ≡ map entry_view objects.now) }
+    ensures same { IfOk result (λ v. map entry_view v.items ≡ map entry_view objects.now) }
+    ensures some { OnErr result (1 ≤ length objects.now) }
 {
+    if objects.is_empty() {
+        return Ok(Vec::new(alloc));
+    }
     let mut copies = Vec::with_capacity(alloc, objects.len())?;
     for entry in objects {
         copies.push(copied_entry(alloc, entry)?)?;

@@ -1,13 +1,14 @@
 //! Reading and writing files (clauses 14.1 and 14.2).
 ghost use Rattle.std.specs.Prelude.{◌≡◌, ◌≤◌, ◌+◌, ℕ, pos, true, false, List, length, IfOk, MatchOption, MatchResult, OnErr};
+ghost use Rattle.bac_service.specs.Values.{held_by};
 ghost use Rattle.bac_service.specs.Values.Complex.{StreamWritten};
 ghost use Rattle.bac_service.specs.Values.Reply.{Whole};
-ghost use Rattle.bac_service.specs.Views.{owned_complex, read_access as access_view, replied};
+ghost use Rattle.bac_service.specs.Views.{owned_reply_view, read_access_view};
 ghost use Rattle.bac_store.specs.Answers.{refused};
 ghost use Rattle.bac_store.specs.Changes.{is_done};
 ghost use Rattle.bac_store.specs.Limits.{FILE_LIMIT as FILE_MOST};
-ghost use Rattle.bac_store.specs.Replies.{file_read, is_no_write_start, overwritten as overwritten_by, read_file_reply, write_start, write_stream_reply};
-ghost use Rattle.bac_store.specs.Views.{file as file_view};
+ghost use Rattle.bac_store.specs.Replies.{file_read, is_no_write_start, octets_from, overwritten as overwritten_by, read_file_reply, write_start, write_stream_reply};
+ghost use Rattle.bac_store.specs.Views.{file_view};
 
 use crate::limits::FILE_LIMIT;
 use crate::object::File;
@@ -25,16 +26,18 @@ fn stream_reply(
 ) -> Result<OwnedReply, NoMemory>
     requires within { start ≤ length octets.now }
     requires short { length octets.now ≤ FILE_MOST }
-    ensures { IfOk result (λ r. replied owned_complex r ≡ file_read start count octets.now) }
+    ensures told { IfOk result (λ r. owned_reply_view r ≡ file_read start count octets.now) }
+    ensures held { OnErr result (1 ≤ length (octets_from start count octets.now)) }
 {
     let left = octets.len() - start;
     let end_of_file = left as u64 <= count;
     let len = if end_of_file { left } else { count as usize };
-    let octets = Vec::from_slice(alloc, &octets[start..start + len])?;
+    let mut copy = Vec::new(alloc);
+    copy.extend_from_slice(&octets[start..start + len])?;
     let read = FileRead {
         end_of_file,
         start: start as i64,
-        content: OctetString { octets },
+        content: OctetString { octets: copy },
     };
     Ok(AnyReply::Complex(AnyComplex::FileRead(read)))
 }
@@ -46,8 +49,9 @@ pub(crate) fn read_file(
     access: ReadAccess,
 ) -> Result<OwnedReply, NoMemory>
     requires { length file.now.octets.items ≤ FILE_MOST }
-    ensures told { IfOk result (λ r. replied owned_complex r ≡ read_file_reply (access_view access) (file_view file.now)) }
-    ensures last { OnErr result (is_done (read_file_reply (access_view access) (file_view file.now)) ≡ true) }
+    ensures told { IfOk result (λ r. owned_reply_view r ≡ read_file_reply (read_access_view access) (file_view file.now)) }
+    ensures last { OnErr result (is_done (read_file_reply (read_access_view access) (file_view file.now)) ≡ true) }
+    ensures held { OnErr result (1 ≤ length (held_by (read_file_reply (read_access_view access) (file_view file.now)))) }
 {
     match access {
         ReadAccess::Records { .. } => Ok(Refusal::InvalidFileAccessMethod.reply()),
@@ -60,7 +64,7 @@ pub(crate) fn read_file(
     }
 }
 
-/// The octet that a position to write at is; None where it is below -1 or behind the end.
+/// The octet that a position to write at is; None where it is below -1 or after the end.
 fn start_place(octets: &[u8], start: i64) -> Option<usize>
     ensures { MatchOption result (is_no_write_start start octets.now ≡ true)
         (λ at. (is_no_write_start start octets.now ≡ false) × (at ≡ write_start start octets.now) × (at ≤ length octets.now)) }
@@ -92,7 +96,7 @@ pub(crate) fn write_place(file: &File, start: i64, new: &[u8]) -> Result<usize, 
     }
 }
 
-/// Octets with new ones from a place on, and what lies behind those.
+/// Octets with new ones from a place on, and what comes after those.
 pub(crate) fn overwritten(
     alloc: Global,
     octets: &[u8],
@@ -101,8 +105,12 @@ pub(crate) fn overwritten(
 ) -> Result<Vec<u8>, NoMemory>
     requires within { at ≤ length octets.now }
     requires short { at + length new.now ≤ FILE_MOST }
-    ensures { IfOk result (λ v. v.items ≡ overwritten_by at new.now octets.now) }
+    ensures told { IfOk result (λ v. v.items ≡ overwritten_by at new.now octets.now) }
+    ensures held { OnErr result (1 ≤ length octets.now + length new.now) }
 {
+    if octets.is_empty() && new.is_empty() {
+        return Ok(Vec::new(alloc));
+    }
     let end = at + new.len();
     let mut whole = Vec::with_capacity(alloc, octets.len().max(end))?;
     whole.extend_from_slice(&octets[..at])?;

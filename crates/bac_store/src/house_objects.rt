@@ -1,11 +1,11 @@
 //! The house store.
 ghost use Rattle.std.specs.Prelude.{◌≡◌, List, ℕ, IfOk};
 ghost use Rattle.bac_value.specs.Value.{Datum};
-ghost use Rattle.bac_value.specs.Views.{datum};
+ghost use Rattle.bac_value.specs.Views.{value_view};
 ghost use Rattle.bac_value.specs.Writing.{value_spelling};
 ghost use Rattle.bac_store.specs.House.{flow as flow_view, house as house_view, house_device, log as log_view, pump as pump_view, setpoint as setpoint_view};
 ghost use Rattle.bac_store.specs.Stores.{kind_of};
-ghost use Rattle.bac_store.specs.Views.{object as object_view, property as property_view};
+ghost use Rattle.bac_store.specs.Views.{object_view, property_view};
 
 use crate::limits::{
     ANALOG_INPUT, ANALOG_VALUE, BINARY_VALUE, DESCRIPTION, DEVICE, FILE, PRESENT_VALUE,
@@ -19,7 +19,12 @@ use std::alloc::Global;
 /// A property of one application value.
 fn listed(alloc: Global, number: u32, value: &Value, writable: bool) -> Result<Property, NoMemory>
     ensures { IfOk result (λ p. property_view p
-        ≡ record { number = number; values = value_spelling (datum value.now); writable = writable; kind = kind_of (value_spelling (datum value.now)) }) }
+        ≡ record {
+          number = number;
+          values = value_spelling (value_view value.now);
+          writable = writable;
+          kind = kind_of (value_spelling (value_view value.now));
+        }) }
 {
     let values = spelled(alloc, value)?;
     Ok(Property {

@@ -1,6 +1,6 @@
 //! What the values of a property may be.
 ghost use Rattle.std.specs.Prelude.{◌≡◌};
-ghost use Rattle.bac_service.specs.Views.{reference as reference_view};
+ghost use Rattle.bac_service.specs.Views.{property_reference_view};
 ghost use Rattle.bac_store.specs.Stores.{kind_of as kind_in, is_state as is_state_in};
 ghost use Rattle.bac_store.specs.Replies.{is_of_kind as is_of_kind_in, is_binary_state as is_binary};
 
@@ -43,7 +43,7 @@ pub(crate) fn is_state(values: &[u8]) -> bool
 
 /// Whether a property is the present-value of a binary-value.
 pub(crate) fn is_binary_state(of: PropertyReference) -> bool
-    ensures { result ≡ is_binary (reference_view of) }
+    ensures { result ≡ is_binary (property_reference_view of) }
 {
     of.object.kind == BINARY_VALUE && of.property == PRESENT_VALUE
 }

@@ -1,6 +1,6 @@
 //! Laws of the definitions: functions that do nothing, whose contracts are the laws.
 ghost use Rattle.std.specs.Prelude.{◌≡◌, ◌≤◌, ℕ, ℤ, false, List, Option, Some};
-ghost use Rattle.bac_service.specs.Values.{ReadAccess, Reference, Request};
+ghost use Rattle.bac_service.specs.Values.{choice_of, ReadAccess, Reference, Request};
 ghost use Rattle.bac_service.specs.Values.Request.{ReadFile, ReadProperty, WriteFile, WriteProperty};
 ghost use Rattle.bac_service.specs.Values.WriteAccess.{WriteStream};
 ghost use Rattle.bac_value.specs.Value.{ObjectId};
@@ -9,6 +9,7 @@ ghost use Rattle.bac_store.specs.Changes.{after, is_done, IsGranted};
 ghost use Rattle.bac_store.specs.Kinds.{IsOneValue};
 ghost use Rattle.bac_store.specs.Objects.{IsStoreOf};
 ghost use Rattle.bac_store.specs.Replies.{reply_to};
+ghost use Rattle.bac_store.specs.ReplyKinds.{FitsChoice};
 ghost use Rattle.bac_store.specs.ReplyLengths.{DATA_LIMIT, reply_length};
 ghost use Rattle.bac_store.specs.Stores.{kind_of, Store as Objects};
 ghost use Rattle.bac_store.specs.Writes.{IsFileWrite, IsValueWrite};
@@ -38,6 +39,12 @@ pub fn writes_change_one_thing()
     ensures refused { (s : Objects) (r : Request) → is_done (reply_to s r) ≡ false → after s r ≡ s }
     ensures read { (s : Objects) (r : Reference) → after s (ReadProperty r) ≡ s }
     ensures file_read { (s : Objects) (id : ObjectId) (access : ReadAccess) → after s (ReadFile id access) ≡ s }
+{}
+
+/// A reply of a store is no Reject and fits the service choice of its request: a SimpleACK to WriteProperty, a ComplexACK of that
+/// choice to the other three, or an Error.
+pub fn replies_fit_requests()
+    ensures { (s : Objects) (r : Request) → FitsChoice (choice_of r) (reply_to s r) }
 {}
 
 /// No reply of a store has more octets of service data than can be sent, in one APDU or in segments.

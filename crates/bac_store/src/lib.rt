@@ -6,15 +6,15 @@
 
 mod changing;
 mod checking;
+mod comparing;
 mod copying;
 mod entry;
 mod files;
-mod finding;
-mod found;
 mod house_objects;
 mod kind;
 mod laws;
 mod limits;
+mod lookups;
 mod making;
 mod object;
 mod ordering;
@@ -22,14 +22,14 @@ mod planned;
 mod preparing;
 mod properties;
 mod refusal;
-mod searching;
 mod spelled;
 mod store;
 mod store_fault;
 
 pub use house_objects::house;
 pub use laws::{
-    kinds_are_values, order_says_nothing, replies_can_be_sent, writes_change_one_thing,
+    kinds_are_values, order_says_nothing, replies_can_be_sent, replies_fit_requests,
+    writes_change_one_thing,
 };
 pub use limits::{FILE_LIMIT, VALUE_LIMIT};
 pub use object::{File, Object, Property};

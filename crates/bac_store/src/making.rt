@@ -1,6 +1,6 @@
 //! A store's objects, made of objects in order.
 ghost use Rattle.std.specs.Prelude.{◌≡◌, map, IfOk};
-ghost use Rattle.bac_store.specs.Views.{entry as entry_view, object as object_view, property as property_view, slot as slot_view};
+ghost use Rattle.bac_store.specs.Views.{entry_view, object_view, property_view, slot_view};
 
 use crate::entry::{Entry, Slot};
 use crate::kind::kind_of;

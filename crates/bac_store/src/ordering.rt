@@ -2,28 +2,28 @@
 ghost use Rattle.std.specs.Prelude.{◌≡◌, ◌≢◌, ◌<◌, map, length, MatchBool};
 ghost use Rattle.std.specs.List.{AllPairs};
 ghost use Rattle.std.specs.List.Sorted.{IsNonDecreasingBy, IsPermutation};
-ghost use Rattle.bac_value.specs.Views.{object_id};
+ghost use Rattle.bac_value.specs.Views.{object_identifier_view};
 ghost use Rattle.bac_store.specs.Kept.{object_number};
 ghost use Rattle.bac_store.specs.Ordered.{SortsObject, SortsObjects};
-ghost use Rattle.bac_store.specs.Views.{object as object_view};
+ghost use Rattle.bac_store.specs.Views.{object_view};
 
 use crate::checking::{are_right_properties, is_right_file, is_right_id, is_right_name};
+use crate::lookups::number_of;
 use crate::object::{Object, Property};
-use crate::searching::number_of;
 
 /// Puts objects in the order of their identifiers.
 pub(crate) fn sort_objects(objects: &mut [Object])
     ensures same { IsPermutation objects.old objects.new }
-    ensures sorted { IsNonDecreasingBy (λ o. object_number (object_id o.id)) objects.new }
+    ensures sorted { IsNonDecreasingBy (λ o. object_number (object_identifier_view o.id)) objects.new }
 {
     objects.sort_unstable_by_key(|object| number_of(object.id));
 }
 
 /// Whether objects in order have each an identifier of their own.
 pub(crate) fn are_distinct(objects: &[Object]) -> bool
-    requires { IsNonDecreasingBy (λ o. object_number (object_id o.id)) objects.now }
-    ensures { MatchBool result (AllPairs (λ a b. object_number (object_id a.id) < object_number (object_id b.id)) objects.now)
-        (AllPairs (λ a b. object_number (object_id a.id) ≢ object_number (object_id b.id)) objects.now → ⊥) }
+    requires { IsNonDecreasingBy (λ o. object_number (object_identifier_view o.id)) objects.now }
+    ensures { MatchBool result (AllPairs (λ a b. object_number (object_identifier_view a.id) < object_number (object_identifier_view b.id)) objects.now)
+        (AllPairs (λ a b. object_number (object_identifier_view a.id) ≢ object_number (object_identifier_view b.id)) objects.now → ⊥) }
 {
     for at in 1..objects.len() {
         if number_of(objects[at - 1].id) == number_of(objects[at].id) {

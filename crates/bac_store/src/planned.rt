@@ -1,6 +1,6 @@
 //! A plan: the reply to a request, and the change that it makes.
 ghost use Rattle.std.specs.Prelude.{◌≡◌};
-ghost use Rattle.bac_service.specs.Views.{complex, replied};
+ghost use Rattle.bac_service.specs.Views.{reply_view};
 
 use bac_service::{OwnedReply, Reply};
 use bac_value::{DataBuf, ObjectIdentifier};
@@ -34,11 +34,11 @@ impl Model for Planned {
 
     ghost Value = { Plan };
 
-    ghost use Rattle.bac_service.specs.Views.{owned_complex, replied};
-    ghost use Rattle.bac_store.specs.Answers.{change_view};
+    ghost use Rattle.bac_service.specs.Views.{owned_reply_view};
+    ghost use Rattle.bac_store.specs.Views.{change_view};
     ghost use Rattle.bac_store.specs.Kept.{Fits};
 
-    ghost view = { λ p. record { reply = replied owned_complex p.reply; change = change_view p.change } };
+    ghost view = { λ p. record { reply = owned_reply_view p.reply; change = change_view p.change } };
 
     ghost invariant = { λ p. Fits (change_view p.change) };
 }
@@ -46,7 +46,7 @@ impl Model for Planned {
 impl Planned {
     /// Lends the reply. It takes no memory.
     pub fn reply(&self) -> Reply<'_>
-        ensures { replied complex result ≡ self.now.reply }
+        ensures { reply_view result ≡ self.now.reply }
     {
         self.reply.as_reply()
     }

@@ -1,26 +1,26 @@
 //! Plans for each request.
-ghost use Rattle.std.specs.Prelude.{◌≡◌, ◌≤◌, true, map, length, IfOk, IfSome, OnErr};
+ghost use Rattle.std.specs.Prelude.{◌≡◌, ◌+◌, ◌≤◌, true, map, length, IfOk, IfSome, OnErr};
 ghost use Rattle.std.specs.Option.{option_map};
 ghost use Rattle.bac_service.specs.Values.Request.{ReadFile as FileReading, WriteFile as FileWriting, ReadProperty as PropertyReading};
 ghost use Rattle.bac_service.specs.Values.Request.{WriteProperty as PropertyWriting};
-ghost use Rattle.bac_service.specs.Views.{lent, number_of, owned_complex, read_access as read_access_view, reference as reference_view, replied};
-ghost use Rattle.bac_service.specs.Views.{write_access as write_access_view};
-ghost use Rattle.bac_store.specs.Changes.{is_done, IsGranted};
+ghost use Rattle.bac_service.specs.Views.{lent, owned_reply_view, priority_view, property_reference_view, read_access_view};
+ghost use Rattle.bac_service.specs.Views.{write_access_view};
+ghost use Rattle.bac_store.specs.Changes.{HoldsOctets, is_done, IsGranted};
 ghost use Rattle.bac_store.specs.Kept.{IsInOrder};
 ghost use Rattle.bac_store.specs.Limits.{FILE_LIMIT as FILE_MOST};
 ghost use Rattle.bac_store.specs.Plans.{Change as ChangeView, IsPlanFor, IsStreamPlan};
 ghost use Rattle.bac_store.specs.Replies.{file_of as file_in, write_stream_reply};
 ghost use Rattle.bac_store.specs.Stores.{object_in};
-ghost use Rattle.bac_store.specs.Views.{entry as entry_view, file as file_view};
-ghost use Rattle.bac_value.specs.Views.{object_id};
+ghost use Rattle.bac_store.specs.Views.{entry_view, file_view};
+ghost use Rattle.bac_value.specs.Views.{object_identifier_view};
 
 use crate::entry::Entry;
 use crate::files::{overwritten, read_file, write_place};
+use crate::lookups::entry_of;
 use crate::object::File;
 use crate::planned::{Change, Planned};
 use crate::properties::{read_property, write_refusal};
 use crate::refusal::Refusal;
-use crate::searching::entry_of;
 use bac_service::{
     AnyComplex, AnyReply, Content, FileWritten, OwnedReply, PropertyReference, ReadFile, Records,
     WriteAccess, WriteFile, WriteProperty, WriteStream,
@@ -30,7 +30,7 @@ use std::alloc::Global;
 
 /// A plan that changes nothing.
 fn answered(reply: OwnedReply) -> Planned
-    ensures { result ≡ record { reply = replied owned_complex reply; change = ChangeView.Nothing } }
+    ensures { result ≡ record { reply = owned_reply_view reply; change = ChangeView.Nothing } }
 {
     Planned {
         reply,
@@ -45,8 +45,9 @@ pub(crate) fn plan_read_property(
     reference: PropertyReference,
 ) -> Result<Planned, NoMemory>
     requires { IsInOrder (map entry_view objects.now) }
-    ensures plan { IfOk result (λ p. IsPlanFor (map entry_view objects.now) (PropertyReading (reference_view reference)) p) }
-    ensures last { OnErr result (IsGranted (map entry_view objects.now) (PropertyReading (reference_view reference))) }
+    ensures plan { IfOk result (λ p. IsPlanFor (map entry_view objects.now) (PropertyReading (property_reference_view reference)) p) }
+    ensures last { OnErr result (IsGranted (map entry_view objects.now) (PropertyReading (property_reference_view reference))) }
+    ensures held { OnErr result (HoldsOctets (map entry_view objects.now) (PropertyReading (property_reference_view reference))) }
 {
     match entry_of(objects, reference.object) {
         None => Ok(answered(Refusal::UnknownObject.reply())),
@@ -65,9 +66,10 @@ pub(crate) fn plan_write_property(
 ) -> Result<Planned, NoMemory>
     requires { IsInOrder (map entry_view objects.now) }
     ensures plan { IfOk result (λ p. IsPlanFor (map entry_view objects.now)
-        (PropertyWriting (reference_view write.entry.reference) write.entry.values.octets.now (number_of write.entry.priority)) p) }
+        (PropertyWriting (property_reference_view write.entry.reference) write.entry.values.octets.now (priority_view write.entry.priority)) p) }
     ensures last { OnErr result (IsGranted (map entry_view objects.now)
-        (PropertyWriting (reference_view write.entry.reference) write.entry.values.octets.now (number_of write.entry.priority))) }
+        (PropertyWriting (property_reference_view write.entry.reference) write.entry.values.octets.now (priority_view write.entry.priority))) }
+    ensures held { OnErr result (1 ≤ length write.entry.values.octets.now) }
 {
     let reference = write.reference;
     let Some(entry) = entry_of(objects, reference.object) else {
@@ -91,7 +93,7 @@ pub(crate) fn plan_write_property(
 /// The file of an identifier.
 fn file_of(objects: &[Entry], id: ObjectIdentifier) -> Option<&File>
     requires { IsInOrder (map entry_view objects.now) }
-    ensures found { option_map (λ f. file_view f.now) result ≡ file_in (object_in (map entry_view objects.now) (object_id id)) }
+    ensures found { option_map (λ f. file_view f.now) result ≡ file_in (object_in (map entry_view objects.now) (object_identifier_view id)) }
     ensures short { IfSome result (λ f. length f.now.octets.items ≤ FILE_MOST) }
 {
     match entry_of(objects, id) {
@@ -107,8 +109,9 @@ pub(crate) fn plan_read_file(
     read: ReadFile,
 ) -> Result<Planned, NoMemory>
     requires { IsInOrder (map entry_view objects.now) }
-    ensures plan { IfOk result (λ p. IsPlanFor (map entry_view objects.now) (FileReading (object_id read.file) (read_access_view read.access)) p) }
-    ensures last { OnErr result (IsGranted (map entry_view objects.now) (FileReading (object_id read.file) (read_access_view read.access))) }
+    ensures plan { IfOk result (λ p. IsPlanFor (map entry_view objects.now) (FileReading (object_identifier_view read.file) (read_access_view read.access)) p) }
+    ensures last { OnErr result (IsGranted (map entry_view objects.now) (FileReading (object_identifier_view read.file) (read_access_view read.access))) }
+    ensures held { OnErr result (HoldsOctets (map entry_view objects.now) (FileReading (object_identifier_view read.file) (read_access_view read.access))) }
 {
     match file_of(objects, read.file) {
         None => Ok(answered(Refusal::UnknownObject.reply())),
@@ -127,8 +130,9 @@ fn plan_write_stream(
     write: WriteStream<Content<'_>>,
 ) -> Result<Planned, NoMemory>
     requires { length file.now.octets.items ≤ FILE_MOST }
-    ensures plan { IfOk result (λ p. IsStreamPlan (object_id id) write.entry.start write.entry.content.octets.now (file_view file.now) p) }
+    ensures plan { IfOk result (λ p. IsStreamPlan (object_identifier_view id) write.entry.start write.entry.content.octets.now (file_view file.now) p) }
     ensures last { OnErr result (is_done (write_stream_reply write.entry.start write.entry.content.octets.now (file_view file.now)) ≡ true) }
+    ensures held { OnErr result (1 ≤ length file.now.octets.items + length write.entry.content.octets.now) }
 {
     let new = write.content.octets;
     match write_place(file, write.start, new) {
@@ -150,9 +154,11 @@ pub(crate) fn plan_write_file(
 ) -> Result<Planned, NoMemory>
     requires { IsInOrder (map entry_view objects.now) }
     ensures plan { IfOk result (λ p. IsPlanFor (map entry_view objects.now)
-        (FileWriting (object_id write.entry.file) (write_access_view lent write.entry.access)) p) }
+        (FileWriting (object_identifier_view write.entry.file) (write_access_view lent write.entry.access)) p) }
     ensures last { OnErr result (IsGranted (map entry_view objects.now)
-        (FileWriting (object_id write.entry.file) (write_access_view lent write.entry.access))) }
+        (FileWriting (object_identifier_view write.entry.file) (write_access_view lent write.entry.access))) }
+    ensures held { OnErr result (HoldsOctets (map entry_view objects.now)
+        (FileWriting (object_identifier_view write.entry.file) (write_access_view lent write.entry.access))) }
 {
     let Some(file) = file_of(objects, write.file) else {
         return Ok(answered(Refusal::UnknownObject.reply()));

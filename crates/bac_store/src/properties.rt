@@ -1,20 +1,20 @@
 //! Reading and writing properties (clauses 15.5 and 15.9).
-ghost use Rattle.std.specs.Prelude.{◌≡◌, ℕ, true, List, IfOk, OnErr};
+ghost use Rattle.std.specs.Prelude.{◌≡◌, ◌≤◌, ℕ, true, List, length, IfOk, OnErr};
 ghost use Rattle.bac_value.specs.Value.{Datum};
+ghost use Rattle.bac_service.specs.Values.{held_by};
 ghost use Rattle.bac_service.specs.Values.Reply.{Simple};
-ghost use Rattle.bac_service.specs.Views.{owned_complex, reference as reference_view, replied};
+ghost use Rattle.bac_service.specs.Views.{owned_reply_view, property_reference_view};
 ghost use Rattle.bac_store.specs.Answers.{refused, refused_or};
 ghost use Rattle.bac_store.specs.Changes.{is_done};
 ghost use Rattle.bac_store.specs.Kept.{IsKept};
 ghost use Rattle.bac_store.specs.Replies.{at_property, read_reply, write_reply};
 ghost use Rattle.bac_store.specs.Stores.{computed, property_in};
-ghost use Rattle.bac_store.specs.Views.{entry as entry_view, slot as slot_view};
+ghost use Rattle.bac_store.specs.Views.{entry_view, slot_view};
 
 use crate::entry::{Entry, Slot};
-use crate::finding::{find, values_of};
-use crate::found::Found;
 use crate::kind::{is_binary_state, is_of_kind, is_state};
 use crate::limits::VALUE_LIMIT;
+use crate::lookups::{Found, find, values_of};
 use crate::refusal::Refusal;
 use bac_service::{AnyComplex, AnyReply, OwnedReply, PropertyRead, PropertyReference};
 use bac_value::NoMemory;
@@ -27,10 +27,12 @@ pub(crate) fn read_property(
     reference: PropertyReference,
 ) -> Result<OwnedReply, NoMemory>
     requires { IsKept (entry_view entry.now) }
-    ensures told { IfOk result (λ r. replied owned_complex r
-        ≡ at_property (property_in (entry_view entry.now) reference.property) (read_reply (reference_view reference))) }
+    ensures told { IfOk result (λ r. owned_reply_view r
+        ≡ at_property (property_in (entry_view entry.now) reference.property) (read_reply (property_reference_view reference))) }
     ensures last { OnErr result
-        (is_done (at_property (property_in (entry_view entry.now) reference.property) (read_reply (reference_view reference))) ≡ true) }
+        (is_done (at_property (property_in (entry_view entry.now) reference.property) (read_reply (property_reference_view reference))) ≡ true) }
+    ensures held { OnErr result
+        (1 ≤ length (held_by (at_property (property_in (entry_view entry.now) reference.property) (read_reply (property_reference_view reference))))) }
 {
     let Some(found) = find(entry, reference.property) else {
         return Ok(Refusal::UnknownProperty.reply());
@@ -44,7 +46,7 @@ pub(crate) fn read_property(
 
 /// Why a listed property is not written; None where it is.
 fn slot_refusal(slot: &Slot, reference: PropertyReference, values: &[u8]) -> Option<Refusal>
-    ensures { refused_or Simple result ≡ write_reply (reference_view reference) values.now (slot_view slot.now) }
+    ensures { refused_or Simple result ≡ write_reply (property_reference_view reference) values.now (slot_view slot.now) }
 {
     if reference.index.is_some() {
         return Some(Refusal::PropertyIsNotAnArray);
@@ -66,7 +68,7 @@ fn slot_refusal(slot: &Slot, reference: PropertyReference, values: &[u8]) -> Opt
 
 /// Why a computed property is not written.
 fn computed_refusal(reference: PropertyReference) -> Refusal
-    ensures { (values : List ℕ) (n : ℕ) (d : Datum) → refused result ≡ write_reply (reference_view reference) values (computed n d) }
+    ensures { (values : List ℕ) (n : ℕ) (d : Datum) → refused result ≡ write_reply (property_reference_view reference) values (computed n d) }
 {
     if reference.index.is_some() {
         Refusal::PropertyIsNotAnArray
@@ -83,7 +85,7 @@ pub(crate) fn write_refusal(
 ) -> Option<Refusal>
     requires { IsKept (entry_view entry.now) }
     ensures { refused_or Simple result
-        ≡ at_property (property_in (entry_view entry.now) reference.property) (write_reply (reference_view reference) values.now) }
+        ≡ at_property (property_in (entry_view entry.now) reference.property) (write_reply (property_reference_view reference) values.now) }
 {
     match find(entry, reference.property) {
         None => Some(Refusal::UnknownProperty),

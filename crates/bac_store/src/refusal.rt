@@ -1,5 +1,6 @@
+//! Why a request is answered with an Error.
 ghost use Rattle.std.specs.Prelude.{◌≡◌};
-ghost use Rattle.bac_service.specs.Views.{owned_complex, replied};
+ghost use Rattle.bac_service.specs.Views.{owned_reply_view};
 ghost use Rattle.bac_store.specs.Answers.{refused};
 
 use bac_service::{AnyReply, OwnedReply};
@@ -22,7 +23,7 @@ pub(crate) enum Refusal {
 impl Refusal {
     /// The Error's class and code.
     pub(crate) fn reply(self) -> OwnedReply
-        ensures { replied owned_complex result ≡ refused self }
+        ensures { owned_reply_view result ≡ refused self }
     {
         let (class, code) = match self {
             Refusal::UnknownObject => (1, 31),

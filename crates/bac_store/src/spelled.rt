@@ -2,7 +2,7 @@
 ghost use Rattle.std.specs.Prelude.{◌≡◌, ◌<◌, ◌+◌, ◌^◌, length, IfOk};
 ghost use Rattle.std.specs.String.{string_bytes};
 ghost use Rattle.bac_value.specs.Value.{characters};
-ghost use Rattle.bac_value.specs.Views.{datum};
+ghost use Rattle.bac_value.specs.Views.{value_view};
 ghost use Rattle.bac_value.specs.Writing.{value_spelling};
 ghost use Rattle.bac_store.specs.Limits.{VALUE_LIMIT};
 
@@ -11,7 +11,7 @@ use std::alloc::Global;
 
 /// A value as data: its one spelling.
 pub(crate) fn spelled(alloc: Global, value: &Value) -> Result<DataBuf, NoMemory>
-    ensures { IfOk result (λ d. d.octets.items ≡ value_spelling (datum value.now)) }
+    ensures { IfOk result (λ d. d.octets.items ≡ value_spelling (value_view value.now)) }
 {
     let mut octets = Vec::new(alloc);
     write_value(value, &mut octets)?;

@@ -1,16 +1,16 @@
 //! The store.
-ghost use Rattle.std.specs.Prelude.{◌≡◌, map, IfOk, MatchResult, OnOk, OnErr};
+ghost use Rattle.std.specs.Prelude.{◌≡◌, ◌≤◌, ◌↔◌, length, map, IsTrue, IfOk, MatchResult, OnOk, OnErr};
 ghost use Rattle.bac_service.specs.Values.{Request as RequestView};
-ghost use Rattle.bac_service.specs.Views.{owned_complex, replied, request as request_view};
-ghost use Rattle.bac_store.specs.Answers.{change_view};
-ghost use Rattle.bac_store.specs.Changes.{after, IsGranted};
+ghost use Rattle.bac_service.specs.Views.{owned_reply_view, request_view};
+ghost use Rattle.bac_store.specs.Changes.{after, HoldsOctets, IsGranted};
 ghost use Rattle.bac_store.specs.Kept.{Fits, IsInOrder};
 ghost use Rattle.bac_store.specs.Made.{IsMadeOf, IsRefused};
 ghost use Rattle.bac_store.specs.Plans.{changed, IsPlanFor, IsPlanOn};
 ghost use Rattle.bac_store.specs.Replies.{reply_to};
-ghost use Rattle.bac_store.specs.Views.{object as object_view};
+ghost use Rattle.bac_store.specs.Views.{change_view, object_view};
 
 use crate::changing::{set_octets, set_values};
+use crate::comparing::are_same_objects;
 use crate::copying::copied;
 use crate::entry::Entry;
 use crate::making::entries_made;
@@ -37,11 +37,11 @@ impl Model for Store {
 
     ghost use Rattle.std.specs.Prelude.{map};
     ghost use Rattle.bac_store.specs.Kept.{IsInOrder};
-    ghost use Rattle.bac_store.specs.Views.{entry};
+    ghost use Rattle.bac_store.specs.Views.{entry_view};
 
-    ghost view = { λ s. map entry s.objects.items };
+    ghost view = { λ s. map entry_view s.objects.items };
 
-    ghost invariant = { λ s. IsInOrder (map entry s.objects.items) };
+    ghost invariant = { λ s. IsInOrder (map entry_view s.objects.items) };
 }
 
 impl Store {
@@ -83,10 +83,11 @@ impl Store {
     /// The plan for a request, with all the memory that its reply and its change take. The store is as before.
     ///
     /// The reply is an Error in the cases of docs/PROTOCOL.md, "Replies"; then, and on a read, the plan changes nothing. `NoMemory`
-    /// comes last, only where the reply is no Error.
+    /// comes last, only where the reply is no Error, and only where the reply or the change holds octets.
     pub fn prepare(&self, alloc: Global, request: &Request<'_>) -> Result<Planned, NoMemory>
         ensures plan { IfOk result (λ p. IsPlanFor self.now (request_view request.now) p) }
         ensures last { OnErr result (IsGranted self.now (request_view request.now)) }
+        ensures held { OnErr result (HoldsOctets self.now (request_view request.now)) }
     {
         let objects = self.objects.as_slice();
         match *request {
@@ -97,14 +98,16 @@ impl Store {
         }
     }
 
-    /// Makes the change of a plan that was prepared on the store as it now is. It takes no memory.
-    pub fn commit(&mut self, plan: Planned)
+    /// Makes the change of a plan that was prepared on the store as it now is, and hands the plan's reply out. It takes no memory.
+    pub fn commit(&mut self, plan: Planned) -> OwnedReply
         requires prepared { IsPlanOn self.old plan }
+        ensures reply { owned_reply_view result ≡ plan.reply }
         ensures change { self.new ≡ changed plan.change self.old }
         ensures after { (r : RequestView) → IsPlanFor self.old r plan → self.new ≡ after self.old r }
     {
-        let Planned { reply: _, change } = plan;
+        let Planned { reply, change } = plan;
         self.make(change);
+        reply
     }
 
     /// Makes a change.
@@ -126,21 +129,30 @@ impl Store {
     /// Prepares a request and makes the change of its plan; the plan's reply. It takes the memory of the plan alone. After an Err
     /// the store is as before; `NoMemory` comes last, as of [`Store::prepare`].
     pub fn perform(&mut self, alloc: Global, request: &Request<'_>) -> Result<OwnedReply, NoMemory>
-        ensures reply { IfOk result (λ r. replied owned_complex r ≡ reply_to self.old (request_view request.now)) }
+        ensures reply { IfOk result (λ r. owned_reply_view r ≡ reply_to self.old (request_view request.now)) }
         ensures after { OnOk result (self.new ≡ after self.old (request_view request.now)) }
         ensures err { OnErr result (self.new ≡ self.old) }
         ensures last { OnErr result (IsGranted self.old (request_view request.now)) }
+        ensures held { OnErr result (HoldsOctets self.old (request_view request.now)) }
     {
         let Planned { reply, change } = self.prepare(alloc, request)?;
         self.make(change);
         Ok(reply)
     }
 
-    /// An equal store. An Err for want of memory; this store is as before.
+    /// An equal store. An Err where memory ran out, which it cannot for a store without objects; this store is as before.
     pub fn copy(&self, alloc: Global) -> Result<Store, NoMemory>
-        ensures { IfOk result (λ s. s ≡ self.now) }
+        ensures same { IfOk result (λ s. s ≡ self.now) }
+        ensures some { OnErr result (1 ≤ length self.now) }
     {
         let objects = copied(alloc, &self.objects)?;
         Ok(Store { objects })
+    }
+
+    /// Whether both stores are equal: the same objects, with equal names, properties, marks and files. It goes over both once.
+    pub fn same(&self, other: &Store) -> bool
+        ensures { IsTrue result ↔ (self.now ≡ other.now) }
+    {
+        are_same_objects(&self.objects, &other.objects)
     }
 }

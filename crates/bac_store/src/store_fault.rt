@@ -1,3 +1,4 @@
+//! Why no store was made.
 ghost use Rattle.std.specs.Prelude.{◌≡◌};
 ghost use Rattle.bac_store.specs.declared.store_fault.StoreFault.TheVariants as fault;
 

@@ -1,4 +1,4 @@
-//! Run with each allocation refused in turn, too: `sh bench/refusals.sh`.
+//! Run with each allocation refused in turn, too: `sh tests/memory/refusals.sh`.
 use super::*;
 
 const WRITE: [u8; 14] = [
@@ -99,7 +99,7 @@ fn two_objects(alloc: Global, ids: [ObjectIdentifier; 2]) -> Result<Vec<Object>,
     Ok(objects)
 }
 
-/// Objects that can be a store are one, or are refused for want of memory alone.
+/// Objects that can be a store are one, or are refused where memory runs out, and only there.
 #[test]
 fn makes_or_refuses(rt: HostRuntime) -> Result<(), Fail> {
     let first = ObjectIdentifier::new(0, 5).ok_or("no such identifier")?;

@@ -1,5 +1,9 @@
+//! Which objects a store can have, and stores at their limits.
 use super::*;
-use bac_service::{AnyComplex, AnyRequest, PropertyReference, WriteProperty};
+use bac_service::{
+    AnyComplex, AnyRequest, Content, FileWritten, PropertyReference, ReadAccess, ReadFile,
+    WriteAccess, WriteFile, WriteProperty, WriteStream,
+};
 
 /// Data of one octet string of so many octets.
 fn string_data(alloc: Global, len: usize) -> Result<DataBuf, Fail> {
@@ -10,11 +14,16 @@ fn string_data(alloc: Global, len: usize) -> Result<DataBuf, Fail> {
     data_of(alloc, &spelling)
 }
 
+/// So many octets, all alike.
+fn octets_alike(alloc: Global, octet: u8, len: usize) -> Result<Vec<u8>, NoMemory> {
+    Ok(vec![in alloc; octet; len]?)
+}
+
 /// A file of so many octets.
 fn file_of(alloc: Global, len: usize) -> Result<Object, Fail> {
     let mut object = bare(alloc, 10, 1)?;
     object.file = Some(File {
-        octets: vec![in alloc; 0x5A; len]?,
+        octets: octets_alike(alloc, 0x5A, len)?,
         writable: true,
     });
     Ok(object)
@@ -250,16 +259,17 @@ fn keeps_the_kind_of_the_first_values(rt: HostRuntime) -> Result<(), Fail> {
     Ok(())
 }
 
+/// With ample memory, in descending order; and all of them are copied.
 #[test]
-fn finds_each_of_ten_thousand_objects(rt: HostRuntime) -> Result<(), Fail> {
+fn finds_each_of_twenty_thousand_objects(rt: HostRuntime) -> Result<(), Fail> {
     let mut objects = Vec::new(rt.alloc());
-    for instance in 0..10_000u32 {
-        objects.push(bare(rt.alloc(), 0, 9_999 - instance)?)?;
+    for instance in 0..20_000u32 {
+        objects.push(bare(rt.alloc(), 0, 19_999 - instance)?)?;
     }
     let Ok(store) = Store::new(rt.alloc(), objects) else {
         return Err(Fail::from("no store"));
     };
-    for instance in 0..10_000u32 {
+    for instance in 0..20_000u32 {
         let object = ObjectIdentifier::new(0, instance).ok_or("no such identifier")?;
         // its object-identifier, so that it is known from all others
         let reference = PropertyReference {
@@ -277,6 +287,75 @@ fn finds_each_of_ten_thousand_objects(rt: HostRuntime) -> Result<(), Fail> {
         };
         assert!(rt; is_found, "{instance}");
     }
+    let copy = store.copy(rt.alloc())?;
+    assert!(rt; copy.same(&store), "a copy");
+    Ok(())
+}
+
+/// With ample memory, the longest file is written whole and read whole.
+#[test]
+fn writes_and_reads_60000_octets(rt: HostRuntime) -> Result<(), Fail> {
+    let Ok(mut store) = store_of(rt.alloc(), file_of(rt.alloc(), 60_000)?)? else {
+        return Err(Fail::from("no store"));
+    };
+    let file = ObjectIdentifier::new(10, 1).ok_or("no such identifier")?;
+    let octets = octets_alike(rt.alloc(), 0xA5, 60_000)?;
+    let content = Content::new(&octets).ok_or("too long")?;
+    let access = WriteAccess::Stream(WriteStream { start: 0, content });
+    let write = AnyRequest::WriteFile(WriteFile { file, access });
+    let plan = store.prepare(rt.alloc(), &write)?;
+    let reply = store.commit(plan);
+    let is_written = matches!(
+        reply,
+        AnyReply::Complex(AnyComplex::FileWritten(FileWritten::Stream(0)))
+    );
+    assert!(rt; is_written);
+    let access = ReadAccess::Stream {
+        start: 0,
+        count: 60_000,
+    };
+    let read = AnyRequest::ReadFile(ReadFile { file, access });
+    match store.perform(rt.alloc(), &read)? {
+        AnyReply::Complex(AnyComplex::FileRead(read)) => {
+            assert!(rt; read.end_of_file);
+            assert!(rt; read.content.octets == octets);
+        }
+        _ => return Err(Fail::from("another reply")),
+    }
+    Ok(())
+}
+
+#[test]
+fn finds_each_of_three_properties(rt: HostRuntime) -> Result<(), Fail> {
+    let values = data_of(rt.alloc(), &[0x91, 1])?;
+    let mut object = with_property(rt.alloc(), 0, 600, values)?;
+    for (number, state) in [(512, 2), (700, 3)] {
+        object.properties.push(Property {
+            number,
+            values: data_of(rt.alloc(), &[0x91, state])?,
+            writable: true,
+        })?;
+    }
+    let Ok(mut store) = store_of(rt.alloc(), object)? else {
+        return Err(Fail::from("no store"));
+    };
+    let rows = [
+        ("0C000000011A0200", "0C000000011A02003E91023F"),
+        ("0C000000011A0258", "0C000000011A02583E91013F"),
+        ("0C000000011A02BC", "0C000000011A02BC3E91033F"),
+    ];
+    let mut copy = store.copy(rt.alloc())?;
+    assert!(rt; copy.same(&store));
+    for (text, want) in rows {
+        let right = performs(rt.alloc(), &mut store, 12, text, Want::Complex(want))?;
+        assert!(rt; right, "{text}");
+        let right = performs(rt.alloc(), &mut copy, 12, text, Want::Complex(want))?;
+        assert!(rt; right, "{text} of the copy");
+    }
+    let write = "0C000000011A02BC3E91043F";
+    let right = performs(rt.alloc(), &mut copy, 15, write, Want::Simple)?;
+    assert!(rt; right);
+    assert!(rt; !copy.same(&store));
     Ok(())
 }
 

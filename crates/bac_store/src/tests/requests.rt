@@ -1,3 +1,4 @@
+//! Requests of the house store and their replies.
 use super::*;
 
 #[test]

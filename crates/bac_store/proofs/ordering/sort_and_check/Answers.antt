@@ -10,7 +10,7 @@ use Rattle.bac_value.specs.Writing.{value_spelling}
 use Rattle.bac_store.specs.Limits.{VALUE_LIMIT}
 use Rattle.bac_store.specs.Objects.{is_right_property}
 use Rattle.bac_store.specs.Ordered.{SortsObject}
-use Rattle.bac_store.specs.Views.{object, property}
+use Rattle.bac_store.specs.Views.{object_view, property_view}
 use Rattle.bac_store.proofs.Sorting.{listed_twice, sorts}
 use Rattle.bac_store.proofs.ordering.sort_and_check.Goals as goal
 
@@ -31,8 +31,8 @@ returns c =
     let kept : length sorted ≡ o.properties.len = omega (arith, c.deref_mut.ensures.len) in
     let items : (with_items o.properties sorted).items ≡ sorted = with_items_is o.properties sorted kept in
     let moved : IsPermutation o.properties.items sorted = subst (λ xs. IsPermutation xs sorted) c.deref_mut.ensures.value c.sort_properties.ensures.same in
-    let Each : List listed.Property → Type 0 = All (λ p. IsTrue (is_right_property (object o).id.kind (property p))) in
-    subst (λ xs. SortsObject b (object o) (record (object o) { properties = map property xs })) (sym items)
+    let Each : List listed.Property → Type 0 = All (λ p. IsTrue (is_right_property (object_view o).id.kind (property_view p))) in
+    subst (λ xs. SortsObject b (object_view o) (record (object_view o) { properties = map property_view xs })) (sym items)
     (sorts o sorted moved b
     (sym c.if-not-is_right_id.ensures)
     (subst (λ xs. length (value_spelling (characters 0 xs)) ≤ VALUE_LIMIT) c.deref.ensures (c.if-not-is_right_name.ensures.0 refl))

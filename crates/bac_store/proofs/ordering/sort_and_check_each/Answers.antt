@@ -1,6 +1,6 @@
 use Rattle.std.proofs.Common.{sym, subst, arith}
 use Rattle.bac_store.specs.Objects.{IsRight}
-use Rattle.bac_store.specs.Views.{object}
+use Rattle.bac_store.specs.Views.{object_view}
 use Rattle.bac_store.proofs.Distinct.{All-unmap}
 use Rattle.bac_store.proofs.Sorting.{done_more, left_more}
 use Rattle.bac_store.proofs.ordering.sort_and_check_each.Goals as goal
@@ -10,7 +10,7 @@ returns-then-not-sort_and_check c = λ all.
     let i = c.loop-object.object-index in
     let x = c.object-item.result in
     c.if-not-sort_and_check.ensures
-    (subst (λ o. IsRight (object o)) (sym (c.loop-object.invariant.left i x (omega arith))) (All-unmap object IsRight c.args.objects.now all i x (omega arith)))
+    (subst (λ o. IsRight (object_view o)) (sym (c.loop-object.invariant.left i x (omega arith))) (All-unmap object_view IsRight c.args.objects.now all i x (omega arith)))
 
 pub loop-object-preserved : goal.loop-object-preserved
 loop-object-preserved c =

@@ -1,9 +1,9 @@
 use Rattle.std.proofs.Common.{rules}
 use Rattle.std.proofs.lemmas.List.Sorted.{IsNonDecreasingBy-from_sort_by_key}
-use Rattle.bac_value.specs.Views.{object_id}
+use Rattle.bac_value.specs.Views.{object_identifier_view}
 use Rattle.bac_store.specs.Kept.{object_number}
 use Rattle.bac_store.proofs.ordering.sort_objects.Goals as goal
 
 pub returns-clause-sorted : goal.returns-clause-sorted
 returns-clause-sorted c =
-    IsNonDecreasingBy-from_sort_by_key (λ o. object_number (object_id o.id)) _ c.sort_unstable_by_key.ensures.sorted (λ a r q k. search rules)
+    IsNonDecreasingBy-from_sort_by_key (λ o. object_number (object_identifier_view o.id)) _ c.sort_unstable_by_key.ensures.sorted (λ a r q k. search rules)

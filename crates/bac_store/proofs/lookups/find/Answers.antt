@@ -1,9 +1,9 @@
 use Rattle.std.proofs.Common.{◌≡◌, ◌≢◌, ℕ, arith, ◌∙◌}
 use Rattle.std.proofs.lemmas.Bool.Decides.{nat_tests}
 use Rattle.bac_store.specs.Stores.{Object, is_number, listed_in, property_in}
-use Rattle.bac_store.specs.Views.{slot, entry}
+use Rattle.bac_store.specs.Views.{slot_view, entry_view}
 use Rattle.bac_store.proofs.Places.{first_that-none, first_that-place}
-use Rattle.bac_store.proofs.finding.find.Goals as goal
+use Rattle.bac_store.proofs.lookups.find.Goals as goal
 
 -- any other number is listed
 listed_by : (o : Object) (n : ℕ) → n ≢ 75 → n ≢ 77 → n ≢ 79 → n ≢ 41 → n ≢ 42 → property_in o n ≡ listed_in o n
@@ -12,13 +12,13 @@ listed_by o n a b c d e = grind (arith, nat_tests)
 pub returns-in-Some-slot_place : goal.returns-in-Some-slot_place
 returns-in-Some-slot_place c =
     let n = c.args.number in
-    let is = listed_by (entry c.args.entry.now) n (omega arith) (omega arith) (omega arith) (omega arith) (omega arith) in
-    let place = first_that-place slot (is_number n) c.deref.result.now c.in-Some-slot_place.at c.in-Some-slot_place.ensures in
+    let is = listed_by (entry_view c.args.entry.now) n (omega arith) (omega arith) (omega arith) (omega arith) (omega arith) in
+    let place = first_that-place slot_view (is_number n) c.deref.result.now c.in-Some-slot_place.at c.in-Some-slot_place.ensures in
     rw is (rw c.deref.ensures.value at place)
 
 pub returns-in-None-slot_place : goal.returns-in-None-slot_place
 returns-in-None-slot_place c =
     let n = c.args.number in
-    let is = listed_by (entry c.args.entry.now) n (omega arith) (omega arith) (omega arith) (omega arith) (omega arith) in
-    let none = first_that-none slot (is_number n) c.deref.result.now c.in-None-slot_place.ensures in
+    let is = listed_by (entry_view c.args.entry.now) n (omega arith) (omega arith) (omega arith) (omega arith) (omega arith) in
+    let none = first_that-none slot_view (is_number n) c.deref.result.now c.in-None-slot_place.ensures in
     is ∙ (rw c.deref.ensures.value at none)

@@ -3,10 +3,10 @@ use Rattle.std.specs.Prelude.{◌≡◌, ◌≢◌, ℕ, ◌<◌, Bool, true, fa
 use Rattle.std.specs.Option.{MatchOption}
 use Rattle.std.specs.List.{All}
 use Rattle.bac_value.specs.Value.{Datum, object, characters, enumerated, unsigned}
-use Rattle.bac_store.specs.declared.found.Computed.{Computed}
-use Rattle.bac_store.specs.declared.found.Computed.TheVariants as own
-use Rattle.bac_store.specs.declared.found.Found.{Found}
-use Rattle.bac_store.specs.declared.found.Found.TheVariants as found
+use Rattle.bac_store.specs.declared.lookups.Computed.{Computed}
+use Rattle.bac_store.specs.declared.lookups.Computed.TheVariants as own
+use Rattle.bac_store.specs.declared.lookups.Found.{Found}
+use Rattle.bac_store.specs.declared.lookups.Found.TheVariants as found
 use Rattle.bac_store.specs.Limits.{FILE_ACCESS_METHOD, FILE_SIZE, OBJECT_IDENTIFIER, OBJECT_NAME, OBJECT_TYPE}
 use Rattle.bac_store.specs.Stores.{Object, Property, computed}
 

@@ -1,0 +1,92 @@
+//! Whether the objects of two stores are equal.
+ghost use Rattle.std.specs.Prelude.{◌≡◌, map, MatchBool};
+ghost use Rattle.std.specs.Option.{option_map};
+ghost use Rattle.bac_store.specs.Views.{entry_view, file_view, slot_view};
+
+use crate::entry::{Entry, Slot};
+use crate::object::File;
+
+fn are_same_slots(slots: &[Slot], others: &[Slot]) -> bool
+    ensures { MatchBool result (map slot_view slots.now ≡ map slot_view others.now) (map slot_view slots.now ≡ map slot_view others.now → ⊥) }
+{
+    if slots.len() != others.len() {
+        return false;
+    }
+    for at in 0..slots.len() {
+        if !is_same_slot(&slots[at], &others[at]) {
+            return false;
+        }
+    }
+    true
+}
+
+fn is_same_slot(slot: &Slot, other: &Slot) -> bool
+    ensures { MatchBool result (slot_view slot.now ≡ slot_view other.now) (slot_view slot.now ≡ slot_view other.now → ⊥) }
+{
+    if slot.number != other.number {
+        return false;
+    }
+    if slot.writable != other.writable {
+        return false;
+    }
+    if slot.kind != other.kind {
+        return false;
+    }
+    slot.values.octets == other.values.octets
+}
+
+fn is_same_file(file: &File, other: &File) -> bool
+    ensures { MatchBool result (file_view file.now ≡ file_view other.now) (file_view file.now ≡ file_view other.now → ⊥) }
+{
+    if file.writable != other.writable {
+        return false;
+    }
+    file.octets == other.octets
+}
+
+/// Whether neither object is a file, or both have equal octets and marks.
+fn are_same_files(file: &Option<File>, other: &Option<File>) -> bool
+    ensures { MatchBool result (option_map file_view file.now ≡ option_map file_view other.now)
+        (option_map file_view file.now ≡ option_map file_view other.now → ⊥) }
+{
+    match file {
+        None => other.is_none(),
+        Some(file) => match other {
+            None => false,
+            Some(other) => is_same_file(file, other),
+        },
+    }
+}
+
+fn is_same_object(entry: &Entry, other: &Entry) -> bool
+    ensures { MatchBool result (entry_view entry.now ≡ entry_view other.now) (entry_view entry.now ≡ entry_view other.now → ⊥) }
+{
+    if entry.id.kind != other.id.kind {
+        return false;
+    }
+    if entry.id.instance != other.id.instance {
+        return false;
+    }
+    if entry.name != other.name {
+        return false;
+    }
+    if !are_same_slots(&entry.slots, &other.slots) {
+        return false;
+    }
+    are_same_files(&entry.file, &other.file)
+}
+
+/// Whether both are the same objects in the same order.
+pub(crate) fn are_same_objects(objects: &[Entry], others: &[Entry]) -> bool
+    ensures { MatchBool result (map entry_view objects.now ≡ map entry_view others.now) (map entry_view objects.now ≡ map entry_view others.now → ⊥) }
+{
+    if objects.len() != others.len() {
+        return false;
+    }
+    for at in 0..objects.len() {
+        if !is_same_object(&objects[at], &others[at]) {
+            return false;
+        }
+    }
+    true
+}
