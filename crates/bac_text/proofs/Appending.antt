@@ -1,7 +1,8 @@
 -- What is appended in two steps.
-use Rattle.std.proofs.Common.{ℕ, List, ◌++◌, Option, Some, None, Result, Ok, Err, OnOk, IfSome, ap, ◌∙◌}
+use Rattle.std.proofs.Common.{ℕ, List, ◌++◌, Option, Some, None, Result, Ok, Err, OnOk, ap, ◌∙◌}
 use Rattle.std.proofs.lemmas.List.{append_assoc}
 use Rattle.std.specs.Io.KnownBytes.{Appends}
+use Rattle.bac_text.specs.Texts.{line_end, AppendsText, AppendsLine}
 
 pub joined : (a b c : Option (List ℕ)) (x y : List ℕ) → Appends a b x → Appends b c y → Appends a c (x ++ y)
 joined None b c x y p q = tt
@@ -13,7 +14,7 @@ pub before : {T E : Type 0} (r : Result T E) (a b c : Option (List ℕ)) (x y : 
 before (Ok t) a b c x y p q = joined a b c x y p q
 before (Err e) a b c x y p q = tt
 
-pub before_some : {T E : Type 0} (o : Option (List ℕ)) (r : Result T E) (a b c : Option (List ℕ)) (y : List ℕ) → IfSome o (Appends a b)
-    → OnOk r (Appends b c y) → IfSome o (λ x. OnOk r (Appends a c (x ++ y)))
-before_some None r a b c y p q = tt
-before_some (Some x) r a b c y p q = before r a b c x y p q
+pub line_after : {T E : Type 0} (r : Result T E) (a b c : Option (List ℕ)) (P : List ℕ → Type 0) → AppendsText a b P → OnOk r (Appends b c line_end)
+    → OnOk r (AppendsLine a c P)
+line_after (Ok t) a b c P p q = (p.0, (p.1.0, joined a b c p.0 line_end p.1.1 q))
+line_after (Err e) a b c P p q = tt

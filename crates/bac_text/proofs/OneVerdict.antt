@@ -47,9 +47,9 @@ module _ (one_bvll : (m n octets : List ℕ) → SpellsBvll m octets → SpellsB
       let carried = at.1.0 in
       let content = fine_in datagram carried.octets fine carried.carries in
       let same = one_apdu content.apdu at.0 carried.octets content.spelled carried.spelled in
-      no_request (asked_in at.0) content.request (subst (λ a. IsRequestIn (asked_in a) content.request) same content.asked) at.1.1
+      no_request (asked_in at.0) content.request (subst (λ a. IsRequestIn (asked_in a) content.request) same content.asked) at.1.1.0
   one_verdict datagram (fault.Answer kind) fine at =
       let carried = at.1.0 in
       let content = fine_in datagram carried.octets fine carried.carries in
       let same = one_apdu content.apdu at.0 carried.octets content.spelled carried.spelled in
-      no_answer (answered_in at.0) content.answer (subst (λ a. IsAnswerIn (answered_in a) content.answer) same content.answered) at.1.1
+      no_answer (answered_in at.0) content.answer (subst (λ a. IsAnswerIn (answered_in a) content.answer) same content.answered) at.1.1.0

@@ -14,12 +14,12 @@ Some x >>= f = f x
 abbrev pub is_space : ℕ → Bool
 is_space octet = octet == 32
 
--- what stands before that place, and behind it
+-- what stands before that place, and after it
 abbrev pub parted : List ℕ → Option ℕ → Option (List ℕ × List ℕ)
 parted text None = None
 parted text (Some place) = Some (take place text, drop (place + 1) text)
 
--- a word up to the first space, and what is behind that space
+-- a word up to the first space, and what is after that space
 abbrev pub word_at : List ℕ → Option (List ℕ × List ℕ)
 word_at text = parted text (position is_space text)
 

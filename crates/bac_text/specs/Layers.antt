@@ -1,12 +1,18 @@
 -- Which datagrams have a fault, and in which layer.
-use Rattle.std.specs.Prelude.{◌≡◌, ℕ, Bool, ◌==◌, ◌||◌, List, Option, Some, None, Err, if◌then◌else◌}
+use Rattle.std.specs.Prelude.{◌≡◌, ℕ, List, Option, Some, None, Result, Ok, Err, if◌then◌else◌}
 use Rattle.bac_apdu.specs.Apdu.{Apdu, ConfirmedRequest, ComplexAck}
 use Rattle.bac_apdu.specs.Spelling.{SpellsApdu, IsNoApdu}
 use Rattle.bac_apdu.specs.Reading.{apdu_at}
 use Rattle.bac_npdu.specs.Reading.{bvll_at, npdu_at}
 use Rattle.bac_npdu.specs.Npdu.{NpduView, MessageView, SpellsNpdu, SpellsBvll}
 use Rattle.bac_npdu.specs.Datagram.{IsFrameOf}
-use Rattle.bac_service.specs.Values.{Request, Complex, READ_FILE, WRITE_FILE, READ_PROPERTY, WRITE_PROPERTY}
+use Rattle.bac_value.specs.declared.fault.Fault.{Fault}
+use Rattle.bac_value.specs.declared.fault.FaultKind.{FaultKind}
+use Rattle.bac_service.specs.declared.reject.Reject.{Reject}
+use Rattle.bac_service.specs.Refusals.{reason_number}
+use Rattle.bac_service.specs.Services.{request_at, complex_at}
+use Rattle.bac_service.specs.Choices.{is_served, has_complex_ack}
+use Rattle.bac_service.specs.Values.{Request, Complex}
 use Rattle.bac_service.specs.Requests.{SpellsRequest}
 use Rattle.bac_service.specs.Replies.{SpellsComplex}
 use Rattle.bac_text.specs.declared.fault.LayerFault.{LayerFault}
@@ -18,22 +24,14 @@ use Rattle.bac_text.specs.declared.fault.LayerFault.TheVariants as fault
 abbrev pub Service : Type 0
 Service = ℕ × List ℕ
 
--- the four services
-abbrev pub is_known : ℕ → Bool
-is_known choice = choice == READ_FILE || (choice == WRITE_FILE || (choice == READ_PROPERTY || choice == WRITE_PROPERTY))
-
--- those whose answers have service data
-abbrev pub has_answer_data : ℕ → Bool
-has_answer_data choice = choice == READ_FILE || (choice == WRITE_FILE || choice == READ_PROPERTY)
-
 -- a request of one of the four services that is no segment
 abbrev pub asked_in : Apdu → Option Service
-asked_in (ConfirmedRequest takes_segments max_segments max_apdu invoke None choice service) = if is_known choice then Some (choice, service) else None
+asked_in (ConfirmedRequest limits invoke_id None choice service) = if is_served choice then Some (choice, service) else None
 asked_in _ = None
 
 -- an answer with service data that is no segment
 abbrev pub answered_in : Apdu → Option Service
-answered_in (ComplexAck invoke None choice service) = if has_answer_data choice then Some (choice, service) else None
+answered_in (ComplexAck invoke_id None choice service) = if has_complex_ack choice then Some (choice, service) else None
 answered_in _ = None
 
 -- the service data spell this request; where none is to be read, there is none
@@ -57,6 +55,21 @@ HasNoRequest (Some s) = (r : Request) → SpellsRequest s.0 r s.1 → ⊥
 abbrev pub HasNoAnswer : Option Service → Type 0
 HasNoAnswer None = ⊥
 HasNoAnswer (Some s) = (c : Complex) → SpellsComplex s.0 c s.1 → ⊥
+
+-- reading that request stops for this reason
+abbrev pub IsReason : Option Service → Reject → Type 0
+IsReason None reason = ⊥
+IsReason (Some s) reason = request_at s.0 s.1 ≡ Err (reason_number reason)
+
+-- the kind of the fault where reading stopped
+abbrev pub kind_in : Result Complex Fault → Option FaultKind
+kind_in (Ok c) = None
+kind_in (Err fault) = Some fault.kind
+
+-- reading that answer stops at a fault of this kind
+abbrev pub IsKind : Option Service → FaultKind → Type 0
+IsKind None kind = ⊥
+IsKind (Some s) kind = kind_in (complex_at s.0 s.1) ≡ Some kind
 
 -- ---- datagrams without a fault
 
@@ -100,5 +113,5 @@ abbrev pub IsAtFault : List ℕ → LayerFault → Type 0
 IsAtFault datagram (fault.Bvll number) = (bvll_at datagram ≡ Err number) × ((n : List ℕ) → SpellsBvll n datagram → ⊥)
 IsAtFault datagram (fault.Npdu number) = (n : List ℕ) × (SpellsBvll n datagram × ((npdu_at n ≡ Err number) × ((v : NpduView) → SpellsNpdu v n → ⊥)))
 IsAtFault datagram (fault.Apdu number) = (octets : List ℕ) × (CarriesOctets datagram octets × ((apdu_at octets ≡ Err number) × IsNoApdu octets))
-IsAtFault datagram (fault.Request reason) = (a : Apdu) × (CarriesApdu datagram a × HasNoRequest (asked_in a))
-IsAtFault datagram (fault.Answer kind) = (a : Apdu) × (CarriesApdu datagram a × HasNoAnswer (answered_in a))
+IsAtFault datagram (fault.Request reason) = (a : Apdu) × (CarriesApdu datagram a × (HasNoRequest (asked_in a) × IsReason (asked_in a) reason))
+IsAtFault datagram (fault.Answer kind) = (a : Apdu) × (CarriesApdu datagram a × (HasNoAnswer (answered_in a) × IsKind (answered_in a) kind))

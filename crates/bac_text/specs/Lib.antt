@@ -1,7 +1,10 @@
 pub mod Capture
+pub mod Checked
+pub mod Checking
 pub mod Faults
 pub mod Layers
 pub mod Lines
+pub mod NextLine
 pub mod Outcome
 pub mod Statuses
 pub mod Texts

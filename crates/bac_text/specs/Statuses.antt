@@ -18,6 +18,14 @@ IsFailure CommandLine = ⊥
 IsFailure Output = Unit {0}
 IsFailure Memory = Unit {0}
 
+-- the command stopped before its end
+abbrev pub IsStop : Status → Type 0
+IsStop Done = ⊥
+IsStop Faulty = ⊥
+IsStop CommandLine = Unit {0}
+IsStop Output = Unit {0}
+IsStop Memory = Unit {0}
+
 -- what the status says of a capture: the good lines among all
 abbrev pub IsTallied : ℕ → ℕ → Status → Type 0
 IsTallied lines good Done = good ≡ lines

@@ -1,16 +1,23 @@
 -- The texts that are printed, each as the octets of its characters.
-use Rattle.std.specs.Prelude.{ℕ, Bool, List, [], ◌∷◌, ◌++◌, codes, decimal, Option, Some, None}
+use Rattle.std.specs.Prelude.{◌≡◌, ℕ, ℤ, Bool, List, [], ◌∷◌, ◌++◌, codes, decimal, Option, Some, None}
+use Rattle.std.specs.Fmt.{signed_decimal}
 use Rattle.std.specs.Int.{from_bool}
+use Rattle.std.specs.Io.KnownBytes.{Appends}
 use Rattle.hex.specs.Hex.{encode_upper}
-use Rattle.bac_apdu.specs.Apdu.{Segment, Apdu, ConfirmedRequest, UnconfirmedRequest, SimpleAck, ComplexAck, SegmentAck, Error, Reject, Abort}
-use Rattle.bac_service.specs.Values.{Reference, Request, Complex}
+use Rattle.bac_apdu.specs.Apdu.{Limits, Acknowledgement, Segment, Apdu, ConfirmedRequest, UnconfirmedRequest, SimpleAck, ComplexAck, SegmentAck, Error, Reject, Abort}
+use Rattle.bac_service.specs.Members.{◌⨾◌, ApplicationString}
+use Rattle.bac_service.specs.Values.{Reference, ReadAccess, Request, Complex}
+use Rattle.bac_service.specs.Values.ReadAccess.{ReadStream, ReadRecords}
+use Rattle.bac_service.specs.Values.WriteAccess.{WriteStream, WriteRecords}
+use Rattle.bac_service.specs.declared.reply.FileWritten.{FileWritten}
+use Rattle.bac_service.specs.declared.reply.FileWritten.TheVariants as place
 use Rattle.bac_service.specs.Values.Request.{ReadFile, WriteFile, ReadProperty, WriteProperty}
 use Rattle.bac_service.specs.Values.Complex.{FileRead, StreamWritten, RecordsWritten, PropertyRead}
 use Rattle.bac_value.specs.Value.{ObjectId}
 use Rattle.bac_npdu.specs.Npdu.{NpduView, DestinationView, MessageView}
 use Rattle.bac_npdu.specs.Peers.{RouteView}
-use Rattle.bac_text.specs.declared.line_fault.LineFault.{LineFault}
-use Rattle.bac_text.specs.declared.line_fault.LineFault.TheVariants.{NoCaptureLine, MomentGoesBack, Datagram}
+use Rattle.bac_text.specs.declared.fault.LineFault.{LineFault}
+use Rattle.bac_text.specs.declared.fault.LineFault.TheVariants.{NoCaptureLine, MomentGoesBack, Datagram}
 use Rattle.bac_text.specs.Faults.{fault_text}
 
 abbrev pub line_end : List ℕ
@@ -24,15 +31,15 @@ optional text (Some x) = text x
 abbrev pub bit_text : Bool → List ℕ
 bit_text b = decimal (from_bool b)
 
--- a number behind a name
+-- a number after a name
 abbrev pub number_text : List ℕ → ℕ → List ℕ
 number_text name number = codes " " ++ (name ++ (codes "=" ++ decimal number))
 
--- octets in hexadecimal, behind a name
+-- octets in hexadecimal, after a name
 abbrev pub octets_text : List ℕ → List ℕ → List ℕ
 octets_text name octets = codes " " ++ (name ++ (codes "=" ++ encode_upper octets))
 
--- a network and an address on it, behind a name
+-- a network and an address on it, after a name
 abbrev pub place_text : List ℕ → ℕ → List ℕ → List ℕ
 place_text name network address = codes " " ++ (name ++ (codes "=" ++ (decimal network ++ (codes ":" ++ encode_upper address))))
 
@@ -75,55 +82,54 @@ segment_text s = codes " seq=" ++ (decimal s.number ++ (codes " win=" ++ (decima
 abbrev pub service_text : ℕ → List ℕ → List ℕ
 service_text choice service = (codes " choice=" ++ decimal choice) ++ octets_text (codes "data") service
 
-abbrev pub request_head_text : Bool → ℕ → ℕ → ℕ → List ℕ
-request_head_text takes_segments max_segments max_apdu invoke =
-    codes "confirmed-request sa=" ++ (bit_text takes_segments ++ (codes " segs=" ++ (decimal max_segments
-    ++ (codes " apdu=" ++ (decimal max_apdu ++ (codes " id=" ++ decimal invoke))))))
+abbrev pub request_head_text : Limits → ℕ → List ℕ
+request_head_text limits invoke_id =
+    codes "confirmed-request sa=" ++ (bit_text limits.takes_segments ++ (codes " segs=" ++ (decimal limits.max_segments
+    ++ (codes " apdu=" ++ (decimal limits.max_apdu ++ (codes " id=" ++ decimal invoke_id))))))
 
 abbrev pub segment_ack_head_text : Bool → Bool → ℕ → List ℕ
-segment_ack_head_text nak server invoke = codes "segment-ack nak=" ++ (bit_text nak ++ (codes " srv=" ++ (bit_text server ++ (codes " id=" ++ decimal invoke))))
+segment_ack_head_text nak server invoke_id = codes "segment-ack nak=" ++ (bit_text nak ++ (codes " srv=" ++ (bit_text server ++ (codes " id=" ++ decimal invoke_id))))
 
-abbrev pub segment_ack_text : Bool → Bool → ℕ → ℕ → ℕ → List ℕ
-segment_ack_text nak server invoke number window =
-    segment_ack_head_text nak server invoke ++ (codes " seq=" ++ (decimal number ++ (codes " win=" ++ decimal window)))
+abbrev pub segment_ack_text : Bool → ℕ → Acknowledgement → List ℕ
+segment_ack_text server invoke_id k =
+    segment_ack_head_text k.nak server invoke_id ++ (codes " seq=" ++ (decimal k.number ++ (codes " win=" ++ decimal k.window)))
 
 abbrev pub unconfirmed_text : ℕ → List ℕ → List ℕ
 unconfirmed_text choice service = codes "unconfirmed-request" ++ service_text choice service
 
 abbrev pub simple_ack_text : ℕ → ℕ → List ℕ
-simple_ack_text invoke choice = codes "simple-ack id=" ++ (decimal invoke ++ (codes " choice=" ++ decimal choice))
+simple_ack_text invoke_id choice = codes "simple-ack id=" ++ (decimal invoke_id ++ (codes " choice=" ++ decimal choice))
 
 abbrev pub complex_ack_head_text : ℕ → List ℕ
-complex_ack_head_text invoke = codes "complex-ack id=" ++ decimal invoke
+complex_ack_head_text invoke_id = codes "complex-ack id=" ++ decimal invoke_id
 
 -- a segment's place, where the APDU is one, and the service data
 abbrev pub body_text : Option Segment → ℕ → List ℕ → List ℕ
 body_text segment choice service = optional segment_text segment ++ service_text choice service
 
 abbrev pub error_text : ℕ → ℕ → ℕ → ℕ → List ℕ
-error_text invoke choice class code =
-    codes "error id=" ++ (decimal invoke ++ (codes " choice=" ++ (decimal choice ++ (codes " class=" ++ (decimal class ++ (codes " code=" ++ decimal code))))))
+error_text invoke_id choice class code =
+    codes "error id=" ++ (decimal invoke_id ++ (codes " choice=" ++ (decimal choice ++ (codes " class=" ++ (decimal class ++ (codes " code=" ++ decimal code))))))
 
 abbrev pub reject_text : ℕ → ℕ → List ℕ
-reject_text invoke reason = codes "reject id=" ++ (decimal invoke ++ (codes " reason=" ++ decimal reason))
+reject_text invoke_id reason = codes "reject id=" ++ (decimal invoke_id ++ (codes " reason=" ++ decimal reason))
 
 abbrev pub abort_text : Bool → ℕ → ℕ → List ℕ
-abort_text server invoke reason = codes "abort srv=" ++ (bit_text server ++ (codes " id=" ++ (decimal invoke ++ (codes " reason=" ++ decimal reason))))
+abort_text server invoke_id reason = codes "abort srv=" ++ (bit_text server ++ (codes " id=" ++ (decimal invoke_id ++ (codes " reason=" ++ decimal reason))))
 
 -- of an APDU without service data; of another none
 abbrev pub plain_members_text : Apdu → List ℕ
-plain_members_text (SimpleAck invoke choice) = simple_ack_text invoke choice
-plain_members_text (SegmentAck nak server invoke number window) = segment_ack_text nak server invoke number window
-plain_members_text (Error invoke choice class code) = error_text invoke choice class code
-plain_members_text (Reject invoke reason) = reject_text invoke reason
-plain_members_text (Abort server invoke reason) = abort_text server invoke reason
+plain_members_text (SimpleAck invoke_id choice) = simple_ack_text invoke_id choice
+plain_members_text (SegmentAck server invoke_id acknowledgement) = segment_ack_text server invoke_id acknowledgement
+plain_members_text (Error invoke_id choice class code) = error_text invoke_id choice class code
+plain_members_text (Reject invoke_id reason) = reject_text invoke_id reason
+plain_members_text (Abort server invoke_id reason) = abort_text server invoke_id reason
 plain_members_text _ = []
 
 unfoldable pub members_text : Apdu → List ℕ
-members_text (ConfirmedRequest takes_segments max_segments max_apdu invoke segment choice service) =
-    request_head_text takes_segments max_segments max_apdu invoke ++ body_text segment choice service
+members_text (ConfirmedRequest limits invoke_id segment choice service) = request_head_text limits invoke_id ++ body_text segment choice service
 members_text (UnconfirmedRequest choice service) = unconfirmed_text choice service
-members_text (ComplexAck invoke segment choice service) = complex_ack_head_text invoke ++ body_text segment choice service
+members_text (ComplexAck invoke_id segment choice service) = complex_ack_head_text invoke_id ++ body_text segment choice service
 members_text apdu = plain_members_text apdu
 
 unfoldable pub apdu_text : Apdu → List ℕ
@@ -134,7 +140,7 @@ apdu_text a = members_text a ++ line_end
 abbrev pub object_text : ObjectId → List ℕ
 object_text o = codes " object=" ++ (decimal o.kind ++ (codes ":" ++ decimal o.instance))
 
--- a property of an object, behind the name of the line
+-- a property of an object, after the name of the line
 abbrev pub reference_text : List ℕ → Reference → List ℕ
 reference_text name r = name ++ (object_text r.object ++ ((codes " property=" ++ decimal r.property) ++ optional (number_text (codes "index")) r.index))
 
@@ -145,18 +151,84 @@ write_property_text r values priority =
 abbrev pub property_read_text : Reference → List ℕ → List ℕ
 property_read_text r values = reference_text (codes "read-property-ack") r ++ octets_text (codes "values") values
 
--- of requests and answers on files nothing is said here
-abbrev pub request_text : Request → Option (List ℕ)
-request_text (ReadFile file access) = None
-request_text (WriteFile file access) = None
-request_text (ReadProperty r) = Some (reference_text (codes "read-property") r)
-request_text (WriteProperty r values priority) = Some (write_property_text r values priority)
+abbrev pub count_text : ℕ → List ℕ
+count_text count = codes " count=" ++ decimal count
 
-abbrev pub answer_text : Complex → Option (List ℕ)
-answer_text (FileRead end_of_file start octets) = None
-answer_text (StreamWritten start) = None
-answer_text (RecordsWritten start) = None
-answer_text (PropertyRead r values) = Some (property_read_text r values)
+abbrev pub position_text : ℤ → List ℕ
+position_text start = codes " position=" ++ signed_decimal start
+
+abbrev pub record_text : ℤ → List ℕ
+record_text start = codes " record=" ++ signed_decimal start
+
+abbrev pub read_name : ReadAccess → List ℕ
+read_name (ReadStream start count) = codes "read-file"
+read_name (ReadRecords start count) = codes "read-records"
+
+abbrev pub read_access_text : ReadAccess → List ℕ
+read_access_text (ReadStream start count) = position_text start ++ count_text count
+read_access_text (ReadRecords start count) = record_text start ++ count_text count
+
+abbrev pub read_file_text : ObjectId → ReadAccess → List ℕ
+read_file_text file access = read_name access ++ (object_text file ++ read_access_text access)
+
+abbrev pub write_stream_text : ObjectId → ℤ → List ℕ → List ℕ
+write_stream_text file start octets = codes "write-file" ++ (object_text file ++ (position_text start ++ octets_text (codes "octets") octets))
+
+-- octet strings in hexadecimal, each after a comma
+abbrev pub more_strings_text : List (List ℕ) → List ℕ
+more_strings_text [] = []
+more_strings_text (string ∷ strings) = (codes "," ++ encode_upper string) ++ more_strings_text strings
+
+-- octet strings in hexadecimal, with commas between them
+abbrev pub strings_text : List (List ℕ) → List ℕ
+strings_text [] = []
+strings_text (string ∷ strings) = encode_upper string ++ more_strings_text strings
+
+abbrev pub records_start_text : ℤ → ℕ → List ℕ
+records_start_text start count = record_text start ++ count_text count
+
+abbrev pub write_records_text : ObjectId → ℤ → ℕ → List (List ℕ) → List ℕ
+write_records_text file start count strings =
+    codes "write-records" ++ (object_text file ++ (records_start_text start count ++ (codes " octets=" ++ strings_text strings)))
+
+-- these octets are the spellings of these octet strings, each with its application tag, one after the other (clause 20.2.8)
+abbrev pub AreTheStrings : List (List ℕ) → List ℕ → Type 0
+AreTheStrings [] run = run ≡ []
+AreTheStrings (string ∷ strings) run = (ApplicationString string ⨾ AreTheStrings strings) run
+
+-- the text of a request, without the end of its line
+abbrev pub IsRequestText : Request → List ℕ → Type 0
+IsRequestText (ReadFile file access) text = text ≡ read_file_text file access
+IsRequestText (WriteFile file (WriteStream start octets)) text = text ≡ write_stream_text file start octets
+IsRequestText (WriteFile file (WriteRecords start count run)) text =
+    (strings : List (List ℕ)) × (AreTheStrings strings run × (text ≡ write_records_text file start count strings))
+IsRequestText (ReadProperty r) text = text ≡ reference_text (codes "read-property") r
+IsRequestText (WriteProperty r values priority) text = text ≡ write_property_text r values priority
+
+abbrev pub end_of_file_text : Bool → List ℕ
+end_of_file_text end_of_file = codes "read-file-ack end=" ++ bit_text end_of_file
+
+abbrev pub file_read_text : Bool → ℤ → List ℕ → List ℕ
+file_read_text end_of_file start octets = end_of_file_text end_of_file ++ (position_text start ++ octets_text (codes "octets") octets)
+
+abbrev pub place_written_text : FileWritten → List ℕ
+place_written_text (place.Stream start) = position_text start
+place_written_text (place.Records start) = record_text start
+
+-- the text of the service data of a ComplexACK, without the end of its line
+abbrev pub answer_text : Complex → List ℕ
+answer_text (FileRead end_of_file start octets) = file_read_text end_of_file start octets
+answer_text (StreamWritten start) = codes "write-file-ack" ++ position_text start
+answer_text (RecordsWritten start) = codes "write-file-ack" ++ record_text start
+answer_text (PropertyRead r values) = property_read_text r values
+
+-- one of these texts was appended
+abbrev pub AppendsText : Option (List ℕ) → Option (List ℕ) → (List ℕ → Type 0) → Type 0
+AppendsText old new IsText = (text : List ℕ) × (IsText text × Appends old new text)
+
+-- a line with one of these texts was appended
+abbrev pub AppendsLine : Option (List ℕ) → Option (List ℕ) → (List ℕ → Type 0) → Type 0
+AppendsLine old new IsText = (text : List ℕ) × (IsText text × Appends old new (text ++ line_end))
 
 -- ---- what is wrong with a line of a capture
 

@@ -2,13 +2,13 @@
 ghost use Rattle.std.specs.Prelude.{OnOk};
 ghost use Rattle.std.specs.Option.{option_map};
 ghost use Rattle.std.specs.Io.KnownBytes.{Appends};
-ghost use Rattle.bac_apdu.specs.Views.{segment_view, apdu_view};
+ghost use Rattle.bac_apdu.specs.Views.{limits_view, segment_view, apdu_view};
 ghost use Rattle.bac_text.specs.Texts.{optional, segment_text, service_text, request_head_text, segment_ack_head_text};
 ghost use Rattle.bac_text.specs.Texts.{segment_ack_text, unconfirmed_text, simple_ack_text, complex_ack_head_text, body_text};
 ghost use Rattle.bac_text.specs.Texts.{error_text, abort_text, reject_text, plain_members_text, members_text, apdu_text};
 
-use crate::member::{print_end, print_octets};
-use bac_apdu::{Apdu, Codes, Segment, Window};
+use crate::words::{print_end, print_octets};
+use bac_apdu::{Apdu, Limits, Segment, Window};
 use std::alloc::Global;
 use std::io;
 use std::io::Write;
@@ -34,47 +34,45 @@ fn print_service<W: Write>(alloc: Global, choice: u8, service: &[u8], out: &mut 
     print_octets(alloc, "data", service, out)
 }
 
-fn print_request_head<W: Write>(
-    takes_segments: bool,
-    codes: Codes,
-    invoke: u8,
-    out: &mut W,
-) -> io::Result<()>
-    ensures { OnOk result (Appends (W.contents out.old) (W.contents out.new) (request_head_text takes_segments codes.max_segments codes.max_apdu invoke)) }
+fn print_request_head<W: Write>(limits: Limits, invoke_id: u8, out: &mut W) -> io::Result<()>
+    ensures { OnOk result (Appends (W.contents out.old) (W.contents out.new) (request_head_text (limits_view limits) invoke_id)) }
 {
-    let takes = u8::from(takes_segments);
-    let segments = codes.max_segments;
-    let octets = codes.max_apdu;
+    let takes = u8::from(limits.takes_segments);
+    let segments = limits.max_segments;
+    let octets = limits.max_apdu;
     write!(
         out,
-        "confirmed-request sa={takes} segs={segments} apdu={octets} id={invoke}"
+        "confirmed-request sa={takes} segs={segments} apdu={octets} id={invoke_id}"
     )
 }
 
 fn print_segment_ack_head<W: Write>(
     nak: bool,
     server: bool,
-    invoke: u8,
+    invoke_id: u8,
     out: &mut W,
 ) -> io::Result<()>
-    ensures { OnOk result (Appends (W.contents out.old) (W.contents out.new) (segment_ack_head_text nak server invoke)) }
+    ensures { OnOk result (Appends (W.contents out.old) (W.contents out.new) (segment_ack_head_text nak server invoke_id)) }
 {
     let negative = u8::from(nak);
     let sender = u8::from(server);
-    write!(out, "segment-ack nak={negative} srv={sender} id={invoke}")
+    write!(
+        out,
+        "segment-ack nak={negative} srv={sender} id={invoke_id}"
+    )
 }
 
 fn print_segment_ack<W: Write>(
     nak: bool,
     server: bool,
-    invoke: u8,
+    invoke_id: u8,
     number: u8,
     window: Window,
     out: &mut W,
 ) -> io::Result<()>
-    ensures { OnOk result (Appends (W.contents out.old) (W.contents out.new) (segment_ack_text nak server invoke number window.size)) }
+    ensures { OnOk result (Appends (W.contents out.old) (W.contents out.new) (segment_ack_text server invoke_id (record { nak = nak; number = number; window = window.size }))) }
 {
-    print_segment_ack_head(nak, server, invoke, out)?;
+    print_segment_ack_head(nak, server, invoke_id, out)?;
     let window = window.size;
     write!(out, " seq={number} win={window}")
 }
@@ -91,16 +89,16 @@ fn print_unconfirmed<W: Write>(
     print_service(alloc, choice, service, out)
 }
 
-fn print_simple_ack<W: Write>(invoke: u8, choice: u8, out: &mut W) -> io::Result<()>
-    ensures { OnOk result (Appends (W.contents out.old) (W.contents out.new) (simple_ack_text invoke choice)) }
+fn print_simple_ack<W: Write>(invoke_id: u8, choice: u8, out: &mut W) -> io::Result<()>
+    ensures { OnOk result (Appends (W.contents out.old) (W.contents out.new) (simple_ack_text invoke_id choice)) }
 {
-    write!(out, "simple-ack id={invoke} choice={choice}")
+    write!(out, "simple-ack id={invoke_id} choice={choice}")
 }
 
-fn print_complex_ack_head<W: Write>(invoke: u8, out: &mut W) -> io::Result<()>
-    ensures { OnOk result (Appends (W.contents out.old) (W.contents out.new) (complex_ack_head_text invoke)) }
+fn print_complex_ack_head<W: Write>(invoke_id: u8, out: &mut W) -> io::Result<()>
+    ensures { OnOk result (Appends (W.contents out.old) (W.contents out.new) (complex_ack_head_text invoke_id)) }
 {
-    write!(out, "complex-ack id={invoke}")
+    write!(out, "complex-ack id={invoke_id}")
 }
 
 /// A segment's place, where the APDU is one, and the service data.
@@ -118,31 +116,31 @@ fn print_body<W: Write>(
 }
 
 fn print_error<W: Write>(
-    invoke: u8,
+    invoke_id: u8,
     choice: u8,
     class: u32,
     code: u32,
     out: &mut W,
 ) -> io::Result<()>
-    ensures { OnOk result (Appends (W.contents out.old) (W.contents out.new) (error_text invoke choice class code)) }
+    ensures { OnOk result (Appends (W.contents out.old) (W.contents out.new) (error_text invoke_id choice class code)) }
 {
     write!(
         out,
-        "error id={invoke} choice={choice} class={class} code={code}"
+        "error id={invoke_id} choice={choice} class={class} code={code}"
     )
 }
 
-fn print_abort<W: Write>(server: bool, invoke: u8, reason: u8, out: &mut W) -> io::Result<()>
-    ensures { OnOk result (Appends (W.contents out.old) (W.contents out.new) (abort_text server invoke reason)) }
+fn print_abort<W: Write>(server: bool, invoke_id: u8, reason: u8, out: &mut W) -> io::Result<()>
+    ensures { OnOk result (Appends (W.contents out.old) (W.contents out.new) (abort_text server invoke_id reason)) }
 {
     let server = u8::from(server);
-    write!(out, "abort srv={server} id={invoke} reason={reason}")
+    write!(out, "abort srv={server} id={invoke_id} reason={reason}")
 }
 
-fn print_reject<W: Write>(invoke: u8, reason: u8, out: &mut W) -> io::Result<()>
-    ensures { OnOk result (Appends (W.contents out.old) (W.contents out.new) (reject_text invoke reason)) }
+fn print_reject<W: Write>(invoke_id: u8, reason: u8, out: &mut W) -> io::Result<()>
+    ensures { OnOk result (Appends (W.contents out.old) (W.contents out.new) (reject_text invoke_id reason)) }
 {
-    write!(out, "reject id={invoke} reason={reason}")
+    write!(out, "reject id={invoke_id} reason={reason}")
 }
 
 /// The members of an APDU without service data: an acknowledgement, an Error, a Reject or an Abort. Others print nothing.
@@ -150,26 +148,26 @@ fn print_plain_members<W: Write>(apdu: Apdu<'_>, out: &mut W) -> io::Result<()>
     ensures { OnOk result (Appends (W.contents out.old) (W.contents out.new) (plain_members_text (apdu_view apdu.entry))) }
 {
     match apdu {
-        Apdu::SimpleAck { invoke, choice } => print_simple_ack(invoke, choice, out),
+        Apdu::SimpleAck { invoke_id, choice } => print_simple_ack(invoke_id, choice, out),
         Apdu::SegmentAck {
             nak,
             server,
-            invoke,
+            invoke_id,
             number,
             window,
-        } => print_segment_ack(nak, server, invoke, number, window, out),
+        } => print_segment_ack(nak, server, invoke_id, number, window, out),
         Apdu::Error {
-            invoke,
+            invoke_id,
             choice,
             class,
             code,
-        } => print_error(invoke, choice, class, code, out),
-        Apdu::Reject { invoke, reason } => print_reject(invoke, reason, out),
+        } => print_error(invoke_id, choice, class, code, out),
+        Apdu::Reject { invoke_id, reason } => print_reject(invoke_id, reason, out),
         Apdu::Abort {
             server,
-            invoke,
+            invoke_id,
             reason,
-        } => print_abort(server, invoke, reason, out),
+        } => print_abort(server, invoke_id, reason, out),
         Apdu::ConfirmedRequest { .. } | Apdu::UnconfirmedRequest { .. } | Apdu::ComplexAck { .. } =>
             Ok(()),
     }
@@ -181,26 +179,25 @@ fn print_members<W: Write>(alloc: Global, apdu: Apdu<'_>, out: &mut W) -> io::Re
 {
     match apdu {
         Apdu::ConfirmedRequest {
-            takes_segments,
-            codes,
-            invoke,
+            limits,
+            invoke_id,
             segment,
             choice,
             service,
         } => {
-            print_request_head(takes_segments, codes, invoke, out)?;
+            print_request_head(limits, invoke_id, out)?;
             print_body(alloc, segment, choice, service, out)
         }
         Apdu::UnconfirmedRequest { choice, service } => {
             print_unconfirmed(alloc, choice, service, out)
         }
         Apdu::ComplexAck {
-            invoke,
+            invoke_id,
             segment,
             choice,
             service,
         } => {
-            print_complex_ack_head(invoke, out)?;
+            print_complex_ack_head(invoke_id, out)?;
             print_body(alloc, segment, choice, service, out)
         }
         _ => print_plain_members(apdu, out),

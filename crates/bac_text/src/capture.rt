@@ -56,7 +56,7 @@ fn is_link(text: &[u8]) -> bool
     text.len() == 12 && are_hexdigits(text)
 }
 
-/// The front of some text up to a space, and what is behind the space.
+/// The front of some text up to a space, and what is after the space.
 fn word(text: &[u8]) -> Option<(&[u8], &[u8])>
     ensures { option_map (λ r. (r.0.now, r.1.now)) result ≡ word_at text.now }
 {
@@ -80,7 +80,7 @@ fn parts_in(line: &[u8]) -> Option<(u64, &[u8])>
 }
 
 /// Reads a line `moment from to hex`, without its end: a decimal moment, two addresses of 12 hexadecimal digits and a datagram
-/// in hexadecimal, parted by single spaces. None where the line is none such, and an Err for want of memory alone.
+/// in hexadecimal, separated by single spaces. None where the line is none such, and an Err only where memory ran out.
 #[tactic(auto, unfolding(crate::specs::Capture::capture_at))]
 pub fn read_capture_line(alloc: Global, line: &[u8]) -> Result<Option<CaptureLine>, AllocError>
     ensures { IfOk result (λ c. option_map (λ l. (l.moment, l.datagram.items)) c ≡ capture_at line.now) }

@@ -1,19 +1,22 @@
 //! `bac check`: which lines of a capture are good.
-ghost use Rattle.std.specs.Prelude.{◌≡◌, ◌≤◌, ◌+◌, ◌-◌, ◌^◌, min, is_some, if◌then◌else◌, IfOk};
-ghost use Rattle.bac_text.specs.Capture.{capture_at};
-ghost use Rattle.bac_text.specs.Lines.{IsJudged};
-ghost use Rattle.bac_text.specs.Statuses.{IsTallied};
+ghost use Rattle.std.specs.Prelude.{◌≡◌, ◌+◌, ◌-◌, ◌^◌, ◌<◌, IfOk, IfSome, OnOk};
+ghost use Rattle.std.specs.Option.{option_map};
+ghost use Rattle.std.specs.Io.KnownBytes.{Appends};
+ghost use Rattle.bac_text.specs.Checked.{verdict_text, tally_text, IsReportOf};
+ghost use Rattle.bac_text.specs.Checking.{count_of, IsCounted, IsStep, AreCounted};
+ghost use Rattle.bac_text.specs.Lines.{short_capture_at, IsJudged};
+ghost use Rattle.bac_text.specs.Statuses.{IsStop};
 
 use crate::capture::read_capture_line;
+use crate::fault::LineFault;
 use crate::layers::check_datagram;
-use crate::line_fault::LineFault;
+use crate::lines::{LINE_LIMIT, next_line};
 use crate::status::{Status, complain, no_memory, output_failed};
+use crate::tally::Tally;
+use crate::words::print_end;
 use std::alloc::{AllocError, Global};
-use std::io::{BufRead, Read, Write};
-use std::{fmt, io};
-
-/// Most octets of a line, without its end. The longest datagram of a BVLL has 131,070 digits, and what stands before it 47.
-const LINE_LIMIT: u64 = 132_000;
+use std::io;
+use std::io::{BufRead, ErrorKind, Write};
 
 /// Why checking stopped.
 #[derive(Debug, Drop)]
@@ -23,34 +26,13 @@ enum CheckError {
     Memory,
 }
 
-/// The lines so far.
-#[derive(Clone, Copy)]
-struct Tally {
-    lines: u64,
-    good: u64,
-    /// The greatest moment of the capture lines.
-    latest: u64,
-    ghost counted: { good ≤ lines },
-}
-
-/// Reads the next line without its end into `line`; false at the end of the input. Of an overlong line nothing is kept, and so
-/// it is no capture line.
-fn next_line<R: BufRead>(input: &mut R, line: &mut Vec<u8>) -> io::Result<bool> {
-    line.clear();
-    let read = input.by_ref().take(LINE_LIMIT + 1).read_until(b'\n', line)?;
-    if line.last() == Some(&b'\n') {
-        line.pop();
-    } else if line.len() as u64 > LINE_LIMIT {
-        line.clear();
-        input.skip_until(b'\n')?;
-    }
-    Ok(read > 0)
-}
-
 /// What is wrong with a line, if something is, where the greatest moment so far is `latest`; and the greatest moment from here on.
 fn fault_in(alloc: Global, line: &[u8], latest: u64) -> Result<(Option<LineFault>, u64), AllocError>
-    ensures { IfOk result (λ r. IsJudged (capture_at line.now) latest r.0 r.1) }
+    ensures { IfOk result (λ r. IsJudged (short_capture_at line.now) latest r.0 r.1) }
 {
+    if line.len() > LINE_LIMIT {
+        return Ok((Some(LineFault::NoCaptureLine), latest));
+    }
     let Some(captured) = read_capture_line(alloc, line)? else {
         return Ok((Some(LineFault::NoCaptureLine), latest));
     };
@@ -63,106 +45,133 @@ fn fault_in(alloc: Global, line: &[u8], latest: u64) -> Result<(Option<LineFault
     }
 }
 
-impl Tally {
-    /// The lines with one more, which has that fault or none.
-    fn with(self, fault: Option<LineFault>, latest: u64) -> Tally
-        ensures lines { result.lines ≡ min (self.lines + 1) (2 ^ 64 - 1) }
-        ensures good { result.good ≡ (if is_some fault then self.good else min (self.good + 1) (2 ^ 64 - 1)) }
-        ensures latest { result.latest ≡ latest }
-    {
-        let good = match fault {
-            None => self.good.saturating_add(1),
-            Some(_) => self.good,
-        };
-        Tally {
-            lines: self.lines.saturating_add(1),
-            good,
-            latest,
-        }
-    }
-
-    /// Whether all lines are good.
-    fn status(self) -> Status
-        ensures { IsTallied self.lines self.good result }
-    {
-        if self.good == self.lines {
-            Status::Done
-        } else {
-            Status::Faulty
-        }
-    }
+/// Prints what is wrong with the line of that number, if something is.
+fn print_verdict<W: Write>(number: u64, fault: Option<LineFault>, out: &mut W) -> io::Result<()>
+    ensures { OnOk result (Appends (W.contents out.old) (W.contents out.new) (verdict_text number fault)) }
+{
+    let Some(fault) = fault else {
+        return Ok(());
+    };
+    write!(out, "line {number}: {fault}")?;
+    print_end(out)
 }
 
-/// Counts a line, and prints its fault where it has one.
+/// Judges a line, counts it, and prints its fault where it has one.
 fn check_line<W: Write>(
     alloc: Global,
     line: &[u8],
     tally: Tally,
     out: &mut W,
-) -> Result<Tally, CheckError> {
+) -> Result<Tally, CheckError>
+    ensures is { IfOk result (λ t. IsCounted line.now (W.contents out.old) (W.contents out.new) (count_of tally) (count_of t)) }
+    ensures fits { OnOk result (tally.lines < 2 ^ 64 - 1) }
+{
     let Ok((fault, latest)) = fault_in(alloc, line, tally.latest) else {
         return Err(CheckError::Memory);
     };
-    let counted = tally.with(fault, latest);
-    if let Some(fault) = fault {
-        let number = counted.lines;
-        writeln!(out, "line {number}: {fault}").map_err(CheckError::Output)?;
+    let Some(counted) = tally.with(fault, latest) else {
+        return Err(CheckError::Input(io::Error::from(ErrorKind::FileTooLarge)));
+    };
+    match print_verdict(counted.lines, fault, out) {
+        Ok(()) => Ok(counted),
+        Err(error) => Err(CheckError::Output(error)),
     }
-    Ok(counted)
+}
+
+/// Takes the next line and checks it; None at the end of the input.
+fn check_next<R: BufRead, W: Write>(
+    alloc: Global,
+    input: &mut R,
+    line: &mut Vec<u8>,
+    tally: Tally,
+    out: &mut W,
+) -> Result<Option<Tally>, CheckError>
+    ensures step { IfOk result (λ r. IsStep (R.remaining input.old) (R.remaining input.new) (W.contents out.old) (W.contents out.new) (count_of tally) (option_map count_of r)) }
+    ensures more { IfOk result (λ r. IfSome r (λ t. (t.lines ≡ tally.lines + 1) × (tally.lines < 2 ^ 64 - 1))) }
+{
+    match next_line(input, line) {
+        Ok(true) => match check_line(alloc, line, tally, out) {
+            Ok(counted) => Ok(Some(counted)),
+            Err(error) => Err(error),
+        },
+        Ok(false) => Ok(None),
+        Err(error) => Err(CheckError::Input(error)),
+    }
 }
 
 fn check_lines<R: BufRead, W: Write>(
     alloc: Global,
     input: &mut R,
     out: &mut W,
-) -> Result<Tally, CheckError> {
+) -> Result<Tally, CheckError>
+    ensures { IfOk result (λ t. AreCounted (R.remaining input.old) (W.contents out.old) (W.contents out.new) (count_of t)) }
+{
     let mut tally = Tally {
         lines: 0,
         good: 0,
         latest: 0,
     };
     let mut line = Vec::new(alloc);
-    for _ in 0..u64::MAX {
-        if !next_line(input, &mut line).map_err(CheckError::Input)? {
-            break;
-        }
-        tally = check_line(alloc, &line, tally, out)?;
+    while let Some(next) = check_next(alloc, input, &mut line, tally, out)? {
+        tally = next;
     }
     Ok(tally)
 }
 
-fn print_tally<W: Write>(tally: Tally, out: &mut W) -> io::Result<()> {
+fn print_tally<W: Write>(tally: Tally, out: &mut W) -> io::Result<()>
+    ensures { OnOk result (Appends (W.contents out.old) (W.contents out.new) (tally_text tally.lines tally.good)) }
+{
     let lines = tally.lines;
     let good = tally.good;
     let bad = lines - good;
-    writeln!(out, "lines={lines} good={good} bad={bad}")?;
+    write!(out, "lines={lines} good={good} bad={bad}")?;
+    print_end(out)?;
     out.flush()
+}
+
+fn check_all<R: BufRead, W: Write>(
+    alloc: Global,
+    input: &mut R,
+    out: &mut W,
+) -> Result<Status, CheckError>
+    ensures { IfOk result (IsReportOf (R.remaining input.old) (W.contents out.old) (W.contents out.new)) }
+{
+    let tally = check_lines(alloc, input, out)?;
+    match print_tally(tally, out) {
+        Ok(()) => Ok(tally.status()),
+        Err(error) => Err(CheckError::Output(error)),
+    }
+}
+
+/// Why checking stopped, as a status. What was printed before goes out as far as it can.
+fn stopped<O: Write, E: Write>(error: CheckError, out: &mut O, err: &mut E) -> Status
+    ensures { IsStop result }
+{
+    match (error, out.flush()) {
+        (CheckError::Output(error), _) | (_, Err(error)) => output_failed(err, &error),
+        (CheckError::Input(error), Ok(())) if error.kind() != ErrorKind::OutOfMemory => {
+            complain(err, "cannot read", Status::CommandLine)
+        }
+        _ => no_memory(err),
+    }
 }
 
 /// Checks each line of a capture: prints each bad line's number and fault, and at the end how many lines are good and bad.
 ///
 /// A line `moment from to hex` is good where its moment is not less than that of an earlier such line, and its datagram has no
-/// fault. Ends with `Faulty` where a line is bad. An input that cannot be read: `cannot read` on `err`. Want of memory:
-/// `no memory` on `err`. `Output` where `out` cannot be written, then too where the input fails. Memory does not grow with the input.
+/// fault. Ends with `Faulty` where a line is bad. An input that cannot be read, or of 2^64 lines: `cannot read` on `err`. Out of
+/// memory: `no memory` on `err`. `Output` where `out` cannot be written, then too where the input fails. Memory does not grow
+/// with the input.
 pub fn check_over<R: BufRead, O: Write, E: Write>(
     alloc: Global,
     input: &mut R,
     out: &mut O,
     err: &mut E,
-) -> Status {
-    let printed = match check_lines(alloc, input, out) {
-        Ok(tally) => match print_tally(tally, out) {
-            Ok(()) => return tally.status(),
-            Err(error) => Err(error),
-        },
-        Err(CheckError::Output(error)) => Err(error),
-        Err(CheckError::Input(error)) if error.kind() != io::ErrorKind::OutOfMemory => {
-            Ok(complain(err, "cannot read", Status::CommandLine))
-        }
-        Err(_) => Ok(no_memory(err)),
-    };
-    match (printed, out.flush()) {
-        (Ok(status), Ok(())) => status,
-        (Err(error), _) | (Ok(_), Err(error)) => output_failed(err, &error),
+) -> Status
+    ensures { IsReportOf (R.remaining input.old) (O.contents out.old) (O.contents out.new) result }
+{
+    match check_all(alloc, input, out) {
+        Ok(status) => status,
+        Err(error) => stopped(error, out, err),
     }
 }

@@ -64,7 +64,7 @@ fn decode_datagram<W: Write>(alloc: Global, datagram: &[u8], out: &mut W) -> io:
 /// Prints the layers of a datagram given in hexadecimal, one a line, up to the first that has a fault.
 ///
 /// A layer with a fault prints `fault bvll 5`, with the layer and the fault's number, and ends with `Faulty`. Text that is not
-/// hexadecimal: `bad hex` on `err`. Want of memory: `no memory` on `err`. `Output` where `out` cannot be written.
+/// hexadecimal: `bad hex` on `err`. Out of memory: `no memory` on `err`. `Output` where `out` cannot be written.
 pub fn decode_over<O: Write, E: Write>(
     alloc: Global,
     text: &str,

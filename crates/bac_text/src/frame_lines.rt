@@ -6,7 +6,7 @@ ghost use Rattle.bac_npdu.specs.Addresses.{address_view};
 ghost use Rattle.bac_npdu.specs.Views.{destination_view, route_view, message_view, npdu_view};
 ghost use Rattle.bac_text.specs.Texts.{optional, place_text, destination_text, source_text, message_text, bvll_text, npdu_head_text, npdu_text};
 
-use crate::member::{print_end, print_octets};
+use crate::words::{print_end, print_octets};
 use bac_npdu::{Address, Destination, Message, Npdu, Route};
 use std::alloc::Global;
 use std::io;
@@ -20,7 +20,7 @@ pub(crate) fn print_bvll<W: Write>(len: usize, out: &mut W) -> io::Result<()>
     print_end(out)
 }
 
-/// A network and the address of a device on it, behind a name.
+/// A network and the address of a device on it, after a name.
 fn print_place<W: Write>(
     alloc: Global,
     name: &str,

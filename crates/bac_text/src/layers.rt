@@ -4,14 +4,18 @@ ghost use Rattle.std.specs.Option.{option_map};
 ghost use Rattle.bac_apdu.specs.Views.{apdu_view};
 ghost use Rattle.bac_npdu.specs.Views.{npdu_view};
 ghost use Rattle.bac_npdu.specs.Datagram.{IsFrameOf};
-ghost use Rattle.bac_service.specs.Views.{request, complex};
-ghost use Rattle.bac_text.specs.Layers.{is_known, has_answer_data, asked_in, answered_in};
-ghost use Rattle.bac_text.specs.Layers.{IsRequestIn, IsAnswerIn, HasNoRequest, HasNoAnswer, IsFine, IsAtFault};
+ghost use Rattle.bac_service.specs.Views.{complex_view, request_view};
+ghost use Rattle.bac_service.specs.Choices.{is_served, has_complex_ack};
+ghost use Rattle.bac_text.specs.Layers.{asked_in, answered_in};
+ghost use Rattle.bac_text.specs.Layers.{IsRequestIn, IsAnswerIn, HasNoRequest, HasNoAnswer, IsReason, IsKind, IsFine, IsAtFault};
 
 use crate::fault::LayerFault;
 use bac_apdu::{Apdu, ApduFault};
 use bac_npdu::{Npdu, read_bvll, read_npdu};
-use bac_service::{Complex, Reject, Request, read_reply, read_request};
+use bac_service::{
+    ATOMIC_READ_FILE, ATOMIC_WRITE_FILE, Complex, READ_PROPERTY, Reject, Request, WRITE_PROPERTY,
+    read_reply, read_request,
+};
 use bac_value::FaultKind;
 
 /// The NPDU in a datagram.
@@ -31,16 +35,16 @@ pub(crate) fn npdu_in(octets: &[u8]) -> Result<Npdu<'_>, LayerFault>
 
 /// Whether a service choice is AtomicReadFile's, AtomicWriteFile's, ReadProperty's or WriteProperty's (clause 21).
 fn is_service(choice: u8) -> bool
-    ensures { result ≡ is_known choice }
+    ensures { result ≡ is_served choice }
 {
-    choice == 6 || choice == 7 || choice == 12 || choice == 15
+    choice == WRITE_PROPERTY || answers_with_data(choice)
 }
 
 /// Whether a service choice is one of those whose answers have service data: all but WriteProperty's.
 fn answers_with_data(choice: u8) -> bool
-    ensures { result ≡ has_answer_data choice }
+    ensures { result ≡ has_complex_ack choice }
 {
-    choice == 6 || choice == 7 || choice == 12
+    choice == ATOMIC_READ_FILE || choice == ATOMIC_WRITE_FILE || choice == READ_PROPERTY
 }
 
 /// The choice and the service data of a request of one of the four services that is no segment.
@@ -75,8 +79,9 @@ fn answered(apdu: Apdu<'_>) -> Option<(u8, &[u8])>
 
 /// The request that an APDU carries whole, if it carries one of the four services'.
 pub(crate) fn request_in(apdu: Apdu<'_>) -> Result<Option<Request<'_>>, Reject>
-    ensures found { IfOk result (λ r. IsRequestIn (asked_in (apdu_view apdu.entry)) (option_map request r)) }
+    ensures found { IfOk result (λ r. IsRequestIn (asked_in (apdu_view apdu.entry)) (option_map request_view r)) }
     ensures refused { IfErr result (λ e. HasNoRequest (asked_in (apdu_view apdu.entry))) }
+    ensures reason { IfErr result (IsReason (asked_in (apdu_view apdu.entry))) }
 {
     match asked(apdu) {
         None => Ok(None),
@@ -89,8 +94,9 @@ pub(crate) fn request_in(apdu: Apdu<'_>) -> Result<Option<Request<'_>>, Reject>
 
 /// The answer that an APDU carries whole, if it carries one of the services'.
 pub(crate) fn answer_in(apdu: Apdu<'_>) -> Result<Option<Complex<'_>>, FaultKind>
-    ensures found { IfOk result (λ c. IsAnswerIn (answered_in (apdu_view apdu.entry)) (option_map complex c)) }
+    ensures found { IfOk result (λ c. IsAnswerIn (answered_in (apdu_view apdu.entry)) (option_map complex_view c)) }
     ensures refused { IfErr result (λ e. HasNoAnswer (answered_in (apdu_view apdu.entry))) }
+    ensures kind { IfErr result (IsKind (answered_in (apdu_view apdu.entry))) }
 {
     match answered(apdu) {
         None => Ok(None),

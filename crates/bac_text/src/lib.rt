@@ -9,10 +9,12 @@ mod fault;
 mod frame_lines;
 mod laws;
 mod layers;
-mod line_fault;
-mod member;
+mod lines;
 mod service_line;
 mod status;
+mod strings;
+mod tally;
+mod words;
 
 pub use capture::{CaptureLine, read_capture_line};
 pub use check::check_over;

@@ -1,27 +1,32 @@
 //! The line of a request or an answer.
-ghost use Rattle.std.specs.Prelude.{◌≡◌, OnOk, IfSome, ◌++◌};
+ghost use Rattle.std.specs.Prelude.{◌≡◌, ℕ, List, OnOk, ◌++◌};
 ghost use Rattle.std.specs.Io.KnownBytes.{Appends};
+ghost use Rattle.bac_value.specs.Views.{object_identifier_view};
 ghost use Rattle.bac_service.specs.Views as view;
-ghost use Rattle.bac_text.specs.Texts.{reference_text, write_property_text, property_read_text, request_text, answer_text, line_end};
+ghost use Rattle.bac_text.specs.Texts.{reference_text, write_property_text, property_read_text, read_name, read_access_text, read_file_text};
+ghost use Rattle.bac_text.specs.Texts.{position_text, write_stream_text, records_start_text, end_of_file_text, place_written_text};
+ghost use Rattle.bac_text.specs.Texts.{AreTheStrings, write_records_text, IsRequestText, file_read_text, answer_text, line_end};
+ghost use Rattle.bac_text.specs.Texts.{AppendsText, AppendsLine};
 
-use crate::member::{print_end, print_object, print_octets, print_optional};
+use crate::strings::print_strings;
+use crate::words::{print_end, print_object, print_octets, print_optional};
 use bac_service::{
     AnyComplex, AnyRequest, Complex, Content, FileRead, FileWritten, Priority, PropertyRead,
-    PropertyReference, ReadAccess, ReadFile, Records, Request, WriteAccess, WriteFile,
-    WriteProperty,
+    PropertyReference, ReadAccess, ReadFile, Records, Request, WriteAccess, WriteProperty,
+    WriteRecords, WriteStream,
 };
-use bac_value::{Data, take_element};
+use bac_value::{Data, ObjectIdentifier};
 use std::alloc::Global;
 use std::io;
 use std::io::Write;
 
-/// A property of an object, behind the name of the line.
+/// A property of an object, after the name of the line.
 fn print_reference<W: Write>(
     name: &str,
     reference: PropertyReference,
     out: &mut W,
 ) -> io::Result<()>
-    ensures { OnOk result (Appends (W.contents out.old) (W.contents out.new) (reference_text name.now (view.reference reference))) }
+    ensures { OnOk result (Appends (W.contents out.old) (W.contents out.new) (reference_text name.now (view.property_reference_view reference))) }
 {
     write!(out, "{name}")?;
     print_object(reference.object, out)?;
@@ -31,7 +36,7 @@ fn print_reference<W: Write>(
 }
 
 fn number_of(priority: Option<Priority>) -> Option<u32>
-    ensures { result ≡ view.number_of priority }
+    ensures { result ≡ view.priority_view priority }
 {
     match priority {
         None => None,
@@ -45,59 +50,81 @@ fn print_write_property<W: Write>(
     out: &mut W,
 ) -> io::Result<()>
     ensures { OnOk result (Appends (W.contents out.old) (W.contents out.new) (write_property_text
-        (view.reference write.entry.reference) write.entry.values.octets.now (view.number_of write.entry.priority))) }
+        (view.property_reference_view write.entry.reference) write.entry.values.octets.now (view.priority_view write.entry.priority))) }
 {
     print_reference("write-property", write.reference, out)?;
     print_octets(alloc, "values", write.values.octets, out)?;
     print_optional("priority", number_of(write.priority), out)
 }
 
-fn print_read_file<W: Write>(read: ReadFile, out: &mut W) -> io::Result<()> {
-    let (name, place, start, count) = match read.access {
-        ReadAccess::Stream { start, count } => ("read-file", "position", start, count),
-        ReadAccess::Records { start, count } => ("read-records", "record", start, count),
-    };
-    write!(out, "{name}")?;
+fn print_read_name<W: Write>(access: ReadAccess, out: &mut W) -> io::Result<()>
+    ensures { OnOk result (Appends (W.contents out.old) (W.contents out.new) (read_name (view.read_access_view access))) }
+{
+    match access {
+        ReadAccess::Stream { .. } => out.write_all(b"read-file"),
+        ReadAccess::Records { .. } => out.write_all(b"read-records"),
+    }
+}
+
+fn print_read_access<W: Write>(access: ReadAccess, out: &mut W) -> io::Result<()>
+    ensures { OnOk result (Appends (W.contents out.old) (W.contents out.new) (read_access_text (view.read_access_view access))) }
+{
+    match access {
+        ReadAccess::Stream { start, count } => write!(out, " position={start} count={count}"),
+        ReadAccess::Records { start, count } => write!(out, " record={start} count={count}"),
+    }
+}
+
+fn print_read_file<W: Write>(read: ReadFile, out: &mut W) -> io::Result<()>
+    ensures { OnOk result (Appends (W.contents out.old) (W.contents out.new) (read_file_text (object_identifier_view read.file) (view.read_access_view read.access))) }
+{
+    print_read_name(read.access, out)?;
     print_object(read.file, out)?;
-    write!(out, " {place}={start} count={count}")
+    print_read_access(read.access, out)
 }
 
-/// The contents of octet strings that stand one behind the other, parted by commas.
-fn print_strings<W: Write>(alloc: Global, run: &[u8], out: &mut W) -> io::Result<()> {
-    write!(out, " octets=")?;
-    let mut comma = "";
-    let mut rest = run;
-    while let Ok((element, next)) = take_element(rest) {
-        let text = hex::encode_upper(alloc, element.contents)?;
-        write!(out, "{comma}{text}")?;
-        comma = ",";
-        rest = next;
-    }
-    Ok(())
+fn print_stream_start<W: Write>(stream: WriteStream<Content<'_>>, out: &mut W) -> io::Result<()>
+    ensures { OnOk result (Appends (W.contents out.old) (W.contents out.new) (position_text stream.entry.start)) }
+{
+    let start = stream.start;
+    write!(out, " position={start}")
 }
 
-fn print_write_file<W: Write>(
+fn print_write_stream<W: Write>(
     alloc: Global,
-    write: WriteFile<Content<'_>, Records<'_>>,
+    file: ObjectIdentifier,
+    stream: WriteStream<Content<'_>>,
     out: &mut W,
-) -> io::Result<()> {
-    match write.access {
-        WriteAccess::Stream(stream) => {
-            write!(out, "write-file")?;
-            print_object(write.file, out)?;
-            let start = stream.start;
-            write!(out, " position={start}")?;
-            print_octets(alloc, "octets", stream.content.octets, out)
-        }
-        WriteAccess::Records(records) => {
-            write!(out, "write-records")?;
-            print_object(write.file, out)?;
-            let start = records.start;
-            let count = records.records.count;
-            write!(out, " record={start} count={count}")?;
-            print_strings(alloc, records.records.run, out)
-        }
-    }
+) -> io::Result<()>
+    ensures { OnOk result (Appends (W.contents out.old) (W.contents out.new) (write_stream_text (object_identifier_view file) stream.entry.start stream.entry.content.octets.now)) }
+{
+    out.write_all(b"write-file")?;
+    print_object(file, out)?;
+    print_stream_start(stream, out)?;
+    print_octets(alloc, "octets", stream.content.octets, out)
+}
+
+fn print_records_start<W: Write>(write: WriteRecords<Records<'_>>, out: &mut W) -> io::Result<()>
+    ensures { OnOk result (Appends (W.contents out.old) (W.contents out.new) (records_start_text write.entry.start write.entry.records.count)) }
+{
+    let start = write.start;
+    let count = write.records.count;
+    write!(out, " record={start} count={count}")
+}
+
+fn print_write_records<W: Write>(
+    alloc: Global,
+    file: ObjectIdentifier,
+    write: WriteRecords<Records<'_>>,
+    out: &mut W,
+) -> io::Result<()>
+    ensures { OnOk result ((strings : List (List ℕ)) × (AreTheStrings strings write.entry.records.run.now
+        × Appends (W.contents out.old) (W.contents out.new) (write_records_text (object_identifier_view file) write.entry.start write.entry.records.count strings))) }
+{
+    out.write_all(b"write-records")?;
+    print_object(file, out)?;
+    print_records_start(write, out)?;
+    print_strings(alloc, write.records.run, out)
 }
 
 fn print_request_members<W: Write>(
@@ -105,11 +132,14 @@ fn print_request_members<W: Write>(
     request: Request<'_>,
     out: &mut W,
 ) -> io::Result<()>
-    ensures { IfSome (request_text (view.request request.entry)) (λ text. OnOk result (Appends (W.contents out.old) (W.contents out.new) text)) }
+    ensures { OnOk result (AppendsText (W.contents out.old) (W.contents out.new) (IsRequestText (view.request_view request.entry))) }
 {
     match request {
         AnyRequest::ReadFile(read) => print_read_file(read, out),
-        AnyRequest::WriteFile(write) => print_write_file(alloc, write, out),
+        AnyRequest::WriteFile(write) => match write.access {
+            WriteAccess::Stream(stream) => print_write_stream(alloc, write.file, stream, out),
+            WriteAccess::Records(records) => print_write_records(alloc, write.file, records, out),
+        },
         AnyRequest::ReadProperty(reference) => print_reference("read-property", reference, out),
         AnyRequest::WriteProperty(write) => print_write_property(alloc, write, out),
     }
@@ -121,21 +151,53 @@ pub(crate) fn print_request<W: Write>(
     request: Request<'_>,
     out: &mut W,
 ) -> io::Result<()>
-    ensures { IfSome (request_text (view.request request.entry)) (λ text. OnOk result (Appends (W.contents out.old) (W.contents out.new) (text ++ line_end))) }
+    ensures { OnOk result (AppendsLine (W.contents out.old) (W.contents out.new) (IsRequestText (view.request_view request.entry))) }
 {
     print_request_members(alloc, request, out)?;
     print_end(out)
+}
+
+fn print_end_of_file<W: Write>(end_of_file: bool, out: &mut W) -> io::Result<()>
+    ensures { OnOk result (Appends (W.contents out.old) (W.contents out.new) (end_of_file_text end_of_file)) }
+{
+    let end = u8::from(end_of_file);
+    write!(out, "read-file-ack end={end}")
+}
+
+fn print_read_start<W: Write>(read: FileRead<Content<'_>>, out: &mut W) -> io::Result<()>
+    ensures { OnOk result (Appends (W.contents out.old) (W.contents out.new) (position_text read.entry.start)) }
+{
+    let start = read.start;
+    write!(out, " position={start}")
 }
 
 fn print_file_read<W: Write>(
     alloc: Global,
     read: FileRead<Content<'_>>,
     out: &mut W,
-) -> io::Result<()> {
-    let end = u8::from(read.end_of_file);
-    let start = read.start;
-    write!(out, "read-file-ack end={end} position={start}")?;
+) -> io::Result<()>
+    ensures { OnOk result (Appends (W.contents out.old) (W.contents out.new) (file_read_text
+        read.entry.end_of_file read.entry.start read.entry.content.octets.now)) }
+{
+    print_end_of_file(read.end_of_file, out)?;
+    print_read_start(read, out)?;
     print_octets(alloc, "octets", read.content.octets, out)
+}
+
+fn print_place<W: Write>(written: FileWritten, out: &mut W) -> io::Result<()>
+    ensures { OnOk result (Appends (W.contents out.old) (W.contents out.new) (place_written_text written)) }
+{
+    match written {
+        FileWritten::Stream(start) => write!(out, " position={start}"),
+        FileWritten::Records(start) => write!(out, " record={start}"),
+    }
+}
+
+fn print_file_written<W: Write>(written: FileWritten, out: &mut W) -> io::Result<()>
+    ensures { OnOk result (Appends (W.contents out.old) (W.contents out.new) (answer_text (view.file_written_view written))) }
+{
+    out.write_all(b"write-file-ack")?;
+    print_place(written, out)
 }
 
 fn print_property_read<W: Write>(
@@ -144,34 +206,29 @@ fn print_property_read<W: Write>(
     out: &mut W,
 ) -> io::Result<()>
     ensures { OnOk result (Appends (W.contents out.old) (W.contents out.new) (property_read_text
-        (view.reference read.entry.reference) read.entry.values.octets.now)) }
+        (view.property_reference_view read.entry.reference) read.entry.values.octets.now)) }
 {
     print_reference("read-property-ack", read.reference, out)?;
     print_octets(alloc, "values", read.values.octets, out)
 }
 
 fn print_answer_members<W: Write>(alloc: Global, answer: Complex<'_>, out: &mut W) -> io::Result<()>
-    ensures { IfSome (answer_text (view.complex answer.entry)) (λ text. OnOk result (Appends (W.contents out.old) (W.contents out.new) text)) }
+    ensures { OnOk result (Appends (W.contents out.old) (W.contents out.new) (answer_text (view.complex_view answer.entry))) }
 {
     match answer {
         AnyComplex::FileRead(read) => print_file_read(alloc, read, out),
-        AnyComplex::FileWritten(FileWritten::Stream(start)) => {
-            write!(out, "write-file-ack position={start}")
-        }
-        AnyComplex::FileWritten(FileWritten::Records(start)) => {
-            write!(out, "write-file-ack record={start}")
-        }
+        AnyComplex::FileWritten(written) => print_file_written(written, out),
         AnyComplex::PropertyRead(read) => print_property_read(alloc, read, out),
     }
 }
 
-/// Prints an answer of one of the services.
+/// Prints the service data of a ComplexACK of one of the services.
 pub(crate) fn print_answer<W: Write>(
     alloc: Global,
     answer: Complex<'_>,
     out: &mut W,
 ) -> io::Result<()>
-    ensures { IfSome (answer_text (view.complex answer.entry)) (λ text. OnOk result (Appends (W.contents out.old) (W.contents out.new) (text ++ line_end))) }
+    ensures { OnOk result (Appends (W.contents out.old) (W.contents out.new) (answer_text (view.complex_view answer.entry) ++ line_end)) }
 {
     print_answer_members(alloc, answer, out)?;
     print_end(out)

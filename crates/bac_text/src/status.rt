@@ -38,14 +38,14 @@ pub fn complain<E: Write>(err: &mut E, message: &str, status: Status) -> Status
     status
 }
 
-/// Complains of want of memory.
+/// Complains of out of memory.
 pub fn no_memory<E: Write>(err: &mut E) -> Status
     ensures { result ≡ Memory }
 {
     complain(err, "no memory", Status::Memory)
 }
 
-/// The status of a command whose output failed: want of memory is told apart from what could not be written.
+/// The status of a command whose output failed: out of memory is told apart from what could not be written.
 pub fn output_failed<E: Write>(err: &mut E, error: &io::Error) -> Status
     ensures memory { error_kind error.now ≡ ErrorKind.OutOfMemory → result ≡ Memory }
     ensures output { error_kind error.now ≢ ErrorKind.OutOfMemory → result ≡ Output }

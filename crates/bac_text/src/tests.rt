@@ -47,7 +47,7 @@ fn complains(rt: &impl Abort, printed: &Printed, status: Status, line: &[u8]) {
     assert_eq!(rt; printed.status, status);
 }
 
-/// Behind `bvll len=N` and `npdu expecting=E priority=0`, each kind of APDU and of service data.
+/// After `bvll len=N` and `npdu expecting=E priority=0`, each kind of APDU and of service data.
 #[test]
 fn decodes_apdus(rt: HostRuntime) -> Result<(), Fail> {
     let table = [
@@ -157,6 +157,31 @@ fn decodes_apdus(rt: HostRuntime) -> Result<(), Fail> {
             "010030FA06110E31FF61290F",
             "complex-ack id=250 choice=6 data=110E31FF61290F\nread-file-ack end=1 position=-1 octets=29\n",
         ),
+        // a file that goes on, an append, no records, empty records
+        (
+            16,
+            0,
+            "0100300106100E3100614F0F",
+            "complex-ack id=1 choice=6 data=100E3100614F0F\nread-file-ack end=0 position=0 octets=4F\n",
+        ),
+        (
+            21,
+            1,
+            "010400050107C4028000010E31FF61AA0F",
+            "confirmed-request sa=0 segs=0 apdu=5 id=1 choice=7 data=C4028000010E31FF61AA0F\nwrite-file object=10:1 position=-1 octets=AA\n",
+        ),
+        (
+            21,
+            1,
+            "010400050107C4028000011E31FF21001F",
+            "confirmed-request sa=0 segs=0 apdu=5 id=1 choice=7 data=C4028000011E31FF21001F\nwrite-records object=10:1 record=-1 count=0 octets=\n",
+        ),
+        (
+            23,
+            1,
+            "010400050107C4028000011E3100210260601F",
+            "confirmed-request sa=0 segs=0 apdu=5 id=1 choice=7 data=C4028000011E3100210260601F\nwrite-records object=10:1 record=0 count=2 octets=,\n",
+        ),
         // each reason of a Reject, and faults of an answer
         (
             15,
@@ -258,7 +283,7 @@ fn decodes_frames(rt: HostRuntime) {
     }
 }
 
-/// A layer with a fault prints it behind the layers around it.
+/// A layer with a fault prints it after the layers around it.
 #[test]
 fn decodes_up_to_a_fault(rt: HostRuntime) {
     let table = [
@@ -376,7 +401,7 @@ fn checks_captures(rt: HostRuntime) {
     }
 }
 
-/// A line of one octet too many is no capture line, one of one less is, and the line behind it is read as ever.
+/// A line of one octet too many is no capture line, one of one less is, and the line after it is read as ever.
 #[test]
 fn skips_overlong_lines(rt: HostRuntime) -> Result<(), Fail> {
     let line = "7 7F000001BAC1 7F000001BAC0 810A000801001013";
@@ -495,5 +520,127 @@ fn tells_that_the_input_failed(rt: HostRuntime) -> Result<(), Fail> {
         assert_eq!(rt; status, Status::CommandLine);
         assert_eq!(rt; err.as_slice(), b"cannot read\n".as_slice());
     }
+    Ok(())
+}
+
+/// What was found before the input lacked memory is printed, and the rest is not passed over.
+#[test]
+fn tells_that_the_input_lacks_memory(rt: HostRuntime) -> Result<(), Fail> {
+    let mut input = BufReader::new(rt.alloc(), Starved { has_given: false })?;
+    let mut out = Vec::new(rt.alloc());
+    let mut err = Vec::new(rt.alloc());
+    let status = check_over(rt.alloc(), &mut input, &mut out, &mut err);
+    assert_eq!(rt; status, Status::Memory);
+    assert_eq!(rt; out.as_slice(), b"line 1: not a capture line\n".as_slice());
+    assert_eq!(rt; err.as_slice(), b"no memory\n".as_slice());
+    Ok(())
+}
+
+/// A file that gives one line, and whose memory is refused then.
+#[derive(Drop)]
+struct Starved {
+    has_given: bool,
+}
+
+impl Read for Starved {
+    fn read(&mut self, octets: &mut [u8]) -> io::Result<usize> {
+        let line = b"x\n";
+        if self.has_given || octets.len() < line.len() {
+            return Err(io::Error::from(io::ErrorKind::OutOfMemory));
+        }
+        self.has_given = true;
+        octets[..line.len()].copy_from_slice(line);
+        Ok(line.len())
+    }
+}
+
+/// A writer that takes so many writes, and then fails; it may fail where it is flushed.
+#[derive(Drop)]
+struct Weak {
+    writes: u32,
+    can_flush: bool,
+    flushed: u32,
+}
+
+impl Write for Weak {
+    fn write(&mut self, octets: &[u8]) -> io::Result<usize> {
+        if self.writes == 0 {
+            return Err(io::Error::from(io::ErrorKind::PermissionDenied));
+        }
+        self.writes -= 1;
+        Ok(octets.len())
+    }
+
+    fn flush(&mut self) -> io::Result<()> {
+        if !self.can_flush {
+            return Err(io::Error::from(io::ErrorKind::PermissionDenied));
+        }
+        self.flushed = self.flushed.saturating_add(1);
+        Ok(())
+    }
+}
+
+const DATAGRAM: &str = "810A000F0122FFFF009C10643B6B04";
+
+const CAPTURE: &[u8] = b"x\n1 7F000001BAC1 7F000001BAC0 00\n";
+
+/// What `decode` and `check` end with where the output takes so many writes, and whether each has flushed it.
+fn statuses(alloc: Global, writes: u32, can_flush: bool) -> [(u8, bool); 2] {
+    let mut err = Vec::new(alloc);
+    let mut out = Weak {
+        writes,
+        can_flush,
+        flushed: 0,
+    };
+    let decoded = decode_over(alloc, DATAGRAM, &mut out, &mut err).code();
+    let is_decode_flushed = out.flushed > 0;
+    let mut out = Weak {
+        writes,
+        can_flush,
+        flushed: 0,
+    };
+    let mut input = CAPTURE;
+    let checked = check_over(alloc, &mut input, &mut out, &mut err).code();
+    [(decoded, is_decode_flushed), (checked, out.flushed > 0)]
+}
+
+/// Whichever write fails, and where the flush fails, the status tells it; with enough writes it does not, and the output is flushed.
+#[test]
+fn tells_each_failure_of_the_output(rt: HostRuntime) {
+    let mut ended = [false, false];
+    for writes in 0..100u32 {
+        let failed = statuses(rt.alloc(), writes, false);
+        assert_eq!(rt; failed, [(3, false), (3, false)], "{writes}");
+        let [(decoded, is_decoded), (checked, is_checked)] = statuses(rt.alloc(), writes, true);
+        ended[0] = ended[0] || decoded == 0;
+        ended[1] = ended[1] || checked == 1;
+        assert_eq!(rt; decoded, if ended[0] { 0 } else { 3 }, "{writes}");
+        assert_eq!(rt; checked, if ended[1] { 1 } else { 3 }, "{writes}");
+        assert_eq!(rt; (is_decoded, is_checked), (true, true), "{writes}");
+    }
+    assert_eq!(rt; ended, [true, true]);
+}
+
+/// The longest datagram of a BVLL is decoded and checked.
+#[test]
+fn takes_the_longest_datagram(rt: HostRuntime) -> Result<(), Fail> {
+    let mut octets = vec![in rt.alloc(); 0u8; 65_535]?;
+    octets[..8].copy_from_slice(&[0x81, 0x0A, 0xFF, 0xFF, 0x01, 0x00, 0x10, 0x08]);
+    let digits = hex::encode_upper(rt.alloc(), &octets)?;
+    let printed = decoded(rt.alloc(), digits.as_str());
+    let data = hex::encode_upper(rt.alloc(), octets.get(8..).unwrap_or(&[]))?;
+    let want = format!(in rt.alloc();
+        "bvll len=65535\nnpdu expecting=0 priority=0\nunconfirmed-request choice=8 data={data}\n"
+    )?;
+    prints(&rt, &printed, Status::Done, want.as_str(), "longest");
+    let line = format!(in rt.alloc(); "1 7F000001BAC1 7F000001BAC0 {digits}")?;
+    let printed = checked(rt.alloc(), line.as_bytes());
+    prints(
+        &rt,
+        &printed,
+        Status::Done,
+        "lines=1 good=1 bad=0\n",
+        "longest",
+    );
     Ok(())
 }

@@ -1,7 +1,7 @@
-//! Members of a printed line.
+//! Words of a printed line: a name and what it is, as ` name=value`.
 ghost use Rattle.std.specs.Prelude.{OnOk};
 ghost use Rattle.std.specs.Option.{option_map};
-ghost use Rattle.bac_value.specs.Views.{object_id};
+ghost use Rattle.bac_value.specs.Views.{object_identifier_view};
 ghost use Rattle.std.specs.Io.KnownBytes.{Appends};
 ghost use Rattle.bac_text.specs.Texts.{optional, number_text, object_text, octets_text, line_end};
 
@@ -10,7 +10,7 @@ use std::alloc::Global;
 use std::io;
 use std::io::Write;
 
-/// Octets in hexadecimal, in capitals, behind a name; no octets print nothing.
+/// Octets in hexadecimal, in capitals, after a name; no octets print nothing.
 pub(crate) fn print_octets<W: Write>(
     alloc: Global,
     name: &str,
@@ -23,7 +23,7 @@ pub(crate) fn print_octets<W: Write>(
     write!(out, " {name}={text}")
 }
 
-/// A member that is left out where there is none.
+/// A word that is left out where there is no number.
 pub(crate) fn print_optional<W: Write>(
     name: &str,
     number: Option<u32>,
@@ -39,7 +39,7 @@ pub(crate) fn print_optional<W: Write>(
 
 /// An object, by its type and its instance.
 pub(crate) fn print_object<W: Write>(object: ObjectIdentifier, out: &mut W) -> io::Result<()>
-    ensures { OnOk result (Appends (W.contents out.old) (W.contents out.new) (object_text (object_id object))) }
+    ensures { OnOk result (Appends (W.contents out.old) (W.contents out.new) (object_text (object_identifier_view object))) }
 {
     let kind = object.kind;
     let instance = object.instance;
