@@ -8,8 +8,8 @@ use Rattle.bac_service.specs.Values.{Reference, Reply}
 use Rattle.bac_service.specs.Values.Reply.{Simple, Whole, Error, Reject}
 use Rattle.bac_service.specs.Values.Complex.{FileRead, StreamWritten, PropertyRead}
 use Rattle.bac_service.specs.Lengths.{member_length, unsigned_length, signed_length, index_length}
-use Rattle.bac_service.specs.Spellings.{answer_spelling}
-use Rattle.bac_service.proofs.LengthLaws.{length_answer}
+use Rattle.bac_service.specs.Spellings.{complex_spelling}
+use Rattle.bac_service.proofs.LengthLaws.{length_complex}
 use Rattle.bac.specs.Replies.{reply_apdu, IsShort}
 
 -- a width is one of eight
@@ -49,17 +49,17 @@ integer_short z = let few = half_width_few (distance z) in omega (arith, few, me
 
 -- ---- answers
 
-pub read_short : (r : Reference) (values : List ℕ) → r.index ≡ None → length values ≤ 30 → length (answer_spelling (PropertyRead r values)) ≤ 47
+pub read_short : (r : Reference) (values : List ℕ) → r.index ≡ None → length values ≤ 30 → length (complex_spelling (PropertyRead r values)) ≤ 47
 read_short r values none few =
     let index : index_length r.index ≡ 0 = rw none refl in
-    omega (arith, length_answer (PropertyRead r values), number_short r.property, index, few)
+    omega (arith, length_complex (PropertyRead r values), number_short r.property, index, few)
 
-pub file_short : (end_of_file : Bool) (start : ℤ) (octets : List ℕ) → length octets ≤ 30 → length (answer_spelling (FileRead end_of_file start octets)) ≤ 47
+pub file_short : (end_of_file : Bool) (start : ℤ) (octets : List ℕ) → length octets ≤ 30 → length (complex_spelling (FileRead end_of_file start octets)) ≤ 47
 file_short end_of_file start octets few =
-    omega (arith, length_answer (FileRead end_of_file start octets), integer_short start, member_short (length octets) (omega (arith, few)), few)
+    omega (arith, length_complex (FileRead end_of_file start octets), integer_short start, member_short (length octets) (omega (arith, few)), few)
 
-pub written_short : (start : ℤ) → length (answer_spelling (StreamWritten start)) ≤ 47
-written_short start = omega (arith, length_answer (StreamWritten start), integer_short start)
+pub written_short : (start : ℤ) → length (complex_spelling (StreamWritten start)) ≤ 47
+written_short start = omega (arith, length_complex (StreamWritten start), integer_short start)
 
 -- ---- APDUs
 
@@ -76,10 +76,10 @@ enumerated_len n =
       ]
     ]
 
-pub apdu_short : (invoke choice : ℕ) (r : Reply) → IsShort r → length (apdu_spelling (reply_apdu invoke choice r)) ≤ 50
+pub apdu_short : (invoke_id choice : ℕ) (r : Reply) → IsShort r → length (apdu_spelling (reply_apdu invoke_id choice r)) ≤ 50
 unfolding apdu_spelling
-apdu_short invoke choice Simple h = omega arith
-apdu_short invoke choice (Whole c) h = omega (arith, h)
-apdu_short invoke choice (Error class code) h =
+apdu_short invoke_id choice Simple h = omega arith
+apdu_short invoke_id choice (Whole c) h = omega (arith, h)
+apdu_short invoke_id choice (Error class code) h =
     omega (arith, length-append (enumerated_spelling class) (enumerated_spelling code), enumerated_len class, enumerated_len code)
-apdu_short invoke choice (Reject reason) h = omega arith
+apdu_short invoke_id choice (Reject reason) h = omega arith

@@ -6,7 +6,7 @@ ghost use Rattle.bac_npdu.specs.Peers.{PeerView};
 ghost use Rattle.bac_npdu.specs.Views.{peer_view};
 ghost use Rattle.bac_service.specs.Requests.{SpellsRequest};
 ghost use Rattle.bac_service.specs.Values.{Request};
-ghost use Rattle.bac_service.specs.Views.{complex, replied};
+ghost use Rattle.bac_service.specs.Views.{reply_view};
 ghost use Rattle.bac_store.specs.House.{house as the_house};
 ghost use Rattle.bac_store.specs.Replies.{reply_to};
 ghost use Rattle.bac.specs.Answers.{Asks, IsRejected, answer_frame, unsegmented_in};
@@ -29,7 +29,7 @@ pub const CLIENT: [u8; 6] = [0x7F, 0, 0, 1, 0xBA, 0xC1];
 #[derive(Clone, Copy)]
 struct Asking<'a> {
     peer: Peer,
-    invoke: u8,
+    invoke_id: u8,
     choice: u8,
     service: &'a [u8],
 }
@@ -40,12 +40,12 @@ fn unsegmented(apdu: Apdu<'_>) -> Option<(u8, u8, &[u8])>
 {
     match apdu {
         Apdu::ConfirmedRequest {
-            invoke,
+            invoke_id,
             segment: None,
             choice,
             service,
             ..
-        } => Some((invoke, choice, service)),
+        } => Some((invoke_id, choice, service)),
         _ => None,
     }
 }
@@ -53,8 +53,8 @@ fn unsegmented(apdu: Apdu<'_>) -> Option<(u8, u8, &[u8])>
 /// The Confirmed-Request that a datagram means, if it means one that is no segment.
 fn request_in(octets: &[u8]) -> Option<Asking<'_>>
     ensures { MatchOption result
-        ((peer : PeerView) (invoke choice : ℕ) (service : List ℕ) → Asks octets.entry.now peer invoke choice service → ⊥)
-        (λ a. Asks octets.entry.now (peer_view a.peer) a.invoke a.choice a.service.now) }
+        ((peer : PeerView) (invoke_id choice : ℕ) (service : List ℕ) → Asks octets.entry.now peer invoke_id choice service → ⊥)
+        (λ a. Asks octets.entry.now (peer_view a.peer) a.invoke_id a.choice a.service.now) }
 {
     let Ok((peer, apdu)) = read_datagram(CLIENT, octets) else {
         return None;
@@ -62,10 +62,10 @@ fn request_in(octets: &[u8]) -> Option<Asking<'_>>
     let Ok(apdu) = bac_apdu::read(apdu) else {
         return None;
     };
-    let (invoke, choice, service) = unsegmented(apdu)?;
+    let (invoke_id, choice, service) = unsegmented(apdu)?;
     Some(Asking {
         peer,
-        invoke,
+        invoke_id,
         choice,
         service,
     })
@@ -73,11 +73,11 @@ fn request_in(octets: &[u8]) -> Option<Asking<'_>>
 
 /// The frame that carries a reply to who asked.
 fn framed(alloc: Global, to: &Asking<'_>, reply: Reply<'_>) -> Result<Vec<u8>, NoMemory>
-    requires { IsShort (replied complex reply) }
-    ensures { IfOk result (λ v. v.items ≡ answer_frame (peer_view to.now.peer) to.now.invoke to.now.choice (replied complex reply.entry)) }
+    requires { IsShort (reply_view reply) }
+    ensures { IfOk result (λ v. v.items ≡ answer_frame (peer_view to.now.peer) to.now.invoke_id to.now.choice (reply_view reply.entry)) }
 {
     let mut apdu = Vec::new(alloc);
-    put_reply(alloc, to.invoke, to.choice, reply, &mut apdu)?;
+    put_reply(alloc, to.invoke_id, to.choice, reply, &mut apdu)?;
     let mut frame = Vec::new(alloc);
     write_datagram(&to.peer, false, &apdu, &mut frame)?;
     Ok(frame)
@@ -87,16 +87,17 @@ fn framed(alloc: Global, to: &Asking<'_>, reply: Reply<'_>) -> Result<Vec<u8>, N
 ///
 /// A request of one of the four services (clauses 14.1, 14.2, 15.5 and 15.9) that is no segment is performed on a house store of
 /// its own and gets its reply, in one SimpleACK, ComplexACK or Error. A Confirmed-Request that is no segment and whose service
-/// data spell no request gets a Reject, with reason 9 exactly where the service choice is another. Any other datagram gets nothing.
-/// An Err comes for want of memory alone, and never where nothing is answered.
+/// data spell no request gets a Reject, with the reason that reading them answers: 9 where the service choice is another. Any other
+/// datagram gets nothing.
+/// An Err comes only where memory ran out, and never where nothing is answered.
 pub fn answer_datagram(alloc: Global, octets: &[u8]) -> Result<Option<Vec<u8>>, NoMemory>
-    ensures answered { (peer : PeerView) (invoke choice : ℕ) (service : List ℕ) (r : Request)
-        → Asks octets.now peer invoke choice service → SpellsRequest choice r service
-        → IfOk result (λ a. option_map (λ v. v.items) a ≡ Some (answer_frame peer invoke choice (reply_to the_house r))) }
-    ensures rejected { (peer : PeerView) (invoke choice : ℕ) (service : List ℕ)
-        → Asks octets.now peer invoke choice service → IsNoRequest choice service
-        → IfOk result (λ a. IsRejected peer invoke choice (option_map (λ v. v.items) a)) }
-    ensures silent { ((peer : PeerView) (invoke choice : ℕ) (service : List ℕ) → Asks octets.now peer invoke choice service → ⊥)
+    ensures answered { (peer : PeerView) (invoke_id choice : ℕ) (service : List ℕ) (r : Request)
+        → Asks octets.now peer invoke_id choice service → SpellsRequest choice r service
+        → IfOk result (λ a. option_map (λ v. v.items) a ≡ Some (answer_frame peer invoke_id choice (reply_to the_house r))) }
+    ensures rejected { (peer : PeerView) (invoke_id choice : ℕ) (service : List ℕ)
+        → Asks octets.now peer invoke_id choice service → IsNoRequest choice service
+        → IfOk result (λ a. IsRejected peer invoke_id choice service (option_map (λ v. v.items) a)) }
+    ensures silent { ((peer : PeerView) (invoke_id choice : ℕ) (service : List ℕ) → Asks octets.now peer invoke_id choice service → ⊥)
         → result ≡ Ok None }
 {
     let Some(asked) = request_in(octets) else {

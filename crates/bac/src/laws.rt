@@ -16,7 +16,7 @@ pub fn one_meaning()
 
 /// Each APDU that carries a reply of the house store has at most 50 octets, the least size that a client may announce (clause 20.1.2.5).
 pub fn replies_fit()
-    ensures { (invoke choice : ℕ) (r : Request) → length (apdu_spelling (reply_apdu invoke choice (reply_to house r))) ≤ 50 }
+    ensures { (invoke_id choice : ℕ) (r : Request) → length (apdu_spelling (reply_apdu invoke_id choice (reply_to house r))) ≤ 50 }
 {}
 
 /// An APDU goes to a peer in one frame alone, in which a reply is expected of a Confirmed-Request.

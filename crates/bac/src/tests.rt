@@ -1,10 +1,12 @@
 //! What `bac answer` prints.
+use crate::command::{OpenFiles, run};
 use crate::performing::perform;
 use crate::reply_writing::put_reply;
 use crate::text::answer_over;
 use bac_store::{Store, house};
 use bac_text::Status;
 use std::alloc::Global;
+use std::io;
 use std::process::Abort;
 use std::test::Fail;
 
@@ -128,7 +130,7 @@ fn answers_properties(rt: HostRuntime) -> Result<(), Fail> {
 #[test]
 fn answers_files(rt: HostRuntime) -> Result<(), Fail> {
     let table = [
-        // reads: all of it, its first octet, behind its last, too far, records
+        // reads: all of it, its first octet, after its last, too far, records
         ("00050D06C4028000010E3100210A0F", "300D06110E3100624F4B0F"),
         ("00050E06C4028000010E310021010F", "300E06100E3100614F0F"),
         ("00050F06C4028000010E310221010F", "300F06110E3102600F"),
@@ -249,4 +251,112 @@ fn tells_that_output_failed(rt: HostRuntime) {
     let status = answer_over(rt.alloc(), "", &mut out, &mut err);
     assert_eq!(rt; status.code(), 3);
     assert_eq!(rt; err.len(), 0);
+}
+
+/// One file, `capture`, which has this text; another cannot be opened, and `starved` lacks memory.
+#[derive(Clone, Copy)]
+struct OneFile {
+    text: &'static [u8],
+}
+
+impl OpenFiles for OneFile {
+    type File = &'static [u8];
+
+    fn open(&self, path: &str) -> io::Result<&'static [u8]> {
+        match path {
+            "capture" => Ok(self.text),
+            "starved" => Err(io::Error::from(io::ErrorKind::OutOfMemory)),
+            _ => Err(io::Error::from(io::ErrorKind::NotFound)),
+        }
+    }
+}
+
+/// Each command, with good and with bad words: what it prints, what it complains of, and its exit status.
+#[test]
+fn runs_commands(rt: HostRuntime) -> Result<(), Fail> {
+    let good = OneFile {
+        text: b"1 7F000001BAC1 7F000001BAC0 810A000801001013\n",
+    };
+    let bad = OneFile { text: b"x\n" };
+    let table = [
+        (
+            good,
+            "answer 810A001101040005010C0C000000051955",
+            "810A0017010030010C0C0000000519553E444290999A3F\n",
+            "",
+            0,
+        ),
+        (good, "answer 810A000801001013", "none\n", "", 0),
+        (good, "answer 8G", "", "bad hex\n", 2),
+        (
+            good,
+            "decode 810A000801001013",
+            "bvll len=8\nnpdu expecting=0 priority=0\nunconfirmed-request choice=19 data=\n",
+            "",
+            0,
+        ),
+        (good, "decode 810B0004", "fault bvll 6\n", "", 1),
+        (good, "decode 8G", "", "bad hex\n", 2),
+        (good, "check capture", "lines=1 good=1 bad=0\n", "", 0),
+        (
+            bad,
+            "check capture",
+            "line 1: not a capture line\nlines=1 good=0 bad=1\n",
+            "",
+            1,
+        ),
+        (good, "check missing", "", "cannot read\n", 2),
+        (good, "check starved", "", "no memory\n", 4),
+    ];
+    for (files, line, lines, complaint, status) in table {
+        let mut words = vec![in rt.alloc(); String::from_str(rt.alloc(), "bac")?]?;
+        for word in line.split(' ') {
+            words.push(String::from_str(rt.alloc(), word)?)?;
+        }
+        let mut out = Vec::new(rt.alloc());
+        let mut err = Vec::new(rt.alloc());
+        let ended = run(rt.alloc(), &words, &files, &mut out, &mut err);
+        assert_eq!(rt; ended.code(), status, "{line}");
+        assert_eq!(rt; out.as_slice(), lines.as_bytes(), "{line}");
+        assert_eq!(rt; err.as_slice(), complaint.as_bytes(), "{line}");
+    }
+    Ok(())
+}
+
+/// Words of no form are told with clap's text, and the output stays empty.
+#[test]
+fn refuses_words_of_no_form(rt: HostRuntime) -> Result<(), Fail> {
+    let files = OneFile { text: b"" };
+    for line in [
+        "bac",
+        "bac other",
+        "bac answer",
+        "bac decode",
+        "bac check",
+        "bac answer 00 00",
+    ] {
+        let mut words = Vec::new(rt.alloc());
+        for word in line.split(' ') {
+            words.push(String::from_str(rt.alloc(), word)?)?;
+        }
+        let mut out = Vec::new(rt.alloc());
+        let mut err = Vec::new(rt.alloc());
+        let ended = run(rt.alloc(), &words, &files, &mut out, &mut err);
+        assert_eq!(rt; ended.code(), 2, "{line}");
+        assert_eq!(rt; out.len(), 0, "{line}");
+        assert_eq!(rt; err.is_empty(), false, "{line}");
+    }
+    Ok(())
+}
+
+/// The longest datagram, of an unrecognized service, is rejected; forty octets are appended to a file.
+#[test]
+fn answers_the_longest_datagram(rt: HostRuntime) -> Result<(), Fail> {
+    let mut octets = vec![in rt.alloc(); 0u8; 65_535]?;
+    octets[..10].copy_from_slice(&[0x81, 0x0A, 0xFF, 0xFF, 0x01, 0x04, 0x00, 0x05, 0x07, 0x0E]);
+    let digits = hex::encode_upper(rt.alloc(), &octets)?;
+    answers(&rt, rt.alloc(), digits.as_str(), "810A00090100600709")?;
+    let forty = hex::encode_upper(rt.alloc(), vec![in rt.alloc(); 0xABu8; 40]?)?;
+    let apdu = format!(in rt.alloc(); "00050D07C4028000010E31FF6528{forty}0F")?;
+    answers_apdu(&rt, rt.alloc(), apdu.as_str(), "300D070902")
 }

@@ -7,7 +7,7 @@ use std::io::Write;
 
 /// Prints the datagrams that answer a datagram given in hexadecimal, in capitals, one a line, or `none`.
 ///
-/// Text that is not hexadecimal: `bad hex` on `err`. Want of memory: `no memory` on `err`.
+/// Text that is not hexadecimal: `bad hex` on `err`. Out of memory: `no memory` on `err`.
 pub fn answer_over<O: Write, E: Write>(
     alloc: Global,
     text: &str,
@@ -29,7 +29,7 @@ pub fn answer_over<O: Write, E: Write>(
             Err(_) => return no_memory(err),
         },
     };
-    match printed {
+    match printed.and_then(|()| out.flush()) {
         Ok(()) => Status::Done,
         Err(error) => output_failed(err, &error),
     }

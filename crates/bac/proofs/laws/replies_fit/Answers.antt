@@ -5,4 +5,4 @@ use Rattle.bac.proofs.Short.{apdu_short}
 use Rattle.bac.proofs.laws.replies_fit.Goals as goal
 
 pub returns : goal.returns
-returns c = λ invoke choice r. apdu_short invoke choice (reply_to house r) (house_short r)
+returns c = λ invoke_id choice r. apdu_short invoke_id choice (reply_to house r) (house_short r)
