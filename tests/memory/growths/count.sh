@@ -1,6 +1,6 @@
 #!/bin/sh
-# Refuses one allocation after the other, from the first behind the 13 of the pieces on, and writes what came of it: the call
-# that wanted memory in vain, and how many allocations there were. The last of these numbers refused is behind all of them.
+# Refuses one allocation after the other, from the first after the 13 of the pieces on, and writes what came of it: the call
+# that was out of memory, and how many allocations there were. The last of these numbers is greater than all of them.
 # Fails where that is not what expected.txt says.
 set -eu
 for refused in 14 15 16 17; do

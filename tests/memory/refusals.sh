@@ -1,11 +1,11 @@
 #!/bin/sh
 # Runs the memory tests of bac_store with one allocation after the other refused, from the first on:
-#     sh bench/refusals.sh
+#     sh tests/memory/refusals.sh
 # Each test counts its own allocations. It works on a copy of the crate without the other tests, which take memory to be ample,
 # and with one more, which asks for all the memory that any of them does and fails where a part is refused: once it passes, each
 # allocation of the others was refused once.
 set -eu
-top=$(cd "$(dirname "$0")/.." && pwd)
+top=$(cd "$(dirname "$0")/../.." && pwd)
 work=$(mktemp -d)
 trap 'rm -rf "$work"' EXIT
 for name in bac_value bac_service bac_store; do
