@@ -1,0 +1,4 @@
+pub mod Paths
+pub mod Opens
+pub mod Changes
+pub mod Endings
