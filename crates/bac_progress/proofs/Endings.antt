@@ -80,14 +80,22 @@ contains_tail k keys key (zero, lt, e) = inl e
 contains_tail k keys key (suc i, lt, e) = inr (i, omega arith, e)
 
 -- a copy on its way is delivered
-pub arrives_now : (S : Type 0) (shop : Shop S) (x : Rules) (w : World S) (key : Key) (a : Apdu) (number : ℕ) (free : Bool)
+arrives_now : (S : Type 0) (shop : Shop S) (x : Rules) (w : World S) (key : Key) (a : Apdu) (number : ℕ) (free : Bool)
     → IsOnItsWay x w.net key a number → happens S shop x w (Deliver number free) ≡ arrives S shop x w key free a
 arrives_now S shop x w key a number free m =
     ap (delivered S shop x w number free) m.at
     ∙ ap (λ b. if b then arrives S shop x w m.post.key free m.post.copy.apdu else w) m.arrives
     ∙ (λ i. arrives S shop x w (m.key_is i) free (m.apdu_is i))
 
--- an answer on its way is taken by the client
+-- to the server, where it is a client's
+pub request_now : (S : Type 0) (shop : Shop S) (x : Rules) (w : World S) (key : Key) (a : Apdu) (number : ℕ) (free : Bool)
+    → is_from_client a ≡ true → IsOnItsWay x w.net key a number
+    → happens S shop x w (Deliver number free) ≡ takes_at_server S shop x w key free a
+request_now S shop x w key a number free up m =
+    arrives_now S shop x w key a number free m
+    ∙ ap (λ b. if b then takes_at_server S shop x w key free a else takes_at_client S x w key a (w.net.tickets key)) up
+
+-- and otherwise to the client
 pub answer_now : (S : Type 0) (shop : Shop S) (x : Rules) (w : World S) (key : Key) (a : Apdu) (number : ℕ) (free : Bool)
     → is_from_client a ≡ false → IsOnItsWay x w.net key a number
     → happens S shop x w (Deliver number free) ≡ takes_at_client S x w key a (w.net.tickets key)
