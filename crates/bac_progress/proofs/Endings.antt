@@ -1,6 +1,6 @@
 -- Each ask ends, once.
-use Rattle.std.proofs.Common.{◌≡◌, ℕ, zero, suc, ◌-◌, ◌<◌, ◌⊎◌, Bool, true, false, ◌||◌, not, List, [], ◌∷◌, Option, Some, None, slice_get, if◌then◌else◌}
-use Rattle.std.proofs.Common.{nat_eq, refl, sym, ap, subst, inl, inr, ◌∙◌, arith, length}
+use Rattle.std.proofs.Common.{◌≡◌, ℕ, zero, suc, ◌-◌, ◌<◌, ◌⊎◌, Bool, true, false, ◌||◌, not, List, [], ◌∷◌, Option, Some, None, if◌then◌else◌}
+use Rattle.std.proofs.Common.{nat_eq, refl, sym, ap, subst, inl, inr, ◌∙◌, arith}
 use Rattle.std.proofs.lemmas.Bool.Decides.{nat_tests}
 use Rattle.std.specs.List.{Contains}
 use Rattle.bac_apdu.specs.Apdu.{Apdu}
@@ -13,7 +13,7 @@ use Rattle.bac_protocol.specs.Wire.{is_from_client, is_from_server}
 use Rattle.bac_protocol.specs.Client as client
 use Rattle.bac_protocol.specs.Client.{Ask, Ticket, is_idle, is_expired, ending_of}
 use Rattle.bac_protocol.specs.Client.Reaction.{Stays, Ends}
-use Rattle.bac_protocol.specs.Log.{Fact, Has, Shop, IsUnended, IsOrderly}
+use Rattle.bac_protocol.specs.Log.{Fact, Shop, IsUnended, IsOrderly}
 use Rattle.bac_protocol.specs.Log.Fact.{Asked, Performed, Ended}
 use Rattle.bac_protocol.specs.Transaction.{Key, Rules, client_context, ended}
 use Rattle.bac_protocol.specs.World.{Net, World, Event, is_key_held, happens, run, start, ticks_ticket, ticks_as_client, ticks_as_server}
@@ -144,7 +144,7 @@ module _ (x : Rules) (key : Key) (number : ℕ) (ask : Ask) where
       where
         go : (b : Bool) → is_idle h.ticket.phase ≡ b → (d : Bool) → d ≡ true
             → HasEnded number (ended number (ending_of (if b then Stays else if d then Ends [] Expired
-                else client.open_ticks c h.ticket h.ticket.phase)) w.net.log)
+            else client.open_ticks c h.ticket h.ticket.phase)) w.net.log)
         go true e d f = idle_ended h e
         go false e true f = (Expired, inl refl)
         go false e false f = absurd cc
@@ -157,7 +157,7 @@ module _ (x : Rules) (key : Key) (number : ℕ) (ask : Ask) where
       where
         go : (b : Bool) → is_idle h.ticket.phase ≡ b → (f : Bool) → f ≡ true → (d : Bool) → d ≡ true
             → HasEnded number (ended number (ending_of (if b || not f then Stays else if d then Ends [] Expired
-                else client.open_gets c x.readable h.ticket.ask h.ticket.phase a)) w.net.log)
+            else client.open_gets c x.readable h.ticket.ask h.ticket.phase a)) w.net.log)
         go true e f g d i = idle_ended h e
         go false e true g true i = (Expired, inl refl)
         go false e true g false i = absurd cc

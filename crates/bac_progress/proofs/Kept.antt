@@ -4,7 +4,7 @@ use Rattle.std.proofs.Common.{refl, sym, ap, subst, inl, inr, ◌∙◌, arith}
 use Rattle.std.proofs.lemmas.Bool.Decides.{nat_tests}
 use Rattle.bac_apdu.specs.Apdu.{Apdu}
 use Rattle.bac_protocol.specs.declared.times.TheConstants.{DEADLINE, HOLD}
-use Rattle.bac_protocol.specs.Client.{Ask, Ticket, is_idle, is_held}
+use Rattle.bac_protocol.specs.Client.{Ask, is_idle}
 use Rattle.bac_protocol.specs.Server as server
 use Rattle.bac_protocol.specs.Server.{Entry, Service, State, is_live}
 use Rattle.bac_protocol.specs.Server.State.{Done}

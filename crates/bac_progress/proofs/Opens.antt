@@ -1,6 +1,6 @@
 -- The client's machine takes an open ticket to Idle by an ending alone.
 use Rattle.std.proofs.Common.{◌≡◌, ℕ, ◌-◌, Bool, true, false, ◌||◌, not, List, [], ◌∷◌, ◌++◌, Option, Some, None, if◌then◌else◌, nat_eq, nat_le, ◌&&◌, refl}
-use Rattle.bac_apdu.specs.Apdu.{Apdu, Segment}
+use Rattle.bac_apdu.specs.Apdu.{Apdu}
 use Rattle.bac_apdu.specs.Apdu.Apdu.{SimpleAck, ComplexAck, SegmentAck, Error, Reject, Abort}
 use Rattle.bac_segment.specs.Pieces.{join}
 use Rattle.bac_segment.specs.Window.{Outgoing, outgoing, is_finished, acknowledged, again, Incoming, incoming, Taking, takes}

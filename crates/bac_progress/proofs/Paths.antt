@@ -1,8 +1,7 @@
 -- A run of events is a path of single steps of one end, or of asks, or of time. Of each delivery to a server a premise says with which service it
 -- comes, and whether a slot is free.
-use Rattle.std.proofs.Common.{◌≡◌, ℕ, zero, suc, ◌+◌, ◌-◌, ◌≤◌, Bool, true, false, List, [], ◌∷◌, ◌++◌, map, Option, Some, None, slice_get, if◌then◌else◌}
-use Rattle.std.proofs.Common.{refl, ap, subst, inr, arith}
-use Rattle.bac_apdu.specs.Apdu.{Apdu}
+use Rattle.std.proofs.Common.{◌≡◌, ℕ, zero, suc, ◌+◌, ◌≤◌, Bool, true, false, List, [], ◌∷◌, ◌++◌, map, Option, Some, None, slice_get, if◌then◌else◌}
+use Rattle.std.proofs.Common.{refl, inr, arith}
 use Rattle.bac_protocol.specs.Service.{Octets, Ending}
 use Rattle.bac_protocol.specs.Wire.{is_from_client}
 use Rattle.bac_protocol.specs.Client as client
@@ -138,7 +137,7 @@ module _ (x : Rules) (Q : Net → ℕ → Bool → Service → Type 0) where
       where
         go : (b : Bool) → is_deliverable x w.net.now number w.net.posts p ≡ b → (d : Bool) → is_from_client p.copy.apdu ≡ d
             → Path x Q w.net (if b then (if d then takes_at_server S shop x w p.key free p.copy.apdu
-                else takes_at_client S x w p.key p.copy.apdu (w.net.tickets p.key)) else w).net
+            else takes_at_client S x w p.key p.copy.apdu (w.net.tickets p.key)) else w).net
         go false arrives d up = Here
         go true arrives true up =
             let service = service_of S shop w p.key in

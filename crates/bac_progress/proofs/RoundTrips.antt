@@ -19,21 +19,21 @@ use Rattle.bac_protocol.specs.Server.State.{Done}
 use Rattle.bac_protocol.specs.Log.{Fact, Has, Shop}
 use Rattle.bac_protocol.specs.Log.Fact.{Performed, Ended}
 use Rattle.bac_protocol.specs.Transaction.{Key, Rules, client_context, server_context, performed}
-use Rattle.bac_protocol.specs.World.{Net, World, Event, takes_at_client, takes_at_server, reacts, serves, service_of, happens, run, start}
+use Rattle.bac_protocol.specs.World.{World, Event, takes_at_client, takes_at_server, reacts, serves, service_of, happens, run, start}
 use Rattle.bac_protocol.specs.World.Event.{Deliver}
 use Rattle.bac_protocol.specs.Claims.{IsBounded, WasPerformed}
 use Rattle.bac_protocol.specs.Straight.{is_ended}
 use Rattle.bac_protocol.proofs.Alone.{one}
 use Rattle.bac_protocol.proofs.Sound.{Up, Down, ClientFits, StateFits, ServerFits, IsBegunFor, IsKeptFor, Sound}
 use Rattle.bac_protocol.proofs.Sound.Down.{Unsent, Sent}
-use Rattle.bac_protocol.proofs.Nets.{NetSound, sound_at}
+use Rattle.bac_protocol.proofs.Nets.{sound_at}
 use Rattle.bac_protocol.proofs.Headline.{Kept, run_kept, event_kept, start_kept}
 use Rattle.bac_protocol.proofs.Keys.{set_same}
 use Rattle.bac_progress.specs.Runs.{IsOnItsWay}
 use Rattle.bac_progress.specs.RoundTrip.{request_to, segment_to, answer_to, FitsInOne, CanPerform, HasPerformed, IsOpenInTime, HasSentAll}
 use Rattle.bac_progress.specs.RoundTrip.{IsAnsweredNow, IsServed, RoundTripSuffices, RoundTripSufficesInSegments}
 use Rattle.bac_progress.proofs.Paths.{Any, run_steps}
-use Rattle.bac_progress.proofs.Changes.{IsThere, one_ticket}
+use Rattle.bac_progress.proofs.Changes.{one_ticket}
 use Rattle.bac_progress.proofs.Endings.{request_now, answer_now}
 use Rattle.bac_progress.proofs.Serving.{answer_any_time, answer_not_from_client, answer_ends, answer_ends_sending, performed_entry, answers_first}
 use Rattle.bac_progress.proofs.Serving.{answers_again, serves_new, serves_again, serves_segment}

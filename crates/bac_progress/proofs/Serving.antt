@@ -47,8 +47,8 @@ pub answer_ends : (c d : Context) (readable : Readable) (t : Ticket) (p : Reply)
     → KindFits readable t.ask.choice p → client_gets c readable t (reply_apdu d t.ask.choice p) ≡ Ends [] (Answered p)
 answer_ends c d readable t p awaits young kind =
     ap (λ (ph : Phase). if is_idle ph || not (is_from_server (reply_apdu d t.ask.choice p)) then Stays
-        else if is_expired c.now t.ask then Ends [] Expired
-        else client.open_gets c readable t.ask ph (reply_apdu d t.ask.choice p)) awaits ∙ go p kind
+    else if is_expired c.now t.ask then Ends [] Expired
+    else client.open_gets c readable t.ask ph (reply_apdu d t.ask.choice p)) awaits ∙ go p kind
   where
     go : (q : Reply) → KindFits readable t.ask.choice q
         → (if not (is_from_server (reply_apdu d t.ask.choice q)) then Stays else if is_expired c.now t.ask then Ends [] Expired
@@ -68,8 +68,8 @@ pub answer_ends_sending : (c d : Context) (readable : Readable) (t : Ticket) (p 
     → is_expired c.now t.ask ≡ false → KindFits readable t.ask.choice p → client_gets c readable t (reply_apdu d t.ask.choice p) ≡ Ends [] (Answered p)
 answer_ends_sending c d readable t p out sends young kind =
     ap (λ (ph : Phase). if is_idle ph || not (is_from_server (reply_apdu d t.ask.choice p)) then Stays
-        else if is_expired c.now t.ask then Ends [] Expired
-        else client.open_gets c readable t.ask ph (reply_apdu d t.ask.choice p)) sends ∙ same p
+    else if is_expired c.now t.ask then Ends [] Expired
+    else client.open_gets c readable t.ask ph (reply_apdu d t.ask.choice p)) sends ∙ same p
     ∙ answer_ends c d readable (record t { phase = AwaitConfirmation }) p refl young kind
   where
     same : (q : Reply) → (if is_idle (SegmentedRequest out true) || not (is_from_server (reply_apdu d t.ask.choice q)) then Stays
