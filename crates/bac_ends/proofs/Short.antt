@@ -3,7 +3,7 @@ use Rattle.std.proofs.Common.{◌≡◌, ℕ, ◌+◌, ◌≤◌, Bool, true, fa
 use Rattle.std.specs.Int.{w16, w32, to_be_bytes}
 use Rattle.bac_apdu.specs.Apdu.{Apdu, Segment, Limits, Acknowledgement}
 use Rattle.bac_apdu.specs.Spelling.{apdu_spelling, enumerated_spelling}
-use Rattle.bac_ends.specs.Sends.{IsShort}
+use Rattle.bac_protocol.specs.Short.{IsShort}
 
 pub short_simple : (invoke_id choice : ℕ) → IsShort (Apdu.SimpleAck invoke_id choice)
 unfolding apdu_spelling

@@ -18,7 +18,7 @@ use Rattle.bac_protocol.specs.Server.Transfer.{Running, Stopped, Finished}
 use Rattle.bac_protocol.specs.Server.State.{Done, SegmentedResponse, Dropped}
 use Rattle.bac_protocol.specs.Sizes.Way.{InOne, InSegments, Refused}
 use Rattle.bac_protocol.specs.Steps.{IsSameEntry, TransferGoesOn, StateStays, StaysIn, LiveStays}
-use Rattle.bac_protocol.specs.Steps.{IsReceiving, MayPerform, held_by, held_in, IsWholeWith, BeginsWith, IsEntryFor, KeepsReply, IsEffect, EffectsAreKept}
+use Rattle.bac_protocol.specs.Steps.{IsSegmentedRequest, MayPerform, held_by, held_in, IsWholeWith, BeginsWith, IsEntryFor, KeepsReply, IsEffect, EffectsAreKept}
 use Rattle.bac_protocol.proofs.Transfer.{moved, acknowledged_cases, with_piece, takes_cases}
 use Rattle.bac_protocol.proofs.Ways.{way_cut}
 
@@ -62,9 +62,9 @@ stays (Done kept) = refl
 stays (SegmentedResponse out transfer since) = (refl, omega arith)
 stays Dropped = refl
 
-receiving_stays : (e : Entry) (inc : Incoming) (since : ℕ) (o : Option Entry) → SameIn e o → StaysAs e (State.SegmentedRequest inc since) o
-receiving_stays e inc since None h = absurd h
-receiving_stays e inc since (Some d) h = (h, tt)
+segmented_request_stays : (e : Entry) (inc : Incoming) (since : ℕ) (o : Option Entry) → SameIn e o → StaysAs e (State.SegmentedRequest inc since) o
+segmented_request_stays e inc since None h = absurd h
+segmented_request_stays e inc since (Some d) h = (h, tt)
 
 stays_in : (e : Entry) (o : Option Entry) → StaysAs e e.state o → StaysIn e o
 stays_in e None h = absurd h
@@ -234,7 +234,7 @@ module _ (c : Context) (service : Service) where
     segmented_response_rests _ = (refl, (same e, is))
 
   -- a live entry performs only where it is receiving
-  live_rests : (e : Entry) (st : State) (a : Apdu) → StateStays st e.state → IsReceiving st ⊎ Rests e st (server.live_gets c service e st a)
+  live_rests : (e : Entry) (st : State) (a : Apdu) → StateStays st e.state → IsSegmentedRequest st ⊎ Rests e st (server.live_gets c service e st a)
   live_rests e (State.SegmentedRequest inc since) a is = inl tt
   live_rests e (Done kept) a is = inr (done_rests e kept a is)
   live_rests e (SegmentedResponse out transfer since) a is = inr (segmented_response_rests e out transfer since is a)
@@ -247,7 +247,7 @@ module _ (c : Context) (service : Service) where
       → Performs (IsWholeWith (held_by st) a) (IsSameEntry e) (server.live_gets c service e st a)
       × StaysAs e st (server.live_gets c service e st a).entry
   live_served e (State.SegmentedRequest inc since) a is = let h = segmented_request_served e inc since a in
-      (h.0, receiving_stays e inc since (server.segmented_request_gets c service e inc since a).entry h.1)
+      (h.0, segmented_request_stays e inc since (server.segmented_request_gets c service e inc since a).entry h.1)
   live_served e (Done kept) a is = rests_performs (IsWholeWith [] a) e (Done kept) (server.done_gets c e kept a) (done_rests e kept a is)
   live_served e (SegmentedResponse out transfer since) a is = rests_performs (IsWholeWith [] a) e (SegmentedResponse out transfer since)
       (server.segmented_response_gets c e out transfer since a) (segmented_response_rests e out transfer since is a)
@@ -276,10 +276,10 @@ module _ (c : Context) (service : Service) where
   may_perform None free a = inl tt
   may_perform (Some e) free a = go (is_live c.now e) refl (live_rests e e.state a (stays e.state))
     where
-      go : (b : Bool) → is_live c.now e ≡ b → IsReceiving e.state ⊎ Rests e e.state (server.live_gets c service e e.state a)
-          → ((is_live c.now e ≡ false) ⊎ IsReceiving e.state)
+      go : (b : Bool) → is_live c.now e ≡ b → IsSegmentedRequest e.state ⊎ Rests e e.state (server.live_gets c service e e.state a)
+          → ((is_live c.now e ≡ false) ⊎ IsSegmentedRequest e.state)
           ⊎ ((if b then server.live_gets c service e e.state a else server.idle_gets c service (Some e) free a).effect ≡ None)
-      go true is (inl receiving) = inl (inr receiving)
+      go true is (inl segmented) = inl (inr segmented)
       go true is (inr rests) = inr rests.0
       go false is h = inl (inl is)
 

@@ -29,7 +29,7 @@ use Rattle.bac_protocol.specs.Transaction.{Key}
 use Rattle.bac_protocol.proofs.Alone.{Transaction, server_does}
 use Rattle.bac_protocol.specs.Claims.{WasPerformed, IsPiece, IsAck}
 use Rattle.bac_protocol.proofs.Sound.{IsUnderway, IsFront, Up, Down, IsAckDown, server_until, Says, IsUntaken, IsRead, PassFits, ClientFits, IsKeptFor}
-use Rattle.bac_protocol.proofs.Sound.{IsUnbegun, IsReceivingFor, SendsDown, IsGivingFor, StateFits, ServerFits, UpFits, DownFits, IsOpenIn, Sound, IsSound}
+use Rattle.bac_protocol.proofs.Sound.{IsUnbegun, IsSegmentedRequestFor, SendsDown, IsGivingFor, StateFits, ServerFits, UpFits, DownFits, IsOpenIn, Sound, IsSound}
 use Rattle.bac_protocol.proofs.Sound.Up.{Reading}
 use Rattle.bac_protocol.proofs.Sound.Down.{Unsent, Sent}
 use Rattle.bac_protocol.proofs.Facts.{below_has, UpGoes, DownGoes, up_same, down_same, grows_same, grows_more, copies_go}
@@ -524,7 +524,7 @@ module _ (W V : ℕ) (some : 0 < W) (room : V + 2 * W ≤ 255) (settings : Setti
     drops tk sn s left un sends says = serves_same (Some e) (Reading tk sn) Unsent s (Some (record e { state = Dropped })) sends
         (inr (record { after = after; before = before; choice = chosen; state = (left, un) })) says
 
-    segmented_request_kept : (tk sn : ℕ) → SoundWith (Some e) (Reading tk sn) Unsent → (inc : Incoming) (since : ℕ) → IsReceivingFor w.number t.ask inc tk w.log
+    segmented_request_kept : (tk sn : ℕ) → SoundWith (Some e) (Reading tk sn) Unsent → (inc : Incoming) (since : ℕ) → IsSegmentedRequestFor w.number t.ask inc tk w.log
         → (m k : ℕ) → k ≤ V → (a : Apdu) → Says W w.number t.ask w.log (Reading tk sn) Unsent m k a
         → IsKept (server.segmented_request_gets c service e inc since a)
     segmented_request_kept tk sn s inc since h m k soon (ConfirmedRequest limits id None choice octets) says = (Reading tk sn, Unsent, s)
