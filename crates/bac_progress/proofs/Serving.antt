@@ -113,7 +113,8 @@ serves_new c cl service o ask p none outcome way =
         go true n = absurd cc
         go false n = refl
 
-module _ (c cl : Context) (service : Service) (d : Entry) (free : Bool) (ask : Ask) (kept : Apdu) (live : is_live c.now d ≡ true) (state : d.state ≡ Done kept) where
+module _ (c cl : Context) (service : Service) (d : Entry) (free : Bool) (ask : Ask) (kept : Apdu) (live : is_live c.now d ≡ true)
+    (state : d.state ≡ Done kept) where
   done : (a : Apdu) → server_gets c service (Some d) free a ≡ server.done_gets c d kept a
   done a = ap (λ b. if b then server.live_gets c service d d.state a else server.idle_gets c service (Some d) free a) live
       ∙ ap (λ (st : State). server.live_gets c service d st a) state
