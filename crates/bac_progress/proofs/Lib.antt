@@ -5,3 +5,5 @@ pub mod Endings
 pub mod Serving
 pub mod Kept
 pub mod RoundTrips
+pub mod Waits
+pub mod Robust

@@ -9,6 +9,7 @@ ghost use Rattle.bac_protocol.specs.Transaction.{Rules};
 ghost use Rattle.bac_protocol.specs.World.{Event, run, start};
 ghost use Rattle.bac_protocol.specs.Claims.{IsBounded};
 ghost use Rattle.bac_progress.specs.Ends.{EndsInTime};
+ghost use Rattle.bac_progress.specs.Repeats.{RepeatsSuffice};
 ghost use Rattle.bac_progress.specs.RoundTrip.{RoundTripSuffices, RoundTripSufficesInSegments};
 
 /// Each ask ends: after any run, more than 60,000 ms after its first sending, a tick of its client leaves it ended, and so does each APDU of a server
@@ -31,4 +32,13 @@ pub fn round_trip_suffices<S>()
 pub fn round_trip_suffices_in_segments<S>()
     ensures { (shop : Shop S) (opening : ℕ → S) (W : ℕ) (rules : Rules) → IsBounded W rules → (events : List Event)
         → RoundTripSufficesInSegments S shop rules (run S shop rules events (start S opening)) }
+{}
+
+/// Repeats suffice: an ask of one APDU that is made after any run, each delivered copy of which finds its server, is waited for or answered until
+/// 12,000 ms have passed since its first sending, whatever is lost, repeated, reordered or asked of others. Until then each tick that is due finds a repeat
+/// left and sends the request again; and where any copy of the request and then the answer that it brought are delivered, the ask has ended with the
+/// reply with which it was performed.
+pub fn repeats_suffice<S>()
+    ensures { (shop : Shop S) (opening : ℕ → S) (W : ℕ) (rules : Rules) → IsBounded W rules → (events : List Event)
+        → RepeatsSuffice S shop rules (run S shop rules events (start S opening)) }
 {}
