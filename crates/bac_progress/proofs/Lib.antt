@@ -7,3 +7,4 @@ pub mod Kept
 pub mod RoundTrips
 pub mod Waits
 pub mod Robust
+pub mod Computed

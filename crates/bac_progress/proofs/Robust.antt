@@ -1,5 +1,5 @@
 -- Repeats make an ask robust.
-use Rattle.std.proofs.Common.{◌≡◌, ℕ, zero, suc, ◌+◌, ◌-◌, ◌<◌, ◌≤◌, ◌⊎◌, Bool, true, false, List, [], ◌∷◌, ◌++◌, length, Option, Some, None, slice_get}
+use Rattle.std.proofs.Common.{◌≡◌, ℕ, ◌+◌, ◌-◌, ◌<◌, ◌≤◌, ◌⊎◌, Bool, true, false, List, [], ◌∷◌, ◌++◌, length, Option, Some, None, slice_get}
 use Rattle.std.proofs.Common.{if◌then◌else◌, refl, sym, ap, subst, inl, inr, ◌∙◌, arith}
 use Rattle.std.proofs.lemmas.Bool.Decides.{nat_tests}
 use Rattle.bac_apdu.specs.Apdu.{Apdu}
@@ -7,7 +7,6 @@ use Rattle.bac_segment.specs.Pieces.{join}
 use Rattle.bac_protocol.specs.declared.times.TheConstants.{T_OUT, LIFE, KEEP}
 use Rattle.bac_protocol.specs.Service.{Octets, Reply}
 use Rattle.bac_protocol.specs.Service.Ending.{Answered}
-use Rattle.bac_protocol.specs.Wire.{is_from_client}
 use Rattle.bac_protocol.specs.Client as client
 use Rattle.bac_protocol.specs.Client.{Ask, Phase, Ticket, is_idle, request_of}
 use Rattle.bac_protocol.specs.Client.Phase.{AwaitConfirmation}
@@ -16,7 +15,7 @@ use Rattle.bac_protocol.specs.Server.{Entry, is_live, is_none_live}
 use Rattle.bac_protocol.specs.Log.{Fact, Has, Shop}
 use Rattle.bac_protocol.specs.Log.Fact.{Asked, Performed, Ended}
 use Rattle.bac_protocol.specs.Transaction.{Key, Rules, client_context}
-use Rattle.bac_protocol.specs.World.{Net, World, Post, Event, is_deliverable, is_key_held, asked_at, ask_made, reacts, ticks_ticket}
+use Rattle.bac_protocol.specs.World.{World, Post, Event, is_deliverable, is_key_held, asked_at, ask_made, reacts, ticks_ticket}
 use Rattle.bac_protocol.specs.World.{happens, run, start, post_of, later, copies_of, service_of}
 use Rattle.bac_protocol.specs.World.Event.{MakeAsk, Deliver, Tick, Noise, Advance}
 use Rattle.bac_protocol.specs.Claims.{IsBounded}
@@ -33,7 +32,7 @@ use Rattle.bac_progress.proofs.Paths.{ask_of, Gives, event_steps, run_steps, pat
 use Rattle.bac_progress.proofs.Paths.{Any}
 use Rattle.bac_progress.proofs.Changes.{one_ticket}
 use Rattle.bac_progress.proofs.RoundTrips.{trip}
-use Rattle.bac_progress.proofs.Waits.{IsFine, IsDoneFor, Patient, PatientOrAnswered, Waits, Finds, answered_grows, done_live, repeat_left, tick_repeats}
+use Rattle.bac_progress.proofs.Waits.{IsFine, IsDoneFor, PatientOrAnswered, Waits, Finds, answered_grows, done_live, repeat_left, tick_repeats}
 use Rattle.bac_progress.proofs.Waits.{waits_path, got, of_map}
 
 at_end : (xs : List Post) (q : Post) → slice_get (xs ++ q ∷ []) (length xs) ≡ Some q
@@ -101,8 +100,8 @@ module _ (S : Type 0) (shop : Shop S) (x : Rules) (key : Key) (ask : Ask) (numbe
       go (inr o) = absurd (let z = sym o.0 ∙ ap is_idle awaits in cc)
       go (inl w) =
           let path : happens S shop x v (Tick (key ∷ []) []) ≡ reacts S v key t (Repeats t.phase (request_to x key ask ∷ [])) =
-            ap (ticks_ticket S x v key) at
-            ∙ ap (reacts S v key t) (tick_repeats x key ask number v.net.now t whole (subst (λ (y : Ticket). y.ask ≡ ask) same h.ticket.is) w young due) in
+          ap (ticks_ticket S x v key) at
+          ∙ ap (reacts S v key t) (tick_repeats x key ask number v.net.now t whole (subst (λ (y : Ticket). y.ask ≡ ask) same h.ticket.is) w young due) in
           record {
             left = repeat_left x key ask number v.net.now t w young due;
             sent = ap (λ (z : World S). z.net.posts) path;
@@ -184,10 +183,13 @@ module _ (S : Type 0) (shop : Shop S) (x : Rules) (key : Key) (ask : Ask) (numbe
         go (inr o) = answered_grows x key ask number u.net.log z.net.log grown o.1
         go (inl p) =
             let now = (r.served).answered between
-              (record { ticket = on.ticket.ticket; at = on.ticket.at; going = ap is_idle p.waits; in_time = omega arith }) tt (length v.net.posts)
-              (record { post = post; at = in_u; key_is = refl; apdu_is = refl; arrives = arrives }) other in
-            (r.reply, performed, subst (λ (l : List Fact). Has (Ended number (Answered r.reply)) l)
-            (sym (now.log ∙ ap (λ (k : ℕ). Ended k (Answered r.reply) ∷ u.net.log) h.number_is)) (inl refl))
+            (record { ticket = on.ticket.ticket; at = on.ticket.at; going = ap is_idle p.waits; in_time = omega arith }) tt (length v.net.posts)
+            (record { post = post; at = in_u; key_is = refl; apdu_is = refl; arrives = arrives }) other in (
+              r.reply,
+              performed,
+              subst (λ (l : List Fact). Has (Ended number (Answered r.reply)) l)
+                  (sym (now.log ∙ ap (λ (k : ℕ). Ended k (Answered r.reply) ∷ u.net.log) h.number_is)) (inl refl),
+            )
 
     robust : (w : World S) → Kept S shop opening W x bound w → On w → IsRobust S shop x key ask number w
     robust w s h = record {

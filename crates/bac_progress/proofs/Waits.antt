@@ -20,7 +20,7 @@ use Rattle.bac_protocol.specs.Server.State.{Done}
 use Rattle.bac_protocol.specs.Log.{Fact, Has}
 use Rattle.bac_protocol.specs.Log.Fact.{Asked, Performed, Ended}
 use Rattle.bac_protocol.specs.Transaction.{Key, Rules, client_context, server_context, ended, performed}
-use Rattle.bac_protocol.specs.World.{Net, Post, is_deliverable, is_key_held, asked_at, client_acts, server_acts, post_of, set_at, later}
+use Rattle.bac_protocol.specs.World.{Net, Post, is_key_held, asked_at, client_acts, server_acts, post_of, set_at, later}
 use Rattle.bac_protocol.proofs.Facts.{Grows, grows_more}
 use Rattle.bac_protocol.proofs.Keys.{decide_key, set_same, set_other}
 use Rattle.bac_protocol.proofs.Dead.{ended_is_silent}
@@ -115,7 +115,13 @@ module _ (x : Rules) (key : Key) (ask : Ask) (number : ℕ) where
   entry_grows : (now : ℕ) (o : Option Entry) (log new : List Fact) → Grows log new → EntryFits now o log → EntryFits now o new
   entry_grows now o log new g (inl h) = inl h
   entry_grows now o log new g (inr h) = inr (record {
-    entry = h.entry; at = h.at; begun = h.begun; choice = h.choice; request = h.request; reply = h.reply; state = h.state;
+    entry = h.entry;
+    at = h.at;
+    begun = h.begun;
+    choice = h.choice;
+    request = h.request;
+    reply = h.reply;
+    state = h.state;
     given = (h.given.0, g (Performed number (request_of ask) h.reply) h.given.1);
   })
 
@@ -234,7 +240,7 @@ module _ (x : Rules) (key : Key) (ask : Ask) (number : ℕ) where
       ≡ (if nat_le T_OUT (now - t.since) then client.repeats (client_context x key now) t else Stays)
   ticks_by now t is w young =
       ap (λ (ph : Phase). if is_idle ph then Stays else if is_expired now t.ask then Ends [] Expired
-          else client.open_ticks (client_context x key now) t ph) w.waits
+      else client.open_ticks (client_context x key now) t ph) w.waits
       ∙ ap (λ b. if b then Ends [] Expired else client.open_ticks (client_context x key now) t AwaitConfirmation) in_time
     where
       in_time : is_expired now t.ask ≡ false
@@ -307,7 +313,14 @@ module _ (x : Rules) (key : Key) (ask : Ask) (number : ℕ) where
       → ServerGoal n (record { entry = Some d.entry; sends = sends; effect = None })
   kept_goal n o d sends fine = (
     inr (record {
-      entry = d.entry; at = refl; begun = d.begun; choice = d.choice; request = d.request; reply = d.reply; state = d.state; given = d.given;
+      entry = d.entry;
+      at = refl;
+      begun = d.begun;
+      choice = d.choice;
+      request = d.request;
+      reply = d.reply;
+      state = d.state;
+      given = d.given;
     }),
     fine,
   )
@@ -320,11 +333,19 @@ module _ (x : Rules) (key : Key) (ask : Ask) (number : ℕ) where
       let y = finds none in
       subst (ServerGoal n) (sym (ap (gets_request n service (n.entries key)) y.1
       ∙ serves_new (server_context x key n.now) cl service (n.entries key) ask y.0 none y.2 (y.3).way
-      ∙ ap (λ (a : Apdu). answers_first (performed_entry n.now cl ask a) ask y.0 a) (answer_any_time x key n.now ask.first ask.choice y.0)))
-      (inr (record {
-        entry = performed_entry n.now cl ask (answer_to x key ask y.0);
-        at = refl; begun = h.clock; choice = refl; request = refl; reply = y.0; state = refl; given = (y.3, inl refl);
-      }), (inr (y.0, refl, (y.3, inl refl)), tt))
+      ∙ ap (λ (a : Apdu). answers_first (performed_entry n.now cl ask a) ask y.0 a) (answer_any_time x key n.now ask.first ask.choice y.0))) (
+        inr (record {
+          entry = performed_entry n.now cl ask (answer_to x key ask y.0);
+          at = refl;
+          begun = h.clock;
+          choice = refl;
+          request = refl;
+          reply = y.0;
+          state = refl;
+          given = (y.3, inl refl);
+        }),
+        (inr (y.0, refl, (y.3, inl refl)), tt),
+      )
   serves_request n h young service free finds (inr d) =
       subst (ServerGoal n) (sym (ap (λ (o : Option Entry). gets_request n service o free) d.at
       ∙ serves_again (server_context x key n.now) (client_context x key ask.first) service d.entry free ask (answer_to x key ask d.reply)

@@ -66,4 +66,4 @@ abbrev pub RepeatsSuffice : (S : Type 0) → Shop S → Rules → World S → Ty
 RepeatsSuffice S shop x w =
     (key : Key) (choice : ℕ) (front : Octets) (rest : List Octets) → is_key_held w.net.now (w.net.tickets key) ≡ false
     → IsRobust S shop x key (record { first = w.net.now; choice = choice; whole = true; pieces = front ∷ rest }) w.net.asks
-        (happens S shop x w (MakeAsk key choice true front rest))
+    (happens S shop x w (MakeAsk key choice true front rest))

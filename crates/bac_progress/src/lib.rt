@@ -3,12 +3,15 @@
 //! The definitions stand in `specs/`, over the machines and runs of bac_protocol. The functions here have no body: each carries a law as its contract.
 #![tactic(auto)]
 
+pub mod examples;
+pub mod failures;
+
 ghost use Rattle.std.specs.Prelude.{ℕ, List};
 ghost use Rattle.bac_protocol.specs.Log.{Shop};
 ghost use Rattle.bac_protocol.specs.Transaction.{Rules};
 ghost use Rattle.bac_protocol.specs.World.{Event, run, start};
 ghost use Rattle.bac_protocol.specs.Claims.{IsBounded};
-ghost use Rattle.bac_progress.specs.Ends.{EndsInTime};
+ghost use Rattle.bac_progress.specs.Ends.{EndingsAreLogged, EndsInTime};
 ghost use Rattle.bac_progress.specs.Repeats.{RepeatsSuffice};
 ghost use Rattle.bac_progress.specs.RoundTrip.{RoundTripSuffices, RoundTripSufficesInSegments};
 
@@ -17,6 +20,12 @@ ghost use Rattle.bac_progress.specs.RoundTrip.{RoundTripSuffices, RoundTripSuffi
 pub fn asks_end<S>()
     ensures { (shop : Shop S) (opening : ℕ → S) (W : ℕ) (rules : Rules) → IsBounded W rules → (events : List Event)
         → EndsInTime S shop rules (run S shop rules events (start S opening)) }
+{}
+
+/// After any run the log has exactly one ending of each ask whose ticket is idle, and none of one whose ticket is open.
+pub fn endings_are_logged<S>()
+    ensures { (shop : Shop S) (opening : ℕ → S) (W : ℕ) (rules : Rules) → IsBounded W rules → (events : List Event)
+        → EndingsAreLogged (run S shop rules events (start S opening)).net }
 {}
 
 /// One round trip suffices: after any run, where a copy of a request of one APDU is delivered to a server that performs it then, or has performed it and
