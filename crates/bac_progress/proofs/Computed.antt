@@ -1,8 +1,9 @@
 -- The runs are computed.
 use Rattle.std.proofs.Common.{refl, arith}
 use Rattle.bac_protocol.specs.World.{post_of}
-use Rattle.bac_protocol.specs.Examples.{key, append_apdu, position, position_apdu}
-use Rattle.bac_progress.specs.Examples.{LateTick, LateAnswer, OneRoundTrip, SecondRoundTrip, RoundTripOfSegment, FourthSending}
+use Rattle.bac_protocol.specs.Examples.{key, rules, append_apdu, position, position_apdu}
+use Rattle.bac_progress.specs.Examples.{whole_ask, LateTick, LateAnswer, OneRoundTrip, SecondRoundTrip, RoundTripOfSegment, FourthSending}
+use Rattle.bac_progress.specs.RoundTrip.{FitsInOne}
 use Rattle.bac_progress.specs.Failures.{WindowUsedUp, ReplyUsedUp, TooOld, OutOfPatience, OldAbort}
 
 pub late_tick : LateTick
@@ -21,10 +22,13 @@ late_answer = record {
   ends = refl;
 }
 
+whole_fits : FitsInOne (rules 3) key whole_ask position
+whole_fits = record { way = refl; kind = (refl, refl) }
+
 pub one_round_trip : OneRoundTrip
 one_round_trip = record {
   ticket = refl;
-  fits = record { way = refl; kind = (refl, refl) };
+  fits = whole_fits;
   performs = record { none = refl; slot = refl; outcome = refl };
   request = record { post = post_of key 3000 append_apdu; at = refl; key_is = refl; apdu_is = refl; arrives = refl };
   going = record { ticket = _; at = refl; going = refl; in_time = omega arith };
@@ -57,10 +61,7 @@ fourth_sending = record {
   free = refl;
   ticket = refl;
   due = omega arith;
-  finds = (
-    tt,
-    (tt, (tt, (tt, (tt, (tt, ((λ m none. (position, record { none = refl; slot = refl; outcome = refl }, record { way = refl; kind = (refl, refl) })), (tt, tt))))))),
-  );
+  finds = (tt, (tt, (tt, (tt, (tt, (tt, ((λ m none. (position, record { none = refl; slot = refl; outcome = refl }, whole_fits)), (tt, tt))))))));
   young = omega arith;
   request = record { post = post_of key 9000 append_apdu; at = refl; key_is = refl; apdu_is = refl; arrives = refl };
   answer = record { post = post_of key 9000 position_apdu; at = refl; key_is = refl; apdu_is = refl; arrives = refl };
