@@ -36,7 +36,7 @@ use Rattle.bac_progress.proofs.Ticking.{tick_sends}
 use Rattle.bac_progress.proofs.Waits.{IsFine, IsDoneFor, PatientOrAnswered, Waits, Finds, answered_grows, done_live, repeat_left}
 use Rattle.bac_progress.proofs.Waits.{waits_path, got, of_map}
 
-at_end : (xs : List Post) (q : Post) → slice_get (xs ++ q ∷ []) (length xs) ≡ Some q
+pub at_end : (xs : List Post) (q : Post) → slice_get (xs ++ q ∷ []) (length xs) ≡ Some q
 at_end [] q = refl
 at_end (p ∷ xs) q = at_end xs q
 
