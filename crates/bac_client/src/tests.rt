@@ -105,12 +105,13 @@ fn heads(alloc: Global, sends: &[Datagram]) -> Result<Vec<u8>, NoMemory> {
     for datagram in sends {
         let apdu = datagram.octets().get(6..).unwrap_or(b"");
         heads.push((apdu.len() % 256) as u8)?;
-        heads.append_slice(&apdu[..apdu.len().min(6)])?;
+        heads.extend_from_slice(&apdu[..apdu.len().min(6)])?;
     }
     Ok(heads)
 }
 
 /// What a line made of what was kept, and whether it is what the line says.
+#[derive(Drop)]
 struct Played {
     held: Held,
     right: bool,
