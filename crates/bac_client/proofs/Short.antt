@@ -1,7 +1,7 @@
 -- What a ticket sends is short enough for a frame.
 use Rattle.std.proofs.Common.{◌≡◌, ℕ, zero, suc, ◌+◌, ◌-◌, ◌<◌, ◌≤◌, Bool, true, false, List, [], ◌∷◌, length, nat_lt, nat_le, None, refl, ap, sym, ◌∙◌, subst, arith}
 use Rattle.std.proofs.lemmas.Bool.Decides.{nat_tests}
-use Rattle.bac_segment.specs.Pieces.{ArePieces, join, piece_at, pieces_of}
+use Rattle.bac_segment.specs.Pieces.{ArePieces, piece_at, pieces_of}
 use Rattle.bac_segment.specs.Window.{Outgoing, outgoing}
 use Rattle.bac_apdu.specs.Apdu.{Limits}
 use Rattle.bac_apdu.specs.Apdu.Apdu.{ConfirmedRequest}
@@ -9,7 +9,7 @@ use Rattle.bac_protocol.specs.Context.{Context}
 use Rattle.bac_protocol.specs.Client.{request_piece}
 use Rattle.bac_ends.specs.Sends as Sends
 use Rattle.bac_ends.proofs.Short.{short_request, short_request_segment}
-use Rattle.bac_client.specs.Fits.{ArePiecesShort, IsShort, IsNew}
+use Rattle.bac_client.specs.Fits.{ArePiecesShort, IsNew}
 
 piece_past : (n : ℕ) (pieces : List (List ℕ)) → length pieces ≤ n → piece_at pieces n ≡ []
 piece_past n [] le = refl

@@ -1,5 +1,5 @@
 -- Requests that can go to their peer.
-use Rattle.std.specs.Prelude.{◌≡◌, ℕ, Bool, true, false, List, [], ◌∷◌, Result, Ok, Err}
+use Rattle.std.specs.Prelude.{ℕ, Bool, true, false, List, [], ◌∷◌, Result, Ok, Err}
 use Rattle.bac_protocol.specs.Service.{Octets}
 use Rattle.bac_protocol.specs.Sizes.{Way, RequestFault}
 use Rattle.bac_protocol.specs.Sizes.Way.{InOne, InSegments, Refused}

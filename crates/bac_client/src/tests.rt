@@ -141,26 +141,24 @@ fn hears(alloc: Global, line: &Line<'_>, ticket: Ticket) -> Result<Played, Fail>
     })
 }
 
-/// How many lines go as they say, before the first that doesn't; none where nothing comes for the ticket any more.
-fn plays(alloc: Global, ticket: Ticket, lines: &[Line<'_>]) -> Result<usize, Fail> {
+/// Whether all lines go as they say.
+fn plays(alloc: Global, ticket: Ticket, lines: &[Line<'_>]) -> Result<bool, Fail> {
     let mut held = Held::Open(ticket);
-    let mut right = 0;
     for line in lines {
         let Held::Open(ticket) = held else {
-            return Ok(right);
+            return Ok(false);
         };
-        let played = if line.apdu.is_empty() {
+        let Played { held: next, right } = if line.apdu.is_empty() {
             ticks(alloc, line, ticket)?
         } else {
             hears(alloc, line, ticket)?
         };
-        if !played.right {
-            return Ok(right);
+        if !right {
+            return Ok(false);
         }
-        right += 1;
-        held = played.held;
+        held = next;
     }
-    Ok(right)
+    Ok(true)
 }
 
 /// A request of a service choice was asked, with these service data.

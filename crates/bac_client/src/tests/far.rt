@@ -108,7 +108,8 @@ fn the_longest_reply(rt: HostRuntime) -> Result<(), Fail> {
     else {
         return Err(Fail::new("out of memory"));
     };
-    let Held::Open(ticket) = first.held else {
+    let Reacted { held, .. } = first;
+    let Held::Open(ticket) = held else {
         return Err(Fail::new("it has ended"));
     };
     let Ok(second) = ticket.gets(alloc, &context(2_000), &segment(1, b"x")) else {

@@ -4,7 +4,7 @@ use super::*;
 /// Plays a line against a new ticket.
 fn goes(alloc: Global, choice: u8, line: Line<'_>) -> Result<bool, Fail> {
     let begun = asked(alloc, choice, READ)?;
-    Ok(plays(alloc, begun.ticket, &[line])? == 1)
+    plays(alloc, begun.ticket, &[line])
 }
 
 #[test]
@@ -75,6 +75,6 @@ fn what_is_ignored(rt: HostRuntime) -> Result<(), Fail> {
         comes(2_000, b"\x30\x01\x07\x09\x05", b"", End::Complex),
     ];
     let begun = asked(rt.alloc(), 7, READ)?;
-    assert_eq!(rt; plays(rt.alloc(), begun.ticket, &lines)?, lines.len());
+    assert!(rt; plays(rt.alloc(), begun.ticket, &lines)?);
     Ok(())
 }

@@ -6,7 +6,7 @@ const REQUEST: &[u8] = b"\x0B\x02\x00\x01\x07\x0C\x00";
 /// Plays lines against a new ticket of a request in one APDU.
 fn all_right(alloc: Global, lines: &[Line<'_>]) -> Result<bool, Fail> {
     let begun = asked(alloc, 7, READ)?;
-    Ok(plays(alloc, begun.ticket, lines)? == lines.len())
+    plays(alloc, begun.ticket, lines)
 }
 
 // asked at 1,000; each repeat sets the timer anew

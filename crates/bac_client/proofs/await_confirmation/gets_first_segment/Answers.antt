@@ -1,5 +1,5 @@
 -- What was taken, in the ticket's own state.
-use Rattle.std.proofs.Common.{rules, arith}
+use Rattle.std.proofs.Common.{rules}
 use Rattle.bac_client.proofs.await_confirmation.gets_first_segment.Goals as goal
 
 pub returns-in-Ok : goal.returns-in-Ok
