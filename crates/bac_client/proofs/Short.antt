@@ -7,7 +7,7 @@ use Rattle.bac_apdu.specs.Apdu.{Limits}
 use Rattle.bac_apdu.specs.Apdu.Apdu.{ConfirmedRequest}
 use Rattle.bac_protocol.specs.Context.{Context}
 use Rattle.bac_protocol.specs.Client.{request_piece}
-use Rattle.bac_ends.specs.Sends as Sends
+use Rattle.bac_protocol.specs.Short as apdus
 use Rattle.bac_ends.proofs.Short.{short_request, short_request_segment}
 use Rattle.bac_client.specs.Fits.{ArePiecesShort, IsNew}
 
@@ -24,10 +24,10 @@ pieces_short size octets out are le = record { each = λ n. go n (nat_lt n (leng
     go n false e = let ge : length out.pieces ≤ n = grind (arith, nat_tests) in let is = ap length (piece_past n out.pieces ge) in omega arith
 
 pub whole_is_short : (limits : Limits) (invoke_id choice : ℕ) (octets : List ℕ) → length octets ≤ 1472
-    → Sends.IsShort (ConfirmedRequest limits invoke_id None choice octets)
+    → apdus.IsShort (ConfirmedRequest limits invoke_id None choice octets)
 whole_is_short = short_request
 
-pub piece_is_short : (c : Context) (choice n : ℕ) (out : Outgoing) → ArePiecesShort out → Sends.IsShort (request_piece c choice out.pieces n)
+pub piece_is_short : (c : Context) (choice n : ℕ) (out : Outgoing) → ArePiecesShort out → apdus.IsShort (request_piece c choice out.pieces n)
 piece_is_short c choice n out short = short_request_segment c.settings.limits c.invoke_id _ choice (piece_at out.pieces n) (short.each n)
 
 -- a request that is not sent yet

@@ -165,7 +165,6 @@ pub(crate) fn await_confirmation_gets(
             code,
             ..
         } => Ok(gets_error(alloc, context, ticket, choice, class, code)),
-        Apdu::Reject { .. } | Apdu::Abort { .. } => Ok(gets_refusal(alloc, context, ticket, apdu)),
-        _ => Ok(stays(alloc, context, ticket)),
+        _ => Ok(gets_refusal(alloc, context, ticket, apdu)),
     }
 }
