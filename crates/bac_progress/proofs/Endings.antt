@@ -84,7 +84,7 @@ not_from_client (Reject i r) e = refl
 not_from_client (Abort true i r) e = refl
 not_from_client (Abort false i r) e = absurd cc
 
-contains_tail : (k : Key) (keys : List Key) (key : Key) → Contains (k ∷ keys) key → (k ≡ key) ⊎ Contains keys key
+pub contains_tail : (k : Key) (keys : List Key) (key : Key) → Contains (k ∷ keys) key → (k ≡ key) ⊎ Contains keys key
 contains_tail k keys key (zero, lt, e) = inl e
 contains_tail k keys key (suc i, lt, e) = inr (i, omega arith, e)
 

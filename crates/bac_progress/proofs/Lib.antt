@@ -6,5 +6,6 @@ pub mod Serving
 pub mod Kept
 pub mod RoundTrips
 pub mod Waits
+pub mod Ticking
 pub mod Robust
 pub mod Computed

@@ -2,6 +2,7 @@
 use Rattle.std.proofs.Common.{◌≡◌, ℕ, ◌+◌, ◌-◌, ◌<◌, ◌≤◌, ◌⊎◌, Bool, true, false, List, [], ◌∷◌, ◌++◌, length, Option, Some, None, slice_get}
 use Rattle.std.proofs.Common.{if◌then◌else◌, refl, sym, ap, subst, inl, inr, ◌∙◌, arith}
 use Rattle.std.proofs.lemmas.Bool.Decides.{nat_tests}
+use Rattle.std.specs.List.{Contains}
 use Rattle.bac_apdu.specs.Apdu.{Apdu}
 use Rattle.bac_segment.specs.Pieces.{join}
 use Rattle.bac_protocol.specs.declared.times.TheConstants.{T_OUT, LIFE, KEEP}
@@ -15,7 +16,7 @@ use Rattle.bac_protocol.specs.Server.{Entry, is_live, is_none_live}
 use Rattle.bac_protocol.specs.Log.{Fact, Has, Shop}
 use Rattle.bac_protocol.specs.Log.Fact.{Asked, Performed, Ended}
 use Rattle.bac_protocol.specs.Transaction.{Key, Rules, client_context}
-use Rattle.bac_protocol.specs.World.{World, Post, Event, is_deliverable, is_key_held, asked_at, ask_made, reacts, ticks_ticket}
+use Rattle.bac_protocol.specs.World.{World, Post, Event, is_deliverable, is_key_held, asked_at, ask_made}
 use Rattle.bac_protocol.specs.World.{happens, run, start, post_of, later, copies_of, service_of}
 use Rattle.bac_protocol.specs.World.Event.{MakeAsk, Deliver, Tick, Noise, Advance}
 use Rattle.bac_protocol.specs.Claims.{IsBounded}
@@ -32,7 +33,8 @@ use Rattle.bac_progress.proofs.Paths.{ask_of, Gives, event_steps, run_steps, pat
 use Rattle.bac_progress.proofs.Paths.{Any}
 use Rattle.bac_progress.proofs.Changes.{one_ticket}
 use Rattle.bac_progress.proofs.RoundTrips.{trip}
-use Rattle.bac_progress.proofs.Waits.{IsFine, IsDoneFor, PatientOrAnswered, Waits, Finds, answered_grows, done_live, repeat_left, tick_repeats}
+use Rattle.bac_progress.proofs.Ticking.{tick_sends}
+use Rattle.bac_progress.proofs.Waits.{IsFine, IsDoneFor, PatientOrAnswered, Waits, Finds, answered_grows, done_live, repeat_left}
 use Rattle.bac_progress.proofs.Waits.{waits_path, got, of_map}
 
 at_end : (xs : List Post) (q : Post) → slice_get (xs ++ q ∷ []) (length xs) ≡ Some q
@@ -90,24 +92,21 @@ module _ (S : Type 0) (shop : Shop S) (x : Rules) (key : Key) (ask : Ask) (numbe
 
   -- a tick that is due
   sent_again : (v : World S) → On v → Young v → (t : Ticket) → v.net.tickets key ≡ Some t → t.phase ≡ AwaitConfirmation → T_OUT ≤ v.net.now - t.since
-      → IsSentAgain x key ask t v.net (happens S shop x v (Tick (key ∷ []) [])).net
-  sent_again v h young t at awaits due = go (subst (λ (y : Ticket). PatientOrAnswered x key ask number v.net.now y v.net.log) same h.ticket.state)
+      → (as_client as_server : List Key) → Contains as_client key
+      → IsSentAgain x key ask t v.net (happens S shop x v (Tick as_client as_server)).net
+  sent_again v h young t at awaits due as_client as_server i =
+      go (subst (λ (y : Ticket). PatientOrAnswered x key ask number v.net.now y v.net.log) same h.ticket.state)
     where
       same : h.ticket.ticket ≡ t
       same = one_ticket h.ticket.ticket t (sym h.ticket.at ∙ at)
 
-      go : PatientOrAnswered x key ask number v.net.now t v.net.log → IsSentAgain x key ask t v.net (happens S shop x v (Tick (key ∷ []) [])).net
+      go : PatientOrAnswered x key ask number v.net.now t v.net.log
+          → IsSentAgain x key ask t v.net (happens S shop x v (Tick as_client as_server)).net
       go (inr o) = absurd (let z = sym o.0 ∙ ap is_idle awaits in cc)
       go (inl w) =
-          let path : happens S shop x v (Tick (key ∷ []) []) ≡ reacts S v key t (Repeats t.phase (request_to x key ask ∷ [])) =
-          ap (ticks_ticket S x v key) at
-          ∙ ap (reacts S v key t) (tick_repeats x key ask number v.net.now t whole (subst (λ (y : Ticket). y.ask ≡ ask) same h.ticket.is) w young due) in
-          record {
-            left = repeat_left x key ask number v.net.now t w young due;
-            sent = ap (λ (z : World S). z.net.posts) path;
-            ticket = ap (λ (z : World S). z.net.tickets key) path
-                ∙ set_same v.net.tickets key (Some (record t { repeats = t.repeats - 1; since = v.net.now }));
-          }
+          let sends = tick_sends S shop x key ask number whole v t as_client as_server at
+          (subst (λ (y : Ticket). y.ask ≡ ask) same h.ticket.is) w young due h.entry i in
+          record { left = repeat_left x key ask number v.net.now t w young due; sent = sends.copies_are; ticket = sends.ticket }
 
   -- where a copy of the request and the answer that it brings get through
   module _ (opening : ℕ → S) (W : ℕ) (bound : IsBounded W x) where
@@ -194,8 +193,8 @@ module _ (S : Type 0) (shop : Shop S) (x : Rules) (key : Key) (ask : Ask) (numbe
     robust : (w : World S) → Kept S shop opening W x bound w → On w → IsRobust S shop x key ask number w
     robust w s h = record {
       waits = λ events served young. waiting_of (run S shop x events w) (run_on events w served h young);
-      repeats = λ events served young t at awaits due.
-          sent_again (run S shop x events w) (run_on events w served h young) young t at awaits due;
+      repeats = λ events as_client as_server served young t at awaits due there.
+          sent_again (run S shop x events w) (run_on events w served h young) young t at awaits due as_client as_server there;
       answered = λ before between i free other answer served young m m_u.
           let sp = split before (Deliver i free) between w served in
           let v = run S shop x before w in

@@ -236,7 +236,7 @@ module _ (x : Rules) (key : Key) (ask : Ask) (number : ℕ) where
       (record { ticket = record t { phase = Idle }; at = refl; is = is; state = inr (refl, (p, inr given.1, inl refl)) }, tt)
 
   -- a tick's tests
-  ticks_by : (now : ℕ) (t : Ticket) → t.ask ≡ ask → Patient now t → now < ask.first + PATIENCE → client.client_ticks (client_context x key now) t
+  pub ticks_by : (now : ℕ) (t : Ticket) → t.ask ≡ ask → Patient now t → now < ask.first + PATIENCE → client.client_ticks (client_context x key now) t
       ≡ (if nat_le T_OUT (now - t.since) then client.repeats (client_context x key now) t else Stays)
   ticks_by now t is w young =
       ap (λ (ph : Phase). if is_idle ph then Stays else if is_expired now t.ask then Ends [] Expired
@@ -273,7 +273,7 @@ module _ (x : Rules) (key : Key) (ask : Ask) (number : ℕ) where
       left : nat_eq t.repeats 0 ≡ false
       left = let some = repeat_left now t w young due in grind (arith, nat_tests)
 
-  patient_on : (now : ℕ) (t : Ticket) → Patient now t → now < ask.first + PATIENCE → T_OUT ≤ now - t.since
+  pub patient_on : (now : ℕ) (t : Ticket) → Patient now t → now < ask.first + PATIENCE → T_OUT ≤ now - t.since
       → Patient now (after now t (Repeats t.phase (request_to x key ask ∷ [])))
   patient_on now t w young due = record { waits = w.waits; few = let f = w.few in omega arith; since = steps t.repeats w.few w.since; passed = omega arith }
     where

@@ -44,9 +44,9 @@ pub fn round_trip_suffices_in_segments<S>()
 {}
 
 /// Repeats suffice: an ask of one APDU that is made after any run, each delivered copy of which finds its server, is waited for or answered until
-/// 12,000 ms have passed since its first sending, whatever is lost, repeated, reordered or asked of others. Until then each tick that is due finds a repeat
-/// left and sends the request again; and where any copy of the request and then the answer that it brought are delivered, the ask has ended with the
-/// reply with which it was performed.
+/// 12,000 ms have passed since its first sending, whatever is lost, repeated, reordered or asked of others. Until then each tick of its client that is due
+/// finds a repeat left and sends the request again; and where any copy of the request and then the answer that it brought are delivered, the ask has ended
+/// with the reply with which it was performed.
 pub fn repeats_suffice<S>()
     ensures { (shop : Shop S) (opening : ℕ → S) (W : ℕ) (rules : Rules) → IsBounded W rules → (events : List Event)
         → RepeatsSuffice S shop rules (run S shop rules events (start S opening)) }
