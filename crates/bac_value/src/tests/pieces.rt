@@ -1,16 +1,21 @@
 //! Octets in pieces.
-ghost use Rattle.std.specs.Prelude.{◌<◌};
+ghost use Rattle.std.specs.Prelude.{◌<◌, ◌≤◌, length};
+ghost use Rattle.bac_value.specs.Views.{parts_view};
 
 use super::*;
 
-fn tag_outcome_at(parts: &Parts<'_>, from: usize) -> Outcome {
+fn tag_outcome_at(parts: &Parts<'_>, from: usize) -> Outcome
+    requires { from ≤ length (parts_view parts.now) }
+{
     match read_tag_at(parts, from) {
         Ok((_, len)) => (0, len),
         Err(fault) => (fault.kind.number(), fault.at - from),
     }
 }
 
-fn data_outcome_at(parts: &Parts<'_>, from: usize) -> Outcome {
+fn data_outcome_at(parts: &Parts<'_>, from: usize) -> Outcome
+    requires { from ≤ length (parts_view parts.now) }
+{
     match check_data_at(parts, from) {
         Ok(len) => (0, len),
         Err(fault) => (fault.kind.number(), fault.at - from),

@@ -148,7 +148,11 @@ fn makes_tags(rt: HostRuntime) {
     for (number, class, form, expected) in PARTS_OF_TAGS {
         let tag = Tag::new(*number, *class, *form);
         let parts = tag.map(|tag| (tag.number, tag.class, tag.form));
-        let made = if *expected { Some((*number, *class, *form)) } else { None };
+        let made = if *expected {
+            Some((*number, *class, *form))
+        } else {
+            None
+        };
         assert_eq!(rt; parts, made);
     }
 }

@@ -37,7 +37,8 @@ fn is_written_back_from_pieces(alloc: Global, octets: &[u8]) -> Result<bool, NoM
 fn is_spelled(alloc: Global, value: &Value, text: &str) -> Result<bool, NoMemory> {
     let octets = octets_of(alloc, text)?;
     Ok(
-        is_written(alloc, value, &octets)? && is_written_back(alloc, &octets)?
+        is_written(alloc, value, &octets)?
+            && is_written_back(alloc, &octets)?
             && is_written_back_from_pieces(alloc, &octets)?,
     )
 }
@@ -62,13 +63,22 @@ const ENUMERATED: &[(u32, &str)] = &[(0, "9100"), (u32::MAX, "94FFFFFFFF")];
 #[test]
 fn writes_numbers_and_reads_them_back(rt: HostRuntime) -> Result<(), Fail> {
     for (number, text) in UNSIGNED {
-        assert!(rt; is_spelled(rt.alloc(), &Value::Unsigned(*number), text)?, "{text}");
+        assert!(rt;
+            is_spelled(rt.alloc(), &Value::Unsigned(*number), text)?,
+            "{text}"
+        );
     }
     for (number, text) in SIGNED {
-        assert!(rt; is_spelled(rt.alloc(), &Value::Signed(*number), text)?, "{text}");
+        assert!(rt;
+            is_spelled(rt.alloc(), &Value::Signed(*number), text)?,
+            "{text}"
+        );
     }
     for (number, text) in ENUMERATED {
-        assert!(rt; is_spelled(rt.alloc(), &Value::Enumerated(*number), text)?, "{text}");
+        assert!(rt;
+            is_spelled(rt.alloc(), &Value::Enumerated(*number), text)?,
+            "{text}"
+        );
     }
     Ok(())
 }
@@ -149,11 +159,26 @@ fn number_as(number: Number, octets: &[u8], len: usize) -> Result<i128, FaultKin
 /// Octets, the length of the contents in front of them, and the number that these are.
 const CONTENTS: &[(Number, &str, usize, Result<i128, FaultKind>)] = &[
     (Number::Unsigned, "0155FF7F00800001", 2, Ok(0x155)),
-    (Number::Unsigned, "0155FF7F00800001", 0, Err(FaultKind::BadLength)),
-    (Number::Unsigned, "0155FF7F00800001", 9, Err(FaultKind::BadLength)),
+    (
+        Number::Unsigned,
+        "0155FF7F00800001",
+        0,
+        Err(FaultKind::BadLength),
+    ),
+    (
+        Number::Unsigned,
+        "0155FF7F00800001",
+        9,
+        Err(FaultKind::BadLength),
+    ),
     (Number::Unsigned, "", 1, Err(FaultKind::Truncated)),
     (Number::Enumerated, "0155FF7F00800001", 4, Ok(0x0155_FF7F)),
-    (Number::Enumerated, "0155FF7F00800001", 5, Err(FaultKind::BadLength)),
+    (
+        Number::Enumerated,
+        "0155FF7F00800001",
+        5,
+        Err(FaultKind::BadLength),
+    ),
     (Number::Signed, "0155FF7F00800001", 2, Ok(0x155)),
     (Number::Signed, "FF7F00800001", 2, Ok(-129)),
 ];
