@@ -154,7 +154,8 @@ module _ (S : Type 0) (shop : Shop S) (x : Rules) (now number : ℕ) (key : Key)
       → Leads1 (requesting s inc (piece t ∷ [])) (requesting s inc' (ack (t % 256) ∷ []))
   request_acks s inc inc' t is e =
       let from = requesting s inc (piece t ∷ []) in
-      one_step S shop x now number key from (requesting s inc' (ack (t % 256) ∷ [])) [] (piece t) refl (omega arith) refl (is_begun now (segmented_request_entry inc) refl)
+      one_step S shop x now number key from (requesting s inc' (ack (t % 256) ∷ [])) [] (piece t) refl (omega arith) refl
+          (is_begun now (segmented_request_entry inc) refl)
       (ap (λ (v : server.Reaction). served S shop x now number key from [] v) (server_takes inc t (Taken true inc') e)
       ∙ ap (λ (i : ℕ). requesting s inc' (server.server_ack d false (t % 256) i ∷ [])) is)
 
@@ -250,14 +251,16 @@ module _ (S : Type 0) (shop : Shop S) (x : Rules) (now number : ℕ) (key : Key)
         (is_begun now (begun None (kept_state d ask.choice p way)) refl)
         (ap (λ (r : client.Reaction). reacted S shop x now number key from (sent_first ∷ []) r)
         (client_moves s (i % 256) (Some (next_window actual c.settings.window s.out i)) e
-        ∙ ap (λ b. if b then GoesOn AwaitConfirmation [] else client.sends_request_window c ask.choice (next_window actual c.settings.window s.out i) s.all_sent) f))
+        ∙ ap (λ b. if b then GoesOn AwaitConfirmation [] else client.sends_request_window c ask.choice (next_window actual c.settings.window s.out i)
+            s.all_sent) f))
 
     pub whole_read : (o : Option Entry) → is_none_live now o ≡ true
         → Starts S shop x now number key 1 (asking AwaitConfirmation o (client.request_apdu c ask))
         (performed await_confirmation (Some (join ask.pieces)) (sent_first ∷ []))
     whole_read o dead =
         let a = client.request_apdu c ask in
-        first_step S shop x now number key (asking AwaitConfirmation o a) (performed await_confirmation (Some (join ask.pieces)) (sent_first ∷ [])) [] a refl (omega arith) refl
+        first_step S shop x now number key (asking AwaitConfirmation o a) (performed await_confirmation (Some (join ask.pieces)) (sent_first ∷ [])) [] a
+            refl (omega arith) refl
         (performs_now AwaitConfirmation o (Some (join ask.pieces)) Dropped a [] refl (server_new d service o a dead))
 
     abbrev pub start : Sender
@@ -317,7 +320,8 @@ module _ (S : Type 0) (shop : Shop S) (x : Rules) (now number : ℕ) (key : Key)
           acknowledged = refl;
           parts = parts_next ask.pieces empty 0 0 (omega arith) refl;
         } in
-        let z = all_but_last S shop x now number key actual c.settings.window ask.pieces sizes carries_request n start inc 0 (2 * n - 3) taken more (omega arith)
+        let z = all_but_last S shop x now number key actual c.settings.window ask.pieces sizes carries_request n start inc 0 (2 * n - 3) taken more
+            (omega arith)
         (omega arith) in
         let b = z.before in
         let len : length z.s.out.pieces ≡ n = ap length b.pieces in
@@ -332,7 +336,8 @@ module _ (S : Type 0) (shop : Shop S) (x : Rules) (now number : ℕ) (key : Key)
         (within_then S shop x now number key (2 * n - 3) 2 (2 * n - 1) acked before end (omega arith) z.reaches
         (within_then S shop x now number key 1 1 2 before done end (omega arith)
         (one_step S shop x now number key before done [] (piece z.p) refl (omega arith) refl (is_begun now (segmented_request_entry z.inc) refl)
-        (performs_now (Phase.SegmentedRequest z.s.out z.s.all_sent) (Some (segmented_request_entry z.inc)) None (State.SegmentedRequest z.inc now) (piece z.p) (ack (z.p % 256) ∷ []) refl f))
+        (performs_now (Phase.SegmentedRequest z.s.out z.s.all_sent) (Some (segmented_request_entry z.inc)) None (State.SegmentedRequest z.inc now)
+            (piece z.p) (ack (z.p % 256) ∷ []) refl f))
         (last_acked z.s z.p (omega arith) (omega arith) b.pieces b.behind b.full z.last)))
 
     pub pieces_read : (o : Option Entry) → is_none_live now o ≡ true → 0 < n → Fitting x.overtake actual c.settings.window ask.pieces

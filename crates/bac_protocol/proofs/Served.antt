@@ -18,7 +18,8 @@ use Rattle.bac_protocol.specs.Server.Transfer.{Running, Stopped, Finished}
 use Rattle.bac_protocol.specs.Server.State.{Done, SegmentedResponse, Dropped}
 use Rattle.bac_protocol.specs.Sizes.Way.{InOne, InSegments, Refused}
 use Rattle.bac_protocol.specs.Steps.{IsSameEntry, TransferGoesOn, StateStays, StaysIn, LiveStays}
-use Rattle.bac_protocol.specs.Steps.{IsSegmentedRequest, MayPerform, held_by, held_in, IsWholeWith, BeginsWith, IsEntryFor, KeepsReply, IsEffect, EffectsAreKept}
+use Rattle.bac_protocol.specs.Steps.{IsSegmentedRequest, MayPerform, held_by, held_in, IsWholeWith, BeginsWith, IsEntryFor, KeepsReply, IsEffect}
+use Rattle.bac_protocol.specs.Steps.{EffectsAreKept}
 use Rattle.bac_protocol.proofs.Transfer.{moved, acknowledged_cases, with_piece, takes_cases}
 use Rattle.bac_protocol.proofs.Ways.{way_cut}
 
@@ -111,7 +112,8 @@ module _ (c : Context) (service : Service) where
       go (Rejects r) is = (tt, becomes e (Done (Reject c.invoke_id r)))
 
   request_segment_served : (P : Octets → Type 0) (e : Entry) (inc : Incoming) (number window : ℕ) (more : Bool) (octets : Octets)
-      → (more ≡ false → P (join (inc.parts ++ octets ∷ []))) → Serves P e (server.request_segment_taken c service e number window (takes inc number more octets))
+      → (more ≡ false → P (join (inc.parts ++ octets ∷ []))) → Serves P e (server.request_segment_taken c service e number window
+          (takes inc number more octets))
   request_segment_served P e inc number window more octets h =
       takes_cases inc number more octets (λ x. Serves P e (server.request_segment_taken c service e number window x))
       (λ ne. (tt, becomes e (State.SegmentedRequest (record inc { unacknowledged = 0 }) c.now)))
@@ -130,7 +132,8 @@ module _ (c : Context) (service : Service) where
   with_entry P Q R f (Some x) None h = absurd h
   with_entry P Q R f (Some x) (Some d) h = record { whole = h.whole; for = f d h.for; outcome = h.outcome; choice = h.choice; kept = h.kept }
 
-  idle_request_served : (P : Octets → Type 0) (Q : Entry → Type 0) (dead : Option Entry) (free : Bool) (choice : ℕ) (limits : Limits) (octets : Octets) → P octets
+  idle_request_served : (P : Octets → Type 0) (Q : Entry → Type 0) (dead : Option Entry) (free : Bool) (choice : ℕ) (limits : Limits) (octets : Octets) → P
+      octets
       → ((d : Entry) → IsSameEntry (server.begins c choice limits (Some octets)) d → Q d)
       → Performs P Q (server.idle_gets_request c service dead free choice limits octets)
   idle_request_served P Q dead true choice limits octets h f =
@@ -139,13 +142,15 @@ module _ (c : Context) (service : Service) where
       with_entry P (IsSameEntry e) Q f v.effect v.entry (performs_served P e [] octets h).0
   idle_request_served P Q dead false choice limits octets h f = tt
 
-  idle_segment_served : (P : Octets → Type 0) (Q : Entry → Type 0) (dead : Option Entry) (free : Bool) (choice : ℕ) (limits : Limits) (g : Segment) (octets : Octets)
+  idle_segment_served : (P : Octets → Type 0) (Q : Entry → Type 0) (dead : Option Entry) (free : Bool) (choice : ℕ) (limits : Limits) (g : Segment)
+      (octets : Octets)
       → (g.more ≡ false → P (join (octets ∷ []))) → ((d : Entry) → IsSameEntry (server.begins c choice limits None) d → Q d)
       → Performs P Q (server.idle_gets_segment c service dead free choice limits g octets)
   idle_segment_served P Q dead free choice limits g octets h f = go (nat_eq g.number 0) free
     where
       go : (b d : Bool) → Performs P Q (if not b then server.rests dead [] else if d then server.request_segment_taken c service
-          (server.begins c choice limits None) g.number (incoming c.settings.window g.window).window (takes (incoming c.settings.window g.window) g.number g.more octets)
+          (server.begins c choice limits None) g.number (incoming c.settings.window g.window).window
+              (takes (incoming c.settings.window g.window) g.number g.more octets)
           else server.rests dead (server.server_abort c OTHER ∷ []))
       go true true =
           let e = server.begins c choice limits None in
@@ -204,7 +209,8 @@ module _ (c : Context) (service : Service) where
         → Rests e (SegmentedResponse out transfer since) (server.moves_reply_window c e (Some (moved c.settings.window out number window)))
     moved_rests number window = go (is_finished (moved c.settings.window out number window))
       where
-        go : (b : Bool) → Rests e (SegmentedResponse out transfer since) (if b then server.becomes e (SegmentedResponse (moved c.settings.window out number window) Finished c.now) []
+        go : (b : Bool) → Rests e (SegmentedResponse out transfer since) (if b then server.becomes e
+            (SegmentedResponse (moved c.settings.window out number window) Finished c.now) []
             else server.sends_reply_window c e (moved c.settings.window out number window))
         go true = (refl, (becomes e (SegmentedResponse (moved c.settings.window out number window) Finished c.now), (refl, omega arith)))
         go false = (refl, (becomes e (SegmentedResponse (moved c.settings.window out number window) Running c.now), (refl, omega arith)))
