@@ -1,4 +1,6 @@
 //! Tables of the server's states: each line once, at both sides of each limit of time.
+ghost use Rattle.std.specs.Prelude.{◌<◌};
+
 use crate::{Context, Effect, Entry, IdleReaction, Reaction, idle_gets, live_gets};
 use bac_apdu::{Apdu, Limits, Segment, Window, read};
 use bac_ends::{Datagram, PeerKey, Settings};
