@@ -5,7 +5,7 @@ use Rattle.bac_apdu.specs.Apdu.Apdu.{ConfirmedRequest}
 use Rattle.bac_segment.specs.Window.{Outgoing}
 use Rattle.bac_protocol.specs.Context.{Context}
 use Rattle.bac_protocol.specs.Service.{Octets, OTHER}
-use Rattle.bac_protocol.specs.Server.{Entry, Reaction, Transfer, rests, server_abort, done_gets, resumes, segmented_response_gets}
+use Rattle.bac_protocol.specs.Server.{Entry, Transfer, rests, server_abort, done_gets, resumes, segmented_response_gets}
 use Rattle.bac_server.specs.Segments.{is_repeated}
 
 pub done_gets_request : (c : Context) (e : Entry) (kept : Apdu) (limits : Limits) (invoke_id : ℕ) (segment : Option Segment) (choice : ℕ) (octets : Octets)

@@ -2,13 +2,11 @@
 use Rattle.std.proofs.Common.{◌≡◌, ℕ, Bool, true, false, List, [], ◌∷◌, ◌++◌, Option, Some, None, Result, Ok, Err, refl, ap, sym, subst, ◌∙◌, if◌then◌else◌}
 use Rattle.bac_apdu.specs.Apdu.{Apdu, Limits}
 use Rattle.bac_npdu.specs.Peers.{PeerView}
-use Rattle.bac_service.specs.Values as plain
+use Rattle.bac_service.specs.Replies as plain
 use Rattle.bac_service.specs.Values.{Request, choice_of}
-use Rattle.bac_service.specs.Services.{request_at}
 use Rattle.bac_service.specs.Requests.{SpellsRequest}
 use Rattle.bac_service.specs.Replies.{SpellsComplex}
 use Rattle.bac_service.specs.Spellings.{complex_spelling}
-use Rattle.bac_service.specs.Views.{owned_request_view}
 use Rattle.bac_store.specs.Stores.{Store}
 use Rattle.bac_store.specs.Replies.{reply_to}
 use Rattle.bac_store.specs.ReplyKinds.{FitsChoice}
@@ -17,17 +15,17 @@ use Rattle.bac_store.proofs.ReplyKinds.{replies_fit}
 use Rattle.bac_protocol.specs.Context.{Context}
 use Rattle.bac_protocol.specs.Sizes.{Way, reply_way_of}
 use Rattle.bac_protocol.specs.Sizes.Way.{InOne, InSegments, Refused}
-use Rattle.bac_protocol.specs.Service.{Octets, Reply, Outcome}
+use Rattle.bac_protocol.specs.Service.{Octets, Reply}
 use Rattle.bac_protocol.specs.Service.Outcome.{Replies, Rejects}
 use Rattle.bac_protocol.specs.Server as server
 use Rattle.bac_protocol.specs.Server.{Entry, Effect, State, sends_reply, performs, performs_so, effect_of}
 use Rattle.bac_ends.specs.Meanings.{MeansReply}
-use Rattle.bac_ends.specs.Sends.{Datagram, Pairwise, IsSent, to_peer, to_all}
+use Rattle.bac_ends.specs.Sends.{Datagram, Pairwise, IsSent, to_all}
 use Rattle.bac_server.specs.Services.{Performed, ArePerformed, outcome_of, outcome_by, service_of, store_after}
 use Rattle.bac_server.specs.Reactions.{IsReaction}
 use Rattle.bac_server.specs.Reading.{IsRead}
 use Rattle.bac_server.specs.Views.{state_view}
-use Rattle.bac_server.specs.Preparing.{sent_by, state_by, is_performed, Waits, IsReady, IsRejected, IsPrepared, IsCommitted, CanCommit}
+use Rattle.bac_server.specs.Preparing.{sent_by, state_by, is_performed, Waits, IsPrepared, IsCommitted, CanCommit}
 use Rattle.bac_server.specs.Preparing.{IsNoReject, IsSpelledReply}
 use Rattle.bac_server.specs.declared.preparing.Pending.{Pending}
 use Rattle.bac_server.specs.declared.preparing.Prepared.{Prepared}
@@ -47,7 +45,7 @@ sends_reply_is c e before octets reply (Refused reason) = refl
 
 no_reject : (choice : ℕ) (p : plain.Reply) → FitsChoice choice p → IsNoReject p
 no_reject choice plain.Reply.Simple f = tt
-no_reject choice (plain.Reply.Whole c) f = tt
+no_reject choice (plain.Reply.Complex c) f = tt
 no_reject choice (plain.Reply.Error class code) f = tt
 no_reject choice (plain.Reply.Reject reason) f = absurd f
 
@@ -59,8 +57,8 @@ reply_inside e = cc
 
 means : (choice : ℕ) (p : plain.Reply) (reply : Reply) → FitsChoice choice p → IsSpelledReply p → outcome_of p ≡ Replies reply → MeansReply choice reply p
 means choice plain.Reply.Simple reply f s e = subst (λ (a : Reply). MeansReply choice a plain.Reply.Simple) (reply_inside e) tt
-means choice (plain.Reply.Whole c) reply f s e =
-    subst (λ (a : Reply). MeansReply choice a (plain.Reply.Whole c)) (reply_inside e) (subst (λ (k : ℕ). SpellsComplex k c (complex_spelling c)) (sym f) s)
+means choice (plain.Reply.Complex c) reply f s e =
+    subst (λ (a : Reply). MeansReply choice a (plain.Reply.Complex c)) (reply_inside e) (subst (λ (k : ℕ). SpellsComplex k c (complex_spelling c)) (sym f) s)
 means choice (plain.Reply.Error class code) reply f s e =
     subst (λ (a : Reply). MeansReply choice a (plain.Reply.Error class code)) (reply_inside e) (refl, refl)
 means choice (plain.Reply.Reject reason) reply f s e = absurd f

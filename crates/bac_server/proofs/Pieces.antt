@@ -1,7 +1,7 @@
 -- The pieces of a reply in segments.
-use Rattle.std.proofs.Common.{◌≡◌, ℕ, zero, suc, ◌+◌, ◌<◌, ◌≤◌, Bool, true, false, List, [], ◌∷◌, length, nat_lt, refl, ap, arith}
+use Rattle.std.proofs.Common.{◌≡◌, ℕ, zero, suc, ◌<◌, ◌≤◌, Bool, true, false, List, [], ◌∷◌, length, nat_lt, refl, ap, arith}
 use Rattle.std.proofs.lemmas.Bool.Decides.{nat_tests}
-use Rattle.bac_segment.specs.Pieces.{ArePieces, join, piece_at}
+use Rattle.bac_segment.specs.Pieces.{ArePieces, piece_at}
 use Rattle.bac_segment.specs.Window.{Outgoing}
 use Rattle.bac_server.specs.Views.{ArePiecesShort}
 

@@ -1,10 +1,9 @@
 -- What a whole request's last segment does to the receiver.
-use Rattle.std.proofs.Common.{◌≡◌, ℕ, Bool, List, [], ◌∷◌, ◌++◌, length, arith, length-append, Result, Ok, Err, ap, sym, ◌∙◌}
+use Rattle.std.proofs.Common.{◌≡◌, Ok, ap}
 use Rattle.bac_segment.specs.Window.{Incoming, Taking}
 use Rattle.bac_segment.specs.Answers.{Takes, IsKept, answer_of}
 use Rattle.bac_segment.specs.declared.incoming.Step.{Step}
 use Rattle.bac_segment.specs.declared.incoming.Step.TheVariants as step
-use Rattle.bac_segment.specs.declared.incoming.SegmentFault.{SegmentFault}
 
 pub record IsWholeTaking (t : Taking) (old new : Incoming) : Type 0 where
   pub taken : t ≡ Taking.Whole new.parts

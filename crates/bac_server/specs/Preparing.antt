@@ -2,7 +2,7 @@
 use Rattle.std.specs.Prelude.{◌≡◌, ℕ, Bool, true, false, Option, Some, None, Result, Ok, Err}
 use Rattle.bac_apdu.specs.Apdu.{Apdu, Limits}
 use Rattle.bac_npdu.specs.Peers.{PeerView}
-use Rattle.bac_service.specs.Values as plain
+use Rattle.bac_service.specs.Replies as plain
 use Rattle.bac_service.specs.Values.{Request, choice_of, complex_choice_of}
 use Rattle.bac_service.specs.Replies.{SpellsComplex}
 use Rattle.bac_service.specs.Spellings.{complex_spelling}
@@ -89,14 +89,14 @@ IsPrepared c peer choice limits s (Err reason) x = IsRejected c peer choice reas
 
 abbrev pub IsNoReject : plain.Reply → Type 0
 IsNoReject plain.Reply.Simple = Unit {0}
-IsNoReject (plain.Reply.Whole c) = Unit {0}
+IsNoReject (plain.Reply.Complex c) = Unit {0}
 IsNoReject (plain.Reply.Error class code) = Unit {0}
 IsNoReject (plain.Reply.Reject reason) = ⊥
 
 -- the octets of a reply are a spelling of it
 abbrev pub IsSpelledReply : plain.Reply → Type 0
 IsSpelledReply plain.Reply.Simple = Unit {0}
-IsSpelledReply (plain.Reply.Whole c) = SpellsComplex (complex_choice_of c) c (complex_spelling c)
+IsSpelledReply (plain.Reply.Complex c) = SpellsComplex (complex_choice_of c) c (complex_spelling c)
 IsSpelledReply (plain.Reply.Error class code) = Unit {0}
 IsSpelledReply (plain.Reply.Reject reason) = Unit {0}
 

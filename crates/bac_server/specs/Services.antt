@@ -1,6 +1,6 @@
 -- A store as the service of a server, and what was performed on it, as values.
 use Rattle.std.specs.Prelude.{◌≡◌, ℕ, Option, Some, None, Result, Ok, Err}
-use Rattle.bac_service.specs.Values as plain
+use Rattle.bac_service.specs.Replies as plain
 use Rattle.bac_service.specs.Values.{Request}
 use Rattle.bac_service.specs.Requests.{SpellsRequest}
 use Rattle.bac_service.specs.Services.{request_at}
@@ -17,7 +17,7 @@ use Rattle.bac_ends.specs.Meanings.{MeansReply}
 -- a reply with its service data in octets (clause 21); a store never replies with a Reject
 abbrev pub outcome_of : plain.Reply → Outcome
 outcome_of plain.Reply.Simple = Replies machine.Reply.Simple
-outcome_of (plain.Reply.Whole c) = Replies (machine.Reply.Complex (complex_spelling c))
+outcome_of (plain.Reply.Complex c) = Replies (machine.Reply.Complex (complex_spelling c))
 outcome_of (plain.Reply.Error class code) = Replies (machine.Reply.Error class code)
 outcome_of (plain.Reply.Reject reason) = Rejects reason
 

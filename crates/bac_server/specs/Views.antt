@@ -12,7 +12,7 @@ use Rattle.bac_protocol.specs.Context as context
 use Rattle.bac_protocol.specs.Service as machine
 use Rattle.bac_protocol.specs.Server as server
 use Rattle.bac_ends.specs.Ends.{context_of}
-use Rattle.bac_ends.specs.Sends.{IsShort}
+use Rattle.bac_protocol.specs.Short.{IsShort}
 use Rattle.bac_ends.specs.Views.{settings_view, peer_key_view}
 use Rattle.bac_server.specs.Services.{Performed}
 use Rattle.bac_server.specs.declared.context.Context.{Context}

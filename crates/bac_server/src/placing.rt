@@ -7,7 +7,7 @@ ghost use Rattle.bac_protocol.specs.Server.{reply_piece};
 ghost use Rattle.bac_protocol.specs.Service.Reply.{Complex};
 ghost use Rattle.bac_protocol.specs.Sizes.{reply_way_of, reply_way_in_segments};
 ghost use Rattle.bac_protocol.specs.Sizes.Way.{InSegments};
-ghost use Rattle.bac_ends.specs.Sends.{IsShort};
+ghost use Rattle.bac_protocol.specs.Short.{IsShort};
 ghost use Rattle.bac_server.specs.Preparing.{IsPlaced, IsKept};
 ghost use Rattle.bac_server.specs.Views.{context_view, peer_of, spelled_view, kept_view, ArePiecesShort};
 

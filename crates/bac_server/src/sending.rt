@@ -2,7 +2,8 @@
 ghost use Rattle.std.specs.Prelude.{◌≡◌, ◌∷◌, [], IfOk};
 ghost use Rattle.bac_apdu.specs.Views.{apdu_view};
 ghost use Rattle.bac_protocol.specs.Server.{server_abort, server_ack};
-ghost use Rattle.bac_ends.specs.Sends.{to_peer, to_all, IsSent, IsShort, Pairwise};
+ghost use Rattle.bac_protocol.specs.Short.{IsShort};
+ghost use Rattle.bac_ends.specs.Sends.{to_all, IsSent, Pairwise};
 ghost use Rattle.bac_server.specs.Views.{context_view, peer_of};
 
 use crate::context::Context;

@@ -1,7 +1,6 @@
 -- The request is performed.
-use Rattle.std.proofs.Common.{◌≡◌, ◌∙◌, ap, Some, [], ◌∷◌, ◌++◌, List, ℕ}
+use Rattle.std.proofs.Common.{◌∙◌, ap, Some, [], ◌∷◌, ◌++◌, List, ℕ}
 use Rattle.bac_apdu.specs.Views.{limits_view}
-use Rattle.bac_npdu.specs.Peers.{PeerView}
 use Rattle.bac_protocol.specs.Context.{Context}
 use Rattle.bac_protocol.specs.Server.{begins}
 use Rattle.bac_ends.specs.Sends.{Datagram}

@@ -1,15 +1,15 @@
 -- The plan's reply goes by its way.
-use Rattle.std.proofs.Common.{◌≡◌, ◌∙◌, sym, ap, subst, refl, Bool, true, false, ℕ}
+use Rattle.std.proofs.Common.{◌≡◌, ◌∙◌, sym, ap, subst, refl, true, false}
 use Rattle.bac_apdu.specs.Views.{limits_view}
-use Rattle.bac_service.specs.Values as plain
+use Rattle.bac_service.specs.Replies as plain
 use Rattle.bac_service.specs.Values.{Request}
-use Rattle.bac_service.specs.Views.{owned_request_view, reply_view}
+use Rattle.bac_service.specs.Views.{owned_request_view}
 use Rattle.bac_store.specs.Stores.{Store}
 use Rattle.bac_store.specs.Replies.{reply_to}
 use Rattle.bac_store.specs.Plans.{IsPlanFor}
 use Rattle.bac_protocol.specs.Service.{Reply}
 use Rattle.bac_protocol.specs.Service.Outcome.{Replies}
-use Rattle.bac_protocol.specs.Sizes.{Way, reply_way_of}
+use Rattle.bac_protocol.specs.Sizes.{reply_way_of}
 use Rattle.bac_server.specs.Services.{outcome_of}
 use Rattle.bac_server.specs.Preparing.{is_performed, IsNoReject, IsSpelledReply}
 use Rattle.bac_server.specs.Views.{context_view, spelled_view}

@@ -1,5 +1,5 @@
 -- The whole request is performed.
-use Rattle.std.proofs.Common.{◌≡◌, ◌∷◌, [], ℕ, false, refl, subst}
+use Rattle.std.proofs.Common.{◌∷◌, [], ℕ, false, refl, subst}
 use Rattle.bac_apdu.specs.Views.{limits_view}
 use Rattle.bac_npdu.specs.Peers.{PeerView}
 use Rattle.bac_segment.specs.Pieces.{join}

@@ -1,5 +1,5 @@
 -- A request and a SegmentACK for an entry whose reply goes in segments.
-use Rattle.std.proofs.Common.{◌≡◌, ◌∙◌, rules, sym, ap, subst, Bool, true, false, Some, [], ◌∷◌, if◌then◌else◌}
+use Rattle.std.proofs.Common.{◌∙◌, rules, sym, ap, subst, Bool, Some, [], ◌∷◌, if◌then◌else◌}
 use Rattle.std.specs.Option.{option_map}
 use Rattle.bac_apdu.specs.Apdu.{Apdu}
 use Rattle.bac_apdu.specs.Apdu.Apdu.{SegmentAck}
@@ -10,7 +10,6 @@ use Rattle.bac_protocol.specs.Server as server
 use Rattle.bac_protocol.specs.Server.{Entry, Reaction, State, rests, resumes, segmented_response_gets, server_abort}
 use Rattle.bac_protocol.specs.Server.State.{SegmentedResponse}
 use Rattle.bac_server.specs.Reactions.{Reacts}
-use Rattle.bac_server.specs.Segments.{is_repeated}
 use Rattle.bac_server.specs.Views.{context_view, peer_of, entry_of, transfer_view}
 use Rattle.bac_server.proofs.Copies.{segmented_response_gets_request}
 use Rattle.bac_server.proofs.segmented_response.responding_gets.Goals as goal

@@ -1,4 +1,4 @@
-use Rattle.std.proofs.Common.{◌≡◌, ◌≤◌, ◌-◌, length}
+use Rattle.std.proofs.Common.{◌≤◌, ◌-◌}
 use Rattle.bac_protocol.specs.Wire.{pieces_from}
 use Rattle.bac_protocol.specs.Server.{reply_piece}
 use Rattle.bac_ends.specs.Sends.{Pairwise, IsSent, to_all}
