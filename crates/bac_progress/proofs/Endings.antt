@@ -11,7 +11,8 @@ use Rattle.bac_protocol.specs.Service.{Ending}
 use Rattle.bac_protocol.specs.Service.Ending.{Expired}
 use Rattle.bac_protocol.specs.Wire.{is_from_client, is_from_server}
 use Rattle.bac_protocol.specs.Client as client
-use Rattle.bac_protocol.specs.Client.{Ask, Ticket, is_idle, is_expired, ending_of}
+use Rattle.bac_protocol.specs.Client.{Ask, Phase, Ticket, is_idle, is_expired, ending_of}
+use Rattle.bac_protocol.specs.Client.Phase.{SegmentedRequest, AwaitConfirmation, SegmentedConf, Idle}
 use Rattle.bac_protocol.specs.Client.Reaction.{Stays, Ends}
 use Rattle.bac_protocol.specs.Log.{Fact, Shop, IsUnended, IsOrderly}
 use Rattle.bac_protocol.specs.Log.Fact.{Asked, Performed, Ended}
@@ -21,9 +22,11 @@ use Rattle.bac_protocol.specs.World.{takes_at_client, takes_at_server, arrives, 
 use Rattle.bac_protocol.specs.World.Event.{Tick, Deliver}
 use Rattle.bac_protocol.specs.Claims.{IsBounded}
 use Rattle.bac_protocol.proofs.Dead.{ended_is_silent}
+use Rattle.bac_protocol.proofs.Nets.{sound_at}
+use Rattle.bac_protocol.proofs.Sound.{IsOpenIn}
 use Rattle.bac_protocol.proofs.Headline.{Kept, run_kept, event_kept, start_kept, net_log}
 use Rattle.bac_progress.specs.Runs.{endings_of, IsOnItsWay}
-use Rattle.bac_progress.specs.Ends.{EndsInTime}
+use Rattle.bac_progress.specs.Ends.{EndsInTime, EndingsAreLogged}
 use Rattle.bac_progress.proofs.Paths.{Step, Path, Any, step_log, path_log, clients_path, servers_path, ticket_path, event_steps, run_steps}
 use Rattle.bac_progress.proofs.Paths.Path.{Here, Then}
 use Rattle.bac_progress.proofs.Changes.{HasEnded, ended_grows, IdleIsLogged, logged_path, IsThere, there_step}
@@ -62,6 +65,12 @@ ended_once n (Ended m other ∷ log) o (how, inr k) = go (nat_eq m n) refl (ende
         let none = unended_none n log (subst (λ (k : ℕ). IsUnended k log) same o.1) in
         absurd (omega arith)
 
+open_unended : (n : ℕ) (log : List Fact) (phase : Phase) → is_idle phase ≡ false → IsOpenIn phase n log → IsUnended n log
+open_unended n log (SegmentedRequest out all_sent) e h = h
+open_unended n log AwaitConfirmation e h = h
+open_unended n log (SegmentedConf inc) e h = h
+open_unended n log Idle e h = absurd cc
+
 -- what comes from a server does not come from a client
 pub not_from_client : (a : Apdu) → is_from_server a ≡ true → is_from_client a ≡ false
 not_from_client (ConfirmedRequest limits i g choice o) e = absurd cc
@@ -75,7 +84,7 @@ not_from_client (Reject i r) e = refl
 not_from_client (Abort true i r) e = refl
 not_from_client (Abort false i r) e = absurd cc
 
-contains_tail : (k : Key) (keys : List Key) (key : Key) → Contains (k ∷ keys) key → (k ≡ key) ⊎ Contains keys key
+pub contains_tail : (k : Key) (keys : List Key) (key : Key) → Contains (k ∷ keys) key → (k ≡ key) ⊎ Contains keys key
 contains_tail k keys key (zero, lt, e) = inl e
 contains_tail k keys key (suc i, lt, e) = inr (i, omega arith, e)
 
@@ -241,3 +250,17 @@ module _ (S : Type 0) (shop : Shop S) (opening : ℕ → S) (W : ℕ) (x : Rules
   pub all_end : (events : List Event) → EndsInTime S shop x (run S shop x events (start S opening))
   all_end events = ends_in_time (run S shop x events (start S opening))
       (run_kept S shop opening W x bound events (start S opening) (start_kept S shop opening W x bound)) (idle_in_run events)
+
+  pub endings_in_run : (events : List Event) → EndingsAreLogged (run S shop x events (start S opening)).net
+  endings_in_run events key t at = go (is_idle t.phase) refl
+    where
+      w : World S
+      w = run S shop x events (start S opening)
+
+      s : Kept S shop opening W x bound (run S shop x events (start S opening))
+      s = run_kept S shop opening W x bound events (start S opening) (start_kept S shop opening W x bound)
+
+      go : (b : Bool) → is_idle t.phase ≡ b → endings_of (w.net.numbers key) w.net.log ≡ (if b then 1 else 0)
+      go true e = ended_once (w.net.numbers key) w.net.log (net_log W w.net s.net).orderly (idle_in_run events key t at e)
+      go false e = unended_none (w.net.numbers key) w.net.log
+          (open_unended (w.net.numbers key) w.net.log t.phase e ((sound_at W w.net key (Some t) at s.net).2).unended)

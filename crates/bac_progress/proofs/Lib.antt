@@ -6,4 +6,7 @@ pub mod Serving
 pub mod Kept
 pub mod RoundTrips
 pub mod Waits
+pub mod Ticking
 pub mod Robust
+pub mod Turning
+pub mod Computed

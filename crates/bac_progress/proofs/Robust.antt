@@ -1,13 +1,13 @@
 -- Repeats make an ask robust.
-use Rattle.std.proofs.Common.{◌≡◌, ℕ, zero, suc, ◌+◌, ◌-◌, ◌<◌, ◌≤◌, ◌⊎◌, Bool, true, false, List, [], ◌∷◌, ◌++◌, length, Option, Some, None, slice_get}
+use Rattle.std.proofs.Common.{◌≡◌, ℕ, ◌+◌, ◌-◌, ◌<◌, ◌≤◌, ◌⊎◌, Bool, true, false, List, [], ◌∷◌, ◌++◌, length, Option, Some, None, slice_get}
 use Rattle.std.proofs.Common.{if◌then◌else◌, refl, sym, ap, subst, inl, inr, ◌∙◌, arith}
 use Rattle.std.proofs.lemmas.Bool.Decides.{nat_tests}
+use Rattle.std.specs.List.{Contains}
 use Rattle.bac_apdu.specs.Apdu.{Apdu}
 use Rattle.bac_segment.specs.Pieces.{join}
 use Rattle.bac_protocol.specs.declared.times.TheConstants.{T_OUT, LIFE, KEEP}
 use Rattle.bac_protocol.specs.Service.{Octets, Reply}
 use Rattle.bac_protocol.specs.Service.Ending.{Answered}
-use Rattle.bac_protocol.specs.Wire.{is_from_client}
 use Rattle.bac_protocol.specs.Client as client
 use Rattle.bac_protocol.specs.Client.{Ask, Phase, Ticket, is_idle, request_of}
 use Rattle.bac_protocol.specs.Client.Phase.{AwaitConfirmation}
@@ -16,7 +16,7 @@ use Rattle.bac_protocol.specs.Server.{Entry, is_live, is_none_live}
 use Rattle.bac_protocol.specs.Log.{Fact, Has, Shop}
 use Rattle.bac_protocol.specs.Log.Fact.{Asked, Performed, Ended}
 use Rattle.bac_protocol.specs.Transaction.{Key, Rules, client_context}
-use Rattle.bac_protocol.specs.World.{Net, World, Post, Event, is_deliverable, is_key_held, asked_at, ask_made, reacts, ticks_ticket}
+use Rattle.bac_protocol.specs.World.{World, Post, Event, is_deliverable, is_key_held, asked_at, ask_made}
 use Rattle.bac_protocol.specs.World.{happens, run, start, post_of, later, copies_of, service_of}
 use Rattle.bac_protocol.specs.World.Event.{MakeAsk, Deliver, Tick, Noise, Advance}
 use Rattle.bac_protocol.specs.Claims.{IsBounded}
@@ -29,19 +29,16 @@ use Rattle.bac_protocol.proofs.Keys.{copy_at, set_same}
 use Rattle.bac_progress.specs.Runs.{Throughout, IsOnItsWay}
 use Rattle.bac_progress.specs.RoundTrip.{FitsInOne, CanPerform, HasPerformed, IsServed, request_to, answer_to}
 use Rattle.bac_progress.specs.Repeats.{PATIENCE, FindsServer, IsAnswered, IsWaiting, IsSentAgain, IsRobust, RepeatsSuffice}
-use Rattle.bac_progress.proofs.Paths.{ask_of, Gives, event_steps, run_steps, path_now, path_log, path_posts, run_path}
+use Rattle.bac_progress.proofs.Paths.{some_is, ask_of, Gives, event_steps, run_steps, path_now, path_log, path_posts, run_path}
 use Rattle.bac_progress.proofs.Paths.{Any}
-use Rattle.bac_progress.proofs.Changes.{one_ticket}
 use Rattle.bac_progress.proofs.RoundTrips.{trip}
-use Rattle.bac_progress.proofs.Waits.{IsFine, IsDoneFor, Patient, PatientOrAnswered, Waits, Finds, answered_grows, done_live, repeat_left, tick_repeats}
+use Rattle.bac_progress.proofs.Ticking.{tick_sends}
+use Rattle.bac_progress.proofs.Waits.{IsFine, IsDoneFor, PatientOrAnswered, Waits, Finds, answered_grows, done_live, repeat_left}
 use Rattle.bac_progress.proofs.Waits.{waits_path, got, of_map}
 
-at_end : (xs : List Post) (q : Post) → slice_get (xs ++ q ∷ []) (length xs) ≡ Some q
+pub at_end : (xs : List Post) (q : Post) → slice_get (xs ++ q ∷ []) (length xs) ≡ Some q
 at_end [] q = refl
 at_end (p ∷ xs) q = at_end xs q
-
-one_post : (p q : Post) → Some p ≡ Some q → p ≡ q
-one_post p q e = cc
 
 module _ (S : Type 0) (shop : Shop S) (x : Rules) (key : Key) (ask : Ask) (number : ℕ) (whole : ask.whole ≡ true) where
   abbrev On : World S → Type 0
@@ -55,7 +52,7 @@ module _ (S : Type 0) (shop : Shop S) (x : Rules) (key : Key) (ask : Ask) (numbe
   finds_event w (MakeAsk k choice b front rest) h = tt
   finds_event w (Deliver i free) h = λ p at up arrives m none.
       let f = h m none in
-      let same : p.key ≡ key = ap (λ (y : Post). y.key) (one_post p m.post (sym at ∙ m.at)) ∙ m.key_is in
+      let same : p.key ≡ key = ap (λ (y : Post). y.key) (some_is p m.post (sym at ∙ m.at)) ∙ m.key_is in
       (f.0, (f.1).slot, ap (λ (k : Key). service_of S shop w k ask.choice (join ask.pieces)) same ∙ (f.1).outcome, f.2)
   finds_event w (Tick as_client as_server) h = tt
   finds_event w Noise h = tt
@@ -91,24 +88,21 @@ module _ (S : Type 0) (shop : Shop S) (x : Rules) (key : Key) (ask : Ask) (numbe
 
   -- a tick that is due
   sent_again : (v : World S) → On v → Young v → (t : Ticket) → v.net.tickets key ≡ Some t → t.phase ≡ AwaitConfirmation → T_OUT ≤ v.net.now - t.since
-      → IsSentAgain x key ask t v.net (happens S shop x v (Tick (key ∷ []) [])).net
-  sent_again v h young t at awaits due = go (subst (λ (y : Ticket). PatientOrAnswered x key ask number v.net.now y v.net.log) same h.ticket.state)
+      → (as_client as_server : List Key) → Contains as_client key
+      → IsSentAgain x key ask t v.net (happens S shop x v (Tick as_client as_server)).net
+  sent_again v h young t at awaits due as_client as_server i =
+      go (subst (λ (y : Ticket). PatientOrAnswered x key ask number v.net.now y v.net.log) same h.ticket.state)
     where
       same : h.ticket.ticket ≡ t
-      same = one_ticket h.ticket.ticket t (sym h.ticket.at ∙ at)
+      same = some_is h.ticket.ticket t (sym h.ticket.at ∙ at)
 
-      go : PatientOrAnswered x key ask number v.net.now t v.net.log → IsSentAgain x key ask t v.net (happens S shop x v (Tick (key ∷ []) [])).net
+      go : PatientOrAnswered x key ask number v.net.now t v.net.log
+          → IsSentAgain x key ask t v.net (happens S shop x v (Tick as_client as_server)).net
       go (inr o) = absurd (let z = sym o.0 ∙ ap is_idle awaits in cc)
       go (inl w) =
-          let path : happens S shop x v (Tick (key ∷ []) []) ≡ reacts S v key t (Repeats t.phase (request_to x key ask ∷ [])) =
-            ap (ticks_ticket S x v key) at
-            ∙ ap (reacts S v key t) (tick_repeats x key ask number v.net.now t whole (subst (λ (y : Ticket). y.ask ≡ ask) same h.ticket.is) w young due) in
-          record {
-            left = repeat_left x key ask number v.net.now t w young due;
-            sent = ap (λ (z : World S). z.net.posts) path;
-            ticket = ap (λ (z : World S). z.net.tickets key) path
-                ∙ set_same v.net.tickets key (Some (record t { repeats = t.repeats - 1; since = v.net.now }));
-          }
+          let sends = tick_sends S shop x key ask number whole v t as_client as_server at
+          (subst (λ (y : Ticket). y.ask ≡ ask) same h.ticket.is) w young due h.entry i in
+          record { left = repeat_left x key ask number v.net.now t w young due; sent = sends.copies_are; ticket = sends.ticket }
 
   -- where a copy of the request and the answer that it brings get through
   module _ (opening : ℕ → S) (W : ℕ) (bound : IsBounded W x) where
@@ -170,7 +164,7 @@ module _ (S : Type 0) (shop : Shop S) (x : Rules) (key : Key) (ask : Ask) (numbe
 
         arrives : is_deliverable x u.net.now (length v.net.posts) u.net.posts post ≡ true
         arrives = subst (λ (q : Post). is_deliverable x u.net.now (length v.net.posts) u.net.posts q ≡ true)
-            (one_post m_u.post post (sym m_u.at ∙ in_u)) m_u.arrives
+            (some_is m_u.post post (sym m_u.at ∙ in_u)) m_u.arrives
 
         grown : Grows u.net.log z.net.log
         grown = path_log x Any u.net z.net (event_steps x S shop u (Deliver (length v.net.posts) other))
@@ -184,16 +178,19 @@ module _ (S : Type 0) (shop : Shop S) (x : Rules) (key : Key) (ask : Ask) (numbe
         go (inr o) = answered_grows x key ask number u.net.log z.net.log grown o.1
         go (inl p) =
             let now = (r.served).answered between
-              (record { ticket = on.ticket.ticket; at = on.ticket.at; going = ap is_idle p.waits; in_time = omega arith }) tt (length v.net.posts)
-              (record { post = post; at = in_u; key_is = refl; apdu_is = refl; arrives = arrives }) other in
-            (r.reply, performed, subst (λ (l : List Fact). Has (Ended number (Answered r.reply)) l)
-            (sym (now.log ∙ ap (λ (k : ℕ). Ended k (Answered r.reply) ∷ u.net.log) h.number_is)) (inl refl))
+            (record { ticket = on.ticket.ticket; at = on.ticket.at; going = ap is_idle p.waits; in_time = omega arith }) tt (length v.net.posts)
+            (record { post = post; at = in_u; key_is = refl; apdu_is = refl; arrives = arrives }) other in (
+              r.reply,
+              performed,
+              subst (λ (l : List Fact). Has (Ended number (Answered r.reply)) l)
+                  (sym (now.log ∙ ap (λ (k : ℕ). Ended k (Answered r.reply) ∷ u.net.log) h.number_is)) (inl refl),
+            )
 
     robust : (w : World S) → Kept S shop opening W x bound w → On w → IsRobust S shop x key ask number w
     robust w s h = record {
       waits = λ events served young. waiting_of (run S shop x events w) (run_on events w served h young);
-      repeats = λ events served young t at awaits due.
-          sent_again (run S shop x events w) (run_on events w served h young) young t at awaits due;
+      repeats = λ events as_client as_server served young t at awaits due there.
+          sent_again (run S shop x events w) (run_on events w served h young) young t at awaits due as_client as_server there;
       answered = λ before between i free other answer served young m m_u.
           let sp = split before (Deliver i free) between w served in
           let v = run S shop x before w in

@@ -20,17 +20,16 @@ use Rattle.bac_protocol.specs.Server.State.{Done}
 use Rattle.bac_protocol.specs.Log.{Fact, Has}
 use Rattle.bac_protocol.specs.Log.Fact.{Asked, Performed, Ended}
 use Rattle.bac_protocol.specs.Transaction.{Key, Rules, client_context, server_context, ended, performed}
-use Rattle.bac_protocol.specs.World.{Net, Post, is_deliverable, is_key_held, asked_at, client_acts, server_acts, post_of, set_at, later}
+use Rattle.bac_protocol.specs.World.{Net, Post, is_key_held, asked_at, client_acts, server_acts, post_of, set_at, later}
 use Rattle.bac_protocol.proofs.Facts.{Grows, grows_more}
 use Rattle.bac_protocol.proofs.Keys.{decide_key, set_same, set_other}
 use Rattle.bac_protocol.proofs.Dead.{ended_is_silent}
 use Rattle.bac_progress.specs.Runs.{IsOnItsWay}
 use Rattle.bac_progress.specs.RoundTrip.{FitsInOne, request_to, answer_to}
 use Rattle.bac_progress.specs.Repeats.{IsAnswered, PATIENCE}
-use Rattle.bac_progress.proofs.Paths.{ask_of, Comes, Step, Path, step_now, grows_ended, grows_performed}
+use Rattle.bac_progress.proofs.Paths.{some_is, ask_of, Comes, Step, Path, step_now, grows_ended, grows_performed}
 use Rattle.bac_progress.proofs.Paths.Step.{Asks, Serves, Hears, TicksTicket, TicksEntry, Passes}
 use Rattle.bac_progress.proofs.Paths.Path.{Here, Then}
-use Rattle.bac_progress.proofs.Changes.{one_ticket}
 use Rattle.bac_progress.proofs.Serving.{answer_any_time, answer_not_from_client, answer_ends, performed_entry, answers_first, serves_new, serves_again}
 
 -- Lists of copies.
@@ -115,7 +114,13 @@ module _ (x : Rules) (key : Key) (ask : Ask) (number : ℕ) where
   entry_grows : (now : ℕ) (o : Option Entry) (log new : List Fact) → Grows log new → EntryFits now o log → EntryFits now o new
   entry_grows now o log new g (inl h) = inl h
   entry_grows now o log new g (inr h) = inr (record {
-    entry = h.entry; at = h.at; begun = h.begun; choice = h.choice; request = h.request; reply = h.reply; state = h.state;
+    entry = h.entry;
+    at = h.at;
+    begun = h.begun;
+    choice = h.choice;
+    request = h.request;
+    reply = h.reply;
+    state = h.state;
     given = (h.given.0, g (Performed number (request_of ask) h.reply) h.given.1);
   })
 
@@ -214,7 +219,7 @@ module _ (x : Rules) (key : Key) (ask : Ask) (number : ℕ) where
   -- what is known of the ticket, by its name
   known : (n : Net) (t : Ticket) → n.tickets key ≡ Some t → Waits n → (t.ask ≡ ask) × PatientOrAnswered n.now t n.log
   known n t at h =
-      let same : h.ticket.ticket ≡ t = one_ticket h.ticket.ticket t (sym h.ticket.at ∙ at) in
+      let same : h.ticket.ticket ≡ t = some_is h.ticket.ticket t (sym h.ticket.at ∙ at) in
       (subst (λ (y : Ticket). y.ask ≡ ask) same h.ticket.is, subst (λ (y : Ticket). PatientOrAnswered n.now y n.log) same h.ticket.state)
 
   hears_answer : (n : Net) → InPatience n → (p : Reply) → WasGiven p n.log → (t : Ticket) → t.ask ≡ ask → PatientOrAnswered n.now t n.log
@@ -230,11 +235,11 @@ module _ (x : Rules) (key : Key) (ask : Ask) (number : ℕ) where
       (record { ticket = record t { phase = Idle }; at = refl; is = is; state = inr (refl, (p, inr given.1, inl refl)) }, tt)
 
   -- a tick's tests
-  ticks_by : (now : ℕ) (t : Ticket) → t.ask ≡ ask → Patient now t → now < ask.first + PATIENCE → client.client_ticks (client_context x key now) t
+  pub ticks_by : (now : ℕ) (t : Ticket) → t.ask ≡ ask → Patient now t → now < ask.first + PATIENCE → client.client_ticks (client_context x key now) t
       ≡ (if nat_le T_OUT (now - t.since) then client.repeats (client_context x key now) t else Stays)
   ticks_by now t is w young =
       ap (λ (ph : Phase). if is_idle ph then Stays else if is_expired now t.ask then Ends [] Expired
-          else client.open_ticks (client_context x key now) t ph) w.waits
+      else client.open_ticks (client_context x key now) t ph) w.waits
       ∙ ap (λ b. if b then Ends [] Expired else client.open_ticks (client_context x key now) t AwaitConfirmation) in_time
     where
       in_time : is_expired now t.ask ≡ false
@@ -267,7 +272,7 @@ module _ (x : Rules) (key : Key) (ask : Ask) (number : ℕ) where
       left : nat_eq t.repeats 0 ≡ false
       left = let some = repeat_left now t w young due in grind (arith, nat_tests)
 
-  patient_on : (now : ℕ) (t : Ticket) → Patient now t → now < ask.first + PATIENCE → T_OUT ≤ now - t.since
+  pub patient_on : (now : ℕ) (t : Ticket) → Patient now t → now < ask.first + PATIENCE → T_OUT ≤ now - t.since
       → Patient now (after now t (Repeats t.phase (request_to x key ask ∷ [])))
   patient_on now t w young due = record { waits = w.waits; few = let f = w.few in omega arith; since = steps t.repeats w.few w.since; passed = omega arith }
     where
@@ -307,7 +312,14 @@ module _ (x : Rules) (key : Key) (ask : Ask) (number : ℕ) where
       → ServerGoal n (record { entry = Some d.entry; sends = sends; effect = None })
   kept_goal n o d sends fine = (
     inr (record {
-      entry = d.entry; at = refl; begun = d.begun; choice = d.choice; request = d.request; reply = d.reply; state = d.state; given = d.given;
+      entry = d.entry;
+      at = refl;
+      begun = d.begun;
+      choice = d.choice;
+      request = d.request;
+      reply = d.reply;
+      state = d.state;
+      given = d.given;
     }),
     fine,
   )
@@ -320,11 +332,19 @@ module _ (x : Rules) (key : Key) (ask : Ask) (number : ℕ) where
       let y = finds none in
       subst (ServerGoal n) (sym (ap (gets_request n service (n.entries key)) y.1
       ∙ serves_new (server_context x key n.now) cl service (n.entries key) ask y.0 none y.2 (y.3).way
-      ∙ ap (λ (a : Apdu). answers_first (performed_entry n.now cl ask a) ask y.0 a) (answer_any_time x key n.now ask.first ask.choice y.0)))
-      (inr (record {
-        entry = performed_entry n.now cl ask (answer_to x key ask y.0);
-        at = refl; begun = h.clock; choice = refl; request = refl; reply = y.0; state = refl; given = (y.3, inl refl);
-      }), (inr (y.0, refl, (y.3, inl refl)), tt))
+      ∙ ap (λ (a : Apdu). answers_first (performed_entry n.now cl ask a) ask y.0 a) (answer_any_time x key n.now ask.first ask.choice y.0))) (
+        inr (record {
+          entry = performed_entry n.now cl ask (answer_to x key ask y.0);
+          at = refl;
+          begun = h.clock;
+          choice = refl;
+          request = refl;
+          reply = y.0;
+          state = refl;
+          given = (y.3, inl refl);
+        }),
+        (inr (y.0, refl, (y.3, inl refl)), tt),
+      )
   serves_request n h young service free finds (inr d) =
       subst (ServerGoal n) (sym (ap (λ (o : Option Entry). gets_request n service o free) d.at
       ∙ serves_again (server_context x key n.now) (client_context x key ask.first) service d.entry free ask (answer_to x key ask d.reply)

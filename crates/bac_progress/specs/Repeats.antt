@@ -1,6 +1,7 @@
 -- Repeats suffice, for a request of one APDU (clause 5.4.4.3): it is sent up to four times, T_OUT apart or more, and one that gets through with its answer
 -- is enough.
-use Rattle.std.specs.Prelude.{◌≡◌, ℕ, ◌+◌, ◌-◌, ◌<◌, ◌≤◌, ◌⊎◌, Bool, true, false, List, [], ◌∷◌, ◌++◌, length, Some}
+use Rattle.std.specs.Prelude.{◌≡◌, ℕ, ◌+◌, ◌-◌, ◌<◌, ◌≤◌, ◌⊎◌, Bool, true, false, List, ◌∷◌, ◌++◌, length, Some}
+use Rattle.std.specs.List.{Contains}
 use Rattle.bac_apdu.specs.Apdu.{Apdu}
 use Rattle.bac_protocol.specs.declared.times.TheConstants.{T_OUT}
 use Rattle.bac_protocol.specs.Service.{Octets, Reply}
@@ -11,7 +12,7 @@ use Rattle.bac_protocol.specs.Server.{is_none_live}
 use Rattle.bac_protocol.specs.Log.{Fact, Has, Shop}
 use Rattle.bac_protocol.specs.Log.Fact.{Performed, Ended}
 use Rattle.bac_protocol.specs.Transaction.{Key, Rules}
-use Rattle.bac_protocol.specs.World.{Net, World, Event, is_key_held, happens, run, post_of}
+use Rattle.bac_protocol.specs.World.{Net, World, Event, is_key_held, copies_of, happens, run}
 use Rattle.bac_protocol.specs.World.Event.{MakeAsk, Deliver, Tick}
 use Rattle.bac_progress.specs.Runs.{Throughout, IsOnItsWay}
 use Rattle.bac_progress.specs.RoundTrip.{FitsInOne, CanPerform, request_to}
@@ -38,10 +39,10 @@ pub record IsWaiting (n : Net) (key : Key) (ask : Ask) : Type 0 where
   pub ask_is : ticket.ask ≡ ask
   pub waits : ticket.phase ≡ AwaitConfirmation
 
--- a repeat was left, and was used: the request is sent again, and the timer is set anew
+-- a repeat was left, and was used: of this transaction the request is sent again and nothing else, and the timer is set anew
 pub record IsSentAgain (x : Rules) (key : Key) (ask : Ask) (t : Ticket) (old new : Net) : Type 0 where
   pub left : 0 < t.repeats
-  pub sent : new.posts ≡ old.posts ++ post_of key old.now (request_to x key ask) ∷ []
+  pub sent : copies_of key new.posts ≡ record { moment = old.now; apdu = request_to x key ask } ∷ copies_of key old.posts
   pub ticket : new.tickets key ≡ Some (record t { repeats = t.repeats - 1; since = old.now })
 
 -- ask n, of one APDU, was made in this world; until PATIENCE has passed, and as long as each copy of it that is delivered finds its server:
@@ -49,11 +50,11 @@ pub record IsRobust (S : Type 0) (shop : Shop S) (x : Rules) (key : Key) (ask : 
   -- it is waited for or answered, whatever is lost, repeated, reordered or asked of others
   pub waits : (events : List Event) → Throughout S shop x (FindsServer S shop x key ask) events asked
       → (let v = run S shop x events asked in v.net.now < ask.first + PATIENCE → IsWaiting v.net key ask ⊎ IsAnswered n ask v.net.log)
-  -- a tick that is due sends it again
-  pub repeats : (events : List Event) → Throughout S shop x (FindsServer S shop x key ask) events asked
+  -- a tick of its client that is due sends it again
+  pub repeats : (events : List Event) (as_client as_server : List Key) → Throughout S shop x (FindsServer S shop x key ask) events asked
       → (let v = run S shop x events asked in v.net.now < ask.first + PATIENCE
       → (t : Ticket) → v.net.tickets key ≡ Some t → t.phase ≡ AwaitConfirmation → T_OUT ≤ v.net.now - t.since
-      → IsSentAgain x key ask t v.net (happens S shop x v (Tick (key ∷ []) [])).net)
+      → Contains as_client key → IsSentAgain x key ask t v.net (happens S shop x v (Tick as_client as_server)).net)
   -- where any copy of it and then the copy that this delivery sent are delivered, it is answered
   pub answered : (before between : List Event) (number : ℕ) (free other : Bool) (answer : Apdu)
       → (let v = run S shop x before asked in let u = run S shop x between (happens S shop x v (Deliver number free)) in
@@ -66,4 +67,4 @@ abbrev pub RepeatsSuffice : (S : Type 0) → Shop S → Rules → World S → Ty
 RepeatsSuffice S shop x w =
     (key : Key) (choice : ℕ) (front : Octets) (rest : List Octets) → is_key_held w.net.now (w.net.tickets key) ≡ false
     → IsRobust S shop x key (record { first = w.net.now; choice = choice; whole = true; pieces = front ∷ rest }) w.net.asks
-        (happens S shop x w (MakeAsk key choice true front rest))
+    (happens S shop x w (MakeAsk key choice true front rest))

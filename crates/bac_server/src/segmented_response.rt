@@ -122,9 +122,9 @@ fn ack_comes(
     window: Window,
 ) -> Result<Reaction, Entry>
     requires { ArePiecesShort outgoing }
-    ensures { (s : Objects) → Reacts (segmented_response_gets_ack (context_view context.now) (entry_of origin (SegmentedResponse outgoing (transfer_view transfer) since))
-        outgoing (transfer_view transfer) number window.size) (peer_of context.now)
-        (entry_of origin (SegmentedResponse outgoing (transfer_view transfer) since)) s result s }
+    ensures { (s : Objects) → Reacts (segmented_response_gets_ack (context_view context.now)
+        (entry_of origin (SegmentedResponse outgoing (transfer_view transfer) since)) outgoing (transfer_view transfer) number window.size)
+        (peer_of context.now) (entry_of origin (SegmentedResponse outgoing (transfer_view transfer) since)) s result s }
 {
     let Transfer::Running = transfer else {
         let entry = kept(origin, outgoing, transfer, since);
@@ -158,9 +158,9 @@ pub(crate) fn responding_gets(
     apdu: &Apdu<'_>,
 ) -> Result<Reaction, Entry>
     requires { ArePiecesShort outgoing }
-    ensures { (s : Objects) → Reacts (segmented_response_gets (context_view context.now) (entry_of origin (SegmentedResponse outgoing (transfer_view transfer) since))
-        outgoing (transfer_view transfer) since (apdu_view apdu.now)) (peer_of context.now)
-        (entry_of origin (SegmentedResponse outgoing (transfer_view transfer) since)) s result s }
+    ensures { (s : Objects) → Reacts (segmented_response_gets (context_view context.now)
+        (entry_of origin (SegmentedResponse outgoing (transfer_view transfer) since)) outgoing (transfer_view transfer) since (apdu_view apdu.now))
+        (peer_of context.now) (entry_of origin (SegmentedResponse outgoing (transfer_view transfer) since)) s result s }
 {
     match *apdu {
         Apdu::ConfirmedRequest {

@@ -24,6 +24,7 @@ returns-clause-does c = λ dead.
       state = state_view c.args.terms.choice c.in_ok-state.field-0.state;
     })
     c.in_ok-request.ensures.items in
-    rw c.if-not-free.false (performed set (peer_of c.args.context.now) (begins set c.args.terms.choice (limits_view c.args.terms.limits) (Some c.args.octets.now))
+    rw c.if-not-free.false (performed set (peer_of c.args.context.now)
+    (begins set c.args.terms.choice (limits_view c.args.terms.limits) (Some c.args.octets.now))
     [] c.args.octets.now c.args.store.now (found_view c.in_ok-found.found) c.in_ok-state.field-0 _ [] _ _ _ c.in_ok-found.ensures c.in_ok-state.ensures tt
     sent entry c.commit-effect.ensures.effect c.commit-effect.ensures.store)
