@@ -1,0 +1,4 @@
+pub mod Services
+pub mod Node
+pub mod Once
+pub mod World
