@@ -5,3 +5,12 @@ pub mod Logs
 pub mod Bridge
 pub mod Steps
 pub mod Table
+pub mod Serving
+pub mod Hearing
+pub mod Clients
+pub mod Asking
+pub mod Changes
+pub mod ClientTick
+pub mod ServerTick
+pub mod Ticking
+pub mod Headline
