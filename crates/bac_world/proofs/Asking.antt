@@ -1,5 +1,5 @@
 -- An accepted ask.
-use Rattle.std.proofs.Common.{◌≡◌, ℕ, zero, suc, ◌+◌, ◌-◌, ◌≤◌, ◌<◌, ◌⊎◌, Bool, true, false, ◌&&◌, List, [], ◌∷◌, ◌++◌, map, length, Option, Some, None}
+use Rattle.std.proofs.Common.{◌≡◌, ℕ, zero, suc, ◌+◌, ◌<◌, ◌⊎◌, Bool, true, false, ◌&&◌, List, [], ◌∷◌, ◌++◌, map, length, Option, Some, None}
 use Rattle.std.proofs.Common.{slice_get, if◌then◌else◌, nat_eq, refl, sym, ap, subst, inl, inr, ◌∙◌, arith}
 use Rattle.std.proofs.lemmas.Bool.Decides.{nat_tests}
 use Rattle.bac_apdu.specs.Apdu.{Apdu, Limits}
@@ -18,7 +18,7 @@ use Rattle.bac_protocol.specs.Claims.{IsBounded}
 use Rattle.bac_protocol.proofs.Keys.{set_same, set_other, decide_key}
 use Rattle.bac_protocol.proofs.Own.{client_sends_own}
 use Rattle.bac_protocol.proofs.Short.{requests_are_short}
-use Rattle.bac_slots.specs.Slots.{value_at, keep, IsDistinct}
+use Rattle.bac_slots.specs.Slots.{value_at, keep}
 use Rattle.bac_ends.specs.Keys.{PeerKey, same_key}
 use Rattle.bac_ends.specs.Sends.{Pairwise, IsSent}
 use Rattle.bac_ends.specs.Ends.{Client, ClientEnd, kept, is_held, is_held_there, is_id_held, least_not, has_no_slot}
@@ -28,7 +28,7 @@ use Rattle.bac_ends.proofs.Holding.{held_is}
 use Rattle.bac_world.specs.Node.{Node}
 use Rattle.bac_world.specs.Once.{Fact, Stores, IsOnce}
 use Rattle.bac_world.specs.World.{World, Note, Copy, stores_of, newest, ask_of, peer_at, IsCopied, IsAsked}
-use Rattle.bac_world.proofs.Slots.{EachSlot, slot, passing, passing_value, passing_distinct, put_same, put_other, put_distinct}
+use Rattle.bac_world.proofs.Slots.{slot, passing, passing_value, passing_distinct, put_same, put_other, put_distinct}
 use Rattle.bac_world.proofs.Slots.{each_at, each_so, each_passing, each_put}
 use Rattle.bac_world.proofs.Machines.{Sound, counted, asked}
 use Rattle.bac_world.proofs.Pairs.{pairwise_join, append_none}
@@ -187,20 +187,20 @@ module _ (links : ℕ → Option Octets) (apart : (i j : ℕ) (l : Octets) → l
 
     fit : TicketFits n.now (note ∷ notes) key.client (m.numbers key) (value_at same_key p ended.slots) (m.tickets key)
     fit = subst (λ (o : Option Client). TicketFits n.now (note ∷ notes) key.client (m.numbers key) o (m.tickets key))
-            (sym (put_same Client p n.now client (passing Client (holds n.now) e.slots) gone))
+        (sym (put_same Client p n.now client (passing Client (holds n.now) e.slots) gone))
         (subst (λ (o : Option Ticket). TicketFits n.now (note ∷ notes) key.client (m.numbers key) (Some client) o)
-            (sym (set_same n.tickets key (Some made))) (record { held = refl; noted = λ still_open. own }))
+        (sym (set_same n.tickets key (Some made))) (record { held = refl; noted = λ still_open. own }))
 
     found : (s : ℕ) (l' : Octets) (id : ℕ) → links s ≡ Some l' → ((key ≡ key_of key.client s id) ⊎ (key ≡ key_of key.client s id → ⊥))
         → TicketFits n.now (note ∷ notes) key.client (m.numbers (key_of key.client s id)) (value_at same_key (slot_key l' id) ended.slots)
-            (m.tickets (key_of key.client s id))
+        (m.tickets (key_of key.client s id))
     found s l' id at' (inl is) =
         let link : l ≡ l' = let f : Some l ≡ Some l' = sym at ∙ ap (λ (k : Key). links k.server) is ∙ at' in cc in
         let moved : TicketFits n.now (note ∷ notes) key.client (m.numbers (key_of key.client s id)) (value_at same_key p ended.slots)
         (m.tickets (key_of key.client s id)) =
         subst (λ (k : Key). TicketFits n.now (note ∷ notes) key.client (m.numbers k) (value_at same_key p ended.slots) (m.tickets k)) is fit in
         subst (λ (q : PeerKey). TicketFits n.now (note ∷ notes) key.client (m.numbers (key_of key.client s id)) (value_at same_key q ended.slots)
-            (m.tickets (key_of key.client s id))) (λ j. slot_key (link j) (is j).invoke_id) moved
+        (m.tickets (key_of key.client s id))) (λ j. slot_key (link j) (is j).invoke_id) moved
     found s l' id at' (inr ne) =
         let other : p ≡ slot_key l' id → ⊥ = λ is.
         let link : l ≡ l' = ap (λ (q : PeerKey). q.peer.link) is in
@@ -216,9 +216,9 @@ module _ (links : ℕ → Option Octets) (apart : (i j : ℕ) (l : Octets) → l
         fits_kept n.now (note ∷ notes) key.client (n.numbers k) (value_at same_key q e.slots) (n.tickets k) before in
         subst (λ (o : Option Client). TicketFits n.now (note ∷ notes) key.client (m.numbers k) o (m.tickets k)) (sym look)
         (subst (λ (y : ℕ). TicketFits n.now (note ∷ notes) key.client y (keep (holds n.now) (value_at same_key q e.slots)) (m.tickets k))
-            (sym (set_other n.numbers key n.asks k ne))
+        (sym (set_other n.numbers key n.asks k ne))
         (subst (λ (o : Option Ticket). TicketFits n.now (note ∷ notes) key.client (n.numbers k) (keep (holds n.now) (value_at same_key q e.slots)) o)
-            (sym (set_other n.tickets key (Some made) k ne)) after))
+        (sym (set_other n.tickets key (Some made) k ne)) after))
 
     pub ask_fits : ClientsFit links apart n.now (note ∷ notes) (asked_at x n key ask) key.client ended
     ask_fits = record {
@@ -248,7 +248,7 @@ module _ (links : ℕ → Option Octets) (apart : (i j : ℕ) (l : Octets) → l
             (λ z is. ap (λ b. b && nat_eq e.asked z.number) (differ key.client j (λ same. ne (sym same)))) (f.clients.found s l' id at') in
             subst (λ (y : ℕ). TicketFits n.now (note ∷ notes) j y (value_at same_key q a.clients.slots) (m.tickets k)) (sym (set_other n.numbers key n.asks k away))
             (subst (λ (o : Option Ticket). TicketFits n.now (note ∷ notes) j (n.numbers k) (value_at same_key q a.clients.slots) o)
-                (sym (set_other n.tickets key (Some made) k away)) before);
+            (sym (set_other n.tickets key (Some made) k away)) before);
       };
       servers = record { distinct = f.servers.distinct; known = f.servers.known; found = f.servers.found };
     }

@@ -1,5 +1,5 @@
 -- All slots of an end go on, one by one, in ascending order of keys: what is found while some have and others have not.
-use Rattle.std.proofs.Common.{◌≡◌, ◌⊎◌, ℕ, List, [], ◌∷◌, Option, Some, None, refl, sym, ap, subst, inl, inr, ◌∙◌}
+use Rattle.std.proofs.Common.{◌≡◌, ◌⊎◌, ℕ, List, ◌∷◌, Option, Some, None, refl, sym, ap, subst, inl, inr, ◌∙◌}
 use Rattle.bac_slots.specs.declared.slot.Slot.{Slot}
 use Rattle.bac_slots.specs.Slots.{value_at, in_order, IsApart, IsDistinct}
 use Rattle.bac_ends.specs.Keys.{PeerKey, peer_key_cmp, same_key}

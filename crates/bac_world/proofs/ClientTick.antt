@@ -79,7 +79,7 @@ module _ (links : ℕ → Option Octets) (apart : (i j : ℕ) (l : Octets) → l
         let v : Client = record { number = k; held = Closed first } in
         again distinct.1 known.1 (change_rest Client tick all p begin v os distinct.0 change) copies log m
         (reached_alike links apart W x w i n (look Client tick all (slot Client p begin v ∷ os)) (look Client tick all os) copies log m
-            (look_same Client tick all p begin v os distinct.0 change refl) r)
+        (look_same Client tick all p begin v os distinct.0 change refl) r)
         ds cs fs log' sent copied finished logged
 
     one_open : (t : client.Ticket) → Folds (slot Client (slot_key l id) begin (record { number = k; held = Open t }) ∷ os)
@@ -95,7 +95,7 @@ module _ (links : ℕ → Option Octets) (apart : (i j : ℕ) (l : Octets) → l
         let next = reacts links apart W x bound w n key l li from at (look Client tick all (slot Client p begin v ∷ os)) (look Client tick all os)
         copies log m r h.linked k t (look_first Client tick all p begin v os) did
         (λ is. subst (λ (z : ℕ). Sound x (client_acts m key t (client_ticks (client_context x key z) t))) r.now
-            (ticks_at_client W x bound m r.sound key t is))
+        (ticks_at_client W x bound m r.sound key t is))
         (client_sends_own.ticks (client_context x key n.now) t)
         (look_here Client tick all p begin v os distinct.0 change)
         (λ q ne. look_next Client tick all p begin v os q ne)

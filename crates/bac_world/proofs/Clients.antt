@@ -33,7 +33,7 @@ use Rattle.bac_world.proofs.Slots.{EachSlot, with_same, with_other, with_distinc
 use Rattle.bac_world.proofs.Machines.{gets_at_client}
 use Rattle.bac_world.proofs.Pairs.{pairwise_none, append_none}
 use Rattle.bac_world.proofs.Logs.{FactMeans}
-use Rattle.bac_world.proofs.Bridge.{NodeFits, IsKnown, IsCopyOf, TicketFits, key_of, slot_key}
+use Rattle.bac_world.proofs.Bridge.{IsKnown, IsCopyOf, TicketFits, key_of, slot_key}
 use Rattle.bac_world.proofs.Steps.{Over, Fits, Goes, acts_over, once_same, stores_same}
 use Rattle.bac_world.proofs.Hearing.{Reached, reached_none, reacts, ticket_at, closed_idle}
 
@@ -111,7 +111,7 @@ module _ (links : ℕ → Option Octets) (apart : (i j : ℕ) (l : Octets) → l
       → is_from_client p.copy.apdu ≡ false → c.from ≡ p.key.server → c.to ≡ p.key.client
       → (a b : Node) (o : Outcome) → slice_get w.nodes c.to ≡ Some a → (l : Octets) → links c.from ≡ Some l
       → IsClientTurn (client_hears_at a.settings reads_reply w.now p.copy.apdu a.clients (slot_key l (invoke_id_of p.copy.apdu))
-          (value_at same_key (slot_key l (invoke_id_of p.copy.apdu)) a.clients.slots)) w.now a b o
+      (value_at same_key (slot_key l (invoke_id_of p.copy.apdu)) a.clients.slots)) w.now a b o
       → Acts w c.to b o w' → Goes links apart W x w w' (taken_by_client x n p (n.tickets p.key))
   hears bound readable w w' n h number p c at copied young few down from_is to_is a b o node l link turn acts =
       go (value_at same_key q a.clients.slots) refl turn'
@@ -170,18 +170,18 @@ module _ (links : ℕ → Option Octets) (apart : (i j : ℕ) (l : Octets) → l
           (arrived w w' n h key.client a b o node' acts' turn.performed made turn.node
           (with_distinct Client q (client_after n.now k t r) a.clients.slots fits.clients.distinct)
           (each_with Client Known q (client_after n.now k t r) a.clients.slots
-              (each_at Client Known q (record { number = k; held = Open t }) a.clients.slots fits.clients.known found) fits.clients.known)
+          (each_at Client Known q (record { number = k; held = Open t }) a.clients.slots fits.clients.known found) fits.clients.known)
           (client_acts n key t r)
           (reacts links apart W x bound w n key l a.link fits.link server_at (λ y. value_at same_key y a.clients.slots)
-              (λ y. value_at same_key y made.slots) w.copies w.log n
-              (reached_none links apart W x w n h key.client a fits) h.linked k t found r
-              (λ is. gets_at_client W x bound n h.sound number p at young few down (λ choice octets. machine.Outcome.Rejects 0) t is)
-              (client_sends_own.gets context x.readable t apdu)
-              (with_same Client q (client_after n.now k t r) (record { number = k; held = Open t }) a.clients.slots found)
-              (λ y ne. with_other Client q y (client_after n.now k t r) a.clients.slots ne)
-              o.sends acts'.sent turn.sends
-              (subst (λ (tm : ℕ). Pairwise (IsCopied w.nodes tm key.client) o.sends acts'.sent) (sym h.now) acts'.copied)
-              o.ended acts'.between turn.ended acts'.ended))
+          (λ y. value_at same_key y made.slots) w.copies w.log n
+          (reached_none links apart W x w n h key.client a fits) h.linked k t found r
+          (λ is. gets_at_client W x bound n h.sound number p at young few down (λ choice octets. machine.Outcome.Rejects 0) t is)
+          (client_sends_own.gets context x.readable t apdu)
+          (with_same Client q (client_after n.now k t r) (record { number = k; held = Open t }) a.clients.slots found)
+          (λ y ne. with_other Client q y (client_after n.now k t r) a.clients.slots ne)
+          o.sends acts'.sent turn.sends
+          (subst (λ (tm : ℕ). Pairwise (IsCopied w.nodes tm key.client) o.sends acts'.sent) (sym h.now) acts'.copied)
+          o.ended acts'.between turn.ended acts'.ended))
         where
           Known : PeerKey → Client → Type 0
           Known y z = IsKnown links apart y × (z.number < a.clients.asked)

@@ -24,7 +24,7 @@ use Rattle.bac_ends.specs.Ends.{Client}
 use Rattle.bac_world.specs.Services.{service_of}
 use Rattle.bac_world.specs.Node.{Node, Outcome, IsDropped, IsHeard, IsHeardBy, NodeOn}
 use Rattle.bac_world.specs.Once.{Fact, Stores, IsOnce}
-use Rattle.bac_world.specs.World.{World, Event, Copy, Note, link_at, stores_of, later, peer_at, Acts, DeliversIf, Delivers, IsDelivered, HearsNoise}
+use Rattle.bac_world.specs.World.{World, Event, Copy, Note, link_at, stores_of, later, peer_at, Acts, DeliversIf, Delivers, HearsNoise}
 use Rattle.bac_world.specs.World.{WorldStep, WorldRun, IsFresh, IsBounded}
 use Rattle.bac_world.specs.World.Event.{Ask, Deliver, Noise, Tick, Advance}
 use Rattle.bac_world.proofs.Slots.{EachSlot}
@@ -47,9 +47,11 @@ module _ (links : ℕ → Option Octets) (apart : (i j : ℕ) (l : Octets) → l
 
   dropped : (w w' : World) (n : Net) → Over links apart W x w n → (i : ℕ) (a b : Node) (o : Outcome) → slice_get w.nodes i ≡ Some a → Acts w i b o w'
       → (from octets : Octets) → IsDropped w.now from octets a b o → Next links apart W x w w'
-  dropped w w' n h i a b o at acts from octets d =
-      (n, quiet links apart W x w w' n h i a b o at acts (ap (λ (y : Outcome). y.performed) d.outcome)
-          (ap (λ (y : Outcome). y.sends) d.outcome) (ap (λ (y : Outcome). y.ended) d.outcome) d.node)
+  dropped w w' n h i a b o at acts from octets d = (
+    n,
+    quiet links apart W x w w' n h i a b o at acts (ap (λ (y : Outcome). y.performed) d.outcome)
+        (ap (λ (y : Outcome). y.sends) d.outcome) (ap (λ (y : Outcome). y.ended) d.outcome) d.node,
+  )
 
   -- a copy that may arrive is heard
   module _ (w w' : World) (n : Net) (h : Over links apart W x w n) (number : ℕ) (p : Post) (c : Copy) (at : slice_get n.posts number ≡ Some p)
@@ -122,34 +124,37 @@ module _ (links : ℕ → Option Octets) (apart : (i j : ℕ) (l : Octets) → l
       sym (dead_is_none.later now (now + by) a le) ∙ ap (live_entry (now + by)) h ∙ dead_is_none.later now (now + by) b le
 
   advanced : (w : World) (n : Net) → Over links apart W x w n → (by : ℕ) → Next links apart W x w (record w { now = w.now + by })
-  advanced w n h by = (record n { now = n.now + by }, record {
-    bridge = record {
-      now = ap (λ (t : ℕ). t + by) h.now;
-      asks = h.asks;
-      linked = h.linked;
-      nodes = λ i a at. let f = h.nodes i a at in record {
-        settings = f.settings;
-        link = f.link;
-        clients = record {
-          distinct = f.clients.distinct;
-          known = f.clients.known;
-          found = λ s l id at'. ticket_later n.now by w.notes i (n.numbers (key_of i s id)) (value_at same_key (slot_key l id) a.clients.slots)
-              (n.tickets (key_of i s id)) (f.clients.found s l id at');
+  advanced w n h by = (
+    record n { now = n.now + by },
+    record {
+      bridge = record {
+        now = ap (λ (t : ℕ). t + by) h.now;
+        asks = h.asks;
+        linked = h.linked;
+        nodes = λ i a at. let f = h.nodes i a at in record {
+          settings = f.settings;
+          link = f.link;
+          clients = record {
+            distinct = f.clients.distinct;
+            known = f.clients.known;
+            found = λ s l id at'. ticket_later n.now by w.notes i (n.numbers (key_of i s id)) (value_at same_key (slot_key l id) a.clients.slots)
+                (n.tickets (key_of i s id)) (f.clients.found s l id at');
+          };
+          servers = record {
+            distinct = f.servers.distinct;
+            known = f.servers.known;
+            found = λ c l id at'. entry_later n.now by (value_at same_key (slot_key l id) a.servers.slots) (n.entries (key_of c i id))
+                (f.servers.found c l id at');
+          };
         };
-        servers = record {
-          distinct = f.servers.distinct;
-          known = f.servers.known;
-          found = λ c l id at'. entry_later n.now by (value_at same_key (slot_key l id) a.servers.slots) (n.entries (key_of c i id))
-              (f.servers.found c l id at');
-        };
+        noted = h.noted;
+        posts = h.posts;
+        log = h.log;
+        sound = passed W x bound n by h.sound;
       };
-      noted = h.noted;
-      posts = h.posts;
-      log = h.log;
-      sound = passed W x bound n by h.sound;
-    };
-    once = λ opening once. once;
-  })
+      once = λ opening once. once;
+    },
+  )
 
   -- Runs.
 
@@ -217,6 +222,6 @@ pub headline : (W overtake : ℕ) (w w' : World) → IsFresh w → IsBounded W o
     → IsOnce (stores_of w.nodes) w'.log (stores_of w'.nodes)
 headline W overtake w w' h b events run =
     (run_over (link_at w.nodes) h.apart W (rules_of overtake w) (rules_bounded W overtake w b) refl (stores_of w.nodes) events w w' net_start
-        (fresh_over W overtake w h b)
-        (subst (λ (l : List Fact). IsOnce (stores_of w.nodes) l (stores_of w.nodes)) (sym h.log) (λ node. refl))
-        run).2
+    (fresh_over W overtake w h b)
+    (subst (λ (l : List Fact). IsOnce (stores_of w.nodes) l (stores_of w.nodes)) (sym h.log) (λ node. refl))
+    run).2

@@ -17,7 +17,7 @@ use Rattle.bac_slots.specs.Slots.{value_at}
 use Rattle.bac_ends.specs.Keys.{PeerKey, same_key}
 use Rattle.bac_ends.specs.Sends.{Datagram, Pairwise, IsSent, to_all}
 use Rattle.bac_ends.specs.Meanings.{Finish, IsFinish}
-use Rattle.bac_ends.specs.Ends.{Client, Held, kept, open_unless, ended_with, client_after}
+use Rattle.bac_ends.specs.Ends.{Client, kept, open_unless, ended_with, client_after}
 use Rattle.bac_ends.specs.Ends.Held.{Open, Closed}
 use Rattle.bac_world.specs.Node.{Node}
 use Rattle.bac_world.specs.Once.{Fact, Stores, IsOnce, MayEnd}
@@ -122,7 +122,7 @@ module _ (links : ℕ → Option Octets) (apart : (i j : ℕ) (l : Octets) → l
     is : (m.tickets key ≡ Some t) × (ask_of key.client number w.notes ≡ Some (m.numbers key))
     is = ticket_at n.now w.notes key.client (m.numbers key) number t (m.tickets key)
         (subst (λ (o : Option Client). TicketFits n.now w.notes key.client (m.numbers key) o (m.tickets key)) there
-            (h.found key.server l key.invoke_id to_at))
+        (h.found key.server l key.invoke_id to_at))
 
     sound : Sound x (client_acts m key t r)
     sound = goes is.0
@@ -144,14 +144,14 @@ module _ (links : ℕ → Option Octets) (apart : (i j : ℕ) (l : Octets) → l
         let moved : TicketFits n.now w.notes key.client (m.numbers (key_of key.client s id)) (look' q) (set_at m.tickets key made (key_of key.client s id)) =
         subst (λ (k : Key). TicketFits n.now w.notes key.client (m.numbers k) (look' q) (set_at m.tickets key made k)) e fit in
         subst (λ (p : PeerKey). TicketFits n.now w.notes key.client (m.numbers (key_of key.client s id)) (look' p)
-            (set_at m.tickets key made (key_of key.client s id))) (λ j. slot_key (link j) (e j).invoke_id) moved
+        (set_at m.tickets key made (key_of key.client s id))) (λ j. slot_key (link j) (e j).invoke_id) moved
     found s l' id at (inr ne) =
         let other : q ≡ slot_key l' id → ⊥ = λ e.
         let link : l ≡ l' = ap (λ (p : PeerKey). p.peer.link) e in
         let node : key.server ≡ s = apart key.server s l' (to_at ∙ ap Some link) at in
         ne (λ j. key_of key.client (node j) (e j).invoke_id) in
         subst (λ (o : Option Client). TicketFits n.now w.notes key.client (m.numbers (key_of key.client s id)) o
-            (set_at m.tickets key made (key_of key.client s id))) (sym (away (slot_key l' id) other))
+        (set_at m.tickets key made (key_of key.client s id))) (sym (away (slot_key l' id) other))
         (subst (λ (o : Option Ticket). TicketFits n.now w.notes key.client (m.numbers (key_of key.client s id)) (look (slot_key l' id)) o)
         (sym (set_other m.tickets key made (key_of key.client s id) ne)) (h.found s l' id at))
 
@@ -165,7 +165,7 @@ module _ (links : ℕ → Option Octets) (apart : (i j : ℕ) (l : Octets) → l
         known = f.clients.known;
         found = λ s l' id at.
             subst (λ (o : Option Ticket). TicketFits n.now w.notes j (m.numbers (key_of j s id)) (value_at same_key (slot_key l' id) a.clients.slots) o)
-                (sym (set_other m.tickets key made (key_of j s id) (λ e. ne (sym (ap (λ (k : Key). k.client) e))))) (f.clients.found s l' id at);
+            (sym (set_other m.tickets key made (key_of j s id) (λ e. ne (sym (ap (λ (k : Key). k.client) e))))) (f.clients.found s l' id at);
       };
       servers = record { distinct = f.servers.distinct; known = f.servers.known; found = f.servers.found };
     }

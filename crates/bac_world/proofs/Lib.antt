@@ -14,3 +14,4 @@ pub mod ClientTick
 pub mod ServerTick
 pub mod Ticking
 pub mod Headline
+pub mod Computed

@@ -7,7 +7,7 @@ use Rattle.bac_protocol.specs.Service.{Octets}
 use Rattle.bac_protocol.specs.Server as server
 use Rattle.bac_protocol.specs.Server.{Entry, live_entry, is_live, server_ticks}
 use Rattle.bac_protocol.specs.Transaction.{Key, Rules, performed, server_context}
-use Rattle.bac_protocol.specs.World.{Net, server_acts, set_at, post_of}
+use Rattle.bac_protocol.specs.World.{Net, server_acts, set_at}
 use Rattle.bac_protocol.specs.Claims.{IsBounded}
 use Rattle.bac_protocol.specs.Steps.{IsSameReaction, StaysIn}
 use Rattle.bac_protocol.proofs.Keys.{set_same, set_other, decide_key}
@@ -154,7 +154,7 @@ module _ (links : ℕ → Option Octets) (apart : (i j : ℕ) (l : Octets) → l
       one_dead again dead distinct known change copies m r ds cs sent copied =
           again distinct.1 known.1 (change_rest Entry tick all p begin d os distinct.0 change) copies m alike ds cs
           (subst (λ (z : List Send). Pairwise IsSent z ds)
-              (ap (λ (v : server.Reaction). to_all (peer_at l) v.sends ++ from_each (server_tick_sends (x.settings i) n.now) os) still) sent) copied
+          (ap (λ (v : server.Reaction). to_all (peer_at l) v.sends ++ from_each (server_tick_sends (x.settings i) n.now) os) still) sent) copied
         where
           still : server_ticks context (Some d) ≡ server.rests (Some d) []
           still = ap (λ b. if b then server.live_ticks context d d.state else server.rests (Some d) []) dead

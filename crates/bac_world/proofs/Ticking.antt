@@ -17,11 +17,11 @@ use Rattle.bac_ends.specs.Ends.Held.{Open, Closed}
 use Rattle.bac_world.specs.Node.{Node, Outcome, NodeTick}
 use Rattle.bac_world.specs.Once.{Fact, IsOnce}
 use Rattle.bac_world.specs.World.{World, Copy, stores_of, AreLogged, IsCopied, Ticks}
-use Rattle.bac_world.proofs.Slots.{EachSlot, changed, distinct_changed, distinct_in_order, each_changed, each_in_order, each_so}
+use Rattle.bac_world.proofs.Slots.{changed, distinct_changed, distinct_in_order, each_changed, each_in_order, each_so}
 use Rattle.bac_world.proofs.Changes.{look, look_all, change_all}
 use Rattle.bac_world.proofs.Pairs.{IsSplit, pairwise_split}
 use Rattle.bac_world.proofs.Logs.{FactMeans}
-use Rattle.bac_world.proofs.Bridge.{NodeFits, IsKnown, IsCopyOf, TicketFits, key_of, slot_key}
+use Rattle.bac_world.proofs.Bridge.{IsKnown, IsCopyOf, TicketFits, key_of, slot_key}
 use Rattle.bac_world.proofs.Steps.{Over, Fits, Next, acts_over, once_same, stores_same}
 use Rattle.bac_world.proofs.Hearing.{Reached, reached_none, reached_alike}
 use Rattle.bac_world.proofs.ClientTick.{client_tick, folds}
@@ -145,8 +145,11 @@ module _ (links : ℕ → Option Octets) (apart : (i j : ℕ) (l : Octets) → l
     clients = record {
       distinct = distinct_changed Client f clients fits.clients.distinct;
       known = each_changed Client f (λ p v. IsKnown links apart p × (v.number < a.clients.asked))
-          (λ p v y. (y.0, subst (λ (z : ℕ). z < a.clients.asked) (sym (number_kept (record { settings = c; invoke_id = p.invoke_id; now = n.now })
-          v.number v.held)) y.1)) clients fits.clients.known;
+          (λ p v y. (
+            y.0,
+            subst (λ (z : ℕ). z < a.clients.asked) (sym (number_kept (record { settings = c; invoke_id = p.invoke_id; now = n.now })
+                v.number v.held)) y.1,
+          )) clients fits.clients.known;
       found = λ s' l id at. subst (λ (y : Key → ℕ). TicketFound y s.0.tickets s' l id) (sym s.1.numbers)
           (subst (λ (y : Key → Option Ticket). TicketFound r.0.numbers y s' l id) (sym s.1.tickets) (r.1.found s' l id at));
     };
@@ -158,17 +161,20 @@ module _ (links : ℕ → Option Octets) (apart : (i j : ℕ) (l : Octets) → l
   }
 
   pub tick_over : Next links apart W x w w'
-  tick_over = (s.0, record {
-    bridge = acts_over links apart W x w w' n s.0 h i a b o step.at step.acts (s.1.now) (s.1.asks ∙ r.1.asks)
-        (λ key t is. r.1.noted key t (ap (λ y. y key) (sym s.1.tickets) ∙ is) ∙ ap Some (ap (λ y. y key) (sym s.1.numbers)))
-        (ap (λ (d : Node). d.link) node_is)
-        (subst (λ (d : Node). Fits links apart W x w n s.0 i d) (sym node_is) made)
-        (λ j d ne y. s.1.others j d ne (r.1.others j d ne y))
-        (subst (λ (l : List Copy). Pairwise (IsCopyOf links apart) s.0.posts l) all_copies s.1.posts)
-        (subst (λ (lg : List Fact). Pairwise FactMeans s.0.log lg) (sym log_is)
-            (subst (λ lg. Pairwise FactMeans lg step.acts.between) (sym s.1.log) r.1.log))
-        s.1.sound;
-    once = λ opening once. subst (λ (lg : List Fact). IsOnce opening lg (stores_of w'.nodes)) (sym log_is)
-        (once_same opening step.acts.between (stores_of w.nodes) (stores_of w'.nodes)
-        (stores_same w.nodes w'.nodes i a b step.acts.nodes step.at (ap (λ (d : Node). d.store) node_is)) (r.1.once opening (stores_of w.nodes) once));
-  })
+  tick_over = (
+    s.0,
+    record {
+      bridge = acts_over links apart W x w w' n s.0 h i a b o step.at step.acts (s.1.now) (s.1.asks ∙ r.1.asks)
+          (λ key t is. r.1.noted key t (ap (λ y. y key) (sym s.1.tickets) ∙ is) ∙ ap Some (ap (λ y. y key) (sym s.1.numbers)))
+          (ap (λ (d : Node). d.link) node_is)
+          (subst (λ (d : Node). Fits links apart W x w n s.0 i d) (sym node_is) made)
+          (λ j d ne y. s.1.others j d ne (r.1.others j d ne y))
+          (subst (λ (l : List Copy). Pairwise (IsCopyOf links apart) s.0.posts l) all_copies s.1.posts)
+          (subst (λ (lg : List Fact). Pairwise FactMeans s.0.log lg) (sym log_is)
+          (subst (λ lg. Pairwise FactMeans lg step.acts.between) (sym s.1.log) r.1.log))
+          s.1.sound;
+      once = λ opening once. subst (λ (lg : List Fact). IsOnce opening lg (stores_of w'.nodes)) (sym log_is)
+          (once_same opening step.acts.between (stores_of w.nodes) (stores_of w'.nodes)
+          (stores_same w.nodes w'.nodes i a b step.acts.nodes step.at (ap (λ (d : Node). d.store) node_is)) (r.1.once opening (stores_of w.nodes) once));
+    },
+  )

@@ -2,3 +2,4 @@ pub mod Services
 pub mod Node
 pub mod Once
 pub mod World
+pub mod Examples

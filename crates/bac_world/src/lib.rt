@@ -3,6 +3,8 @@
 //! The definitions stand in `specs/`. The functions here have no body: each carries a law as its contract.
 #![tactic(auto)]
 
+pub mod examples;
+
 ghost use Rattle.std.specs.Prelude.{ℕ, List};
 ghost use Rattle.bac_world.specs.Once.{IsOnce};
 ghost use Rattle.bac_world.specs.World.{World, Event, WorldRun, IsFresh, IsBounded, stores_of};
