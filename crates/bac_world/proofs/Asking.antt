@@ -246,7 +246,8 @@ module _ (links : ℕ → Option Octets) (apart : (i j : ℕ) (l : Octets) → l
             let before : TicketFits n.now (note ∷ notes) j (n.numbers k) (value_at same_key q a.clients.slots) (n.tickets k) =
             fits_noted n.now notes note j (n.numbers k) (value_at same_key q a.clients.slots) (n.tickets k)
             (λ z is. ap (λ b. b && nat_eq e.asked z.number) (differ key.client j (λ same. ne (sym same)))) (f.clients.found s l' id at') in
-            subst (λ (y : ℕ). TicketFits n.now (note ∷ notes) j y (value_at same_key q a.clients.slots) (m.tickets k)) (sym (set_other n.numbers key n.asks k away))
+            subst (λ (y : ℕ). TicketFits n.now (note ∷ notes) j y (value_at same_key q a.clients.slots) (m.tickets k))
+            (sym (set_other n.numbers key n.asks k away))
             (subst (λ (o : Option Ticket). TicketFits n.now (note ∷ notes) j (n.numbers k) (value_at same_key q a.clients.slots) o)
             (sym (set_other n.tickets key (Some made) k away)) before);
       };

@@ -142,8 +142,8 @@ module _ (links : ℕ → Option Octets) (apart : (i j : ℕ) (l : Octets) → l
           let e = pairwise_split (IsCopied w.nodes n.now i) y.front y.rest cs
           (subst (λ (z : List Datagram). Pairwise (IsCopied w.nodes n.now i) z cs) y.is copied) in
           let next = goes_on copies m r distinct.0 change live y.front e.front y.first e.first in
-          let rest = again distinct.1 known.1 (change_rest Entry tick all p begin d os distinct.0 change) (copies ++ e.front) (server_acts m key (does copies m r distinct.0 change live))
-          next y.rest e.rest y.second e.second in (
+          let rest = again distinct.1 known.1 (change_rest Entry tick all p begin d os distinct.0 change) (copies ++ e.front)
+          (server_acts m key (does copies m r distinct.0 change live)) next y.rest e.rest y.second e.second in (
             rest.0,
             subst (λ (z : List Copy). Served (λ q. value_at same_key q all) z rest.0)
                 (append_assoc copies e.front e.rest ∙ ap (λ (z : List Copy). copies ++ z) (sym e.is)) rest.1,
