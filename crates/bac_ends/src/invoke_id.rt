@@ -1,3 +1,4 @@
+//! The invoke ID of an APDU.
 ghost use Rattle.std.specs.Prelude.{◌≡◌};
 ghost use Rattle.bac_apdu.specs.Views.{apdu_view};
 ghost use Rattle.bac_protocol.specs.Own.{invoke_id_of};

@@ -1,3 +1,4 @@
+//! The settings of an end.
 use bac_apdu::{Limits, Window};
 
 /// What a node is set to.

@@ -128,7 +128,7 @@ conf_segment_taken c readable choice number window TooLong = Ends (client_abort 
 
 -- What comes for an open ticket.
 
--- a Reject, or an Abort with SRV 1, ends a ticket in any state; nothing else is looked at
+-- a Reject, or an Abort with SRV 1, ends a ticket in any state; nothing else is looked at (that no other APDU aborts it is an own rule of this profile)
 abbrev pub gets_refusal : Apdu → Reaction
 gets_refusal (Reject invoke_id reason) = Ends [] (Rejected reason)
 gets_refusal (Abort true invoke_id reason) = Ends [] (Aborted reason)
@@ -145,7 +145,8 @@ gets_complex_ack c readable ask choice service =
 abbrev pub gets_error : Ask → (choice class code : ℕ) → Reaction
 gets_error ask choice class code = if nat_eq choice ask.choice then Ends [] (Answered (reply.Error class code)) else Stays
 
--- segment 0 of a ComplexACK, where the client takes segments: its reassembly has the lesser of the proposed window and its own
+-- segment 0 of a ComplexACK, where the client takes segments: its reassembly has the lesser of the proposed window and its own;
+-- any other is ignored (own rule of this profile)
 abbrev pub gets_first_segment : Context → Readable → Ask → Segment → (choice : ℕ) → Octets → Reaction
 gets_first_segment c readable ask segment choice service =
     let inc = incoming c.settings.window segment.window in

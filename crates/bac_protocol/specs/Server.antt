@@ -22,7 +22,7 @@ pub data Transfer : Type 0 where
   Stopped : Transfer
   Finished : Transfer
 
--- the states of an entry: SEGMENTED_REQUEST; done, with a kept reply of one APDU; SEGMENTED_RESPONSE, done too, with a kept reply in segments; dropped.
+-- the states of an entry: SEGMENTED_REQUEST; Done, with a kept reply of one APDU; SEGMENTED_RESPONSE, with a kept reply in segments; Dropped.
 -- Done and Dropped are the reply table's own. A moment is that of the last segment that arrived, or the one from which the timer runs.
 pub data State : Type 0 where
   SegmentedRequest : (inc : Incoming) (since : ℕ) → State
@@ -162,7 +162,7 @@ idle_gets c service dead free (ConfirmedRequest limits invoke_id (Some segment) 
 idle_gets c service dead free _ = rests dead []
 
 -- SEGMENTED_REQUEST (clause 5.4.5.2): a segment that comes WAIT_SEG after the last one, or later, ends the reassembly, which is remembered as dropped
--- (own rule of this profile); a request without SEG is ignored
+-- (own rule of this profile); a request without SEG is ignored (own rule of this profile)
 abbrev pub segmented_request_gets_segment : Context → Service → Entry → Incoming → (since : ℕ) → Segment → Octets → Reaction
 segmented_request_gets_segment c service e inc since segment octets =
     if nat_le WAIT_SEG (c.now - since) then becomes e Dropped (server_abort c OTHER ∷ [])
@@ -181,7 +181,7 @@ abbrev pub is_kept : Entry → Option Octets → (choice : ℕ) → Octets → B
 is_kept e None choice octets = false
 is_kept e (Some kept) choice octets = nat_eq choice e.choice && bytes_eq octets kept
 
--- done, with a kept reply of one APDU: it is sent again, to the kept request or to a segment where the entry began with one
+-- Done, with a kept reply of one APDU: it is sent again, to the kept request or to a segment where the entry began with one
 abbrev pub done_gets : Context → Entry → (kept : Apdu) → Apdu → Reaction
 done_gets c e kept (ConfirmedRequest limits invoke_id None choice octets) =
     rests (Some e) ((if is_kept e e.request choice octets then kept else server_abort c OTHER) ∷ [])
@@ -219,7 +219,7 @@ segmented_response_gets c e out transfer since (SegmentAck false invoke_id ack) 
 segmented_response_gets c e out transfer since (Abort false invoke_id reason) = becomes e (SegmentedResponse out Finished since) []
 segmented_response_gets c e out transfer since _ = rests (Some e) []
 
--- dropped: each request and each segment gets an Abort (own rule of this profile)
+-- Dropped: each request and each segment gets an Abort (own rule of this profile)
 abbrev pub dropped_gets : Context → Entry → Apdu → Reaction
 dropped_gets c e (ConfirmedRequest limits invoke_id segment choice octets) = rests (Some e) (server_abort c OTHER ∷ [])
 dropped_gets c e _ = rests (Some e) []

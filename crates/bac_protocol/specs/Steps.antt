@@ -45,7 +45,7 @@ pub record NothingIsSentLate : Type 0 where
       → client.sends_of (client_gets c readable t a) ≡ []
   pub ticks : (c : Context) (t : Ticket) → DEADLINE < c.now - t.ask.first → client.sends_of (client_ticks c t) ≡ []
 
--- An entry that is live stays, with its beginning, its choice, its limits and its request. One that is done keeps its reply, and one that was dropped stays so.
+-- An entry that is live stays, with its beginning, its choice, its limits and its request. One with a reply keeps it, and one that was dropped stays so.
 
 -- the transfer of a reply goes on with the same pieces, and the first unacknowledged one does not fall
 abbrev pub TransferGoesOn : Outgoing → State → Type 0

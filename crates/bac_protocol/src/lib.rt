@@ -62,8 +62,8 @@ pub fn replies_in_window<S>()
         → RepliesAreInWindow W rules (run S shop rules events (start S opening)).net }
 {}
 
-/// In every run, once the first pass of a request in segments was acknowledged, or a repeat was made, or a segment of the answer came, a segment of
-/// the request that may still arrive finds its entry live and done.
+/// In every run, once the first pass of a request in segments was acknowledged, or a repeat was made, or a segment of the reply came, a segment of
+/// the request that may still arrive finds its entry live, with a kept reply.
 pub fn later_passes_find_reply<S>()
     ensures { (shop : Shop S) (opening : ℕ → S) (W : ℕ) (rules : Rules) → IsBounded W rules → (events : List Event)
         → LaterPassesFindReply rules (run S shop rules events (start S opening)).net }

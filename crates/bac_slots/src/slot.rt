@@ -1,3 +1,4 @@
+//! One slot of a table.
 /// A key with the moment at which its life began, in milliseconds, and its value.
 #[derive(Drop)]
 pub struct Slot<K, T> {
