@@ -135,7 +135,7 @@ members_text apdu = plain_members_text apdu
 unfoldable pub apdu_text : Apdu → List ℕ
 apdu_text a = members_text a ++ line_end
 
--- ---- the line of a request or an answer
+-- ---- the line of a request, or of the service data of a ComplexACK
 
 abbrev pub object_text : ObjectId → List ℕ
 object_text o = codes " object=" ++ (decimal o.kind ++ (codes ":" ++ decimal o.instance))
@@ -216,11 +216,11 @@ place_written_text (place.Stream start) = position_text start
 place_written_text (place.Records start) = record_text start
 
 -- the text of the service data of a ComplexACK, without the end of its line
-abbrev pub answer_text : Complex → List ℕ
-answer_text (FileRead end_of_file start octets) = file_read_text end_of_file start octets
-answer_text (StreamWritten start) = codes "write-file-ack" ++ position_text start
-answer_text (RecordsWritten start) = codes "write-file-ack" ++ record_text start
-answer_text (PropertyRead r values) = property_read_text r values
+abbrev pub complex_text : Complex → List ℕ
+complex_text (FileRead end_of_file start octets) = file_read_text end_of_file start octets
+complex_text (StreamWritten start) = codes "write-file-ack" ++ position_text start
+complex_text (RecordsWritten start) = codes "write-file-ack" ++ record_text start
+complex_text (PropertyRead r values) = property_read_text r values
 
 -- one of these texts was appended
 abbrev pub AppendsText : Option (List ℕ) → Option (List ℕ) → (List ℕ → Type 0) → Type 0
