@@ -97,5 +97,5 @@ pub shown_faulty : (datagram : List ℕ) (fault : LayerFault) (a b between c d :
     → IsAtFault datagram fault → Appends b between (fault_line fault) → c ≡ between → Keeps c d → s ≡ Faulty → IsShown datagram a d s
 shown_faulty datagram fault a b between c d s p at q e k is =
     let all : AppendsText a between (AreLines datagram (Some fault)) =
-        both a b between (AreLayerLines datagram) (Is (fault_line fault)) p (line_is b between (fault_line fault) q) in
+    both a b between (AreLayerLines datagram) (Is (fault_line fault)) p (line_is b between (fault_line fault) q) in
     rw is (record { fault = fault; at_fault = at; printed = (all.0, (all.1.0, kept a between c d all.0 all.1.1 e k)) })

@@ -4,7 +4,8 @@ use Rattle.std.specs.Fmt.{signed_decimal}
 use Rattle.std.specs.Int.{from_bool}
 use Rattle.std.specs.Io.KnownBytes.{Appends}
 use Rattle.hex.specs.Hex.{encode_upper}
-use Rattle.bac_apdu.specs.Apdu.{Limits, Acknowledgement, Segment, Apdu, ConfirmedRequest, UnconfirmedRequest, SimpleAck, ComplexAck, SegmentAck, Error, Reject, Abort}
+use Rattle.bac_apdu.specs.Apdu.{Limits, Acknowledgement, Segment, Apdu, ConfirmedRequest, UnconfirmedRequest, SimpleAck, ComplexAck, SegmentAck}
+use Rattle.bac_apdu.specs.Apdu.{Error, Reject, Abort}
 use Rattle.bac_service.specs.Members.{◌⨾◌, ApplicationString}
 use Rattle.bac_service.specs.Values.{Reference, ReadAccess, Request, Complex}
 use Rattle.bac_service.specs.Values.ReadAccess.{ReadStream, ReadRecords}
@@ -88,7 +89,8 @@ request_head_text limits invoke_id =
     ++ (codes " apdu=" ++ (decimal limits.max_apdu ++ (codes " id=" ++ decimal invoke_id))))))
 
 abbrev pub segment_ack_head_text : Bool → Bool → ℕ → List ℕ
-segment_ack_head_text nak server invoke_id = codes "segment-ack nak=" ++ (bit_text nak ++ (codes " srv=" ++ (bit_text server ++ (codes " id=" ++ decimal invoke_id))))
+segment_ack_head_text nak server invoke_id =
+    codes "segment-ack nak=" ++ (bit_text nak ++ (codes " srv=" ++ (bit_text server ++ (codes " id=" ++ decimal invoke_id))))
 
 abbrev pub segment_ack_text : Bool → ℕ → Acknowledgement → List ℕ
 segment_ack_text server invoke_id k =
@@ -109,7 +111,8 @@ body_text segment choice service = optional segment_text segment ++ service_text
 
 abbrev pub error_text : ℕ → ℕ → ℕ → ℕ → List ℕ
 error_text invoke_id choice class code =
-    codes "error id=" ++ (decimal invoke_id ++ (codes " choice=" ++ (decimal choice ++ (codes " class=" ++ (decimal class ++ (codes " code=" ++ decimal code))))))
+    codes "error id=" ++ (decimal invoke_id ++ (codes " choice=" ++ (decimal choice
+    ++ (codes " class=" ++ (decimal class ++ (codes " code=" ++ decimal code))))))
 
 abbrev pub reject_text : ℕ → ℕ → List ℕ
 reject_text invoke_id reason = codes "reject id=" ++ (decimal invoke_id ++ (codes " reason=" ++ decimal reason))

@@ -87,7 +87,8 @@ fn check_next<R: BufRead, W: Write>(
     tally: Tally,
     out: &mut W,
 ) -> Result<Option<Tally>, CheckError>
-    ensures step { IfOk result (λ r. IsStep (R.remaining input.old) (R.remaining input.new) (W.contents out.old) (W.contents out.new) (count_of tally) (option_map count_of r)) }
+    ensures step { IfOk result (λ r. IsStep (R.remaining input.old) (R.remaining input.new) (W.contents out.old) (W.contents out.new)
+        (count_of tally) (option_map count_of r)) }
     ensures more { IfOk result (λ r. IfSome r (λ t. (t.lines ≡ tally.lines + 1) × (tally.lines < 2 ^ 64 - 1))) }
 {
     match next_line(input, line) {

@@ -76,7 +76,8 @@ fn print_read_access<W: Write>(access: ReadAccess, out: &mut W) -> io::Result<()
 }
 
 fn print_read_file<W: Write>(read: ReadFile, out: &mut W) -> io::Result<()>
-    ensures { OnOk result (Appends (W.contents out.old) (W.contents out.new) (read_file_text (object_identifier_view read.file) (view.read_access_view read.access))) }
+    ensures { OnOk result (Appends (W.contents out.old) (W.contents out.new)
+        (read_file_text (object_identifier_view read.file) (view.read_access_view read.access))) }
 {
     print_read_name(read.access, out)?;
     print_object(read.file, out)?;
@@ -96,7 +97,8 @@ fn print_write_stream<W: Write>(
     stream: WriteStream<Content<'_>>,
     out: &mut W,
 ) -> io::Result<()>
-    ensures { OnOk result (Appends (W.contents out.old) (W.contents out.new) (write_stream_text (object_identifier_view file) stream.entry.start stream.entry.content.octets.now)) }
+    ensures { OnOk result (Appends (W.contents out.old) (W.contents out.new)
+        (write_stream_text (object_identifier_view file) stream.entry.start stream.entry.content.octets.now)) }
 {
     out.write_all(b"write-file")?;
     print_object(file, out)?;
@@ -119,7 +121,8 @@ fn print_write_records<W: Write>(
     out: &mut W,
 ) -> io::Result<()>
     ensures { OnOk result ((strings : List (List ℕ)) × (AreTheStrings strings write.entry.records.run.now
-        × Appends (W.contents out.old) (W.contents out.new) (write_records_text (object_identifier_view file) write.entry.start write.entry.records.count strings))) }
+        × Appends (W.contents out.old) (W.contents out.new)
+        (write_records_text (object_identifier_view file) write.entry.start write.entry.records.count strings))) }
 {
     out.write_all(b"write-records")?;
     print_object(file, out)?;
