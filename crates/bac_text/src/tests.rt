@@ -40,14 +40,9 @@ fn prints(rt: &impl Abort, printed: &Printed, status: Status, lines: &str, about
     assert_eq!(rt; printed.err.len(), 0, "{about}");
 }
 
-/// The layers of a datagram are printed so, with a fault or without one.
-fn shows(rt: &impl Abort, alloc: Global, datagram: &str, lines: &str) {
+/// The layers of a datagram are printed so, with that status.
+fn shows(rt: &impl Abort, alloc: Global, datagram: &str, status: Status, lines: &str) {
     let printed = decoded(alloc, datagram);
-    let status = if lines.contains("fault") {
-        Status::Faulty
-    } else {
-        Status::Done
-    };
     prints(rt, &printed, status, lines, datagram);
 }
 
@@ -57,23 +52,19 @@ fn shows_npdu(
     alloc: Global,
     expecting: u8,
     npdu: &str,
+    status: Status,
     lines: &str,
 ) -> Result<(), Fail> {
     let len = npdu.len() / 2 + 4;
     let datagram = format!(in alloc; "810A{len:04X}{npdu}")?;
     let want = format!(in alloc; "bvll len={len}\nnpdu expecting={expecting} priority=0\n{lines}")?;
-    shows(rt, alloc, datagram.as_str(), want.as_str());
+    shows(rt, alloc, datagram.as_str(), status, want.as_str());
     Ok(())
 }
 
-/// Of these lines of a capture the bad ones and the counts are printed so.
-fn tallies(rt: &impl Abort, alloc: Global, capture: &str, lines: &str) {
+/// Of these lines of a capture the bad ones and the counts are printed so, with that status.
+fn tallies(rt: &impl Abort, alloc: Global, capture: &str, status: Status, lines: &str) {
     let printed = checked(alloc, capture.as_bytes());
-    let status = if lines.ends_with("bad=0\n") {
-        Status::Done
-    } else {
-        Status::Faulty
-    };
     prints(rt, &printed, status, lines, "a capture");
 }
 
@@ -155,12 +146,6 @@ fn decodes_apdus(rt: HostRuntime) -> Result<(), Fail> {
         ),
         (
             1,
-            "0104000500070C0000000519553E443F",
-            "confirmed-request sa=0 segs=0 apdu=5 id=0 choice=7 data=0C0000000519553E443F",
-            "fault reject 4\n",
-        ),
-        (
-            1,
             "010402450107C4028000010E3102600F",
             "confirmed-request sa=1 segs=4 apdu=5 id=1 choice=7 data=C4028000010E3102600F",
             "write-file object=10:1 position=2 octets=\n",
@@ -238,7 +223,31 @@ fn decodes_apdus(rt: HostRuntime) -> Result<(), Fail> {
             "confirmed-request sa=0 segs=0 apdu=5 id=1 choice=7 data=C4028000011E3100210260601F",
             "write-records object=10:1 record=0 count=2 octets=,\n",
         ),
-        // each reason of a Reject, and faults of the service data of a ComplexACK
+    ];
+    for (expecting, npdu, line, service) in table {
+        let lines = format!(in rt.alloc(); "{line}\n{service}")?;
+        shows_npdu(
+            &rt,
+            rt.alloc(),
+            expecting,
+            npdu,
+            Status::Done,
+            lines.as_str(),
+        )?;
+    }
+    Ok(())
+}
+
+/// Each reason of a Reject, and faults of the service data of a ComplexACK.
+#[test]
+fn decodes_up_to_service_data(rt: HostRuntime) -> Result<(), Fail> {
+    let table = [
+        (
+            1,
+            "0104000500070C0000000519553E443F",
+            "confirmed-request sa=0 segs=0 apdu=5 id=0 choice=7 data=0C0000000519553E443F",
+            "fault reject 4\n",
+        ),
         (
             1,
             "01040005040C0C00000005",
@@ -290,7 +299,14 @@ fn decodes_apdus(rt: HostRuntime) -> Result<(), Fail> {
     ];
     for (expecting, npdu, line, service) in table {
         let lines = format!(in rt.alloc(); "{line}\n{service}")?;
-        shows_npdu(&rt, rt.alloc(), expecting, npdu, lines.as_str())?;
+        shows_npdu(
+            &rt,
+            rt.alloc(),
+            expecting,
+            npdu,
+            Status::Faulty,
+            lines.as_str(),
+        )?;
     }
     Ok(())
 }
@@ -338,7 +354,7 @@ fn decodes_frames(rt: HostRuntime) -> Result<(), Fail> {
     ];
     for (datagram, frame, apdu) in table {
         let lines = format!(in rt.alloc(); "{frame}{apdu}")?;
-        shows(&rt, rt.alloc(), datagram, lines.as_str());
+        shows(&rt, rt.alloc(), datagram, Status::Done, lines.as_str());
     }
     Ok(())
 }
@@ -368,7 +384,7 @@ fn decodes_up_to_a_fault(rt: HostRuntime) {
         ),
     ];
     for (datagram, lines) in table {
-        shows(&rt, rt.alloc(), datagram, lines);
+        shows(&rt, rt.alloc(), datagram, Status::Faulty, lines);
     }
 }
 
@@ -393,7 +409,14 @@ fn names_the_fault_of_an_apdu(rt: HostRuntime) -> Result<(), Fail> {
     for (apdu, fault) in table {
         let npdu = format!(in rt.alloc(); "0100{apdu}")?;
         let line = format!(in rt.alloc(); "fault apdu {fault}\n")?;
-        shows_npdu(&rt, rt.alloc(), 0, npdu.as_str(), line.as_str())?;
+        shows_npdu(
+            &rt,
+            rt.alloc(),
+            0,
+            npdu.as_str(),
+            Status::Faulty,
+            line.as_str(),
+        )?;
     }
     Ok(())
 }
@@ -401,55 +424,65 @@ fn names_the_fault_of_an_apdu(rt: HostRuntime) -> Result<(), Fail> {
 #[test]
 fn checks_captures(rt: HostRuntime) {
     let table = [
-        ("", "lines=0 good=0 bad=0\n"),
+        ("", Status::Done, "lines=0 good=0 bad=0\n"),
         (
             "0 7F000001BAC1 7F000001BAC0 810A000801001013\n5 7F000001BAC0 7F000001BAC1 810A0008010060\n3 7F000001BAC0 7F000001BAC1 810A0007010060\nx\n",
+            Status::Faulty,
             "line 2: fault bvll 5\nline 3: moment goes back\nline 4: not a capture line\nlines=4 good=1 bad=3\n",
         ),
         (
             "6 7F000001BAC0 7F000001BAC1 810A0007010060\n",
+            Status::Faulty,
             "line 1: fault apdu 1\nlines=1 good=0 bad=1\n",
         ),
         // the last line has no end, and digits are of either case
         (
             "18446744073709551615 7f000001bac1 7F000001BAC0 810a000801001013",
+            Status::Done,
             "lines=1 good=1 bad=0\n",
         ),
         // no lines: an empty one, two spaces, a sign, a moment that is too great, short addresses, half an octet, one word more
         (
             "\n0 7F000001BAC1  7F000001BAC0 00\n",
+            Status::Faulty,
             "line 1: not a capture line\nline 2: not a capture line\nlines=2 good=0 bad=2\n",
         ),
         (
             "+1 7F000001BAC1 7F000001BAC0 00\n18446744073709551616 7F000001BAC1 7F000001BAC0 00",
+            Status::Faulty,
             "line 1: not a capture line\nline 2: not a capture line\nlines=2 good=0 bad=2\n",
         ),
         (
             "1 7F000001BAC 7F000001BAC0 00\n1 7F000001BAC1 7F000001BAC0 0",
+            Status::Faulty,
             "line 1: not a capture line\nline 2: not a capture line\nlines=2 good=0 bad=2\n",
         ),
         (
             "1 7F000001BAC1 7F000001BAC0 00 00\n 7F000001BAC1 7F000001BAC0 00",
+            Status::Faulty,
             "line 1: not a capture line\nline 2: not a capture line\nlines=2 good=0 bad=2\n",
         ),
         // a carriage return is part of the line; leading zeros are taken, and the same moment twice
         (
             "1 7F000001BAC1 7F000001BAC0 810A000801001013\r\n007 7F000001BAC1 7F000001BAC0 810A000801001013\n7 7F000001BAC1 7F000001BAC0 810A000801001013\n",
+            Status::Faulty,
             "line 1: not a capture line\nlines=3 good=2 bad=1\n",
         ),
         // a moment that goes back does not lower the greatest one
         (
             "9 7F000001BAC1 7F000001BAC0 810A000801001013\n3 7F000001BAC1 7F000001BAC0 810A000801001013\n5 7F000001BAC1 7F000001BAC0 810A000801001013\n",
+            Status::Faulty,
             "line 2: moment goes back\nline 3: moment goes back\nlines=3 good=1 bad=2\n",
         ),
         // an empty datagram has its own fault
         (
             "1 7F000001BAC1 7F000001BAC0 ",
+            Status::Faulty,
             "line 1: fault bvll 1\nlines=1 good=0 bad=1\n",
         ),
     ];
-    for (capture, lines) in table {
-        tallies(&rt, rt.alloc(), capture, lines);
+    for (capture, status, lines) in table {
+        tallies(&rt, rt.alloc(), capture, status, lines);
     }
 }
 
@@ -461,12 +494,16 @@ const LINE: &str = "7 7F000001BAC1 7F000001BAC0 810A000801001013";
 fn skips_overlong_lines(rt: HostRuntime) -> Result<(), Fail> {
     let zeros = zeros(rt.alloc(), 65_978)?;
     let table = [
-        ("", "lines=2 good=2 bad=0\n"),
-        ("0", "line 1: not a capture line\nlines=2 good=1 bad=1\n"),
+        ("", Status::Done, "lines=2 good=2 bad=0\n"),
+        (
+            "0",
+            Status::Faulty,
+            "line 1: not a capture line\nlines=2 good=1 bad=1\n",
+        ),
     ];
-    for (more, lines) in table {
+    for (more, status, lines) in table {
         let capture = format!(in rt.alloc(); "{more}{zeros}{LINE}\n{LINE}")?;
-        tallies(&rt, rt.alloc(), capture.as_str(), lines);
+        tallies(&rt, rt.alloc(), capture.as_str(), status, lines);
     }
     Ok(())
 }
@@ -483,6 +520,7 @@ fn counts_two_thousand_lines(rt: HostRuntime) -> Result<(), Fail> {
         &rt,
         rt.alloc(),
         capture.as_str(),
+        Status::Done,
         "lines=2000 good=2000 bad=0\n",
     );
     Ok(())
@@ -684,8 +722,21 @@ fn takes_the_longest_datagram(rt: HostRuntime) -> Result<(), Fail> {
     let zeros = zeros(rt.alloc(), 65_527)?;
     let npdu = format!(in rt.alloc(); "01001008{zeros}")?;
     let lines = format!(in rt.alloc(); "unconfirmed-request choice=8 data={zeros}\n")?;
-    shows_npdu(&rt, rt.alloc(), 0, npdu.as_str(), lines.as_str())?;
+    shows_npdu(
+        &rt,
+        rt.alloc(),
+        0,
+        npdu.as_str(),
+        Status::Done,
+        lines.as_str(),
+    )?;
     let line = format!(in rt.alloc(); "1 7F000001BAC1 7F000001BAC0 810AFFFF{npdu}")?;
-    tallies(&rt, rt.alloc(), line.as_str(), "lines=1 good=1 bad=0\n");
+    tallies(
+        &rt,
+        rt.alloc(),
+        line.as_str(),
+        Status::Done,
+        "lines=1 good=1 bad=0\n",
+    );
     Ok(())
 }
