@@ -6,7 +6,8 @@ use Rattle.bac_apdu.proofs.Apdus.{apdu_one}
 use Rattle.bac_npdu.specs.Peers.{PeerView}
 use Rattle.bac_npdu.specs.Datagram.{Carries, Means}
 use Rattle.bac_npdu.proofs.Datagrams.{carries_one}
-use Rattle.bac_service.specs.Values.{Request, Reply}
+use Rattle.bac_service.specs.Values.{Request}
+use Rattle.bac_service.specs.Replies.{Reply}
 use Rattle.bac_service.specs.Requests.{SpellsRequest}
 use Rattle.bac.specs.Answers.{CLIENT_LINK, Asks, IsRejected, answer_frame, unsegmented_in}
 use Rattle.bac.specs.Rejections.{IsNoRequest, IsRejection}

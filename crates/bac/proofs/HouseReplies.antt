@@ -12,11 +12,12 @@ use Rattle.bac_value.specs.Value.{ObjectId, unsigned, enumerated, characters, ob
 use Rattle.bac_value.specs.Writing.{length_mark, object_octets, primitive, value_spelling}
 use Rattle.bac_value.specs.Number.{unsigned_octets}
 use Rattle.bac_value.proofs.Numbers.{length-unsigned}
-use Rattle.bac_service.specs.Values.{Reference, ReadAccess, WriteAccess, Request, Reply}
+use Rattle.bac_service.specs.Values.{Reference, ReadAccess, WriteAccess, Request}
+use Rattle.bac_service.specs.Replies.{Reply}
 use Rattle.bac_service.specs.Values.ReadAccess.{ReadStream, ReadRecords}
 use Rattle.bac_service.specs.Values.WriteAccess.{WriteStream, WriteRecords}
 use Rattle.bac_service.specs.Values.Request.{ReadFile, WriteFile, ReadProperty, WriteProperty}
-use Rattle.bac_service.specs.Values.Reply.{Simple, Whole}
+use Rattle.bac_service.specs.Replies.Reply.{Simple, Complex}
 use Rattle.bac_service.specs.Values.Complex.{StreamWritten, PropertyRead}
 use Rattle.bac_store.specs.Limits.{FILE_ACCESS_METHOD, FILE_SIZE, OBJECT_IDENTIFIER, OBJECT_NAME, OBJECT_TYPE, FILE_LIMIT, VALUE_LIMIT}
 use Rattle.bac_store.specs.Stores.{Store, Object, Property, File, first_that, object_in, listed_in, is_number, is_object, property_in, computed}
@@ -143,7 +144,7 @@ none_from (Some i) e = absurd (true≢false e)
 
 property_read_short : (r : Reference) (p : Property) → IsSmallProperty p → IsShort (read_reply r p)
 property_read_short r p small =
-    if_both IsShort (is_some r.index) PROPERTY_IS_NOT_AN_ARRAY (Whole (PropertyRead r p.values)) (λ e. tt)
+    if_both IsShort (is_some r.index) PROPERTY_IS_NOT_AN_ARRAY (Complex (PropertyRead r p.values)) (λ e. tt)
     (λ e. read_short r p.values (none_from r.index e) small)
 
 five_short : (a b c d e : Bool)
@@ -183,7 +184,7 @@ write_file_short (WriteRecords start count run) f = tt
 write_file_short (WriteStream start octets) f =
     let start_at = pos (write_start start f.octets) in
     three_short (not f.writable) (is_no_write_start start f.octets) (nat_lt FILE_LIMIT (length (written start octets f.octets)))
-    (Whole (StreamWritten start_at)) (written_short start_at)
+    (Complex (StreamWritten start_at)) (written_short start_at)
 
 at_object_short : (found : Option Object) (answer : Object → Reply) → IfSome found IsSmall → ((o : Object) → IsSmall o → IsShort (answer o))
     → IsShort (at_object found answer)

@@ -4,8 +4,9 @@ use Rattle.std.proofs.lemmas.List.{length-append}
 use Rattle.std.proofs.lemmas.Bool.{lt-ltb, le-ltb, cases_lt}
 use Rattle.bac_value.specs.Number.{width_of, half_width_of, distance}
 use Rattle.bac_apdu.specs.Spelling.{apdu_spelling, enumerated_spelling}
-use Rattle.bac_service.specs.Values.{Reference, Reply}
-use Rattle.bac_service.specs.Values.Reply.{Simple, Whole, Error, Reject}
+use Rattle.bac_service.specs.Values.{Reference}
+use Rattle.bac_service.specs.Replies.{Reply}
+use Rattle.bac_service.specs.Replies.Reply.{Simple, Complex, Error, Reject}
 use Rattle.bac_service.specs.Values.Complex.{FileRead, StreamWritten, PropertyRead}
 use Rattle.bac_service.specs.Lengths.{member_length, unsigned_length, signed_length, index_length}
 use Rattle.bac_service.specs.Spellings.{complex_spelling}
@@ -79,7 +80,7 @@ enumerated_len n =
 pub apdu_short : (invoke_id choice : ℕ) (r : Reply) → IsShort r → length (apdu_spelling (reply_apdu invoke_id choice r)) ≤ 50
 unfolding apdu_spelling
 apdu_short invoke_id choice Simple h = omega arith
-apdu_short invoke_id choice (Whole c) h = omega (arith, h)
+apdu_short invoke_id choice (Complex c) h = omega (arith, h)
 apdu_short invoke_id choice (Error class code) h =
     omega (arith, length-append (enumerated_spelling class) (enumerated_spelling code), enumerated_len class, enumerated_len code)
 apdu_short invoke_id choice (Reject reason) h = omega arith

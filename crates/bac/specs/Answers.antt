@@ -4,7 +4,7 @@ use Rattle.bac_apdu.specs.Apdu.{Limits, Apdu, ConfirmedRequest}
 use Rattle.bac_apdu.specs.Spelling.{SpellsApdu, apdu_spelling}
 use Rattle.bac_npdu.specs.Peers.{PeerView}
 use Rattle.bac_npdu.specs.Datagram.{Means, frame}
-use Rattle.bac_service.specs.Values.{Reply}
+use Rattle.bac_service.specs.Replies.{Reply}
 use Rattle.bac.specs.Replies.{reply_apdu}
 use Rattle.bac.specs.Rejections.{IsRejection}
 

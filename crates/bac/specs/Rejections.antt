@@ -1,7 +1,8 @@
 -- What a service makes of service data that spell no request.
 use Rattle.std.specs.Prelude.{◌≡◌, ℕ, List, Err}
-use Rattle.bac_service.specs.Values.{Request, Reply}
-use Rattle.bac_service.specs.Values.Reply.{Reject}
+use Rattle.bac_service.specs.Values.{Request}
+use Rattle.bac_service.specs.Replies.{Reply}
+use Rattle.bac_service.specs.Replies.Reply.{Reject}
 use Rattle.bac_service.specs.Requests.{SpellsRequest}
 use Rattle.bac_service.specs.Services.{request_at}
 

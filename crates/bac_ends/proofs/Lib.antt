@@ -2,3 +2,4 @@ pub mod Short
 pub mod Keyed
 pub mod Computed
 pub mod KeyOrder
+pub mod Holding

@@ -1,9 +1,10 @@
 -- What an end sends is short enough for a frame.
-use Rattle.std.proofs.Common.{◌≡◌, ℕ, ◌+◌, ◌≤◌, Bool, true, false, List, ◌∷◌, [], ◌++◌, length, Option, Some, None, arith, length-append, ◌/◌, ◌%◌, nat_lt, if◌then◌else◌}
+use Rattle.std.proofs.Common.{◌≡◌, ℕ, ◌+◌, ◌≤◌, Bool, true, false, List, ◌∷◌, [], ◌++◌, length, Option, Some, None, arith, length-append, ◌/◌, ◌%◌, nat_lt}
+use Rattle.std.proofs.Common.{if◌then◌else◌}
 use Rattle.std.specs.Int.{w16, w32, to_be_bytes}
 use Rattle.bac_apdu.specs.Apdu.{Apdu, Segment, Limits, Acknowledgement}
 use Rattle.bac_apdu.specs.Spelling.{apdu_spelling, enumerated_spelling}
-use Rattle.bac_ends.specs.Sends.{IsShort}
+use Rattle.bac_protocol.specs.Short.{IsShort}
 
 pub short_simple : (invoke_id choice : ℕ) → IsShort (Apdu.SimpleAck invoke_id choice)
 unfolding apdu_spelling
@@ -47,7 +48,8 @@ short_complex_segment invoke_id segment choice octets le = omega arith
 enumerated_short : (n : ℕ) → length (enumerated_spelling n) ≤ 5
 enumerated_short n = go (nat_lt n 256) (nat_lt n 65536) (nat_lt n 16777216)
   where
-    go : (a b c : Bool) → length (if a then 0x91 ∷ n ∷ [] else (if b then 0x92 ∷ to_be_bytes w16 n else (if c then 0x93 ∷ n / 65536 ∷ to_be_bytes w16 (n % 65536) else 0x94 ∷ to_be_bytes w32 n))) ≤ 5
+    go : (a b c : Bool) → length (if a then 0x91 ∷ n ∷ [] else (if b then 0x92 ∷ to_be_bytes w16 n
+        else (if c then 0x93 ∷ n / 65536 ∷ to_be_bytes w16 (n % 65536) else 0x94 ∷ to_be_bytes w32 n))) ≤ 5
     go true b c = omega arith
     go false true c = omega arith
     go false false true = omega arith
@@ -56,4 +58,5 @@ enumerated_short n = go (nat_lt n 256) (nat_lt n 65536) (nat_lt n 16777216)
 pub short_error : (invoke_id choice class code : ℕ) → IsShort (Apdu.Error invoke_id choice class code)
 unfolding apdu_spelling
 short_error invoke_id choice class code =
-    let a = enumerated_short class in let b = enumerated_short code in let e = length-append (enumerated_spelling class) (enumerated_spelling code) in omega arith
+    let a = enumerated_short class in let b = enumerated_short code in let e = length-append (enumerated_spelling class) (enumerated_spelling code) in omega
+        arith

@@ -162,12 +162,12 @@ abbrev pub least_not : (ℕ → Bool) → (count from : ℕ) → Option ℕ
 least_not test zero from = None
 least_not test (suc count) from = if test from then least_not test count (from + 1) else Some from
 
--- as many tickets as 64 bits number
-abbrev pub LAST_TICKET : ℕ
-LAST_TICKET = 18446744073709551615
+-- the most asks that an end accepts: so many have a number of 64 bits each
+abbrev pub MOST_ASKS : ℕ
+MOST_ASKS = 18446744073709551615
 
 abbrev pub has_no_slot : ℕ → ClientEnd → Bool
-has_no_slot now e = nat_le e.capacity (count_by (is_slot_held now) e.slots) || nat_le LAST_TICKET e.asked
+has_no_slot now e = nat_le e.capacity (count_by (is_slot_held now) e.slots) || nat_le MOST_ASKS e.asked
 
 -- an accepted ask
 pub record Accepted : Type 0 where
@@ -177,9 +177,9 @@ pub record Accepted : Type 0 where
   pub ask : Ask
   pub sends : List Send
 
-pub data Answer : Type 0 where
-  Refused : (why : AskRefusal) → Answer
-  Asked : (accepted : Accepted) → Answer
+pub data AskOutcome : Type 0 where
+  Refused : (why : AskRefusal) → AskOutcome
+  Asked : (accepted : Accepted) → AskOutcome
 
 abbrev pub new_client : Context → (number : ℕ) → Ask → Client
 new_client c number ask = record { number = number; held = kept (asked_ticket c ask) }
@@ -199,24 +199,24 @@ accepts c now key ask e =
       sends = to_all key.peer (client.sends_of (asks (context_of c now key) ask));
     }
 
-abbrev pub asks_with_id : Settings → (now : ℕ) → PeerView → Ask → ClientEnd → Option ℕ → Answer
-asks_with_id c now peer ask e None = Answer.Refused NoInvokeId
+abbrev pub asks_with_id : Settings → (now : ℕ) → PeerView → Ask → ClientEnd → Option ℕ → AskOutcome
+asks_with_id c now peer ask e None = AskOutcome.Refused NoInvokeId
 asks_with_id c now peer ask e (Some invoke_id) =
-    if has_no_slot now e then Answer.Refused NoSlot else Asked (accepts c now (record { peer = peer; invoke_id = invoke_id }) ask e)
+    if has_no_slot now e then AskOutcome.Refused NoSlot else Asked (accepts c now (record { peer = peer; invoke_id = invoke_id }) ask e)
 
 -- it takes the least invoke ID that is not held for the peer
-abbrev pub asks_for : Settings → (now : ℕ) → PeerView → Ask → ClientEnd → Answer
+abbrev pub asks_for : Settings → (now : ℕ) → PeerView → Ask → ClientEnd → AskOutcome
 asks_for c now peer ask e = asks_with_id c now peer ask e (least_not (is_id_held now e.slots peer) 256 0)
 
-abbrev pub asks_by_way : Settings → (now : ℕ) → PeerView → (choice : ℕ) → Octets → ClientEnd → Way RequestFault → Answer
+abbrev pub asks_by_way : Settings → (now : ℕ) → PeerView → (choice : ℕ) → Octets → ClientEnd → Way RequestFault → AskOutcome
 asks_by_way c now peer choice octets e Way.InOne =
     asks_for c now peer (record { first = now; choice = choice; whole = true; pieces = octets ∷ [] }) e
 asks_by_way c now peer choice octets e (Way.InSegments pieces) =
     asks_for c now peer (record { first = now; choice = choice; whole = false; pieces = pieces }) e
-asks_by_way c now peer choice octets e (Way.Refused why) = Answer.Refused (CannotGo why)
+asks_by_way c now peer choice octets e (Way.Refused why) = AskOutcome.Refused (CannotGo why)
 
 -- a request with these service data, to a peer that takes so much
-abbrev pub client_asks : Settings → (now : ℕ) → PeerView → Limits → (choice : ℕ) → Octets → ClientEnd → Answer
+abbrev pub client_asks : Settings → (now : ℕ) → PeerView → Limits → (choice : ℕ) → Octets → ClientEnd → AskOutcome
 client_asks c now peer limits choice octets e = asks_by_way c now peer choice octets e (request_way_of c limits octets)
 
 -- The server's end.

@@ -10,7 +10,7 @@ use Rattle.bac_protocol.specs.Server as server
 use Rattle.bac_protocol.specs.Server.{Service}
 use Rattle.bac_ends.specs.Keys.{PeerKey}
 use Rattle.bac_ends.specs.Sends.{Send}
-use Rattle.bac_ends.specs.Ends.{Held, ClientSlot, ClientEnd, AskRefusal, Answer, context_of, client_asks, clients_tick}
+use Rattle.bac_ends.specs.Ends.{Held, ClientSlot, ClientEnd, AskRefusal, AskOutcome, context_of, client_asks, clients_tick}
 use Rattle.bac_ends.specs.Ends.{ServerSlot, ServerEnd, ServerTurn, server_hears}
 
 abbrev pub LIMITS : Limits
@@ -37,20 +37,20 @@ ended invoke_id = record { key = key 2 invoke_id; begin = 0; value = record { nu
 abbrev pub clients : List ClientSlot → (capacity : ℕ) → ClientEnd
 clients slots capacity = record { slots = slots; capacity = capacity; asked = 9 }
 
-abbrev pub asks_at : (now n : ℕ) → ClientEnd → Answer
+abbrev pub asks_at : (now n : ℕ) → ClientEnd → AskOutcome
 asks_at now n e = client_asks SETTINGS now (peer n) LIMITS 12 SERVICE_DATA e
 
-abbrev pub invoke_id_in : Answer → Option ℕ
-invoke_id_in (Answer.Refused why) = None
-invoke_id_in (Answer.Asked a) = Some a.invoke_id
+abbrev pub invoke_id_in : AskOutcome → Option ℕ
+invoke_id_in (AskOutcome.Refused why) = None
+invoke_id_in (AskOutcome.Asked a) = Some a.invoke_id
 
-abbrev pub refusal_in : Answer → Option AskRefusal
-refusal_in (Answer.Refused why) = Some why
-refusal_in (Answer.Asked a) = None
+abbrev pub refusal_in : AskOutcome → Option AskRefusal
+refusal_in (AskOutcome.Refused why) = Some why
+refusal_in (AskOutcome.Asked a) = None
 
-abbrev pub keys_in : Answer → List PeerKey
-keys_in (Answer.Refused why) = []
-keys_in (Answer.Asked a) = map (λ (s : ClientSlot). s.key) a.end.slots
+abbrev pub keys_in : AskOutcome → List PeerKey
+keys_in (AskOutcome.Refused why) = []
+keys_in (AskOutcome.Asked a) = map (λ (s : ClientSlot). s.key) a.end.slots
 
 -- the least invoke ID that is free is taken, whatever other peers hold
 pub record LeastInvokeId : Type 0 where

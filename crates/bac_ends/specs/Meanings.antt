@@ -1,6 +1,6 @@
 -- What the octets of service data mean, and how a ticket ends as a value.
 use Rattle.std.specs.Prelude.{◌≡◌, ℕ}
-use Rattle.bac_service.specs.Values as plain
+use Rattle.bac_service.specs.Replies as plain
 use Rattle.bac_service.specs.Replies.{SpellsComplex}
 use Rattle.bac_protocol.specs.Service as machine
 use Rattle.bac_ends.specs.Ends.{Ended}
@@ -8,7 +8,7 @@ use Rattle.bac_ends.specs.Ends.{Ended}
 -- a reply in octets, of a request of that choice, is this reply as a value
 abbrev pub MeansReply : (choice : ℕ) → machine.Reply → plain.Reply → Type 0
 MeansReply choice machine.Reply.Simple plain.Reply.Simple = Unit {0}
-MeansReply choice (machine.Reply.Complex octets) (plain.Reply.Whole c) = SpellsComplex choice c octets
+MeansReply choice (machine.Reply.Complex octets) (plain.Reply.Complex c) = SpellsComplex choice c octets
 MeansReply choice (machine.Reply.Error class code) (plain.Reply.Error a b) = (a ≡ class) × (b ≡ code)
 MeansReply choice _ _ = ⊥
 

@@ -1,9 +1,10 @@
 -- What an end sends, and the datagrams that carry it.
-use Rattle.std.specs.Prelude.{◌≡◌, ℕ, ◌≤◌, List, [], ◌∷◌, map, length}
+use Rattle.std.specs.Prelude.{◌≡◌, ℕ, List, [], ◌∷◌, map}
 use Rattle.bac_apdu.specs.Apdu.{Apdu}
-use Rattle.bac_apdu.specs.Spelling.{SpellsApdu, apdu_spelling, is_confirmed_request}
+use Rattle.bac_apdu.specs.Spelling.{SpellsApdu, is_confirmed_request}
 use Rattle.bac_npdu.specs.Peers.{PeerView}
 use Rattle.bac_npdu.specs.Datagram.{IsFrameTo}
+use Rattle.bac_protocol.specs.Short.{IsShort}
 
 -- an APDU for a peer
 pub record Send : Type 0 where
@@ -20,10 +21,6 @@ to_all peer apdus = map (to_peer peer) apdus
 pub record Datagram : Type 0 where
   pub to : List ℕ
   pub octets : List ℕ
-
--- an APDU that fits the longest size there is (clause 20.1.2.5)
-abbrev pub IsShort : Apdu → Type 0
-IsShort a = length (apdu_spelling a) ≤ 1476
 
 -- the datagram is the one frame of what is sent
 pub record IsSent (s : Send) (d : Datagram) : Type 0 where

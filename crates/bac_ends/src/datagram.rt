@@ -2,7 +2,8 @@
 ghost use Rattle.std.specs.Prelude.{◌≡◌, ◌≤◌, length, IfOk};
 ghost use Rattle.bac_apdu.specs.Views.{apdu_view};
 ghost use Rattle.bac_npdu.specs.Views.{peer_view};
-ghost use Rattle.bac_ends.specs.Sends.{to_peer, IsSent, IsShort};
+ghost use Rattle.bac_protocol.specs.Short.{IsShort};
+ghost use Rattle.bac_ends.specs.Sends.{to_peer, IsSent};
 
 use bac_apdu::{Apdu, write};
 use bac_npdu::{Peer, write_datagram};

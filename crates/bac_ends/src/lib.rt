@@ -15,7 +15,7 @@ mod sizes;
 
 pub use datagram::{Datagram, datagram_of};
 pub use invoke_id::invoke_id_of;
-pub use laws::keys_in_order;
+pub use laws::{keys_in_order, slots_are_held_as_tickets};
 pub use peer_key::PeerKey;
 pub use settings::Settings;
 pub use short_sending::{abort_datagram, ack_datagram};

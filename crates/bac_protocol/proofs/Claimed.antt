@@ -22,8 +22,8 @@ use Rattle.bac_protocol.specs.Claims.{IsPieceAt, IsPiece, IsAck, IsReadAsNext, I
 use Rattle.bac_protocol.specs.Claims.{MayArrive, IsInPlace}
 use Rattle.bac_protocol.specs.Claims.{IsBounded, IsPieceOf, WasPerformed, IsOfAsk, sent_until, LiveIsOf, IsOfTicket, AreOfNewest}
 use Rattle.bac_protocol.specs.Claims.{IsNearUp, IsNearDown, StateHasTaken, ServerHasTaken, ClientIsInWindow, IsRequestPass, RequestsAreInWindow}
-use Rattle.bac_protocol.specs.Claims.{ClientHasTaken, IsReplyPass, IsOfNoPass, IsUnsent, StateGives, ServerGives, RepliesAreInWindow}
-use Rattle.bac_protocol.specs.Claims.{IsPastFirstPass, IsDone, HasDone, IsSegmentOfRequest, LaterPassesFindDone}
+use Rattle.bac_protocol.specs.Claims.{ClientHasTaken, IsReplyPass, IsOfNoPass, IsUnsent, StateHasReplyPass, ServerHasReplyPass, RepliesAreInWindow}
+use Rattle.bac_protocol.specs.Claims.{IsPastFirstPass, HasReply, IsLiveWithReply, IsSegmentOfRequest, LaterPassesFindReply}
 use Rattle.bac_protocol.proofs.Sound.{Up, Down, IsPieceUp, IsPieceDown, client_until, Says, IsRead, PassFits, ClientFits, IsUnbegun, StateFits, ServerFits}
 use Rattle.bac_protocol.proofs.Sound.{IsUnderway, UpFits, DownFits, Sound, IsSoundAt}
 use Rattle.bac_protocol.proofs.Sound.Up.{Reading, Repeated}
@@ -249,7 +249,7 @@ module _ (W : ℕ) (x : Rules) (bound : IsBounded W x) (key : Key) (n : Net) (t 
   unbegun_gives _ _ s h = absurd h
 
   state_gives : (up : Up) (down : Down) → SoundWith up down → (st : State) → StateFits W (n.numbers key) t.ask st up down n.log
-      → StateGives W x n key t st
+      → StateHasReplyPass W x n key t st
   state_gives (Reading tk sn) Unsent s (State.SegmentedRequest inc since) h = is_unsent (Reading tk sn) s
   state_gives up Unsent s (Done kept) h = is_unsent up s
   state_gives up down s (SegmentedResponse out transfer since) h = reply_pass W x bound n key t out transfer since up down s h
@@ -257,7 +257,7 @@ module _ (W : ℕ) (x : Rules) (bound : IsBounded W x) (key : Key) (n : Net) (t 
   state_gives _ _ s _ h = absurd h
 
   server_gives : (up : Up) (down : Down) → SoundWith up down → (o : Option Entry) → ServerFits W (n.numbers key) t.ask o up down n.log
-      → ServerGives W x n key t o
+      → ServerHasReplyPass W x n key t o
   server_gives up down s None h = unbegun_gives up down s h
   server_gives up down s (Some e) (inl past) = let dead = past.dead in inl (omega arith, unbegun_gives up down s past.unbegun)
   server_gives up down s (Some e) (inr b) = inr (b.after, state_gives up down s e.state b.state)
@@ -282,7 +282,7 @@ read_by W number ask log (SegmentedConf inc) repeats up (Sent ps a b) o whole pa
 read_by W number ask log Idle repeats up down o whole past c passes fits = repeated_read ask repeats up whole past passes
 
 done_by : (W number : ℕ) (ask : Ask) (st : State) (up : Up) (down : Down) (log : List Fact) → ask.whole ≡ false → IsRead ask up
-    → StateFits W number ask st up down log → IsDone st
+    → StateFits W number ask st up down log → HasReply st
 done_by W number ask (State.SegmentedRequest inc since) (Reading tk sn) Unsent log whole read h = unread W ask tk sn whole h.front.left read
 done_by W number ask (Done kept) up down log whole read h = tt
 done_by W number ask (SegmentedResponse out transfer since) up down log whole read h = tt
@@ -295,14 +295,14 @@ segment_time W number ask log up down m k (ConfirmedRequest limits id (Some g) c
 segment_time W number ask log up down m k _ is h = absurd is
 
 has_done : (W number now m : ℕ) (ask : Ask) (log : List Fact) (up : Up) (down : Down) (o : Option Entry) → ask.whole ≡ false → UpFits W ask up
-    → IsRead ask up → ServerFits W number ask o up down log → now - m ≤ LIFE → m ≤ client_until ask → HasDone now ask o
+    → IsRead ask up → ServerFits W number ask o up down log → now - m ≤ LIFE → m ≤ client_until ask → IsLiveWithReply now ask o
 has_done W number now m ask log up down None whole u read h young early = unbegun_unread W number ask log up down whole u read h
 has_done W number now m ask log up down (Some e) whole u read (inl past) young early =
     absurd (unbegun_unread W number ask log up down whole u read past.unbegun)
 has_done W number now m ask log up down (Some e) whole u read (inr b) young early =
     let after = b.after in (after, grind (arith, nat_tests), done_by W number ask e.state up down log whole read b.state)
 
-later_passes : (W : ℕ) (x : Rules) (n : Net) → NetSound W n → LaterPassesFindDone x n
+later_passes : (W : ℕ) (x : Rules) (n : Net) → NetSound W n → LaterPassesFindReply x n
 later_passes W x n s key t at whole past k c e may is =
     let h = sound_at W n key (Some t) at s in
     let read = read_by W (n.numbers key) t.ask n.log t.phase t.repeats h.0 h.1 (n.entries key) whole past (h.2).client (h.2).passes
@@ -323,5 +323,5 @@ module _ (S : Type 0) (shop : Shop S) (opening : ℕ → S) (W : ℕ) (x : Rules
   pub replies_in_run : RepliesAreInWindow W x (run S shop x events (start S opening)).net
   replies_in_run = replies_in W x bound (run S shop x events (start S opening)).net sound
 
-  pub later_passes_in_run : LaterPassesFindDone x (run S shop x events (start S opening)).net
+  pub later_passes_in_run : LaterPassesFindReply x (run S shop x events (start S opening)).net
   later_passes_in_run = later_passes W x (run S shop x events (start S opening)).net sound

@@ -463,7 +463,8 @@ module _ (W V : ℕ) (some : 0 < W) (room : V + 2 * W ≤ 255) (settings : Setti
 
     first_piece : (up : Up) (down : Down) → SoundOf W key w t up down → IsUntaken down → (k : ℕ) → k ≤ V → (g : Segment) (o : Octets) → g.number ≡ 0
         → IsPieceDown W down k g o → (choice proposed : ℕ)
-        → IsKept (client.conf_segment_taken c readable choice g.number (incoming settings.window proposed).window (takes (incoming settings.window proposed) g.number g.more o))
+        → IsKept (client.conf_segment_taken c readable choice g.number (incoming settings.window proposed).window
+            (takes (incoming settings.window proposed) g.number g.more o))
     first_piece up Unsent s untaken k late g o e piece choice proposed = absurd piece
     first_piece up (Sent ps tk sn) s untaken k late g o e piece choice proposed =
         let some = s.download.some in
@@ -509,7 +510,8 @@ module _ (W V : ℕ) (some : 0 < W) (room : V + 2 * W ≤ 255) (settings : Setti
     await_confirmation_kept up down s untaken m k late (Abort true id r) says = refusal_kept up down s opened (Abort true id r)
     await_confirmation_kept up down s untaken m k late _ says = (up, down, s)
 
-    segmented_request_kept : (up : Up) (down : Down) → SoundOf W key w t up down → (out : Outgoing) (all_sent : Bool) → IsSendingFor W t.ask out up down → (m k : ℕ)
+    segmented_request_kept : (up : Up) (down : Down) → SoundOf W key w t up down → (out : Outgoing) (all_sent : Bool) → IsSendingFor W t.ask out up down
+        → (m k : ℕ)
         → k ≤ V → (a : Apdu) → Says W w.number t.ask w.log up down m k a → IsKept (client.segmented_request_gets c readable t.ask out all_sent a)
     segmented_request_kept up down s out all_sent h m k late (SegmentAck true id ack) says =
         moves_kept up down s out all_sent h k ack.number ack.window late says.1
@@ -531,7 +533,8 @@ module _ (W V : ℕ) (some : 0 < W) (room : V + 2 * W ≤ 255) (settings : Setti
 
     segmented_conf_kept : (up : Up) (down : Down) → SoundOf W key w t up down → (inc : Incoming) → CollectsDown inc down → (m k : ℕ) → k ≤ V → (a : Apdu)
         → Says W w.number t.ask w.log up down m k a → IsKept (client.segmented_conf_gets c readable t.ask inc a)
-    segmented_conf_kept up down s inc h m k late (ComplexAck id (Some g) choice o) says = next_kept up down s inc h k late g o says.1 (nat_eq choice t.ask.choice)
+    segmented_conf_kept up down s inc h m k late (ComplexAck id (Some g) choice o) says = next_kept up down s inc h k late g o says.1
+        (nat_eq choice t.ask.choice)
     segmented_conf_kept up down s inc h m k late a says = refusal_kept up down s opened a
 
     open_gets_kept : (up : Up) (down : Down) → SoundOf W key w t up down → (phase : Phase) → ClientFits W t.ask phase up down → (m k : ℕ) → k ≤ V

@@ -81,7 +81,8 @@ module _ (c : Context) (readable : Readable) (P : Apdu → Type 0) (Window : ℕ
       go true = h
       go false = k
 
-  conf_segment_own : (choice number window : ℕ) → Window window → (y : Taking) → TakingHas Window y → Own (client.conf_segment_taken c readable choice number window y)
+  conf_segment_own : (choice number window : ℕ) → Window window → (y : Taking) → TakingHas Window y → Own
+      (client.conf_segment_taken c readable choice number window y)
   conf_segment_own choice number window h (Taken true inc) k = ((f.ack false number window h, tt), k)
   conf_segment_own choice number window h (Taken false inc) k = (tt, k)
   conf_segment_own choice number window h (Whole parts) k = answered_own choice (client.client_ack c false number window ∷ []) (join parts)
@@ -122,7 +123,8 @@ module _ (c : Context) (readable : Readable) (P : Apdu → Type 0) (Window : ℕ
 
   segmented_request_own : (ask : Ask) (out : Outgoing) (all_sent : Bool) (a : Apdu) → BeginsAnswer c.settings.window Window a
       → Own (client.segmented_request_gets c readable ask out all_sent a)
-  segmented_request_own ask out all_sent (SegmentAck true i ack) h = moves_request_window_own ask.choice all_sent (acknowledged c.settings.window out ack.number ack.window)
+  segmented_request_own ask out all_sent (SegmentAck true i ack) h = moves_request_window_own ask.choice all_sent
+      (acknowledged c.settings.window out ack.number ack.window)
   segmented_request_own ask out true a h = await_confirmation_own ask a h
   segmented_request_own ask out false a h = refusal_own a
 
@@ -174,7 +176,8 @@ module _ (c : Context) (readable : Readable) (P : Apdu → Type 0) (Window : ℕ
   sends_request_again_own choice all_sent (Some out) = (window_own choice out, tt)
 
   open_ticks_own : (t : Ticket) → PhaseHas Window t.phase → (phase : Phase) → Own (client.open_ticks c t phase)
-  open_ticks_own t k (Phase.SegmentedRequest out all_sent) = if_own (nat_le T_SEG (c.now - t.since)) (client.sends_request_again c t.ask.choice all_sent (again out))
+  open_ticks_own t k (Phase.SegmentedRequest out all_sent) = if_own (nat_le T_SEG (c.now - t.since))
+      (client.sends_request_again c t.ask.choice all_sent (again out))
       (sends_request_again_own t.ask.choice all_sent (again out))
   open_ticks_own t k AwaitConfirmation = if_own (nat_le T_OUT (c.now - t.since)) (client.repeats c t) (repeats_own t k)
   open_ticks_own t k (SegmentedConf inc) = if_own (nat_le WAIT_SEG (c.now - t.since)) (if t.ask.whole then client.repeats_whole c t else Ends [] TimedOut)
@@ -291,8 +294,10 @@ module _ (c : Context) (service : Service) (P : Apdu → Type 0) (Window : ℕ �
       → (octets : Octets) → Own' (server.idle_gets_segment c service o free choice limits g octets)
   segment_own o h free choice limits g win octets = go (nat_eq g.number 0) free
     where
-      go : (b d : Bool) → Own' (if not b then server.rests o [] else if d then server.request_segment_taken c service (server.begins c choice limits None) g.number
-          (incoming c.settings.window g.window).window (takes (incoming c.settings.window g.window) g.number g.more octets) else server.rests o (server.server_abort c OTHER ∷ []))
+      go : (b d : Bool) → Own' (if not b then server.rests o [] else if d then server.request_segment_taken c service (server.begins c choice limits None)
+          g.number
+          (incoming c.settings.window g.window).window (takes (incoming c.settings.window g.window) g.number g.more octets) else server.rests o
+              (server.server_abort c OTHER ∷ []))
       go true true =
           let inc = incoming c.settings.window g.window in
           request_segment_own (server.begins c choice limits None) g.number inc.window win (takes inc g.number g.more octets)
@@ -311,7 +316,8 @@ module _ (c : Context) (service : Service) (P : Apdu → Type 0) (Window : ℕ �
       → Own' (server.segmented_request_gets c service e inc since a)
   request_in_segments_own e h inc k since (ConfirmedRequest limits i (Some g) choice octets) = go (nat_le WAIT_SEG (c.now - since))
     where
-      go : (b : Bool) → Own' (if b then server.becomes e Dropped (server.server_abort c OTHER ∷ []) else server.request_segment_taken c service e g.number inc.window
+      go : (b : Bool) → Own' (if b then server.becomes e Dropped (server.server_abort c OTHER ∷ []) else server.request_segment_taken c service e g.number
+          inc.window
           (takes inc g.number g.more octets))
       go true = ((f.abort 0, tt), tt)
       go false = request_segment_own e g.number inc.window k (takes inc g.number g.more octets) (takes_has Window inc g.number g.more octets k)

@@ -40,7 +40,8 @@ way_taken d peer Simple ps e = absurd cc
 way_taken d peer (Error class code) ps e = absurd cc
 way_taken d peer (Complex octets) ps e = by_size (nat_le (length octets + 3) (transfer_size d.limits.max_apdu peer.max_apdu)) e
   where
-    by_kind : (b : Bool) (qs : List Octets) → (if not b then Refused SEGMENTATION_NOT_SUPPORTED else if allows_segments peer.max_segments (length qs) then InSegments qs
+    by_kind : (b : Bool) (qs : List Octets) → (if not b then Refused SEGMENTATION_NOT_SUPPORTED else if allows_segments peer.max_segments (length qs)
+        then InSegments qs
         else Refused BUFFER_OVERFLOW) ≡ InSegments ps → b ≡ true
     by_kind true qs h = refl
     by_kind false qs h = absurd cc
@@ -137,7 +138,8 @@ module _ (S : Type 0) (shop : Shop S) (x : Rules) (now number : ℕ) (key : Key)
         → takes inc (t % 256) (nat_lt (t + 1) n) (get_or ps t []) ≡ Taken false inc' → Leads1 (replying s inc (piece t ∷ xs)) (replying s inc' xs)
     reply_keeps s inc inc' t xs le e =
         let from = replying s inc (piece t ∷ xs) in
-        one_step S shop x now number key from (replying s inc' xs) xs (piece t) refl le refl (is_begun now (in_state (SegmentedResponse s.out Running now)) refl)
+        one_step S shop x now number key from (replying s inc' xs) xs (piece t) refl le refl
+            (is_begun now (in_state (SegmentedResponse s.out Running now)) refl)
         (ap (λ (r : client.Reaction). reacted S shop x now number key from xs r) (client_takes inc t (Taken false inc') e)
         ∙ ap (λ (ys : List Apdu). replying s inc' ys) (append-nil xs))
 
@@ -201,7 +203,8 @@ module _ (S : Type 0) (shop : Shop S) (x : Rules) (now number : ℕ) (key : Key)
           let e = takes_last ps empty 0 one sizes.few sizes.short refl refl in
           let end = over begun.entry (ack 0 ∷ []) p in
           within_then S shop x now number key 1 0 (2 * n - 1) begun end end (omega arith)
-          (one_step S shop x now number key begun end [] (piece 0) refl (omega arith) refl (is_begun now (in_state (SegmentedResponse (outgoing ps) Running now)) refl)
+          (one_step S shop x now number key begun end [] (piece 0) refl (omega arith) refl (is_begun now
+              (in_state (SegmentedResponse (outgoing ps) Running now)) refl)
           (ap (λ (r : client.Reaction). reacted S shop x now number key begun [] r) (client_first (Whole ps) e ∙ answered_is 0 actual)))
           (no_step S shop x now number key end end refl)
 
@@ -309,7 +312,8 @@ module _ (S : Type 0) (shop : Shop S) (x : Rules) (now number : ℕ) (key : Key)
         (no_step S shop x now number key (over h.entry h.pending p) (over h.entry h.pending p) refl);
   }
 
-  pub reply_read : (p : Reply) (way : Way ℕ) → reply_way_of d.settings c.settings.limits p ≡ way → WayFits way → KindFits x.readable ask.choice p → 0 < actual → actual ≤ 256
+  pub reply_read : (p : Reply) (way : Way ℕ) → reply_way_of d.settings c.settings.limits p ≡ way → WayFits way → KindFits x.readable ask.choice p → 0
+      < actual → actual ≤ 256
       → actual ≤ x.overtake → EndsWith (2 * way_count way) (given p way) p
   reply_read p InOne is fits kind some small room = ends_more 1 2 (given p InOne) p (omega arith) (at_once p kind)
   reply_read p (InSegments ps) is fits kind some small room =

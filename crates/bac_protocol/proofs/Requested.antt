@@ -122,27 +122,27 @@ module _ (S : Type 0) (shop : Shop S) (x : Rules) (now number : ℕ) (key : Key)
   abbrev in_phase : Phase → Ticket
   in_phase phase = record { ask = ask; phase = phase; repeats = RETRIES; since = now }
 
-  abbrev sending : Sender → Ticket
-  sending s = in_phase (Phase.SegmentedRequest s.out s.all_sent)
+  abbrev segmented_request : Sender → Ticket
+  segmented_request s = in_phase (Phase.SegmentedRequest s.out s.all_sent)
 
   abbrev begun : Option Octets → State → Entry
   begun kept state = record { begin = now; choice = ask.choice; limits = c.settings.limits; request = kept; state = state }
 
-  abbrev receiving : Incoming → Entry
-  receiving inc = begun None (State.SegmentedRequest inc now)
+  abbrev segmented_request_entry : Incoming → Entry
+  segmented_request_entry inc = begun None (State.SegmentedRequest inc now)
 
   -- the request is under way
   abbrev requesting : Sender → Incoming → List Apdu → Duo S
-  requesting s inc pending = record { ticket = sending s; entry = Some (receiving inc); pending = pending; stores = stores; log = log }
+  requesting s inc pending = record { ticket = segmented_request s; entry = Some (segmented_request_entry inc); pending = pending; stores = stores; log = log }
 
   abbrev Leads1 : Duo S → Duo S → Type 0
   Leads1 p q = Within S shop x now number key 1 p q
 
   server_takes : (inc : Incoming) (t : ℕ) (y : Taking) → takes inc (t % 256) (nat_lt (t + 1) n) (get_or ask.pieces t []) ≡ y
-      → server.server_gets d service (Some (receiving inc)) true (piece t) ≡ server.request_segment_taken d service (receiving inc)
+      → server.server_gets d service (Some (segmented_request_entry inc)) true (piece t) ≡ server.request_segment_taken d service (segmented_request_entry inc)
       (t % 256) inc.window y
   server_takes inc t y is =
-      let e = receiving inc in
+      let e = segmented_request_entry inc in
       ap (λ b. if b then server.live_gets d service e (State.SegmentedRequest inc now) (piece t) else server.idle_gets d service (Some e) true
       (piece t)) (is_alive now)
       ∙ ap (λ b. if b then server.becomes e Dropped (server.server_abort d OTHER ∷ []) else server.request_segment_taken d service e (t % 256) inc.window
@@ -154,7 +154,8 @@ module _ (S : Type 0) (shop : Shop S) (x : Rules) (now number : ℕ) (key : Key)
       → Leads1 (requesting s inc (piece t ∷ [])) (requesting s inc' (ack (t % 256) ∷ []))
   request_acks s inc inc' t is e =
       let from = requesting s inc (piece t ∷ []) in
-      one_step S shop x now number key from (requesting s inc' (ack (t % 256) ∷ [])) [] (piece t) refl (omega arith) refl (is_begun now (receiving inc) refl)
+      one_step S shop x now number key from (requesting s inc' (ack (t % 256) ∷ [])) [] (piece t) refl (omega arith) refl
+          (is_begun now (segmented_request_entry inc) refl)
       (ap (λ (v : server.Reaction). served S shop x now number key from [] v) (server_takes inc t (Taken true inc') e)
       ∙ ap (λ (i : ℕ). requesting s inc' (server.server_ack d false (t % 256) i ∷ [])) is)
 
@@ -162,13 +163,13 @@ module _ (S : Type 0) (shop : Shop S) (x : Rules) (now number : ℕ) (key : Key)
       → takes inc (t % 256) (nat_lt (t + 1) n) (get_or ask.pieces t []) ≡ Taken false inc' → Leads1 (requesting s inc (piece t ∷ xs)) (requesting s inc' xs)
   request_keeps s inc inc' t xs le e =
       let from = requesting s inc (piece t ∷ xs) in
-      one_step S shop x now number key from (requesting s inc' xs) xs (piece t) refl le refl (is_begun now (receiving inc) refl)
+      one_step S shop x now number key from (requesting s inc' xs) xs (piece t) refl le refl (is_begun now (segmented_request_entry inc) refl)
       (ap (λ (v : server.Reaction). served S shop x now number key from xs v) (server_takes inc t (Taken false inc') e)
       ∙ ap (λ (ys : List Apdu). requesting s inc' ys) (append-nil xs))
 
   client_moves : (s : Sender) (i : ℕ) (y : Option Outgoing) → acknowledged c.settings.window s.out i actual ≡ y
-      → client.client_gets c x.readable (sending s) (ack i) ≡ client.moves_request_window c ask.choice s.all_sent y
-  client_moves s i y is = client_open x key now (sending s) (ack i) first refl refl
+      → client.client_gets c x.readable (segmented_request s) (ack i) ≡ client.moves_request_window c ask.choice s.all_sent y
+  client_moves s i y is = client_open x key now (segmented_request s) (ack i) first refl refl
       ∙ ap (λ (z : Option Outgoing). client.moves_request_window c ask.choice s.all_sent z) is
 
   request_moves : (s : Sender) (inc : Incoming) (i : ℕ) (out : Outgoing) → out.pieces ≡ ask.pieces → acknowledged c.settings.window s.out i actual ≡ Some out
@@ -177,7 +178,7 @@ module _ (S : Type 0) (shop : Shop S) (x : Rules) (now number : ℕ) (key : Key)
   request_moves s inc i out same is going =
       let from = requesting s inc (ack i ∷ []) in
       one_step S shop x now number key from (requesting (moved s out) inc (pieces_from piece out.first (in_window out))) [] (ack i) refl (omega arith) refl
-      (is_begun now (receiving inc) refl)
+      (is_begun now (segmented_request_entry inc) refl)
       (ap (λ (r : client.Reaction). reacted S shop x now number key from [] r)
       (client_moves s i (Some out) is ∙ ap (λ b. if b then GoesOn AwaitConfirmation [] else client.sends_request_window c ask.choice out s.all_sent) going)
       ∙ ap (λ (ps : List Octets). requesting (moved s out) inc (pieces_from (client.request_piece c ask.choice ps) out.first (in_window out))) same)
@@ -213,8 +214,8 @@ module _ (S : Type 0) (shop : Shop S) (x : Rules) (now number : ℕ) (key : Key)
       log = log_after;
     }
 
-    abbrev awaiting : Ticket
-    awaiting = in_phase AwaitConfirmation
+    abbrev await_confirmation : Ticket
+    await_confirmation = in_phase AwaitConfirmation
 
     -- one copy is left
     abbrev pub asking : Phase → Option Entry → Apdu → Duo S
@@ -240,24 +241,26 @@ module _ (S : Type 0) (shop : Shop S) (x : Rules) (now number : ℕ) (key : Key)
     -- the acknowledgement of the last piece is delivered
     last_acked : (s : Sender) (i : ℕ) → 1 ≤ x.overtake → in_window s.out ≤ 256 → s.out.pieces ≡ ask.pieces → s.out.first ≤ i
         → i + 1 ≡ s.out.first + in_window s.out → i + 1 ≡ n
-        → Leads1 (performed (sending s) None (ack (i % 256) ∷ sent_first ∷ [])) (performed awaiting None (sent_first ∷ []))
+        → Leads1 (performed (segmented_request s) None (ack (i % 256) ∷ sent_first ∷ [])) (performed await_confirmation None (sent_first ∷ []))
     last_acked s i room small same le full last =
-        let from = performed (sending s) None (ack (i % 256) ∷ sent_first ∷ []) in
+        let from = performed (segmented_request s) None (ack (i % 256) ∷ sent_first ∷ []) in
         let e = acknowledged_last actual c.settings.window s.out i small le full in
         let len : length s.out.pieces ≡ n = ap length same in
         let f = finished (next_window actual c.settings.window s.out i) (omega arith) in
-        one_step S shop x now number key from (performed awaiting None (sent_first ∷ [])) (sent_first ∷ []) (ack (i % 256)) refl (omega arith) refl
+        one_step S shop x now number key from (performed await_confirmation None (sent_first ∷ [])) (sent_first ∷ []) (ack (i % 256)) refl (omega arith) refl
         (is_begun now (begun None (kept_state d ask.choice p way)) refl)
         (ap (λ (r : client.Reaction). reacted S shop x now number key from (sent_first ∷ []) r)
         (client_moves s (i % 256) (Some (next_window actual c.settings.window s.out i)) e
-        ∙ ap (λ b. if b then GoesOn AwaitConfirmation [] else client.sends_request_window c ask.choice (next_window actual c.settings.window s.out i) s.all_sent) f))
+        ∙ ap (λ b. if b then GoesOn AwaitConfirmation [] else client.sends_request_window c ask.choice (next_window actual c.settings.window s.out i)
+            s.all_sent) f))
 
     pub whole_read : (o : Option Entry) → is_none_live now o ≡ true
         → Starts S shop x now number key 1 (asking AwaitConfirmation o (client.request_apdu c ask))
-        (performed awaiting (Some (join ask.pieces)) (sent_first ∷ []))
+        (performed await_confirmation (Some (join ask.pieces)) (sent_first ∷ []))
     whole_read o dead =
         let a = client.request_apdu c ask in
-        first_step S shop x now number key (asking AwaitConfirmation o a) (performed awaiting (Some (join ask.pieces)) (sent_first ∷ [])) [] a refl (omega arith) refl
+        first_step S shop x now number key (asking AwaitConfirmation o a) (performed await_confirmation (Some (join ask.pieces)) (sent_first ∷ [])) [] a
+            refl (omega arith) refl
         (performs_now AwaitConfirmation o (Some (join ask.pieces)) Dropped a [] refl (server_new d service o a dead))
 
     abbrev pub start : Sender
@@ -272,7 +275,7 @@ module _ (S : Type 0) (shop : Shop S) (x : Rules) (now number : ℕ) (key : Key)
         ∙ ap (λ (z : Taking). server.request_segment_taken d service (begun None Dropped) 0 actual z) e
 
     abbrev end : Duo S
-    end = performed awaiting None (sent_first ∷ [])
+    end = performed await_confirmation None (sent_first ∷ [])
 
     abbrev from_start : Option Entry → Duo S
     from_start o = asking (Phase.SegmentedRequest start.out start.all_sent) o (piece 0)
@@ -286,7 +289,7 @@ module _ (S : Type 0) (shop : Shop S) (x : Rules) (now number : ℕ) (key : Key)
         let room = sizes.room in
         let e = takes_last ask.pieces empty 0 one sizes.few sizes.short refl refl in
         let acks = ack 0 ∷ [] in
-        let done = performed (sending start) None (ack 0 ∷ sent_first ∷ []) in
+        let done = performed (segmented_request start) None (ack 0 ∷ sent_first ∷ []) in
         starts_then S shop x now number key 1 1 (2 * n) (from_start o) done end (omega arith)
         (first_step S shop x now number key (from_start o) done [] (piece 0) refl (omega arith) refl
         (performs_now (Phase.SegmentedRequest start.out start.all_sent) o None Dropped (piece 0) acks refl (first_taken o (Whole ask.pieces) dead e)))
@@ -317,7 +320,8 @@ module _ (S : Type 0) (shop : Shop S) (x : Rules) (now number : ℕ) (key : Key)
           acknowledged = refl;
           parts = parts_next ask.pieces empty 0 0 (omega arith) refl;
         } in
-        let z = all_but_last S shop x now number key actual c.settings.window ask.pieces sizes carries_request n start inc 0 (2 * n - 3) taken more (omega arith)
+        let z = all_but_last S shop x now number key actual c.settings.window ask.pieces sizes carries_request n start inc 0 (2 * n - 3) taken more
+            (omega arith)
         (omega arith) in
         let b = z.before in
         let len : length z.s.out.pieces ≡ n = ap length b.pieces in
@@ -325,14 +329,15 @@ module _ (S : Type 0) (shop : Shop S) (x : Rules) (now number : ℕ) (key : Key)
         let full = b.full in
         let win = b.window in
         let f = server_takes z.inc z.p (Whole ask.pieces) (takes_last ask.pieces z.inc z.p z.last sizes.few sizes.short b.taken b.parts)
-        ∙ ap (λ (i : ℕ). server.request_segment_taken d service (receiving z.inc) (z.p % 256) i (Whole ask.pieces)) b.actual_is in
+        ∙ ap (λ (i : ℕ). server.request_segment_taken d service (segmented_request_entry z.inc) (z.p % 256) i (Whole ask.pieces)) b.actual_is in
         let before = requesting z.s z.inc (piece z.p ∷ []) in
-        let done = performed (sending z.s) None (ack (z.p % 256) ∷ sent_first ∷ []) in
+        let done = performed (segmented_request z.s) None (ack (z.p % 256) ∷ sent_first ∷ []) in
         starts_then S shop x now number key 1 (2 * n - 1) (2 * n) (from_start o) acked end (omega arith) one
         (within_then S shop x now number key (2 * n - 3) 2 (2 * n - 1) acked before end (omega arith) z.reaches
         (within_then S shop x now number key 1 1 2 before done end (omega arith)
-        (one_step S shop x now number key before done [] (piece z.p) refl (omega arith) refl (is_begun now (receiving z.inc) refl)
-        (performs_now (Phase.SegmentedRequest z.s.out z.s.all_sent) (Some (receiving z.inc)) None (State.SegmentedRequest z.inc now) (piece z.p) (ack (z.p % 256) ∷ []) refl f))
+        (one_step S shop x now number key before done [] (piece z.p) refl (omega arith) refl (is_begun now (segmented_request_entry z.inc) refl)
+        (performs_now (Phase.SegmentedRequest z.s.out z.s.all_sent) (Some (segmented_request_entry z.inc)) None (State.SegmentedRequest z.inc now)
+            (piece z.p) (ack (z.p % 256) ∷ []) refl f))
         (last_acked z.s z.p (omega arith) (omega arith) b.pieces b.behind b.full z.last)))
 
     pub pieces_read : (o : Option Entry) → is_none_live now o ≡ true → 0 < n → Fitting x.overtake actual c.settings.window ask.pieces

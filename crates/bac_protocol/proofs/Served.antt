@@ -18,7 +18,8 @@ use Rattle.bac_protocol.specs.Server.Transfer.{Running, Stopped, Finished}
 use Rattle.bac_protocol.specs.Server.State.{Done, SegmentedResponse, Dropped}
 use Rattle.bac_protocol.specs.Sizes.Way.{InOne, InSegments, Refused}
 use Rattle.bac_protocol.specs.Steps.{IsSameEntry, TransferGoesOn, StateStays, StaysIn, LiveStays}
-use Rattle.bac_protocol.specs.Steps.{IsReceiving, MayPerform, held_by, held_in, IsWholeWith, BeginsWith, IsEntryFor, KeepsReply, IsEffect, EffectsAreKept}
+use Rattle.bac_protocol.specs.Steps.{IsSegmentedRequest, MayPerform, held_by, held_in, IsWholeWith, BeginsWith, IsEntryFor, KeepsReply, IsEffect}
+use Rattle.bac_protocol.specs.Steps.{EffectsAreKept}
 use Rattle.bac_protocol.proofs.Transfer.{moved, acknowledged_cases, with_piece, takes_cases}
 use Rattle.bac_protocol.proofs.Ways.{way_cut}
 
@@ -62,9 +63,9 @@ stays (Done kept) = refl
 stays (SegmentedResponse out transfer since) = (refl, omega arith)
 stays Dropped = refl
 
-receiving_stays : (e : Entry) (inc : Incoming) (since : ℕ) (o : Option Entry) → SameIn e o → StaysAs e (State.SegmentedRequest inc since) o
-receiving_stays e inc since None h = absurd h
-receiving_stays e inc since (Some d) h = (h, tt)
+segmented_request_stays : (e : Entry) (inc : Incoming) (since : ℕ) (o : Option Entry) → SameIn e o → StaysAs e (State.SegmentedRequest inc since) o
+segmented_request_stays e inc since None h = absurd h
+segmented_request_stays e inc since (Some d) h = (h, tt)
 
 stays_in : (e : Entry) (o : Option Entry) → StaysAs e e.state o → StaysIn e o
 stays_in e None h = absurd h
@@ -111,7 +112,8 @@ module _ (c : Context) (service : Service) where
       go (Rejects r) is = (tt, becomes e (Done (Reject c.invoke_id r)))
 
   request_segment_served : (P : Octets → Type 0) (e : Entry) (inc : Incoming) (number window : ℕ) (more : Bool) (octets : Octets)
-      → (more ≡ false → P (join (inc.parts ++ octets ∷ []))) → Serves P e (server.request_segment_taken c service e number window (takes inc number more octets))
+      → (more ≡ false → P (join (inc.parts ++ octets ∷ []))) → Serves P e (server.request_segment_taken c service e number window
+          (takes inc number more octets))
   request_segment_served P e inc number window more octets h =
       takes_cases inc number more octets (λ x. Serves P e (server.request_segment_taken c service e number window x))
       (λ ne. (tt, becomes e (State.SegmentedRequest (record inc { unacknowledged = 0 }) c.now)))
@@ -130,7 +132,8 @@ module _ (c : Context) (service : Service) where
   with_entry P Q R f (Some x) None h = absurd h
   with_entry P Q R f (Some x) (Some d) h = record { whole = h.whole; for = f d h.for; outcome = h.outcome; choice = h.choice; kept = h.kept }
 
-  idle_request_served : (P : Octets → Type 0) (Q : Entry → Type 0) (dead : Option Entry) (free : Bool) (choice : ℕ) (limits : Limits) (octets : Octets) → P octets
+  idle_request_served : (P : Octets → Type 0) (Q : Entry → Type 0) (dead : Option Entry) (free : Bool) (choice : ℕ) (limits : Limits) (octets : Octets) → P
+      octets
       → ((d : Entry) → IsSameEntry (server.begins c choice limits (Some octets)) d → Q d)
       → Performs P Q (server.idle_gets_request c service dead free choice limits octets)
   idle_request_served P Q dead true choice limits octets h f =
@@ -139,13 +142,15 @@ module _ (c : Context) (service : Service) where
       with_entry P (IsSameEntry e) Q f v.effect v.entry (performs_served P e [] octets h).0
   idle_request_served P Q dead false choice limits octets h f = tt
 
-  idle_segment_served : (P : Octets → Type 0) (Q : Entry → Type 0) (dead : Option Entry) (free : Bool) (choice : ℕ) (limits : Limits) (g : Segment) (octets : Octets)
+  idle_segment_served : (P : Octets → Type 0) (Q : Entry → Type 0) (dead : Option Entry) (free : Bool) (choice : ℕ) (limits : Limits) (g : Segment)
+      (octets : Octets)
       → (g.more ≡ false → P (join (octets ∷ []))) → ((d : Entry) → IsSameEntry (server.begins c choice limits None) d → Q d)
       → Performs P Q (server.idle_gets_segment c service dead free choice limits g octets)
   idle_segment_served P Q dead free choice limits g octets h f = go (nat_eq g.number 0) free
     where
       go : (b d : Bool) → Performs P Q (if not b then server.rests dead [] else if d then server.request_segment_taken c service
-          (server.begins c choice limits None) g.number (incoming c.settings.window g.window).window (takes (incoming c.settings.window g.window) g.number g.more octets)
+          (server.begins c choice limits None) g.number (incoming c.settings.window g.window).window
+              (takes (incoming c.settings.window g.window) g.number g.more octets)
           else server.rests dead (server.server_abort c OTHER ∷ []))
       go true true =
           let e = server.begins c choice limits None in
@@ -204,7 +209,8 @@ module _ (c : Context) (service : Service) where
         → Rests e (SegmentedResponse out transfer since) (server.moves_reply_window c e (Some (moved c.settings.window out number window)))
     moved_rests number window = go (is_finished (moved c.settings.window out number window))
       where
-        go : (b : Bool) → Rests e (SegmentedResponse out transfer since) (if b then server.becomes e (SegmentedResponse (moved c.settings.window out number window) Finished c.now) []
+        go : (b : Bool) → Rests e (SegmentedResponse out transfer since) (if b then server.becomes e
+            (SegmentedResponse (moved c.settings.window out number window) Finished c.now) []
             else server.sends_reply_window c e (moved c.settings.window out number window))
         go true = (refl, (becomes e (SegmentedResponse (moved c.settings.window out number window) Finished c.now), (refl, omega arith)))
         go false = (refl, (becomes e (SegmentedResponse (moved c.settings.window out number window) Running c.now), (refl, omega arith)))
@@ -234,7 +240,7 @@ module _ (c : Context) (service : Service) where
     segmented_response_rests _ = (refl, (same e, is))
 
   -- a live entry performs only where it is receiving
-  live_rests : (e : Entry) (st : State) (a : Apdu) → StateStays st e.state → IsReceiving st ⊎ Rests e st (server.live_gets c service e st a)
+  live_rests : (e : Entry) (st : State) (a : Apdu) → StateStays st e.state → IsSegmentedRequest st ⊎ Rests e st (server.live_gets c service e st a)
   live_rests e (State.SegmentedRequest inc since) a is = inl tt
   live_rests e (Done kept) a is = inr (done_rests e kept a is)
   live_rests e (SegmentedResponse out transfer since) a is = inr (segmented_response_rests e out transfer since is a)
@@ -247,7 +253,7 @@ module _ (c : Context) (service : Service) where
       → Performs (IsWholeWith (held_by st) a) (IsSameEntry e) (server.live_gets c service e st a)
       × StaysAs e st (server.live_gets c service e st a).entry
   live_served e (State.SegmentedRequest inc since) a is = let h = segmented_request_served e inc since a in
-      (h.0, receiving_stays e inc since (server.segmented_request_gets c service e inc since a).entry h.1)
+      (h.0, segmented_request_stays e inc since (server.segmented_request_gets c service e inc since a).entry h.1)
   live_served e (Done kept) a is = rests_performs (IsWholeWith [] a) e (Done kept) (server.done_gets c e kept a) (done_rests e kept a is)
   live_served e (SegmentedResponse out transfer since) a is = rests_performs (IsWholeWith [] a) e (SegmentedResponse out transfer since)
       (server.segmented_response_gets c e out transfer since a) (segmented_response_rests e out transfer since is a)
@@ -276,10 +282,10 @@ module _ (c : Context) (service : Service) where
   may_perform None free a = inl tt
   may_perform (Some e) free a = go (is_live c.now e) refl (live_rests e e.state a (stays e.state))
     where
-      go : (b : Bool) → is_live c.now e ≡ b → IsReceiving e.state ⊎ Rests e e.state (server.live_gets c service e e.state a)
-          → ((is_live c.now e ≡ false) ⊎ IsReceiving e.state)
+      go : (b : Bool) → is_live c.now e ≡ b → IsSegmentedRequest e.state ⊎ Rests e e.state (server.live_gets c service e e.state a)
+          → ((is_live c.now e ≡ false) ⊎ IsSegmentedRequest e.state)
           ⊎ ((if b then server.live_gets c service e e.state a else server.idle_gets c service (Some e) free a).effect ≡ None)
-      go true is (inl receiving) = inl (inr receiving)
+      go true is (inl segmented) = inl (inr segmented)
       go true is (inr rests) = inr rests.0
       go false is h = inl (inl is)
 

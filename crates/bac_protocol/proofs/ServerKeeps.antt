@@ -29,7 +29,8 @@ use Rattle.bac_protocol.specs.Transaction.{Key}
 use Rattle.bac_protocol.proofs.Alone.{Transaction, server_does}
 use Rattle.bac_protocol.specs.Claims.{WasPerformed, IsPiece, IsAck}
 use Rattle.bac_protocol.proofs.Sound.{IsUnderway, IsFront, Up, Down, IsAckDown, server_until, Says, IsUntaken, IsRead, PassFits, ClientFits, IsKeptFor}
-use Rattle.bac_protocol.proofs.Sound.{IsUnbegun, IsReceivingFor, SendsDown, IsGivingFor, StateFits, ServerFits, UpFits, DownFits, IsOpenIn, Sound, IsSound}
+use Rattle.bac_protocol.proofs.Sound.{IsUnbegun, IsSegmentedRequestFor, SendsDown, IsGivingFor, StateFits, ServerFits, UpFits, DownFits, IsOpenIn, Sound}
+use Rattle.bac_protocol.proofs.Sound.{IsSound}
 use Rattle.bac_protocol.proofs.Sound.Up.{Reading}
 use Rattle.bac_protocol.proofs.Sound.Down.{Unsent, Sent}
 use Rattle.bac_protocol.proofs.Facts.{below_has, UpGoes, DownGoes, up_same, down_same, grows_same, grows_more, copies_go}
@@ -349,7 +350,8 @@ module _ (W V : ℕ) (some : 0 < W) (room : V + 2 * W ≤ 255) (settings : Setti
     no_slot : IsKept (server.rests o (server.server_abort c OTHER ∷ []))
     no_slot = serves_same o (Reading tk sn) Unsent s o (server.server_abort c OTHER ∷ []) s.server (λ j. omega (arith, soon), tt)
 
-    idle_request_kept : t.ask.whole ≡ true → (choice : ℕ) (limits : Limits) (octets : Octets) → choice ≡ t.ask.choice → octets ≡ join t.ask.pieces → (free : Bool)
+    idle_request_kept : t.ask.whole ≡ true → (choice : ℕ) (limits : Limits) (octets : Octets) → choice ≡ t.ask.choice → octets ≡ join t.ask.pieces
+        → (free : Bool)
         → IsKept (server.idle_gets_request c service o free choice limits octets)
     idle_request_kept whole choice limits octets chosen same true = performs_kept in_time o (Reading tk sn) s un.1
         (server.begins c choice limits (Some octets)) s.clock soon chosen octets same (Reading tk sn) (λ d. up_same d (Reading tk sn)) (inl whole) s.client
@@ -368,7 +370,8 @@ module _ (W V : ℕ) (some : 0 < W) (room : V + 2 * W ≤ 255) (settings : Setti
             let zero_is : g.number ≡ 0 = grind (arith, nat_tests) in
             let any = s.upload.some in
             let none = un.0 in
-            request_segment_kept in_time o tk sn s un.1 whole (server.begins c choice limits None) s.clock soon chosen (incoming settings.window g.window) (sym un.0)
+            request_segment_kept in_time o tk sn s un.1 whole (server.begins c choice limits None) s.clock soon chosen (incoming settings.window g.window)
+                (sym un.0)
             (ap (λ n. take n t.ask.pieces) (sym un.0)) (omega arith) k late g octets piece (λ ne. absurd (ne zero_is))
         by_number true is false = no_slot
         by_number false is d = (Reading tk sn, Unsent, s)
@@ -479,7 +482,8 @@ module _ (W V : ℕ) (some : 0 < W) (room : V + 2 * W ≤ 255) (settings : Setti
         }
 
         by_end : ahead number out.first < in_window out → (b : Bool)
-            → IsKept (if b then server.becomes e (SegmentedResponse (moved settings.window out number window) Finished w.now) [] else server.sends_reply_window c e
+            → IsKept (if b then server.becomes e (SegmentedResponse (moved settings.window out number window) Finished w.now) []
+                else server.sends_reply_window c e
             (moved settings.window out number window))
         by_end lt true = rests_in_response up down s (moved settings.window out number window) Finished w.now (on lt)
         by_end lt false = sends_reply_window_kept up down s (moved settings.window out number window) (on lt)
@@ -503,7 +507,8 @@ module _ (W V : ℕ) (some : 0 < W) (room : V + 2 * W ≤ 255) (settings : Setti
     segmented_response_kept : (up : Up) (down : Down) → SoundWith (Some e) up down → (out : Outgoing) → IsGivingFor W w.number t.ask out up down w.log
         → (transfer : Transfer) (since m k : ℕ) → k ≤ V → (a : Apdu) → Says W w.number t.ask w.log up down m k a
         → IsKept (server.segmented_response_gets c e out transfer since a)
-    segmented_response_kept up down s out h transfer since m k soon (ConfirmedRequest limits id None choice octets) says = go (server.is_kept e e.request choice octets)
+    segmented_response_kept up down s out h transfer since m k soon (ConfirmedRequest limits id None choice octets) says = go
+        (server.is_kept e e.request choice octets)
       where
         go : (b : Bool) → IsKept (if b then server.resumes c e out transfer else server.rests (Some e) (server.server_abort c OTHER ∷ []))
         go true = resumes_kept up down s out h transfer
@@ -524,7 +529,8 @@ module _ (W V : ℕ) (some : 0 < W) (room : V + 2 * W ≤ 255) (settings : Setti
     drops tk sn s left un sends says = serves_same (Some e) (Reading tk sn) Unsent s (Some (record e { state = Dropped })) sends
         (inr (record { after = after; before = before; choice = chosen; state = (left, un) })) says
 
-    segmented_request_kept : (tk sn : ℕ) → SoundWith (Some e) (Reading tk sn) Unsent → (inc : Incoming) (since : ℕ) → IsReceivingFor w.number t.ask inc tk w.log
+    segmented_request_kept : (tk sn : ℕ) → SoundWith (Some e) (Reading tk sn) Unsent → (inc : Incoming) (since : ℕ) → IsSegmentedRequestFor w.number t.ask
+        inc tk w.log
         → (m k : ℕ) → k ≤ V → (a : Apdu) → Says W w.number t.ask w.log (Reading tk sn) Unsent m k a
         → IsKept (server.segmented_request_gets c service e inc since a)
     segmented_request_kept tk sn s inc since h m k soon (ConfirmedRequest limits id None choice octets) says = (Reading tk sn, Unsent, s)

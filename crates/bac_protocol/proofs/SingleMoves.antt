@@ -42,12 +42,14 @@ module _ (W : ℕ) (x : Rules) (bound : IsBounded W x) where
   own_set n s key o own k = go (decide_key key k)
     where
       go : ((key ≡ k) ⊎ (key ≡ k → ⊥)) → IsOwnEntry k.invoke_id (set_at n.entries key o k)
-      go (inl is) = subst (λ (j : Key). IsOwnEntry j.invoke_id (set_at n.entries key o j)) is (subst (IsOwnEntry key.invoke_id) (sym (set_same n.entries key o)) own)
+      go (inl is) = subst (λ (j : Key). IsOwnEntry j.invoke_id (set_at n.entries key o j)) is
+          (subst (IsOwnEntry key.invoke_id) (sym (set_same n.entries key o)) own)
       go (inr ne) = subst (IsOwnEntry k.invoke_id) (sym (set_other n.entries key o k ne)) (s.own k)
 
   posted : (n : Net) → Sound n → (number : ℕ) (p : Post) → slice_get n.posts number ≡ Some p → n.tickets p.key ≡ None → ⊥
   posted n s number p at is = none_there (later p.key number n.posts) p.copy
-      (subst (λ (cs : List Copy). slice_get cs (later p.key number n.posts) ≡ Some p.copy) (sound_at W n p.key None is s.net).no_copies (copy_at number n.posts p at))
+      (subst (λ (cs : List Copy). slice_get cs (later p.key number n.posts) ≡ Some p.copy) (sound_at W n p.key None is s.net).no_copies
+          (copy_at number n.posts p at))
 
   arrives_sound : (n : Net) → Sound n → (number : ℕ) (p : Post) → slice_get n.posts number ≡ Some p → n.now - p.copy.moment ≤ LIFE
       → later p.key number n.posts ≤ x.overtake → (free : Bool) (service : Service) (o : Option Ticket) → n.tickets p.key ≡ o → (up : Bool)

@@ -162,7 +162,7 @@ abbrev pub IsUnbegun : ℕ → Up → Down → List Fact → Type 0
 IsUnbegun number (Reading taken sent) Unsent log = (taken ≡ 0) × IsUnperformed number log
 IsUnbegun number _ _ log = ⊥
 
-pub record IsReceivingFor (number : ℕ) (ask : Ask) (inc : Incoming) (taken : ℕ) (log : List Fact) : Type 0 where
+pub record IsSegmentedRequestFor (number : ℕ) (ask : Ask) (inc : Incoming) (taken : ℕ) (log : List Fact) : Type 0 where
   pub in_pieces : ask.whole ≡ false
   pub front : IsFront ask.pieces inc taken
   pub unperformed : IsUnperformed number log
@@ -178,7 +178,7 @@ pub record IsGivingFor (W number : ℕ) (ask : Ask) (out : Outgoing) (up : Up) (
   pub sends : SendsDown W out down
 
 abbrev pub StateFits : ℕ → ℕ → Ask → State → Up → Down → List Fact → Type 0
-StateFits W number ask (State.SegmentedRequest inc since) (Reading taken sent) Unsent log = IsReceivingFor number ask inc taken log
+StateFits W number ask (State.SegmentedRequest inc since) (Reading taken sent) Unsent log = IsSegmentedRequestFor number ask inc taken log
 StateFits W number ask (Done kept) up Unsent log = IsRead ask up × IsKeptFor number ask kept log
 StateFits W number ask (SegmentedResponse out transfer since) up down log = IsGivingFor W number ask out up down log
 StateFits W number ask Dropped (Reading taken sent) Unsent log = (taken < length ask.pieces) × IsUnperformed number log

@@ -59,7 +59,8 @@ module _ (c : Settings) (peer : Limits) (octets : Octets) (pieces : List Octets)
   by_allowed long false h = absurd cc
 
   by_kind : nat_le (length octets + 3) size ≡ false → (b : Bool)
-      → (if not b then Refused SEGMENTATION_NOT_SUPPORTED else if allows_segments peer.max_segments (length all) then InSegments all else Refused BUFFER_OVERFLOW) ≡ InSegments pieces
+      → (if not b then Refused SEGMENTATION_NOT_SUPPORTED else if allows_segments peer.max_segments (length all) then InSegments all else Refused
+          BUFFER_OVERFLOW) ≡ InSegments pieces
       → IsCut (Complex octets) pieces
   by_kind long true h = by_allowed long (allows_segments peer.max_segments (length all)) h
   by_kind long false h = absurd cc

@@ -112,14 +112,14 @@ AreOfNewest x n = (key : Key) → IsOfTicket x n key (n.tickets key)
 -- Windows. Pieces have whole numbers from 0 on: all that were sent are below `sent`, the receiver has taken those below `taken`, in order, and those
 -- below `acknowledged` were acknowledged to the sender.
 
--- a segment, with k later copies, is a piece of these that was sent, whose whole number is not far behind
+-- a segment, with k later copies, is a piece of these that was sent, whose whole number is little less than those that were sent
 pub record IsPiece (W : ℕ) (pieces : List Octets) (sent k : ℕ) (segment : Segment) (octets : Octets) : Type 0 where
   pub piece : ℕ
   pub is : IsPieceAt pieces piece segment octets
   pub below : piece < sent
   pub near : sent ≤ piece + 1 + W + k
 
--- a SegmentACK, with k later copies, is of a piece that was taken, whose whole number is not far behind
+-- a SegmentACK, with k later copies, is of a piece that was taken, whose whole number is little less than those that were sent
 pub record IsAck (W taken sent k number : ℕ) : Type 0 where
   pub piece : ℕ
   pub number_is : number ≡ piece % 256
@@ -227,18 +227,18 @@ IsOfNoPass _ = Unit {0}
 abbrev pub IsUnsent : Rules → Net → Key → Type 0
 IsUnsent x n key = EachCopy (λ k c. MayArrive x.overtake n.now k c → IsOfNoPass c.apdu) (copies_of key n.posts)
 
-abbrev pub StateGives : (W : ℕ) → Rules → Net → Key → Ticket → State → Type 0
-StateGives W x n key t (SegmentedResponse out transfer since) = IsReplyPass W x n key t out
-StateGives W x n key t _ = IsUnsent x n key
+abbrev pub StateHasReplyPass : (W : ℕ) → Rules → Net → Key → Ticket → State → Type 0
+StateHasReplyPass W x n key t (SegmentedResponse out transfer since) = IsReplyPass W x n key t out
+StateHasReplyPass W x n key t _ = IsUnsent x n key
 
-abbrev pub ServerGives : (W : ℕ) → Rules → Net → Key → Ticket → Option Entry → Type 0
-ServerGives W x n key t None = IsUnsent x n key
-ServerGives W x n key t (Some e) =
-    ((e.begin < t.ask.first) × IsUnsent x n key) ⊎ ((t.ask.first ≤ e.begin) × StateGives W x n key t e.state)
+abbrev pub ServerHasReplyPass : (W : ℕ) → Rules → Net → Key → Ticket → Option Entry → Type 0
+ServerHasReplyPass W x n key t None = IsUnsent x n key
+ServerHasReplyPass W x n key t (Some e) =
+    ((e.begin < t.ask.first) × IsUnsent x n key) ⊎ ((t.ask.first ≤ e.begin) × StateHasReplyPass W x n key t e.state)
 
 -- a reply in segments is given in one pass by the entry that was begun for the ask, also after the ticket's end
 abbrev pub RepliesAreInWindow : ℕ → Rules → Net → Type 0
-RepliesAreInWindow W x n = (key : Key) (t : Ticket) → n.tickets key ≡ Some t → ServerGives W x n key t (n.entries key)
+RepliesAreInWindow W x n = (key : Key) (t : Ticket) → n.tickets key ≡ Some t → ServerHasReplyPass W x n key t (n.entries key)
 
 -- Later passes.
 
@@ -249,22 +249,24 @@ IsPastFirstPass AwaitConfirmation repeats = Unit {0}
 IsPastFirstPass (SegmentedConf inc) repeats = Unit {0}
 IsPastFirstPass Idle repeats = repeats < RETRIES
 
-abbrev pub IsDone : State → Type 0
-IsDone (State.SegmentedRequest inc since) = ⊥
-IsDone (Done kept) = Unit {0}
-IsDone (SegmentedResponse out transfer since) = Unit {0}
-IsDone Dropped = ⊥
+-- the entry keeps a reply
+abbrev pub HasReply : State → Type 0
+HasReply (State.SegmentedRequest inc since) = ⊥
+HasReply (Done kept) = Unit {0}
+HasReply (SegmentedResponse out transfer since) = Unit {0}
+HasReply Dropped = ⊥
 
-abbrev pub HasDone : ℕ → Ask → Option Entry → Type 0
-HasDone now ask None = ⊥
-HasDone now ask (Some e) = (ask.first ≤ e.begin) × (is_live now e ≡ true) × IsDone e.state
+-- the entry was begun for this ask, is live and keeps a reply
+abbrev pub IsLiveWithReply : ℕ → Ask → Option Entry → Type 0
+IsLiveWithReply now ask None = ⊥
+IsLiveWithReply now ask (Some e) = (ask.first ≤ e.begin) × (is_live now e ≡ true) × HasReply e.state
 
 abbrev pub IsSegmentOfRequest : Apdu → Type 0
 IsSegmentOfRequest (ConfirmedRequest limits invoke_id (Some segment) choice service) = Unit {0}
 IsSegmentOfRequest _ = ⊥
 
--- from then on, while a segment of the request may arrive, the entry that was begun for this ask is live and done
-abbrev pub LaterPassesFindDone : Rules → Net → Type 0
-LaterPassesFindDone x n =
+-- from then on, while a segment of the request may arrive, the entry that was begun for this ask is live and keeps a reply
+abbrev pub LaterPassesFindReply : Rules → Net → Type 0
+LaterPassesFindReply x n =
     (key : Key) (t : Ticket) → n.tickets key ≡ Some t → t.ask.whole ≡ false → IsPastFirstPass t.phase t.repeats
-    → EachCopy (λ k c. MayArrive x.overtake n.now k c → IsSegmentOfRequest c.apdu → HasDone n.now t.ask (n.entries key)) (copies_of key n.posts)
+    → EachCopy (λ k c. MayArrive x.overtake n.now k c → IsSegmentOfRequest c.apdu → IsLiveWithReply n.now t.ask (n.entries key)) (copies_of key n.posts)

@@ -159,9 +159,7 @@ await_confirmation_gets c readable ask (SimpleAck invoke_id choice) = gets_simpl
 await_confirmation_gets c readable ask (ComplexAck invoke_id None choice service) = gets_complex_ack c readable ask choice service
 await_confirmation_gets c readable ask (ComplexAck invoke_id (Some segment) choice service) = gets_first_segment c readable ask segment choice service
 await_confirmation_gets c readable ask (Error invoke_id choice class code) = gets_error ask choice class code
-await_confirmation_gets c readable ask (Reject invoke_id reason) = Ends [] (Rejected reason)
-await_confirmation_gets c readable ask (Abort true invoke_id reason) = Ends [] (Aborted reason)
-await_confirmation_gets c readable ask _ = Stays
+await_confirmation_gets c readable ask apdu = gets_refusal apdu
 
 -- a SegmentACK of the request's segments: Ignored, Finished or Moved
 abbrev pub moves_request_window : Context → (choice : ℕ) → Bool → Option Outgoing → Reaction

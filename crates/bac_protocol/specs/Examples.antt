@@ -406,8 +406,10 @@ TwoSegments =
     shows 32 (Complex (zeros 48)) (ask_append ∷ Deliver 0 true ∷ Deliver 1 true ∷ Deliver 2 true ∷ Deliver 3 true ∷ Deliver 4 true ∷ [])
     ≡ record {
       sent =
-          (append_apdu ∷ ComplexAck 0 (Some (record { more = true; number = 0; window = 32 })) 7 (zeros 45) ∷ SegmentAck false 0 (record { nak = false; number = 0; window = 32 }) ∷ [])
-          ++ (ComplexAck 0 (Some (record { more = false; number = 1; window = 32 })) 7 (zeros 3) ∷ SegmentAck false 0 (record { nak = false; number = 1; window = 32 }) ∷ []);
+          (append_apdu ∷ ComplexAck 0 (Some (record { more = true; number = 0; window = 32 })) 7 (zeros 45) ∷ SegmentAck false 0
+              (record { nak = false; number = 0; window = 32 }) ∷ [])
+          ++ (ComplexAck 0 (Some (record { more = false; number = 1; window = 32 })) 7 (zeros 3) ∷ SegmentAck false 0
+              (record { nak = false; number = 1; window = 32 }) ∷ []);
       log = Ended 0 (Answered (Complex (zeros 48))) ∷ performed append (Complex (zeros 48)) ∷ asked append ∷ [];
       effects = 1;
     }
@@ -472,7 +474,8 @@ RequestSizes =
 
 -- 65,536 octets are too long, whatever the peer takes; 65,535 are not
 abbrev pub LongestRequest : Type 0
-LongestRequest = (request_way false 0 65535 ≡ Refused NeedsSegments) × (request_way false 0 65536 ≡ Refused TooLong) × (request_way true 0 65536 ≡ Refused TooLong)
+LongestRequest = (request_way false 0 65535 ≡ Refused NeedsSegments) × (request_way false 0 65536 ≡ Refused TooLong)
+    × (request_way true 0 65536 ≡ Refused TooLong)
 
 -- the APDU sizes of the codes; a transfer has the lesser of its ends' sizes
 abbrev pub ApduSizes : Type 0
@@ -495,7 +498,8 @@ SegmentLimits =
 -- at 1,476 octets an APDU 1,472 octets of service data go in one; 1,473 go in pieces of 1,470 and 3, unless the peer's APDUs have 50 octets
 abbrev pub request_between : (own peer octets : ℕ) → Way RequestFault
 request_between own peer octets =
-    request_way_of (record ((rules 32).settings 0) { limits = record (limits true 7) { max_apdu = own } }) (record (limits true 7) { max_apdu = peer }) (zeros octets)
+    request_way_of (record ((rules 32).settings 0) { limits = record (limits true 7) { max_apdu = own } }) (record (limits true 7) { max_apdu = peer })
+        (zeros octets)
 
 abbrev pub RequestsOfAllSizes : Type 0
 RequestsOfAllSizes =
@@ -507,8 +511,8 @@ RequestsOfAllSizes =
 -- Single steps of the two machines.
 
 -- the ticket of three pieces, after its ask
-abbrev pub sending : Ticket
-sending = asked_ticket (at 0) (record { first = 0; choice = 7; whole = false; pieces = one ∷ two ∷ three ∷ [] })
+abbrev pub segmented_request : Ticket
+segmented_request = asked_ticket (at 0) (record { first = 0; choice = 7; whole = false; pieces = one ∷ two ∷ three ∷ [] })
 
 abbrev pub hears : Ticket → Apdu → Reaction
 hears = client_gets (at 0) (λ choice octets. true)
@@ -516,23 +520,23 @@ hears = client_gets (at 0) (λ choice octets. true)
 -- SegmentACKs of pieces that were not sent are ignored; an actual window of 127 sets the sender's own, 32
 abbrev pub OddAcks : Type 0
 OddAcks =
-    (hears sending (SegmentAck true 0 (record { nak = false; number = 1; window = 32 })) ≡ Stays)
-    × (hears sending (SegmentAck true 0 (record { nak = false; number = 255; window = 32 })) ≡ Stays)
-    × (hears sending (SegmentAck true 0 (record { nak = false; number = 0; window = 127 })) ≡ GoesOn
+    (hears segmented_request (SegmentAck true 0 (record { nak = false; number = 1; window = 32 })) ≡ Stays)
+    × (hears segmented_request (SegmentAck true 0 (record { nak = false; number = 255; window = 32 })) ≡ Stays)
+    × (hears segmented_request (SegmentAck true 0 (record { nak = false; number = 0; window = 127 })) ≡ GoesOn
     (Phase.SegmentedRequest (record { pieces = one ∷ two ∷ three ∷ []; first = 1; window = 32; retries = 3 }) true) (segment_1 ∷ segment_2 ∷ []))
 
 -- a ticket that waits for its reply
-abbrev pub awaiting : Ticket
-awaiting = record { ask = record { first = 0; choice = 7; whole = true; pieces = append ∷ [] }; phase = AwaitConfirmation; repeats = 3; since = 0 }
+abbrev pub await_confirmation : Ticket
+await_confirmation = record { ask = record { first = 0; choice = 7; whole = true; pieces = append ∷ [] }; phase = AwaitConfirmation; repeats = 3; since = 0 }
 
 -- before all segments were sent, and where the service choice or the kind is another, replies are ignored
 abbrev pub OtherAnswers : Type 0
 OtherAnswers =
-    (hears sending (ComplexAck 0 None 7 (9 ∷ 2 ∷ [])) ≡ Stays)
-    × (hears awaiting (ComplexAck 0 None 12 (9 ∷ 2 ∷ [])) ≡ Stays)
-    × (hears awaiting (SimpleAck 0 7) ≡ Stays)
-    × (hears awaiting (Error 0 12 1 31) ≡ Stays)
-    × (hears awaiting (Error 0 7 1 31) ≡ Ends [] (Answered (reply.Error 1 31)))
+    (hears segmented_request (ComplexAck 0 None 7 (9 ∷ 2 ∷ [])) ≡ Stays)
+    × (hears await_confirmation (ComplexAck 0 None 12 (9 ∷ 2 ∷ [])) ≡ Stays)
+    × (hears await_confirmation (SimpleAck 0 7) ≡ Stays)
+    × (hears await_confirmation (Error 0 12 1 31) ≡ Stays)
+    × (hears await_confirmation (Error 0 7 1 31) ≡ Ends [] (Answered (reply.Error 1 31)))
 
 -- what a server with a free slot makes of an APDU, with that entry, at that moment
 abbrev pub serves : ℕ → Option Entry → Apdu → server.Reaction
@@ -564,17 +568,18 @@ KeptReply =
     })
 
 -- the entry after segment 0, and after the client's Abort
-abbrev pub receiving : Entry
-receiving = record { begin = 0; choice = 7; limits = limits true 7; request = None; state = State.SegmentedRequest (record { parts = one ∷ []; unacknowledged = 0; window = 32 }) 0 }
+abbrev pub segmented_request_entry : Entry
+segmented_request_entry = record { begin = 0; choice = 7; limits = limits true 7; request = None; state = State.SegmentedRequest
+    (record { parts = one ∷ []; unacknowledged = 0; window = 32 }) 0 }
 
 abbrev pub dropped : Entry
-dropped = record receiving { state = Dropped }
+dropped = record segmented_request_entry { state = Dropped }
 
 -- a client's Abort drops what was received, and the next segment gets Abort 0
 abbrev pub DroppedEntry : Type 0
 DroppedEntry =
-    (serves 0 None segment_0 ≡ record { entry = Some receiving; sends = ack_of false 0 ∷ []; effect = None })
-    × (serves 0 (Some receiving) (Abort false 0 0) ≡ record { entry = Some dropped; sends = []; effect = None })
+    (serves 0 None segment_0 ≡ record { entry = Some segmented_request_entry; sends = ack_of false 0 ∷ []; effect = None })
+    × (serves 0 (Some segmented_request_entry) (Abort false 0 0) ≡ record { entry = Some dropped; sends = []; effect = None })
     × (serves 0 (Some dropped) segment_1 ≡ record { entry = Some dropped; sends = Abort true 0 0 ∷ []; effect = None })
     × (serves 0 None segment_1 ≡ record { entry = None; sends = []; effect = None })
 
@@ -592,7 +597,8 @@ KeptSegments =
     })
     × (serves 65000 (Some stopped) (ConfirmedRequest (limits true 7) 0 None 12 append) ≡ record
     { entry = Some stopped; sends = Abort true 0 0 ∷ []; effect = None })
-    × (serves 65000 (Some stopped) (ConfirmedRequest (limits true 7) 0 None 7 one) ≡ record { entry = Some stopped; sends = Abort true 0 0 ∷ []; effect = None })
+    × (serves 65000 (Some stopped) (ConfirmedRequest (limits true 7) 0 None 7 one) ≡ record
+        { entry = Some stopped; sends = Abort true 0 0 ∷ []; effect = None })
 
 -- so many segments without octets
 abbrev pub empties : ℕ → List Octets
@@ -614,9 +620,9 @@ LongestReassembly =
 -- one octet more: the server sends Abort 1 and drops what was received, and the client sends Abort 1 and ends its ticket
 abbrev pub TooLongTransfers : Type 0
 TooLongTransfers =
-    (serves 0 (Some (record receiving { state = State.SegmentedRequest (holding (zeros 65535 ∷ [])) 0 })) segment_1 ≡ record
+    (serves 0 (Some (record segmented_request_entry { state = State.SegmentedRequest (holding (zeros 65535 ∷ [])) 0 })) segment_1 ≡ record
     { entry = Some dropped; sends = Abort true 0 1 ∷ []; effect = None })
-    × (hears (record awaiting { phase = SegmentedConf (holding (zeros 65535 ∷ [])) })
+    × (hears (record await_confirmation { phase = SegmentedConf (holding (zeros 65535 ∷ [])) })
     (ComplexAck 0 (Some (record { more = false; number = 1; window = 32 })) 7 one)
     ≡ Ends (Abort false 0 1 ∷ []) (Aborted 1))
 
@@ -628,16 +634,16 @@ stays_as e sends = record { entry = Some e; sends = sends; effect = None }
 abbrev pub ticks_entry : ℕ → Entry → server.Reaction
 ticks_entry now e = server_ticks (server_context (rules 32) key now) (Some e)
 
--- a request without SEG to an entry that is receiving is ignored; 8,000 after the last segment a tick drops the entry, and sends nothing
+-- a request without SEG to an entry in SEGMENTED_REQUEST is ignored; 8,000 after the last segment a tick drops the entry, and sends nothing
 abbrev pub SegmentedRequestSteps : Type 0
 SegmentedRequestSteps =
-    (serves 0 (Some receiving) append_apdu ≡ stays_as receiving [])
-    × (ticks_entry 7999 receiving ≡ stays_as receiving [])
-    × (ticks_entry 8000 receiving ≡ stays_as dropped [])
+    (serves 0 (Some segmented_request_entry) append_apdu ≡ stays_as segmented_request_entry [])
+    × (ticks_entry 7999 segmented_request_entry ≡ stays_as segmented_request_entry [])
+    × (ticks_entry 8000 segmented_request_entry ≡ stays_as dropped [])
 
 -- the entry of a request in segments that was performed
 abbrev pub done_in_segments : Entry
-done_in_segments = record receiving { state = Done position_apdu }
+done_in_segments = record segmented_request_entry { state = Done position_apdu }
 
 -- a segment gets its kept reply, a request without SEG gets Abort 0; a dropped entry gives Abort 0 to both
 abbrev pub SegmentedEntry : Type 0
@@ -647,8 +653,9 @@ SegmentedEntry =
     × (serves 0 (Some dropped) append_apdu ≡ stays_as dropped (Abort true 0 0 ∷ []))
 
 -- an entry that gives its reply in two segments, with so many retries left
-abbrev pub giving : (retries : ℕ) → Transfer → (since : ℕ) → Entry
-giving retries transfer since = record done { state = SegmentedResponse (record (outgoing (zeros 45 ∷ zeros 3 ∷ [])) { retries = retries }) transfer since }
+abbrev pub segmented_response : (retries : ℕ) → Transfer → (since : ℕ) → Entry
+segmented_response retries transfer since = record done { state = SegmentedResponse (record (outgoing (zeros 45 ∷ zeros 3 ∷ [])) { retries = retries })
+    transfer since }
 
 abbrev pub given_apdu : Apdu
 given_apdu = ComplexAck 0 (Some (record { more = true; number = 0; window = 32 })) 7 (zeros 45)
@@ -657,26 +664,27 @@ given_apdu = ComplexAck 0 (Some (record { more = true; number = 0; window = 32 }
 -- and then a tick, a SegmentACK and a copy of the request do nothing
 abbrev pub SegmentedResponseSteps : Type 0
 SegmentedResponseSteps =
-    (ticks_entry 1999 (giving 3 Running 0) ≡ stays_as (giving 3 Running 0) [])
-    × (ticks_entry 2000 (giving 3 Running 0) ≡ stays_as (giving 2 Running 2000) (given_apdu ∷ []))
-    × (ticks_entry 2000 (giving 0 Running 0) ≡ stays_as (giving 0 Stopped 0) [])
-    × (serves 0 (Some (giving 3 Running 0)) append_apdu ≡ stays_as (giving 3 Running 0) [])
-    × (serves 0 (Some (giving 3 Running 0)) (Abort false 0 0) ≡ stays_as (giving 3 Finished 0) [])
-    × (ticks_entry 2000 (giving 3 Finished 0) ≡ stays_as (giving 3 Finished 0) [])
-    × (serves 0 (Some (giving 3 Finished 0)) (SegmentAck false 0 (record { nak = false; number = 0; window = 32 })) ≡ stays_as (giving 3 Finished 0) [])
-    × (serves 0 (Some (giving 3 Finished 0)) append_apdu ≡ stays_as (giving 3 Finished 0) [])
+    (ticks_entry 1999 (segmented_response 3 Running 0) ≡ stays_as (segmented_response 3 Running 0) [])
+    × (ticks_entry 2000 (segmented_response 3 Running 0) ≡ stays_as (segmented_response 2 Running 2000) (given_apdu ∷ []))
+    × (ticks_entry 2000 (segmented_response 0 Running 0) ≡ stays_as (segmented_response 0 Stopped 0) [])
+    × (serves 0 (Some (segmented_response 3 Running 0)) append_apdu ≡ stays_as (segmented_response 3 Running 0) [])
+    × (serves 0 (Some (segmented_response 3 Running 0)) (Abort false 0 0) ≡ stays_as (segmented_response 3 Finished 0) [])
+    × (ticks_entry 2000 (segmented_response 3 Finished 0) ≡ stays_as (segmented_response 3 Finished 0) [])
+    × (serves 0 (Some (segmented_response 3 Finished 0)) (SegmentAck false 0 (record { nak = false; number = 0; window = 32 })) ≡ stays_as
+        (segmented_response 3 Finished 0) [])
+    × (serves 0 (Some (segmented_response 3 Finished 0)) append_apdu ≡ stays_as (segmented_response 3 Finished 0) [])
 
 -- a Reject and a server's Abort end a ticket; a client that takes no segments ignores segment 0 of a reply
 abbrev pub Refusals : Type 0
 Refusals =
-    (hears awaiting (Reject 0 9) ≡ Ends [] (Rejected 9))
-    × (hears sending (Abort true 0 4) ≡ Ends [] (Aborted 4))
-    × (hears awaiting (Abort false 0 4) ≡ Stays)
-    × (client_gets (client_context (rules_of false 7) key 0) (λ choice octets. true) awaiting given_apdu ≡ Stays)
+    (hears await_confirmation (Reject 0 9) ≡ Ends [] (Rejected 9))
+    × (hears segmented_request (Abort true 0 4) ≡ Ends [] (Aborted 4))
+    × (hears await_confirmation (Abort false 0 4) ≡ Stays)
+    × (client_gets (client_context (rules_of false 7) key 0) (λ choice octets. true) await_confirmation given_apdu ≡ Stays)
 
 -- a ticket whose request went so, and which has segment 0 of its reply
-abbrev pub collecting : Ticket → Ticket
-collecting t = record t { phase = SegmentedConf (holding (one ∷ [])) }
+abbrev pub in_segmented_conf : Ticket → Ticket
+in_segmented_conf t = record t { phase = SegmentedConf (holding (one ∷ [])) }
 
 abbrev pub last_of_reply : Apdu
 last_of_reply = ComplexAck 0 (Some (record { more = false; number = 1; window = 32 })) 7 two
@@ -684,28 +692,29 @@ last_of_reply = ComplexAck 0 (Some (record { more = false; number = 1; window = 
 -- the last segment of a reply that can't be read is acknowledged, and then gets Abort 0
 abbrev pub UnreadableSegments : Type 0
 UnreadableSegments =
-    client_gets (at 0) (λ choice octets. false) (collecting awaiting) last_of_reply
+    client_gets (at 0) (λ choice octets. false) (in_segmented_conf await_confirmation) last_of_reply
     ≡ Ends (SegmentAck false 0 (record { nak = false; number = 1; window = 32 }) ∷ Abort false 0 0 ∷ []) (Aborted 0)
 
 abbrev pub ticks_ticket : ℕ → Ticket → Reaction
 ticks_ticket now t = client_ticks (at now) t
 
 -- a ticket that sends segment 0 of three, with so many retries left
-abbrev pub sending_with : (retries : ℕ) → Ticket
-sending_with retries = record sending { phase = Phase.SegmentedRequest (record (outgoing (one ∷ two ∷ three ∷ [])) { retries = retries }) false }
+abbrev pub segmented_request_with : (retries : ℕ) → Ticket
+segmented_request_with retries = record segmented_request { phase = Phase.SegmentedRequest (record (outgoing (one ∷ two ∷ three ∷ []))
+    { retries = retries }) false }
 
 -- 2,000 after its window was sent a tick sends it again, or ends the ticket where no retry is left; 8,000 after the last segment of a reply
 -- a whole request is sent again, and one in segments is not
 abbrev pub TimeOuts : Type 0
 TimeOuts =
-    (ticks_ticket 1999 (sending_with 3) ≡ Stays)
-    × (ticks_ticket 2000 (sending_with 3)
+    (ticks_ticket 1999 (segmented_request_with 3) ≡ Stays)
+    × (ticks_ticket 2000 (segmented_request_with 3)
     ≡ GoesOn (Phase.SegmentedRequest (record (outgoing (one ∷ two ∷ three ∷ [])) { retries = 2 }) false) (segment_0 ∷ []))
-    × (ticks_ticket 2000 (sending_with 0) ≡ Ends [] TimedOut)
-    × (ticks_ticket 7999 (collecting awaiting) ≡ Stays)
-    × (ticks_ticket 8000 (collecting awaiting) ≡ Repeats (SegmentedConf (holding (one ∷ []))) (append_apdu ∷ []))
-    × (ticks_ticket 8000 (record (collecting awaiting) { repeats = 0 }) ≡ Ends [] TimedOut)
-    × (ticks_ticket 8000 (collecting sending) ≡ Ends [] TimedOut)
+    × (ticks_ticket 2000 (segmented_request_with 0) ≡ Ends [] TimedOut)
+    × (ticks_ticket 7999 (in_segmented_conf await_confirmation) ≡ Stays)
+    × (ticks_ticket 8000 (in_segmented_conf await_confirmation) ≡ Repeats (SegmentedConf (holding (one ∷ []))) (append_apdu ∷ []))
+    × (ticks_ticket 8000 (record (in_segmented_conf await_confirmation) { repeats = 0 }) ≡ Ends [] TimedOut)
+    × (ticks_ticket 8000 (in_segmented_conf segmented_request) ≡ Ends [] TimedOut)
 
 -- Straight runs past a window and past 256 segments.
 

@@ -19,10 +19,10 @@ invoke_id_of (ConfirmedRequest limits invoke_id segment choice service) = invoke
 invoke_id_of (UnconfirmedRequest choice service) = 0
 invoke_id_of (SimpleAck invoke_id choice) = invoke_id
 invoke_id_of (ComplexAck invoke_id segment choice service) = invoke_id
-invoke_id_of (SegmentAck srv invoke_id ack) = invoke_id
+invoke_id_of (SegmentAck from_server invoke_id ack) = invoke_id
 invoke_id_of (Error invoke_id choice class code) = invoke_id
 invoke_id_of (Reject invoke_id reason) = invoke_id
-invoke_id_of (Abort srv invoke_id reason) = invoke_id
+invoke_id_of (Abort from_server invoke_id reason) = invoke_id
 
 abbrev pub IsOfClient : (invoke_id : ℕ) → Apdu → Type 0
 IsOfClient invoke_id a = (is_from_client a ≡ true) × (invoke_id_of a ≡ invoke_id)
@@ -75,7 +75,7 @@ pub record ServerSendsOwn : Type 0 where
 abbrev pub HasWindow : (own lesser : ℕ) → Apdu → Type 0
 HasWindow own lesser (ConfirmedRequest limits invoke_id (Some segment) choice service) = segment.window ≡ own
 HasWindow own lesser (ComplexAck invoke_id (Some segment) choice service) = segment.window ≡ own
-HasWindow own lesser (SegmentAck srv invoke_id ack) = ack.window ≡ lesser
+HasWindow own lesser (SegmentAck from_server invoke_id ack) = ack.window ≡ lesser
 HasWindow own lesser _ = Unit {0}
 
 abbrev pub lesser_window : Rules → Key → ℕ

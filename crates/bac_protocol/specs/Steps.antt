@@ -73,15 +73,15 @@ pub record LiveStays : Type 0 where
       → StaysIn e (server_gets c service (Some e) free a).entry
   pub ticks : (c : Context) (e : Entry) → is_live c.now e ≡ true → StaysIn e (server_ticks c (Some e)).entry
 
--- A request is performed only where no entry was live, or one was receiving it, and then an entry for that request keeps that reply.
+-- A request is performed only where no entry was live, or one was in SEGMENTED_REQUEST, and then an entry for that request keeps that reply.
 
-abbrev pub IsReceiving : State → Type 0
-IsReceiving (State.SegmentedRequest inc since) = Unit {0}
-IsReceiving _ = ⊥
+abbrev pub IsSegmentedRequest : State → Type 0
+IsSegmentedRequest (State.SegmentedRequest inc since) = Unit {0}
+IsSegmentedRequest _ = ⊥
 
 abbrev pub MayPerform : ℕ → Option Entry → Type 0
 MayPerform now None = Unit {0}
-MayPerform now (Some e) = (is_live now e ≡ false) ⊎ IsReceiving e.state
+MayPerform now (Some e) = (is_live now e ≡ false) ⊎ IsSegmentedRequest e.state
 
 -- the pieces of a request that a live entry holds
 abbrev pub held_by : State → List Octets

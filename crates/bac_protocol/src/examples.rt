@@ -6,7 +6,8 @@ ghost use Rattle.bac_protocol.specs.Examples.{HeldLong, LostAck};
 ghost use Rattle.bac_protocol.specs.Examples.{OutOfOrder, LaterPass, InTime, OutOfTime, StoppedReply, Sizes, OddAcks, OtherAnswers, KeptReply, DroppedEntry};
 ghost use Rattle.bac_protocol.specs.Examples.{RequestSizes, LongestRequest, OvertakenCopy, OtherCopies, TwoClients, LostAckOfPut};
 ghost use Rattle.bac_protocol.specs.Examples.{TwoSegments, RefusedReplies, KeptSegments, LongestReassembly, TooLongTransfers};
-ghost use Rattle.bac_protocol.specs.Examples.{ApduSizes, SegmentLimits, RequestsOfAllSizes, SegmentedRequestSteps, SegmentedEntry, SegmentedResponseSteps, Refusals};
+ghost use Rattle.bac_protocol.specs.Examples.{ApduSizes, SegmentLimits, RequestsOfAllSizes, SegmentedRequestSteps, SegmentedEntry};
+ghost use Rattle.bac_protocol.specs.Examples.{SegmentedResponseSteps, Refusals};
 ghost use Rattle.bac_protocol.specs.Examples.{UnreadableSegments, TimeOuts};
 
 /// Whole requests: a request that is delivered four times, a lost answer, and one that can't be read.
@@ -124,8 +125,12 @@ pub fn ends_of_a_ticket()
     ensures time_outs { TimeOuts }
 {}
 
-/// An entry that is receiving a request, that of a request in segments, and one that gives its reply in segments.
-#[tactic(auto, using(crate::proofs::Computed::segmented_request_steps, crate::proofs::Computed::segmented_entry, crate::proofs::Computed::segmented_response_steps))]
+/// An entry in SEGMENTED_REQUEST, one whose request came in segments, and one in SEGMENTED_RESPONSE.
+#[tactic(auto, using(
+    crate::proofs::Computed::segmented_request_steps,
+    crate::proofs::Computed::segmented_entry,
+    crate::proofs::Computed::segmented_response_steps
+))]
 pub fn states_of_an_entry()
     ensures segmented_request { SegmentedRequestSteps }
     ensures in_segments { SegmentedEntry }

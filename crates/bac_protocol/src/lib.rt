@@ -18,7 +18,7 @@ ghost use Rattle.bac_protocol.specs.Transaction.{Key, Rules};
 ghost use Rattle.bac_protocol.specs.World.{Post, Event, Net, count_of, later, run, start};
 ghost use Rattle.bac_protocol.specs.Beyond.{Misread};
 ghost use Rattle.bac_protocol.specs.Own.{ClientSendsOwn, ServerSendsOwn, AreOwn};
-ghost use Rattle.bac_protocol.specs.Claims.{IsBounded, IsInPlace, AreOfNewest, RequestsAreInWindow, RepliesAreInWindow, LaterPassesFindDone};
+ghost use Rattle.bac_protocol.specs.Claims.{IsBounded, IsInPlace, AreOfNewest, RequestsAreInWindow, RepliesAreInWindow, LaterPassesFindReply};
 
 /// No number that can arrive is misread modulo 256, where windows are at most W, at most V later copies may overtake one, and V + 2W <= 255:
 /// what a receiver takes for its next piece is that piece, and what a sender takes for one of its pieces in flight is one. It is bac_segment's law of
@@ -64,9 +64,9 @@ pub fn replies_in_window<S>()
 
 /// In every run, once the first pass of a request in segments was acknowledged, or a repeat was made, or a segment of the answer came, a segment of
 /// the request that may still arrive finds its entry live and done.
-pub fn later_passes_find_done<S>()
+pub fn later_passes_find_reply<S>()
     ensures { (shop : Shop S) (opening : ℕ → S) (W : ℕ) (rules : Rules) → IsBounded W rules → (events : List Event)
-        → LaterPassesFindDone rules (run S shop rules events (start S opening)).net }
+        → LaterPassesFindReply rules (run S shop rules events (start S opening)).net }
 {}
 
 /// Beyond the bound numbers are misread: where 300 later copies may overtake one, with windows of 64, there is a run in which an old copy of

@@ -23,15 +23,17 @@ pub fn nothing_is_sent_late()
 {}
 
 /// An entry leaves a server's reply table only after more than 65,000 ms: while it is live, each step leaves it there, with its beginning, its
-/// service choice, its limits and its request. One that is done keeps its reply, whose transfer goes on with the same pieces and never back; one that was dropped stays so.
+/// service choice, its limits and its request. One that is done keeps its reply, whose transfer goes on with the same pieces and never back; one that was
+/// dropped stays so.
 #[tactic(auto, using(crate::proofs::Served::live_stays_law))]
 pub fn live_entries_stay()
     ensures { LiveStays }
 {}
 
-/// A server performs a request only where no entry was live, or one was receiving it, and the APDU that came makes its service data whole: it carries
+/// A server performs a request only where no entry was live, or one was in SEGMENTED_REQUEST, and the APDU that came makes its service data whole: it carries
 /// them, or their last piece after those that the entry holds. The reply is the one that the service gives, and then an entry for that request is
-/// done and keeps that reply: the live one, with its beginning, its service choice, its limits and its request, or one that begins now, with those that the APDU says
+/// done and keeps that reply: the live one, with its beginning, its service choice, its limits and its request, or one that begins now, with those that the
+/// APDU says
 /// and, where it came without SEG, its service data. A tick performs nothing.
 #[tactic(auto, using(crate::proofs::Served::effects_are_kept))]
 pub fn effects_are_kept()

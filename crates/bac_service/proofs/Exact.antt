@@ -1,5 +1,6 @@
 -- Readings on lists that take exactly what is spelled, and how they follow each other.
-use Rattle.std.proofs.Common.{◌≡◌, ℕ, ◌+◌, ◌<◌, Bool, true, false, [], ◌∷◌, ◌++◌, length, Option, Some, None, Result, Ok, Err, cond, ◌⊎◌, inl, inr, refl, sym, ap, subst, ◌∙◌}
+use Rattle.std.proofs.Common.{◌≡◌, ℕ, ◌+◌, ◌<◌, Bool, true, false, [], ◌∷◌, ◌++◌, length, Option, Some}
+use Rattle.std.proofs.Common.{None, Result, Ok, Err, cond, ◌⊎◌, inl, inr, refl, sym, ap, subst, ◌∙◌}
 use Rattle.std.proofs.Common.{append_assoc}
 use Rattle.std.proofs.lemmas.List.{get_or-append-add, append-nil}
 use Rattle.bac_value.proofs.Steps.{bind_ok, ok_is}
@@ -96,7 +97,8 @@ that_exact {A = A} F why test read P law = record {
 }
 
 -- one of two, told apart by what comes next
-pub record IsOneOf {A : Type 0} (F : Octets → Type 0) (test : Octets → Result Bool Stop) (G H : Octets → Type 0) (P Q Spells : A → Octets → Type 0) : Type 0 where
+pub record IsOneOf {A : Type 0} (F : Octets → Type 0) (test : Octets → Result Bool Stop) (G H : Octets → Type 0) (P Q Spells : A → Octets → Type 0)
+    : Type 0 where
   pub one : (a : A) (text : Octets) → P a text → Spells a text
   pub other : (a : A) (text : Octets) → Q a text → Spells a text
   pub told : (a : A) (text rest : Octets) → Spells a text → F rest

@@ -1,5 +1,6 @@
 -- The laws of pairs of tags, of data between them, and of what comes next.
-use Rattle.std.proofs.Common.{◌≡◌, ℕ, ◌-◌, ◌<◌, Bool, true, false, cond, ◌&&◌, nat_eq, [], ◌∷◌, ◌++◌, length, take, Option, None, Result, Ok, Err, is_some, IsTrue, refl, sym}
+use Rattle.std.proofs.Common.{◌≡◌, ℕ, ◌-◌, ◌<◌, Bool, true, false, cond, ◌&&◌, nat_eq, [], ◌∷◌}
+use Rattle.std.proofs.Common.{◌++◌, length, take, Option, None, Result, Ok, Err, is_some, IsTrue, refl, sym}
 use Rattle.std.proofs.Common.{ap, subst, ◌∙◌, append_assoc, arith}
 use Rattle.std.proofs.lemmas.Bool.{eqb-true, eq-eqb, lt-ltb}
 use Rattle.std.proofs.lemmas.List.{take_at, length-append}
@@ -29,7 +30,8 @@ use Rattle.bac_service.proofs.Heads.{next_tag_ok, next_tag_again, announced_agai
 -- ---- what comes next
 
 -- what comes next is told by the tag in front
-next_of : (number : ℕ) (bytes : Octets) (m : Mark) (rest : Octets) → tag_at bytes ≡ Ok (m, rest) → is_next number bytes ≡ Ok (is_some (announced Context number m))
+next_of : (number : ℕ) (bytes : Octets) (m : Mark) (rest : Octets) → tag_at bytes ≡ Ok (m, rest)
+    → is_next number bytes ≡ Ok (is_some (announced Context number m))
 unfolding is_next tag_at
 next_of number [] m rest e = absurd cc
 next_of number (b ∷ bytes) m rest e = rw (next_tag_again (b ∷ bytes) (m, rest) e) refl
@@ -156,9 +158,9 @@ pub enclosed_exact : {A : Type 0} → (number : ℕ) → number < 255
 unfolding enclosed_at
 enclosed_exact {A = A} number lt F read Spells law link = record {
   takes = λ bytes x fits e.
-      let o = bind_ok (opening_at number bytes) (λ inside. read inside >>= λ y. closing_at number y.1 >>= λ behind. Ok (y.0, behind)) x e in
-      let y = bind_ok (read o.0) (λ y. closing_at number y.1 >>= λ behind. Ok (y.0, behind)) x o.2 in
-      let c = bind_ok (closing_at number y.0.1) (λ behind. Ok (y.0.0, behind)) x y.2 in
+      let o = bind_ok (opening_at number bytes) (λ inside. read inside >>= λ y. closing_at number y.1 >>= λ after. Ok (y.0, after)) x e in
+      let y = bind_ok (read o.0) (λ y. closing_at number y.1 >>= λ after. Ok (y.0, after)) x o.2 in
+      let c = bind_ok (closing_at number y.0.1) (λ after. Ok (y.0.0, after)) x y.2 in
       let front : bytes ≡ opening number ++ o.0 = opening_takes number bytes o.0 fits o.1 in
       let inside_fits : IsBytes o.0 = bytes_behind (opening number) o.0 (subst IsBytes front fits) in
       let t = law.takes o.0 y.0 inside_fits y.1 in

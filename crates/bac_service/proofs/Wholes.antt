@@ -29,7 +29,8 @@ use Rattle.bac_service.specs.Members.{Octets, ◌⨾◌, Optional, Enclosed, Tag
 use Rattle.bac_service.specs.Requests.{SpellsReference, SpellsReadAccess, SpellsWriteAccess, SpellsMembers, SpellsRequest, IsMade}
 use Rattle.bac_service.specs.Replies.{SpellsComplexMembers, SpellsComplex, IsMadeOf, IsReply}
 use Rattle.bac_value.specs.Steps.{◌>>=◌}
-use Rattle.bac_service.specs.Reading.{Read, next_tag, expected, both_at, made_at, member_at, is_next, optional_at, enclosed_at, values_at, priority_at, reference_at}
+use Rattle.bac_service.specs.Reading.{Read, next_tag, expected, both_at, made_at, member_at, is_next, optional_at}
+use Rattle.bac_service.specs.Reading.{enclosed_at, values_at, priority_at, reference_at}
 use Rattle.bac_service.specs.Reading.{write_property_of, write_property_at, application_object, content_at, read_access_at, write_access_at, file_at, whole}
 use Rattle.bac_service.specs.Reading.{head_at, is_opened, boolean_of, end_of_file_at, file_read_at, file_written_at, property_read_at}
 use Rattle.bac_service.specs.Refusals.{Gives}
@@ -270,11 +271,13 @@ written_takes : (bytes : Octets) (c : Complex) → IsWritten c bytes → SpellsC
 written_takes bytes c (inl (z, make, s)) = subst (SpelledComplex ATOMIC_WRITE_FILE bytes) make (record { choice_is = refl; members = s })
 written_takes bytes c (inr (z, make, s)) = subst (SpelledComplex ATOMIC_WRITE_FILE bytes) make (record { choice_is = refl; members = s })
 
-complex_members_take : (s : Service) (bytes : Octets) (c : Complex) → IsBytes bytes → whole (complex_members (Some s)) bytes ≡ Ok c → SpellsComplex (choice_number s) c bytes
+complex_members_take : (s : Service) (bytes : Octets) (c : Complex) → IsBytes bytes → whole (complex_members (Some s)) bytes ≡ Ok c
+    → SpellsComplex (choice_number s) c bytes
 complex_members_take service.AtomicReadFile bytes c fits e =
     let s = whole_takes Anything file_read_at (Made file_read_of FileReads) file_read_exact bytes c fits e in
     subst (SpelledComplex ATOMIC_READ_FILE bytes) s.1 (record { choice_is = refl; members = s.2 })
-complex_members_take service.AtomicWriteFile bytes c fits e = written_takes bytes c (whole_takes Anything file_written_at IsWritten written_exact bytes c fits e)
+complex_members_take service.AtomicWriteFile bytes c fits e =
+    written_takes bytes c (whole_takes Anything file_written_at IsWritten written_exact bytes c fits e)
 complex_members_take service.ReadProperty bytes c fits e =
     let s = whole_takes Anything property_read_at (Made property_read_of PropertyReads) property_read_exact bytes c fits e in
     subst (SpelledComplex READ_PROPERTY bytes) s.1 (record { choice_is = refl; members = s.2 })
@@ -334,7 +337,8 @@ pub request_made : {X E : Type 0} (view : X → Request) (number : E → ℕ) (c
 request_made view number choice bytes (Ok f) fits e = made_of (view f) bytes (request_takes choice bytes (view f) fits e).members
 request_made view number choice bytes (Err d) fits e = tt
 
-pub request_refused : {X E : Type 0} (view : X → Request) (number : E → ℕ) (choice : ℕ) (bytes : Octets) (result : Result X E) → ReadAs view number choice bytes result
+pub request_refused : {X E : Type 0} (view : X → Request) (number : E → ℕ) (choice : ℕ) (bytes : Octets) (result : Result X E)
+    → ReadAs view number choice bytes result
     → IfErr result (λ e. (r : Request) → SpellsRequest choice r bytes → ⊥)
 request_refused view number choice bytes (Ok f) e = tt
 request_refused view number choice bytes (Err d) e = λ r s. let again = request_again choice bytes r s in absurd cc
@@ -358,7 +362,8 @@ pub complex_made : {X E : Type 0} (view : X → Complex) (fault : E → Fault) (
 complex_made view fault choice bytes (Ok c) fits e = complex_members_made (view c) bytes (complex_takes choice bytes (view c) fits e).members
 complex_made view fault choice bytes (Err d) fits e = tt
 
-pub complex_refused : {X E : Type 0} (view : X → Complex) (fault : E → Fault) (choice : ℕ) (bytes : Octets) (result : Result X E) → ReadComplexAs view fault choice bytes result
+pub complex_refused : {X E : Type 0} (view : X → Complex) (fault : E → Fault) (choice : ℕ) (bytes : Octets) (result : Result X E)
+    → ReadComplexAs view fault choice bytes result
     → IfErr result (λ e. (c : Complex) → SpellsComplex choice c bytes → ⊥)
 complex_refused view fault choice bytes (Ok c) e = tt
 complex_refused view fault choice bytes (Err d) e = λ c s. let again = complex_again choice bytes c s in absurd cc

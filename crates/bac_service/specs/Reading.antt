@@ -139,8 +139,8 @@ unfoldable pub enclosed_at : {A : Type 0} → ℕ → (Octets → Read A) → Oc
 enclosed_at number read bytes = do
   inside ← opening_at number bytes
   x ← read inside
-  behind ← closing_at number x.1
-  Ok (x.0, behind)
+  after ← closing_at number x.1
+  Ok (x.0, after)
 
 -- ---- what stands between them
 

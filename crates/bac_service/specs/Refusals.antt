@@ -17,14 +17,14 @@ IfNoMemory (Err NoMemory) P = P
 
 -- what a call answered, seen by views of values and of refusals, is this
 abbrev pub Gives : {X E Y F : Type 0} → (X → Y) → (E → F) → Result X E → Result Y F → Type 0
-Gives value refusal (Ok x) answer = answer ≡ Ok (value x)
-Gives value refusal (Err e) answer = answer ≡ Err (refusal e)
+Gives value refusal (Ok x) expected = expected ≡ Ok (value x)
+Gives value refusal (Err e) expected = expected ≡ Err (refusal e)
 
 -- the same, where memory did not run out
 abbrev pub GivesInMemory : {X E Y F : Type 0} → (X → Y) → (E → F) → Result X (code.ReadError E) → Result Y F → Type 0
-GivesInMemory value refusal (Ok x) answer = answer ≡ Ok (value x)
-GivesInMemory value refusal (Err (Refused e)) answer = answer ≡ Err (refusal e)
-GivesInMemory value refusal (Err NoMemory) answer = Unit {0}
+GivesInMemory value refusal (Ok x) expected = expected ≡ Ok (value x)
+GivesInMemory value refusal (Err (Refused e)) expected = expected ≡ Err (refusal e)
+GivesInMemory value refusal (Err NoMemory) expected = Unit {0}
 
 -- clause 18.9
 abbrev pub reason_number : Reject → ℕ

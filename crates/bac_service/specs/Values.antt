@@ -1,4 +1,4 @@
--- The requests and replies of the four services (clause 21), as plain values.
+-- The requests of the four services and the service data of their ComplexACKs (clause 21), as plain values.
 use Rattle.std.specs.Prelude.{ℕ, ℤ, Bool, List, [], Option}
 use Rattle.bac_value.specs.Value.{ObjectId}
 use Rattle.bac_service.specs.Choices.{ATOMIC_READ_FILE, ATOMIC_WRITE_FILE, READ_PROPERTY, WRITE_PROPERTY}
@@ -33,12 +33,6 @@ pub data Complex : Type 0 where
   RecordsWritten : (start : ℤ) → Complex
   PropertyRead : (reference : Reference) (values : List ℕ) → Complex
 
-pub data Reply : Type 0 where
-  Simple : Reply
-  Whole : Complex → Reply
-  Error : (class code : ℕ) → Reply
-  Reject : (reason : ℕ) → Reply
-
 -- the octets for a file that a request holds, or its records with their tags
 abbrev pub for_file : WriteAccess → List ℕ
 for_file (WriteStream start octets) = octets
@@ -57,12 +51,6 @@ held_in (FileRead end_of_file start octets) = octets
 held_in (StreamWritten start) = []
 held_in (RecordsWritten start) = []
 held_in (PropertyRead reference values) = values
-
-abbrev pub held_by : Reply → List ℕ
-held_by Simple = []
-held_by (Whole c) = held_in c
-held_by (Error class code) = []
-held_by (Reject reason) = []
 
 abbrev pub choice_of : Request → ℕ
 choice_of (ReadFile file access) = ATOMIC_READ_FILE

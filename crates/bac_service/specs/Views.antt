@@ -21,13 +21,14 @@ use Rattle.bac_service.specs.declared.reply.FileRead.{FileRead}
 use Rattle.bac_service.specs.declared.reply.FileWritten.{FileWritten}
 use Rattle.bac_service.specs.declared.reply.FileWritten.TheVariants as place
 use Rattle.bac_service.specs.declared.reply.PropertyRead.{PropertyRead}
-use Rattle.bac_service.specs.declared.reply.AnyComplex as answer
+use Rattle.bac_service.specs.declared.reply.AnyComplex as code_complex
 use Rattle.bac_service.specs.declared.reply.AnyComplex.TheVariants as kind
-use Rattle.bac_service.specs.declared.reply.AnyReply as outcome
+use Rattle.bac_service.specs.declared.reply.AnyReply as code_reply
 use Rattle.bac_service.specs.declared.reply.AnyReply.TheVariants as way
 use Rattle.bac_service.specs.declared.owned_records.OwnedRecords.{OwnedRecords}
 use Rattle.bac_service.specs.declared.records_reading.Run.{Run}
 use Rattle.bac_service.specs.Values as plain
+use Rattle.bac_service.specs.Replies as replies
 
 abbrev pub property_reference_view : PropertyReference → plain.Reference
 property_reference_view r = record { object = object_identifier_view r.object; property = r.property; index = r.index }
@@ -82,7 +83,7 @@ owned_request_view r = request_over_view owned r
 -- ---- service data of ComplexACKs
 
 abbrev pub ComplexOver : Type 0 → Type 0 → Type 0
-ComplexOver D C = answer.AnyComplex (FileRead C) FileWritten (PropertyRead D)
+ComplexOver D C = code_complex.AnyComplex (FileRead C) FileWritten (PropertyRead D)
 
 abbrev pub file_written_view : FileWritten → plain.Complex
 file_written_view (place.Stream start) = plain.Complex.StreamWritten start
@@ -101,16 +102,16 @@ complex_view c = complex_over_view (λ d. d.octets.now) (λ c. c.octets.now) c
 abbrev pub owned_complex_view : ComplexOver DataBuf OctetString → plain.Complex
 owned_complex_view c = complex_over_view (λ d. d.octets.items) (λ c. c.octets.items) c
 
-abbrev pub reply_over_view : {C : Type 0} → (C → plain.Complex) → outcome.AnyReply C → plain.Reply
-reply_over_view view way.Simple = plain.Reply.Simple
-reply_over_view view (way.Complex c) = plain.Reply.Whole (view c)
-reply_over_view view (way.Error class code) = plain.Reply.Error class code
-reply_over_view view (way.Reject reason) = plain.Reply.Reject reason
+abbrev pub reply_over_view : {C : Type 0} → (C → plain.Complex) → code_reply.AnyReply C → replies.Reply
+reply_over_view view way.Simple = replies.Reply.Simple
+reply_over_view view (way.Complex c) = replies.Reply.Complex (view c)
+reply_over_view view (way.Error class code) = replies.Reply.Error class code
+reply_over_view view (way.Reject reason) = replies.Reply.Reject reason
 
 -- a reply that borrows its octets
-abbrev pub reply_view : outcome.AnyReply (ComplexOver Data Content) → plain.Reply
+abbrev pub reply_view : code_reply.AnyReply (ComplexOver Data Content) → replies.Reply
 reply_view r = reply_over_view complex_view r
 
 -- a reply with its own memory
-abbrev pub owned_reply_view : outcome.AnyReply (ComplexOver DataBuf OctetString) → plain.Reply
+abbrev pub owned_reply_view : code_reply.AnyReply (ComplexOver DataBuf OctetString) → replies.Reply
 owned_reply_view r = reply_over_view owned_complex_view r

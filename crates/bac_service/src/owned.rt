@@ -2,7 +2,8 @@
 ghost use Rattle.std.specs.Prelude.{◌≡◌, ◌<◌, ◌^◌, length, IfOk, OnErr};
 ghost use Rattle.bac_service.specs.Replies.{IsMadeOf};
 ghost use Rattle.bac_service.specs.Requests.{IsMade, IsWritten};
-ghost use Rattle.bac_service.specs.Values.{for_file, held, held_in, held_by};
+ghost use Rattle.bac_service.specs.Values.{for_file, held, held_in};
+ghost use Rattle.bac_service.specs.Replies.{held_by};
 ghost use Rattle.bac_service.specs.Views.{left, lent, owned, owned_complex_view, owned_reply_view, owned_request_view, write_access_view};
 ghost use Rattle.bac_service.specs.Views.{complex_over_view, complex_view, reply_view, request_over_view, request_view};
 

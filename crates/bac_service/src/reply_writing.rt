@@ -1,5 +1,6 @@
 //! Writing the service data of ComplexACKs.
 ghost use Rattle.std.specs.Prelude.{◌≡◌, ◌+◌, ◌++◌, ◌<◌, ◌≤◌, OnOk, OnErr, length, vec_len, vec_capacity};
+ghost use Rattle.bac_value.specs.Appending.{Appends, Lengthens, Keeps, NeedsRoom};
 ghost use Rattle.bac_value.specs.Data.{opening, closing};
 ghost use Rattle.bac_service.specs.Spellings.{index_spelling, reference_spelling, content_spelling, enclosed_spelling, complex_spelling};
 ghost use Rattle.bac_service.specs.Replies.{SpellsComplex};
@@ -16,9 +17,9 @@ use bac_value::{
 
 pub(crate) fn put_opening(number: u8, out: &mut Vec<u8>) -> Result<(), NoMemory>
     requires { number < 255 }
-    ensures ok { OnOk result (out.new.items ≡ out.old.items ++ opening number) }
-    ensures len { OnOk result (vec_len out.new ≡ vec_len out.old + length (opening number)) }
-    ensures full { OnErr result (vec_capacity out.old < vec_len out.old + length (opening number)) }
+    ensures ok { Appends result out.old out.new (opening number) }
+    ensures len { Lengthens result out.old out.new (opening number) }
+    ensures full { NeedsRoom result out.old (opening number) }
     ensures grows { vec_capacity out.old ≤ vec_capacity out.new }
 {
     let tag = Tag {
@@ -31,9 +32,9 @@ pub(crate) fn put_opening(number: u8, out: &mut Vec<u8>) -> Result<(), NoMemory>
 
 pub(crate) fn put_closing(number: u8, out: &mut Vec<u8>) -> Result<(), NoMemory>
     requires { number < 255 }
-    ensures ok { OnOk result (out.new.items ≡ out.old.items ++ closing number) }
-    ensures len { OnOk result (vec_len out.new ≡ vec_len out.old + length (closing number)) }
-    ensures full { OnErr result (vec_capacity out.old < vec_len out.old + length (closing number)) }
+    ensures ok { Appends result out.old out.new (closing number) }
+    ensures len { Lengthens result out.old out.new (closing number) }
+    ensures full { NeedsRoom result out.old (closing number) }
     ensures grows { vec_capacity out.old ≤ vec_capacity out.new }
 {
     let tag = Tag {
@@ -45,9 +46,9 @@ pub(crate) fn put_closing(number: u8, out: &mut Vec<u8>) -> Result<(), NoMemory>
 }
 
 fn put_index(index: Option<u32>, out: &mut Vec<u8>) -> Result<(), NoMemory>
-    ensures ok { OnOk result (out.new.items ≡ out.old.items ++ index_spelling index) }
-    ensures len { OnOk result (vec_len out.new ≡ vec_len out.old + length (index_spelling index)) }
-    ensures full { OnErr result (vec_capacity out.old < vec_len out.old + length (index_spelling index)) }
+    ensures ok { Appends result out.old out.new (index_spelling index) }
+    ensures len { Lengthens result out.old out.new (index_spelling index) }
+    ensures full { NeedsRoom result out.old (index_spelling index) }
     ensures grows { vec_capacity out.old ≤ vec_capacity out.new }
 {
     match index {
@@ -58,9 +59,9 @@ fn put_index(index: Option<u32>, out: &mut Vec<u8>) -> Result<(), NoMemory>
 
 /// Appends what names a property.
 pub(crate) fn put_reference(to: PropertyReference, out: &mut Vec<u8>) -> Result<(), NoMemory>
-    ensures ok { OnOk result (out.new.items ≡ out.old.items ++ reference_spelling (property_reference_view to)) }
-    ensures len { OnOk result (vec_len out.new ≡ vec_len out.old + length (reference_spelling (property_reference_view to))) }
-    ensures full { OnErr result (vec_capacity out.old < vec_len out.old + length (reference_spelling (property_reference_view to))) }
+    ensures ok { Appends result out.old out.new (reference_spelling (property_reference_view to)) }
+    ensures len { Lengthens result out.old out.new (reference_spelling (property_reference_view to)) }
+    ensures full { NeedsRoom result out.old (reference_spelling (property_reference_view to)) }
     ensures grows { vec_capacity out.old ≤ vec_capacity out.new }
 {
     put_object_identifier(Class::Context, 0, to.object, out)?;
@@ -70,9 +71,9 @@ pub(crate) fn put_reference(to: PropertyReference, out: &mut Vec<u8>) -> Result<
 
 /// Appends data between a pair of tags of number 3.
 pub(crate) fn put_values(values: &[u8], out: &mut Vec<u8>) -> Result<(), NoMemory>
-    ensures ok { OnOk result (out.new.items ≡ out.old.items ++ enclosed_spelling 3 values.now) }
-    ensures len { OnOk result (vec_len out.new ≡ vec_len out.old + length (enclosed_spelling 3 values.now)) }
-    ensures full { OnErr result (vec_capacity out.old < vec_len out.old + length (enclosed_spelling 3 values.now)) }
+    ensures ok { Appends result out.old out.new (enclosed_spelling 3 values.now) }
+    ensures len { Lengthens result out.old out.new (enclosed_spelling 3 values.now) }
+    ensures full { NeedsRoom result out.old (enclosed_spelling 3 values.now) }
     ensures grows { vec_capacity out.old ≤ vec_capacity out.new }
 {
     put_opening(3, out)?;
@@ -86,9 +87,9 @@ pub(crate) fn put_content(
     content: Content<'_>,
     out: &mut Vec<u8>,
 ) -> Result<(), NoMemory>
-    ensures ok { OnOk result (out.new.items ≡ out.old.items ++ enclosed_spelling 0 (content_spelling start content.entry.octets.now)) }
-    ensures len { OnOk result (vec_len out.new ≡ vec_len out.old + length (enclosed_spelling 0 (content_spelling start content.entry.octets.now))) }
-    ensures full { OnErr result (vec_capacity out.old < vec_len out.old + length (enclosed_spelling 0 (content_spelling start content.entry.octets.now))) }
+    ensures ok { Appends result out.old out.new (enclosed_spelling 0 (content_spelling start content.entry.octets.now)) }
+    ensures len { Lengthens result out.old out.new (enclosed_spelling 0 (content_spelling start content.entry.octets.now)) }
+    ensures full { NeedsRoom result out.old (enclosed_spelling 0 (content_spelling start content.entry.octets.now)) }
     ensures grows { vec_capacity out.old ≤ vec_capacity out.new }
 {
     put_opening(0, out)?;
@@ -98,9 +99,9 @@ pub(crate) fn put_content(
 }
 
 fn put_complex(reply: Complex<'_>, out: &mut Vec<u8>) -> Result<(), NoMemory>
-    ensures ok { OnOk result (out.new.items ≡ out.old.items ++ complex_spelling (complex_view reply.entry)) }
-    ensures len { OnOk result (vec_len out.new ≡ vec_len out.old + length (complex_spelling (complex_view reply.entry))) }
-    ensures full { OnErr result (vec_capacity out.old < vec_len out.old + length (complex_spelling (complex_view reply.entry))) }
+    ensures ok { Appends result out.old out.new (complex_spelling (complex_view reply.entry)) }
+    ensures len { Lengthens result out.old out.new (complex_spelling (complex_view reply.entry)) }
+    ensures full { NeedsRoom result out.old (complex_spelling (complex_view reply.entry)) }
     ensures grows { vec_capacity out.old ≤ vec_capacity out.new }
 {
     match reply {
@@ -123,9 +124,9 @@ fn put_complex(reply: Complex<'_>, out: &mut Vec<u8>) -> Result<(), NoMemory>
 
 /// Appends the service data of a ComplexACK in their one spelling (clause 21), or answers `NoMemory` and changes nothing.
 pub fn write_reply(reply: Complex<'_>, out: &mut Vec<u8>) -> Result<(), NoMemory>
-    ensures ok { OnOk result (out.new.items ≡ out.old.items ++ complex_spelling (complex_view reply.entry)) }
-    ensures err { OnErr result (out.new.items ≡ out.old.items) }
-    ensures full { OnErr result (vec_capacity out.old < vec_len out.old + length (complex_spelling (complex_view reply.entry))) }
+    ensures ok { Appends result out.old out.new (complex_spelling (complex_view reply.entry)) }
+    ensures err { Keeps result out.old out.new }
+    ensures full { NeedsRoom result out.old (complex_spelling (complex_view reply.entry)) }
     ensures spelled { SpellsComplex (complex_choice_of (complex_view reply.entry)) (complex_view reply.entry) (complex_spelling (complex_view reply.entry)) }
 {
     out.reserve(reply_len(reply))?;

@@ -1,5 +1,6 @@
 //! Writing requests.
 ghost use Rattle.std.specs.Prelude.{◌≡◌, ◌+◌, ◌++◌, ◌<◌, ◌≤◌, OnOk, OnErr, length, vec_len, vec_capacity};
+ghost use Rattle.bac_value.specs.Appending.{Appends, Lengthens, Keeps, NeedsRoom};
 ghost use Rattle.bac_service.specs.Spellings.{enclosed_spelling, extent_spelling, read_access_spelling, records_spelling, write_access_spelling};
 ghost use Rattle.bac_service.specs.Spellings.{priority_spelling, request_spelling};
 ghost use Rattle.bac_service.specs.Requests.{SpellsRequest};
@@ -14,9 +15,9 @@ use bac_value::{Class, NoMemory, put_object_identifier, put_signed, put_unsigned
 
 /// Appends a Signed and an Unsigned with application tags.
 fn put_extent(start: i64, count: u64, out: &mut Vec<u8>) -> Result<(), NoMemory>
-    ensures ok { OnOk result (out.new.items ≡ out.old.items ++ extent_spelling start count) }
-    ensures len { OnOk result (vec_len out.new ≡ vec_len out.old + length (extent_spelling start count)) }
-    ensures full { OnErr result (vec_capacity out.old < vec_len out.old + length (extent_spelling start count)) }
+    ensures ok { Appends result out.old out.new (extent_spelling start count) }
+    ensures len { Lengthens result out.old out.new (extent_spelling start count) }
+    ensures full { NeedsRoom result out.old (extent_spelling start count) }
     ensures grows { vec_capacity out.old ≤ vec_capacity out.new }
 {
     put_signed(Class::Application, 3, start, out)?;
@@ -31,9 +32,9 @@ fn put_enclosed_extent(
     out: &mut Vec<u8>,
 ) -> Result<(), NoMemory>
     requires { number < 255 }
-    ensures ok { OnOk result (out.new.items ≡ out.old.items ++ enclosed_spelling number (extent_spelling start count)) }
-    ensures len { OnOk result (vec_len out.new ≡ vec_len out.old + length (enclosed_spelling number (extent_spelling start count))) }
-    ensures full { OnErr result (vec_capacity out.old < vec_len out.old + length (enclosed_spelling number (extent_spelling start count))) }
+    ensures ok { Appends result out.old out.new (enclosed_spelling number (extent_spelling start count)) }
+    ensures len { Lengthens result out.old out.new (enclosed_spelling number (extent_spelling start count)) }
+    ensures full { NeedsRoom result out.old (enclosed_spelling number (extent_spelling start count)) }
     ensures grows { vec_capacity out.old ≤ vec_capacity out.new }
 {
     put_opening(number, out)?;
@@ -42,9 +43,9 @@ fn put_enclosed_extent(
 }
 
 fn put_read_access(access: ReadAccess, out: &mut Vec<u8>) -> Result<(), NoMemory>
-    ensures ok { OnOk result (out.new.items ≡ out.old.items ++ read_access_spelling (read_access_view access)) }
-    ensures len { OnOk result (vec_len out.new ≡ vec_len out.old + length (read_access_spelling (read_access_view access))) }
-    ensures full { OnErr result (vec_capacity out.old < vec_len out.old + length (read_access_spelling (read_access_view access))) }
+    ensures ok { Appends result out.old out.new (read_access_spelling (read_access_view access)) }
+    ensures len { Lengthens result out.old out.new (read_access_spelling (read_access_view access)) }
+    ensures full { NeedsRoom result out.old (read_access_spelling (read_access_view access)) }
     ensures grows { vec_capacity out.old ≤ vec_capacity out.new }
 {
     match access {
@@ -55,12 +56,12 @@ fn put_read_access(access: ReadAccess, out: &mut Vec<u8>) -> Result<(), NoMemory
 
 /// Appends where records are written, their count, and the octet strings that they are, between tags of number 1.
 fn put_records(write: WriteRecords<Records<'_>>, out: &mut Vec<u8>) -> Result<(), NoMemory>
-    ensures ok { OnOk result (out.new.items ≡ out.old.items ++ enclosed_spelling 1
-        (records_spelling write.entry.start write.entry.records.count write.entry.records.run.now)) }
-    ensures len { OnOk result (vec_len out.new
-        ≡ vec_len out.old + length (enclosed_spelling 1 (records_spelling write.entry.start write.entry.records.count write.entry.records.run.now))) }
-    ensures full { OnErr result (vec_capacity out.old < vec_len out.old + length
-        (enclosed_spelling 1 (records_spelling write.entry.start write.entry.records.count write.entry.records.run.now))) }
+    ensures ok { Appends result out.old out.new
+        (enclosed_spelling 1 (records_spelling write.entry.start write.entry.records.count write.entry.records.run.now)) }
+    ensures len { Lengthens result out.old out.new
+        (enclosed_spelling 1 (records_spelling write.entry.start write.entry.records.count write.entry.records.run.now)) }
+    ensures full { NeedsRoom result out.old
+        (enclosed_spelling 1 (records_spelling write.entry.start write.entry.records.count write.entry.records.run.now)) }
     ensures grows { vec_capacity out.old ≤ vec_capacity out.new }
 {
     put_opening(1, out)?;
@@ -73,9 +74,9 @@ fn put_write_access(
     access: WriteAccess<Content<'_>, Records<'_>>,
     out: &mut Vec<u8>,
 ) -> Result<(), NoMemory>
-    ensures ok { OnOk result (out.new.items ≡ out.old.items ++ write_access_spelling (write_access_view lent access.entry)) }
-    ensures len { OnOk result (vec_len out.new ≡ vec_len out.old + length (write_access_spelling (write_access_view lent access.entry))) }
-    ensures full { OnErr result (vec_capacity out.old < vec_len out.old + length (write_access_spelling (write_access_view lent access.entry))) }
+    ensures ok { Appends result out.old out.new (write_access_spelling (write_access_view lent access.entry)) }
+    ensures len { Lengthens result out.old out.new (write_access_spelling (write_access_view lent access.entry)) }
+    ensures full { NeedsRoom result out.old (write_access_spelling (write_access_view lent access.entry)) }
     ensures grows { vec_capacity out.old ≤ vec_capacity out.new }
 {
     match access {
@@ -85,9 +86,9 @@ fn put_write_access(
 }
 
 fn put_priority(priority: Option<Priority>, out: &mut Vec<u8>) -> Result<(), NoMemory>
-    ensures ok { OnOk result (out.new.items ≡ out.old.items ++ priority_spelling (priority_view priority)) }
-    ensures len { OnOk result (vec_len out.new ≡ vec_len out.old + length (priority_spelling (priority_view priority))) }
-    ensures full { OnErr result (vec_capacity out.old < vec_len out.old + length (priority_spelling (priority_view priority))) }
+    ensures ok { Appends result out.old out.new (priority_spelling (priority_view priority)) }
+    ensures len { Lengthens result out.old out.new (priority_spelling (priority_view priority)) }
+    ensures full { NeedsRoom result out.old (priority_spelling (priority_view priority)) }
     ensures grows { vec_capacity out.old ≤ vec_capacity out.new }
 {
     match priority {
@@ -97,9 +98,9 @@ fn put_priority(priority: Option<Priority>, out: &mut Vec<u8>) -> Result<(), NoM
 }
 
 fn put_request(request: Request<'_>, out: &mut Vec<u8>) -> Result<(), NoMemory>
-    ensures ok { OnOk result (out.new.items ≡ out.old.items ++ request_spelling (request_view request.entry)) }
-    ensures len { OnOk result (vec_len out.new ≡ vec_len out.old + length (request_spelling (request_view request.entry))) }
-    ensures full { OnErr result (vec_capacity out.old < vec_len out.old + length (request_spelling (request_view request.entry))) }
+    ensures ok { Appends result out.old out.new (request_spelling (request_view request.entry)) }
+    ensures len { Lengthens result out.old out.new (request_spelling (request_view request.entry)) }
+    ensures full { NeedsRoom result out.old (request_spelling (request_view request.entry)) }
     ensures grows { vec_capacity out.old ≤ vec_capacity out.new }
 {
     match request {
@@ -122,9 +123,9 @@ fn put_request(request: Request<'_>, out: &mut Vec<u8>) -> Result<(), NoMemory>
 
 /// Appends the service data of a request in their one spelling (clause 21), or answers `NoMemory` and changes nothing.
 pub fn write_request(request: Request<'_>, out: &mut Vec<u8>) -> Result<(), NoMemory>
-    ensures ok { OnOk result (out.new.items ≡ out.old.items ++ request_spelling (request_view request.entry)) }
-    ensures err { OnErr result (out.new.items ≡ out.old.items) }
-    ensures full { OnErr result (vec_capacity out.old < vec_len out.old + length (request_spelling (request_view request.entry))) }
+    ensures ok { Appends result out.old out.new (request_spelling (request_view request.entry)) }
+    ensures err { Keeps result out.old out.new }
+    ensures full { NeedsRoom result out.old (request_spelling (request_view request.entry)) }
     ensures spelled { SpellsRequest (choice_of (request_view request.entry)) (request_view request.entry) (request_spelling (request_view request.entry)) }
 {
     out.reserve(request_len(request))?;

@@ -11,7 +11,7 @@ use Rattle.bac_service.specs.Values.ReadAccess.{ReadStream, ReadRecords}
 use Rattle.bac_service.specs.Values.WriteAccess.{WriteStream, WriteRecords}
 use Rattle.bac_service.specs.Values.Request.{ReadFile, WriteFile, ReadProperty, WriteProperty}
 use Rattle.bac_service.specs.Values.Complex.{FileRead, StreamWritten, PropertyRead}
-use Rattle.bac_service.specs.Values.Reply.{Simple, Whole, Error}
+use Rattle.bac_service.specs.Replies.Reply.{Simple, Complex, Error}
 use Rattle.bac_store.specs.Stores.{Store, object_in, kind_of}
 use Rattle.bac_store.specs.Replies.{reply_to, file_of}
 use Rattle.bac_store.specs.Changes.{after}
@@ -28,27 +28,27 @@ real_of a b = 0x44 ∷ a ∷ b ∷ 0 ∷ 0 ∷ []
 
 -- ---- properties of the house
 
-reads_flow : reply_to house (ReadProperty (to 0 5 85)) ≡ Whole (PropertyRead (to 0 5 85) (0x44 ∷ 0x42 ∷ 0x90 ∷ 0x99 ∷ 0x9A ∷ []))
+reads_flow : reply_to house (ReadProperty (to 0 5 85)) ≡ Complex (PropertyRead (to 0 5 85) (0x44 ∷ 0x42 ∷ 0x90 ∷ 0x99 ∷ 0x9A ∷ []))
 unfolding tag_spelling
 reads_flow = refl
 
-reads_name : reply_to house (ReadProperty (to 8 1 77)) ≡ Whole (PropertyRead (to 8 1 77) (0x75 ∷ 6 ∷ 0 ∷ 0x68 ∷ 0x6F ∷ 0x75 ∷ 0x73 ∷ 0x65 ∷ []))
+reads_name : reply_to house (ReadProperty (to 8 1 77)) ≡ Complex (PropertyRead (to 8 1 77) (0x75 ∷ 6 ∷ 0 ∷ 0x68 ∷ 0x6F ∷ 0x75 ∷ 0x73 ∷ 0x65 ∷ []))
 unfolding tag_spelling
 reads_name = refl
 
-reads_size : reply_to house (ReadProperty (to 10 1 42)) ≡ Whole (PropertyRead (to 10 1 42) (0x21 ∷ 2 ∷ []))
+reads_size : reply_to house (ReadProperty (to 10 1 42)) ≡ Complex (PropertyRead (to 10 1 42) (0x21 ∷ 2 ∷ []))
 unfolding tag_spelling unsigned_octets
 reads_size = refl
 
-reads_access_method : reply_to house (ReadProperty (to 10 1 41)) ≡ Whole (PropertyRead (to 10 1 41) (0x91 ∷ 1 ∷ []))
+reads_access_method : reply_to house (ReadProperty (to 10 1 41)) ≡ Complex (PropertyRead (to 10 1 41) (0x91 ∷ 1 ∷ []))
 unfolding tag_spelling unsigned_octets
 reads_access_method = refl
 
-reads_identifier : reply_to house (ReadProperty (to 0 5 75)) ≡ Whole (PropertyRead (to 0 5 75) (0xC4 ∷ 0 ∷ 0 ∷ 0 ∷ 5 ∷ []))
+reads_identifier : reply_to house (ReadProperty (to 0 5 75)) ≡ Complex (PropertyRead (to 0 5 75) (0xC4 ∷ 0 ∷ 0 ∷ 0 ∷ 5 ∷ []))
 unfolding tag_spelling
 reads_identifier = refl
 
-reads_type : reply_to house (ReadProperty (to 5 1 79)) ≡ Whole (PropertyRead (to 5 1 79) (0x91 ∷ 5 ∷ []))
+reads_type : reply_to house (ReadProperty (to 5 1 79)) ≡ Complex (PropertyRead (to 5 1 79) (0x91 ∷ 5 ∷ []))
 unfolding tag_spelling unsigned_octets
 reads_type = refl
 
@@ -86,7 +86,7 @@ writes_setpoint : reply_to house (WriteProperty (to 2 1 85) (real_of 0x43 0x34) 
 unfolding element_at tag_at tag_number_at form_at length_at contents_at class_at kind_at raw_at
 writes_setpoint = refl
 
-setpoint_is_written : reply_to (after house (WriteProperty (to 2 1 85) (real_of 0x43 0x34) None)) (ReadProperty (to 2 1 85)) ≡ Whole
+setpoint_is_written : reply_to (after house (WriteProperty (to 2 1 85) (real_of 0x43 0x34) None)) (ReadProperty (to 2 1 85)) ≡ Complex
     (PropertyRead (to 2 1 85) (real_of 0x43 0x34))
 unfolding element_at tag_at tag_number_at form_at length_at contents_at class_at kind_at raw_at
 setpoint_is_written = refl
@@ -117,13 +117,13 @@ writes_after_the_end = refl
 writes_below : reply_to house (write (WriteStream (negsuc 1) (0xAA ∷ []))) ≡ Error 5 11
 writes_below = refl
 
-appends_nothing : reply_to house (write (WriteStream (negsuc 0) [])) ≡ Whole (StreamWritten (pos 2))
+appends_nothing : reply_to house (write (WriteStream (negsuc 0) [])) ≡ Complex (StreamWritten (pos 2))
 appends_nothing = refl
 
 nothing_appended : octets_of (after house (write (WriteStream (negsuc 0) []))) ≡ Some (0x4F ∷ 0x4B ∷ [])
 nothing_appended = refl
 
-overwrites : reply_to house (write (WriteStream (pos 1) (0xAA ∷ 0xBB ∷ []))) ≡ Whole (StreamWritten (pos 1))
+overwrites : reply_to house (write (WriteStream (pos 1) (0xAA ∷ 0xBB ∷ []))) ≡ Complex (StreamWritten (pos 1))
 overwrites = refl
 
 overwritten_and_longer : octets_of (after house (write (WriteStream (pos 1) (0xAA ∷ 0xBB ∷ [])))) ≡ Some (0x4F ∷ 0xAA ∷ 0xBB ∷ [])
@@ -138,16 +138,16 @@ appended = refl
 no_file : reply_to house (WriteFile (id 0 5) (WriteStream (pos 0) (0xAA ∷ []))) ≡ Error 1 31
 no_file = refl
 
-reads_all : reply_to house (read (ReadStream (pos 0) 10)) ≡ Whole (FileRead true (pos 0) (0x4F ∷ 0x4B ∷ []))
+reads_all : reply_to house (read (ReadStream (pos 0) 10)) ≡ Complex (FileRead true (pos 0) (0x4F ∷ 0x4B ∷ []))
 reads_all = refl
 
-reads_front : reply_to house (read (ReadStream (pos 0) 1)) ≡ Whole (FileRead false (pos 0) (0x4F ∷ []))
+reads_front : reply_to house (read (ReadStream (pos 0) 1)) ≡ Complex (FileRead false (pos 0) (0x4F ∷ []))
 reads_front = refl
 
-reads_to_the_end : reply_to house (read (ReadStream (pos 0) 2)) ≡ Whole (FileRead true (pos 0) (0x4F ∷ 0x4B ∷ []))
+reads_to_the_end : reply_to house (read (ReadStream (pos 0) 2)) ≡ Complex (FileRead true (pos 0) (0x4F ∷ 0x4B ∷ []))
 reads_to_the_end = refl
 
-reads_at_the_end : reply_to house (read (ReadStream (pos 2) 1)) ≡ Whole (FileRead true (pos 2) [])
+reads_at_the_end : reply_to house (read (ReadStream (pos 2) 1)) ≡ Complex (FileRead true (pos 2) [])
 reads_at_the_end = refl
 
 reads_after_the_end : reply_to house (read (ReadStream (pos 3) 1)) ≡ Error 5 11

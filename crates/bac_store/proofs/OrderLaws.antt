@@ -2,7 +2,8 @@
 use Rattle.std.proofs.Common.{◌≡◌, ◌∙◌, ℕ, Bool, true, false, List, [], ◌∷◌, map, Option, Some, None, refl, sym, ap, subst, if◌then◌else◌}
 use Rattle.std.specs.Option.{option_map}
 use Rattle.bac_value.specs.Value.{ObjectId}
-use Rattle.bac_service.specs.Values.{Request, Reply}
+use Rattle.bac_service.specs.Values.{Request}
+use Rattle.bac_service.specs.Replies.{Reply}
 use Rattle.bac_service.specs.Values.WriteAccess.{WriteStream, WriteRecords}
 use Rattle.bac_service.specs.Values.Request.{ReadFile, WriteFile, ReadProperty, WriteProperty}
 use Rattle.bac_store.specs.Changes.{after, done, is_done, with_contents, with_object, with_octets, with_own_values, with_values}

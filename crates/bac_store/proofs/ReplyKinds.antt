@@ -1,11 +1,12 @@
 -- Each reply fits its request's service choice.
 use Rattle.std.proofs.Common.{◌≡◌, ℕ, ℤ, pos, Bool, true, false, not, ◌&&◌, nat_lt, length, List, [], ◌∷◌, Option, Some, None, is_some, if◌then◌else◌, refl}
 use Rattle.bac_service.specs.declared.service.TheConstants.{ATOMIC_READ_FILE, ATOMIC_WRITE_FILE, READ_PROPERTY, WRITE_PROPERTY}
-use Rattle.bac_service.specs.Values.{Reference, Request, Reply, ReadAccess, WriteAccess, choice_of}
+use Rattle.bac_service.specs.Values.{Reference, Request, ReadAccess, WriteAccess, choice_of}
+use Rattle.bac_service.specs.Replies.{Reply}
 use Rattle.bac_service.specs.Values.ReadAccess.{ReadStream, ReadRecords}
 use Rattle.bac_service.specs.Values.WriteAccess.{WriteStream, WriteRecords}
 use Rattle.bac_service.specs.Values.Request.{ReadFile, WriteFile, ReadProperty, WriteProperty}
-use Rattle.bac_service.specs.Values.Reply.{Simple, Whole, Error}
+use Rattle.bac_service.specs.Replies.Reply.{Simple, Complex, Error}
 use Rattle.bac_service.specs.Values.Complex.{StreamWritten, PropertyRead}
 use Rattle.bac_store.specs.Limits.{VALUE_LIMIT, FILE_LIMIT}
 use Rattle.bac_store.specs.ReplyKinds.{FitsChoice}
@@ -31,7 +32,7 @@ case_fits choice (c ∷ cs) last fit l = either choice c.0 c.1 (first_case cs la
 read_fits : (x : Option Property) (r : Reference) → FitsChoice READ_PROPERTY (at_property x (read_reply r))
 read_fits None r = tt
 read_fits (Some p) r =
-    case_fits READ_PROPERTY ((is_some r.index ⟶ PROPERTY_IS_NOT_AN_ARRAY) ∷ []) (Whole (PropertyRead r p.values)) (tt, tt) refl
+    case_fits READ_PROPERTY ((is_some r.index ⟶ PROPERTY_IS_NOT_AN_ARRAY) ∷ []) (Complex (PropertyRead r p.values)) (tt, tt) refl
 
 write_fits : (x : Option Property) (r : Reference) (values : List ℕ) → FitsChoice WRITE_PROPERTY (at_property x (write_reply r values))
 write_fits None r values = tt
@@ -61,7 +62,7 @@ write_file_fits (WriteStream start new) (Some f) =
     ∷ (is_no_write_start start f.octets ⟶ INVALID_FILE_START_POSITION)
     ∷ (nat_lt FILE_LIMIT (length (written start new f.octets)) ⟶ NO_SPACE_TO_WRITE)
     ∷ [])
-    (Whole (StreamWritten (pos (write_start start f.octets)))) (tt, (tt, (tt, tt))) refl
+    (Complex (StreamWritten (pos (write_start start f.octets)))) (tt, (tt, (tt, tt))) refl
 
 object_fits : (choice : ℕ) (x : Option Object) (answer : Object → Reply) → ((o : Object) → FitsChoice choice (answer o))
     → FitsChoice choice (at_object x answer)

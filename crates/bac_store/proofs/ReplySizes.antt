@@ -13,11 +13,12 @@ use Rattle.bac_value.specs.Value.{Datum, ObjectId, characters, enumerated, mark_
 use Rattle.bac_value.specs.Writing.{contents_of, value_spelling}
 use Rattle.bac_value.proofs.Numbers.{length-unsigned}
 use Rattle.bac_service.specs.Lengths.{index_length, signed_length, unsigned_length}
-use Rattle.bac_service.specs.Values.{Reference, ReadAccess, WriteAccess, Request, Reply}
+use Rattle.bac_service.specs.Values.{Reference, ReadAccess, WriteAccess, Request}
+use Rattle.bac_service.specs.Replies.{Reply}
 use Rattle.bac_service.specs.Values.ReadAccess.{ReadStream, ReadRecords}
 use Rattle.bac_service.specs.Values.WriteAccess.{WriteStream, WriteRecords}
 use Rattle.bac_service.specs.Values.Complex.{PropertyRead, StreamWritten}
-use Rattle.bac_service.specs.Values.Reply.{Simple, Whole}
+use Rattle.bac_service.specs.Replies.Reply.{Simple, Complex}
 use Rattle.bac_service.specs.Values.Request.{ReadFile, WriteFile, ReadProperty, WriteProperty}
 use Rattle.bac_store.specs.Kept.{IsInOrder, IsKept, IsShort}
 use Rattle.bac_store.specs.Limits.{FILE_LIMIT, VALUE_LIMIT}
@@ -132,7 +133,7 @@ read_within : (x : Option Property) → AreFew x → (r : Reference) → reply_l
 unfolding AreFew
 read_within None f r = omega arith
 read_within (Some p) f r =
-    cases_within ((is_some r.index ⟶ PROPERTY_IS_NOT_AN_ARRAY) ∷ []) (Whole (PropertyRead r p.values)) (zero_within, tt)
+    cases_within ((is_some r.index ⟶ PROPERTY_IS_NOT_AN_ARRAY) ∷ []) (Complex (PropertyRead r p.values)) (zero_within, tt)
     (let most : length p.values ≤ 5000 = f p refl in omega (arith, unsigned_most r.property, index_most r.index))
 
 write_within : (x : Option Property) (r : Reference) (values : List ℕ) → reply_length (at_property x (write_reply r values)) ≤ DATA_LIMIT
@@ -168,7 +169,7 @@ write_file_within (WriteStream start new) (Some f) =
     ∷ (is_no_write_start start f.octets ⟶ INVALID_FILE_START_POSITION)
     ∷ (nat_lt FILE_LIMIT (length (written start new f.octets)) ⟶ NO_SPACE_TO_WRITE)
     ∷ [])
-    (Whole (StreamWritten (pos (write_start start f.octets)))) (zero_within, (zero_within, (zero_within, tt)))
+    (Complex (StreamWritten (pos (write_start start f.octets)))) (zero_within, (zero_within, (zero_within, tt)))
     (omega (arith, signed_most (pos (write_start start f.octets))))
 
 -- ---- all of them

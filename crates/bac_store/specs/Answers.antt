@@ -1,6 +1,6 @@
 -- Which Error a refusal in code is answered with.
 use Rattle.std.specs.Prelude.{Option, Some, None}
-use Rattle.bac_service.specs.Values.{Reply}
+use Rattle.bac_service.specs.Replies.{Reply}
 use Rattle.bac_store.specs.declared.refusal.Refusal.{Refusal}
 use Rattle.bac_store.specs.declared.refusal.Refusal.TheVariants as case
 use Rattle.bac_store.specs.Replies as reply

@@ -2,10 +2,11 @@
 use Rattle.std.specs.Prelude.{◌≡◌, ℕ, ◌+◌, ◌≤◌, Bool, true, false, List, length, map, IfSome, if◌then◌else◌}
 use Rattle.std.specs.Option.{option_map}
 use Rattle.bac_value.specs.Value.{ObjectId}
-use Rattle.bac_service.specs.Values.{Request, Reply, for_file, held_by}
+use Rattle.bac_service.specs.Values.{Request, for_file}
+use Rattle.bac_service.specs.Replies.{Reply, held_by}
 use Rattle.bac_service.specs.Values.WriteAccess.{WriteStream, WriteRecords}
 use Rattle.bac_service.specs.Values.Request.{ReadFile, WriteFile, ReadProperty, WriteProperty}
-use Rattle.bac_service.specs.Values.Reply.{Simple, Whole, Error, Reject}
+use Rattle.bac_service.specs.Replies.Reply.{Simple, Complex, Error, Reject}
 use Rattle.bac_store.specs.Stores.{Store, Object, Property, File, is_object, is_number, object_in}
 use Rattle.bac_store.specs.Replies.{file_of, reply_to, written}
 
@@ -34,7 +35,7 @@ with_octets change o = record o { file = option_map (with_contents change) o.fil
 -- an Error changes nothing
 abbrev pub is_done : Reply → Bool
 is_done Simple = true
-is_done (Whole c) = true
+is_done (Complex c) = true
 is_done (Error class code) = false
 is_done (Reject reason) = false
 

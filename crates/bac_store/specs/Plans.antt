@@ -1,7 +1,8 @@
 -- A plan: the reply to a request, and the change that it makes.
 use Rattle.std.specs.Prelude.{◌≡◌, ℕ, ℤ, List, if◌then◌else◌}
 use Rattle.bac_value.specs.Value.{ObjectId}
-use Rattle.bac_service.specs.Values.{Request, Reply}
+use Rattle.bac_service.specs.Values.{Request}
+use Rattle.bac_service.specs.Replies.{Reply}
 use Rattle.bac_store.specs.Stores.{Store, File}
 use Rattle.bac_store.specs.Replies.{reply_to, written, write_stream_reply}
 use Rattle.bac_store.specs.Changes.{with_object, with_values, with_octets, is_done, after}

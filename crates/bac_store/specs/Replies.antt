@@ -3,12 +3,13 @@ use Rattle.std.specs.Prelude.{ℕ, zero, suc, ◌+◌, ℤ, pos, negsuc, Bool, t
 use Rattle.std.specs.Prelude.{length, take, drop, Option}
 use Rattle.std.specs.Prelude.{Some, None, is_some, if◌then◌else◌}
 use Rattle.bac_value.specs.Value.{ObjectId}
-use Rattle.bac_service.specs.Values.{Reference, ReadAccess, WriteAccess, Request, Reply}
+use Rattle.bac_service.specs.Values.{Reference, ReadAccess, WriteAccess, Request}
+use Rattle.bac_service.specs.Replies.{Reply}
 use Rattle.bac_service.specs.Values.ReadAccess.{ReadStream, ReadRecords}
 use Rattle.bac_service.specs.Values.WriteAccess.{WriteStream, WriteRecords}
 use Rattle.bac_service.specs.Values.Request.{ReadFile, WriteFile, ReadProperty, WriteProperty}
 use Rattle.bac_service.specs.Values.Complex.{FileRead, StreamWritten, PropertyRead}
-use Rattle.bac_service.specs.Values.Reply.{Simple, Whole, Error}
+use Rattle.bac_service.specs.Replies.Reply.{Simple, Complex, Error}
 use Rattle.bac_store.specs.Limits.{BINARY_VALUE, PRESENT_VALUE, VALUE_LIMIT, FILE_LIMIT}
 use Rattle.bac_store.specs.Stores.{Store, Object, Property, File, object_in, property_in, kind_of, is_state}
 
@@ -69,7 +70,7 @@ abbrev pub of_property : Store → Reference → (Property → Reply) → Reply
 of_property s r answer = at_object (object_in s r.object) (λ o. at_property (property_in o r.property) answer)
 
 abbrev pub read_reply : Reference → Property → Reply
-read_reply r p = first_case ((is_some r.index ⟶ PROPERTY_IS_NOT_AN_ARRAY) ∷ []) (Whole (PropertyRead r p.values))
+read_reply r p = first_case ((is_some r.index ⟶ PROPERTY_IS_NOT_AN_ARRAY) ∷ []) (Complex (PropertyRead r p.values))
 
 abbrev pub is_tag : ℕ → Option ℕ → Bool
 is_tag k None = false
@@ -127,7 +128,7 @@ abbrev pub reaches_end : ℕ → ℕ → List ℕ → Bool
 reaches_end start count octets = nat_le (length octets) (start + count)
 
 abbrev pub file_read : ℕ → ℕ → List ℕ → Reply
-file_read start count octets = Whole (FileRead (reaches_end start count octets) (pos start) (octets_from start count octets))
+file_read start count octets = Complex (FileRead (reaches_end start count octets) (pos start) (octets_from start count octets))
 
 abbrev pub read_file_reply : ReadAccess → File → Reply
 read_file_reply (ReadRecords start count) f = INVALID_FILE_ACCESS_METHOD
@@ -159,7 +160,7 @@ write_stream_reply start new f =
     ∷ (is_no_write_start start f.octets ⟶ INVALID_FILE_START_POSITION)
     ∷ (nat_lt FILE_LIMIT (length (written start new f.octets)) ⟶ NO_SPACE_TO_WRITE)
     ∷ [])
-    (Whole (StreamWritten (pos (write_start start f.octets))))
+    (Complex (StreamWritten (pos (write_start start f.octets))))
 
 abbrev pub write_file_reply : WriteAccess → File → Reply
 write_file_reply (WriteRecords start count run) f = INVALID_FILE_ACCESS_METHOD

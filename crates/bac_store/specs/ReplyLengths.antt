@@ -1,8 +1,8 @@
 -- How many octets of service data a reply has.
 use Rattle.std.specs.Prelude.{ℕ}
 use Rattle.bac_service.specs.Lengths.{complex_length}
-use Rattle.bac_service.specs.Values.{Reply}
-use Rattle.bac_service.specs.Values.Reply.{Simple, Whole, Error, Reject}
+use Rattle.bac_service.specs.Replies.{Reply}
+use Rattle.bac_service.specs.Replies.Reply.{Simple, Complex, Error, Reject}
 
 -- the most octets of service data that can be sent, in one APDU or in segments
 abbrev pub DATA_LIMIT : ℕ
@@ -10,6 +10,6 @@ DATA_LIMIT = 65535
 
 abbrev pub reply_length : Reply → ℕ
 reply_length Simple = 0
-reply_length (Whole answer) = complex_length answer
+reply_length (Complex c) = complex_length c
 reply_length (Error class code) = 0
 reply_length (Reject reason) = 0

@@ -1,8 +1,8 @@
 //! Reading and writing files (clauses 14.1 and 14.2).
 ghost use Rattle.std.specs.Prelude.{◌≡◌, ◌≤◌, ◌+◌, ℕ, pos, true, false, List, length, IfOk, MatchOption, MatchResult, OnErr};
-ghost use Rattle.bac_service.specs.Values.{held_by};
+ghost use Rattle.bac_service.specs.Replies.{held_by};
 ghost use Rattle.bac_service.specs.Values.Complex.{StreamWritten};
-ghost use Rattle.bac_service.specs.Values.Reply.{Whole};
+ghost use Rattle.bac_service.specs.Replies.Reply.{Complex};
 ghost use Rattle.bac_service.specs.Views.{owned_reply_view, read_access_view};
 ghost use Rattle.bac_store.specs.Answers.{refused};
 ghost use Rattle.bac_store.specs.Changes.{is_done};
@@ -83,7 +83,7 @@ pub(crate) fn write_place(file: &File, start: i64, new: &[u8]) -> Result<usize, 
     requires { length file.now.octets.items ≤ FILE_MOST }
     ensures { MatchResult result
         (λ at. (at ≡ write_start start file.now.octets.items) × (at ≤ length file.now.octets.items) × (at + length new.now ≤ FILE_MOST)
-        × (write_stream_reply start new.now (file_view file.now) ≡ Whole (StreamWritten (pos at))))
+        × (write_stream_reply start new.now (file_view file.now) ≡ Complex (StreamWritten (pos at))))
         (λ e. write_stream_reply start new.now (file_view file.now) ≡ refused e) }
 {
     if !file.writable {

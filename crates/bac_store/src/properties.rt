@@ -1,8 +1,8 @@
 //! Reading and writing properties (clauses 15.5 and 15.9).
 ghost use Rattle.std.specs.Prelude.{◌≡◌, ◌≤◌, ℕ, true, List, length, IfOk, OnErr};
 ghost use Rattle.bac_value.specs.Value.{Datum};
-ghost use Rattle.bac_service.specs.Values.{held_by};
-ghost use Rattle.bac_service.specs.Values.Reply.{Simple};
+ghost use Rattle.bac_service.specs.Replies.{held_by};
+ghost use Rattle.bac_service.specs.Replies.Reply.{Simple};
 ghost use Rattle.bac_service.specs.Views.{owned_reply_view, property_reference_view};
 ghost use Rattle.bac_store.specs.Answers.{refused, refused_or};
 ghost use Rattle.bac_store.specs.Changes.{is_done};

@@ -1,0 +1,4 @@
+pub mod Views
+pub mod Requests
+pub mod Fits
+pub mod Reacts

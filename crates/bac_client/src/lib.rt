@@ -1,0 +1,31 @@
+//! One transaction of a client (clause 5.4.4): what an ask, an APDU that comes and a tick make of its ticket, and the datagrams that it sends.
+//!
+//! A ticket takes memory before anything of it changes: a call whose memory is refused hands the ticket back as it was.
+#![tactic(auto)]
+
+mod asking;
+mod await_confirmation;
+mod context;
+mod ending;
+mod getting;
+mod held;
+mod outgoing_request;
+mod reacted;
+mod reading;
+mod segmented_conf;
+mod segmented_request;
+mod sending;
+mod ticket;
+mod ticking;
+
+pub use asking::Begun;
+pub use context::Context;
+pub use ending::Ending;
+pub use held::Held;
+pub use outgoing_request::{OutgoingRequest, RequestFault};
+pub use reacted::Reacted;
+pub use ticket::Ticket;
+pub use ticking::Due;
+
+#[cfg(test)]
+mod tests;

@@ -1,0 +1,233 @@
+//! A ComplexACK that comes in segments (clause 5.4.4.4).
+ghost use Rattle.std.specs.Prelude.{◌≡◌, ◌∷◌, [], IfOk, Ok, false, length};
+ghost use Rattle.bac_apdu.specs.Views.{apdu_view, segment_view};
+ghost use Rattle.bac_segment.specs.Pieces.{join};
+ghost use Rattle.bac_segment.specs.Answers.{answer_of};
+ghost use Rattle.bac_segment.specs.Window.{takes};
+ghost use Rattle.bac_segment.specs.Window.Taking.{TooLong};
+ghost use Rattle.bac_segment.specs.declared.incoming.Step.TheVariants.{Whole};
+ghost use Rattle.bac_service.specs.Services.{reads_reply};
+ghost use Rattle.bac_protocol.specs.Client.{answered_with, client_ack, conf_segment_taken, gets_next_segment, segmented_conf_gets};
+ghost use Rattle.bac_ends.specs.Sends.{IsSent, Pairwise, to_all};
+ghost use Rattle.bac_client.specs.Fits.{IsShort};
+ghost use Rattle.bac_client.specs.Reacts.{Finishes, Reacts, TakesSegment, acks_of};
+ghost use Rattle.bac_client.specs.Views.{ask_view, context_view, peer_of, ticket_view};
+ghost use Rattle.bac_client.specs.declared.ticket.Phase.TheVariants.{SegmentedConf as Conf};
+
+use crate::context::Context;
+use crate::ending::Ending;
+use crate::getting::gets_refusal;
+use crate::held::Held;
+use crate::reacted::{Finish, Reacted, closes, stays};
+use crate::reading::read_parts;
+use crate::sending::{abort, abort_alone, ack};
+use crate::ticket::{Core, Phase, Ticket};
+use bac_apdu::{Apdu, Segment, Window};
+use bac_ends::Datagram;
+use bac_segment::{Incoming, Step};
+use bac_service::AnyReply;
+use bac_value::NoMemory;
+use std::alloc::Global;
+
+/// The reason 'other' of an Abort (clause 18.10).
+pub(crate) const OTHER: u8 = 0;
+
+/// The reason 'buffer-overflow' of an Abort (clause 18.10).
+const BUFFER_OVERFLOW: u8 = 1;
+
+/// What a segment is answered.
+fn step_acks(
+    alloc: Global,
+    context: &Context,
+    number: u8,
+    window: Window,
+    taken: usize,
+    step: Step,
+) -> Result<Vec<Datagram>, NoMemory>
+    ensures { IfOk result (λ v. Pairwise IsSent (to_all (peer_of context.now) (acks_of (context_view context.now) number window.size taken step)) v.items) }
+{
+    match step {
+        Step::Taken { ack: false } => Ok(Vec::new(alloc)),
+        Step::Taken { ack: true } | Step::Whole => ack(alloc, context, false, number, window),
+        Step::Nak => {
+            let last = (taken.saturating_sub(1) % 256) as u8;
+            ack(alloc, context, true, last, window)
+        }
+    }
+}
+
+/// All segments are there.
+fn finish_whole(
+    alloc: Global,
+    context: &Context,
+    choice: u8,
+    inc: &Incoming,
+    number: u8,
+) -> Result<Finish, NoMemory>
+    ensures { IfOk result (Finishes context.now choice (answered_with (context_view context.now) reads_reply choice
+        (client_ack (context_view context.now) false number inc.now.window ∷ []) (join inc.now.parts))) }
+{
+    let mut sends = ack(alloc, context, false, number, inc.window())?;
+    let Some(complex) = read_parts(alloc, choice, inc)? else {
+        let abort = abort(alloc, context, OTHER)?;
+        sends.push(abort)?;
+        return Ok(Finish {
+            sends,
+            how: Ending::Aborted(OTHER),
+        });
+    };
+    Ok(Finish {
+        sends,
+        how: Ending::Answered(AnyReply::Complex(complex)),
+    })
+}
+
+/// The reassembly has grown too long.
+fn too_long(
+    alloc: Global,
+    context: &Context,
+    core: Core,
+    inc: Incoming,
+) -> Result<Reacted, (Core, Incoming)>
+    ensures { TakesSegment context.now (conf_segment_taken (context_view context.now) reads_reply core.choice 0 0 TooLong) core inc result }
+{
+    let Ok(sends) = abort_alone(alloc, context, BUFFER_OVERFLOW) else {
+        return Err((core, inc));
+    };
+    let finish = Finish {
+        sends,
+        how: Ending::Aborted(BUFFER_OVERFLOW),
+    };
+    Ok(closes(core.first, finish))
+}
+
+/// The last segment comes.
+fn takes_last(
+    alloc: Global,
+    context: &Context,
+    core: Core,
+    mut inc: Incoming,
+    number: u8,
+    more: bool,
+    octets: &[u8],
+) -> Result<Reacted, (Core, Incoming)>
+    requires { answer_of (takes inc number more octets.now) ≡ Ok Whole }
+    ensures { TakesSegment context.now (conf_segment_taken (context_view context.now) reads_reply core.choice number inc.window
+        (takes inc number more octets.now)) core inc result }
+{
+    let unacknowledged = inc.unacknowledged();
+    let Ok(_) = inc.on_segment(number, more, octets) else {
+        return Err((core, inc));
+    };
+    let Ok(finish) = finish_whole(alloc, context, core.choice, &inc, number) else {
+        inc.take_back(unacknowledged);
+        return Err((core, inc));
+    };
+    Ok(closes(core.first, finish))
+}
+
+/// A segment comes, of the reply that is awaited.
+pub(crate) fn takes_segment(
+    alloc: Global,
+    context: &Context,
+    mut core: Core,
+    mut inc: Incoming,
+    number: u8,
+    more: bool,
+    octets: &[u8],
+) -> Result<Reacted, (Core, Incoming)>
+    requires { IsShort core.whole core.out }
+    ensures { TakesSegment context.now (conf_segment_taken (context_view context.now) reads_reply core.choice number inc.window
+        (takes inc number more octets.now)) core inc result }
+{
+    let Ok(step) = inc.answer(number, more, octets) else {
+        return too_long(alloc, context, core, inc);
+    };
+    if let Step::Whole = step {
+        return takes_last(alloc, context, core, inc, number, more, octets);
+    }
+    let Ok(sends) = step_acks(alloc, context, number, inc.window(), inc.taken(), step) else {
+        return Err((core, inc));
+    };
+    let Ok(_) = inc.on_segment(number, more, octets) else {
+        return Err((core, inc));
+    };
+    core.since = context.moment;
+    let ticket = Ticket {
+        core,
+        phase: Phase::SegmentedConf { inc },
+    };
+    Ok(Reacted {
+        held: Held::Open(ticket),
+        sends,
+        ended: None,
+    })
+}
+
+/// A further segment of a ComplexACK comes.
+fn gets_next_segment(
+    alloc: Global,
+    context: &Context,
+    core: Core,
+    inc: Incoming,
+    segment: Segment,
+    choice: u8,
+    octets: &[u8],
+) -> Result<Reacted, Ticket>
+    requires { IsShort core.whole core.out }
+    ensures { Reacts context.now (ticket_view core (Conf inc))
+        (gets_next_segment (context_view context.now) reads_reply (ask_view core) inc (segment_view segment) choice octets.now) result }
+{
+    if choice != core.choice {
+        let ticket = Ticket {
+            core,
+            phase: Phase::SegmentedConf { inc },
+        };
+        return Ok(stays(alloc, context, ticket));
+    }
+    match takes_segment(
+        alloc,
+        context,
+        core,
+        inc,
+        segment.number,
+        segment.more,
+        octets,
+    ) {
+        Ok(reacted) => Ok(reacted),
+        Err((core, inc)) => Err(Ticket {
+            core,
+            phase: Phase::SegmentedConf { inc },
+        }),
+    }
+}
+
+/// An APDU comes in SEGMENTED_CONF.
+pub(crate) fn segmented_conf_gets(
+    alloc: Global,
+    context: &Context,
+    core: Core,
+    inc: Incoming,
+    apdu: &Apdu<'_>,
+) -> Result<Reacted, Ticket>
+    requires { IsShort core.whole core.out }
+    ensures { Reacts context.now (ticket_view core (Conf inc))
+        (segmented_conf_gets (context_view context.now) reads_reply (ask_view core) inc (apdu_view apdu.now)) result }
+{
+    if let Apdu::ComplexAck {
+        segment,
+        choice,
+        service,
+        ..
+    } = *apdu
+    {
+        if let Some(segment) = segment {
+            return gets_next_segment(alloc, context, core, inc, segment, choice, service);
+        }
+    }
+    let ticket = Ticket {
+        core,
+        phase: Phase::SegmentedConf { inc },
+    };
+    Ok(gets_refusal(alloc, context, ticket, apdu))
+}

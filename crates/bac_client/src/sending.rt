@@ -1,0 +1,154 @@
+//! Datagrams that a client sends.
+ghost use Rattle.std.specs.Prelude.{◌≡◌, ◌+◌, ◌-◌, ◌<◌, ◌≤◌, ◌∷◌, [], None, IfOk, length};
+ghost use Rattle.bac_apdu.specs.Apdu.Apdu.{ConfirmedRequest};
+ghost use Rattle.bac_apdu.specs.Views.{apdu_view};
+ghost use Rattle.bac_segment.specs.Window.{in_window};
+ghost use Rattle.bac_protocol.specs.Client.{client_abort, client_ack, request_piece, request_window};
+ghost use Rattle.bac_protocol.specs.Wire.{pieces_from};
+ghost use Rattle.bac_ends.specs.Sends.{IsSent, Pairwise, to_all, to_peer};
+ghost use Rattle.bac_client.specs.Fits.{ArePiecesShort};
+ghost use Rattle.bac_client.specs.Views.{context_view, peer_of};
+
+use crate::context::Context;
+use bac_apdu::{Apdu, Segment, Window};
+use bac_ends::{Datagram, abort_datagram, ack_datagram, datagram_of};
+use bac_segment::Outgoing;
+use bac_value::NoMemory;
+use std::alloc::Global;
+
+fn only(alloc: Global, datagram: Datagram) -> Result<Vec<Datagram>, NoMemory>
+    ensures { IfOk result (λ v. v.items ≡ datagram ∷ []) }
+{
+    let mut sends = Vec::new(alloc);
+    sends.push(datagram)?;
+    Ok(sends)
+}
+
+/// A SegmentACK.
+pub(crate) fn ack(
+    alloc: Global,
+    context: &Context,
+    nak: bool,
+    number: u8,
+    window: Window,
+) -> Result<Vec<Datagram>, NoMemory>
+    ensures { IfOk result (λ v. Pairwise IsSent (to_all (peer_of context.now) (client_ack (context_view context.now) nak number window.size ∷ [])) v.items) }
+{
+    let key = &context.key;
+    let ack = ack_datagram(alloc, &key.peer, false, key.invoke_id, nak, number, window)?;
+    only(alloc, ack)
+}
+
+/// An Abort.
+pub(crate) fn abort(alloc: Global, context: &Context, reason: u8) -> Result<Datagram, NoMemory>
+    ensures { IfOk result (IsSent (to_peer (peer_of context.now) (client_abort (context_view context.now) reason))) }
+{
+    let key = &context.key;
+    abort_datagram(alloc, &key.peer, false, key.invoke_id, reason)
+}
+
+/// An Abort, alone.
+pub(crate) fn abort_alone(
+    alloc: Global,
+    context: &Context,
+    reason: u8,
+) -> Result<Vec<Datagram>, NoMemory>
+    ensures { IfOk result (λ v. Pairwise IsSent (to_all (peer_of context.now) (client_abort (context_view context.now) reason ∷ [])) v.items) }
+{
+    let abort = abort(alloc, context, reason)?;
+    only(alloc, abort)
+}
+
+/// The whole request, in one APDU.
+#[tactic(auto, using(crate::proofs::Short::whole_is_short))]
+pub(crate) fn whole_request(
+    alloc: Global,
+    context: &Context,
+    choice: u8,
+    service: &[u8],
+) -> Result<Vec<Datagram>, NoMemory>
+    requires { length service.now ≤ 1472 }
+    ensures { IfOk result (λ v. Pairwise IsSent (to_all (peer_of context.now)
+        (ConfirmedRequest (context_view context.now).settings.limits (context_view context.now).invoke_id None choice service.now ∷ [])) v.items) }
+{
+    let request = Apdu::ConfirmedRequest {
+        limits: context.settings.limits,
+        invoke_id: context.key.invoke_id,
+        segment: None,
+        choice,
+        service,
+    };
+    let datagram = datagram_of(alloc, &context.key.peer, &request)?;
+    only(alloc, datagram)
+}
+
+fn piece_apdu<'a>(context: &Context, choice: u8, out: &'a Outgoing, n: usize) -> Apdu<'a>
+    requires { n < length out.now.pieces }
+    ensures { apdu_view result ≡ request_piece (context_view context.now) choice out.now.pieces n }
+{
+    let count = out.count();
+    let segment = Segment {
+        more: n + 1 < count,
+        number: (n % 256) as u8,
+        window: context.settings.window,
+    };
+    Apdu::ConfirmedRequest {
+        limits: context.settings.limits,
+        invoke_id: context.key.invoke_id,
+        segment: Some(segment),
+        choice,
+        service: out.piece(n),
+    }
+}
+
+fn piece(
+    alloc: Global,
+    context: &Context,
+    choice: u8,
+    out: &Outgoing,
+    n: usize,
+) -> Result<Datagram, NoMemory>
+    requires within { n < length out.now.pieces }
+    requires short { ArePiecesShort out.now }
+    ensures { IfOk result (IsSent (to_peer (peer_of context.now) (request_piece (context_view context.now) choice out.now.pieces n))) }
+{
+    let apdu = piece_apdu(context, choice, out, n);
+    datagram_of(alloc, &context.key.peer, &apdu)
+}
+
+/// The pieces of a request from one on, up to another.
+pub(crate) fn pieces(
+    alloc: Global,
+    context: &Context,
+    choice: u8,
+    out: &Outgoing,
+    start: usize,
+    end: usize,
+) -> Result<Vec<Datagram>, NoMemory>
+    requires forward { start ≤ end }
+    requires within { end ≤ length out.now.pieces }
+    requires short { ArePiecesShort out.now }
+    ensures { IfOk result (λ v. Pairwise IsSent (to_all (peer_of context.now)
+        (pieces_from (request_piece (context_view context.now) choice out.now.pieces) start (end - start))) v.items) }
+{
+    let mut sends = Vec::new(alloc);
+    for n in start..end {
+        let datagram = piece(alloc, context, choice, out, n)?;
+        sends.push(datagram)?;
+    }
+    Ok(sends)
+}
+
+/// The window of a request.
+pub(crate) fn window(
+    alloc: Global,
+    context: &Context,
+    choice: u8,
+    out: &Outgoing,
+) -> Result<Vec<Datagram>, NoMemory>
+    requires { ArePiecesShort out.now }
+    ensures { IfOk result (λ v. Pairwise IsSent (to_all (peer_of context.now) (request_window (context_view context.now) choice out.now)) v.items) }
+{
+    let window = out.window();
+    pieces(alloc, context, choice, out, window.start, window.end)
+}

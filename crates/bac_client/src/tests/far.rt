@@ -1,0 +1,122 @@
+//! At the far end of the limits, with ample memory.
+use super::*;
+use bac_apdu::{Apdu, Segment};
+
+const WIDE: Limits = Limits {
+    max_apdu: 5,
+    takes_segments: true,
+    max_segments: 0,
+};
+
+const MOST: Settings = Settings {
+    limits: WIDE,
+    window: Window { size: 127 },
+};
+
+/// A request of so many octets, or why it can't go.
+fn request(
+    alloc: Global,
+    peer: &Limits,
+    len: usize,
+) -> Result<Result<OutgoingRequest, RequestFault>, NoMemory> {
+    let octets = vec![in alloc; 0xABu8; len]?;
+    Ok(OutgoingRequest::new(&MOST, peer, 7, octets))
+}
+
+/// Whether a request of so many octets can go to a peer; None where memory is refused.
+fn fault(alloc: Global, peer: &Limits, len: usize) -> Result<Option<RequestFault>, NoMemory> {
+    match request(alloc, peer, len)? {
+        Ok(_) => Ok(None),
+        Err(fault) => Ok(Some(fault)),
+    }
+}
+
+#[test]
+fn sizes_of_requests(rt: HostRuntime) -> Result<(), Fail> {
+    let none = Limits {
+        max_apdu: 0,
+        takes_segments: false,
+        max_segments: 0,
+    };
+    let two = Limits {
+        max_apdu: 0,
+        takes_segments: true,
+        max_segments: 1,
+    };
+    assert_eq!(rt; fault(rt.alloc(), &none, 46)?, None);
+    assert_eq!(rt;
+        fault(rt.alloc(), &none, 47)?,
+        Some(RequestFault::NeedsSegments)
+    );
+    assert_eq!(rt; fault(rt.alloc(), &two, 88)?, None);
+    assert_eq!(rt;
+        fault(rt.alloc(), &two, 89)?,
+        Some(RequestFault::NeedsSegments)
+    );
+    assert_eq!(rt; fault(rt.alloc(), &WIDE, 65_535)?, None);
+    assert_eq!(rt;
+        fault(rt.alloc(), &WIDE, 65_536)?,
+        Some(RequestFault::TooLong)
+    );
+    Ok(())
+}
+
+// 45 segments of at most 1,470 octets
+#[test]
+fn the_longest_request(rt: HostRuntime) -> Result<(), Fail> {
+    let alloc = rt.alloc();
+    let Ok(request) = request(alloc, &WIDE, 65_535)? else {
+        return Err(Fail::new("it can't go"));
+    };
+    let mut context = context(FIRST);
+    context.settings = MOST;
+    let begun = Ticket::begin(alloc, &context, request)?;
+    assert_eq!(rt; begun.sends.len(), 1);
+    let ack = Apdu::SegmentAck {
+        nak: false,
+        server: true,
+        invoke_id: 1,
+        number: 0,
+        window: Window { size: 127 },
+    };
+    let Ok(reacted) = begun.ticket.gets(alloc, &context, &ack) else {
+        return Err(Fail::new("out of memory"));
+    };
+    assert_eq!(rt; reacted.sends.len(), 44);
+    Ok(())
+}
+
+// a reply of more than 65,535 octets
+#[test]
+fn the_longest_reply(rt: HostRuntime) -> Result<(), Fail> {
+    let alloc = rt.alloc();
+    let begun = asked(alloc, 7, READ)?;
+    let octets = vec![in alloc; 0xABu8; 65_535]?;
+    let segment = |number, service| Apdu::ComplexAck {
+        invoke_id: 1,
+        segment: Some(Segment {
+            more: true,
+            number,
+            window: WINDOW,
+        }),
+        choice: 7,
+        service,
+    };
+    let Ok(first) = begun
+        .ticket
+        .gets(alloc, &context(2_000), &segment(0, octets.as_slice()))
+    else {
+        return Err(Fail::new("out of memory"));
+    };
+    let Reacted { held, .. } = first;
+    let Held::Open(ticket) = held else {
+        return Err(Fail::new("it has ended"));
+    };
+    let Ok(second) = ticket.gets(alloc, &context(2_000), &segment(1, b"x")) else {
+        return Err(Fail::new("out of memory"));
+    };
+    assert_eq!(rt; end_of(&second.ended), End::Aborted(1));
+    let heads = heads(alloc, &second.sends)?;
+    assert_eq!(rt; heads.as_slice(), b"\x03\x70\x01\x01".as_slice());
+    Ok(())
+}

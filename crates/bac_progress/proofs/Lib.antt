@@ -1,0 +1,11 @@
+pub mod Paths
+pub mod Opens
+pub mod Changes
+pub mod Endings
+pub mod Serving
+pub mod Kept
+pub mod RoundTrips
+pub mod Waits
+pub mod Ticking
+pub mod Robust
+pub mod Computed

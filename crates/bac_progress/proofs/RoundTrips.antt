@@ -1,0 +1,259 @@
+-- One round trip suffices.
+use Rattle.std.proofs.Common.{◌≡◌, ℕ, ◌-◌, ◌≤◌, ◌⊎◌, Bool, true, false, List, [], ◌∷◌, Option, Some, None}
+use Rattle.std.proofs.Common.{refl, sym, ap, subst, inl, inr, ◌∙◌, arith}
+use Rattle.std.proofs.lemmas.Bool.Decides.{nat_tests}
+use Rattle.bac_apdu.specs.Apdu.{Apdu}
+use Rattle.bac_segment.specs.Window.{Outgoing}
+use Rattle.bac_segment.specs.Pieces.{join}
+use Rattle.bac_protocol.specs.declared.times.TheConstants.{DEADLINE}
+use Rattle.bac_protocol.specs.Service.{Octets, Reply, Reply as reply}
+use Rattle.bac_protocol.specs.Wire.{is_from_client}
+use Rattle.bac_protocol.specs.Service.Ending.{Answered}
+use Rattle.bac_protocol.specs.Client as client
+use Rattle.bac_protocol.specs.Client.{Ask, Phase, Ticket, is_idle, is_expired}
+use Rattle.bac_protocol.specs.Client.Phase.{SegmentedRequest, AwaitConfirmation, SegmentedConf, Idle}
+use Rattle.bac_protocol.specs.Client.Reaction.{Ends}
+use Rattle.bac_protocol.specs.Server as server
+use Rattle.bac_protocol.specs.Server.{State, Entry}
+use Rattle.bac_protocol.specs.Server.State.{Done}
+use Rattle.bac_protocol.specs.Log.{Fact, Has, Shop}
+use Rattle.bac_protocol.specs.Log.Fact.{Performed, Ended}
+use Rattle.bac_protocol.specs.Transaction.{Key, Rules, client_context, server_context, performed}
+use Rattle.bac_protocol.specs.World.{World, Event, takes_at_client, takes_at_server, reacts, serves, service_of, happens, run, start}
+use Rattle.bac_protocol.specs.World.Event.{Deliver}
+use Rattle.bac_protocol.specs.Claims.{IsBounded, WasPerformed}
+use Rattle.bac_protocol.specs.Straight.{is_ended}
+use Rattle.bac_protocol.proofs.Alone.{one}
+use Rattle.bac_protocol.proofs.Sound.{Up, Down, ClientFits, StateFits, ServerFits, IsBegunFor, IsKeptFor, Sound}
+use Rattle.bac_protocol.proofs.Sound.Down.{Unsent, Sent}
+use Rattle.bac_protocol.proofs.Nets.{sound_at}
+use Rattle.bac_protocol.proofs.Headline.{Kept, run_kept, event_kept, start_kept}
+use Rattle.bac_protocol.proofs.Keys.{set_same}
+use Rattle.bac_progress.specs.Runs.{IsOnItsWay}
+use Rattle.bac_progress.specs.RoundTrip.{request_to, segment_to, answer_to, FitsInOne, CanPerform, HasPerformed, IsOpenInTime, HasSentAll}
+use Rattle.bac_progress.specs.RoundTrip.{IsAnsweredNow, IsServed, RoundTripSuffices, RoundTripSufficesInSegments}
+use Rattle.bac_progress.proofs.Paths.{Any, run_steps}
+use Rattle.bac_progress.proofs.Changes.{one_ticket}
+use Rattle.bac_progress.proofs.Endings.{request_now, answer_now}
+use Rattle.bac_progress.proofs.Serving.{answer_any_time, answer_not_from_client, answer_ends, answer_ends_sending, performed_entry, answers_first}
+use Rattle.bac_progress.proofs.Serving.{answers_again, serves_new, serves_again, serves_segment}
+use Rattle.bac_progress.proofs.Kept.{IsKept, kept_path}
+
+-- a ticket takes an answer of one APDU: it waits for it, or has sent all segments
+abbrev TakesAnswer : Phase → Type 0
+TakesAnswer phase = (phase ≡ AwaitConfirmation) ⊎ ((out : Outgoing) × (phase ≡ SegmentedRequest out true))
+
+-- where an entry is done for an ask, its ticket takes the answer, or is over
+takes : (W number : ℕ) (ask : Ask) (kept : Apdu) (phase : Phase) (up : Up) (down : Down) (log : List Fact) → is_idle phase ≡ false → HasSentAll phase
+    → ClientFits W ask phase up down → StateFits W number ask (Done kept) up down log → TakesAnswer phase
+takes W number ask kept AwaitConfirmation up down log going all c s = inl refl
+takes W number ask kept (SegmentedRequest out b) up down log going all c s = inr (out, ap (λ (d : Bool). SegmentedRequest out d) all)
+takes W number ask kept (SegmentedConf inc) up Unsent log going all c s = absurd c
+takes W number ask kept (SegmentedConf inc) up (Sent ps t n) log going all c s = absurd s
+takes W number ask kept Idle up down log going all c s = absurd cc
+
+-- that of a request of one APDU sends no segments
+whole_sends_all : (W : ℕ) (ask : Ask) (phase : Phase) (up : Up) (down : Down) → ask.whole ≡ true → ClientFits W ask phase up down → HasSentAll phase
+whole_sends_all W ask (SegmentedRequest out b) up down whole c = let cut = c.in_pieces in absurd cc
+whole_sends_all W ask AwaitConfirmation up down whole c = tt
+whole_sends_all W ask (SegmentedConf inc) up down whole c = tt
+whole_sends_all W ask Idle up down whole c = tt
+
+reply_was : (x : Rules) (key : Key) (number m choice : ℕ) (ask : Ask) (log : List Fact) (p : Reply)
+    → IsKeptFor number ask (server.reply_apdu (server_context x key m) choice p) log → WasPerformed number ask p log
+reply_was x key number m choice ask log reply.Simple h = h.0
+reply_was x key number m choice ask log (reply.Complex o) h = h.0
+reply_was x key number m choice ask log (reply.Error class code) h = h.0
+
+kept_was : (W number : ℕ) (ask : Ask) (kept : Apdu) (up : Up) (down : Down) (log : List Fact) → StateFits W number ask (Done kept) up down log
+    → IsKeptFor number ask kept log
+kept_was W number ask kept up Unsent log s = s.1
+kept_was W number ask kept up (Sent ps t n) log s = absurd s
+
+module _ (S : Type 0) (shop : Shop S) (opening : ℕ → S) (W : ℕ) (x : Rules) (bound : IsBounded W x) where
+  -- what is known of a ticket in a world that was reached
+  abbrev SoundWith : World S → Key → Ticket → Up → Down → Type 0
+  SoundWith w key t up down = Sound W key w.net.now w.net.asks (w.net.numbers key) t (w.net.entries key) (one w.net key).copies w.net.log up down
+
+  sound : (w : World S) → Kept S shop opening W x bound w → (key : Key) (t : Ticket) → w.net.tickets key ≡ Some t
+      → (up : Up) × (down : Down) × SoundWith w key t up down
+  sound w s key t at = sound_at W w.net key (Some t) at s.net
+
+  -- an entry that is live, or was begun since the ask was made, was begun for it
+  begun_for : (w : World S) (key : Key) (t : Ticket) (up : Up) (down : Down) → SoundWith w key t up down → (e : Entry) → w.net.entries key ≡ Some e
+      → ((server.is_live w.net.now e ≡ true) ⊎ (t.ask.first ≤ e.begin)) → IsBegunFor W (w.net.numbers key) t.ask e up down w.net.log
+  begun_for w key t up down s e at when = go (subst (λ (o : Option Entry). ServerFits W (w.net.numbers key) t.ask o up down w.net.log) at s.server) when
+    where
+      go : ServerFits W (w.net.numbers key) t.ask (Some e) up down w.net.log → ((server.is_live w.net.now e ≡ true) ⊎ (t.ask.first ≤ e.begin))
+          → IsBegunFor W (w.net.numbers key) t.ask e up down w.net.log
+      go (inr begun) y = begun
+      go (inl past) (inl live) = let d = past.dead in let k = s.clock in absurd (grind (arith, nat_tests))
+      go (inl past) (inr since) = let d = past.dead in absurd (omega arith)
+
+  -- an answer on its way ends a ticket that takes it
+  ends : (v : World S) (key : Key) (t : Ticket) (p : Reply) (number : ℕ) (free : Bool) → IsOnItsWay x v.net key (answer_to x key t.ask p) number
+      → v.net.tickets key ≡ Some t → TakesAnswer t.phase → v.net.now - t.ask.first ≤ DEADLINE → FitsInOne x key t.ask p
+      → happens S shop x v (Deliver number free) ≡ reacts S v key t (Ends [] (Answered p))
+  ends v key t p number free m at phase young fits =
+      answer_now S shop x v key (answer_to x key t.ask p) number free (answer_not_from_client (server_context x key t.ask.first) t.ask.choice p) m
+      ∙ ap (takes_at_client S x v key (answer_to x key t.ask p)) at
+      ∙ ap (reacts S v key t) (go phase)
+    where
+      in_time : is_expired v.net.now t.ask ≡ false
+      in_time = grind (arith, nat_tests)
+
+      go : TakesAnswer t.phase
+          → client.client_gets (client_context x key v.net.now) x.readable t (answer_to x key t.ask p) ≡ Ends [] (Answered p)
+      go (inl a) = answer_ends (client_context x key v.net.now) (server_context x key t.ask.first) x.readable t p a in_time fits.kind
+      go (inr o) = answer_ends_sending (client_context x key v.net.now) (server_context x key t.ask.first) x.readable t p o.0 o.1 in_time fits.kind
+
+  -- from a world in which an entry is done for an ask, whose ticket is there
+  module _ (key : Key) (ask : Ask) (number begin : ℕ) (p : Reply) (since : ask.first ≤ begin) (fits : FitsInOne x key ask p) where
+    abbrev KeptIn : World S → Type 0
+    KeptIn u = IsKept x Any key number ask begin (answer_to x key ask p) since u.net
+
+    -- the ticket takes the answer, once it has sent all
+    there_takes : (v : World S) → Kept S shop opening W x bound v → (h : KeptIn v) → is_idle h.there.ticket.phase ≡ false
+        → (ask.whole ≡ true) ⊎ HasSentAll h.there.ticket.phase → TakesAnswer h.there.ticket.phase
+    there_takes v s h going ready = go ready
+      where
+        t : Ticket
+        t = h.there.ticket
+
+        known : (up : Up) × (down : Down) × SoundWith v key h.there.ticket up down
+        known = sound v s key h.there.ticket h.there.at
+
+        begun : IsBegunFor W (v.net.numbers key) h.there.ticket.ask h.entry known.0 known.1 v.net.log
+        begun = begun_for v key h.there.ticket known.0 known.1 known.2 h.entry h.at
+            (inr (let e : h.there.ticket.ask.first ≡ ask.first = ap (λ (a : Ask). a.first) h.there.is in let b = h.begun in omega arith))
+
+        done : StateFits W (v.net.numbers key) h.there.ticket.ask (Done (answer_to x key ask p)) known.0 known.1 v.net.log
+        done = subst (λ (st : State). StateFits W (v.net.numbers key) h.there.ticket.ask st known.0 known.1 v.net.log) h.state begun.state
+
+        by : HasSentAll h.there.ticket.phase → TakesAnswer h.there.ticket.phase
+        by all = takes W (v.net.numbers key) h.there.ticket.ask (answer_to x key ask p) h.there.ticket.phase known.0 known.1 v.net.log going all
+            (known.2).client done
+
+        go : (ask.whole ≡ true) ⊎ HasSentAll h.there.ticket.phase → TakesAnswer h.there.ticket.phase
+        go (inl whole) = by (whole_sends_all W h.there.ticket.ask h.there.ticket.phase known.0 known.1
+            (ap (λ (a : Ask). a.whole) h.there.is ∙ whole) (known.2).client)
+        go (inr all) = by all
+
+    answered : (u : World S) → Kept S shop opening W x bound u → KeptIn u → (events : List Event)
+        → (let v = run S shop x events u in (o : IsOpenInTime v.net key ask) → ((ask.whole ≡ true) ⊎ HasSentAll o.ticket.phase)
+        → (k : ℕ) → IsOnItsWay x v.net key (answer_to x key ask p) k → (free : Bool)
+        → IsAnsweredNow S key number p v (happens S shop x v (Deliver k free)))
+    answered u s h events o ready k m free = record {
+      log = ap (λ (y : World S). y.net.log) path ∙ ap (λ (n : ℕ). Ended n (Answered p) ∷ v.net.log) there.there.number_is;
+      over = ap (λ (y : World S). is_ended (y.net.tickets key)) path
+          ∙ ap is_ended (set_same v.net.tickets key (Some (client.after v.net.now there.there.ticket (Ends [] (Answered p)))));
+    }
+      where
+        v : World S
+        v = run S shop x events u
+
+        there : KeptIn v
+        there = kept_path x Any key number ask begin (answer_to x key ask p) since u.net v.net (run_steps x S shop events u) h o.in_time
+
+        same : o.ticket ≡ there.there.ticket
+        same = one_ticket o.ticket there.there.ticket (sym o.at ∙ there.there.at)
+
+        is_ready : (ask.whole ≡ true) ⊎ HasSentAll there.there.ticket.phase
+        is_ready = subst (λ (t : Ticket). (ask.whole ≡ true) ⊎ HasSentAll t.phase) same ready
+
+        path : happens S shop x v (Deliver k free) ≡ reacts S v key there.there.ticket (Ends [] (Answered p))
+        path = ends v key there.there.ticket p k free
+            (subst (λ (a : Ask). IsOnItsWay x v.net key (answer_to x key a p) k) (sym there.there.is) m) there.there.at
+            (there_takes v (run_kept S shop opening W x bound events u s) there (subst (λ (t : Ticket). is_idle t.phase ≡ false) same o.going) is_ready)
+            (subst (λ (a : Ask). v.net.now - a.first ≤ DEADLINE) (sym there.there.is) o.in_time)
+            (subst (λ (a : Ask). FitsInOne x key a p) (sym there.there.is) fits)
+
+  -- a delivery performs the request, or finds it performed
+  module _ (w : World S) (s : Kept S shop opening W x bound w) (key : Key) (t : Ticket) (at : w.net.tickets key ≡ Some t) (p : Reply)
+      (fits : FitsInOne x key t.ask p) where
+    -- an entry is done, and its answer was sent
+    served_by : (Ready : Phase → Type 0) → ((phase : Phase) → Ready phase → (t.ask.whole ≡ true) ⊎ HasSentAll phase)
+        → (e : Entry) (effect : Option server.Effect) → e.state ≡ Done (answer_to x key t.ask p) → t.ask.first ≤ e.begin
+        → Has (Performed (w.net.numbers key) (client.request_of t.ask) p) (performed (w.net.numbers key) effect w.net.log)
+        → (number : ℕ) (free : Bool)
+        → happens S shop x w (Deliver number free)
+        ≡ serves S shop w key (record { entry = Some e; sends = answer_to x key t.ask p ∷ []; effect = effect })
+        → IsServed S shop x key t.ask p Ready w (happens S shop x w (Deliver number free))
+    served_by Ready ready e effect state since has number free path = record {
+      performed = subst (λ (y : World S). Has (Performed (w.net.numbers key) (client.request_of t.ask) p) y.net.log) (sym path) has;
+      sent = ap (λ (y : World S). y.net.posts) path;
+      answered = λ events o r k m other. answered key t.ask (w.net.numbers key) e.begin p since fits u
+          (event_kept S shop opening W x bound w s (Deliver number free)) kept events o (ready o.ticket.phase r) k m other;
+    }
+      where
+        u : World S
+        u = happens S shop x w (Deliver number free)
+
+        kept : IsKept x Any key (w.net.numbers key) t.ask e.begin (answer_to x key t.ask p) since u.net
+        kept = subst (λ (y : World S). IsKept x Any key (w.net.numbers key) t.ask e.begin (answer_to x key t.ask p) since y.net) (sym path) (record {
+          there = record { ticket = t; at = at; is = refl; number_is = refl };
+          entry = e;
+          at = set_same w.net.entries key (Some e);
+          begun = refl;
+          state = state;
+        })
+
+    -- it was performed before: the entry was begun for the ask
+    again : (Ready : Phase → Type 0) → ((phase : Phase) → Ready phase → (t.ask.whole ≡ true) ⊎ HasSentAll phase)
+        → (request : Option Octets) → (h : HasPerformed x w.net key t.ask request p) → (a : Apdu) → is_from_client a ≡ true
+        → (number : ℕ) (free : Bool) → IsOnItsWay x w.net key a number
+        → (h.entry.choice ≡ t.ask.choice → server.server_gets (server_context x key w.net.now) (service_of S shop w key) (Some h.entry) free a
+        ≡ answers_again h.entry (answer_to x key t.ask p))
+        → IsServed S shop x key t.ask p Ready w (happens S shop x w (Deliver number free))
+    again Ready ready request h a up number free m gets =
+        served_by Ready ready h.entry None h.state begun.after
+        (reply_was x key (w.net.numbers key) t.ask.first t.ask.choice t.ask w.net.log p
+        (kept_was W (w.net.numbers key) t.ask (answer_to x key t.ask p) known.0 known.1 w.net.log
+        (subst (λ (st : State). StateFits W (w.net.numbers key) t.ask st known.0 known.1 w.net.log) h.state begun.state)))
+        number free
+        (request_now S shop x w key a number free up m
+        ∙ ap (λ (o : Option Entry). serves S shop w key (server.server_gets (server_context x key w.net.now) (service_of S shop w key) o free a)) h.at
+        ∙ ap (serves S shop w key) (gets begun.choice))
+      where
+        known : (up : Up) × (down : Down) × SoundWith w key t up down
+        known = sound w s key t at
+
+        begun : IsBegunFor W (w.net.numbers key) t.ask h.entry known.0 known.1 w.net.log
+        begun = begun_for w key t known.0 known.1 known.2 h.entry h.at (inl h.live)
+
+    -- a request of one APDU
+    pub trip : t.ask.whole ≡ true → (free : Bool)
+        → CanPerform S shop w key t.ask free p ⊎ HasPerformed x w.net key t.ask (Some (join t.ask.pieces)) p
+        → (number : ℕ) → IsOnItsWay x w.net key (request_to x key t.ask) number
+        → IsServed S shop x key t.ask p (λ phase. Unit {0}) w (happens S shop x w (Deliver number free))
+    trip whole free (inr h) number m = again (λ phase. Unit {0}) (λ phase r. inl whole) (Some (join t.ask.pieces)) h (request_to x key t.ask) refl number free m
+        (λ choice. serves_again (server_context x key w.net.now) (client_context x key t.ask.first) (service_of S shop w key) h.entry free t.ask
+        (answer_to x key t.ask p) h.live h.state choice h.request_is)
+    trip whole free (inl c) number m = served_by (λ phase. Unit {0}) (λ phase r. inl whole)
+        (performed_entry w.net.now (client_context x key t.ask.first) t.ask (answer_to x key t.ask p))
+        (Some (record { request = client.request_of t.ask; reply = p })) refl (((sound w s key t at).2).clock) (inl refl) number free
+        (request_now S shop x w key (request_to x key t.ask) number free refl m
+        ∙ ap (λ b. takes_at_server S shop x w key b (request_to x key t.ask)) c.slot
+        ∙ ap (serves S shop w key) (serves_new (server_context x key w.net.now) (client_context x key t.ask.first) (service_of S shop w key)
+        (w.net.entries key) t.ask p c.none c.outcome fits.way)
+        ∙ ap (λ (a : Apdu). serves S shop w key (answers_first (performed_entry w.net.now (client_context x key t.ask.first) t.ask a) t.ask p a))
+        (answer_any_time x key w.net.now t.ask.first t.ask.choice p))
+
+    -- a segment of a request that was performed
+    pub trip_of_segment : HasPerformed x w.net key t.ask None p → (number piece : ℕ) (free : Bool)
+        → IsOnItsWay x w.net key (segment_to x key t.ask piece) number
+        → IsServed S shop x key t.ask p HasSentAll w (happens S shop x w (Deliver number free))
+    trip_of_segment h number piece free m = again HasSentAll (λ phase r. inr r) None h (segment_to x key t.ask piece) refl number free m
+        (λ choice. serves_segment (server_context x key w.net.now) (client_context x key t.ask.first) (service_of S shop w key) h.entry free t.ask
+        (answer_to x key t.ask p) h.live h.state h.request_is piece)
+
+  reached : (events : List Event) → Kept S shop opening W x bound (run S shop x events (start S opening))
+  reached events = run_kept S shop opening W x bound events (start S opening) (start_kept S shop opening W x bound)
+
+  pub round_trips : (events : List Event) → RoundTripSuffices S shop x (run S shop x events (start S opening))
+  round_trips events key t at whole p fits free can number m =
+      trip (run S shop x events (start S opening)) (reached events) key t at p fits whole free can number m
+
+  pub round_trips_in_segments : (events : List Event) → RoundTripSufficesInSegments S shop x (run S shop x events (start S opening))
+  round_trips_in_segments events key t at p fits h number piece free m =
+      trip_of_segment (run S shop x events (start S opening)) (reached events) key t at p fits h number piece free m

@@ -1,0 +1,6 @@
+pub mod Runs
+pub mod Ends
+pub mod RoundTrip
+pub mod Repeats
+pub mod Examples
+pub mod Failures

@@ -1,0 +1,27 @@
+-- What is said of a run: of each of its events, of the endings in its log, and of a copy that is on its way.
+use Rattle.std.specs.Prelude.{◌≡◌, ℕ, suc, true, List, [], ◌∷◌, Some, slice_get, if◌then◌else◌, nat_eq}
+use Rattle.bac_apdu.specs.Apdu.{Apdu}
+use Rattle.bac_protocol.specs.Log.{Fact, Shop}
+use Rattle.bac_protocol.specs.Log.Fact.{Asked, Performed, Ended}
+use Rattle.bac_protocol.specs.Transaction.{Key, Rules}
+use Rattle.bac_protocol.specs.World.{Net, World, Post, Event, is_deliverable, happens}
+
+-- each event of a run has that, in the world in which it happens
+abbrev pub Throughout : (S : Type 0) → Shop S → Rules → (World S → Event → Type 0) → List Event → World S → Type 0
+Throughout S shop x P [] w = Unit {0}
+Throughout S shop x P (e ∷ es) w = P w e × Throughout S shop x P es (happens S shop x w e)
+
+-- how many endings of ask n a log has
+abbrev pub endings_of : ℕ → List Fact → ℕ
+endings_of n [] = 0
+endings_of n (Asked m c s r ∷ log) = endings_of n log
+endings_of n (Performed m r p ∷ log) = endings_of n log
+endings_of n (Ended m how ∷ log) = if nat_eq m n then suc (endings_of n log) else endings_of n log
+
+-- the copy of that number carries that APDU of the transaction, and is deliverable
+pub record IsOnItsWay (x : Rules) (n : Net) (key : Key) (a : Apdu) (number : ℕ) : Type 0 where
+  pub post : Post
+  pub at : slice_get n.posts number ≡ Some post
+  pub key_is : post.key ≡ key
+  pub apdu_is : post.copy.apdu ≡ a
+  pub arrives : is_deliverable x n.now number n.posts post ≡ true

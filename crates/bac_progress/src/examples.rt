@@ -1,0 +1,24 @@
+//! For each law a run that meets its premises: no premise is empty.
+
+ghost use Rattle.bac_progress.specs.Examples.{LateTick, LateAnswer, OneRoundTrip, SecondRoundTrip, RoundTripOfSegment, FourthSending};
+
+/// An ask that ends late: at a tick, and as its answer comes.
+#[tactic(auto, using(crate::proofs::Computed::late_tick, crate::proofs::Computed::late_answer))]
+pub fn late_asks()
+    ensures at_a_tick { LateTick }
+    ensures at_an_answer { LateAnswer }
+{}
+
+/// A round trip whose copy of the request is performed, one whose copy finds its reply kept, and one of a segment.
+#[tactic(auto, using(crate::proofs::Computed::one_round_trip, crate::proofs::Computed::second_round_trip, crate::proofs::Computed::round_trip_of_segment))]
+pub fn round_trips()
+    ensures performs { OneRoundTrip }
+    ensures keeps { SecondRoundTrip }
+    ensures of_segment { RoundTripOfSegment }
+{}
+
+/// Three sendings are lost, and the fourth gets through.
+#[tactic(auto, using(crate::proofs::Computed::fourth_sending))]
+pub fn four_sendings()
+    ensures { FourthSending }
+{}

@@ -1,0 +1,53 @@
+//! Progress: what must come of an ask, whatever is lost, repeated or reordered.
+//!
+//! The definitions stand in `specs/`, over the machines and runs of bac_protocol. The functions here have no body: each carries a law as its contract.
+#![tactic(auto)]
+
+pub mod examples;
+pub mod failures;
+
+ghost use Rattle.std.specs.Prelude.{ℕ, List};
+ghost use Rattle.bac_protocol.specs.Log.{Shop};
+ghost use Rattle.bac_protocol.specs.Transaction.{Rules};
+ghost use Rattle.bac_protocol.specs.World.{Event, run, start};
+ghost use Rattle.bac_protocol.specs.Claims.{IsBounded};
+ghost use Rattle.bac_progress.specs.Ends.{EndingsAreLogged, EndsInTime};
+ghost use Rattle.bac_progress.specs.Repeats.{RepeatsSuffice};
+ghost use Rattle.bac_progress.specs.RoundTrip.{RoundTripSuffices, RoundTripSufficesInSegments};
+
+/// Each ask ends: after any run, more than 60,000 ms after its first sending, a tick of its client leaves it ended, and so does each APDU of a server
+/// that comes for it, whatever happens in between. The log then has one ending of that ask.
+pub fn asks_end<S>()
+    ensures { (shop : Shop S) (opening : ℕ → S) (W : ℕ) (rules : Rules) → IsBounded W rules → (events : List Event)
+        → EndsInTime S shop rules (run S shop rules events (start S opening)) }
+{}
+
+/// After any run the log has exactly one ending of each ask whose ticket is idle, and none of one whose ticket is open.
+pub fn endings_are_logged<S>()
+    ensures { (shop : Shop S) (opening : ℕ → S) (W : ℕ) (rules : Rules) → IsBounded W rules → (events : List Event)
+        → EndingsAreLogged (run S shop rules events (start S opening)).net }
+{}
+
+/// One round trip suffices: after any run, where a copy of a request of one APDU is delivered to a server that performs it then, or has performed it and
+/// keeps its reply of one APDU, an answer is sent; and whatever happens from then on, as long as the ticket is open and in time, each copy of that answer
+/// that is delivered ends it with the reply with which it was performed.
+pub fn round_trip_suffices<S>()
+    ensures { (shop : Shop S) (opening : ℕ → S) (W : ℕ) (rules : Rules) → IsBounded W rules → (events : List Event)
+        → RoundTripSuffices S shop rules (run S shop rules events (start S opening)) }
+{}
+
+/// The same for a request in segments, once it was performed: each of its segments that is delivered brings its reply of one APDU again, and one copy of
+/// that answer ends the ticket, as soon as its client has sent all segments.
+pub fn round_trip_suffices_in_segments<S>()
+    ensures { (shop : Shop S) (opening : ℕ → S) (W : ℕ) (rules : Rules) → IsBounded W rules → (events : List Event)
+        → RoundTripSufficesInSegments S shop rules (run S shop rules events (start S opening)) }
+{}
+
+/// Repeats suffice: an ask of one APDU that is made after any run, each delivered copy of which finds its server, is waited for or answered until
+/// 12,000 ms have passed since its first sending, whatever is lost, repeated, reordered or asked of others. Until then each tick of its client that is due
+/// finds a repeat left and sends the request again; and where any copy of the request and then the answer that it brought are delivered, the ask has ended
+/// with the reply with which it was performed.
+pub fn repeats_suffice<S>()
+    ensures { (shop : Shop S) (opening : ℕ → S) (W : ℕ) (rules : Rules) → IsBounded W rules → (events : List Event)
+        → RepeatsSuffice S shop rules (run S shop rules events (start S opening)) }
+{}
