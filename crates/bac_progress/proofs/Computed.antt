@@ -2,7 +2,7 @@
 use Rattle.std.proofs.Common.{refl, arith}
 use Rattle.bac_protocol.specs.World.{post_of}
 use Rattle.bac_protocol.specs.Examples.{key, rules, append_apdu, position, position_apdu}
-use Rattle.bac_progress.specs.Examples.{whole_ask, LateTick, LateAnswer, OneRoundTrip, SecondRoundTrip, RoundTripOfSegment, FourthSending}
+use Rattle.bac_progress.specs.Examples.{whole_ask, LateTick, LateAnswer, OneRoundTrip, SecondRoundTrip, RoundTripOfSegment, FourthSending, LateTurn}
 use Rattle.bac_progress.specs.RoundTrip.{FitsInOne}
 use Rattle.bac_progress.specs.Failures.{WindowUsedUp, ReplyUsedUp, TooOld, OutOfPatience, OldAbort}
 
@@ -65,6 +65,14 @@ fourth_sending = record {
   young = omega arith;
   request = record { post = post_of key 9000 append_apdu; at = refl; key_is = refl; apdu_is = refl; arrives = refl };
   answer = record { post = post_of key 9000 position_apdu; at = refl; key_is = refl; apdu_is = refl; arrives = refl };
+  ends = refl;
+}
+
+pub late_turn : LateTurn
+late_turn = record {
+  ticket = refl;
+  due = record { waits = refl; left = omega arith; due = omega arith; in_time = omega arith };
+  performs = record { none = refl; slot = refl; outcome = refl };
   ends = refl;
 }
 

@@ -8,4 +8,5 @@ pub mod RoundTrips
 pub mod Waits
 pub mod Ticking
 pub mod Robust
+pub mod Turning
 pub mod Computed

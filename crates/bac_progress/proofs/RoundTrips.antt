@@ -32,8 +32,7 @@ use Rattle.bac_protocol.proofs.Keys.{set_same}
 use Rattle.bac_progress.specs.Runs.{IsOnItsWay}
 use Rattle.bac_progress.specs.RoundTrip.{request_to, segment_to, answer_to, FitsInOne, CanPerform, HasPerformed, IsOpenInTime, HasSentAll}
 use Rattle.bac_progress.specs.RoundTrip.{IsAnsweredNow, IsServed, RoundTripSuffices, RoundTripSufficesInSegments}
-use Rattle.bac_progress.proofs.Paths.{Any, run_steps}
-use Rattle.bac_progress.proofs.Changes.{one_ticket}
+use Rattle.bac_progress.proofs.Paths.{some_is, Any, run_steps}
 use Rattle.bac_progress.proofs.Endings.{request_now, answer_now}
 use Rattle.bac_progress.proofs.Serving.{answer_any_time, answer_not_from_client, answer_ends, answer_ends_sending, performed_entry, answers_first}
 use Rattle.bac_progress.proofs.Serving.{answers_again, serves_new, serves_again, serves_segment}
@@ -156,7 +155,7 @@ module _ (S : Type 0) (shop : Shop S) (opening : ℕ → S) (W : ℕ) (x : Rules
         there = kept_path x Any key number ask begin (answer_to x key ask p) since u.net v.net (run_steps x S shop events u) h o.in_time
 
         same : o.ticket ≡ there.there.ticket
-        same = one_ticket o.ticket there.there.ticket (sym o.at ∙ there.there.at)
+        same = some_is o.ticket there.there.ticket (sym o.at ∙ there.there.at)
 
         is_ready : (ask.whole ≡ true) ⊎ HasSentAll there.there.ticket.phase
         is_ready = subst (λ (t : Ticket). (ask.whole ≡ true) ⊎ HasSentAll t.phase) same ready

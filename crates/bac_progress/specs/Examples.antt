@@ -16,6 +16,7 @@ use Rattle.bac_protocol.specs.Examples.{key, shop, rules, tick, ask_append, appe
 use Rattle.bac_progress.specs.Runs.{Throughout, IsOnItsWay}
 use Rattle.bac_progress.specs.RoundTrip.{FitsInOne, CanPerform, HasPerformed, IsOpenInTime, HasSentAll, request_to, segment_to}
 use Rattle.bac_progress.specs.Repeats.{PATIENCE, FindsServer}
+use Rattle.bac_progress.specs.Turns.{IsDue}
 
 -- the world after these events, where node 1 answers each request of node 0 so
 abbrev pub world : Reply → List Event → World ℕ
@@ -125,4 +126,17 @@ pub record FourthSending : Type 0 where
   pub request : IsOnItsWay (rules 3) (world position (ask_append ∷ before_fourth)).net key (request_to (rules 3) key whole_ask) 3
   pub answer : IsOnItsWay (rules 3) (world position (ask_append ∷ until_answer)).net key position_apdu 4
   pub ends : (world position (ask_append ∷ until_answer ++ Deliver 4 true ∷ [])).net.log
+      ≡ Ended 0 (Answered position) ∷ was_performed append position ∷ was_asked append ∷ []
+
+-- One turn suffices.
+
+-- two sendings are lost, and the next tick comes only at 40,000: it is due, with two repeats left
+abbrev pub late_turn : List Event
+late_turn = ask_append ∷ Advance 3000 ∷ tick ∷ Advance 37000 ∷ []
+
+pub record LateTurn : Type 0 where
+  pub ticket : (world position late_turn).net.tickets key ≡ Some (record (ticket_of whole_ask) { repeats = 2; since = 3000 })
+  pub due : IsDue (world position late_turn).net.now (record (ticket_of whole_ask) { repeats = 2; since = 3000 })
+  pub performs : CanPerform ℕ (shop position) (world position late_turn) key whole_ask true position
+  pub ends : (world position (late_turn ++ Tick (key ∷ []) [] ∷ Deliver 2 true ∷ Deliver 3 true ∷ [])).net.log
       ≡ Ended 0 (Answered position) ∷ was_performed append position ∷ was_asked append ∷ []

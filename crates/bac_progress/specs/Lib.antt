@@ -2,5 +2,6 @@ pub mod Runs
 pub mod Ends
 pub mod RoundTrip
 pub mod Repeats
+pub mod Turns
 pub mod Examples
 pub mod Failures
