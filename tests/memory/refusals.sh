@@ -26,9 +26,8 @@ fn has_memory(rt: HostRuntime) -> Result<(), Fail> {
         return Err(Fail::from("no request"));
     };
     let _plan = store.prepare(rt.alloc(), &request)?;
-    for (choice, text, want) in requests() {
-        let octets = octets_of(rt.alloc(), text)?;
-        let Ok(request) = read_request(choice, &octets) else {
+    for (choice, octets, want) in requests() {
+        let Ok(request) = read_request(choice, octets) else {
             return Err(Fail::from("no request"));
         };
         let plan = store.prepare(rt.alloc(), &request)?;

@@ -133,28 +133,30 @@ fn is_told(alloc: Global, plan: &Planned, want: Want<'_>) -> Result<bool, NoMemo
 }
 
 /// Requests of the house, and their replies.
-fn requests() -> [(u8, &'static str, Want<'static>); 5] {
-    let name = Want::Complex("0C02000001194D3E750600686F7573653F");
-    let flow = Want::Complex("0C0000000519553E444290999A3F");
+fn requests() -> [(u8, &'static [u8], Want<'static>); 5] {
     [
-        (12, "0C02000001194D", name),
-        (12, "0C000000051955", flow),
+        (
+            12,
+            b"\x0C\x02\x00\x00\x01\x19\x4D",
+            Want::Complex("0C02000001194D3E750600686F7573653F"),
+        ),
+        (
+            12,
+            b"\x0C\x00\x00\x00\x05\x19\x55",
+            Want::Complex("0C0000000519553E444290999A3F"),
+        ),
         (
             6,
-            "C4028000010E3100210A0F",
+            b"\xC4\x02\x80\x00\x01\x0E\x31\x00\x21\x0A\x0F",
             Want::Complex("110E3100624F4B0F"),
         ),
-        (7, "C4028000010E31FF61AA0F", Want::Complex("0902")),
-        (12, "0C000000091955", Want::Error(1, 31)),
+        (
+            7,
+            b"\xC4\x02\x80\x00\x01\x0E\x31\xFF\x61\xAA\x0F",
+            Want::Complex("0902"),
+        ),
+        (12, b"\x0C\x00\x00\x00\x09\x19\x55", Want::Error(1, 31)),
     ]
-}
-
-/// The octets of a text, where one allocation alone is refused.
-fn some_octets(alloc: Global, text: &str) -> Result<Vec<u8>, NoMemory> {
-    match octets_of(alloc, text) {
-        Ok(octets) => Ok(octets),
-        Err(NoMemory) => octets_of(alloc, text),
-    }
 }
 
 /// Each reply is told; where its memory is refused, the next call finds the store as it was. An Error takes no memory.
@@ -163,9 +165,8 @@ fn prepares_or_refuses(rt: HostRuntime) -> Result<(), Fail> {
     let Ok(store) = house(rt.alloc()) else {
         return Ok(());
     };
-    for (choice, text, want) in requests() {
-        let octets = some_octets(rt.alloc(), text)?;
-        let Ok(request) = read_request(choice, &octets) else {
+    for (choice, octets, want) in requests() {
+        let Ok(request) = read_request(choice, octets) else {
             return Err(Fail::from("no request"));
         };
         let plan = match store.prepare(rt.alloc(), &request) {
