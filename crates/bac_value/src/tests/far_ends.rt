@@ -1,0 +1,86 @@
+//! Far ends, with ample memory: 65,535 octets in one piece and in many, and the lengths at which a tag grows.
+use super::pieces::append_out;
+use super::values::is_written_back;
+use super::*;
+
+/// The octets with which the spelling of an octet string begins, and how many it has, by the length of the string.
+const LONG_STRINGS: &[(usize, &str, usize)] = &[
+    (4, "64", 5),
+    (5, "6505", 7),
+    (253, "65FD", 255),
+    (254, "65FE00FE", 258),
+    (65_535, "65FEFFFF", 65_539),
+    (65_536, "65FF00010000", 65_542),
+];
+
+fn written_string(alloc: Global, count: usize) -> Result<Vec<u8>, Fail> {
+    let string = OctetString::new(vec![in alloc; 7u8; count]?).ok_or("octets")?;
+    let mut out = Vec::new(alloc);
+    write_value(&Value::OctetString(string), &mut out)?;
+    Ok(out)
+}
+
+#[test]
+fn long_octet_strings_have_the_shortest_tags(rt: HostRuntime) -> Result<(), Fail> {
+    for (count, begin, all) in LONG_STRINGS {
+        let out = written_string(rt.alloc(), *count)?;
+        let front = octets_of(rt.alloc(), begin)?;
+        assert!(rt; out.starts_with(&front), "{count}");
+        assert_eq!(rt; element_outcome(&out), (0, *all), "{count}");
+        assert_eq!(rt; out.len(), *all, "{count}");
+    }
+    Ok(())
+}
+
+#[test]
+fn writes_the_longest_tag(rt: HostRuntime) -> Result<(), Fail> {
+    let tag = Tag::new(254, Class::Context, Form::Length(u32::MAX)).ok_or("a tag")?;
+    let mut out = Vec::new(rt.alloc());
+    write_tag(&tag, &mut out)?;
+    let expected = octets_of(rt.alloc(), "FDFEFFFFFFFFFF")?;
+    assert!(rt; out == expected);
+    Ok(())
+}
+
+fn is_copied_as_data(alloc: Global, octets: &[u8]) -> Result<bool, Fail> {
+    let (data, _) = read_data(octets)?;
+    let copy = data.to_owned(alloc)?;
+    let mut out = Vec::new(alloc);
+    write_data(copy.as_data(), &mut out)?;
+    Ok(out.as_slice() == octets)
+}
+
+fn is_copied_out(alloc: Global, octets: &[u8]) -> Result<bool, Fail> {
+    let pieces = pieces_of(alloc, octets, 1000)?;
+    let mut out = Vec::new(alloc);
+    append_out(&pieces, 0, octets.len(), &mut out)?;
+    Ok(out.as_slice() == octets)
+}
+
+/// Octets, character and bit strings of 65,535 octets with their tags, through each call that copies or writes.
+#[test]
+fn copies_and_writes_65535_octets(rt: HostRuntime) -> Result<(), Fail> {
+    let alloc = rt.alloc();
+    for tag in ["65FEFFFB", "75FEFFFB", "85FEFFFB"] {
+        let mut octets = octets_of(alloc, tag)?;
+        octets.resize(65_535, 0)?;
+        assert!(rt; is_copied_as_data(alloc, &octets)?, "{tag}");
+        assert!(rt; is_written_back(alloc, &octets)?, "{tag}");
+        assert!(rt; is_copied_out(alloc, &octets)?, "{tag}");
+    }
+    Ok(())
+}
+
+#[test]
+fn reads_many_pieces_of_one_octet(rt: HostRuntime) -> Result<(), Fail> {
+    let alloc = rt.alloc();
+    let octets = vec![in alloc; 0u8; 65_535]?;
+    let pieces = pieces_of(alloc, &octets, 1)?;
+    let parts = Parts::try_new(&pieces).ok_or("few octets")?;
+    assert_eq!(rt; parts.len(), 65_535);
+    assert!(rt; matches!(check_data_at(&parts, 0), Ok(65_535)));
+    let mut out = Vec::new(alloc);
+    parts.append_to(&mut out)?;
+    assert!(rt; out == octets);
+    Ok(())
+}

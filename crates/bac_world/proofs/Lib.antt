@@ -1,0 +1,17 @@
+pub mod Slots
+pub mod Machines
+pub mod Pairs
+pub mod Logs
+pub mod Bridge
+pub mod Steps
+pub mod Table
+pub mod Serving
+pub mod Hearing
+pub mod Clients
+pub mod Asking
+pub mod Changes
+pub mod ClientTick
+pub mod ServerTick
+pub mod Ticking
+pub mod Headline
+pub mod Computed

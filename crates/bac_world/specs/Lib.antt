@@ -1,0 +1,5 @@
+pub mod Services
+pub mod Node
+pub mod Once
+pub mod World
+pub mod Examples
