@@ -15,3 +15,5 @@ pub mod ServerTick
 pub mod Ticking
 pub mod Headline
 pub mod Computed
+pub mod NodeLaws
+pub mod Apart
