@@ -1,5 +1,5 @@
 -- In each table of a node the slots have different keys, whatever it does.
-use Rattle.std.proofs.Common.{◌≡◌, ℕ, Bool, true, false, List, ◌++◌, Option, Some, None, sym, ap, subst, inl, inr, ◌∙◌}
+use Rattle.std.proofs.Common.{◌≡◌, ℕ, Bool, true, false, List, Option, Some, None, sym, ap, subst, inl, inr, ◌∙◌}
 use Rattle.bac_apdu.specs.Apdu.{Apdu, Limits}
 use Rattle.bac_npdu.specs.Peers.{PeerView}
 use Rattle.bac_service.specs.Values.{Request, choice_of}
@@ -12,11 +12,11 @@ use Rattle.bac_protocol.specs.Server.{Entry, server_gets}
 use Rattle.bac_slots.specs.Slots.{value_at, IsDistinct}
 use Rattle.bac_ends.specs.Keys.{PeerKey, same_key}
 use Rattle.bac_ends.specs.Sends.{Datagram}
-use Rattle.bac_ends.specs.Ends.{Client, ClientEnd, ClientTurn, Held, Accepted, key_of, context_of, client_after, client_hears_at, client_hears_held, client_hears}
-use Rattle.bac_ends.specs.Ends.{new_client, is_free}
+use Rattle.bac_ends.specs.Ends.{Client, ClientEnd, Held, Accepted, key_of, context_of, client_after, client_hears_at, client_hears_held}
+use Rattle.bac_ends.specs.Ends.{is_free}
 use Rattle.bac_ends.specs.Ends.Held.{Open, Closed}
 use Rattle.bac_world.specs.Services.{service_of}
-use Rattle.bac_world.specs.Node.{Node, Outcome, IsHeardBy, NodeOn, NodeTick, NodeAsks}
+use Rattle.bac_world.specs.Node.{Node, Outcome, IsHeardBy, NodeOn, NodeAsks}
 use Rattle.bac_world.specs.Keys.{HasKeysApart, KeysStayApart}
 use Rattle.bac_world.proofs.Slots.{passing, passing_value, passing_distinct, with_distinct, put_distinct, distinct_changed}
 use Rattle.bac_world.proofs.Table.{entry_distinct}

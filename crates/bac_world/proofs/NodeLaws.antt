@@ -1,15 +1,14 @@
 -- The laws of a node's datagrams.
-use Rattle.std.proofs.Common.{◌≡◌, ◌≢◌, ℕ, ◌-◌, ◌⊎◌, Bool, true, false, ◌&&◌, List, [], ◌∷◌, Option, Some, None}
+use Rattle.std.proofs.Common.{◌≡◌, ◌≢◌, ℕ, ◌-◌, ◌⊎◌, Bool, true, false, ◌&&◌, [], ◌∷◌, Option, Some, None}
 use Rattle.std.proofs.Common.{if◌then◌else◌, is_some, nat_eq, nat_le, refl, sym, ap, subst, inl, inr, ◌∙◌, arith}
 use Rattle.std.proofs.lemmas.Bool.Decides.{nat_tests}
 use Rattle.std.proofs.lemmas.Slice.Eq.{bytes_eq-Decides}
 use Rattle.std.specs.Str.{bytes_eq}
-use Rattle.bac_apdu.specs.Apdu.{Apdu, Limits, Segment}
+use Rattle.bac_apdu.specs.Apdu.{Apdu, Limits}
 use Rattle.bac_apdu.specs.Apdu.Apdu.{ConfirmedRequest}
 use Rattle.bac_apdu.specs.Spelling.{SpellsApdu}
 use Rattle.bac_apdu.proofs.Apdus.{apdu_one}
 use Rattle.bac_npdu.specs.Peers.{PeerView}
-use Rattle.bac_npdu.specs.Datagram.{Means}
 use Rattle.bac_npdu.proofs.Datagrams.{carries_one, means_one, dropped_means_none}
 use Rattle.bac_segment.specs.Window.{Outgoing, resume}
 use Rattle.bac_service.proofs.Wholes.{request_again}
@@ -25,13 +24,13 @@ use Rattle.bac_protocol.specs.Server.{State, Entry, Effect, Service, is_live, li
 use Rattle.bac_protocol.specs.Server.{performs, performs_so, sends_reply, begins, rests, effect_of, is_kept, idle_gets_request, resumes}
 use Rattle.bac_protocol.specs.Server.State.{Done, SegmentedResponse}
 use Rattle.bac_protocol.specs.Server.Transfer.{Running, Stopped}
-use Rattle.bac_slots.specs.Slots.{value_at, with_value, IsDistinct}
+use Rattle.bac_slots.specs.Slots.{value_at, IsDistinct}
 use Rattle.bac_slots.proofs.Values.{set_back}
 use Rattle.bac_ends.specs.Keys.{PeerKey, same_key}
-use Rattle.bac_ends.specs.Ends.{ServerSlot, context_of, is_free, server_goes, act_at, put_entry, set_or_put}
+use Rattle.bac_ends.specs.Ends.{context_of, is_free, server_goes, act_at, put_entry, set_or_put}
 use Rattle.bac_world.specs.Services.{Performed, ArePerformed, store_after, service_of, outcome_by}
 use Rattle.bac_world.specs.Node.{Node, Outcome, Cause, NodeOn, IsWhy, IsDropped, IsHeardBy, IsServerTurn}
-use Rattle.bac_world.specs.Laws.{IsMeaningless, DropsExactly, Gets, SendsAlone, IsPerformedNow, NewIsPerformed, IsEntry, IsAnsweredOnly, RepeatGetsKeptReply}
+use Rattle.bac_world.specs.Laws.{IsMeaningless, DropsExactly, Gets, SendsAlone, NewIsPerformed, IsEntry, IsAnsweredOnly, RepeatGetsKeptReply}
 use Rattle.bac_world.specs.Laws.{IsResumed, StoppedIsResumed}
 use Rattle.bac_world.proofs.Slots.{keys_equivalent}
 use Rattle.bac_world.proofs.Table.{entry_here}
@@ -115,7 +114,7 @@ module _ (now : ℕ) (old new : Node) (o : Outcome) (key : PeerKey) where
     put_itself : put_entry now key (Some e) old.servers.slots ≡ old.servers.slots
     put_itself =
         ap (λ b. if b then set_or_put now key e old.servers.slots (server.is_none_live now (value_at same_key key old.servers.slots)) else old.servers.slots)
-            entry.live
+        entry.live
         ∙ ap (λ o. set_or_put now key e old.servers.slots (server.is_none_live now o)) entry.at
         ∙ ap (λ b. set_or_put now key e old.servers.slots (if b then false else true)) entry.live
         ∙ set_back PeerKey Entry same_key keys_equivalent key e old.servers.slots entry.at
@@ -186,7 +185,7 @@ new_is_performed now old new o key choice limits service gets dead free r spelle
     reaction_is : server_gets c (service_of old.store) (value_at same_key key old.servers.slots) (is_free now old.servers)
         (ConfirmedRequest limits key.invoke_id None choice service) ≡ done
     reaction_is = new_reaction c (service_of old.store) (value_at same_key key old.servers.slots) (is_free now old.servers) key.invoke_id choice limits service
-            dead free
+        dead free
         ∙ ap (performs_so c e [] service) (ap (outcome_by old.store) (request_again choice service r spelled) ∙ says)
         ∙ ap (sends_reply c e [] service reply) in_one
 

@@ -14,7 +14,7 @@ use Rattle.bac_protocol.specs.Sizes.{reply_way_of}
 use Rattle.bac_protocol.specs.Sizes.Way.{InOne}
 use Rattle.bac_protocol.specs.Service.{Octets, Reply, OTHER}
 use Rattle.bac_protocol.specs.Service.Outcome.{Replies}
-use Rattle.bac_protocol.specs.Server.{State, Entry, is_live, live_entry, server_abort, reply_apdu, reply_window}
+use Rattle.bac_protocol.specs.Server.{Entry, is_live, live_entry, server_abort, reply_apdu, reply_window}
 use Rattle.bac_protocol.specs.Server.State.{Done, SegmentedResponse}
 use Rattle.bac_protocol.specs.Server.Transfer.{Running, Stopped}
 use Rattle.bac_slots.specs.Slots.{value_at, IsDistinct}
