@@ -138,7 +138,8 @@ module _ (now : ℕ) (old new : Node) (o : Outcome) (key : PeerKey) where
       sends = sends_so (resumes context e out Stopped) turn;
       performed = none;
       store = ap (λ (n : Node). n.store) turn.node ∙ ap (store_after old.store) none;
-      entry = λ distinct. entry_is (record e { state = SegmentedResponse (resume out) Running now }) entry.live (resumes context e out Stopped) refl turn distinct;
+      entry = λ distinct. entry_is (record e { state = SegmentedResponse (resume out) Running now }) entry.live (resumes context e out Stopped) refl
+          turn distinct;
     }
       where
         none : o.performed ≡ None
