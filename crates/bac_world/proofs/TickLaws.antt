@@ -223,7 +223,7 @@ module _ (now : ℕ) (old new : Node) (o : Outcome) (tick : NodeTick now old new
         let one = pairwise_split IsSent of_clients (of (in_order peer_key_cmp old.servers.slots)) o.sends tick.sends in
         let b = between ServerSlot (server_tick_sends c now) a.front a.back s [] one.rest
         (subst (λ (l : List Send). Pairwise IsSent l one.rest) (sym (append_none (of (a.front ++ s ∷ a.back))))
-            (subst (λ (l : List ServerSlot). Pairwise IsSent (of l) one.rest) a.is one.second)) in
+        (subst (λ (l : List ServerSlot). Pairwise IsSent (of l) one.rest) a.is one.second)) in
         record {
           among = a;
           sends = record {
