@@ -20,7 +20,8 @@ use Rattle.bac_slots.specs.declared.slot.Slot.{Slot}
 use Rattle.bac_slots.specs.Slots.{value_at, in_order, IsApart, IsDistinct}
 use Rattle.bac_ends.specs.Keys.{PeerKey, peer_key_cmp, same_key}
 use Rattle.bac_ends.specs.Sends.{Send, Datagram, Pairwise, IsSent, to_all}
-use Rattle.bac_ends.specs.Ends.{ClientSlot, ServerSlot, Client, context_of, from_each, client_tick_sends, server_tick_sends, open_unless, client_after, entry_or}
+use Rattle.bac_ends.specs.Ends.{ClientSlot, ServerSlot, Client, context_of, from_each}
+use Rattle.bac_ends.specs.Ends.{client_tick_sends, server_tick_sends, open_unless, client_after, entry_or}
 use Rattle.bac_ends.specs.Ends.Held.{Open}
 use Rattle.bac_world.specs.Node.{Node, Outcome, NodeTick}
 use Rattle.bac_world.specs.Keys.{HasKeysApart}
