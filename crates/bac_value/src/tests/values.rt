@@ -43,46 +43,6 @@ fn is_spelled(alloc: Global, value: &Value, text: &str) -> Result<bool, NoMemory
     )
 }
 
-const UNSIGNED: &[(u64, &str)] = &[
-    (0, "2100"),
-    (255, "21FF"),
-    (256, "220100"),
-    (u64::MAX, "2508FFFFFFFFFFFFFFFF"),
-];
-
-const SIGNED: &[(i64, &str)] = &[
-    (-1, "31FF"),
-    (-128, "3180"),
-    (-129, "32FF7F"),
-    (128, "320080"),
-    (i64::MIN, "35088000000000000000"),
-];
-
-const ENUMERATED: &[(u32, &str)] = &[(0, "9100"), (u32::MAX, "94FFFFFFFF")];
-
-#[test]
-fn writes_numbers_and_reads_them_back(rt: HostRuntime) -> Result<(), Fail> {
-    for (number, text) in UNSIGNED {
-        assert!(rt;
-            is_spelled(rt.alloc(), &Value::Unsigned(*number), text)?,
-            "{text}"
-        );
-    }
-    for (number, text) in SIGNED {
-        assert!(rt;
-            is_spelled(rt.alloc(), &Value::Signed(*number), text)?,
-            "{text}"
-        );
-    }
-    for (number, text) in ENUMERATED {
-        assert!(rt;
-            is_spelled(rt.alloc(), &Value::Enumerated(*number), text)?,
-            "{text}"
-        );
-    }
-    Ok(())
-}
-
 /// The first row whose text is not the spelling of its value.
 fn first_wrong_value<'a>(
     alloc: Global,
@@ -94,6 +54,25 @@ fn first_wrong_value<'a>(
         }
     }
     Ok(None)
+}
+
+#[test]
+fn writes_numbers_and_reads_them_back(rt: HostRuntime) -> Result<(), Fail> {
+    let rows = [
+        (Value::Unsigned(0), "2100"),
+        (Value::Unsigned(255), "21FF"),
+        (Value::Unsigned(256), "220100"),
+        (Value::Unsigned(u64::MAX), "2508FFFFFFFFFFFFFFFF"),
+        (Value::Signed(-1), "31FF"),
+        (Value::Signed(-128), "3180"),
+        (Value::Signed(-129), "32FF7F"),
+        (Value::Signed(128), "320080"),
+        (Value::Signed(i64::MIN), "35088000000000000000"),
+        (Value::Enumerated(0), "9100"),
+        (Value::Enumerated(u32::MAX), "94FFFFFFFF"),
+    ];
+    assert_eq!(rt; first_wrong_value(rt.alloc(), &rows)?, None);
+    Ok(())
 }
 
 #[test]
