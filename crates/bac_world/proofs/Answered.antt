@@ -1,5 +1,5 @@
 -- The run in which an ask is answered.
-use Rattle.std.proofs.Common.{◌≡◌, ◌≢◌, ℕ, zero, suc, ◌≤◌, Bool, true, false, List, [], ◌∷◌, length, Option, Some, None, slice_get, IsTrue}
+use Rattle.std.proofs.Common.{◌≡◌, ◌≢◌, ℕ, zero, suc, ◌≤◌, true, List, [], ◌∷◌, length, Some, None, slice_get, IsTrue}
 use Rattle.std.proofs.Common.{refl, sym, ap, subst, inl, inr, ◌∙◌, arith}
 use Rattle.bac_value.specs.Spelling.{tag_spelling}
 use Rattle.bac_value.specs.Number.{unsigned_octets}
@@ -17,20 +17,18 @@ use Rattle.bac_protocol.specs.Service as machine
 use Rattle.bac_protocol.specs.Short.{IsShort}
 use Rattle.bac_protocol.specs.Server as server
 use Rattle.bac_protocol.specs.Server.{performs_so, begins}
-use Rattle.bac_protocol.specs.Client.{Ask, Ticket}
 use Rattle.bac_ends.specs.Keys.{PeerKey}
 use Rattle.bac_ends.specs.Sends.{Datagram, IsSent, to_peer}
-use Rattle.bac_ends.specs.Meanings.{Finish}
 use Rattle.bac_ends.specs.Meanings.Ending.{Answered}
-use Rattle.bac_ends.specs.Ends.{ClientEnd, Accepted, accepts, context_of, server_goes, client_hears}
+use Rattle.bac_ends.specs.Ends.{Accepted, accepts, context_of, server_goes, client_hears}
 use Rattle.bac_server.specs.Services.{service_of, outcome_by}
 use Rattle.bac_service.specs.Services.{reads_reply}
 use Rattle.bac_world.specs.Services.{Performed}
 use Rattle.bac_world.specs.Node.{Node, Outcome, IsServerTurn, NodeAsks}
 use Rattle.bac_world.specs.Once.{Fact}
-use Rattle.bac_world.specs.World.{World, Copy, Note, Hears, IsAsked, IsDelivered, IsFresh, IsFreshNode, IsBounded, IsCopied, link_at, peer_at}
+use Rattle.bac_world.specs.World.{World, Copy, Note, Hears, IsAsked, IsDelivered, IsFreshNode, IsCopied, link_at, peer_at}
 use Rattle.bac_world.specs.Examples.{REQUEST, REPLY, STORE, ASKED}
-use Rattle.bac_world.specs.AnsweredRun.{LIMITS, SETTINGS, link, node, OPENING, EVENTS, LOG, AnsweredRun}
+use Rattle.bac_world.specs.AnsweredRun.{LIMITS, SETTINGS, link, node, OPENING, LOG, AnsweredRun}
 
 abbrev SERVICE_DATA : Octets
 SERVICE_DATA = 12 ∷ 0 ∷ 0 ∷ 0 ∷ 5 ∷ 25 ∷ 85 ∷ []
