@@ -15,7 +15,7 @@ use Rattle.bac_ends.specs.Sends.{Datagram}
 use Rattle.bac_ends.specs.Ends.{Client, ClientEnd, Held, Accepted, key_of, context_of, client_after, client_hears_at, client_hears_held}
 use Rattle.bac_ends.specs.Ends.{is_free}
 use Rattle.bac_ends.specs.Ends.Held.{Open, Closed}
-use Rattle.bac_world.specs.Services.{service_of}
+use Rattle.bac_server.specs.Services.{service_of}
 use Rattle.bac_world.specs.Node.{Node, Outcome, IsHeardBy, NodeOn, NodeAsks}
 use Rattle.bac_world.specs.Keys.{HasKeysApart, KeysStayApart}
 use Rattle.bac_world.proofs.Slots.{passing, passing_value, passing_distinct, with_distinct, put_distinct, distinct_changed}

@@ -17,3 +17,4 @@ pub mod Headline
 pub mod Computed
 pub mod NodeLaws
 pub mod Apart
+pub mod TickLaws

@@ -28,7 +28,8 @@ use Rattle.bac_slots.specs.Slots.{value_at, IsDistinct}
 use Rattle.bac_slots.proofs.Values.{set_back}
 use Rattle.bac_ends.specs.Keys.{PeerKey, same_key}
 use Rattle.bac_ends.specs.Ends.{context_of, is_free, server_goes, act_at, put_entry, set_or_put}
-use Rattle.bac_world.specs.Services.{Performed, ArePerformed, store_after, service_of, outcome_by}
+use Rattle.bac_server.specs.Services.{service_of, outcome_by}
+use Rattle.bac_world.specs.Services.{Performed, ArePerformed, store_after}
 use Rattle.bac_world.specs.Node.{Node, Outcome, Cause, NodeOn, IsWhy, IsDropped, IsHeardBy, IsServerTurn}
 use Rattle.bac_world.specs.Laws.{IsMeaningless, DropsExactly, Gets, SendsAlone, NewIsPerformed, IsEntry, IsAnsweredOnly, RepeatGetsKeptReply}
 use Rattle.bac_world.specs.Laws.{IsResumed, StoppedIsResumed}
@@ -198,8 +199,8 @@ new_is_performed now old new o key choice limits service gets dead free r spelle
         → d ≡ Some (record { key = key; request = r; reply = reply_to old.store r })
     made None k = absurd k
     made (Some d) k =
-        let same : d.request ≡ r = one_request choice d.request r service k.request spelled in
-        λ i. Some (record { key = k.key i; request = same i; reply = (k.reply ∙ ap (reply_to old.store) same) i })
+        let same : d.request ≡ r = one_request choice d.request r service k.what.request spelled in
+        λ i. Some (record { key = k.key i; request = same i; reply = (k.what.reply ∙ ap (reply_to old.store) same) i })
 
 -- A repeated request.
 

@@ -21,7 +21,7 @@ use Rattle.bac_slots.specs.Slots.{value_at, IsDistinct}
 use Rattle.bac_ends.specs.Keys.{PeerKey, same_key}
 use Rattle.bac_ends.specs.Sends.{Pairwise, IsSent, to_all}
 use Rattle.bac_ends.specs.Ends.{context_of, is_free}
-use Rattle.bac_world.specs.Services.{outcome_of}
+use Rattle.bac_server.specs.Services.{outcome_of}
 use Rattle.bac_world.specs.Node.{Node, Outcome, NodeOn, IsDropped}
 
 -- What is dropped.

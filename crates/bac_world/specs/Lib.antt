@@ -5,3 +5,4 @@ pub mod World
 pub mod Examples
 pub mod Laws
 pub mod Keys
+pub mod Ticks

@@ -1,6 +1,7 @@
-//! What a node does with a datagram.
+//! What a node does with a datagram and with a tick.
 ghost use Rattle.bac_world.specs.Laws.{DropsExactly, NewIsPerformed, RepeatGetsKeptReply, StoppedIsResumed};
 ghost use Rattle.bac_world.specs.Keys.{KeysStayApart};
+ghost use Rattle.bac_world.specs.Ticks.{TickRepeats};
 
 /// A datagram is dropped exactly where it comes from the node's own link or means no APDU of a peer.
 #[tactic(auto, using(crate::proofs::NodeLaws::drops_exactly))]
@@ -32,4 +33,11 @@ pub fn stopped_reply_is_resumed()
 #[tactic(auto, using(crate::proofs::Apart::keys_stay_apart))]
 pub fn keys_stay_apart()
     ensures { KeysStayApart }
+{}
+
+/// In a tick, each open ticket whose timer is due, with a repeat or a retry left and no more than 60,000 ms after its first sending, sends its request, the
+/// first window of its segments or the window that is not acknowledged, once, and stays open; so does a live entry's running transfer of a reply.
+#[tactic(auto, using(crate::proofs::TickLaws::tick_repeats))]
+pub fn tick_repeats_what_is_due()
+    ensures { TickRepeats }
 {}
