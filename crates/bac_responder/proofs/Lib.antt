@@ -1,0 +1,4 @@
+pub mod Turned
+pub mod Firsts
+pub mod Sweeps
+pub mod Begun
