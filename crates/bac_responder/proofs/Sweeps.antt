@@ -2,11 +2,9 @@
 use Rattle.std.proofs.Common.{◌≡◌, ℕ, ◌+◌, ◌<◌, arith, Bool, true, false, not, List, [], ◌∷◌, ◌++◌, length, filter, count_by, cond, Option, Some, None, if◌then◌else◌, refl, ap, sym, ◌∙◌}
 use Rattle.std.proofs.lemmas.List.Sums.{sum_by-cons, length-filter}
 use Rattle.std.proofs.lemmas.Bool.Decides.{nat_tests}
-use Rattle.bac_slots.specs.declared.slot.Slot.{Slot}
 use Rattle.bac_slots.specs.Slots.{value_at, with_value, keep, IsDistinct}
 use Rattle.bac_slots.proofs.Values.{value_kept}
 use Rattle.bac_protocol.specs.Server.{Entry, is_live, is_none_live}
-use Rattle.bac_ends.specs.Keys.{PeerKey, same_key}
 use Rattle.bac_ends.specs.Ends.{ServerSlot, is_slot_live, is_free, set_or_put}
 use Rattle.bac_ends.specs.Views.{peer_key_view, slot_view, slots_view, code_same_key}
 use Rattle.bac_ends.specs.declared.peer_key.PeerKey.{PeerKey as CodeKey}

@@ -1,19 +1,16 @@
 -- A turn of the table is a turn of the server's end.
-use Rattle.std.proofs.Common.{◌≡◌, ℕ, ◌-◌, ◌≤◌, Bool, true, false, List, [], ◌∷◌, ◌++◌, map, filter, count_by, cond, nat_le, nat_lt, Option, Some, None, if◌then◌else◌}
-use Rattle.std.proofs.Common.{refl, ap, sym, subst, ◌∙◌, arith, ◌+◌}
+use Rattle.std.proofs.Common.{◌≡◌, ℕ, ◌-◌, Bool, true, false, List, nat_le, Option, Some, None, if◌then◌else◌}
+use Rattle.std.proofs.Common.{refl, ap, sym, subst, ◌∙◌, arith}
 use Rattle.std.proofs.lemmas.Bool.Decides.{nat_tests}
-use Rattle.std.proofs.lemmas.List.Sums.{sum_by-cons}
 use Rattle.bac_apdu.specs.Apdu.{Apdu}
-use Rattle.bac_slots.specs.declared.slot.Slot.{Slot}
-use Rattle.bac_slots.specs.Slots.{value_at, with_value}
-use Rattle.bac_slots.proofs.Values.{set_twice, set_back}
+use Rattle.bac_slots.specs.Slots.{value_at}
 use Rattle.bac_store.specs.Stores.{Store}
 use Rattle.bac_protocol.specs.Context.{Context}
 use Rattle.bac_protocol.specs.Server.{Entry, Effect, Reaction, Service, is_live, is_none_live, live_gets, idle_gets, server_gets}
 use Rattle.bac_protocol.specs.Steps.{StaysIn}
 use Rattle.bac_protocol.proofs.Served.{live_stays_law}
 use Rattle.bac_ends.specs.Keys.{PeerKey, same_key}
-use Rattle.bac_ends.specs.Ends.{Act, ServerSlot, ServerEnd, ServerTurn, is_slot_live, set_or_put, put_entry, act_at, server_goes}
+use Rattle.bac_ends.specs.Ends.{ServerSlot, ServerEnd, ServerTurn, set_or_put, put_entry, act_at, server_goes}
 use Rattle.bac_ends.specs.Sends.{Datagram, Pairwise, IsSent}
 use Rattle.bac_server.specs.Services.{Performed, ArePerformed, store_after}
 use Rattle.bac_server.specs.Reactions.{IsReaction, IsStill}

@@ -3,15 +3,16 @@ ghost use Rattle.std.specs.Prelude.{◌≡◌, [], IfOk};
 ghost use Rattle.bac_apdu.specs.Views.{apdu_view};
 ghost use Rattle.bac_npdu.specs.Views.{peer_view};
 ghost use Rattle.bac_ends.specs.Ends.{server_hears, servers_tick};
+ghost use Rattle.bac_ends.specs.Sends.{Pairwise, IsSent};
 ghost use Rattle.bac_ends.specs.Views.{settings_view};
 ghost use Rattle.bac_server.specs.Services.{service_of};
 ghost use Rattle.bac_responder.specs.Views.{end_of, Serves};
 
 use crate::hearing::hears;
 use crate::served::Served;
-use crate::ticking::tick;
+use crate::ticking::{tick, tick_sends};
 use bac_apdu::Apdu;
-use bac_ends::{PeerKey, Settings, invoke_id_of};
+use bac_ends::{Datagram, PeerKey, Settings, invoke_id_of};
 use bac_npdu::Peer;
 use bac_server::{Context, Entry};
 use bac_slots::SlotTable;
@@ -73,6 +74,14 @@ impl<S: SlotTable<PeerKey, Entry> + Drop> Responder<S> {
             moment,
         };
         hears(alloc, &context, &mut self.table, apdu, store)
+    }
+
+    /// What a tick sends, in ascending order of peer and invoke ID: the windows of replies that no SegmentACK came for in 2,000 ms, while a retry is left.
+    /// An Err comes only where an allocation was refused.
+    pub fn prepare_tick(&self, alloc: Global, moment: u64) -> Result<Vec<Datagram>, NoMemory>
+        ensures { IfOk result (λ v. Pairwise IsSent (servers_tick self.now.settings moment self.now.end).sends v.items) }
+    {
+        tick_sends(alloc, &self.settings, &self.table, moment)
     }
 
     /// The entries after a tick. It takes no memory.

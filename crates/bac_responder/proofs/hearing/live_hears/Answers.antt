@@ -1,10 +1,10 @@
 -- The entry was taken out, goes on, and is put back.
-use Rattle.std.proofs.Common.{◌≡◌, ◌∙◌, sym, ap, subst, refl, ℕ, List, Option, Some, false, true, Bool}
+use Rattle.std.proofs.Common.{◌≡◌, ◌∙◌, sym, ap, ℕ, List, Some, false, true}
 use Rattle.bac_apdu.specs.Views.{apdu_view}
 use Rattle.bac_slots.specs.Slots.{value_at, with_value}
 use Rattle.bac_slots.proofs.Values.{set_back}
 use Rattle.bac_protocol.specs.Context.{Context}
-use Rattle.bac_protocol.specs.Server.{Entry, is_live, is_none_live, live_gets, server_gets}
+use Rattle.bac_protocol.specs.Server.{Entry, is_live, is_none_live}
 use Rattle.bac_ends.specs.Ends.{ServerEnd, is_free}
 use Rattle.bac_ends.specs.Keys.{PeerKey, same_key}
 use Rattle.bac_ends.specs.Views.{peer_key_view, code_same_key}

@@ -1,5 +1,5 @@
 -- The key is absent after the sweep, and a slot is free.
-use Rattle.std.proofs.Common.{◌≡◌, ◌∙◌, ap, arith, length, List}
+use Rattle.std.proofs.Common.{◌∙◌, ap, arith, List}
 use Rattle.bac_slots.specs.Slots.{value_at}
 use Rattle.bac_ends.specs.Views.{code_same_key}
 use Rattle.bac_responder.specs.Tables.{TableSlot}

@@ -1,5 +1,5 @@
 -- A table's slots after a tick are those of the end.
-use Rattle.std.proofs.Common.{◌≡◌, ◌∙◌, ap, List}
+use Rattle.std.proofs.Common.{◌∙◌, ap, List}
 use Rattle.bac_ends.specs.Views.{settings_view, slots_view}
 use Rattle.bac_responder.specs.Tables.{TableSlot}
 use Rattle.bac_responder.proofs.Firsts.{all_ticked}
