@@ -23,11 +23,13 @@ module _ (c : Context) (service : Service) where
   sends_begun e h before octets reply (InSegments pieces) = h
   sends_begun e h before octets reply (Refused reason) = h
 
-  so_begun : (e : Entry) → e.begin ≡ c.now → (before : List Apdu) (octets : Octets) (o : Outcome) → BeginsAt c.now (server.performs_so c e before octets o).entry
+  so_begun : (e : Entry) → e.begin ≡ c.now → (before : List Apdu) (octets : Octets) (o : Outcome)
+      → BeginsAt c.now (server.performs_so c e before octets o).entry
   so_begun e h before octets (Replies reply) = sends_begun e h before octets reply (reply_way_of c.settings e.limits reply)
   so_begun e h before octets (Rejects reason) = h
 
-  taken_begun : (e : Entry) → e.begin ≡ c.now → (number window : ℕ) (t : Taking) → BeginsAt c.now (server.request_segment_taken c service e number window t).entry
+  taken_begun : (e : Entry) → e.begin ≡ c.now → (number window : ℕ) (t : Taking)
+      → BeginsAt c.now (server.request_segment_taken c service e number window t).entry
   taken_begun e h number window (Taking.Taken true inc) = h
   taken_begun e h number window (Taking.Taken false inc) = h
   taken_begun e h number window (Taking.Whole parts) = so_begun e h (server.server_ack c false number window ∷ []) (join parts) (service e.choice (join parts))

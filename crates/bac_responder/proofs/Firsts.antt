@@ -116,4 +116,5 @@ module _ (f : TableSlot → Entry) where
 pub all_ticked : (c : Settings) (now : ℕ) (slots : List TableSlot)
     → slots_view (map (given (ticked c now)) slots) ≡ map (server_ticked c now) (slots_view slots)
 all_ticked c now [] = refl
-all_ticked c now (s ∷ slots) = ap (λ l. server_ticked c now (record { key = peer_key_view s.key; begin = s.begin; value = s.value }) ∷ l) (all_ticked c now slots)
+all_ticked c now (s ∷ slots) =
+    ap (λ l. server_ticked c now (record { key = peer_key_view s.key; begin = s.begin; value = s.value }) ∷ l) (all_ticked c now slots)

@@ -12,3 +12,6 @@ mod ticking;
 
 pub use responder::Responder;
 pub use served::{Act, Served};
+
+#[cfg(test)]
+mod tests;

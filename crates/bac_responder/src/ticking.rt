@@ -83,7 +83,8 @@ pub(crate) fn tick_sends<S: SlotTable<PeerKey, Entry>>(
     table: &S,
     moment: u64,
 ) -> Result<Vec<Datagram>, NoMemory>
-    ensures { IfOk result (λ v. Pairwise IsSent (servers_tick (settings_view settings.now) moment (end_of (S.slots table.now) (S.capacity table.now))).sends v.items) }
+    ensures { IfOk result (λ v. Pairwise IsSent
+        (servers_tick (settings_view settings.now) moment (end_of (S.slots table.now) (S.capacity table.now))).sends v.items) }
 {
     let mut sends = Vec::new(alloc);
     for n in 0..table.len() {

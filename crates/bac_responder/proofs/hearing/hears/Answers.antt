@@ -52,6 +52,7 @@ returns-in-Begins g c =
     ∙ ap (λ (b : Bool). idle_gets set (service_of c.args.store.now) o b (apdu_view c.args.apdu.now)) (sym c.is_free-free.ensures) in
     let did = rw c.in-Begins.is at c.in_ok-sends.ensures.does in
     let begin = begins_now set (service_of c.args.store.now) c.is_free-free.result (apdu_view c.args.apdu.now) x (did None).entry_is in
-    let r = served_so now e k _ _ c.args.store.now _ x true _ _ _ same (did o) (begun_live now x begin) dead (entered now key x slots _ c.enter.ensures.slots) in
+    let r = served_so now e k _ _ c.args.store.now _ x true _ _ _ same (did o) (begun_live now x begin) dead
+    (entered now key x slots _ c.enter.ensures.slots) in
     served_with _ c.args.store.now _ _ _ _ _ _ _ r c.served.ensures.sends c.served.ensures.act
     (ap (λ (n : ℕ). end_of (g.S.SlotTable.slots c.enter.new.table) n) c.enter.ensures.same)
