@@ -14,6 +14,7 @@ ghost use Rattle.bac_protocol.specs.Claims.{IsBounded};
 ghost use Rattle.bac_progress.specs.Ends.{EndingsAreLogged, EndsInTime};
 ghost use Rattle.bac_progress.specs.Repeats.{RepeatsSuffice};
 ghost use Rattle.bac_progress.specs.RoundTrip.{RoundTripSuffices, RoundTripSufficesInSegments};
+ghost use Rattle.bac_progress.specs.Stopped.{StoppedGoesOn};
 ghost use Rattle.bac_progress.specs.Turns.{OneTurnSuffices};
 
 /// Each ask ends: after any run, more than 60,000 ms after its first sending, a tick of its client leaves it ended, and so does each APDU of a server
@@ -59,4 +60,11 @@ pub fn repeats_suffice<S>()
 pub fn one_turn_suffices<S>()
     ensures { (shop : Shop S) (opening : ℕ → S) (W : ℕ) (rules : Rules) → IsBounded W rules → (events : List Event)
         → OneTurnSuffices S shop rules (run S shop rules events (start S opening)) }
+{}
+
+/// A stopped reply goes on: after any run, where an entry is live and its reply in segments has used up its retries, each copy of its request that is
+/// delivered, or each segment of one in segments, sends its window again from the first unacknowledged segment on, with full retries.
+pub fn stopped_reply_goes_on<S>()
+    ensures { (shop : Shop S) (opening : ℕ → S) (W : ℕ) (rules : Rules) → IsBounded W rules → (events : List Event)
+        → StoppedGoesOn S shop rules (run S shop rules events (start S opening)) }
 {}

@@ -29,7 +29,8 @@ after_acted key (Some q) = refl
 -- The end after a reaction.
 
 pub goes_so : (now : ℕ) (e : ServerEnd) (key : PeerKey) (v : Reaction) (d : Entry) (b : Bool) (slots : List ServerSlot) → v.entry ≡ Some d
-    → is_live now d ≡ true → is_none_live now (value_at same_key key e.slots) ≡ b → slots ≡ set_or_put now key d e.slots b → record e { slots = slots } ≡ (server_goes now e key v).end
+    → is_live now d ≡ true → is_none_live now (value_at same_key key e.slots) ≡ b → slots ≡ set_or_put now key d e.slots b
+    → record e { slots = slots } ≡ (server_goes now e key v).end
 goes_so now e key v d b slots is live none put =
     ap (λ l. record e { slots = l }) put
     ∙ sym (ap (λ o. record e { slots = put_entry now key o e.slots }) is
