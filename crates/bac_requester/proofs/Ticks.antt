@@ -117,5 +117,5 @@ nth_slot law slots n o d e =
 pub take_ordered : (slots : Slots) (n : ℕ) → length (in_order code_key_cmp slots) ≡ length slots → n ≡ length slots → take n (ordered slots) ≡ ordered slots
 take_ordered slots n law is =
     let viewed : length (ordered slots) ≡ length (in_order code_key_cmp slots) =
-        ap length (sym (in_order_viewed Client slots)) ∙ length-map (in_order code_key_cmp slots) slot_view in
+    ap length (sym (in_order_viewed Client slots)) ∙ length-map (in_order code_key_cmp slots) slot_view in
     take_all n (ordered slots) (omega (arith, viewed, law, is))

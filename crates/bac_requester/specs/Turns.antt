@@ -17,6 +17,11 @@ use Rattle.bac_ends.specs.declared.peer_key.PeerKey.{PeerKey}
 use Rattle.bac_requester.specs.Views.{Requester, finish_view, finishes_of}
 use Rattle.bac_requester.specs.declared.turn.Turn.{Turn}
 use Rattle.bac_requester.specs.declared.turn.Due.{Due}
+use Rattle.bac_requester.specs.declared.asking.Asked.{Asked}
+use Rattle.bac_requester.specs.declared.asking.AskFault.{AskFault}
+use Rattle.bac_requester.specs.declared.asking.AskFault.TheVariants as fault
+use Rattle.bac_protocol.specs.Sizes.{RequestFault}
+use Rattle.bac_ends.specs.Ends.{Accepted, AskOutcome, AskRefusal, CannotGo}
 
 -- what is sent and what has ended are this turn's, as datagrams and values
 pub record IsTold (turn : ClientTurn) (sent : List Datagram) (ended : List Finish) : Type 0 where
@@ -36,6 +41,38 @@ Hears turn old (Err e) new = new ≡ old
 -- what a tick sends and ends
 abbrev pub IsDue : ClientTurn → Due → Type 0
 IsDue turn x = IsTold turn x.sends.items (map finish_view x.ended.items)
+
+-- An ask.
+
+-- an ask was accepted
+pub record IsAccepted (a : Accepted) (old new : Requester) (x : Asked) : Type 0 where
+  pub end : new ≡ record old { end = a.end }
+  pub ticket : x.ticket ≡ a.ticket
+  pub invoke_id : x.invoke_id ≡ a.invoke_id
+  pub sends : Pairwise IsSent a.sends x.sends.items
+
+abbrev pub Accepts : AskOutcome → Requester → Requester → Asked → Type 0
+Accepts (AskOutcome.Refused why) old new x = ⊥
+Accepts (AskOutcome.Asked a) old new x = IsAccepted a old new x
+
+-- an ask with that outcome would be accepted
+abbrev pub MayBegin : AskOutcome → Type 0
+MayBegin (AskOutcome.Asked a) = Unit {0}
+MayBegin (AskOutcome.Refused why) = ⊥
+
+-- the fault says why an ask with that outcome has no ticket; out of memory is told only of one that would be accepted
+abbrev pub Refuses : AskFault → AskOutcome → Type 0
+Refuses fault.SelfPeer outcome = ⊥
+Refuses fault.TooLong outcome = outcome ≡ AskOutcome.Refused (CannotGo RequestFault.TooLong)
+Refuses fault.NeedsSegments outcome = outcome ≡ AskOutcome.Refused (CannotGo RequestFault.NeedsSegments)
+Refuses fault.NoInvokeId outcome = outcome ≡ AskOutcome.Refused AskRefusal.NoInvokeId
+Refuses fault.NoSlot outcome = outcome ≡ AskOutcome.Refused AskRefusal.NoSlot
+Refuses fault.NoMemory outcome = MayBegin outcome
+
+-- what an ask of another link answers; after a fault nothing has changed
+abbrev pub Asks : AskOutcome → Requester → Result Asked AskFault → Requester → Type 0
+Asks outcome old (Ok x) new = Accepts outcome old new x
+Asks outcome old (Err e) new = Refuses e outcome × (new ≡ old)
 
 -- Steps.
 
@@ -71,3 +108,12 @@ ticked_there c now key slots (Some v) = with_value code_same_key key (held_ticke
 
 abbrev pub ticked_at : Settings → (now : ℕ) → PeerKey → List (Slot PeerKey Client) → List (Slot PeerKey Client)
 ticked_at c now key slots = ticked_there c now key slots (value_at code_same_key key slots)
+
+-- the ask of a table
+abbrev pub AcceptsTable : AskOutcome → (new : ClientEnd) → Asked → Type 0
+AcceptsTable (AskOutcome.Refused why) new x = ⊥
+AcceptsTable (AskOutcome.Asked a) new x = (new ≡ a.end) × (x.ticket ≡ a.ticket) × (x.invoke_id ≡ a.invoke_id) × Pairwise IsSent a.sends x.sends.items
+
+abbrev pub AsksTable : AskOutcome → (old : ClientEnd) → Result Asked AskFault → (new : ClientEnd) → Type 0
+AsksTable outcome old (Ok x) new = AcceptsTable outcome new x
+AsksTable outcome old (Err e) new = Refuses e outcome × (new ≡ old)

@@ -3,12 +3,14 @@
 //! A requester does to its slots exactly what the plain client's end of bac_ends does. Memory is taken before anything changes.
 #![tactic(auto)]
 
+mod asking;
 mod client;
 mod hearing;
 mod requester;
 mod ticking;
 mod turn;
 
+pub use asking::{AskFault, Asked};
 pub use client::Client;
 pub use requester::Requester;
 pub use turn::{Due, Finish, Turn};

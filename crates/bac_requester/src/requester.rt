@@ -1,19 +1,22 @@
 //! The client's end.
-ghost use Rattle.std.specs.Prelude.{◌≡◌, [], IfOk};
-ghost use Rattle.bac_apdu.specs.Views.{apdu_view};
+ghost use Rattle.std.specs.Prelude.{◌≡◌, ◌↔◌, [], IfOk, IsErrOf};
+ghost use Rattle.bac_apdu.specs.Views.{apdu_view, limits_view};
 ghost use Rattle.bac_npdu.specs.Views.{peer_view};
 ghost use Rattle.bac_service.specs.Services.{reads_reply};
-ghost use Rattle.bac_ends.specs.Ends.{client_hears, clients_tick};
+ghost use Rattle.bac_ends.specs.Ends.{CannotGo, client_asks, client_hears, clients_tick};
+ghost use Rattle.bac_ends.specs.Ends.AskOutcome.{Refused};
 ghost use Rattle.bac_ends.specs.Views.{settings_view};
-ghost use Rattle.bac_requester.specs.Turns.{Hears, IsDue};
+ghost use Rattle.bac_client.specs.Views.{fault_view};
+ghost use Rattle.bac_requester.specs.Turns.{Asks, Hears, IsDue, Refuses};
 ghost use Rattle.bac_requester.specs.Views.{Requester as Requesting};
 
+use crate::asking::{AskFault, Asked, ask};
 use crate::client::Client;
 use crate::hearing::hears;
 use crate::ticking::{commit, prepare};
 use crate::turn::{Due, Turn};
-use bac_apdu::Apdu;
-use bac_client::Context;
+use bac_apdu::{Apdu, Limits};
+use bac_client::{Context, OutgoingRequest, RequestFault};
 use bac_ends::{PeerKey, Settings, invoke_id_of};
 use bac_npdu::Peer;
 use bac_slots::SlotTable;
@@ -42,6 +45,16 @@ impl<S: SlotTable<PeerKey, Client> + Drop> Model for Requester<S> {
     ghost view = { λ r. record { link = r.link; settings = settings_view r.settings; end = end_of (S.slots r.table) (S.capacity r.table) r.asked } };
 }
 
+/// A request that can't go, as the fault of its ask.
+fn fault_of(fault: RequestFault) -> AskFault
+    ensures { Refuses result (Refused (CannotGo (fault_view fault))) }
+{
+    match fault {
+        RequestFault::NeedsSegments => AskFault::NeedsSegments,
+        RequestFault::TooLong => AskFault::TooLong,
+    }
+}
+
 impl<S: SlotTable<PeerKey, Client> + Drop> Requester<S> {
     /// A client's end without transactions, of a node with that link and these settings, with room for so many.
     pub fn new(
@@ -62,6 +75,53 @@ impl<S: SlotTable<PeerKey, Client> + Drop> Requester<S> {
             table,
             asked: 0,
         })
+    }
+
+    /// Asks a peer that takes so much, with the service data of a request of a service choice. It takes the least invoke ID that is not held for the
+    /// peer, and a slot that is not held. After a fault nothing has changed.
+    pub fn ask(
+        &mut self,
+        now: u64,
+        peer: &Peer,
+        limits: &Limits,
+        choice: u8,
+        service: Vec<u8>,
+    ) -> Result<Asked, AskFault>
+        ensures own { IsErrOf result AskFault.SelfPeer ↔ (peer.now.link ≡ self.old.link) }
+        ensures asks { (peer.now.link ≡ self.old.link → ⊥)
+            → Asks (client_asks self.old.settings now (peer_view peer.now) (limits_view limits.now) choice service.items self.old.end) self.old result self.new }
+        ensures same { peer.now.link ≡ self.old.link → self.new ≡ self.old }
+    {
+        if peer.link == self.link {
+            return Err(AskFault::SelfPeer);
+        }
+        self.ask_other(now, peer, limits, choice, service)
+    }
+
+    /// Asks a peer of another link.
+    fn ask_other(
+        &mut self,
+        now: u64,
+        peer: &Peer,
+        limits: &Limits,
+        choice: u8,
+        service: Vec<u8>,
+    ) -> Result<Asked, AskFault>
+        ensures { Asks (client_asks self.old.settings now (peer_view peer.now) (limits_view limits.now) choice service.items self.old.end) self.old result self.new }
+    {
+        let request = match OutgoingRequest::new(&self.settings, limits, choice, service) {
+            Ok(request) => request,
+            Err(fault) => return Err(fault_of(fault)),
+        };
+        ask(
+            self.alloc,
+            &self.settings,
+            &mut self.table,
+            &mut self.asked,
+            now,
+            peer,
+            request,
+        )
     }
 
     /// An APDU comes from a peer at a moment, in milliseconds. Where memory is refused, nothing has changed.

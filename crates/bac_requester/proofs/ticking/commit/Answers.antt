@@ -23,7 +23,7 @@ loop-n-preserved g c =
     let found = c.in-Some.ensures in
     let s : Slot PeerKey Client = record { key = c.in-Some.key; begin = found.0.begin; value = found.0.value } in
     let at : slice_get (g.S.SlotTable.slots c.loop-n.table) c.loop-n.n ≡ Some s =
-        found.1 ∙ ap (λ k. Some (record { key = k; begin = found.0.begin; value = found.0.value })) found.2 in
+    found.1 ∙ ap (λ k. Some (record { key = k; begin = found.0.begin; value = found.0.value })) found.2 in
     record {
       slots = commit_more (settings_view c.args.settings.now) c.args.now c.loop-n.n _ _ _ s c.loop-n.invariant.distinct c.loop-n.invariant.slots at
           c.tick_at.ensures.slots;

@@ -15,6 +15,6 @@ returns g c =
       end = end_of (g.S.SlotTable.slots c.self.inside.table) (g.S.SlotTable.capacity c.self.inside.table) c.self.inside.asked;
     } in
     rw (← c.self.view_is) (heard before c.args.now (peer_view c.args.peer.now) (apdu_view c.args.apdu.now)
-        (record { peer = peer_view c.args.peer.now; invoke_id = c.invoke_id_of.result }) c.hears.result
-        (end_of (g.S.SlotTable.slots c.hears.new.table) (g.S.SlotTable.capacity c.hears.new.table) c.self.inside.asked)
-        (ap (λ i. record { peer = peer_view c.args.peer.now; invoke_id = i }) c.invoke_id_of.ensures) (c.hears.ensures c.self.inside.asked))
+    (record { peer = peer_view c.args.peer.now; invoke_id = c.invoke_id_of.result }) c.hears.result
+    (end_of (g.S.SlotTable.slots c.hears.new.table) (g.S.SlotTable.capacity c.hears.new.table) c.self.inside.asked)
+    (ap (λ i. record { peer = peer_view c.args.peer.now; invoke_id = i }) c.invoke_id_of.ensures) (c.hears.ensures c.self.inside.asked))
