@@ -64,8 +64,8 @@ fn rejects(
         invoke_id,
         reason: 9,
     };
-    let turn = requester.on(now, &peer(n), &reject)?;
-    match turn.ended {
+    let Turn { ended, .. } = requester.on(now, &peer(n), &reject)?;
+    match ended {
         Some(finish) => Ok(Some(finish.ticket)),
         None => Ok(None),
     }
