@@ -12,7 +12,7 @@ use Rattle.bac_protocol.specs.World.{Net, is_key_held, asked_at, client_acts}
 use Rattle.bac_protocol.proofs.Facts.{Grows}
 use Rattle.bac_protocol.proofs.Keys.{decide_key, set_same, set_other}
 use Rattle.bac_progress.proofs.Opens.{Opens, gets_opens, ticks_opens, asked_opens}
-use Rattle.bac_progress.proofs.Paths.{ask_of, Step, Path, step_log}
+use Rattle.bac_progress.proofs.Paths.{some_is, ask_of, Step, Path, step_log}
 use Rattle.bac_progress.proofs.Paths.Step.{Asks, Serves, Hears, TicksTicket, TicksEntry, Passes}
 use Rattle.bac_progress.proofs.Paths.Path.{Here, Then}
 
@@ -32,9 +32,6 @@ ended_grows number log new g h = (h.0, g (Ended number h.0) h.1)
 -- each ticket that is idle has its ending in the log
 abbrev pub IdleIsLogged : Net → Type 0
 IdleIsLogged n = (key : Key) (t : Ticket) → n.tickets key ≡ Some t → is_idle t.phase ≡ true → HasEnded (n.numbers key) n.log
-
-pub one_ticket : (a b : Ticket) → Some a ≡ Some b → a ≡ b
-one_ticket a b e = cc
 
 after_ask : (now : ℕ) (t : Ticket) (r : Reaction) → (after now t r).ask ≡ t.ask
 after_ask now t Stays = refl
@@ -86,9 +83,9 @@ module _ (x : Rules) (Q : Net → ℕ → Bool → Service → Type 0) where
       go : Change key n m → HasEnded (m.numbers key) m.log
       go (Change.Same e f) = subst (λ (k : ℕ). HasEnded k m.log) (sym f)
           (ended_grows (n.numbers key) n.log m.log (step_log x Q n m s) (h key t (sym e ∙ at) idle))
-      go (Change.Fresh free u is opens) = let same : u ≡ t = one_ticket u t (sym is ∙ at) in absurd cc
+      go (Change.Fresh free u is opens) = let same : u ≡ t = some_is u t (sym is ∙ at) in absurd cc
       go (Change.Reacts u r was opens is f log) =
-          let same : after n.now u r ≡ t = one_ticket (after n.now u r) t (sym is ∙ at) in
+          let same : after n.now u r ≡ t = some_is (after n.now u r) t (sym is ∙ at) in
           subst (λ (k : ℕ). HasEnded k m.log) (sym f) (subst (λ (l : List Fact). HasEnded (n.numbers key) l) (sym log)
           (after_logged (n.numbers key) n.now u r n.log opens (λ o. h key u was o) (ap (λ (y : Ticket). is_idle y.phase) same ∙ idle)))
 
@@ -111,7 +108,7 @@ module _ (x : Rules) (Q : Net → ℕ → Bool → Service → Type 0) where
         go (Change.Same e f) = inl (record { ticket = h.ticket; at = e ∙ h.at; is = h.is; number_is = f ∙ h.number_is })
         go (Change.Fresh free u is opens) = inr free
         go (Change.Reacts u r was opens is f log) =
-            let same : u ≡ h.ticket = one_ticket u h.ticket (sym was ∙ h.at) in
+            let same : u ≡ h.ticket = some_is u h.ticket (sym was ∙ h.at) in
             inl (record {
               ticket = after n.now u r;
               at = is;

@@ -2,7 +2,8 @@
 use Rattle.std.proofs.Common.{refl, arith}
 use Rattle.bac_protocol.specs.World.{post_of}
 use Rattle.bac_protocol.specs.Examples.{key, rules, append_apdu, position, position_apdu}
-use Rattle.bac_progress.specs.Examples.{whole_ask, LateTick, LateAnswer, OneRoundTrip, SecondRoundTrip, RoundTripOfSegment, FourthSending}
+use Rattle.bac_progress.specs.Examples.{whole_ask, LateTick, LateAnswer, OneRoundTrip, SecondRoundTrip}
+use Rattle.bac_progress.specs.Examples.{RoundTripOfSegment, FourthSending, LateTurn, StoppedReply}
 use Rattle.bac_progress.specs.RoundTrip.{FitsInOne}
 use Rattle.bac_progress.specs.Failures.{WindowUsedUp, ReplyUsedUp, TooOld, OutOfPatience, OldAbort}
 
@@ -65,6 +66,22 @@ fourth_sending = record {
   young = omega arith;
   request = record { post = post_of key 9000 append_apdu; at = refl; key_is = refl; apdu_is = refl; arrives = refl };
   answer = record { post = post_of key 9000 position_apdu; at = refl; key_is = refl; apdu_is = refl; arrives = refl };
+  ends = refl;
+}
+
+pub late_turn : LateTurn
+late_turn = record {
+  ticket = refl;
+  due = record { waits = refl; left = omega arith; due = omega arith; in_time = omega arith };
+  performs = record { none = refl; slot = refl; outcome = refl };
+  ends = refl;
+}
+
+pub stopped_reply : StoppedReply
+stopped_reply = record {
+  out = _;
+  stopped = record { entry = _; at = refl; live = refl; request_is = refl; since = _; state = refl };
+  request = record { post = post_of key 8000 append_apdu; at = refl; key_is = refl; apdu_is = refl; arrives = refl };
   ends = refl;
 }
 

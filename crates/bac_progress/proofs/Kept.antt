@@ -39,9 +39,6 @@ state_same State.Dropped = refl
 stays_same : (e : Entry) (o : Option Entry) → o ≡ Some e → Stays e o
 stays_same e o is = record { next = e; is = is; same = record { begin = refl; choice = refl; limits = refl; request = refl }; state = state_same e.state }
 
-one_entry : (a b : Entry) → Some a ≡ Some b → a ≡ b
-one_entry a b e = cc
-
 server_stays : (n : Net) (k : Key) (f : Option Entry → server.Reaction) (key : Key) (e : Entry) → n.entries key ≡ Some e → StaysIn e (f (Some e)).entry
     → Stays e ((server_acts n k (f (n.entries k))).entries key)
 server_stays n k f key e at h = go (decide_key k key)

@@ -8,4 +8,6 @@ pub mod RoundTrips
 pub mod Waits
 pub mod Ticking
 pub mod Robust
+pub mod Resuming
+pub mod Turning
 pub mod Computed

@@ -18,6 +18,9 @@ use Rattle.bac_protocol.specs.Moves.{taken_by_client, taken_by_server, ticket_ti
 use Rattle.bac_protocol.proofs.Facts.{Grows, grows_same, grows_more}
 use Rattle.bac_progress.specs.Runs.{Throughout}
 
+pub some_is : {A : Type 0} (a b : A) → Some a ≡ Some b → a ≡ b
+some_is a b e = cc
+
 abbrev pub ask_of : (now choice : ℕ) (whole : Bool) (front : Octets) (rest : List Octets) → Ask
 ask_of now choice whole front rest = record { first = now; choice = choice; whole = whole; pieces = front ∷ rest }
 

@@ -29,20 +29,16 @@ use Rattle.bac_protocol.proofs.Keys.{copy_at, set_same}
 use Rattle.bac_progress.specs.Runs.{Throughout, IsOnItsWay}
 use Rattle.bac_progress.specs.RoundTrip.{FitsInOne, CanPerform, HasPerformed, IsServed, request_to, answer_to}
 use Rattle.bac_progress.specs.Repeats.{PATIENCE, FindsServer, IsAnswered, IsWaiting, IsSentAgain, IsRobust, RepeatsSuffice}
-use Rattle.bac_progress.proofs.Paths.{ask_of, Gives, event_steps, run_steps, path_now, path_log, path_posts, run_path}
+use Rattle.bac_progress.proofs.Paths.{some_is, ask_of, Gives, event_steps, run_steps, path_now, path_log, path_posts, run_path}
 use Rattle.bac_progress.proofs.Paths.{Any}
-use Rattle.bac_progress.proofs.Changes.{one_ticket}
 use Rattle.bac_progress.proofs.RoundTrips.{trip}
 use Rattle.bac_progress.proofs.Ticking.{tick_sends}
 use Rattle.bac_progress.proofs.Waits.{IsFine, IsDoneFor, PatientOrAnswered, Waits, Finds, answered_grows, done_live, repeat_left}
 use Rattle.bac_progress.proofs.Waits.{waits_path, got, of_map}
 
-at_end : (xs : List Post) (q : Post) → slice_get (xs ++ q ∷ []) (length xs) ≡ Some q
+pub at_end : (xs : List Post) (q : Post) → slice_get (xs ++ q ∷ []) (length xs) ≡ Some q
 at_end [] q = refl
 at_end (p ∷ xs) q = at_end xs q
-
-one_post : (p q : Post) → Some p ≡ Some q → p ≡ q
-one_post p q e = cc
 
 module _ (S : Type 0) (shop : Shop S) (x : Rules) (key : Key) (ask : Ask) (number : ℕ) (whole : ask.whole ≡ true) where
   abbrev On : World S → Type 0
@@ -56,7 +52,7 @@ module _ (S : Type 0) (shop : Shop S) (x : Rules) (key : Key) (ask : Ask) (numbe
   finds_event w (MakeAsk k choice b front rest) h = tt
   finds_event w (Deliver i free) h = λ p at up arrives m none.
       let f = h m none in
-      let same : p.key ≡ key = ap (λ (y : Post). y.key) (one_post p m.post (sym at ∙ m.at)) ∙ m.key_is in
+      let same : p.key ≡ key = ap (λ (y : Post). y.key) (some_is p m.post (sym at ∙ m.at)) ∙ m.key_is in
       (f.0, (f.1).slot, ap (λ (k : Key). service_of S shop w k ask.choice (join ask.pieces)) same ∙ (f.1).outcome, f.2)
   finds_event w (Tick as_client as_server) h = tt
   finds_event w Noise h = tt
@@ -98,7 +94,7 @@ module _ (S : Type 0) (shop : Shop S) (x : Rules) (key : Key) (ask : Ask) (numbe
       go (subst (λ (y : Ticket). PatientOrAnswered x key ask number v.net.now y v.net.log) same h.ticket.state)
     where
       same : h.ticket.ticket ≡ t
-      same = one_ticket h.ticket.ticket t (sym h.ticket.at ∙ at)
+      same = some_is h.ticket.ticket t (sym h.ticket.at ∙ at)
 
       go : PatientOrAnswered x key ask number v.net.now t v.net.log
           → IsSentAgain x key ask t v.net (happens S shop x v (Tick as_client as_server)).net
@@ -168,7 +164,7 @@ module _ (S : Type 0) (shop : Shop S) (x : Rules) (key : Key) (ask : Ask) (numbe
 
         arrives : is_deliverable x u.net.now (length v.net.posts) u.net.posts post ≡ true
         arrives = subst (λ (q : Post). is_deliverable x u.net.now (length v.net.posts) u.net.posts q ≡ true)
-            (one_post m_u.post post (sym m_u.at ∙ in_u)) m_u.arrives
+            (some_is m_u.post post (sym m_u.at ∙ in_u)) m_u.arrives
 
         grown : Grows u.net.log z.net.log
         grown = path_log x Any u.net z.net (event_steps x S shop u (Deliver (length v.net.posts) other))

@@ -32,8 +32,7 @@ use Rattle.bac_protocol.proofs.Keys.{set_same}
 use Rattle.bac_progress.specs.Runs.{IsOnItsWay}
 use Rattle.bac_progress.specs.RoundTrip.{request_to, segment_to, answer_to, FitsInOne, CanPerform, HasPerformed, IsOpenInTime, HasSentAll}
 use Rattle.bac_progress.specs.RoundTrip.{IsAnsweredNow, IsServed, RoundTripSuffices, RoundTripSufficesInSegments}
-use Rattle.bac_progress.proofs.Paths.{Any, run_steps}
-use Rattle.bac_progress.proofs.Changes.{one_ticket}
+use Rattle.bac_progress.proofs.Paths.{some_is, Any, run_steps}
 use Rattle.bac_progress.proofs.Endings.{request_now, answer_now}
 use Rattle.bac_progress.proofs.Serving.{answer_any_time, answer_not_from_client, answer_ends, answer_ends_sending, performed_entry, answers_first}
 use Rattle.bac_progress.proofs.Serving.{answers_again, serves_new, serves_again, serves_segment}
@@ -72,15 +71,15 @@ kept_was W number ask kept up (Sent ps t n) log s = absurd s
 
 module _ (S : Type 0) (shop : Shop S) (opening : ℕ → S) (W : ℕ) (x : Rules) (bound : IsBounded W x) where
   -- what is known of a ticket in a world that was reached
-  abbrev SoundWith : World S → Key → Ticket → Up → Down → Type 0
+  abbrev pub SoundWith : World S → Key → Ticket → Up → Down → Type 0
   SoundWith w key t up down = Sound W key w.net.now w.net.asks (w.net.numbers key) t (w.net.entries key) (one w.net key).copies w.net.log up down
 
-  sound : (w : World S) → Kept S shop opening W x bound w → (key : Key) (t : Ticket) → w.net.tickets key ≡ Some t
+  pub sound : (w : World S) → Kept S shop opening W x bound w → (key : Key) (t : Ticket) → w.net.tickets key ≡ Some t
       → (up : Up) × (down : Down) × SoundWith w key t up down
   sound w s key t at = sound_at W w.net key (Some t) at s.net
 
   -- an entry that is live, or was begun since the ask was made, was begun for it
-  begun_for : (w : World S) (key : Key) (t : Ticket) (up : Up) (down : Down) → SoundWith w key t up down → (e : Entry) → w.net.entries key ≡ Some e
+  pub begun_for : (w : World S) (key : Key) (t : Ticket) (up : Up) (down : Down) → SoundWith w key t up down → (e : Entry) → w.net.entries key ≡ Some e
       → ((server.is_live w.net.now e ≡ true) ⊎ (t.ask.first ≤ e.begin)) → IsBegunFor W (w.net.numbers key) t.ask e up down w.net.log
   begun_for w key t up down s e at when = go (subst (λ (o : Option Entry). ServerFits W (w.net.numbers key) t.ask o up down w.net.log) at s.server) when
     where
@@ -156,7 +155,7 @@ module _ (S : Type 0) (shop : Shop S) (opening : ℕ → S) (W : ℕ) (x : Rules
         there = kept_path x Any key number ask begin (answer_to x key ask p) since u.net v.net (run_steps x S shop events u) h o.in_time
 
         same : o.ticket ≡ there.there.ticket
-        same = one_ticket o.ticket there.there.ticket (sym o.at ∙ there.there.at)
+        same = some_is o.ticket there.there.ticket (sym o.at ∙ there.there.at)
 
         is_ready : (ask.whole ≡ true) ⊎ HasSentAll there.there.ticket.phase
         is_ready = subst (λ (t : Ticket). (ask.whole ≡ true) ⊎ HasSentAll t.phase) same ready
@@ -247,7 +246,7 @@ module _ (S : Type 0) (shop : Shop S) (opening : ℕ → S) (W : ℕ) (x : Rules
         (λ choice. serves_segment (server_context x key w.net.now) (client_context x key t.ask.first) (service_of S shop w key) h.entry free t.ask
         (answer_to x key t.ask p) h.live h.state h.request_is piece)
 
-  reached : (events : List Event) → Kept S shop opening W x bound (run S shop x events (start S opening))
+  pub reached : (events : List Event) → Kept S shop opening W x bound (run S shop x events (start S opening))
   reached events = run_kept S shop opening W x bound events (start S opening) (start_kept S shop opening W x bound)
 
   pub round_trips : (events : List Event) → RoundTripSuffices S shop x (run S shop x events (start S opening))

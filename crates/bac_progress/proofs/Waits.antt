@@ -27,10 +27,9 @@ use Rattle.bac_protocol.proofs.Dead.{ended_is_silent}
 use Rattle.bac_progress.specs.Runs.{IsOnItsWay}
 use Rattle.bac_progress.specs.RoundTrip.{FitsInOne, request_to, answer_to}
 use Rattle.bac_progress.specs.Repeats.{IsAnswered, PATIENCE}
-use Rattle.bac_progress.proofs.Paths.{ask_of, Comes, Step, Path, step_now, grows_ended, grows_performed}
+use Rattle.bac_progress.proofs.Paths.{some_is, ask_of, Comes, Step, Path, step_now, grows_ended, grows_performed}
 use Rattle.bac_progress.proofs.Paths.Step.{Asks, Serves, Hears, TicksTicket, TicksEntry, Passes}
 use Rattle.bac_progress.proofs.Paths.Path.{Here, Then}
-use Rattle.bac_progress.proofs.Changes.{one_ticket}
 use Rattle.bac_progress.proofs.Serving.{answer_any_time, answer_not_from_client, answer_ends, performed_entry, answers_first, serves_new, serves_again}
 
 -- Lists of copies.
@@ -220,7 +219,7 @@ module _ (x : Rules) (key : Key) (ask : Ask) (number : ℕ) where
   -- what is known of the ticket, by its name
   known : (n : Net) (t : Ticket) → n.tickets key ≡ Some t → Waits n → (t.ask ≡ ask) × PatientOrAnswered n.now t n.log
   known n t at h =
-      let same : h.ticket.ticket ≡ t = one_ticket h.ticket.ticket t (sym h.ticket.at ∙ at) in
+      let same : h.ticket.ticket ≡ t = some_is h.ticket.ticket t (sym h.ticket.at ∙ at) in
       (subst (λ (y : Ticket). y.ask ≡ ask) same h.ticket.is, subst (λ (y : Ticket). PatientOrAnswered n.now y n.log) same h.ticket.state)
 
   hears_answer : (n : Net) → InPatience n → (p : Reply) → WasGiven p n.log → (t : Ticket) → t.ask ≡ ask → PatientOrAnswered n.now t n.log

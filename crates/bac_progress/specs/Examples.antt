@@ -2,8 +2,10 @@
 use Rattle.std.specs.Prelude.{◌≡◌, ℕ, ◌+◌, ◌-◌, ◌<◌, ◌≤◌, true, false, List, [], ◌∷◌, ◌++◌, Some, None}
 use Rattle.std.specs.List.{Contains}
 use Rattle.bac_segment.specs.Pieces.{join}
+use Rattle.bac_segment.specs.Window.{Outgoing}
 use Rattle.bac_protocol.specs.declared.times.TheConstants.{T_OUT, DEADLINE}
 use Rattle.bac_protocol.specs.Service.{Octets, Reply}
+use Rattle.bac_protocol.specs.Service.Reply.{Complex}
 use Rattle.bac_protocol.specs.Service.Ending.{Answered, Expired}
 use Rattle.bac_protocol.specs.Client.{Ask, Ticket, asked_ticket}
 use Rattle.bac_protocol.specs.Log.{Fact}
@@ -12,10 +14,12 @@ use Rattle.bac_protocol.specs.Transaction.{client_context}
 use Rattle.bac_protocol.specs.World.{World, Event, is_key_held, run, start}
 use Rattle.bac_protocol.specs.World.Event.{MakeAsk, Deliver, Tick, Noise, Advance}
 use Rattle.bac_protocol.specs.Claims.{IsBounded}
-use Rattle.bac_protocol.specs.Examples.{key, shop, rules, tick, ask_append, append, position, position_apdu}
+use Rattle.bac_protocol.specs.Examples.{key, shop, rules, tick, ask_append, append, position, position_apdu, zeros}
 use Rattle.bac_progress.specs.Runs.{Throughout, IsOnItsWay}
 use Rattle.bac_progress.specs.RoundTrip.{FitsInOne, CanPerform, HasPerformed, IsOpenInTime, HasSentAll, request_to, segment_to}
 use Rattle.bac_progress.specs.Repeats.{PATIENCE, FindsServer}
+use Rattle.bac_progress.specs.Turns.{IsDue}
+use Rattle.bac_progress.specs.Stopped.{HasStopped}
 
 -- the world after these events, where node 1 answers each request of node 0 so
 abbrev pub world : Reply → List Event → World ℕ
@@ -33,6 +37,10 @@ ask_two = MakeAsk key 7 false (0 ∷ []) ((1 ∷ []) ∷ [])
 
 abbrev pub ticket_of : Ask → Ticket
 ticket_of ask = asked_ticket (client_context (rules 3) key 0) ask
+
+-- a reply of two segments
+abbrev pub long : Reply
+long = Complex (zeros 60)
 
 -- what the log says of ask 0
 abbrev pub was_asked : Octets → Fact
@@ -126,3 +134,33 @@ pub record FourthSending : Type 0 where
   pub answer : IsOnItsWay (rules 3) (world position (ask_append ∷ until_answer)).net key position_apdu 4
   pub ends : (world position (ask_append ∷ until_answer ++ Deliver 4 true ∷ [])).net.log
       ≡ Ended 0 (Answered position) ∷ was_performed append position ∷ was_asked append ∷ []
+
+-- One turn suffices.
+
+-- two sendings are lost, and the next tick comes only at 40,000: it is due, with two repeats left
+abbrev pub late_turn : List Event
+late_turn = ask_append ∷ Advance 3000 ∷ tick ∷ Advance 37000 ∷ []
+
+pub record LateTurn : Type 0 where
+  pub ticket : (world position late_turn).net.tickets key ≡ Some (record (ticket_of whole_ask) { repeats = 2; since = 3000 })
+  pub due : IsDue (world position late_turn).net.now (record (ticket_of whole_ask) { repeats = 2; since = 3000 })
+  pub performs : CanPerform ℕ (shop position) (world position late_turn) key whole_ask true position
+  pub ends : (world position (late_turn ++ Tick (key ∷ []) [] ∷ Deliver 2 true ∷ Deliver 3 true ∷ [])).net.log
+      ≡ Ended 0 (Answered position) ∷ was_performed append position ∷ was_asked append ∷ []
+
+-- A stopped reply goes on.
+
+-- segment 0 of a reply of two and its three repeats are lost, so that the transfer stops at 8,000; then the client's tick sends the request again
+abbrev pub server_tick : Event
+server_tick = Tick [] (key ∷ [])
+
+abbrev pub stopped_reply : List Event
+stopped_reply = ask_append ∷ Deliver 0 true ∷ Advance 2000 ∷ server_tick ∷ Advance 2000 ∷ server_tick ∷ Advance 2000 ∷ server_tick ∷ Advance 2000
+    ∷ server_tick ∷ Tick (key ∷ []) [] ∷ []
+
+pub record StoppedReply : Type 0 where
+  pub out : Outgoing
+  pub stopped : HasStopped (world long stopped_reply).net key (Some (join whole_ask.pieces)) out
+  pub request : IsOnItsWay (rules 3) (world long stopped_reply).net key (request_to (rules 3) key whole_ask) 5
+  pub ends : (world long (stopped_reply ++ Deliver 5 true ∷ Deliver 6 true ∷ Deliver 7 true ∷ Deliver 8 true ∷ [])).net.log
+      ≡ Ended 0 (Answered long) ∷ was_performed append long ∷ was_asked append ∷ []

@@ -2,14 +2,13 @@
 -- its server could answer.
 use Rattle.std.specs.Prelude.{◌≡◌, ℕ, true, false, List, [], ◌∷◌, ◌++◌, length}
 use Rattle.bac_protocol.specs.Service.{Reply, Octets}
-use Rattle.bac_protocol.specs.Service.Reply.{Complex}
 use Rattle.bac_protocol.specs.Service.Ending.{Answered, Aborted, TimedOut}
 use Rattle.bac_protocol.specs.Log.{Fact}
 use Rattle.bac_protocol.specs.Log.Fact.{Ended}
 use Rattle.bac_protocol.specs.World.{Event}
 use Rattle.bac_protocol.specs.World.Event.{Deliver, Tick, Advance}
-use Rattle.bac_protocol.specs.Examples.{key, tick, ask_append, append, position, zeros}
-use Rattle.bac_progress.specs.Examples.{world, ask_two, was_asked, was_performed}
+use Rattle.bac_protocol.specs.Examples.{key, tick, ask_append, append, position}
+use Rattle.bac_progress.specs.Examples.{world, ask_two, long, was_asked, was_performed}
 
 abbrev pub log_after : Reply → List Event → List Fact
 log_after p events = (world p events).net.log
@@ -17,10 +16,6 @@ log_after p events = (world p events).net.log
 -- how many copies were sent
 abbrev pub sent_after : Reply → List Event → ℕ
 sent_after p events = length (world p events).net.posts
-
--- a reply of two segments
-abbrev pub long : Reply
-long = Complex (zeros 60)
 
 abbrev pub two : Octets
 two = 0 ∷ 1 ∷ []

@@ -1,6 +1,6 @@
 //! For each law a run that meets its premises: no premise is empty.
 
-ghost use Rattle.bac_progress.specs.Examples.{LateTick, LateAnswer, OneRoundTrip, SecondRoundTrip, RoundTripOfSegment, FourthSending};
+ghost use Rattle.bac_progress.specs.Examples.{LateTick, LateAnswer, OneRoundTrip, SecondRoundTrip, RoundTripOfSegment, FourthSending, LateTurn, StoppedReply};
 
 /// An ask that ends late: at a tick, and as its answer comes.
 #[tactic(auto, using(crate::proofs::Computed::late_tick, crate::proofs::Computed::late_answer))]
@@ -21,4 +21,16 @@ pub fn round_trips()
 #[tactic(auto, using(crate::proofs::Computed::fourth_sending))]
 pub fn four_sendings()
     ensures { FourthSending }
+{}
+
+/// A turn after 40,000 ms, with two sendings lost before.
+#[tactic(auto, using(crate::proofs::Computed::late_turn))]
+pub fn late_turn()
+    ensures { LateTurn }
+{}
+
+/// A reply that stops, and goes on as the request comes again.
+#[tactic(auto, using(crate::proofs::Computed::stopped_reply))]
+pub fn stopped_reply()
+    ensures { StoppedReply }
 {}

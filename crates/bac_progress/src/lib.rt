@@ -14,6 +14,8 @@ ghost use Rattle.bac_protocol.specs.Claims.{IsBounded};
 ghost use Rattle.bac_progress.specs.Ends.{EndingsAreLogged, EndsInTime};
 ghost use Rattle.bac_progress.specs.Repeats.{RepeatsSuffice};
 ghost use Rattle.bac_progress.specs.RoundTrip.{RoundTripSuffices, RoundTripSufficesInSegments};
+ghost use Rattle.bac_progress.specs.Stopped.{StoppedGoesOn};
+ghost use Rattle.bac_progress.specs.Turns.{OneTurnSuffices};
 
 /// Each ask ends: after any run, more than 60,000 ms after its first sending, a tick of its client leaves it ended, and so does each APDU of a server
 /// that comes for it, whatever happens in between. The log then has one ending of that ask.
@@ -50,4 +52,19 @@ pub fn round_trip_suffices_in_segments<S>()
 pub fn repeats_suffice<S>()
     ensures { (shop : Shop S) (opening : ℕ → S) (W : ℕ) (rules : Rules) → IsBounded W rules → (events : List Event)
         → RepeatsSuffice S shop rules (run S shop rules events (start S opening)) }
+{}
+
+/// One turn suffices: after any run, where an ask of one APDU waits, in time, with a repeat left and its timer due, and its server can perform it or has
+/// performed it, a tick and the delivery of the copy that it sends, and then of the answer that this brings, end it with the reply with which it was
+/// performed.
+pub fn one_turn_suffices<S>()
+    ensures { (shop : Shop S) (opening : ℕ → S) (W : ℕ) (rules : Rules) → IsBounded W rules → (events : List Event)
+        → OneTurnSuffices S shop rules (run S shop rules events (start S opening)) }
+{}
+
+/// A stopped reply goes on: after any run, where an entry is live and its reply in segments has used up its retries, each copy of its request that is
+/// delivered, or each segment of one in segments, sends its window again from the first unacknowledged segment on, with full retries.
+pub fn stopped_reply_goes_on<S>()
+    ensures { (shop : Shop S) (opening : ℕ → S) (W : ℕ) (rules : Rules) → IsBounded W rules → (events : List Event)
+        → StoppedGoesOn S shop rules (run S shop rules events (start S opening)) }
 {}

@@ -36,7 +36,7 @@ has_below n c s r (Ended m how ∷ log) o (inl e) = absurd cc
 has_below n c s r (Ended m how ∷ log) o (inr h) = has_below n c s r log o.2 h
 
 -- the two facts that a log has of one ask are one
-asked_once : (n c s d u : ℕ) (q r : Request) (log : List Fact) → IsOrderly log → Has (Asked n c s q) log → Has (Asked n d u r) log → q ≡ r
+pub asked_once : (n c s d u : ℕ) (q r : Request) (log : List Fact) → IsOrderly log → Has (Asked n c s q) log → Has (Asked n d u r) log → q ≡ r
 asked_once n c s d u q r [] o h k = absurd h
 asked_once n c s d u q r (Asked m a b x ∷ log) o (inl e) (inl f) = cc
 asked_once n c s d u q r (Asked m a b x ∷ log) o (inl e) (inr k) = let same : m ≡ n = cc in let is = o.0 in let lt = has_below n d u r log o.1 k in absurd

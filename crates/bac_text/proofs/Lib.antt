@@ -2,5 +2,6 @@ mod Appending
 mod Moments
 pub mod LineFronts
 mod OneVerdict
+mod Printed
 pub mod SoFar
 pub mod TakenStrings

@@ -1,6 +1,7 @@
 -- Lines and their fronts, and what is kept of them.
 use Rattle.std.proofs.Common.{◌≡◌, ◌<◌, ◌≤◌, ◌+◌, ◌-◌, min, nat_lt, ◌==◌, ◌&&◌, true, false, Bool, ℕ, zero, suc, List, [], ◌∷◌, ◌++◌, length, take, drop}
-use Rattle.std.proofs.Common.{Option, Some, None, IfSome, refl, sym, ap, subst, ◌∙◌, arith, rules, append_assoc, append-nil, length-take, length-take-le, if◌then◌else◌, cond}
+use Rattle.std.proofs.Common.{Option, Some, None, IfSome, refl, sym, ap, subst, ◌∙◌, arith, rules, append_assoc, append-nil, length-take}
+use Rattle.std.proofs.Common.{length-take-le, if◌then◌else◌, cond}
 use Rattle.std.proofs.KnownBytes.{starts_with_rest}
 use Rattle.std.proofs.lemmas.Bool.Decides.{nat_tests}
 use Rattle.std.proofs.lemmas.Bool.{false≢true}
@@ -133,7 +134,8 @@ ended_part xs shown new before after front less is keeps =
     let whole = starts_with_rest xs shown front in
     let line = ended shown (drop (length shown) xs) less in
     record {
-      is = is ∙ ap (λ (l : List ℕ). Some (drop (suc (length (line_in shown))) l)) whole ∙ ap (λ (l : List ℕ). Some l) (sym line.1) ∙ ap (λ (l : List ℕ). Some (drop_through LINE_END l)) (sym whole);
+      is = is ∙ ap (λ (l : List ℕ). Some (drop (suc (length (line_in shown))) l)) whole
+          ∙ ap (λ (l : List ℕ). Some l) (sym line.1) ∙ ap (λ (l : List ℕ). Some (drop_through LINE_END l)) (sym whole);
       keeps = keeps ∙ ap (λ (l : List ℕ). kept (before ++ l)) (line_front shown ∙ sym line.0 ∙ ap line_in (sym whole));
     }
 
@@ -152,7 +154,8 @@ shown_part true xs shown new before after n front end len more within none is ke
     let zero_len : n ≡ 0 = grind (arith, nat_tests, none) in
     let empty = end (omega (arith, zero_len, more)) in
     record {
-      is = is ∙ ap (λ (l : List ℕ). Some (drop n l)) empty ∙ ap (λ (k : ℕ). Some (drop k [])) zero_len ∙ ap (λ (l : List ℕ). Some (drop_through LINE_END l)) (sym empty);
+      is = is ∙ ap (λ (l : List ℕ). Some (drop n l)) empty ∙ ap (λ (k : ℕ). Some (drop k [])) zero_len
+          ∙ ap (λ (l : List ℕ). Some (drop_through LINE_END l)) (sym empty);
       keeps = keeps ∙ ap (λ (k : ℕ). kept (before ++ take k shown)) zero_len ∙ ap (λ (l : List ℕ). kept (before ++ line_in l)) (sym empty);
     }
 shown_part false xs shown new before after n front end len more within none is keeps =
@@ -210,7 +213,8 @@ part_of : (here : List ℕ) (left new : Option (List ℕ)) (before after : List 
     → IsPart (Some here) new before after b
 part_of here left new before after b e p = subst (λ (o : Option (List ℕ)). IsPart o new before after b) e p
 
-pub more_begun : (old left new : Option (List ℕ)) (before after : List ℕ) → AreBegun old left before → IsPart left new before after false → AreBegun old new after
+pub more_begun : (old left new : Option (List ℕ)) (before after : List ℕ) → AreBegun old left before
+    → IsPart left new before after false → AreBegun old new after
 more_begun None left new before after b p = tt
 more_begun (Some xs) left new before after b p =
     let f = part_of b.here left new before after false b.is p in
@@ -263,7 +267,8 @@ line_within (x ∷ xs) = go (x == LINE_END) (line_within xs) where
 
 pub len_none : (xs : List ℕ) → position is_line_end xs ≡ None → length xs ≡ length (line_in xs)
 len_none xs e = go (nat_lt (position_or_len is_line_end xs) (length xs)) refl e where
-  go : (b : Bool) → nat_lt (position_or_len is_line_end xs) (length xs) ≡ b → cond b (Some (position_or_len is_line_end xs)) None ≡ None → length xs ≡ length (line_in xs)
+  go : (b : Bool) → nat_lt (position_or_len is_line_end xs) (length xs) ≡ b
+      → cond b (Some (position_or_len is_line_end xs)) None ≡ None → length xs ≡ length (line_in xs)
   go true p q = absurd (false≢true (sym (ap is_there q)))
   go false p q =
       let more : length xs ≤ position_or_len is_line_end xs = grind (arith, nat_tests, p) in

@@ -7,18 +7,18 @@ use Rattle.bac_npdu.specs.Datagram.{IsFrameOf}
 use Rattle.bac_service.specs.Values.{Request, Complex}
 use Rattle.bac_text.specs.declared.fault.LayerFault.{LayerFault}
 use Rattle.bac_text.specs.declared.fault.LayerFault.TheVariants as fault
-use Rattle.bac_text.specs.Layers.{Service, asked_in, answered_in, IsRequestIn, IsAnswerIn, HasNoRequest, HasNoAnswer}
+use Rattle.bac_text.specs.Layers.{Service, request_data_in, complex_data_in, IsRequestIn, IsComplexIn, HasNoRequest, HasNoComplex}
 use Rattle.bac_text.specs.Layers.{IsFineApdu, IsFineContent, IsFine, CarriesOctets, IsAtFault}
 
 no_request : (s : Option Service) (r : Option Request) → IsRequestIn s r → HasNoRequest s → ⊥
-no_request None r asked none = none
-no_request (Some s) None asked none = asked
-no_request (Some s) (Some r) asked none = none r asked
+no_request None r is_request none = none
+no_request (Some s) None is_request none = is_request
+no_request (Some s) (Some r) is_request none = none r is_request
 
-no_answer : (s : Option Service) (c : Option Complex) → IsAnswerIn s c → HasNoAnswer s → ⊥
-no_answer None c answered none = none
-no_answer (Some s) None answered none = answered
-no_answer (Some s) (Some c) answered none = none c answered
+no_complex : (s : Option Service) (c : Option Complex) → IsComplexIn s c → HasNoComplex s → ⊥
+no_complex None c is_complex none = none
+no_complex (Some s) None is_complex none = is_complex
+no_complex (Some s) (Some c) is_complex none = none c is_complex
 
 module _ (one_bvll : (m n octets : List ℕ) → SpellsBvll m octets → SpellsBvll n octets → m ≡ n)
     (one_npdu : (m n : NpduView) (octets : List ℕ) → SpellsNpdu m octets → SpellsNpdu n octets → m ≡ n)
@@ -47,9 +47,9 @@ module _ (one_bvll : (m n octets : List ℕ) → SpellsBvll m octets → SpellsB
       let carried = at.1.0 in
       let content = fine_in datagram carried.octets fine carried.carries in
       let same = one_apdu content.apdu at.0 carried.octets content.spelled carried.spelled in
-      no_request (asked_in at.0) content.request (subst (λ a. IsRequestIn (asked_in a) content.request) same content.asked) at.1.1.0
-  one_verdict datagram (fault.Answer kind) fine at =
+      no_request (request_data_in at.0) content.request (subst (λ a. IsRequestIn (request_data_in a) content.request) same content.is_request) at.1.1.0
+  one_verdict datagram (fault.ComplexAck kind) fine at =
       let carried = at.1.0 in
       let content = fine_in datagram carried.octets fine carried.carries in
       let same = one_apdu content.apdu at.0 carried.octets content.spelled carried.spelled in
-      no_answer (answered_in at.0) content.answer (subst (λ a. IsAnswerIn (answered_in a) content.answer) same content.answered) at.1.1.0
+      no_complex (complex_data_in at.0) content.complex (subst (λ a. IsComplexIn (complex_data_in a) content.complex) same content.is_complex) at.1.1.0

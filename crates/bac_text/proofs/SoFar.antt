@@ -1,5 +1,6 @@
 -- Lines that were counted, one after the other.
-use Rattle.std.proofs.Common.{◌≡◌, ◌+◌, ℕ, suc, Bool, true, false, List, [], ◌∷◌, ◌++◌, length, Option, Some, None, refl, sym, ap, subst, ◌∙◌, arith, append_assoc, append-nil, length-append}
+use Rattle.std.proofs.Common.{◌≡◌, ◌+◌, ℕ, suc, Bool, true, false, List, [], ◌∷◌, ◌++◌, length, Option, Some, None, refl, sym, ap, subst, ◌∙◌, arith}
+use Rattle.std.proofs.Common.{append_assoc, append-nil, length-append}
 use Rattle.std.specs.Io.KnownBytes.{Appends, Keeps}
 use Rattle.std.proofs.KnownBytes.{Appends-nil, Appends-trans, Appends-kept}
 use Rattle.std.specs.Option.{option_map}
@@ -31,7 +32,8 @@ texts_more before (f ∷ fs) gs =
     ∙ ap (λ (n : ℕ). head ++ (verdicts_text (before + 1) fs ++ verdicts_text n gs)) e
     ∙ sym (append_assoc head (verdicts_text (before + 1) fs) (verdicts_text (before + suc (length fs)) gs))
 
-last_text : (fs : List (Option LineFault)) (f : Option LineFault) (n : ℕ) → n ≡ length fs → verdicts_text 0 (fs ++ (f ∷ [])) ≡ verdicts_text 0 fs ++ verdict_text (n + 1) f
+last_text : (fs : List (Option LineFault)) (f : Option LineFault) (n : ℕ) → n ≡ length fs
+    → verdicts_text 0 (fs ++ (f ∷ [])) ≡ verdicts_text 0 fs ++ verdict_text (n + 1) f
 last_text fs f n e =
     let same : 0 + length fs ≡ n = omega (arith, e) in
     texts_more 0 fs (f ∷ []) ∙ ap (λ (m : ℕ). verdicts_text 0 fs ++ verdicts_text m (f ∷ [])) same
@@ -91,7 +93,8 @@ all_counted (Some xs) left new a b c t s step =
 
 -- ---- one line
 
-pub line_counted : (octets new a b : Option (List ℕ)) (line : List ℕ) (t u : Count) → IsNextLine octets new line true → IsCounted line a b t u → IsStep octets new a b t (Some u)
+pub line_counted : (octets new a b : Option (List ℕ)) (line : List ℕ) (t u : Count)
+    → IsNextLine octets new line true → IsCounted line a b t u → IsStep octets new a b t (Some u)
 line_counted None new a b line t u next counted = tt
 line_counted (Some xs) new a b line t u next counted =
     let same : short_capture_at line ≡ short_capture_at (line_in xs) = ap short_capture_at next.1.1 ∙ kept_capture (line_in xs) in
@@ -109,7 +112,8 @@ line_counted (Some xs) new a b line t u next counted =
       };
     }
 
-pub input_ended : (octets new a : Option (List ℕ)) (line : List ℕ) (t : Count) → IsNextLine octets new line false → (b : Option (List ℕ)) → Keeps a b → IsStep octets new a b t None
+pub input_ended : (octets new a : Option (List ℕ)) (line : List ℕ) (t : Count)
+    → IsNextLine octets new line false → (b : Option (List ℕ)) → Keeps a b → IsStep octets new a b t None
 input_ended None new a line t next b keeps = tt
 input_ended (Some xs) new a line t next b keeps = (next.0, keeps)
 

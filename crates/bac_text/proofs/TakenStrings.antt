@@ -1,5 +1,6 @@
 -- An element with the tag of an octet string is one, and strings are taken from the front.
-use Rattle.std.proofs.Common.{◌≡◌, ◌<◌, ◌≤◌, ◌-◌, ◌^◌, ℕ, zero, suc, List, [], ◌∷◌, ◌++◌, length, take, drop, Option, Result, Ok, Err, OnOk, codes, arith, length-drop, refl, sym, ap, subst, ◌∙◌, rules, append_assoc, append-nil}
+use Rattle.std.proofs.Common.{◌≡◌, ◌<◌, ◌≤◌, ◌-◌, ◌^◌, ℕ, zero, suc, List, [], ◌∷◌, ◌++◌, length, take, drop, Option, Result, Ok, Err, OnOk, codes}
+use Rattle.std.proofs.Common.{arith, length-drop, refl, sym, ap, subst, ◌∙◌, rules, append_assoc, append-nil}
 use Rattle.std.proofs.Math.Seq.{take-length}
 use Rattle.std.proofs.lemmas.List.{take-append-drop}
 use Rattle.std.proofs.lemmas.Bool.{false≢true}
@@ -26,7 +27,8 @@ string_of (form.Boolean b) contents front s = absurd (false≢true s.tag.fits)
 string_of form.Opening contents front s = absurd (false≢true s.tag.fits)
 string_of form.Closing contents front s = absurd (false≢true s.tag.fits)
 
-pub string_of_element : (m : Mark) (contents front : List ℕ) → m.number ≡ 6 → m.class ≡ Application → SpellsElement (record { mark = m; contents = contents }) front
+pub string_of_element : (m : Mark) (contents front : List ℕ) → m.number ≡ 6 → m.class ≡ Application
+    → SpellsElement (record { mark = m; contents = contents }) front
     → ApplicationString contents front
 string_of_element m contents front number class s =
     let same : m ≡ record { number = 6; class = Application; form = m.form } = search rules in
@@ -70,12 +72,14 @@ none_taken run old = record { strings = []; are = λ more s. s; printed = Append
 
 more_text : (xs ys : List (List ℕ)) → more_strings_text (xs ++ ys) ≡ more_strings_text xs ++ more_strings_text ys
 more_text [] ys = refl
-more_text (x ∷ xs) ys = ap (λ (l : List ℕ). (codes "," ++ encode_upper x) ++ l) (more_text xs ys) ∙ sym (append_assoc (codes "," ++ encode_upper x) (more_strings_text xs) (more_strings_text ys))
+more_text (x ∷ xs) ys = ap (λ (l : List ℕ). (codes "," ++ encode_upper x) ++ l) (more_text xs ys)
+    ∙ sym (append_assoc (codes "," ++ encode_upper x) (more_strings_text xs) (more_strings_text ys))
 
 one_text : (x : List ℕ) → more_strings_text (x ∷ []) ≡ codes "," ++ encode_upper x
 one_text x = append-nil (codes "," ++ encode_upper x)
 
-pub one_taken : (run rest next string front : List ℕ) (old mid new : Option (List ℕ)) → AreTaken run rest old mid → ApplicationString string front → rest ≡ front ++ next
+pub one_taken : (run rest next string front : List ℕ) (old mid new : Option (List ℕ)) → AreTaken run rest old mid
+    → ApplicationString string front → rest ≡ front ++ next
     → Appends mid new (codes "," ++ encode_upper string) → AreTaken run next old new
 one_taken run rest next string front old mid new t s is printed = record {
   strings = t.strings ++ (string ∷ []);
@@ -91,7 +95,8 @@ no_octets (x ∷ xs) none = absurd (omega (arith, none))
 
 pub all_taken : (run rest : List ℕ) (old new : Option (List ℕ)) → AreTaken run rest old new → length rest ≡ 0
     → (strings : List (List ℕ)) × (AreTheStrings strings run × Appends old new (more_strings_text strings))
-all_taken run rest old new t none = (t.strings, (subst (λ (l : List (List ℕ)). AreTheStrings l run) (append-nil t.strings) (t.are [] (no_octets rest none)), t.printed))
+all_taken run rest old new t none =
+    (t.strings, (subst (λ (l : List (List ℕ)). AreTheStrings l run) (append-nil t.strings) (t.are [] (no_octets rest none)), t.printed))
 
 -- the first string, and then the others
 pub all_printed : {T E : Type 0} (r : Result T E) (run rest string front : List ℕ) (a b c d : Option (List ℕ)) → Appends a b (codes " octets=")

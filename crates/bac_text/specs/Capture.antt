@@ -15,13 +15,13 @@ abbrev pub is_space : ℕ → Bool
 is_space octet = octet == 32
 
 -- what stands before that place, and after it
-abbrev pub parted : List ℕ → Option ℕ → Option (List ℕ × List ℕ)
-parted text None = None
-parted text (Some place) = Some (take place text, drop (place + 1) text)
+abbrev pub separated : List ℕ → Option ℕ → Option (List ℕ × List ℕ)
+separated text None = None
+separated text (Some place) = Some (take place text, drop (place + 1) text)
 
 -- a word up to the first space, and what is after that space
 abbrev pub word_at : List ℕ → Option (List ℕ × List ℕ)
-word_at text = parted text (position is_space text)
+word_at text = separated text (position is_space text)
 
 -- the address of a link: 12 hexadecimal digits
 abbrev pub is_link : List ℕ → Bool
@@ -39,7 +39,7 @@ is_moment text = list_all is_ascii_digit text && (nat_lt 0 (length text) && nat_
 abbrev pub moment_at : List ℕ → Option ℕ
 moment_at text = if is_moment text then Some (number_on 0 text) else None
 
--- the moment of a line, and the digits of its datagram: four words parted by single spaces
+-- the moment of a line, and the digits of its datagram: four words separated by single spaces
 unfoldable pub parts_at : List ℕ → Option (ℕ × List ℕ)
 parts_at line = do
   number ← word_at line

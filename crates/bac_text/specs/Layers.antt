@@ -25,14 +25,14 @@ abbrev pub Service : Type 0
 Service = ℕ × List ℕ
 
 -- a request of one of the four services that is no segment
-abbrev pub asked_in : Apdu → Option Service
-asked_in (ConfirmedRequest limits invoke_id None choice service) = if is_served choice then Some (choice, service) else None
-asked_in _ = None
+abbrev pub request_data_in : Apdu → Option Service
+request_data_in (ConfirmedRequest limits invoke_id None choice service) = if is_served choice then Some (choice, service) else None
+request_data_in _ = None
 
--- an answer with service data that is no segment
-abbrev pub answered_in : Apdu → Option Service
-answered_in (ComplexAck invoke_id None choice service) = if has_complex_ack choice then Some (choice, service) else None
-answered_in _ = None
+-- a ComplexACK of one of the services that is no segment
+abbrev pub complex_data_in : Apdu → Option Service
+complex_data_in (ComplexAck invoke_id None choice service) = if has_complex_ack choice then Some (choice, service) else None
+complex_data_in _ = None
 
 -- the service data spell this request; where none is to be read, there is none
 abbrev pub IsRequestIn : Option Service → Option Request → Type 0
@@ -41,20 +41,20 @@ IsRequestIn (Some s) (Some r) = SpellsRequest s.0 r s.1
 IsRequestIn None (Some r) = ⊥
 IsRequestIn (Some s) None = ⊥
 
-abbrev pub IsAnswerIn : Option Service → Option Complex → Type 0
-IsAnswerIn None None = Unit {0}
-IsAnswerIn (Some s) (Some c) = SpellsComplex s.0 c s.1
-IsAnswerIn None (Some c) = ⊥
-IsAnswerIn (Some s) None = ⊥
+abbrev pub IsComplexIn : Option Service → Option Complex → Type 0
+IsComplexIn None None = Unit {0}
+IsComplexIn (Some s) (Some c) = SpellsComplex s.0 c s.1
+IsComplexIn None (Some c) = ⊥
+IsComplexIn (Some s) None = ⊥
 
 -- a request is to be read, and the service data spell none
 abbrev pub HasNoRequest : Option Service → Type 0
 HasNoRequest None = ⊥
 HasNoRequest (Some s) = (r : Request) → SpellsRequest s.0 r s.1 → ⊥
 
-abbrev pub HasNoAnswer : Option Service → Type 0
-HasNoAnswer None = ⊥
-HasNoAnswer (Some s) = (c : Complex) → SpellsComplex s.0 c s.1 → ⊥
+abbrev pub HasNoComplex : Option Service → Type 0
+HasNoComplex None = ⊥
+HasNoComplex (Some s) = (c : Complex) → SpellsComplex s.0 c s.1 → ⊥
 
 -- reading that request stops for this reason
 abbrev pub IsReason : Option Service → Reject → Type 0
@@ -66,21 +66,21 @@ abbrev pub kind_in : Result Complex Fault → Option FaultKind
 kind_in (Ok c) = None
 kind_in (Err fault) = Some fault.kind
 
--- reading that answer stops at a fault of this kind
+-- reading the service data of that ComplexACK stops at a fault of this kind
 abbrev pub IsKind : Option Service → FaultKind → Type 0
 IsKind None kind = ⊥
 IsKind (Some s) kind = kind_in (complex_at s.0 s.1) ≡ Some kind
 
 -- ---- datagrams without a fault
 
--- the octets are an APDU, and where it carries a request or an answer of one of the services, its service data spell one
+-- the octets are an APDU, and where it is a whole request or ComplexACK of one of the services, its service data spell one
 pub record IsFineApdu (octets : List ℕ) : Type 0 where
   pub apdu : Apdu
   pub spelled : SpellsApdu apdu octets
   pub request : Option Request
-  pub asked : IsRequestIn (asked_in apdu) request
-  pub answer : Option Complex
-  pub answered : IsAnswerIn (answered_in apdu) answer
+  pub is_request : IsRequestIn (request_data_in apdu) request
+  pub complex : Option Complex
+  pub is_complex : IsComplexIn (complex_data_in apdu) complex
 
 -- the contents of a network message are raw
 abbrev pub IsFineContent : Option MessageView → List ℕ → Type 0
@@ -113,5 +113,5 @@ abbrev pub IsAtFault : List ℕ → LayerFault → Type 0
 IsAtFault datagram (fault.Bvll number) = (bvll_at datagram ≡ Err number) × ((n : List ℕ) → SpellsBvll n datagram → ⊥)
 IsAtFault datagram (fault.Npdu number) = (n : List ℕ) × (SpellsBvll n datagram × ((npdu_at n ≡ Err number) × ((v : NpduView) → SpellsNpdu v n → ⊥)))
 IsAtFault datagram (fault.Apdu number) = (octets : List ℕ) × (CarriesOctets datagram octets × ((apdu_at octets ≡ Err number) × IsNoApdu octets))
-IsAtFault datagram (fault.Request reason) = (a : Apdu) × (CarriesApdu datagram a × (HasNoRequest (asked_in a) × IsReason (asked_in a) reason))
-IsAtFault datagram (fault.Answer kind) = (a : Apdu) × (CarriesApdu datagram a × (HasNoAnswer (answered_in a) × IsKind (answered_in a) kind))
+IsAtFault datagram (fault.Request reason) = (a : Apdu) × (CarriesApdu datagram a × (HasNoRequest (request_data_in a) × IsReason (request_data_in a) reason))
+IsAtFault datagram (fault.ComplexAck kind) = (a : Apdu) × (CarriesApdu datagram a × (HasNoComplex (complex_data_in a) × IsKind (complex_data_in a) kind))

@@ -1,10 +1,12 @@
 pub mod Capture
 pub mod Checked
 pub mod Checking
+pub mod Decoded
 pub mod Faults
 pub mod Layers
 pub mod Lines
 pub mod NextLine
 pub mod Outcome
 pub mod Statuses
+pub mod Stops
 pub mod Texts

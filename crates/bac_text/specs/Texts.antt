@@ -4,7 +4,8 @@ use Rattle.std.specs.Fmt.{signed_decimal}
 use Rattle.std.specs.Int.{from_bool}
 use Rattle.std.specs.Io.KnownBytes.{Appends}
 use Rattle.hex.specs.Hex.{encode_upper}
-use Rattle.bac_apdu.specs.Apdu.{Limits, Acknowledgement, Segment, Apdu, ConfirmedRequest, UnconfirmedRequest, SimpleAck, ComplexAck, SegmentAck, Error, Reject, Abort}
+use Rattle.bac_apdu.specs.Apdu.{Limits, Acknowledgement, Segment, Apdu, ConfirmedRequest, UnconfirmedRequest, SimpleAck, ComplexAck, SegmentAck}
+use Rattle.bac_apdu.specs.Apdu.{Error, Reject, Abort}
 use Rattle.bac_service.specs.Members.{◌⨾◌, ApplicationString}
 use Rattle.bac_service.specs.Values.{Reference, ReadAccess, Request, Complex}
 use Rattle.bac_service.specs.Values.ReadAccess.{ReadStream, ReadRecords}
@@ -88,7 +89,8 @@ request_head_text limits invoke_id =
     ++ (codes " apdu=" ++ (decimal limits.max_apdu ++ (codes " id=" ++ decimal invoke_id))))))
 
 abbrev pub segment_ack_head_text : Bool → Bool → ℕ → List ℕ
-segment_ack_head_text nak server invoke_id = codes "segment-ack nak=" ++ (bit_text nak ++ (codes " srv=" ++ (bit_text server ++ (codes " id=" ++ decimal invoke_id))))
+segment_ack_head_text nak server invoke_id =
+    codes "segment-ack nak=" ++ (bit_text nak ++ (codes " srv=" ++ (bit_text server ++ (codes " id=" ++ decimal invoke_id))))
 
 abbrev pub segment_ack_text : Bool → ℕ → Acknowledgement → List ℕ
 segment_ack_text server invoke_id k =
@@ -109,7 +111,8 @@ body_text segment choice service = optional segment_text segment ++ service_text
 
 abbrev pub error_text : ℕ → ℕ → ℕ → ℕ → List ℕ
 error_text invoke_id choice class code =
-    codes "error id=" ++ (decimal invoke_id ++ (codes " choice=" ++ (decimal choice ++ (codes " class=" ++ (decimal class ++ (codes " code=" ++ decimal code))))))
+    codes "error id=" ++ (decimal invoke_id ++ (codes " choice=" ++ (decimal choice
+    ++ (codes " class=" ++ (decimal class ++ (codes " code=" ++ decimal code))))))
 
 abbrev pub reject_text : ℕ → ℕ → List ℕ
 reject_text invoke_id reason = codes "reject id=" ++ (decimal invoke_id ++ (codes " reason=" ++ decimal reason))
@@ -135,7 +138,7 @@ members_text apdu = plain_members_text apdu
 unfoldable pub apdu_text : Apdu → List ℕ
 apdu_text a = members_text a ++ line_end
 
--- ---- the line of a request or an answer
+-- ---- the line of a request, or of the service data of a ComplexACK
 
 abbrev pub object_text : ObjectId → List ℕ
 object_text o = codes " object=" ++ (decimal o.kind ++ (codes ":" ++ decimal o.instance))
@@ -216,11 +219,11 @@ place_written_text (place.Stream start) = position_text start
 place_written_text (place.Records start) = record_text start
 
 -- the text of the service data of a ComplexACK, without the end of its line
-abbrev pub answer_text : Complex → List ℕ
-answer_text (FileRead end_of_file start octets) = file_read_text end_of_file start octets
-answer_text (StreamWritten start) = codes "write-file-ack" ++ position_text start
-answer_text (RecordsWritten start) = codes "write-file-ack" ++ record_text start
-answer_text (PropertyRead r values) = property_read_text r values
+abbrev pub complex_text : Complex → List ℕ
+complex_text (FileRead end_of_file start octets) = file_read_text end_of_file start octets
+complex_text (StreamWritten start) = codes "write-file-ack" ++ position_text start
+complex_text (RecordsWritten start) = codes "write-file-ack" ++ record_text start
+complex_text (PropertyRead r values) = property_read_text r values
 
 -- one of these texts was appended
 abbrev pub AppendsText : Option (List ℕ) → Option (List ℕ) → (List ℕ → Type 0) → Type 0

@@ -70,7 +70,8 @@ fn print_segment_ack<W: Write>(
     window: Window,
     out: &mut W,
 ) -> io::Result<()>
-    ensures { OnOk result (Appends (W.contents out.old) (W.contents out.new) (segment_ack_text server invoke_id (record { nak = nak; number = number; window = window.size }))) }
+    ensures { OnOk result (Appends (W.contents out.old) (W.contents out.new)
+        (segment_ack_text server invoke_id (record { nak = nak; number = number; window = window.size }))) }
 {
     print_segment_ack_head(nak, server, invoke_id, out)?;
     let window = window.size;

@@ -6,12 +6,13 @@ ghost use Rattle.bac_text.specs.Checked.{verdict_text, tally_text, IsReportOf};
 ghost use Rattle.bac_text.specs.Checking.{count_of, IsCounted, IsStep, AreCounted};
 ghost use Rattle.bac_text.specs.Lines.{short_capture_at, IsJudged};
 ghost use Rattle.bac_text.specs.Statuses.{IsStop};
+ghost use Rattle.bac_text.specs.Stops.{IsStopBy, IsStopFor};
 
 use crate::capture::read_capture_line;
 use crate::fault::LineFault;
 use crate::layers::check_datagram;
 use crate::lines::{LINE_LIMIT, next_line};
-use crate::status::{Status, complain, no_memory, output_failed};
+use crate::status::{Status, input_failed, no_memory, output_failed};
 use crate::tally::Tally;
 use crate::words::print_end;
 use std::alloc::{AllocError, Global};
@@ -86,7 +87,8 @@ fn check_next<R: BufRead, W: Write>(
     tally: Tally,
     out: &mut W,
 ) -> Result<Option<Tally>, CheckError>
-    ensures step { IfOk result (λ r. IsStep (R.remaining input.old) (R.remaining input.new) (W.contents out.old) (W.contents out.new) (count_of tally) (option_map count_of r)) }
+    ensures step { IfOk result (λ r. IsStep (R.remaining input.old) (R.remaining input.new) (W.contents out.old) (W.contents out.new)
+        (count_of tally) (option_map count_of r)) }
     ensures more { IfOk result (λ r. IfSome r (λ t. (t.lines ≡ tally.lines + 1) × (tally.lines < 2 ^ 64 - 1))) }
 {
     match next_line(input, line) {
@@ -143,17 +145,38 @@ fn check_all<R: BufRead, W: Write>(
     }
 }
 
+/// Complains of why checking stopped, where the output could be flushed.
+fn stopped_by<E: Write>(error: CheckError, err: &mut E) -> Status
+    ensures why { IsStopBy error result }
+    ensures stop { IsStop result }
+{
+    match error {
+        CheckError::Input(error) => input_failed(err, &error),
+        CheckError::Output(error) => output_failed(err, &error),
+        CheckError::Memory => no_memory(err),
+    }
+}
+
+/// Complains of why checking stopped, or of the output that could not be flushed then.
+fn stopped_so<E: Write>(error: CheckError, flushed: io::Result<()>, err: &mut E) -> Status
+    ensures why { IsStopFor flushed error result }
+    ensures stop { IsStop result }
+{
+    match flushed {
+        Ok(()) => stopped_by(error, err),
+        Err(failed) => match error {
+            CheckError::Output(error) => output_failed(err, &error),
+            CheckError::Input(_) | CheckError::Memory => output_failed(err, &failed),
+        },
+    }
+}
+
 /// Why checking stopped, as a status. What was printed before goes out as far as it can.
 fn stopped<O: Write, E: Write>(error: CheckError, out: &mut O, err: &mut E) -> Status
     ensures { IsStop result }
 {
-    match (error, out.flush()) {
-        (CheckError::Output(error), _) | (_, Err(error)) => output_failed(err, &error),
-        (CheckError::Input(error), Ok(())) if error.kind() != ErrorKind::OutOfMemory => {
-            complain(err, "cannot read", Status::CommandLine)
-        }
-        _ => no_memory(err),
-    }
+    let flushed = out.flush();
+    stopped_so(error, flushed, err)
 }
 
 /// Checks each line of a capture: prints each bad line's number and fault, and at the end how many lines are good and bad.

@@ -18,10 +18,10 @@ pub enum LayerFault {
     Npdu(FrameFault),
     /// The NPDU's contents are no APDU.
     Apdu(ApduFault),
-    /// The APDU is a request of one of the four services, and its data are none such.
+    /// The APDU is a request of one of the four services, and its service data are none such.
     Request(Reject),
-    /// The APDU is an answer of one of the services, and its data are none such.
-    Answer(FaultKind),
+    /// The APDU is a ComplexACK of one of the services, and its service data are none such.
+    ComplexAck(FaultKind),
 }
 
 impl LayerFault {
@@ -34,7 +34,7 @@ impl LayerFault {
             LayerFault::Npdu(_) => "npdu",
             LayerFault::Apdu(_) => "apdu",
             LayerFault::Request(_) => "reject",
-            LayerFault::Answer(_) => "data",
+            LayerFault::ComplexAck(_) => "data",
         }
     }
 
@@ -46,7 +46,7 @@ impl LayerFault {
             LayerFault::Bvll(fault) | LayerFault::Npdu(fault) => fault.number(),
             LayerFault::Apdu(fault) => fault.number(),
             LayerFault::Request(reject) => reject.reason(),
-            LayerFault::Answer(kind) => kind.number(),
+            LayerFault::ComplexAck(kind) => kind.number(),
         }
     }
 }

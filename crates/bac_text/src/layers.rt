@@ -6,8 +6,8 @@ ghost use Rattle.bac_npdu.specs.Views.{npdu_view};
 ghost use Rattle.bac_npdu.specs.Datagram.{IsFrameOf};
 ghost use Rattle.bac_service.specs.Views.{complex_view, request_view};
 ghost use Rattle.bac_service.specs.Choices.{is_served, has_complex_ack};
-ghost use Rattle.bac_text.specs.Layers.{asked_in, answered_in};
-ghost use Rattle.bac_text.specs.Layers.{IsRequestIn, IsAnswerIn, HasNoRequest, HasNoAnswer, IsReason, IsKind, IsFine, IsAtFault};
+ghost use Rattle.bac_text.specs.Layers.{request_data_in, complex_data_in};
+ghost use Rattle.bac_text.specs.Layers.{IsRequestIn, IsComplexIn, HasNoRequest, HasNoComplex, IsReason, IsKind, IsFine, IsAtFault};
 
 use crate::fault::LayerFault;
 use bac_apdu::{Apdu, ApduFault};
@@ -37,19 +37,19 @@ pub(crate) fn npdu_in(octets: &[u8]) -> Result<Npdu<'_>, LayerFault>
 fn is_service(choice: u8) -> bool
     ensures { result ≡ is_served choice }
 {
-    choice == WRITE_PROPERTY || answers_with_data(choice)
+    choice == WRITE_PROPERTY || has_complex_ack(choice)
 }
 
-/// Whether a service choice is one of those whose answers have service data: all but WriteProperty's.
-fn answers_with_data(choice: u8) -> bool
+/// Whether requests of a service choice are answered by a ComplexACK: of all four services but WriteProperty.
+fn has_complex_ack(choice: u8) -> bool
     ensures { result ≡ has_complex_ack choice }
 {
     choice == ATOMIC_READ_FILE || choice == ATOMIC_WRITE_FILE || choice == READ_PROPERTY
 }
 
 /// The choice and the service data of a request of one of the four services that is no segment.
-fn asked(apdu: Apdu<'_>) -> Option<(u8, &[u8])>
-    ensures { option_map (λ t. (t.0, t.1.now)) result ≡ asked_in (apdu_view apdu.entry) }
+fn request_data(apdu: Apdu<'_>) -> Option<(u8, &[u8])>
+    ensures { option_map (λ t. (t.0, t.1.now)) result ≡ request_data_in (apdu_view apdu.entry) }
 {
     match apdu {
         Apdu::ConfirmedRequest {
@@ -62,9 +62,9 @@ fn asked(apdu: Apdu<'_>) -> Option<(u8, &[u8])>
     }
 }
 
-/// The choice and the service data of an answer of one of the services that is no segment.
-fn answered(apdu: Apdu<'_>) -> Option<(u8, &[u8])>
-    ensures { option_map (λ t. (t.0, t.1.now)) result ≡ answered_in (apdu_view apdu.entry) }
+/// The choice and the service data of a ComplexACK of one of the services that is no segment.
+fn complex_data(apdu: Apdu<'_>) -> Option<(u8, &[u8])>
+    ensures { option_map (λ t. (t.0, t.1.now)) result ≡ complex_data_in (apdu_view apdu.entry) }
 {
     match apdu {
         Apdu::ComplexAck {
@@ -72,18 +72,18 @@ fn answered(apdu: Apdu<'_>) -> Option<(u8, &[u8])>
             choice,
             service,
             ..
-        } if answers_with_data(choice) => Some((choice, service)),
+        } if has_complex_ack(choice) => Some((choice, service)),
         _ => None,
     }
 }
 
 /// The request that an APDU carries whole, if it carries one of the four services'.
 pub(crate) fn request_in(apdu: Apdu<'_>) -> Result<Option<Request<'_>>, Reject>
-    ensures found { IfOk result (λ r. IsRequestIn (asked_in (apdu_view apdu.entry)) (option_map request_view r)) }
-    ensures refused { IfErr result (λ e. HasNoRequest (asked_in (apdu_view apdu.entry))) }
-    ensures reason { IfErr result (IsReason (asked_in (apdu_view apdu.entry))) }
+    ensures found { IfOk result (λ r. IsRequestIn (request_data_in (apdu_view apdu.entry)) (option_map request_view r)) }
+    ensures refused { IfErr result (λ e. HasNoRequest (request_data_in (apdu_view apdu.entry))) }
+    ensures reason { IfErr result (IsReason (request_data_in (apdu_view apdu.entry))) }
 {
-    match asked(apdu) {
+    match request_data(apdu) {
         None => Ok(None),
         Some((choice, service)) => match read_request(choice, service) {
             Ok(request) => Ok(Some(request)),
@@ -92,16 +92,16 @@ pub(crate) fn request_in(apdu: Apdu<'_>) -> Result<Option<Request<'_>>, Reject>
     }
 }
 
-/// The answer that an APDU carries whole, if it carries one of the services'.
-pub(crate) fn answer_in(apdu: Apdu<'_>) -> Result<Option<Complex<'_>>, FaultKind>
-    ensures found { IfOk result (λ c. IsAnswerIn (answered_in (apdu_view apdu.entry)) (option_map complex_view c)) }
-    ensures refused { IfErr result (λ e. HasNoAnswer (answered_in (apdu_view apdu.entry))) }
-    ensures kind { IfErr result (IsKind (answered_in (apdu_view apdu.entry))) }
+/// The service data of the ComplexACK that an APDU is, if it is one of the services' and no segment.
+pub(crate) fn complex_in(apdu: Apdu<'_>) -> Result<Option<Complex<'_>>, FaultKind>
+    ensures found { IfOk result (λ c. IsComplexIn (complex_data_in (apdu_view apdu.entry)) (option_map complex_view c)) }
+    ensures refused { IfErr result (λ e. HasNoComplex (complex_data_in (apdu_view apdu.entry))) }
+    ensures kind { IfErr result (IsKind (complex_data_in (apdu_view apdu.entry))) }
 {
-    match answered(apdu) {
+    match complex_data(apdu) {
         None => Ok(None),
         Some((choice, service)) => match read_reply(choice, service) {
-            Ok(answer) => Ok(Some(answer)),
+            Ok(complex) => Ok(Some(complex)),
             Err(fault) => Err(fault.kind),
         },
     }
@@ -125,8 +125,8 @@ pub fn check_datagram(octets: &[u8]) -> Result<(), LayerFault>
     if let Err(reject) = request_in(apdu) {
         return Err(LayerFault::Request(reject));
     }
-    match answer_in(apdu) {
+    match complex_in(apdu) {
         Ok(_) => Ok(()),
-        Err(kind) => Err(LayerFault::Answer(kind)),
+        Err(kind) => Err(LayerFault::ComplexAck(kind)),
     }
 }

@@ -1,11 +1,11 @@
-//! The line of a request or an answer.
+//! The line of a request, or of the service data of a ComplexACK.
 ghost use Rattle.std.specs.Prelude.{◌≡◌, ℕ, List, OnOk, ◌++◌};
 ghost use Rattle.std.specs.Io.KnownBytes.{Appends};
 ghost use Rattle.bac_value.specs.Views.{object_identifier_view};
 ghost use Rattle.bac_service.specs.Views as view;
 ghost use Rattle.bac_text.specs.Texts.{reference_text, write_property_text, property_read_text, read_name, read_access_text, read_file_text};
 ghost use Rattle.bac_text.specs.Texts.{position_text, write_stream_text, records_start_text, end_of_file_text, place_written_text};
-ghost use Rattle.bac_text.specs.Texts.{AreTheStrings, write_records_text, IsRequestText, file_read_text, answer_text, line_end};
+ghost use Rattle.bac_text.specs.Texts.{AreTheStrings, write_records_text, IsRequestText, file_read_text, complex_text, line_end};
 ghost use Rattle.bac_text.specs.Texts.{AppendsText, AppendsLine};
 
 use crate::strings::print_strings;
@@ -76,7 +76,8 @@ fn print_read_access<W: Write>(access: ReadAccess, out: &mut W) -> io::Result<()
 }
 
 fn print_read_file<W: Write>(read: ReadFile, out: &mut W) -> io::Result<()>
-    ensures { OnOk result (Appends (W.contents out.old) (W.contents out.new) (read_file_text (object_identifier_view read.file) (view.read_access_view read.access))) }
+    ensures { OnOk result (Appends (W.contents out.old) (W.contents out.new)
+        (read_file_text (object_identifier_view read.file) (view.read_access_view read.access))) }
 {
     print_read_name(read.access, out)?;
     print_object(read.file, out)?;
@@ -96,7 +97,8 @@ fn print_write_stream<W: Write>(
     stream: WriteStream<Content<'_>>,
     out: &mut W,
 ) -> io::Result<()>
-    ensures { OnOk result (Appends (W.contents out.old) (W.contents out.new) (write_stream_text (object_identifier_view file) stream.entry.start stream.entry.content.octets.now)) }
+    ensures { OnOk result (Appends (W.contents out.old) (W.contents out.new)
+        (write_stream_text (object_identifier_view file) stream.entry.start stream.entry.content.octets.now)) }
 {
     out.write_all(b"write-file")?;
     print_object(file, out)?;
@@ -119,7 +121,8 @@ fn print_write_records<W: Write>(
     out: &mut W,
 ) -> io::Result<()>
     ensures { OnOk result ((strings : List (List ℕ)) × (AreTheStrings strings write.entry.records.run.now
-        × Appends (W.contents out.old) (W.contents out.new) (write_records_text (object_identifier_view file) write.entry.start write.entry.records.count strings))) }
+        × Appends (W.contents out.old) (W.contents out.new)
+        (write_records_text (object_identifier_view file) write.entry.start write.entry.records.count strings))) }
 {
     out.write_all(b"write-records")?;
     print_object(file, out)?;
@@ -194,7 +197,7 @@ fn print_place<W: Write>(written: FileWritten, out: &mut W) -> io::Result<()>
 }
 
 fn print_file_written<W: Write>(written: FileWritten, out: &mut W) -> io::Result<()>
-    ensures { OnOk result (Appends (W.contents out.old) (W.contents out.new) (answer_text (view.file_written_view written))) }
+    ensures { OnOk result (Appends (W.contents out.old) (W.contents out.new) (complex_text (view.file_written_view written))) }
 {
     out.write_all(b"write-file-ack")?;
     print_place(written, out)
@@ -212,10 +215,14 @@ fn print_property_read<W: Write>(
     print_octets(alloc, "values", read.values.octets, out)
 }
 
-fn print_answer_members<W: Write>(alloc: Global, answer: Complex<'_>, out: &mut W) -> io::Result<()>
-    ensures { OnOk result (Appends (W.contents out.old) (W.contents out.new) (answer_text (view.complex_view answer.entry))) }
+fn print_complex_members<W: Write>(
+    alloc: Global,
+    complex: Complex<'_>,
+    out: &mut W,
+) -> io::Result<()>
+    ensures { OnOk result (Appends (W.contents out.old) (W.contents out.new) (complex_text (view.complex_view complex.entry))) }
 {
-    match answer {
+    match complex {
         AnyComplex::FileRead(read) => print_file_read(alloc, read, out),
         AnyComplex::FileWritten(written) => print_file_written(written, out),
         AnyComplex::PropertyRead(read) => print_property_read(alloc, read, out),
@@ -223,13 +230,13 @@ fn print_answer_members<W: Write>(alloc: Global, answer: Complex<'_>, out: &mut 
 }
 
 /// Prints the service data of a ComplexACK of one of the services.
-pub(crate) fn print_answer<W: Write>(
+pub(crate) fn print_complex<W: Write>(
     alloc: Global,
-    answer: Complex<'_>,
+    complex: Complex<'_>,
     out: &mut W,
 ) -> io::Result<()>
-    ensures { OnOk result (Appends (W.contents out.old) (W.contents out.new) (answer_text (view.complex_view answer.entry) ++ line_end)) }
+    ensures { OnOk result (Appends (W.contents out.old) (W.contents out.new) (complex_text (view.complex_view complex.entry) ++ line_end)) }
 {
-    print_answer_members(alloc, answer, out)?;
+    print_complex_members(alloc, complex, out)?;
     print_end(out)
 }

@@ -1,5 +1,5 @@
 //! How many lines of a capture there are so far, and how many of them are good.
-ghost use Rattle.std.specs.Prelude.{◌≡◌, ◌≤◌, ◌+◌, ◌-◌, ◌^◌, ◌<◌, [], ◌∷◌, IfSome};
+ghost use Rattle.std.specs.Prelude.{◌≡◌, ◌≤◌, ◌+◌, ◌-◌, ◌^◌, ◌<◌, [], ◌∷◌, ◌↔◌, IsSome, IfSome};
 ghost use Rattle.bac_text.specs.Lines.{good_among};
 ghost use Rattle.bac_text.specs.Statuses.{IsTallied};
 
@@ -17,10 +17,10 @@ pub(crate) struct Tally {
 }
 
 impl Tally {
-    /// The lines with one more, which has that fault or none; None where their number does not fit.
+    /// The lines with one more, which has that fault or none; None exactly where their number does not fit.
     pub(crate) fn with(self, fault: Option<LineFault>, latest: u64) -> Option<Tally>
+        ensures some { IsSome result ↔ (self.lines < 2 ^ 64 - 1) }
         ensures lines { IfSome result (λ t. t.lines ≡ self.lines + 1) }
-        ensures fits { IfSome result (λ t. self.lines < 2 ^ 64 - 1) }
         ensures good { IfSome result (λ t. t.good ≡ self.good + good_among (fault ∷ [])) }
         ensures latest { IfSome result (λ t. t.latest ≡ latest) }
     {

@@ -3,8 +3,11 @@ use Rattle.bac_text.proofs.SoFar.{none_so_far, one_more_at, all_counted_at}
 use Rattle.bac_text.proofs.check.check_lines.Goals as goal
 
 pub loop-line-init : goal.loop-line-init
-loop-line-init g c =
-    (omega arith, none_so_far (g.R.Read.remaining c.args.input.now) (g.W.Write.contents c.args.out.now) (record { lines = 0; good = 0; latest = 0 }) refl refl refl)
+loop-line-init g c = (
+  omega arith,
+  none_so_far (g.R.Read.remaining c.args.input.now) (g.W.Write.contents c.args.out.now)
+      (record { lines = 0; good = 0; latest = 0 }) refl refl refl,
+)
 
 pub loop-line-preserved : goal.loop-line-preserved
 loop-line-preserved g c = (

@@ -27,7 +27,8 @@ returns-clause-part g c =
     let len = c.line_len-len.result in
     let within = c.line_len-len.ensures.within in
     let gone = dropped _ _ _ _ shown len within filled.0 filled.1 c.consume-2.ensures.bytes in
-    part_shown _ _ shown c.args.line.now.items _ len c.in-Ok.ensures.front c.in-Ok.ensures.end c.line_len-len.ensures.is c.if-len-available.false within gone c.in_ok-keep.ensures
+    part_shown _ _ shown c.args.line.now.items _ len c.in-Ok.ensures.front c.in-Ok.ensures.end c.line_len-len.ensures.is
+    c.if-len-available.false within gone c.in_ok-keep.ensures
 
 pub returns-clause-short : goal.returns-clause-short
 returns-clause-short g c = subst (λ l. length l ≤ LINE_LIMIT + 1) (sym c.in_ok-keep.ensures) (kept_short _)

@@ -3,12 +3,12 @@ use Rattle.std.specs.Io.KnownBytes.{Appends}
 use Rattle.bac_service.specs.declared.reply.FileWritten.{FileWritten}
 use Rattle.bac_service.specs.declared.reply.FileWritten.TheVariants as place
 use Rattle.bac_service.specs.Views as view
-use Rattle.bac_text.specs.Texts.{answer_text, place_written_text}
+use Rattle.bac_text.specs.Texts.{complex_text, place_written_text}
 use Rattle.bac_text.proofs.Appending.{before}
 use Rattle.bac_text.proofs.service_line.print_file_written.Goals as goal
 
 written_after : {T E : Type 0} (r : Result T E) (a b c : Option (List ℕ)) (w : FileWritten) → Appends a b (codes "write-file-ack")
-    → OnOk r (Appends b c (place_written_text w)) → OnOk r (Appends a c (answer_text (view.file_written_view w)))
+    → OnOk r (Appends b c (place_written_text w)) → OnOk r (Appends a c (complex_text (view.file_written_view w)))
 written_after r a b c (place.Stream start) p q = before r a b c _ _ p q
 written_after r a b c (place.Records start) p q = before r a b c _ _ p q
 

@@ -1,0 +1,5 @@
+pub mod Pieces
+pub mod Sent
+pub mod Performances
+pub mod Takings
+pub mod Copies

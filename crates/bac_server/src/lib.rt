@@ -1,0 +1,33 @@
+//! One entry of a server's reply table (clause 5.4.5 on one transaction, with this profile's reply table): what each APDU and each tick make of it,
+//! which datagrams are sent, and which request is performed on the store.
+//!
+//! Each call gives exactly what bac_protocol's definitions of the server say. What takes memory comes first, so that after an Err the entry and the
+//! store are as before.
+#![tactic(auto)]
+
+mod context;
+mod effect;
+mod entry;
+mod idle;
+mod kept;
+mod live;
+mod performing;
+mod placing;
+mod preparing;
+mod reaction;
+mod reading;
+mod repeats;
+mod segmented_request;
+mod segmented_response;
+mod sending;
+mod tick;
+
+pub use context::Context;
+pub use effect::Effect;
+pub use entry::Entry;
+pub use idle::idle_gets;
+pub use live::live_gets;
+pub use reaction::{IdleReaction, Reaction};
+
+#[cfg(test)]
+mod tests;

@@ -1,0 +1,374 @@
+-- An accepted ask.
+use Rattle.std.proofs.Common.{◌≡◌, ℕ, zero, suc, ◌+◌, ◌<◌, ◌⊎◌, Bool, true, false, ◌&&◌, List, [], ◌∷◌, ◌++◌, map, length, Option, Some, None}
+use Rattle.std.proofs.Common.{slice_get, if◌then◌else◌, nat_eq, refl, sym, ap, subst, inl, inr, ◌∙◌, arith}
+use Rattle.std.proofs.lemmas.Bool.Decides.{nat_tests}
+use Rattle.bac_apdu.specs.Apdu.{Apdu, Limits}
+use Rattle.bac_service.specs.Values.{Request, choice_of}
+use Rattle.bac_service.specs.Requests.{SpellsRequest}
+use Rattle.bac_segment.specs.Pieces.{join}
+use Rattle.bac_npdu.specs.Peers.{PeerView}
+use Rattle.bac_protocol.specs.Context.{Settings, Context}
+use Rattle.bac_protocol.specs.Sizes.{Way, RequestFault, request_way_of}
+use Rattle.bac_protocol.specs.Sizes.Way.{InOne, InSegments}
+use Rattle.bac_protocol.specs.Service.{Octets}
+use Rattle.bac_protocol.specs.Client.{Ask, Ticket, asked_ticket, asks, sends_of}
+use Rattle.bac_protocol.specs.Transaction.{Key, Rules, client_context}
+use Rattle.bac_protocol.specs.World.{Net, set_at, post_of, is_key_held, asked_at}
+use Rattle.bac_protocol.specs.Claims.{IsBounded}
+use Rattle.bac_protocol.proofs.Keys.{set_same, set_other, decide_key}
+use Rattle.bac_protocol.proofs.Own.{client_sends_own}
+use Rattle.bac_protocol.proofs.Short.{requests_are_short}
+use Rattle.bac_slots.specs.Slots.{value_at, keep}
+use Rattle.bac_ends.specs.Keys.{PeerKey, same_key}
+use Rattle.bac_ends.specs.Sends.{Pairwise, IsSent}
+use Rattle.bac_ends.specs.Ends.{Client, ClientEnd, kept, is_held, is_held_there, is_id_held, least_not, has_no_slot}
+use Rattle.bac_ends.specs.Ends.{Accepted, AskRefusal, AskOutcome, accepts, asks_with_id, asks_for, asks_by_way, client_asks}
+use Rattle.bac_ends.specs.Ends.AskOutcome.{Asked}
+use Rattle.bac_ends.proofs.Holding.{held_is}
+use Rattle.bac_world.specs.Node.{Node}
+use Rattle.bac_world.specs.Once.{Fact, Stores, IsOnce}
+use Rattle.bac_world.specs.World.{World, Note, Copy, stores_of, newest, ask_of, peer_at, IsCopied, IsAsked}
+use Rattle.bac_world.proofs.Slots.{slot, passing, passing_value, passing_distinct, put_same, put_other, put_distinct}
+use Rattle.bac_world.proofs.Slots.{each_at, each_so, each_passing, each_put}
+use Rattle.bac_world.proofs.Machines.{Sound, counted, asked}
+use Rattle.bac_world.proofs.Pairs.{pairwise_join, append_none}
+use Rattle.bac_world.proofs.Logs.{FactMeans, asks_counted}
+use Rattle.bac_world.proofs.Bridge.{NodeFits, ClientsFit, IsKnown, IsCopyOf, TicketFits, key_of, slot_key, copies_of}
+use Rattle.bac_world.proofs.Steps.{Over, Fits, Goes, linked_with, stores_same, decide_number}
+
+-- What an accepted ask is.
+
+least_is : (test : ℕ → Bool) (count from id : ℕ) → least_not test count from ≡ Some id → test id ≡ false
+least_is test zero from id e = absurd cc
+least_is test (suc count) from id e = go (test from) refl e (λ f. least_is test count (from + 1) id f)
+  where
+    go : (b : Bool) → test from ≡ b → (if b then least_not test count (from + 1) else Some from) ≡ Some id
+        → (least_not test count (from + 1) ≡ Some id → test id ≡ false) → test id ≡ false
+    go true t e again = again e
+    go false t e again = let same : from ≡ id = cc in subst (λ (k : ℕ). test k ≡ false) same t
+
+module _ (c : Settings) (now : ℕ) (peer : PeerView) (choice : ℕ) (octets : Octets) (e : ClientEnd) (a : Accepted) where
+  -- its pieces, its invoke ID, which is not held, and what becomes of the end
+  pub record IsAccepted : Type 0 where
+    pub id : ℕ
+    pub whole : Bool
+    pub front : Octets
+    pub rest : List Octets
+    pub joined : join (front ∷ rest) ≡ octets
+    pub free : is_id_held now e.slots peer id ≡ false
+    pub is : a ≡ accepts c now (record { peer = peer; invoke_id = id }) (record { first = now; choice = choice; whole = whole; pieces = front ∷ rest }) e
+
+  with_id : (whole : Bool) (front : Octets) (rest : List Octets) → join (front ∷ rest) ≡ octets
+      → asks_for c now peer (record { first = now; choice = choice; whole = whole; pieces = front ∷ rest }) e ≡ Asked a → IsAccepted
+  with_id whole front rest joined is = go (least_not (is_id_held now e.slots peer) 256 0) refl is
+    where
+      ask : Ask
+      ask = record { first = now; choice = choice; whole = whole; pieces = front ∷ rest }
+
+      go : (o : Option ℕ) → least_not (is_id_held now e.slots peer) 256 0 ≡ o → asks_with_id c now peer ask e o ≡ Asked a → IsAccepted
+      go None least is = absurd cc
+      go (Some id) least is = slots (has_no_slot now e) is
+        where
+          slots : (b : Bool)
+              → (if b then AskOutcome.Refused AskRefusal.NoSlot else Asked (accepts c now (record { peer = peer; invoke_id = id }) ask e)) ≡ Asked a
+              → IsAccepted
+          slots true is = absurd cc
+          slots false is = record {
+            id = id;
+            whole = whole;
+            front = front;
+            rest = rest;
+            joined = joined;
+            free = least_is (is_id_held now e.slots peer) 256 0 id least;
+            is = let same : accepts c now (record { peer = peer; invoke_id = id }) ask e ≡ a = cc in sym same;
+          }
+
+  by_way : (way : Way RequestFault) → ((pieces : List Octets) → way ≡ InSegments pieces → (join pieces ≡ octets) × (0 < length pieces))
+      → asks_by_way c now peer choice octets e way ≡ Asked a → IsAccepted
+  by_way InOne joins is = with_id true octets [] (append_none octets) is
+  by_way (InSegments []) joins is = let j = joins [] refl in absurd (omega (arith, j.1))
+  by_way (InSegments (front ∷ rest)) joins is = with_id false front rest (joins (front ∷ rest) refl).0 is
+  by_way (Way.Refused why) joins is = absurd cc
+
+  pub accepted_is : (limits : Limits) → client_asks c now peer limits choice octets e ≡ Asked a → IsAccepted
+  accepted_is limits is =
+      let context : Context = record { settings = c; invoke_id = 0; now = now } in
+      by_way (request_way_of c limits octets)
+      (λ pieces way. let cut = requests_are_short.cut context limits octets pieces way in (cut.are.joined, cut.some)) is
+
+-- Slots and notes.
+
+abbrev pub holds : ℕ → Client → Bool
+holds now s = is_held now s.held
+
+-- a slot that is not held may go
+fits_kept : (now : ℕ) (notes : List Note) (i number : ℕ) (o : Option Client) (t : Option Ticket) → TicketFits now notes i number o t
+    → TicketFits now notes i number (keep (holds now) o) t
+fits_kept now notes i number None t h = h
+fits_kept now notes i number (Some s) None h = absurd h
+fits_kept now notes i number (Some s) (Some t) h = go (is_held now s.held) refl
+  where
+    go : (b : Bool) → is_held now s.held ≡ b → TicketFits now notes i number (if b then Some s else None) (Some t)
+    go true is = h
+    go false is = sym (held_is now t) ∙ sym (ap (is_held now) h.held) ∙ is
+
+-- where an invoke ID is not held for the peer, the ticket is not held
+free_ticket : (now : ℕ) (notes : List Note) (i number : ℕ) (o : Option Client) (t : Option Ticket) → TicketFits now notes i number o t
+    → is_held_there now o ≡ false → is_key_held now t ≡ false
+free_ticket now notes i number None t h free = h
+free_ticket now notes i number (Some s) None h free = absurd h
+free_ticket now notes i number (Some s) (Some t) h free = sym (held_is now t) ∙ sym (ap (is_held now) h.held) ∙ free
+
+pub free_kept : (now : ℕ) (o : Option Client) → is_held_there now o ≡ false → keep (holds now) o ≡ None
+free_kept now None e = refl
+free_kept now (Some s) e = ap (λ b. if b then Some s else None) e
+
+-- another note is nothing to a slot of another client or of an earlier ticket
+fits_noted : (now : ℕ) (notes : List Note) (note : Note) (i number : ℕ) (o : Option Client) (t : Option Ticket)
+    → ((s : Client) → o ≡ Some s → (nat_eq note.key.client i && nat_eq note.ticket s.number) ≡ false)
+    → TicketFits now notes i number o t → TicketFits now (note ∷ notes) i number o t
+fits_noted now notes note i number None t other h = h
+fits_noted now notes note i number (Some s) None other h = absurd h
+fits_noted now notes note i number (Some s) (Some t) other h = record {
+  held = h.held;
+  noted = λ still_open. ap (λ b. if b then Some (length notes) else ask_of i s.number notes) (other s refl) ∙ h.noted still_open;
+}
+
+differ : (a b : ℕ) → (a ≡ b → ⊥) → nat_eq a b ≡ false
+differ a b ne = go (nat_eq a b) refl
+  where
+    go : (y : Bool) → nat_eq a b ≡ y → y ≡ false
+    go true e = absurd (ne (grind (arith, nat_tests)))
+    go false e = refl
+
+and_false : (a b : Bool) → b ≡ false → (a && b) ≡ false
+and_false true b e = e
+and_false false b e = refl
+
+equal_self : (a : ℕ) → nat_eq a a ≡ true
+equal_self a = grind (arith, nat_tests)
+
+module _ (links : ℕ → Option Octets) (apart : (i j : ℕ) (l : Octets) → links i ≡ Some l → links j ≡ Some l → i ≡ j) (W : ℕ) (x : Rules)
+    (bound : IsBounded W x) where
+  -- What an ask makes of the client's slots.
+  module _ (n : Net) (notes : List Note) (number_is : n.asks ≡ length notes) (key : Key) (l : Octets) (at : links key.server ≡ Some l) (ask : Ask)
+      (e : ClientEnd) (h : ClientsFit links apart n.now notes n key.client e)
+      (free : is_held_there n.now (value_at same_key (slot_key l key.invoke_id) e.slots) ≡ false) where
+    abbrev pub note : Note
+    note = record { key = key; ticket = e.asked }
+
+    abbrev m : Net
+    m = asked_at x n key ask
+
+    abbrev made : Ticket
+    made = asked_ticket (client_context x key n.now) ask
+
+    abbrev client : Client
+    client = record { number = e.asked; held = kept made }
+
+    abbrev p : PeerKey
+    p = slot_key l key.invoke_id
+
+    abbrev pub ended : ClientEnd
+    ended = record { slots = passing Client (holds n.now) e.slots ++ slot Client p n.now client ∷ []; capacity = e.capacity; asked = e.asked + 1 }
+
+    gone : value_at same_key p (passing Client (holds n.now) e.slots) ≡ None
+    gone = passing_value Client (holds n.now) p e.slots h.distinct ∙ free_kept n.now (value_at same_key p e.slots) free
+
+    earlier : (q : PeerKey) (z : Client) → value_at same_key q e.slots ≡ Some z → (nat_eq key.client key.client && nat_eq e.asked z.number) ≡ false
+    earlier q z is =
+        let lt = (each_at Client (λ y v. IsKnown links apart y × (v.number < e.asked)) q z e.slots h.known is).1 in
+        and_false (nat_eq key.client key.client) (nat_eq e.asked z.number) (differ e.asked z.number (λ same. omega arith))
+
+    own : ask_of key.client e.asked (note ∷ notes) ≡ Some (m.numbers key)
+    own = ap (λ b. if b && nat_eq e.asked e.asked then Some (length notes) else ask_of key.client e.asked notes) (equal_self key.client)
+        ∙ ap (λ b. if b then Some (length notes) else ask_of key.client e.asked notes) (equal_self e.asked)
+        ∙ ap Some (sym number_is ∙ sym (set_same n.numbers key n.asks))
+
+    fit : TicketFits n.now (note ∷ notes) key.client (m.numbers key) (value_at same_key p ended.slots) (m.tickets key)
+    fit = subst (λ (o : Option Client). TicketFits n.now (note ∷ notes) key.client (m.numbers key) o (m.tickets key))
+        (sym (put_same Client p n.now client (passing Client (holds n.now) e.slots) gone))
+        (subst (λ (o : Option Ticket). TicketFits n.now (note ∷ notes) key.client (m.numbers key) (Some client) o)
+        (sym (set_same n.tickets key (Some made))) (record { held = refl; noted = λ still_open. own }))
+
+    found : (s : ℕ) (l' : Octets) (id : ℕ) → links s ≡ Some l' → ((key ≡ key_of key.client s id) ⊎ (key ≡ key_of key.client s id → ⊥))
+        → TicketFits n.now (note ∷ notes) key.client (m.numbers (key_of key.client s id)) (value_at same_key (slot_key l' id) ended.slots)
+        (m.tickets (key_of key.client s id))
+    found s l' id at' (inl is) =
+        let link : l ≡ l' = let f : Some l ≡ Some l' = sym at ∙ ap (λ (k : Key). links k.server) is ∙ at' in cc in
+        let moved : TicketFits n.now (note ∷ notes) key.client (m.numbers (key_of key.client s id)) (value_at same_key p ended.slots)
+        (m.tickets (key_of key.client s id)) =
+        subst (λ (k : Key). TicketFits n.now (note ∷ notes) key.client (m.numbers k) (value_at same_key p ended.slots) (m.tickets k)) is fit in
+        subst (λ (q : PeerKey). TicketFits n.now (note ∷ notes) key.client (m.numbers (key_of key.client s id)) (value_at same_key q ended.slots)
+        (m.tickets (key_of key.client s id))) (λ j. slot_key (link j) (is j).invoke_id) moved
+    found s l' id at' (inr ne) =
+        let other : p ≡ slot_key l' id → ⊥ = λ is.
+        let link : l ≡ l' = ap (λ (q : PeerKey). q.peer.link) is in
+        let node : key.server ≡ s = apart key.server s l' (at ∙ ap Some link) at' in
+        ne (λ j. key_of key.client (node j) (is j).invoke_id) in
+        let q : PeerKey = slot_key l' id in
+        let k : Key = key_of key.client s id in
+        let look : value_at same_key q ended.slots ≡ keep (holds n.now) (value_at same_key q e.slots) =
+        put_other Client p q n.now client (passing Client (holds n.now) e.slots) other ∙ passing_value Client (holds n.now) q e.slots h.distinct in
+        let before : TicketFits n.now (note ∷ notes) key.client (n.numbers k) (value_at same_key q e.slots) (n.tickets k) =
+        fits_noted n.now notes note key.client (n.numbers k) (value_at same_key q e.slots) (n.tickets k) (earlier q) (h.found s l' id at') in
+        let after : TicketFits n.now (note ∷ notes) key.client (n.numbers k) (keep (holds n.now) (value_at same_key q e.slots)) (n.tickets k) =
+        fits_kept n.now (note ∷ notes) key.client (n.numbers k) (value_at same_key q e.slots) (n.tickets k) before in
+        subst (λ (o : Option Client). TicketFits n.now (note ∷ notes) key.client (m.numbers k) o (m.tickets k)) (sym look)
+        (subst (λ (y : ℕ). TicketFits n.now (note ∷ notes) key.client y (keep (holds n.now) (value_at same_key q e.slots)) (m.tickets k))
+        (sym (set_other n.numbers key n.asks k ne))
+        (subst (λ (o : Option Ticket). TicketFits n.now (note ∷ notes) key.client (n.numbers k) (keep (holds n.now) (value_at same_key q e.slots)) o)
+        (sym (set_other n.tickets key (Some made) k ne)) after))
+
+    pub ask_fits : ClientsFit links apart n.now (note ∷ notes) (asked_at x n key ask) key.client ended
+    ask_fits = record {
+      distinct = put_distinct Client p n.now client (passing Client (holds n.now) e.slots) (passing_distinct Client (holds n.now) e.slots h.distinct) gone;
+      known = each_put Client (λ y v. IsKnown links apart y × (v.number < e.asked + 1)) p n.now client (passing Client (holds n.now) e.slots)
+          (record { node = key.server; link = l; at = at; peer = refl }, omega arith)
+          (each_passing Client (λ y v. IsKnown links apart y × (v.number < e.asked + 1)) (holds n.now) e.slots
+          (each_so Client (λ y v. IsKnown links apart y × (v.number < e.asked)) (λ y v. IsKnown links apart y × (v.number < e.asked + 1))
+          (λ y v k. (k.0, let lt = k.1 in omega arith)) e.slots h.known));
+      found = λ s l' id at'. found s l' id at' (decide_key key (key_of key.client s id));
+    }
+
+    pub others_noted : (j : ℕ) (a : Node) → (j ≡ key.client → ⊥) → NodeFits links apart x n.now notes n j a
+        → NodeFits links apart x n.now (note ∷ notes) (asked_at x n key ask) j a
+    others_noted j a ne f = record {
+      settings = f.settings;
+      link = f.link;
+      clients = record {
+        distinct = f.clients.distinct;
+        known = f.clients.known;
+        found = λ s l' id at'.
+            let k : Key = key_of j s id in
+            let away : key ≡ k → ⊥ = λ is. ne (sym (ap (λ (y : Key). y.client) is)) in
+            let q : PeerKey = slot_key l' id in
+            let before : TicketFits n.now (note ∷ notes) j (n.numbers k) (value_at same_key q a.clients.slots) (n.tickets k) =
+            fits_noted n.now notes note j (n.numbers k) (value_at same_key q a.clients.slots) (n.tickets k)
+            (λ z is. ap (λ b. b && nat_eq e.asked z.number) (differ key.client j (λ same. ne (sym same)))) (f.clients.found s l' id at') in
+            subst (λ (y : ℕ). TicketFits n.now (note ∷ notes) j y (value_at same_key q a.clients.slots) (m.tickets k))
+            (sym (set_other n.numbers key n.asks k away))
+            (subst (λ (o : Option Ticket). TicketFits n.now (note ∷ notes) j (n.numbers k) (value_at same_key q a.clients.slots) o)
+            (sym (set_other n.tickets key (Some made) k away)) before);
+      };
+      servers = record { distinct = f.servers.distinct; known = f.servers.known; found = f.servers.found };
+    }
+
+  -- What it makes of the world.
+  module _ (w w' : World) (n : Net) (h : Over links apart W x w n) (i s : ℕ) (limits : Limits) (r : Request) (step : IsAsked w i s limits r w')
+      (server_at : links s ≡ Some step.link)
+      (parts : IsAccepted (x.settings i) n.now (peer_at step.link) (choice_of r) step.asks.octets step.before.clients step.accepted) where
+    abbrev a : Node
+    a = step.before
+
+    abbrev key : Key
+    key = key_of i s parts.id
+
+    abbrev ask : Ask
+    ask = record { first = n.now; choice = choice_of r; whole = parts.whole; pieces = parts.front ∷ parts.rest }
+
+    abbrev context : Context
+    context = client_context x key n.now
+
+    abbrev after : Net
+    after = asked_at x n key ask
+
+    fits : Fits links apart W x w n n i step.before
+    fits = h.nodes i step.before step.at
+
+    free : is_key_held n.now (n.tickets key) ≡ false
+    free = free_ticket n.now w.notes i (n.numbers key) (value_at same_key (slot_key step.link parts.id) a.clients.slots) (n.tickets key)
+        (fits.clients.found s step.link parts.id server_at) parts.free
+
+    sound : Sound x after
+    sound = asked W x bound n h.sound key free (choice_of r) parts.whole parts.front parts.rest
+
+    abbrev note' : Note
+    note' = record { key = key; ticket = a.clients.asked }
+
+    abbrev ended' : ClientEnd
+    ended' = ended n w.notes h.asks key step.link server_at ask a.clients fits.clients parts.free
+
+    notes_is : w'.notes ≡ note' ∷ w.notes
+    notes_is = step.notes ∙ ap (λ (y : Accepted). record { key = key_of i s y.invoke_id; ticket = y.ticket } ∷ w.notes) parts.is
+
+    node_is : step.after ≡ record a { latest = w.now; clients = ended' }
+    node_is = step.asks.node ∙ ap (λ (y : Accepted). record a { latest = w.now; clients = y.end }) parts.is
+
+    made_fits : NodeFits links apart x n.now (note' ∷ w.notes) after i (record a { latest = w.now; clients = ended' })
+    made_fits = record {
+      settings = fits.settings;
+      link = fits.link;
+      clients = ask_fits n w.notes h.asks key step.link server_at ask a.clients fits.clients parts.free;
+      servers = record { distinct = fits.servers.distinct; known = fits.servers.known; found = fits.servers.found };
+    }
+
+    nodes : (j : ℕ) (b : Node) → slice_get w'.nodes j ≡ Some b → ((j ≡ i) ⊎ (j ≡ i → ⊥)) → NodeFits links apart x n.now (note' ∷ w.notes) after j b
+    nodes j b at (inl is) =
+        let there : slice_get w'.nodes i ≡ Some b = subst (λ (k : ℕ). slice_get w'.nodes k ≡ Some b) is at in
+        let same : step.after ≡ b = let e : Some step.after ≡ Some b = sym step.nodes.here ∙ there in cc in
+        subst (λ (k : ℕ). NodeFits links apart x n.now (note' ∷ w.notes) after k b) (sym is)
+        (subst (λ (d : Node). NodeFits links apart x n.now (note' ∷ w.notes) after i d) (sym node_is ∙ same) made_fits)
+    nodes j b at (inr ne) = others_noted n w.notes h.asks key step.link server_at ask a.clients fits.clients parts.free j b ne
+        (h.nodes j b (sym (step.nodes.others j ne) ∙ at))
+
+    noted : (k : Key) (t : Ticket) → set_at n.tickets key (Some (asked_ticket context ask)) k ≡ Some t → ((key ≡ k) ⊎ (key ≡ k → ⊥))
+        → newest k (note' ∷ w.notes) ≡ Some (after.numbers k)
+    noted k t at (inl is) = subst (λ (y : Key). newest y (note' ∷ w.notes) ≡ Some (after.numbers y)) is
+        (set_same (λ y. newest y w.notes) key (Some (length w.notes)) ∙ ap Some (sym h.asks ∙ sym (set_same n.numbers key n.asks)))
+    noted k t at (inr ne) = set_other (λ y. newest y w.notes) key (Some (length w.notes)) k ne
+        ∙ h.noted k t (sym (set_other n.tickets key (Some (asked_ticket context ask)) k ne) ∙ at)
+        ∙ ap Some (sym (set_other n.numbers key n.asks k ne))
+
+    abbrev sends : List Apdu
+    sends = sends_of (asks context ask)
+
+    copies : Pairwise (IsCopyOf links apart) (map (post_of key n.now) (sends_of (asks context ask))) step.sent
+    copies = copies_of links apart w.nodes h.linked n.now true key i s a.link step.link
+        (record { between = (refl, refl); from = fits.link; to = server_at })
+        sends step.sends step.sent (client_sends_own.asks context ask)
+        (subst (λ (y : Accepted). Pairwise IsSent y.sends step.sends) parts.is step.asks.sent)
+        (subst (λ (t : ℕ). Pairwise (IsCopied w.nodes t i) step.sends step.sent) (sym h.now) step.copied)
+
+    asks_is : n.asks + 1 ≡ length w'.notes
+    asks_is = ap (λ (k : ℕ). k + 1) h.asks ∙ (let e : length w.notes + 1 ≡ length (note' ∷ w.notes) = omega arith in e)
+        ∙ sym (ap (λ (l : List Note). length l) notes_is)
+
+    over : Over links apart W x w' after
+    over = record {
+      now = h.now ∙ sym step.now;
+      asks = asks_is;
+      linked = linked_with links w.nodes w'.nodes i a step.after step.nodes step.at (ap (λ (d : Node). d.link) node_is) h.linked;
+      nodes = λ j b at. subst (λ (l : List Note). NodeFits links apart x n.now l after j b) (sym notes_is) (nodes j b at (decide_number j i));
+      noted = λ k t at. ap (newest k) notes_is ∙ noted k t at (decide_key key k);
+      posts = subst (λ (l : List Copy). Pairwise (IsCopyOf links apart) after.posts l) (sym step.copies)
+          (pairwise_join (IsCopyOf links apart) n.posts (map (post_of key n.now) sends) w.copies step.sent h.posts copies);
+      log = subst (λ (lg : List Fact). Pairwise FactMeans after.log lg) (sym step.log)
+          ((sym h.asks, refl, refl, subst (λ (o : Octets). SpellsRequest (choice_of r) r o) (sym parts.joined) step.asks.spelled), h.log);
+      sound = sound;
+    }
+
+    once : (opening : Stores) → IsOnce opening w.log (stores_of w.nodes) → IsOnce opening w'.log (stores_of w'.nodes)
+    once opening before = subst (λ (lg : List Fact). IsOnce opening lg (stores_of w'.nodes)) (sym step.log) (
+      stores_of w.nodes,
+      (
+        sym h.asks ∙ counted W x bound n h.sound ∙ sym (asks_counted n.log w.log h.log),
+        stores_same w.nodes w'.nodes i a step.after step.nodes step.at (ap (λ (d : Node). d.store) node_is),
+      ),
+      before,
+    )
+
+    pub asks_with : Goes links apart W x w w' (asked_at x n (key_of i s parts.id)
+        (record { first = n.now; choice = choice_of r; whole = parts.whole; pieces = parts.front ∷ parts.rest }))
+    asks_with = record { bridge = over; once = once }
+
+  pub asks_over : (w w' : World) (n : Net) → Over links apart W x w n → (client server : ℕ) (limits : Limits) (r : Request)
+      → IsAsked w client server limits r w' → (m : Net) × Goes links apart W x w w' m
+  asks_over w w' n h i s limits r step =
+      let fits : Fits links apart W x w n n i step.before = h.nodes i step.before step.at in
+      let asked_of : Settings → ℕ → AskOutcome =
+      λ c now. client_asks c now (peer_at step.link) limits (choice_of r) step.asks.octets step.before.clients in
+      let parts = accepted_is (x.settings i) n.now (peer_at step.link) (choice_of r) step.asks.octets step.before.clients step.accepted limits
+      (subst (λ (y : Settings). asked_of y n.now ≡ Asked step.accepted) fits.settings
+      (subst (λ (y : ℕ). asked_of step.before.settings y ≡ Asked step.accepted) (sym h.now) step.asks.accepted)) in
+      (_, asks_with w w' n h i s limits r step (sym (h.linked s) ∙ step.peer) parts)

@@ -1,0 +1,181 @@
+-- What a world on datagrams and bac_protocol's net have in common.
+use Rattle.std.proofs.Common.{◌≡◌, ℕ, zero, suc, ◌<◌, Bool, true, false, List, [], ◌∷◌, map, length, Option, Some, None, slice_get}
+use Rattle.std.proofs.Common.{if◌then◌else◌, refl, sym, ap, subst, ◌∙◌, ◌≤◌}
+use Rattle.bac_apdu.specs.Apdu.{Apdu}
+use Rattle.bac_apdu.specs.Spelling.{SpellsApdu, is_confirmed_request}
+use Rattle.bac_apdu.proofs.Apdus.{apdu_one}
+use Rattle.bac_npdu.specs.Peers.{PeerView}
+use Rattle.bac_npdu.specs.Datagram.{Means, IsFrameTo}
+use Rattle.bac_npdu.proofs.Datagrams.{frame_means, means_one}
+use Rattle.bac_protocol.specs.Service.{Octets}
+use Rattle.bac_protocol.specs.Short.{IsShort}
+use Rattle.bac_protocol.specs.Wire.{is_from_client, Each}
+use Rattle.bac_protocol.specs.Own.{invoke_id_of}
+use Rattle.bac_protocol.specs.Client.{Ticket, is_idle}
+use Rattle.bac_protocol.specs.Server.{Entry, live_entry}
+use Rattle.bac_protocol.specs.Transaction.{Key, Rules}
+use Rattle.bac_protocol.specs.World.{Net, Post, post_of, is_key_held}
+use Rattle.bac_protocol.specs.World as machine
+use Rattle.bac_slots.specs.Slots.{value_at, IsDistinct}
+use Rattle.bac_ends.specs.Keys.{PeerKey, same_key}
+use Rattle.bac_ends.specs.Sends.{Datagram, Pairwise, IsSent, to_peer, to_all}
+use Rattle.bac_ends.specs.Ends.{Client, ClientEnd, ServerEnd, kept}
+use Rattle.bac_world.specs.Node.{Node}
+use Rattle.bac_world.specs.World.{World, Copy, Note, link_at, newest, ask_of, peer_at, transaction_of, IsCopied, count_of, later}
+use Rattle.bac_world.proofs.Slots.{EachSlot}
+use Rattle.bac_world.proofs.Machines.{Sound}
+use Rattle.bac_world.proofs.Logs.{FactMeans}
+
+-- A frame means the APDU that it was made of.
+pub framed_means : (from to : Octets) (a b : Apdu) (q : PeerView) (octets : Octets) → IsFrameTo SpellsApdu is_confirmed_request (peer_at to) a octets
+    → IsShort a → Means SpellsApdu from octets q b → (q ≡ peer_at from) × (b ≡ a)
+framed_means from to a b q octets f short m =
+    means_one SpellsApdu apdu_one from octets q (peer_at from) b a m
+    (frame_means SpellsApdu is_confirmed_request from to octets a (λ text s. subst (λ (l : Octets). length l ≤ 1476) (sym s.is) short) f)
+
+-- The relation.
+
+abbrev pub key_of : (client server invoke_id : ℕ) → Key
+key_of c s id = record { client = c; server = s; invoke_id = id }
+
+abbrev pub slot_key : Octets → ℕ → PeerKey
+slot_key link id = record { peer = peer_at link; invoke_id = id }
+
+pub record SlotFits (notes : List Note) (client number : ℕ) (s : Client) (t : Ticket) : Type 0 where
+  pub held : s.held ≡ kept t
+  pub noted : is_idle t.phase ≡ false → ask_of client s.number notes ≡ Some number
+
+-- a slot is its ticket's, and where there is none the ticket is not held
+abbrev pub TicketFits : (now : ℕ) → List Note → (client number : ℕ) → Option Client → Option Ticket → Type 0
+TicketFits now notes client number None o = is_key_held now o ≡ false
+TicketFits now notes client number (Some s) None = ⊥
+TicketFits now notes client number (Some s) (Some t) = SlotFits notes client number s t
+
+-- entries are alike while they are live
+abbrev pub EntryFits : (now : ℕ) → (a b : Option Entry) → Type 0
+EntryFits now a b = live_entry now a ≡ live_entry now b
+
+abbrev pub IsBetween : (up : Bool) → Key → (from to : ℕ) → Type 0
+IsBetween true key from to = (from ≡ key.client) × (to ≡ key.server)
+IsBetween false key from to = (from ≡ key.server) × (to ≡ key.client)
+
+module _ (links : ℕ → Option Octets) (apart : (i j : ℕ) (l : Octets) → links i ≡ Some l → links j ≡ Some l → i ≡ j) where
+  -- the key of a node and an invoke ID
+  pub record IsKnown (p : PeerKey) : Type 0 where
+    pub node : ℕ
+    pub link : Octets
+    pub at : links node ≡ Some link
+    pub peer : p.peer ≡ peer_at link
+
+  pub record ClientsFit (now : ℕ) (notes : List Note) (n : Net) (i : ℕ) (e : ClientEnd) : Type 0 where
+    pub distinct : IsDistinct same_key e.slots
+    pub known : EachSlot Client (λ p s. IsKnown p × (s.number < e.asked)) e.slots
+    pub found : (s : ℕ) (l : Octets) (id : ℕ) → links s ≡ Some l
+        → TicketFits now notes i (n.numbers (key_of i s id)) (value_at same_key (slot_key l id) e.slots) (n.tickets (key_of i s id))
+
+  pub record ServersFit (now : ℕ) (n : Net) (i : ℕ) (e : ServerEnd) : Type 0 where
+    pub distinct : IsDistinct same_key e.slots
+    pub known : EachSlot Entry (λ p d. IsKnown p) e.slots
+    pub found : (c : ℕ) (l : Octets) (id : ℕ) → links c ≡ Some l
+        → EntryFits now (value_at same_key (slot_key l id) e.slots) (n.entries (key_of c i id))
+
+  pub record NodeFits (x : Rules) (now : ℕ) (notes : List Note) (n : Net) (i : ℕ) (a : Node) : Type 0 where
+    pub settings : a.settings ≡ x.settings i
+    pub link : links i ≡ Some a.link
+    pub clients : ClientsFit now notes n i a.clients
+    pub servers : ServersFit now n i a.servers
+
+  -- a copy is the one frame of its post's APDU
+  pub record IsCopyOf (p : Post) (c : Copy) : Type 0 where
+    pub key : c.key ≡ p.key
+    pub moment : c.moment ≡ p.copy.moment
+    pub invoke : invoke_id_of p.copy.apdu ≡ p.key.invoke_id
+    pub between : IsBetween (is_from_client p.copy.apdu) p.key c.from c.to
+    pub from_link : Octets
+    pub to_link : Octets
+    pub from_at : links c.from ≡ Some from_link
+    pub to_at : links c.to ≡ Some to_link
+    pub frame : IsFrameTo SpellsApdu is_confirmed_request (peer_at to_link) p.copy.apdu c.octets
+    pub short : IsShort p.copy.apdu
+
+  pub record Bridge (W : ℕ) (x : Rules) (w : World) (n : Net) : Type 0 where
+    pub now : n.now ≡ w.now
+    pub asks : n.asks ≡ length w.notes
+    pub linked : (i : ℕ) → link_at w.nodes i ≡ links i
+    pub nodes : (i : ℕ) (a : Node) → slice_get w.nodes i ≡ Some a → NodeFits x n.now w.notes n i a
+    pub noted : (key : Key) (t : Ticket) → n.tickets key ≡ Some t → newest key w.notes ≡ Some (n.numbers key)
+    pub posts : Pairwise IsCopyOf n.posts w.copies
+    pub log : Pairwise FactMeans n.log w.log
+    pub sound : Sound x n
+
+  -- Later copies are counted alike.
+
+  count_alike : (key : Key) (posts : List Post) (copies : List Copy) → Pairwise IsCopyOf posts copies → count_of key copies ≡ machine.count_of key posts
+  count_alike key [] [] h = refl
+  count_alike key [] (c ∷ copies) h = absurd h
+  count_alike key (p ∷ posts) [] h = absurd h
+  count_alike key (p ∷ posts) (c ∷ copies) h =
+      ap (λ (k : Key). if machine.same_key k key then suc (count_of key copies) else count_of key copies) h.0.key
+      ∙ ap (λ (m : ℕ). if machine.same_key p.key key then suc m else m) (count_alike key posts copies h.1)
+
+  pub later_alike : (key : Key) (number : ℕ) (posts : List Post) (copies : List Copy) → Pairwise IsCopyOf posts copies
+      → later key number copies ≡ machine.later key number posts
+  later_alike key number [] [] h = refl
+  later_alike key number [] (c ∷ copies) h = absurd h
+  later_alike key number (p ∷ posts) [] h = absurd h
+  later_alike key zero (p ∷ posts) (c ∷ copies) h = count_alike key posts copies h.1
+  later_alike key (suc number) (p ∷ posts) (c ∷ copies) h = later_alike key number posts copies h.1
+
+  -- What is sent becomes copies of its posts.
+
+  -- node i sends to node j, at these links
+  pub record IsWay (up : Bool) (key : Key) (i j : ℕ) (li lj : Octets) : Type 0 where
+    pub between : IsBetween up key i j
+    pub from : links i ≡ Some li
+    pub to : links j ≡ Some lj
+
+  way_key : (up : Bool) (key : Key) (i j : ℕ) (a : Apdu) → IsBetween up key i j → is_from_client a ≡ up → invoke_id_of a ≡ key.invoke_id
+      → transaction_of i j a ≡ key
+  way_key true key i j a h up id =
+      ap (λ (b : Bool). if b then key_of i j (invoke_id_of a) else key_of j i (invoke_id_of a)) up ∙ (λ k. key_of (h.0 k) (h.1 k) (id k))
+  way_key false key i j a h up id =
+      ap (λ (b : Bool). if b then key_of i j (invoke_id_of a) else key_of j i (invoke_id_of a)) up ∙ (λ k. key_of (h.1 k) (h.0 k) (id k))
+
+  module _ (nodes : List Node) (linked : (k : ℕ) → link_at nodes k ≡ links k) (now : ℕ) (up : Bool) (key : Key) (i j : ℕ) (li lj : Octets)
+      (way : IsWay up key i j li lj) where
+    copy_of : (a : Apdu) (d : Datagram) (c : Copy) → is_from_client a ≡ up → invoke_id_of a ≡ key.invoke_id → IsSent (to_peer (peer_at lj) a) d
+        → IsCopied nodes now i d c → IsCopyOf (post_of key now a) c
+    copy_of a d c dir id s k =
+        let to_link : links c.to ≡ Some lj = sym (linked c.to) ∙ k.to ∙ ap Some s.link in
+        let to_is : c.to ≡ j = apart c.to j lj to_link way.to in
+        let framed : IsFrameTo SpellsApdu is_confirmed_request (peer_at lj) a c.octets =
+        subst (λ (l : Octets). IsFrameTo SpellsApdu is_confirmed_request (peer_at lj) a l) (sym k.octets) s.frame in
+        let m = k.transaction in
+        let one = framed_means m.link lj a m.apdu m.peer c.octets framed s.short m.means in
+        let key_is : c.key ≡ key =
+        m.key ∙ ap (λ (b : Apdu). transaction_of c.from c.to b) one.1 ∙ ap (λ (f : ℕ). transaction_of f c.to a) k.from
+        ∙ ap (λ (t : ℕ). transaction_of i t a) to_is ∙ way_key up key i j a way.between dir id in
+        record {
+          key = key_is;
+          moment = k.moment;
+          invoke = id;
+          between = subst (λ (u : Bool). IsBetween u key c.from c.to) (sym dir)
+              (subst (λ (f : ℕ). IsBetween up key f c.to) (sym k.from) (subst (λ (t : ℕ). IsBetween up key i t) (sym to_is) way.between));
+          from_link = li;
+          to_link = lj;
+          from_at = ap links k.from ∙ way.from;
+          to_at = to_link;
+          frame = framed;
+          short = s.short;
+        }
+
+    pub copies_of : (sends : List Apdu) (ds : List Datagram) (cs : List Copy)
+        → Each (λ a. (is_from_client a ≡ up) × (invoke_id_of a ≡ key.invoke_id)) sends
+        → Pairwise IsSent (to_all (peer_at lj) sends) ds → Pairwise (IsCopied nodes now i) ds cs
+        → Pairwise IsCopyOf (map (post_of key now) sends) cs
+    copies_of [] [] [] own s k = tt
+    copies_of [] [] (c ∷ cs) own s k = absurd k
+    copies_of [] (d ∷ ds) cs own s k = absurd s
+    copies_of (a ∷ sends) [] cs own s k = absurd s
+    copies_of (a ∷ sends) (d ∷ ds) [] own s k = absurd k
+    copies_of (a ∷ sends) (d ∷ ds) (c ∷ cs) own s k = (copy_of a d c own.0.0 own.0.1 s.0 k.0, copies_of sends ds cs own.1 s.1 k.1)

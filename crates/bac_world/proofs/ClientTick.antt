@@ -1,0 +1,118 @@
+-- A tick of a node's client slots, in ascending order of keys.
+use Rattle.std.proofs.Common.{◌≡◌, ℕ, List, [], ◌∷◌, ◌++◌, Option, Some, refl, sym, ap, subst, ◌∙◌, append_assoc}
+use Rattle.bac_protocol.specs.Context.{Settings}
+use Rattle.bac_protocol.specs.Service.{Octets}
+use Rattle.bac_protocol.specs.Client as client
+use Rattle.bac_protocol.specs.Client.{client_ticks}
+use Rattle.bac_protocol.specs.Transaction.{Key, Rules, client_context}
+use Rattle.bac_protocol.specs.World.{Net, client_acts}
+use Rattle.bac_protocol.specs.Claims.{IsBounded}
+use Rattle.bac_protocol.proofs.Own.{client_sends_own}
+use Rattle.bac_slots.specs.Slots.{value_at, IsDistinct}
+use Rattle.bac_ends.specs.Keys.{PeerKey, same_key}
+use Rattle.bac_ends.specs.Sends.{Datagram, Pairwise, IsSent, to_all}
+use Rattle.bac_ends.specs.Meanings.{Finish, IsFinish}
+use Rattle.bac_ends.specs.Ends.{ClientSlot, Client, Held, context_of, held_ticked, client_tick_sends, client_tick_ends, from_each, ended_with}
+use Rattle.bac_ends.specs.Ends.Held.{Open, Closed}
+use Rattle.bac_world.specs.Once.{Fact}
+use Rattle.bac_world.specs.World.{World, Note, Copy, AreEnded, peer_at, IsCopied}
+use Rattle.bac_world.proofs.Slots.{EachSlot, slot}
+use Rattle.bac_world.proofs.Changes.{look, Change, look_first, look_next, look_here, look_same, change_rest}
+use Rattle.bac_world.proofs.Machines.{Sound, ticks_at_client}
+use Rattle.bac_world.proofs.Pairs.{pairwise_split, pairwise_none, append_none}
+use Rattle.bac_world.proofs.Bridge.{IsKnown, key_of, slot_key}
+use Rattle.bac_world.proofs.Steps.{Over}
+use Rattle.bac_world.proofs.Hearing.{Reached, reached_alike, reacts}
+
+-- endings of two lists enter the log one list after the other
+record IsEnded (notes : List Note) (i : ℕ) (fs gs : List Finish) (old new : List Fact) : Type 0 where
+  between : List Fact
+  first : AreEnded notes i fs old between
+  second : AreEnded notes i gs between new
+
+ended_split : (notes : List Note) (i : ℕ) (fs gs : List Finish) (old new : List Fact) → AreEnded notes i (fs ++ gs) old new → IsEnded notes i fs gs old new
+ended_split notes i [] gs old new h = record { between = old; first = refl; second = h }
+ended_split notes i (f ∷ fs) gs old new h =
+    let again = ended_split notes i fs gs (Fact.Ended h.0 f.how ∷ old) new h.2 in
+    record { between = again.between; first = (h.0, h.1, again.first); second = again.second }
+
+abbrev pub client_tick : Settings → ℕ → PeerKey → Client → Client
+client_tick c now q v = held_ticked (context_of c now q) v.number v.held
+
+module _ (links : ℕ → Option Octets) (apart : (i j : ℕ) (l : Octets) → links i ≡ Some l → links j ≡ Some l → i ≡ j) (W : ℕ) (x : Rules)
+    (bound : IsBounded W x) (w : World) (n : Net) (h : Over links apart W x w n) (i : ℕ) (li : Octets) (from : links i ≡ Some li)
+    (all : List ClientSlot) where
+  abbrev c : Settings
+  c = x.settings i
+
+  abbrev tick : PeerKey → Client → Client
+  tick = client_tick (x.settings i) n.now
+
+  -- the slots of that list go on, while these copies and facts are there
+  abbrev Folds : List ClientSlot → Type 0
+  Folds os = IsDistinct same_key os → EachSlot Client (λ p v. IsKnown links apart p) os → Change Client tick all os
+      → (copies : List Copy) (log : List Fact) (m : Net) → Reached links apart W x w i n (look Client tick all os) copies log m
+      → (ds : List Datagram) (cs : List Copy) (fs : List Finish) (log' : List Fact)
+      → Pairwise IsSent (from_each (client_tick_sends (x.settings i) n.now) os) ds → Pairwise (IsCopied w.nodes n.now i) ds cs
+      → Pairwise IsFinish (from_each (client_tick_ends (x.settings i) n.now) os) fs → AreEnded w.notes i fs log log'
+      → (m' : Net) × Reached links apart W x w i n (λ q. value_at same_key q all) (copies ++ cs) log' m'
+
+  no_slots : Folds []
+  no_slots distinct known change copies log m r ds cs fs log' sent copied finished logged =
+      let ds_is : ds ≡ [] = pairwise_none IsSent ds sent in
+      let cs_is : cs ≡ [] =
+      pairwise_none (IsCopied w.nodes n.now i) cs (subst (λ (d : List Datagram). Pairwise (IsCopied w.nodes n.now i) d cs) ds_is copied) in
+      let fs_is : fs ≡ [] = pairwise_none IsFinish fs finished in
+      let log_is : log' ≡ log = subst (λ (f : List Finish). AreEnded w.notes i f log log') fs_is logged in (
+        m,
+        subst (λ (l : List Copy). Reached links apart W x w i n (λ q. value_at same_key q all) l log' m)
+            (sym (append_none copies) ∙ ap (λ (l : List Copy). copies ++ l) (sym cs_is))
+            (subst (λ (lg : List Fact). Reached links apart W x w i n (λ q. value_at same_key q all) copies lg m) (sym log_is) r),
+      )
+
+  module _ (node : ℕ) (l : Octets) (id : ℕ) (at : links node ≡ Some l) (begin k : ℕ) (os : List ClientSlot) (again : Folds os) where
+    abbrev p : PeerKey
+    p = slot_key l id
+
+    one_closed : (first : ℕ) → Folds (slot Client (slot_key l id) begin (record { number = k; held = Closed first }) ∷ os)
+    one_closed first distinct known change copies log m r ds cs fs log' sent copied finished logged =
+        let v : Client = record { number = k; held = Closed first } in
+        again distinct.1 known.1 (change_rest Client tick all p begin v os distinct.0 change) copies log m
+        (reached_alike links apart W x w i n (look Client tick all (slot Client p begin v ∷ os)) (look Client tick all os) copies log m
+        (look_same Client tick all p begin v os distinct.0 change refl) r)
+        ds cs fs log' sent copied finished logged
+
+    one_open : (t : client.Ticket) → Folds (slot Client (slot_key l id) begin (record { number = k; held = Open t }) ∷ os)
+    one_open t distinct known change copies log m r ds cs fs log' sent copied finished logged =
+        let v : Client = record { number = k; held = Open t } in
+        let key : Key = key_of i node id in
+        let did : client.Reaction = client_ticks (client_context x key n.now) t in
+        let d = pairwise_split IsSent (to_all (peer_at l) (client.sends_of did)) (from_each (client_tick_sends c n.now) os) ds sent in
+        let e = pairwise_split (IsCopied w.nodes n.now i) d.front d.rest cs
+        (subst (λ (z : List Datagram). Pairwise (IsCopied w.nodes n.now i) z cs) d.is copied) in
+        let f = pairwise_split IsFinish (ended_with k t.ask.choice (client.ending_of did)) (from_each (client_tick_ends c n.now) os) fs finished in
+        let g = ended_split w.notes i f.front f.rest log log' (subst (λ (z : List Finish). AreEnded w.notes i z log log') f.is logged) in
+        let next = reacts links apart W x bound w n key l li from at (look Client tick all (slot Client p begin v ∷ os)) (look Client tick all os)
+        copies log m r h.linked k t (look_first Client tick all p begin v os) did
+        (λ is. subst (λ (z : ℕ). Sound x (client_acts m key t (client_ticks (client_context x key z) t))) r.now
+        (ticks_at_client W x bound m r.sound key t is))
+        (client_sends_own.ticks (client_context x key n.now) t)
+        (look_here Client tick all p begin v os distinct.0 change)
+        (λ q ne. look_next Client tick all p begin v os q ne)
+        d.front e.front d.first e.first f.front g.between f.first g.first in
+        let rest = again distinct.1 known.1 (change_rest Client tick all p begin v os distinct.0 change) (copies ++ e.front) g.between
+        (client_acts m key t did) next d.rest e.rest f.rest log' d.second e.second f.second g.second in (
+          rest.0,
+          subst (λ (z : List Copy). Reached links apart W x w i n (λ q. value_at same_key q all) z log' rest.0)
+              (append_assoc copies e.front e.rest ∙ ap (λ (z : List Copy). copies ++ z) (sym e.is)) rest.1,
+        )
+
+    one_slot : (y : Held) → Folds (slot Client (slot_key l id) begin (record { number = k; held = y }) ∷ os)
+    one_slot (Closed first) = one_closed first
+    one_slot (Open t) = one_open t
+
+  pub folds : (os : List ClientSlot) → Folds os
+  folds [] = no_slots
+  folds (s ∷ os) = λ distinct known.
+      subst (λ (p : PeerKey). Folds (slot Client p s.begin s.value ∷ os)) (λ j. record { peer = sym known.0.peer j; invoke_id = s.key.invoke_id })
+      (one_slot known.0.node known.0.link s.key.invoke_id known.0.at s.begin s.value.number os (folds os) s.value.held) distinct known

@@ -1,0 +1,214 @@
+-- A copy reaches its client.
+use Rattle.std.proofs.Common.{◌≡◌, ℕ, ◌-◌, ◌≤◌, ◌<◌, true, false, List, [], ◌++◌, Option, Some, None, slice_get}
+use Rattle.std.proofs.Common.{refl, sym, ap, subst, ◌∙◌}
+use Rattle.bac_apdu.specs.Apdu.{Apdu}
+use Rattle.bac_service.specs.Services.{reads_reply}
+use Rattle.bac_protocol.specs.declared.times.TheConstants.{LIFE}
+use Rattle.bac_protocol.specs.Context.{Settings, Context}
+use Rattle.bac_protocol.specs.Service as machine
+use Rattle.bac_protocol.specs.Service.{Octets}
+use Rattle.bac_protocol.specs.Wire.{is_from_client}
+use Rattle.bac_protocol.specs.Own.{invoke_id_of}
+use Rattle.bac_protocol.specs.Client as client
+use Rattle.bac_protocol.specs.Client.{Ticket, is_idle, client_gets}
+use Rattle.bac_protocol.specs.Server.{live_entry}
+use Rattle.bac_protocol.specs.Transaction.{Key, Rules, client_context}
+use Rattle.bac_protocol.specs.World.{Net, Post, client_acts, is_key_held}
+use Rattle.bac_protocol.specs.World as net
+use Rattle.bac_protocol.specs.Claims.{IsBounded}
+use Rattle.bac_protocol.specs.Moves.{taken_by_client}
+use Rattle.bac_protocol.proofs.Keys.{set_nothing}
+use Rattle.bac_protocol.proofs.Dead.{ended_is_silent}
+use Rattle.bac_protocol.proofs.Own.{client_sends_own}
+use Rattle.bac_slots.specs.Slots.{value_at, with_value, IsDistinct}
+use Rattle.bac_ends.specs.Keys.{PeerKey, same_key}
+use Rattle.bac_ends.specs.Sends.{Datagram, Pairwise, IsSent}
+use Rattle.bac_ends.specs.Meanings.{Finish, IsFinish}
+use Rattle.bac_ends.specs.Ends.{Client, ClientEnd, ClientTurn, Held, client_after, client_goes, client_hears_at, client_hears_held, stays}
+use Rattle.bac_ends.specs.Ends.Held.{Open, Closed}
+use Rattle.bac_world.specs.Node.{Node, Outcome, IsClientTurn}
+use Rattle.bac_world.specs.Once.{Fact, IsOnce}
+use Rattle.bac_world.specs.World.{World, Copy, stores_of, Acts, AreLogged, AreEnded, IsCopied}
+use Rattle.bac_world.proofs.Slots.{EachSlot, with_same, with_other, with_distinct, each_with, each_at}
+use Rattle.bac_world.proofs.Machines.{gets_at_client}
+use Rattle.bac_world.proofs.Pairs.{pairwise_none, append_none}
+use Rattle.bac_world.proofs.Logs.{FactMeans}
+use Rattle.bac_world.proofs.Bridge.{IsKnown, IsCopyOf, TicketFits, key_of, slot_key}
+use Rattle.bac_world.proofs.Steps.{Over, Fits, Goes, acts_over, once_same, stores_same}
+use Rattle.bac_world.proofs.Hearing.{Reached, reached_none, reacts, ticket_at, closed_idle}
+
+-- a ticket that has ended hears nothing
+hears_nothing : (x : Rules) (n : Net) (p : Post) (o : Option Ticket) → n.tickets p.key ≡ o → ((u : Ticket) → o ≡ Some u → is_idle u.phase ≡ true)
+    → taken_by_client x n p o ≡ n
+hears_nothing x n p None is over = refl
+hears_nothing x n p (Some t) is over =
+    ap (client_acts n p.key t) (ended_is_silent.gets (client_context x p.key n.now) x.readable t p.copy.apdu (over t refl))
+    ∙ (λ i. record n { tickets = set_nothing n.tickets p.key (Some t) is i; posts = append_none n.posts i })
+
+module _ (links : ℕ → Option Octets) (apart : (i j : ℕ) (l : Octets) → links i ≡ Some l → links j ≡ Some l → i ≡ j) (W : ℕ) (x : Rules) where
+  -- what was reached is a step of the world
+  pub arrived : (w w' : World) (n : Net) → Over links apart W x w n → (i : ℕ) (a b : Node) (o : Outcome) → slice_get w.nodes i ≡ Some a
+      → (acts : Acts w i b o w') → o.performed ≡ None
+      → (e : ClientEnd) → b ≡ record a { latest = w.now; clients = e }
+      → IsDistinct same_key e.slots → EachSlot Client (λ p s. IsKnown links apart p × (s.number < e.asked)) e.slots
+      → (m : Net) → Reached links apart W x w i n (λ p. value_at same_key p e.slots) (w.copies ++ acts.sent) acts.between m
+      → Goes links apart W x w w' m
+  arrived w w' n h i a b o at acts quiet e b_is distinct known m r = record {
+    bridge = acts_over links apart W x w w' n m h i a b o at acts r.now r.asks r.noted (ap (λ (d : Node). d.link) b_is)
+        (subst (λ (d : Node). Fits links apart W x w n m i d) (sym b_is) made)
+        r.others r.posts (subst (λ (lg : List Fact). Pairwise FactMeans m.log lg) (sym log_is) r.log) r.sound;
+    once = λ opening once. subst (λ (lg : List Fact). IsOnce opening lg (stores_of w'.nodes)) (sym log_is)
+        (once_same opening acts.between (stores_of w.nodes) (stores_of w'.nodes)
+        (stores_same w.nodes w'.nodes i a b acts.nodes at (ap (λ (d : Node). d.store) b_is)) (r.once opening (stores_of w.nodes) once));
+  }
+    where
+      fits : Fits links apart W x w n n i a
+      fits = h.nodes i a at
+
+      made : Fits links apart W x w n m i (record a { latest = w.now; clients = e })
+      made = record {
+        settings = fits.settings;
+        link = fits.link;
+        clients = record { distinct = distinct; known = known; found = r.found };
+        servers = record {
+          distinct = fits.servers.distinct;
+          known = fits.servers.known;
+          found = λ c l id at'. fits.servers.found c l id at' ∙ ap (λ f. live_entry n.now (f (key_of c i id))) (sym r.entries);
+        };
+      }
+
+      log_is : w'.log ≡ acts.between
+      log_is = subst (λ d. AreLogged w.nodes w.notes i d acts.between w'.log) quiet acts.logged
+
+  -- a step in which nothing goes out and nothing ends
+  pub quiet : (w w' : World) (n : Net) → Over links apart W x w n → (i : ℕ) (a b : Node) (o : Outcome) → slice_get w.nodes i ≡ Some a
+      → Acts w i b o w' → o.performed ≡ None → o.sends ≡ [] → o.ended ≡ [] → b ≡ record a { latest = w.now } → Goes links apart W x w w' n
+  quiet w w' n h i a b o at acts performed sends ends b_is =
+      arrived w w' n h i a b o at acts performed a.clients b_is fits.clients.distinct fits.clients.known n
+      (subst (λ (l : List Copy). Reached links apart W x w i n look l acts.between n) (sym copies_is)
+      (subst (λ (lg : List Fact). Reached links apart W x w i n look w.copies lg n) (sym between_is) (reached_none links apart W x w n h i a fits)))
+    where
+      fits : Fits links apart W x w n n i a
+      fits = h.nodes i a at
+
+      look : PeerKey → Option Client
+      look p = value_at same_key p a.clients.slots
+
+      sent_is : acts.sent ≡ []
+      sent_is = pairwise_none (IsCopied w.nodes w.now i) acts.sent
+          (subst (λ (ds : List Datagram). Pairwise (IsCopied w.nodes w.now i) ds acts.sent) sends acts.copied)
+
+      copies_is : w.copies ++ acts.sent ≡ w.copies
+      copies_is = ap (λ (l : List Copy). w.copies ++ l) sent_is ∙ append_none w.copies
+
+      between_is : acts.between ≡ w.log
+      between_is = subst (λ (fs : List Finish). AreEnded w.notes i fs w.log acts.between) ends acts.ended
+
+  -- an APDU of a server was heard
+  pub hears : (bound : IsBounded W x) → x.readable ≡ reads_reply → (w w' : World) (n : Net) → Over links apart W x w n → (number : ℕ) (p : Post) (c : Copy)
+      → slice_get n.posts number ≡ Some p
+      → IsCopyOf links apart p c → n.now - p.copy.moment ≤ LIFE → net.later p.key number n.posts ≤ x.overtake
+      → is_from_client p.copy.apdu ≡ false → c.from ≡ p.key.server → c.to ≡ p.key.client
+      → (a b : Node) (o : Outcome) → slice_get w.nodes c.to ≡ Some a → (l : Octets) → links c.from ≡ Some l
+      → IsClientTurn (client_hears_at a.settings reads_reply w.now p.copy.apdu a.clients (slot_key l (invoke_id_of p.copy.apdu))
+      (value_at same_key (slot_key l (invoke_id_of p.copy.apdu)) a.clients.slots)) w.now a b o
+      → Acts w c.to b o w' → Goes links apart W x w w' (taken_by_client x n p (n.tickets p.key))
+  hears bound readable w w' n h number p c at copied young few down from_is to_is a b o node l link turn acts =
+      go (value_at same_key q a.clients.slots) refl turn'
+    where
+      key : Key
+      key = p.key
+
+      apdu : Apdu
+      apdu = p.copy.apdu
+
+      node' : slice_get w.nodes key.client ≡ Some a
+      node' = subst (λ (i : ℕ). slice_get w.nodes i ≡ Some a) to_is node
+
+      acts' : Acts w key.client b o w'
+      acts' = subst (λ (i : ℕ). Acts w i b o w') to_is acts
+
+      server_at : links key.server ≡ Some l
+      server_at = subst (λ (i : ℕ). links i ≡ Some l) from_is link
+
+      fits : Fits links apart W x w n n key.client a
+      fits = h.nodes key.client a node'
+
+      q : PeerKey
+      q = slot_key l key.invoke_id
+
+      s : Settings
+      s = x.settings key.client
+
+      context : Context
+      context = client_context x key n.now
+
+      heard : Settings → machine.Readable → (id now : ℕ) → ClientTurn
+      heard c readable id now = client_hears_at c readable now apdu a.clients (slot_key l id) (value_at same_key (slot_key l id) a.clients.slots)
+
+      turn' : IsClientTurn (heard s x.readable key.invoke_id n.now) w.now a b o
+      turn' = subst (λ (y : Settings). IsClientTurn (heard y x.readable key.invoke_id n.now) w.now a b o) fits.settings
+          (subst (λ (y : machine.Readable). IsClientTurn (heard a.settings y key.invoke_id n.now) w.now a b o) (sym readable)
+          (subst (λ (y : ℕ). IsClientTurn (heard a.settings reads_reply y n.now) w.now a b o) copied.invoke
+          (subst (λ (y : ℕ). IsClientTurn (heard a.settings reads_reply (invoke_id_of apdu) y) w.now a b o) (sym h.now) turn)))
+
+      made_net : Net
+      made_net = taken_by_client x n p (n.tickets key)
+
+      fit : TicketFits n.now w.notes key.client (n.numbers key) (value_at same_key q a.clients.slots) (n.tickets key)
+      fit = fits.clients.found key.server l key.invoke_id server_at
+
+      unheard : ((u : Ticket) → n.tickets key ≡ Some u → is_idle u.phase ≡ true) → IsClientTurn (stays a.clients) w.now a b o
+          → Goes links apart W x w w' made_net
+      unheard over t = subst (λ (m : Net). Goes links apart W x w w' m) (sym (hears_nothing x n p (n.tickets key) refl over))
+          (quiet w w' n h key.client a b o node' acts' t.performed (pairwise_none IsSent o.sends t.sends) (pairwise_none IsFinish o.ended t.ended) t.node)
+
+      goes : (k : ℕ) (t : Ticket) → value_at same_key q a.clients.slots ≡ Some (record { number = k; held = Open t })
+          → IsClientTurn (client_goes n.now a.clients q k t (client_gets context x.readable t apdu)) w.now a b o
+          → Goes links apart W x w w' made_net
+      goes k t found turn = subst (λ (m : Net). Goes links apart W x w w' m) (sym (ap (taken_by_client x n p) open_is))
+          (arrived w w' n h key.client a b o node' acts' turn.performed made turn.node
+          (with_distinct Client q (client_after n.now k t r) a.clients.slots fits.clients.distinct)
+          (each_with Client Known q (client_after n.now k t r) a.clients.slots
+          (each_at Client Known q (record { number = k; held = Open t }) a.clients.slots fits.clients.known found) fits.clients.known)
+          (client_acts n key t r)
+          (reacts links apart W x bound w n key l a.link fits.link server_at (λ y. value_at same_key y a.clients.slots)
+          (λ y. value_at same_key y made.slots) w.copies w.log n
+          (reached_none links apart W x w n h key.client a fits) h.linked k t found r
+          (λ is. gets_at_client W x bound n h.sound number p at young few down (λ choice octets. machine.Outcome.Rejects 0) t is)
+          (client_sends_own.gets context x.readable t apdu)
+          (with_same Client q (client_after n.now k t r) (record { number = k; held = Open t }) a.clients.slots found)
+          (λ y ne. with_other Client q y (client_after n.now k t r) a.clients.slots ne)
+          o.sends acts'.sent turn.sends
+          (subst (λ (tm : ℕ). Pairwise (IsCopied w.nodes tm key.client) o.sends acts'.sent) (sym h.now) acts'.copied)
+          o.ended acts'.between turn.ended acts'.ended))
+        where
+          Known : PeerKey → Client → Type 0
+          Known y z = IsKnown links apart y × (z.number < a.clients.asked)
+
+          open_is : n.tickets key ≡ Some t
+          open_is = (ticket_at n.now w.notes key.client (n.numbers key) k t (n.tickets key)
+              (subst (λ (y : Option Client). TicketFits n.now w.notes key.client (n.numbers key) y (n.tickets key)) found fit)).0
+
+          r : client.Reaction
+          r = client_gets context x.readable t apdu
+
+          made : ClientEnd
+          made = record (a.clients) { slots = with_value same_key q (client_after n.now k t r) a.clients.slots }
+
+      held : (k : ℕ) (y : Held) → value_at same_key q a.clients.slots ≡ Some (record { number = k; held = y })
+          → IsClientTurn (client_hears_held s x.readable n.now apdu a.clients q k y) w.now a b o
+          → Goes links apart W x w w' made_net
+      held k (Closed first) is turn = unheard
+          (λ u at. closed_idle n.now w.notes key.client (n.numbers key) k first u (subst (λ (y : Option Ticket).
+          TicketFits n.now w.notes key.client (n.numbers key) (Some (record { number = k; held = Closed first })) y) at
+          (subst (λ (y : Option Client). TicketFits n.now w.notes key.client (n.numbers key) y (n.tickets key)) is fit))) turn
+      held k (Open t) is turn = goes k t is turn
+
+      go : (found : Option Client) → value_at same_key q a.clients.slots ≡ found
+          → IsClientTurn (client_hears_at s x.readable n.now apdu a.clients q found) w.now a b o
+          → Goes links apart W x w w' made_net
+      go None is turn = unheard
+          (λ u at. ended_is_silent.unheld n.now u (sym (ap (is_key_held n.now) at)
+          ∙ subst (λ (y : Option Client). TicketFits n.now w.notes key.client (n.numbers key) y (n.tickets key)) is fit)) turn
+      go (Some v) is turn = held v.number v.held is turn

@@ -1,0 +1,223 @@
+-- A client's open tickets that go on, one after the other.
+use Rattle.std.proofs.Common.{◌≡◌, ℕ, ◌⊎◌, Bool, true, false, List, [], ◌∷◌, ◌++◌, map, Option, Some, None}
+use Rattle.std.proofs.Common.{refl, sym, ap, subst, inl, inr, ◌∙◌}
+use Rattle.bac_protocol.specs.Service as machine
+use Rattle.bac_protocol.specs.Service.{Octets}
+use Rattle.bac_protocol.specs.Wire.{Each}
+use Rattle.bac_protocol.specs.Own.{IsOfClient}
+use Rattle.bac_protocol.specs.Client as client
+use Rattle.bac_protocol.specs.Client.{Ticket, request_of, is_idle}
+use Rattle.bac_protocol.specs.Log as octets
+use Rattle.bac_protocol.specs.Log.{IsOrderly}
+use Rattle.bac_protocol.specs.Transaction.{Key, Rules, ended}
+use Rattle.bac_protocol.specs.World.{Net, client_acts, set_at, post_of}
+use Rattle.bac_protocol.specs.Claims.{IsBounded}
+use Rattle.bac_protocol.proofs.Keys.{set_same, set_other, decide_key}
+use Rattle.bac_slots.specs.Slots.{value_at}
+use Rattle.bac_ends.specs.Keys.{PeerKey, same_key}
+use Rattle.bac_ends.specs.Sends.{Datagram, Pairwise, IsSent, to_all}
+use Rattle.bac_ends.specs.Meanings.{Finish, IsFinish}
+use Rattle.bac_ends.specs.Ends.{Client, kept, open_unless, ended_with, client_after}
+use Rattle.bac_ends.specs.Ends.Held.{Open, Closed}
+use Rattle.bac_world.specs.Node.{Node}
+use Rattle.bac_world.specs.Once.{Fact, Stores, IsOnce, MayEnd}
+use Rattle.bac_world.specs.World.{World, Note, Copy, link_at, AreEnded, ask_of, newest, peer_at, IsCopied}
+use Rattle.bac_world.proofs.Machines.{Sound, orderly, asked_of}
+use Rattle.bac_world.proofs.Pairs.{pairwise_join}
+use Rattle.bac_world.proofs.Logs.{FactMeans, may_end, unended}
+use Rattle.bac_world.proofs.Bridge.{NodeFits, IsCopyOf, TicketFits, key_of, slot_key, copies_of}
+use Rattle.bac_world.proofs.Steps.{Over}
+
+-- A slot and its ticket.
+
+record IsOpen (s u : Ticket) : Type 0 where
+  same : s ≡ u
+  goes_on : is_idle u.phase ≡ false
+
+open_is : (s u : Ticket) → Open s ≡ kept u → IsOpen s u
+open_is s u e = go (is_idle u.phase) refl e
+  where
+    go : (b : Bool) → is_idle u.phase ≡ b → Open s ≡ open_unless b u → IsOpen s u
+    go true is e = absurd cc
+    go false is e = record { same = (let same : s ≡ u = cc in same); goes_on = is }
+
+-- the ticket of an open slot
+pub ticket_at : (now : ℕ) (notes : List Note) (i number k : ℕ) (t : Ticket) (o : Option Ticket)
+    → TicketFits now notes i number (Some (record { number = k; held = Open t })) o → (o ≡ Some t) × (ask_of i k notes ≡ Some number)
+ticket_at now notes i number k t None h = absurd h
+ticket_at now notes i number k t (Some u) h = let is = open_is t u h.held in (ap Some (sym is.same), h.noted is.goes_on)
+
+-- a slot that has closed is of a ticket that has ended
+pub closed_idle : (now : ℕ) (notes : List Note) (i number k first : ℕ) (u : Ticket)
+    → TicketFits now notes i number (Some (record { number = k; held = Closed first })) (Some u) → is_idle u.phase ≡ true
+closed_idle now notes i number k first u h = go (is_idle u.phase) refl h.held
+  where
+    go : (b : Bool) → is_idle u.phase ≡ b → Closed first ≡ open_unless b u → b ≡ true
+    go true is e = refl
+    go false is e = absurd cc
+
+-- What a node's client slots and the net have in common, while some have gone on: what is found in them, and all copies and facts by then.
+
+module _ (links : ℕ → Option Octets) (apart : (i j : ℕ) (l : Octets) → links i ≡ Some l → links j ≡ Some l → i ≡ j) (W : ℕ) (x : Rules) where
+  pub record Reached (w : World) (i : ℕ) (n : Net) (look : PeerKey → Option Client) (all : List Copy) (facts : List Fact) (m : Net) : Type 0 where
+    pub now : m.now ≡ n.now
+    pub asks : m.asks ≡ n.asks
+    pub entries : m.entries ≡ n.entries
+    pub noted : (key : Key) (t : Ticket) → m.tickets key ≡ Some t → newest key w.notes ≡ Some (m.numbers key)
+    pub found : (s : ℕ) (l : Octets) (id : ℕ) → links s ≡ Some l
+        → TicketFits n.now w.notes i (m.numbers (key_of i s id)) (look (slot_key l id)) (m.tickets (key_of i s id))
+    pub others : (j : ℕ) (a : Node) → (j ≡ i → ⊥) → NodeFits links apart x n.now w.notes n j a → NodeFits links apart x n.now w.notes m j a
+    pub posts : Pairwise (IsCopyOf links apart) m.posts all
+    pub log : Pairwise FactMeans m.log facts
+    pub once : (opening stores : Stores) → IsOnce opening w.log stores → IsOnce opening facts stores
+    pub sound : Sound x m
+
+  pub reached_none : (w : World) (n : Net) → Over links apart W x w n → (i : ℕ) (a : Node) → NodeFits links apart x n.now w.notes n i a
+      → Reached w i n (λ p. value_at same_key p a.clients.slots) w.copies w.log n
+  reached_none w n h i a fits = record {
+    now = refl;
+    asks = refl;
+    entries = refl;
+    noted = h.noted;
+    found = fits.clients.found;
+    others = λ j b ne f. f;
+    posts = h.posts;
+    log = h.log;
+    once = λ opening stores once. once;
+    sound = h.sound;
+  }
+
+  -- the same with what is found alike
+  pub reached_alike : (w : World) (i : ℕ) (n : Net) (look look' : PeerKey → Option Client) (copies : List Copy) (log : List Fact) (m : Net)
+      → ((q : PeerKey) → look q ≡ look' q) → Reached w i n look copies log m → Reached w i n look' copies log m
+  reached_alike w i n look look' copies log m same h = record {
+    now = h.now;
+    asks = h.asks;
+    entries = h.entries;
+    noted = h.noted;
+    found = λ s l id at. subst (λ (o : Option Client). TicketFits n.now w.notes i (m.numbers (key_of i s id)) o (m.tickets (key_of i s id)))
+        (same (slot_key l id)) (h.found s l id at);
+    others = h.others;
+    posts = h.posts;
+    log = h.log;
+    once = h.once;
+    sound = h.sound;
+  }
+
+  -- One open ticket goes on.
+
+  module _ (bound : IsBounded W x) (w : World) (n : Net) (key : Key) (l li : Octets) (from_at : links key.client ≡ Some li) (to_at : links key.server ≡ Some l)
+      (look look' : PeerKey → Option Client) (copies : List Copy) (log : List Fact) (m : Net) (h : Reached w key.client n look copies log m)
+      (linked : (k : ℕ) → link_at w.nodes k ≡ links k) (number : ℕ) (t : Ticket)
+      (there : look (slot_key l key.invoke_id) ≡ Some (record { number = number; held = Open t })) (r : client.Reaction)
+      (goes : m.tickets key ≡ Some t → Sound x (client_acts m key t r)) (own : Each (IsOfClient key.invoke_id) (client.sends_of r))
+      (here : look' (slot_key l key.invoke_id) ≡ Some (client_after n.now number t r))
+      (away : (q : PeerKey) → (slot_key l key.invoke_id ≡ q → ⊥) → look' q ≡ look q) where
+    abbrev q : PeerKey
+    q = slot_key l key.invoke_id
+
+    abbrev made : Option Ticket
+    made = Some (client.after m.now t r)
+
+    is : (m.tickets key ≡ Some t) × (ask_of key.client number w.notes ≡ Some (m.numbers key))
+    is = ticket_at n.now w.notes key.client (m.numbers key) number t (m.tickets key)
+        (subst (λ (o : Option Client). TicketFits n.now w.notes key.client (m.numbers key) o (m.tickets key)) there
+        (h.found key.server l key.invoke_id to_at))
+
+    sound : Sound x (client_acts m key t r)
+    sound = goes is.0
+
+    noted : (k : Key) (u : Ticket) → set_at m.tickets key made k ≡ Some u → ((key ≡ k) ⊎ (key ≡ k → ⊥)) → newest k w.notes ≡ Some (m.numbers k)
+    noted k u at (inl e) = subst (λ (y : Key). newest y w.notes ≡ Some (m.numbers y)) e (h.noted key t is.0)
+    noted k u at (inr ne) = h.noted k u (sym (set_other m.tickets key made k ne) ∙ at)
+
+    fit : TicketFits n.now w.notes key.client (m.numbers key) (look' q) (set_at m.tickets key made key)
+    fit = subst (λ (o : Option Client). TicketFits n.now w.notes key.client (m.numbers key) o (set_at m.tickets key made key)) (sym here)
+        (subst (λ (o : Option Ticket). TicketFits n.now w.notes key.client (m.numbers key) (Some (client_after n.now number t r)) o)
+        (sym (set_same m.tickets key made))
+        (record { held = ap (λ (tm : ℕ). kept (client.after tm t r)) (sym h.now); noted = λ f. is.1 }))
+
+    found : (s : ℕ) (l' : Octets) (id : ℕ) → links s ≡ Some l' → ((key ≡ key_of key.client s id) ⊎ (key ≡ key_of key.client s id → ⊥))
+        → TicketFits n.now w.notes key.client (m.numbers (key_of key.client s id)) (look' (slot_key l' id)) (set_at m.tickets key made (key_of key.client s id))
+    found s l' id at (inl e) =
+        let link : l ≡ l' = let f : Some l ≡ Some l' = sym to_at ∙ ap (λ (k : Key). links k.server) e ∙ at in cc in
+        let moved : TicketFits n.now w.notes key.client (m.numbers (key_of key.client s id)) (look' q) (set_at m.tickets key made (key_of key.client s id)) =
+        subst (λ (k : Key). TicketFits n.now w.notes key.client (m.numbers k) (look' q) (set_at m.tickets key made k)) e fit in
+        subst (λ (p : PeerKey). TicketFits n.now w.notes key.client (m.numbers (key_of key.client s id)) (look' p)
+        (set_at m.tickets key made (key_of key.client s id))) (λ j. slot_key (link j) (e j).invoke_id) moved
+    found s l' id at (inr ne) =
+        let other : q ≡ slot_key l' id → ⊥ = λ e.
+        let link : l ≡ l' = ap (λ (p : PeerKey). p.peer.link) e in
+        let node : key.server ≡ s = apart key.server s l' (to_at ∙ ap Some link) at in
+        ne (λ j. key_of key.client (node j) (e j).invoke_id) in
+        subst (λ (o : Option Client). TicketFits n.now w.notes key.client (m.numbers (key_of key.client s id)) o
+        (set_at m.tickets key made (key_of key.client s id))) (sym (away (slot_key l' id) other))
+        (subst (λ (o : Option Ticket). TicketFits n.now w.notes key.client (m.numbers (key_of key.client s id)) (look (slot_key l' id)) o)
+        (sym (set_other m.tickets key made (key_of key.client s id) ne)) (h.found s l' id at))
+
+    others : (j : ℕ) (a : Node) → (j ≡ key.client → ⊥) → NodeFits links apart x n.now w.notes m j a
+        → NodeFits links apart x n.now w.notes (client_acts m key t r) j a
+    others j a ne f = record {
+      settings = f.settings;
+      link = f.link;
+      clients = record {
+        distinct = f.clients.distinct;
+        known = f.clients.known;
+        found = λ s l' id at.
+            subst (λ (o : Option Ticket). TicketFits n.now w.notes j (m.numbers (key_of j s id)) (value_at same_key (slot_key l' id) a.clients.slots) o)
+            (sym (set_other m.tickets key made (key_of j s id) (λ e. ne (sym (ap (λ (k : Key). k.client) e))))) (f.clients.found s l' id at);
+      };
+      servers = record { distinct = f.servers.distinct; known = f.servers.known; found = f.servers.found };
+    }
+
+    -- its ending, if any, enters the log
+    record Ends (facts : List octets.Fact) (log' : List Fact) : Type 0 where
+      means : Pairwise FactMeans facts log'
+      once : (opening stores : Stores) → IsOnce opening w.log stores → IsOnce opening log' stores
+
+    ends : (o : Option machine.Ending) (fs : List Finish) (log' : List Fact) → Pairwise IsFinish (ended_with number t.ask.choice o) fs
+        → AreEnded w.notes key.client fs log log' → IsOrderly (ended (m.numbers key) o m.log) → Ends (ended (m.numbers key) o m.log) log'
+    ends None [] log' finished logged right = record {
+      means = subst (λ (lg : List Fact). Pairwise FactMeans m.log lg) (sym logged) h.log;
+      once = λ opening stores once. subst (λ (lg : List Fact). IsOnce opening lg stores) (sym logged) (h.once opening stores once);
+    }
+    ends None (f ∷ fs) log' finished logged right = absurd finished
+    ends (Some how) [] log' finished logged right = absurd finished
+    ends (Some how) (f ∷ g ∷ fs) log' finished logged right = absurd finished.1
+    ends (Some how) (f ∷ []) log' finished logged right =
+        let mine : ask_of key.client f.ticket w.notes ≡ Some (m.numbers key) =
+        ap (λ (k : ℕ). ask_of key.client k w.notes) finished.0.ticket ∙ is.1 in
+        let num : logged.0 ≡ m.numbers key = let e : Some logged.0 ≡ Some (m.numbers key) = sym logged.1 ∙ mine in cc in
+        let log_is : log' ≡ Fact.Ended (m.numbers key) f.how ∷ log = logged.2 ∙ ap (λ (k : ℕ). Fact.Ended k f.how ∷ log) num in
+        let may : MayEnd (m.numbers key) f.how log =
+        may_end (m.numbers key) key.client key.server (request_of t.ask) m.log log h.log right.2 (asked_of W x bound m h.sound key t is.0)
+        how f.how finished.0.how right.0 in
+        record {
+          means = subst (λ (lg : List Fact). Pairwise FactMeans (octets.Fact.Ended (m.numbers key) how ∷ m.log) lg) (sym log_is)
+              ((refl, (t.ask.choice, finished.0.how)), h.log);
+          once = λ opening stores once. subst (λ (lg : List Fact). IsOnce opening lg stores) (sym log_is)
+              (stores, (may, unended (m.numbers key) m.log log h.log right.1, λ node. refl), h.once opening stores once);
+        }
+
+    pub reacts : (ds : List Datagram) (cs : List Copy) → Pairwise IsSent (to_all (peer_at l) (client.sends_of r)) ds
+        → Pairwise (IsCopied w.nodes n.now key.client) ds cs
+        → (fs : List Finish) (log' : List Fact) → Pairwise IsFinish (ended_with number t.ask.choice (client.ending_of r)) fs
+        → AreEnded w.notes key.client fs log log'
+        → Reached w key.client n look' (copies ++ cs) log' (client_acts m key t r)
+    reacts ds cs sent copied fs log' finished logged =
+        let end = ends (client.ending_of r) fs log' finished logged (orderly W x bound (client_acts m key t r) sound) in
+        record {
+          now = h.now;
+          asks = h.asks;
+          entries = h.entries;
+          noted = λ k u at. noted k u at (decide_key key k);
+          found = λ s l' id at. found s l' id at (decide_key key (key_of key.client s id));
+          others = λ j a ne f. others j a ne (h.others j a ne f);
+          posts = pairwise_join (IsCopyOf links apart) m.posts (map (post_of key m.now) (client.sends_of r)) copies cs h.posts
+              (copies_of links apart w.nodes linked m.now true key key.client key.server li l
+              (record { between = (refl, refl); from = from_at; to = to_at }) (client.sends_of r) ds cs own sent
+              (subst (λ (tm : ℕ). Pairwise (IsCopied w.nodes tm key.client) ds cs) (sym h.now) copied));
+          log = end.means;
+          once = end.once;
+          sound = sound;
+        }

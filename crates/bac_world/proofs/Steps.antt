@@ -1,0 +1,109 @@
+-- A node's call keeps the bridge, where the net does the like.
+use Rattle.std.proofs.Common.{◌≡◌, ℕ, ◌⊎◌, Bool, true, false, List, [], ◌∷◌, ◌++◌, length, Option, Some, slice_get}
+use Rattle.std.proofs.Common.{nat_eq, refl, sym, ap, subst, inl, inr, ◌∙◌, arith}
+use Rattle.std.proofs.lemmas.Bool.Decides.{nat_tests}
+use Rattle.std.specs.Option.{option_map}
+use Rattle.bac_protocol.specs.Service.{Octets}
+use Rattle.bac_protocol.specs.Client.{Ticket}
+use Rattle.bac_protocol.specs.Transaction.{Key, Rules}
+use Rattle.bac_protocol.specs.World.{Net}
+use Rattle.bac_ends.specs.Sends.{Pairwise}
+use Rattle.bac_world.specs.Node.{Node, Outcome}
+use Rattle.bac_world.specs.Once.{Fact, Stores, AreSame, MayEnter, IsOnce}
+use Rattle.bac_world.specs.Once.Fact.{Asked, Performed, Ended}
+use Rattle.bac_world.specs.World.{World, Note, Copy, link_at, stores_of, IsWithNode, Acts, newest}
+use Rattle.bac_world.proofs.Machines.{Sound}
+use Rattle.bac_world.proofs.Logs.{FactMeans}
+use Rattle.bac_world.proofs.Bridge.{Bridge, NodeFits, IsCopyOf}
+
+pub decide_number : (i j : ℕ) → (i ≡ j) ⊎ (i ≡ j → ⊥)
+decide_number i j = go (nat_eq i j) refl
+  where
+    go : (b : Bool) → nat_eq i j ≡ b → (i ≡ j) ⊎ (i ≡ j → ⊥)
+    go true e = inl (grind (arith, nat_tests))
+    go false e = inr (λ is. grind (arith, nat_tests))
+
+-- Nodes.
+
+-- what all nodes have is the same, where the one that is another has it too
+same_with : {A : Type 0} (of : Node → A) (old new : List Node) (i : ℕ) (a b : Node) → IsWithNode old i b new → slice_get old i ≡ Some a → of b ≡ of a
+    → (j : ℕ) → option_map of (slice_get new j) ≡ option_map of (slice_get old j)
+same_with of old new i a b s at same j = go (decide_number j i)
+  where
+    go : ((j ≡ i) ⊎ (j ≡ i → ⊥)) → option_map of (slice_get new j) ≡ option_map of (slice_get old j)
+    go (inl is) = subst (λ (k : ℕ). option_map of (slice_get new k) ≡ option_map of (slice_get old k)) (sym is)
+        (ap (option_map of) s.here ∙ ap Some same ∙ sym (ap (option_map of) at))
+    go (inr ne) = ap (option_map of) (s.others j ne)
+
+pub linked_with : (links : ℕ → Option Octets) (old new : List Node) (i : ℕ) (a b : Node) → IsWithNode old i b new → slice_get old i ≡ Some a
+    → b.link ≡ a.link → ((j : ℕ) → link_at old j ≡ links j) → (j : ℕ) → link_at new j ≡ links j
+linked_with links old new i a b s at same linked j = same_with (λ (n : Node). n.link) old new i a b s at same j ∙ linked j
+
+pub stores_same : (old new : List Node) (i : ℕ) (a b : Node) → IsWithNode old i b new → slice_get old i ≡ Some a → b.store ≡ a.store
+    → AreSame (stores_of old) (stores_of new)
+stores_same old new i a b s at same j = same_with (λ (n : Node). n.store) old new i a b s at same j
+
+-- A log that is right with the stores is right with the same stores.
+
+enter_same : (f : Fact) (log : List Fact) (old new new' : Stores) → AreSame new new' → MayEnter f log old new → MayEnter f log old new'
+enter_same (Asked n c s r) log old new new' same h = (h.0, λ node. same node ∙ h.1 node)
+enter_same (Performed n r p) log old new new' same h = record {
+  client = h.client;
+  server = h.server;
+  store = h.store;
+  asked = h.asked;
+  first = h.first;
+  at = h.at;
+  reply = h.reply;
+  stores = λ node. same node ∙ h.stores node;
+}
+enter_same (Ended n how) log old new new' same h = (h.0, h.1, λ node. same node ∙ h.2 node)
+
+pub once_same : (opening : Stores) (log : List Fact) (stores stores' : Stores) → AreSame stores stores' → IsOnce opening log stores → IsOnce opening log stores'
+once_same opening [] stores stores' same h = λ node. same node ∙ h node
+once_same opening (f ∷ log) stores stores' same h = (h.0, enter_same f log h.0 stores stores' same h.1, h.2)
+
+-- The bridge after a node's call.
+
+module _ (links : ℕ → Option Octets) (apart : (i j : ℕ) (l : Octets) → links i ≡ Some l → links j ≡ Some l → i ≡ j) (W : ℕ) (x : Rules) where
+  abbrev pub Over : World → Net → Type 0
+  Over w n = Bridge links apart W x w n
+
+  abbrev pub Fits : World → Net → Net → ℕ → Node → Type 0
+  Fits w n m i a = NodeFits links apart x n.now w.notes m i a
+
+  -- the world goes on, and the bridge with it to that net, and the log stays right
+  pub record Goes (w w' : World) (m : Net) : Type 0 where
+    pub bridge : Over w' m
+    pub once : (opening : Stores) → IsOnce opening w.log (stores_of w.nodes) → IsOnce opening w'.log (stores_of w'.nodes)
+
+  abbrev pub Next : World → World → Type 0
+  Next w w' = (m : Net) × Goes w w' m
+
+  pub acts_over : (w w' : World) (n m : Net) → Over w n → (i : ℕ) (a b : Node) (o : Outcome) → slice_get w.nodes i ≡ Some a → (acts : Acts w i b o w')
+      → m.now ≡ n.now → m.asks ≡ n.asks → ((key : Key) (t : Ticket) → m.tickets key ≡ Some t → newest key w.notes ≡ Some (m.numbers key))
+      → b.link ≡ a.link
+      → Fits w n m i b
+      → ((j : ℕ) (c : Node) → (j ≡ i → ⊥) → Fits w n n j c → Fits w n m j c)
+      → Pairwise (IsCopyOf links apart) m.posts (w.copies ++ acts.sent)
+      → Pairwise FactMeans m.log w'.log
+      → Sound x m
+      → Over w' m
+  acts_over w w' n m h i a b o at acts now asks noted link here others posts log sound = record {
+    now = now ∙ h.now ∙ sym acts.now;
+    asks = asks ∙ h.asks ∙ sym (ap (λ (l : List Note). length l) acts.notes);
+    linked = linked_with links w.nodes w'.nodes i a b acts.nodes at link h.linked;
+    nodes = λ j c at'. subst (λ (t : ℕ). NodeFits links apart x t w'.notes m j c) (sym now)
+        (subst (λ (l : List Note). NodeFits links apart x n.now l m j c) (sym acts.notes) (fits j c at' (decide_number j i)));
+    noted = λ key t is. ap (newest key) acts.notes ∙ noted key t is;
+    posts = subst (λ (l : List Copy). Pairwise (IsCopyOf links apart) m.posts l) (sym acts.copies) posts;
+    log = log;
+    sound = sound;
+  }
+    where
+      fits : (j : ℕ) (c : Node) → slice_get w'.nodes j ≡ Some c → ((j ≡ i) ⊎ (j ≡ i → ⊥)) → Fits w n m j c
+      fits j c at' (inl is) =
+          let there : slice_get w'.nodes i ≡ Some c = subst (λ (k : ℕ). slice_get w'.nodes k ≡ Some c) is at' in
+          let same : b ≡ c = let e : Some b ≡ Some c = sym acts.nodes.here ∙ there in cc in
+          subst (λ (k : ℕ). Fits w n m k c) (sym is) (subst (λ (d : Node). Fits w n m i d) same here)
+      fits j c at' (inr ne) = others j c ne (h.nodes j c (sym (acts.nodes.others j ne) ∙ at'))

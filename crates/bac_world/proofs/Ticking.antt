@@ -1,0 +1,180 @@
+-- A node's tick.
+use Rattle.std.proofs.Common.{◌≡◌, ℕ, ◌<◌, List, ◌++◌, Option, Some, refl, sym, ap, subst, ◌∙◌, append_assoc}
+use Rattle.bac_protocol.specs.Context.{Settings, Context}
+use Rattle.bac_protocol.specs.Service.{Octets}
+use Rattle.bac_protocol.specs.Client.{Ticket}
+use Rattle.bac_protocol.specs.Server.{Entry, live_entry}
+use Rattle.bac_protocol.specs.Transaction.{Key, Rules}
+use Rattle.bac_protocol.specs.World.{Net}
+use Rattle.bac_protocol.specs.Claims.{IsBounded}
+use Rattle.bac_slots.specs.Slots.{value_at, in_order}
+use Rattle.bac_ends.specs.Keys.{PeerKey, peer_key_cmp, same_key}
+use Rattle.bac_ends.specs.Sends.{Send, Datagram, Pairwise, IsSent}
+use Rattle.bac_ends.specs.Meanings.{IsFinish}
+use Rattle.bac_ends.specs.Ends.{ClientSlot, ServerSlot, Client, Held, held_ticked, client_tick_sends, client_tick_ends, server_tick_sends, from_each}
+use Rattle.bac_ends.specs.Ends.{clients_tick, servers_tick}
+use Rattle.bac_ends.specs.Ends.Held.{Open, Closed}
+use Rattle.bac_world.specs.Node.{Node, Outcome, NodeTick}
+use Rattle.bac_world.specs.Once.{Fact, IsOnce}
+use Rattle.bac_world.specs.World.{World, Copy, stores_of, AreLogged, IsCopied, Ticks}
+use Rattle.bac_world.proofs.Slots.{changed, distinct_changed, distinct_in_order, each_changed, each_in_order, each_so}
+use Rattle.bac_world.proofs.Changes.{look, look_all, change_all}
+use Rattle.bac_world.proofs.Pairs.{IsSplit, pairwise_split}
+use Rattle.bac_world.proofs.Logs.{FactMeans}
+use Rattle.bac_world.proofs.Bridge.{IsKnown, IsCopyOf, TicketFits, key_of, slot_key}
+use Rattle.bac_world.proofs.Steps.{Over, Fits, Next, acts_over, once_same, stores_same}
+use Rattle.bac_world.proofs.Hearing.{Reached, reached_none, reached_alike}
+use Rattle.bac_world.proofs.ClientTick.{client_tick, folds}
+use Rattle.bac_world.proofs.ServerTick.{Served, entry_tick, serves}
+
+number_kept : (c : Context) (k : ℕ) (y : Held) → (held_ticked c k y).number ≡ k
+number_kept c k (Open t) = refl
+number_kept c k (Closed first) = refl
+
+module _ (links : ℕ → Option Octets) (apart : (i j : ℕ) (l : Octets) → links i ≡ Some l → links j ≡ Some l → i ≡ j) (W : ℕ) (x : Rules)
+    (bound : IsBounded W x) (w w' : World) (n : Net) (h : Over links apart W x w n) (i : ℕ) (step : Ticks w i w') where
+  abbrev a : Node
+  a = step.before
+
+  abbrev b : Node
+  b = step.after
+
+  abbrev o : Outcome
+  o = step.outcome
+
+  abbrev c : Settings
+  c = x.settings i
+
+  abbrev clients : List ClientSlot
+  clients = step.before.clients.slots
+
+  abbrev entries : List ServerSlot
+  entries = step.before.servers.slots
+
+  abbrev f : PeerKey → Client → Client
+  f = client_tick (x.settings i) n.now
+
+  abbrev g : PeerKey → Entry → Entry
+  g = entry_tick (x.settings i) n.now
+
+  fits : Fits links apart W x w n n i step.before
+  fits = h.nodes i step.before step.at
+
+  tick' : NodeTick n.now step.before step.after step.outcome
+  tick' = subst (λ (t : ℕ). NodeTick t a b o) (sym h.now) step.tick
+
+  node_is : step.after ≡ record (step.before) {
+    latest = n.now;
+    clients = record (step.before.clients) { slots = changed Client f clients };
+    servers = record (step.before.servers) { slots = changed Entry g entries };
+  }
+  node_is = subst (λ (y : Settings). b ≡ record a {
+    latest = n.now;
+    clients = (clients_tick y n.now a.clients).end;
+    servers = (servers_tick y n.now a.servers).end;
+  }) fits.settings tick'.node
+
+  abbrev client_sends : Settings → List Send
+  client_sends y = from_each (client_tick_sends y n.now) (in_order peer_key_cmp clients)
+
+  abbrev server_sends : Settings → List Send
+  server_sends y = from_each (server_tick_sends y n.now) (in_order peer_key_cmp entries)
+
+  ds : IsSplit IsSent (client_sends c) (server_sends c) step.outcome.sends
+  ds = pairwise_split IsSent (client_sends c) (server_sends c) o.sends
+      (subst (λ (y : Settings). Pairwise IsSent (client_sends y ++ server_sends y) o.sends) fits.settings tick'.sends)
+
+  cs : IsSplit (IsCopied w.nodes n.now i) ds.front ds.rest step.acts.sent
+  cs = pairwise_split (IsCopied w.nodes n.now i) ds.front ds.rest step.acts.sent
+      (subst (λ (z : List Datagram). Pairwise (IsCopied w.nodes n.now i) z step.acts.sent) ds.is
+      (subst (λ (t : ℕ). Pairwise (IsCopied w.nodes t i) o.sends step.acts.sent) (sym h.now) step.acts.copied))
+
+  -- first the client's slots
+  r : (m : Net) × Reached links apart W x w i n (λ q. value_at same_key q (changed Client f clients)) (w.copies ++ cs.front) step.acts.between m
+  r = folds links apart W x bound w n h i a.link fits.link (changed Client f clients) (in_order peer_key_cmp clients)
+      (distinct_in_order Client clients fits.clients.distinct)
+      (each_in_order Client (λ p v. IsKnown links apart p) clients
+      (each_so Client (λ p v. IsKnown links apart p × (v.number < a.clients.asked)) (λ p v. IsKnown links apart p) (λ p v y. y.0) clients fits.clients.known))
+      (change_all Client f clients fits.clients.distinct) w.copies w.log n
+      (reached_alike links apart W x w i n (λ q. value_at same_key q clients) (look Client f (changed Client f clients) (in_order peer_key_cmp clients))
+      w.copies w.log n (λ q. sym (look_all Client f clients fits.clients.distinct q)) (reached_none links apart W x w n h i a fits))
+      ds.front cs.front o.ended step.acts.between ds.first cs.first
+      (subst (λ (y : Settings). Pairwise IsFinish (from_each (client_tick_ends y n.now) (in_order peer_key_cmp clients)) o.ended) fits.settings tick'.ended)
+      step.acts.ended
+
+  start : Served links apart W x bound w n r.0 h.linked i a.link fits.link
+      (look Entry g (changed Entry g entries) (in_order peer_key_cmp entries)) (w.copies ++ cs.front) r.0
+  start = record {
+    now = r.1.now;
+    asks = refl;
+    numbers = refl;
+    tickets = refl;
+    log = refl;
+    entries = λ c' l id at. ap (live_entry n.now) (look_all Entry g entries fits.servers.distinct (slot_key l id)) ∙ fits.servers.found c' l id at
+        ∙ ap (λ (e : Key → Option Entry). live_entry n.now (e (key_of c' i id))) (sym r.1.entries);
+    others = λ j d ne y. y;
+    posts = r.1.posts;
+    sound = r.1.sound;
+  }
+
+  -- then the entries
+  s : (m : Net) × Served links apart W x bound w n r.0 h.linked i a.link fits.link (λ q. value_at same_key q (changed Entry g entries))
+      ((w.copies ++ cs.front) ++ cs.rest) m
+  s = serves links apart W x bound w n r.0 h.linked i a.link fits.link (changed Entry g entries) (in_order peer_key_cmp entries)
+      (distinct_in_order Entry entries fits.servers.distinct) (each_in_order Entry (λ p v. IsKnown links apart p) entries fits.servers.known)
+      (change_all Entry g entries fits.servers.distinct) (w.copies ++ cs.front) r.0 start ds.rest cs.rest ds.second cs.second
+
+  all_copies : (w.copies ++ cs.front) ++ cs.rest ≡ w.copies ++ step.acts.sent
+  all_copies = append_assoc w.copies cs.front cs.rest ∙ ap (λ (l : List Copy). w.copies ++ l) (sym cs.is)
+
+  log_is : w'.log ≡ step.acts.between
+  log_is = subst (λ d. AreLogged w.nodes w.notes i d step.acts.between w'.log) tick'.performed step.acts.logged
+
+  abbrev TicketFound : (Key → ℕ) → (Key → Option Ticket) → (s' : ℕ) → Octets → ℕ → Type 0
+  TicketFound numbers tickets s' l id =
+      TicketFits n.now w.notes i (numbers (key_of i s' id)) (value_at same_key (slot_key l id) (changed Client f clients)) (tickets (key_of i s' id))
+
+  made : Fits links apart W x w n s.0 i (record (step.before) {
+    latest = n.now;
+    clients = record (step.before.clients) { slots = changed Client f clients };
+    servers = record (step.before.servers) { slots = changed Entry g entries };
+  })
+  made = record {
+    settings = fits.settings;
+    link = fits.link;
+    clients = record {
+      distinct = distinct_changed Client f clients fits.clients.distinct;
+      known = each_changed Client f (λ p v. IsKnown links apart p × (v.number < a.clients.asked))
+          (λ p v y. (
+            y.0,
+            subst (λ (z : ℕ). z < a.clients.asked) (sym (number_kept (record { settings = c; invoke_id = p.invoke_id; now = n.now })
+                v.number v.held)) y.1,
+          )) clients fits.clients.known;
+      found = λ s' l id at. subst (λ (y : Key → ℕ). TicketFound y s.0.tickets s' l id) (sym s.1.numbers)
+          (subst (λ (y : Key → Option Ticket). TicketFound r.0.numbers y s' l id) (sym s.1.tickets) (r.1.found s' l id at));
+    };
+    servers = record {
+      distinct = distinct_changed Entry g entries fits.servers.distinct;
+      known = each_changed Entry g (λ p v. IsKnown links apart p) (λ p v y. y) entries fits.servers.known;
+      found = λ c' l id at. s.1.entries c' l id at;
+    };
+  }
+
+  pub tick_over : Next links apart W x w w'
+  tick_over = (
+    s.0,
+    record {
+      bridge = acts_over links apart W x w w' n s.0 h i a b o step.at step.acts (s.1.now) (s.1.asks ∙ r.1.asks)
+          (λ key t is. r.1.noted key t (ap (λ y. y key) (sym s.1.tickets) ∙ is) ∙ ap Some (ap (λ y. y key) (sym s.1.numbers)))
+          (ap (λ (d : Node). d.link) node_is)
+          (subst (λ (d : Node). Fits links apart W x w n s.0 i d) (sym node_is) made)
+          (λ j d ne y. s.1.others j d ne (r.1.others j d ne y))
+          (subst (λ (l : List Copy). Pairwise (IsCopyOf links apart) s.0.posts l) all_copies s.1.posts)
+          (subst (λ (lg : List Fact). Pairwise FactMeans s.0.log lg) (sym log_is)
+          (subst (λ lg. Pairwise FactMeans lg step.acts.between) (sym s.1.log) r.1.log))
+          s.1.sound;
+      once = λ opening once. subst (λ (lg : List Fact). IsOnce opening lg (stores_of w'.nodes)) (sym log_is)
+          (once_same opening step.acts.between (stores_of w.nodes) (stores_of w'.nodes)
+          (stores_same w.nodes w'.nodes i a b step.acts.nodes step.at (ap (λ (d : Node). d.store) node_is)) (r.1.once opening (stores_of w.nodes) once));
+    },
+  )

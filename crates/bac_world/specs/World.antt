@@ -1,0 +1,264 @@
+-- Nodes, with one list of the copies of their datagrams and one log.
+use Rattle.std.specs.Prelude.{◌≡◌, ◌≢◌, ◌⊎◌, ℕ, zero, suc, ◌+◌, ◌-◌, ◌*◌, ◌≤◌, Bool, true, false, ◌&&◌, List, [], ◌∷◌, ◌++◌, length, Option, Some, None}
+use Rattle.std.specs.Prelude.{slice_get, if◌then◌else◌, nat_eq, nat_le}
+use Rattle.std.specs.Option.{option_map}
+use Rattle.bac_apdu.specs.Apdu.{Apdu, Limits}
+use Rattle.bac_apdu.specs.Spelling.{SpellsApdu}
+use Rattle.bac_npdu.specs.Peers.{PeerView}
+use Rattle.bac_npdu.specs.Datagram.{Means}
+use Rattle.bac_service.specs.Values.{Request}
+use Rattle.bac_protocol.specs.declared.times.TheConstants.{LIFE}
+use Rattle.bac_protocol.specs.Service.{Octets}
+use Rattle.bac_protocol.specs.Wire.{is_from_client}
+use Rattle.bac_protocol.specs.Own.{invoke_id_of}
+use Rattle.bac_protocol.specs.Transaction.{Key}
+use Rattle.bac_protocol.specs.World.{same_key}
+use Rattle.bac_ends.specs.Sends.{Datagram, Pairwise}
+use Rattle.bac_ends.specs.Meanings.{Finish}
+use Rattle.bac_ends.specs.Ends.{Accepted}
+use Rattle.bac_world.specs.Services as service
+use Rattle.bac_world.specs.Node.{Node, Outcome, Refusal, NodeOn, NodeTick, NodeAsks, NodeRefuses}
+use Rattle.bac_world.specs.Once.{Fact, Stores}
+use Rattle.bac_world.specs.Once.Fact.{Asked, Performed, Ended}
+
+-- a datagram that was sent: at that moment, from that node to that one, in that transaction
+pub record Copy : Type 0 where
+  pub moment : ℕ
+  pub from : ℕ
+  pub to : ℕ
+  pub key : Key
+  pub octets : Octets
+
+-- what is noted of an accepted ask: its transaction, and its client's ticket; its number is how many were noted before
+pub record Note : Type 0 where
+  pub key : Key
+  pub ticket : ℕ
+
+pub record World : Type 0 where
+  pub nodes : List Node  -- numbered from 0
+  pub now : ℕ  -- in milliseconds
+  pub copies : List Copy  -- oldest first, numbered from 0
+  pub log : List Fact  -- newest first
+  pub notes : List Note  -- newest first
+
+-- Nodes.
+
+abbrev pub link_at : List Node → ℕ → Option Octets
+link_at nodes i = option_map (λ (n : Node). n.link) (slice_get nodes i)
+
+abbrev pub stores_of : List Node → Stores
+stores_of nodes i = option_map (λ (n : Node). n.store) (slice_get nodes i)
+
+-- the peer that is a node at that link
+abbrev pub peer_at : Octets → PeerView
+peer_at link = record { link = link; route = None }
+
+-- that node is another one now, and all others are as they were
+pub record IsWithNode (old : List Node) (i : ℕ) (node : Node) (new : List Node) : Type 0 where
+  pub here : slice_get new i ≡ Some node
+  pub others : (j : ℕ) → j ≢ i → slice_get new j ≡ slice_get old j
+
+-- Notes.
+
+-- the newest ask of a transaction
+abbrev pub newest : Key → List Note → Option ℕ
+newest key [] = None
+newest key (n ∷ notes) = if same_key n.key key then Some (length notes) else newest key notes
+
+-- the ask of a node's ticket
+abbrev pub ask_of : (client ticket : ℕ) → List Note → Option ℕ
+ask_of client ticket [] = None
+ask_of client ticket (n ∷ notes) = if nat_eq n.key.client client && nat_eq n.ticket ticket then Some (length notes) else ask_of client ticket notes
+
+-- Copies.
+
+-- the client of a transaction sends its requests, and SegmentACKs and Aborts with SRV 0; all others come from its server (clause 20.1)
+abbrev pub transaction_of : (from to : ℕ) → Apdu → Key
+transaction_of from to a =
+    if is_from_client a
+    then record { client = from; server = to; invoke_id = invoke_id_of a }
+    else record { client = to; server = from; invoke_id = invoke_id_of a }
+
+-- the copy means an APDU of its transaction
+pub record IsOfTransaction (nodes : List Node) (c : Copy) : Type 0 where
+  pub link : Octets
+  pub sender : link_at nodes c.from ≡ Some link
+  pub peer : PeerView
+  pub apdu : Apdu
+  pub means : Means SpellsApdu link c.octets peer apdu
+  pub key : c.key ≡ transaction_of c.from c.to apdu
+
+-- a datagram that a node sends becomes that copy
+pub record IsCopied (nodes : List Node) (now sender : ℕ) (d : Datagram) (c : Copy) : Type 0 where
+  pub moment : c.moment ≡ now
+  pub from : c.from ≡ sender
+  pub to : link_at nodes c.to ≡ Some d.to
+  pub octets : c.octets ≡ d.octets
+  pub transaction : IsOfTransaction nodes c
+
+-- how many of these are the transaction's
+abbrev pub count_of : Key → List Copy → ℕ
+count_of key [] = 0
+count_of key (c ∷ copies) = if same_key c.key key then suc (count_of key copies) else count_of key copies
+
+-- how many members of the list after that one are the transaction's
+abbrev pub later : Key → ℕ → List Copy → ℕ
+later key number [] = 0
+later key zero (c ∷ copies) = count_of key copies
+later key (suc number) (c ∷ copies) = later key number copies
+
+-- a copy is deliverable while it is young and not overtaken by too many of its transaction (own rule of this profile)
+abbrev pub is_deliverable : (overtake now number : ℕ) → List Copy → Copy → Bool
+is_deliverable overtake now number copies c = nat_le (now - c.moment) LIFE && nat_le (later c.key number copies) overtake
+
+-- What a node's call does to the world.
+
+-- each ending enters the log, with the number noted for its ticket
+abbrev pub AreEnded : List Note → (node : ℕ) → List Finish → (old new : List Fact) → Type 0
+AreEnded notes node [] old new = new ≡ old
+AreEnded notes node (f ∷ fs) old new = (n : ℕ) × (ask_of node f.ticket notes ≡ Some n) × AreEnded notes node fs (Ended n f.how ∷ old) new
+
+-- what was performed enters it, with the number of the newest ask of its client, this node and its invoke ID
+pub record IsLogged (nodes : List Node) (notes : List Note) (node : ℕ) (p : service.Performed) (old new : List Fact) : Type 0 where
+  pub client : ℕ
+  pub number : ℕ
+  pub link : link_at nodes client ≡ Some p.key.peer.link
+  pub noted : newest (record { client = client; server = node; invoke_id = p.key.invoke_id }) notes ≡ Some number
+  pub log : new ≡ Performed number p.request p.reply ∷ old
+
+abbrev pub AreLogged : List Node → List Note → (node : ℕ) → Option service.Performed → (old new : List Fact) → Type 0
+AreLogged nodes notes node None old new = new ≡ old
+AreLogged nodes notes node (Some p) old new = IsLogged nodes notes node p old new
+
+-- the node is another one, what it sends becomes copies, its endings and what it performed enter the log, and nothing else changes
+pub record Acts (old : World) (i : ℕ) (node : Node) (o : Outcome) (new : World) : Type 0 where
+  pub nodes : IsWithNode old.nodes i node new.nodes
+  pub now : new.now ≡ old.now
+  pub notes : new.notes ≡ old.notes
+  pub sent : List Copy
+  pub copies : new.copies ≡ old.copies ++ sent
+  pub copied : Pairwise (IsCopied old.nodes old.now i) o.sends sent
+  pub between : List Fact
+  pub ended : AreEnded old.notes i o.ended old.log between
+  pub logged : AreLogged old.nodes old.notes i o.performed between new.log
+
+-- a node hears a datagram
+pub record Hears (old : World) (i : ℕ) (from octets : Octets) (new : World) : Type 0 where
+  pub before : Node
+  pub at : slice_get old.nodes i ≡ Some before
+  pub after : Node
+  pub outcome : Outcome
+  pub on : NodeOn old.now from octets before after outcome
+  pub acts : Acts old i after outcome new
+
+-- Events.
+
+pub data Event : Type 0 where
+  Ask : (client server : ℕ) (limits : Limits) (request : Request) → Event
+  Deliver : (number : ℕ) → Event
+  Noise : (node : ℕ) (from octets : Octets) → Event
+  Tick : (node : ℕ) → Event
+  Advance : (by : ℕ) → Event
+
+-- an accepted ask: it is noted, and enters the log with the next number
+pub record IsAsked (old : World) (client server : ℕ) (limits : Limits) (r : Request) (new : World) : Type 0 where
+  pub before : Node
+  pub at : slice_get old.nodes client ≡ Some before
+  pub link : Octets
+  pub peer : link_at old.nodes server ≡ Some link
+  pub after : Node
+  pub accepted : Accepted
+  pub sends : List Datagram
+  pub asks : NodeAsks old.now (peer_at link) limits r before after accepted sends
+  pub nodes : IsWithNode old.nodes client after new.nodes
+  pub now : new.now ≡ old.now
+  pub sent : List Copy
+  pub copies : new.copies ≡ old.copies ++ sent
+  pub copied : Pairwise (IsCopied old.nodes old.now client) sends sent
+  pub notes : new.notes
+      ≡ record { key = record { client = client; server = server; invoke_id = accepted.invoke_id }; ticket = accepted.ticket } ∷ old.notes
+  pub log : new.log ≡ Asked (length old.notes) client server r ∷ old.log
+
+-- a refused one changes nothing
+pub record IsRefused (old : World) (client server : ℕ) (limits : Limits) (r : Request) (new : World) : Type 0 where
+  pub node : Node
+  pub at : slice_get old.nodes client ≡ Some node
+  pub link : Octets
+  pub peer : link_at old.nodes server ≡ Some link
+  pub refusal : Refusal
+  pub why : NodeRefuses old.now (peer_at link) limits r node refusal
+  pub same : new ≡ old
+
+-- a copy is delivered to its node, where it is deliverable; otherwise it is lost
+pub record Delivers (old : World) (c : Copy) (new : World) : Type 0 where
+  pub link : Octets
+  pub sender : link_at old.nodes c.from ≡ Some link
+  pub hears : Hears old c.to link c.octets new
+
+abbrev pub DeliversIf : Bool → World → Copy → World → Type 0
+DeliversIf true old c new = Delivers old c new
+DeliversIf false old c new = new ≡ old
+
+pub record IsDelivered (overtake : ℕ) (old : World) (number : ℕ) (new : World) : Type 0 where
+  pub copy : Copy
+  pub there : slice_get old.copies number ≡ Some copy
+  pub goes : DeliversIf (is_deliverable overtake old.now number old.copies copy) old copy new
+
+-- noise: octets that mean no APDU of a peer, from a link of no node
+pub record IsNoise (nodes : List Node) (from octets : Octets) : Type 0 where
+  pub foreign : (j : ℕ) → link_at nodes j ≢ Some from
+  pub meaningless : (peer : PeerView) (a : Apdu) → Means SpellsApdu from octets peer a → ⊥
+
+-- it is heard
+pub record HearsNoise (old : World) (i : ℕ) (from octets : Octets) (new : World) : Type 0 where
+  pub noise : IsNoise old.nodes from octets
+  pub hears : Hears old i from octets new
+
+-- other octets are lost: only nodes send what means something
+pub record LosesOctets (old : World) (i : ℕ) (from octets : Octets) (new : World) : Type 0 where
+  pub node : Node
+  pub at : slice_get old.nodes i ≡ Some node
+  pub no_noise : IsNoise old.nodes from octets → ⊥
+  pub same : new ≡ old
+
+pub record Ticks (old : World) (i : ℕ) (new : World) : Type 0 where
+  pub before : Node
+  pub at : slice_get old.nodes i ≡ Some before
+  pub after : Node
+  pub outcome : Outcome
+  pub tick : NodeTick old.now before after outcome
+  pub acts : Acts old i after outcome new
+
+abbrev pub WorldStep : (overtake : ℕ) → World → Event → World → Type 0
+WorldStep overtake old (Ask client server limits r) new = IsAsked old client server limits r new ⊎ IsRefused old client server limits r new
+WorldStep overtake old (Deliver number) new = IsDelivered overtake old number new
+WorldStep overtake old (Noise node from octets) new = HearsNoise old node from octets new ⊎ LosesOctets old node from octets new
+WorldStep overtake old (Tick node) new = Ticks old node new
+WorldStep overtake old (Advance by) new = new ≡ record old { now = old.now + by }
+
+abbrev pub WorldRun : (overtake : ℕ) → World → List Event → World → Type 0
+WorldRun overtake old [] new = new ≡ old
+WorldRun overtake old (e ∷ es) new = (u : World) × WorldStep overtake old e u × WorldRun overtake u es new
+
+-- Worlds at their beginning.
+
+pub record IsFreshNode (n : Node) : Type 0 where
+  pub latest : n.latest ≡ 0
+  pub slots : n.clients.slots ≡ []
+  pub asked : n.clients.asked ≡ 0
+  pub entries : n.servers.slots ≡ []
+
+-- no two nodes have one link, and nothing has happened
+pub record IsFresh (w : World) : Type 0 where
+  pub nodes : (i : ℕ) (n : Node) → slice_get w.nodes i ≡ Some n → IsFreshNode n
+  pub apart : (i j : ℕ) (l : Octets) → link_at w.nodes i ≡ Some l → link_at w.nodes j ≡ Some l → i ≡ j
+  pub now : w.now ≡ 0
+  pub copies : w.copies ≡ []
+  pub log : w.log ≡ []
+  pub notes : w.notes ≡ []
+
+-- all windows are at most W, and few enough later copies may overtake one
+pub record IsBounded (W overtake : ℕ) (w : World) : Type 0 where
+  pub some : 1 ≤ W
+  pub windows : (i : ℕ) (n : Node) → slice_get w.nodes i ≡ Some n → n.settings.window ≤ W
+  pub room : overtake + 2 * W ≤ 255

@@ -1,0 +1,18 @@
+//! Nodes that exchange datagrams, and a log of what was asked, performed and answered, as values: what holds of every run.
+//!
+//! The definitions stand in `specs/`. The functions here have no body: each carries a law as its contract.
+#![tactic(auto)]
+
+pub mod examples;
+pub mod node;
+
+ghost use Rattle.std.specs.Prelude.{ℕ, List};
+ghost use Rattle.bac_world.specs.Once.{IsOnce};
+ghost use Rattle.bac_world.specs.World.{World, Event, WorldRun, IsFresh, IsBounded, stores_of};
+
+/// After every run of a fresh world each accepted ask takes effect at most once, and exactly once where a service answer reached its client; the
+/// request performed and the answer are its own, whole; and each server's store is its opening store after the performed requests in their order.
+pub fn at_most_once()
+    ensures { (W overtake : ℕ) (w w' : World) → IsFresh w → IsBounded W overtake w → (events : List Event) → WorldRun overtake w events w'
+        → IsOnce (stores_of w.nodes) w'.log (stores_of w'.nodes) }
+{}
