@@ -105,6 +105,11 @@ fn answers_properties(rt: HostRuntime) -> Result<(), Fail> {
             "30060C0C02000001194D3E750600686F7573653F",
         ),
         ("0005070C0C02800001192A", "30070C0C02800001192A3E21023F"),
+        // the longest value
+        (
+            "0005080C0C00800001194D",
+            "30080C0C00800001194D3E750900736574706F696E743F",
+        ),
         ("0005070C0C00800001191C", "30070C0C00800001191C3E71003F"),
         // written, whatever the priority
         ("0004590F0C0080000119553E44433400003F", "20590F"),
@@ -205,7 +210,11 @@ fn each_datagram_has_its_own_house(rt: HostRuntime) -> Result<(), Fail> {
 #[test]
 fn answers_nothing_else(rt: HostRuntime) -> Result<(), Fail> {
     let table = [
+        // fronts of a BVLL
         "",
+        "81",
+        "810A",
+        "810A00",
         // a SimpleACK, an unconfirmed request, a segment
         "810A0009010020010F",
         "810A000801001008",
@@ -221,14 +230,33 @@ fn answers_nothing_else(rt: HostRuntime) -> Result<(), Fail> {
     Ok(())
 }
 
+/// Each front of a request, as it is, and with its own length in the BVLL. From 10 octets on that is a request of
+/// ReadProperty without its members: its Reject has reason 5 (missing required parameter).
 #[test]
-fn proper_fronts_are_not_answered(rt: HostRuntime) -> Result<(), Fail> {
-    let datagram = "810A001101040005010C0C000000051955".as_bytes();
-    for end in 0..datagram.len() {
-        if end % 2 == 0 {
-            let front = std::str::from_utf8(&datagram[..end])?;
-            answers(&rt, rt.alloc(), front, "none")?;
-        }
+fn answers_fronts_by_their_length(rt: HostRuntime) -> Result<(), Fail> {
+    let mut rest = String::new(rt.alloc());
+    let table = [
+        ("", "none"),
+        ("01", "none"),
+        ("04", "none"),
+        ("00", "none"),
+        ("05", "none"),
+        ("01", "none"),
+        ("0C", "810A00090100600105"),
+        ("0C", "810A00090100600105"),
+        ("00", "810A00090100600105"),
+        ("00", "810A00090100600105"),
+        ("00", "810A00090100600105"),
+        ("05", "810A00090100600105"),
+        ("19", "810A00090100600105"),
+    ];
+    for (octet, answer) in table {
+        rest.push_str(octet)?;
+        let front = format!(in rt.alloc(); "810A0011{rest}")?;
+        answers(&rt, rt.alloc(), front.as_str(), "none")?;
+        let len = front.len() / 2;
+        let mended = format!(in rt.alloc(); "810A{len:04X}{rest}")?;
+        answers(&rt, rt.alloc(), mended.as_str(), answer)?;
     }
     Ok(())
 }
@@ -271,6 +299,20 @@ impl OpenFiles for OneFile {
     }
 }
 
+/// What the program prints for these words, and how it ends.
+fn runs(alloc: Global, line: &str, files: OneFile) -> Result<Printed, Fail> {
+    let mut words = vec![in alloc; String::from_str(alloc, "bac")?]?;
+    for word in line.split(' ') {
+        if !word.is_empty() {
+            words.push(String::from_str(alloc, word)?)?;
+        }
+    }
+    let mut out = Vec::new(alloc);
+    let mut err = Vec::new(alloc);
+    let status = run(alloc, &words, &files, &mut out, &mut err);
+    Ok(Printed { status, out, err })
+}
+
 /// Each command, with good and with bad words: what it prints, what it complains of, and its exit status.
 #[test]
 fn runs_commands(rt: HostRuntime) -> Result<(), Fail> {
@@ -309,54 +351,78 @@ fn runs_commands(rt: HostRuntime) -> Result<(), Fail> {
         (good, "check starved", "", "no memory\n", 4),
     ];
     for (files, line, lines, complaint, status) in table {
-        let mut words = vec![in rt.alloc(); String::from_str(rt.alloc(), "bac")?]?;
-        for word in line.split(' ') {
-            words.push(String::from_str(rt.alloc(), word)?)?;
-        }
-        let mut out = Vec::new(rt.alloc());
-        let mut err = Vec::new(rt.alloc());
-        let ended = run(rt.alloc(), &words, &files, &mut out, &mut err);
-        assert_eq!(rt; ended.code(), status, "{line}");
-        assert_eq!(rt; out.as_slice(), lines.as_bytes(), "{line}");
-        assert_eq!(rt; err.as_slice(), complaint.as_bytes(), "{line}");
+        let ended = runs(rt.alloc(), line, files)?;
+        assert_eq!(rt; ended.status.code(), status, "{line}");
+        assert_eq!(rt; ended.out.as_slice(), lines.as_bytes(), "{line}");
+        assert_eq!(rt; ended.err.as_slice(), complaint.as_bytes(), "{line}");
     }
     Ok(())
 }
 
-/// Words of no form are told with clap's text, and the output stays empty.
+/// Words of no form, and words that ask for help, are told with a text on standard error, and the output stays empty.
 #[test]
-fn refuses_words_of_no_form(rt: HostRuntime) -> Result<(), Fail> {
-    let files = OneFile { text: b"" };
-    for line in [
-        "bac",
-        "bac other",
-        "bac answer",
-        "bac decode",
-        "bac check",
-        "bac answer 00 00",
-    ] {
-        let mut words = Vec::new(rt.alloc());
-        for word in line.split(' ') {
-            words.push(String::from_str(rt.alloc(), word)?)?;
-        }
-        let mut out = Vec::new(rt.alloc());
-        let mut err = Vec::new(rt.alloc());
-        let ended = run(rt.alloc(), &words, &files, &mut out, &mut err);
-        assert_eq!(rt; ended.code(), 2, "{line}");
-        assert_eq!(rt; out.len(), 0, "{line}");
-        assert_eq!(rt; err.is_empty(), false, "{line}");
+fn tells_of_words_and_help(rt: HostRuntime) -> Result<(), Fail> {
+    let table = [
+        ("", "Usage: bac <COMMAND>"),
+        ("other", "other"),
+        ("answer", "<HEX>"),
+        ("decode", "<HEX>"),
+        ("check", "<FILE>"),
+        ("answer 00 00", "00"),
+        ("--help", "BACnet confirmed services, proved"),
+        ("answer --help", "Usage: bac answer <HEX>"),
+        ("decode --help", "Usage: bac decode <HEX>"),
+        ("check --help", "Usage: bac check <FILE>"),
+    ];
+    for (line, text) in table {
+        let ended = runs(rt.alloc(), line, OneFile { text: b"" })?;
+        assert_eq!(rt; ended.status.code(), 2, "{line}");
+        assert_eq!(rt; ended.out.len(), 0, "{line}");
+        let told = std::str::from_utf8(&ended.err)?;
+        assert!(rt; told.contains(text), "{line}: {told}");
     }
     Ok(())
 }
 
-/// The longest datagram, of an unrecognized service, is rejected; forty octets are appended to a file.
+/// The hexadecimal of so many octets of 0.
+fn zeros(alloc: Global, octets: usize) -> Result<String, Fail> {
+    let mut all = Vec::new(alloc);
+    all.resize(octets, 0u8)?;
+    Ok(hex::encode(alloc, all)?)
+}
+
+/// Long datagrams: three of the greatest length (an unrecognized service, a file that grows too long, a value that is too long), and
+/// one that makes a file as long as it may be.
 #[test]
-fn answers_the_longest_datagram(rt: HostRuntime) -> Result<(), Fail> {
-    let mut octets = vec![in rt.alloc(); 0u8; 65_535]?;
-    octets[..10].copy_from_slice(&[0x81, 0x0A, 0xFF, 0xFF, 0x01, 0x04, 0x00, 0x05, 0x07, 0x0E]);
-    let digits = hex::encode_upper(rt.alloc(), &octets)?;
-    answers(&rt, rt.alloc(), digits.as_str(), "810A00090100600709")?;
-    let forty = hex::encode_upper(rt.alloc(), vec![in rt.alloc(); 0xABu8; 40]?)?;
-    let apdu = format!(in rt.alloc(); "00050D07C4028000010E31FF6528{forty}0F")?;
-    answers_apdu(&rt, rt.alloc(), apdu.as_str(), "300D070902")
+fn answers_long_datagrams(rt: HostRuntime) -> Result<(), Fail> {
+    let table = [
+        (65_535, "0E", 65_525, "", "810A00090100600709"),
+        (
+            65_535,
+            "07C4028000010E310265FEFFE8",
+            65_512,
+            "0F",
+            "810A000D010050070791039114",
+        ),
+        (
+            65_535,
+            "0F0C00800001191C3E75FEFFE8",
+            65_512,
+            "3F",
+            "810A000D010050070F91039114",
+        ),
+        (
+            60_021,
+            "07C4028000010E31FF65FEEA5E",
+            59_998,
+            "0F",
+            "810A000B01003007070902",
+        ),
+    ];
+    for (len, front, count, back, answer) in table {
+        let zeros = zeros(rt.alloc(), count)?;
+        let datagram = format!(in rt.alloc(); "810A{len:04X}0104000507{front}{zeros}{back}")?;
+        answers(&rt, rt.alloc(), datagram.as_str(), answer)?;
+    }
+    Ok(())
 }

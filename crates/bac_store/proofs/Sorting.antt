@@ -28,7 +28,8 @@ module _ (o : thing.Object) (sorted : List listed.Property) (moved : IsPermutati
       twice (keys_permute number o.properties.items sorted moved (AllPairs-unmap property_view (λ p q. p.number ≢ q.number) o.properties.items r.distinct))
 
   pub sorts : (b : Bool) → IsTrue (is_right_id (object_view o).id) → length (value_spelling (characters 0 (object_view o).name)) ≤ VALUE_LIMIT
-      → IsTrue (is_right_file (object_view o).id.kind (object_view o).file) → AllPairs (λ (p : listed.Property) (q : listed.Property). p.number < q.number) sorted
+      → IsTrue (is_right_file (object_view o).id.kind (object_view o).file)
+      → AllPairs (λ (p : listed.Property) (q : listed.Property). p.number < q.number) sorted
       → (IsTrue b → All (λ p. IsTrue (is_right_property (object_view o).id.kind (property_view p))) sorted)
       → (All (λ p. IsTrue (is_right_property (object_view o).id.kind (property_view p))) sorted → IsTrue b)
       → SortsObject b (object_view o) (record (object_view o) { properties = map property_view sorted })

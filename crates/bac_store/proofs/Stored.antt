@@ -105,7 +105,8 @@ module _ (old sorted : List thing.Object) (moved : IsPermutation old sorted) whe
       let ids = AllPairs-unmap object_view (λ a b. a.id ≢ b.id) old apart in
       twice (keys_permute number old sorted moved (λ i j d l within e. ids i j d l within (same_id (get_or old i d).id (get_or old j d).id e)))
 
-  distinct : AllPairs (λ a b. object_number (object_identifier_view a.id) < object_number (object_identifier_view b.id)) sorted → AreDistinct (map object_view old)
+  distinct : AllPairs (λ a b. object_number (object_identifier_view a.id) < object_number (object_identifier_view b.id)) sorted
+      → AreDistinct (map object_view old)
   distinct rise =
       let numbers = keys_permute number sorted old (IsPermutation-sym old sorted moved) (apart_from_rise number sorted rise) in
       AllPairs-map object_view (λ a b. a.id ≢ b.id) old (λ i j d l within e. numbers i j d l within (ap object_number e))

@@ -7,7 +7,8 @@ ghost use Rattle.bac_service.specs.Views.{owned_reply_view, read_access_view};
 ghost use Rattle.bac_store.specs.Answers.{refused};
 ghost use Rattle.bac_store.specs.Changes.{is_done};
 ghost use Rattle.bac_store.specs.Limits.{FILE_LIMIT as FILE_MOST};
-ghost use Rattle.bac_store.specs.Replies.{file_read, is_no_write_start, octets_from, overwritten as overwritten_by, read_file_reply, write_start, write_stream_reply};
+ghost use Rattle.bac_store.specs.Replies.{file_read, is_no_write_start, octets_from, overwritten as overwritten_by, read_file_reply, write_start};
+ghost use Rattle.bac_store.specs.Replies.{write_stream_reply};
 ghost use Rattle.bac_store.specs.Views.{file_view};
 
 use crate::limits::FILE_LIMIT;

@@ -74,6 +74,20 @@ fn performs(
     Ok(right)
 }
 
+/// Performs requests by plans, one after the other; each gets the reply beside it.
+fn performs_all(
+    rt: &impl Abort,
+    alloc: Global,
+    store: &mut Store,
+    rows: &[(u8, &str, Want<'_>)],
+) -> Result<(), NoMemory> {
+    for (choice, text, want) in rows {
+        let right = performs(alloc, store, *choice, text, *want)?;
+        assert!(rt; right, "{choice} {text}");
+    }
+    Ok(())
+}
+
 /// Data of these octets.
 fn data_of(alloc: Global, octets: &[u8]) -> Result<DataBuf, Fail> {
     match read_data(octets) {
@@ -82,14 +96,33 @@ fn data_of(alloc: Global, octets: &[u8]) -> Result<DataBuf, Fail> {
     }
 }
 
-/// An object with a name and nothing else.
-fn named(alloc: Global, id: ObjectIdentifier) -> Result<Object, NoMemory> {
+/// A property of these octets, which can be written.
+fn property(alloc: Global, number: u32, octets: &[u8]) -> Result<Property, Fail> {
+    let values = data_of(alloc, octets)?;
+    Ok(Property {
+        number,
+        values,
+        writable: true,
+    })
+}
+
+/// An object with a name and these properties, and nothing else.
+fn listing(
+    alloc: Global,
+    id: ObjectIdentifier,
+    properties: Vec<Property>,
+) -> Result<Object, NoMemory> {
     Ok(Object {
         id,
         name: String::from_str(alloc, "bare")?,
-        properties: Vec::new(alloc),
+        properties,
         file: None,
     })
+}
+
+/// An object with a name and nothing else.
+fn named(alloc: Global, id: ObjectIdentifier) -> Result<Object, NoMemory> {
+    listing(alloc, id, Vec::new(alloc))
 }
 
 fn bare(alloc: Global, kind: u16, instance: u32) -> Result<Object, Fail> {
@@ -97,28 +130,36 @@ fn bare(alloc: Global, kind: u16, instance: u32) -> Result<Object, Fail> {
     Ok(named(alloc, id)?)
 }
 
-/// An object with one listed property, which can be written.
-fn with_property(alloc: Global, kind: u16, number: u32, values: DataBuf) -> Result<Object, Fail> {
-    let mut object = bare(alloc, kind, 1)?;
-    object.properties.push(Property {
-        number,
-        values,
-        writable: true,
-    })?;
-    Ok(object)
+/// An object with these properties.
+fn with_properties(alloc: Global, kind: u16, properties: Vec<Property>) -> Result<Object, Fail> {
+    let id = ObjectIdentifier::new(kind, 1).ok_or("no such identifier")?;
+    Ok(listing(alloc, id, properties)?)
+}
+
+/// An object with one property.
+fn with_property(alloc: Global, kind: u16, property: Property) -> Result<Object, Fail> {
+    let mut properties = Vec::new(alloc);
+    properties.push(property)?;
+    with_properties(alloc, kind, properties)
+}
+
+/// Whether an object can be a store; otherwise it is a bad one.
+fn is_right(alloc: Global, object: Object) -> Result<bool, Fail> {
+    let mut objects = Vec::new(alloc);
+    objects.push(object)?;
+    match Store::new(alloc, objects) {
+        Ok(_) => Ok(true),
+        Err(StoreFault::BadObject) => Ok(false),
+        Err(_) => Err(Fail::from("another fault")),
+    }
 }
 
 /// A store of one object.
-fn store_of(alloc: Global, object: Object) -> Result<Result<Store, StoreFault>, NoMemory> {
+fn store_of(alloc: Global, object: Object) -> Result<Store, Fail> {
     let mut objects = Vec::new(alloc);
     objects.push(object)?;
-    Ok(Store::new(alloc, objects))
-}
-
-/// None where a store is made, otherwise why not.
-fn fault_of(alloc: Global, object: Object) -> Result<Option<StoreFault>, NoMemory> {
-    match store_of(alloc, object)? {
-        Ok(_) => Ok(None),
-        Err(fault) => Ok(Some(fault)),
+    match Store::new(alloc, objects) {
+        Ok(store) => Ok(store),
+        Err(_) => Err(Fail::from("no store")),
     }
 }

@@ -98,7 +98,7 @@ module _ (c : Settings) (now : ℕ) (peer : PeerView) (choice : ℕ) (octets : O
 
 -- Slots and notes.
 
-abbrev holds : ℕ → Client → Bool
+abbrev pub holds : ℕ → Client → Bool
 holds now s = is_held now s.held
 
 -- a slot that is not held may go
@@ -119,7 +119,7 @@ free_ticket now notes i number None t h free = h
 free_ticket now notes i number (Some s) None h free = absurd h
 free_ticket now notes i number (Some s) (Some t) h free = sym (held_is now t) ∙ sym (ap (is_held now) h.held) ∙ free
 
-free_kept : (now : ℕ) (o : Option Client) → is_held_there now o ≡ false → keep (holds now) o ≡ None
+pub free_kept : (now : ℕ) (o : Option Client) → is_held_there now o ≡ false → keep (holds now) o ≡ None
 free_kept now None e = refl
 free_kept now (Some s) e = ap (λ b. if b then Some s else None) e
 

@@ -15,3 +15,7 @@ pub mod ServerTick
 pub mod Ticking
 pub mod Headline
 pub mod Computed
+pub mod NodeLaws
+pub mod Apart
+pub mod TickLaws
+pub mod Answered

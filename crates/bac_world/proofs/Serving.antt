@@ -145,7 +145,7 @@ module _ (links : ℕ → Option Octets) (apart : (i j : ℕ) (l : Octets) → l
           (subst (λ q. octets.Has (octets.Fact.Asked (n.numbers key) key.client key.server q) n.log) same (asked_of W x bound n h.sound key t is))
 
       request_is : asked.request ≡ d.request
-      request_is = one_request e.request.choice asked.request d.request e.request.service asked.spelled done.request
+      request_is = one_request e.request.choice asked.request d.request e.request.service asked.spelled done.what.request
 
       stores : (j : ℕ) → stores_of w'.nodes j ≡ (if nat_eq j key.server then Some (change.after a.store d.request) else stores_of w.nodes j)
       stores j = go (nat_eq j key.server) refl
@@ -167,14 +167,14 @@ module _ (links : ℕ → Option Octets) (apart : (i j : ℕ) (l : Octets) → l
         asked = subst (λ (r : Request). Has (Fact.Asked (n.numbers key) key.client key.server r) w.log) request_is asked.has;
         first = unperformed (n.numbers key) n.log w.log h.log right.1;
         at = ap (λ (o : Option Node). option_map (λ (m : Node). m.store) o) node;
-        reply = done.reply;
+        reply = done.what.reply;
         stores = stores;
       }
 
       performs_one : Logged w w' (performed (n.numbers key) (Some e) n.log)
       performs_one = record {
         log_means = subst (λ (lg : List Fact). Pairwise FactMeans (octets.Fact.Performed (n.numbers key) e.request e.reply ∷ n.log) lg) (sym log_is)
-            ((refl, done.request, done.means), h.log);
+            ((refl, done.what.request, done.what.means), h.log);
         once = λ opening once. subst (λ (lg : List Fact). IsOnce opening lg (stores_of w'.nodes)) (sym log_is) (stores_of w.nodes, performs, once);
       }
 

@@ -3,3 +3,7 @@ pub mod Node
 pub mod Once
 pub mod World
 pub mod Examples
+pub mod Laws
+pub mod Keys
+pub mod Ticks
+pub mod AnsweredRun

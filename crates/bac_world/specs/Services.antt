@@ -1,49 +1,23 @@
--- A store as the service of a node, and what was performed on it, as values.
-use Rattle.std.specs.Prelude.{◌≡◌, ℕ, Option, Some, None, Result, Ok, Err}
+-- What a node performed, as values, with the store as its service (bac_server's service_of).
+use Rattle.std.specs.Prelude.{◌≡◌, Option, Some, None}
 use Rattle.bac_service.specs.Values.{Request}
-use Rattle.bac_service.specs.Replies as plain
-use Rattle.bac_service.specs.Requests.{SpellsRequest}
-use Rattle.bac_service.specs.Services.{request_at}
-use Rattle.bac_service.specs.Spellings.{complex_spelling}
+use Rattle.bac_service.specs.Replies.{Reply}
 use Rattle.bac_store.specs.Stores.{Store}
-use Rattle.bac_store.specs.Replies.{reply_to}
 use Rattle.bac_store.specs.Changes.{after}
-use Rattle.bac_protocol.specs.Service as machine
-use Rattle.bac_protocol.specs.Service.{Outcome}
-use Rattle.bac_protocol.specs.Service.Outcome.{Replies, Rejects}
-use Rattle.bac_protocol.specs.Server.{Service}
+use Rattle.bac_server.specs.Services as server
 use Rattle.bac_ends.specs.Keys.{PeerKey}
 use Rattle.bac_ends.specs.Ends.{Act}
-use Rattle.bac_ends.specs.Meanings.{MeansReply}
-
--- a reply with its service data in octets (clause 21); a store never replies with a Reject
-abbrev pub outcome_of : plain.Reply → Outcome
-outcome_of plain.Reply.Simple = Replies machine.Reply.Simple
-outcome_of (plain.Reply.Complex c) = Replies (machine.Reply.Complex (complex_spelling c))
-outcome_of (plain.Reply.Error class code) = Replies (machine.Reply.Error class code)
-outcome_of (plain.Reply.Reject reason) = Rejects reason
-
--- a request gets the store's reply; octets that are none are rejected for the reason that reading them gives (clause 18.9)
-abbrev pub outcome_by : Store → Result Request ℕ → Outcome
-outcome_by s (Ok r) = outcome_of (reply_to s r)
-outcome_by s (Err reason) = Rejects reason
-
--- what a store makes of a service choice and service data
-abbrev pub service_of : Store → Service
-service_of s choice octets = outcome_by s (request_at choice octets)
 
 -- a request of a peer was performed, with that reply
 pub record Performed : Type 0 where
   pub key : PeerKey
   pub request : Request
-  pub reply : plain.Reply
+  pub reply : Reply
 
--- what the machine performed, as values: the request that its octets spell, with the store's reply, which its octets mean
+-- what the machine performed, as values
 pub record IsPerformed (s : Store) (a : Act) (p : Performed) : Type 0 where
   pub key : p.key ≡ a.key
-  pub request : SpellsRequest a.effect.request.choice p.request a.effect.request.service
-  pub reply : p.reply ≡ reply_to s p.request
-  pub means : MeansReply a.effect.request.choice a.effect.reply p.reply
+  pub what : server.IsPerformed s a.effect (record { request = p.request; reply = p.reply })
 
 -- at most one request is performed at once
 abbrev pub ArePerformed : Store → Option Act → Option Performed → Type 0

@@ -4,6 +4,7 @@
 #![tactic(auto)]
 
 pub mod examples;
+pub mod node;
 
 ghost use Rattle.std.specs.Prelude.{ℕ, List};
 ghost use Rattle.bac_world.specs.Once.{IsOnce};

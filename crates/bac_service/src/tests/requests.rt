@@ -144,6 +144,6 @@ const REASONS: &[(Reject, u8)] = &[
 #[test]
 fn numbers_the_reasons(rt: HostRuntime) {
     for (reject, number) in REASONS {
-        assert_eq!(rt; reject.reason(), *number, "{reject}");
+        assert_eq!(rt; reject.reason(), *number);
     }
 }

@@ -5,10 +5,10 @@ const WRITE: [u8; 14] = [
     0x0C, 0x00, 0x80, 0x00, 0x01, 0x19, 0x55, 0x3E, 0x44, 0x43, 0x34, 0x00, 0x00, 0x3F,
 ];
 
-/// The values of the only slot whose number is 85, of an object.
-fn present_value(store: &Store, place: usize) -> Option<&[u8]> {
+/// The values of the last property of an object: of analog-value 1 its present-value.
+fn last_values(store: &Store, place: usize) -> Option<&[u8]> {
     let entry = store.objects.get(place)?;
-    let slot = entry.slots.iter().find(|slot| slot.number == 85)?;
+    let slot = entry.slots.last()?;
     Some(slot.values.octets.as_slice())
 }
 
@@ -24,7 +24,7 @@ fn commits_without_memory(rt: HostRuntime) -> Result<(), Fail> {
     let plan = match store.prepare(rt.alloc(), &request) {
         Ok(plan) => plan,
         Err(NoMemory) => {
-            let kept = present_value(&store, 1) == Some([0x44, 0, 0, 0, 0].as_slice());
+            let kept = last_values(&store, 1) == Some([0x44, 0, 0, 0, 0].as_slice());
             assert!(rt; kept, "a refused plan");
             return Ok(());
         }
@@ -32,7 +32,7 @@ fn commits_without_memory(rt: HostRuntime) -> Result<(), Fail> {
     let simple = matches!(plan.reply(), AnyReply::Simple);
     assert!(rt; simple, "the reply");
     store.commit(plan);
-    let written = present_value(&store, 1) == Some([0x44, 0x43, 0x34, 0, 0].as_slice());
+    let written = last_values(&store, 1) == Some([0x44, 0x43, 0x34, 0, 0].as_slice());
     assert!(rt; written, "a committed plan");
     Ok(())
 }
@@ -53,10 +53,10 @@ fn copies_or_refuses(rt: HostRuntime) -> Result<(), Fail> {
     };
     if let Ok(plan) = store.prepare(rt.alloc(), &request) {
         store.commit(plan);
-        let written = present_value(&store, 1) == Some([0x44, 0x43, 0x34, 0, 0].as_slice());
+        let written = last_values(&store, 1) == Some([0x44, 0x43, 0x34, 0, 0].as_slice());
         assert!(rt; written, "the store");
     }
-    let kept = present_value(&copy, 1) == Some([0x44, 0, 0, 0, 0].as_slice());
+    let kept = last_values(&copy, 1) == Some([0x44, 0, 0, 0, 0].as_slice());
     assert!(rt; kept, "the copy");
     Ok(())
 }
@@ -83,18 +83,23 @@ fn tells_duplicates_without_memory(rt: HostRuntime) -> Result<(), Fail> {
     Ok(())
 }
 
-/// Two objects with these identifiers, each with one listed property.
+/// An object with one property.
+fn one_listed(alloc: Global, id: ObjectIdentifier) -> Result<Object, NoMemory> {
+    let values = crate::spelled::spelled(alloc, &Value::Unsigned(7))?;
+    let mut properties = Vec::new(alloc);
+    properties.push(Property {
+        number: 512,
+        values,
+        writable: false,
+    })?;
+    listing(alloc, id, properties)
+}
+
+/// Two objects with these identifiers, each with one property.
 fn two_objects(alloc: Global, ids: [ObjectIdentifier; 2]) -> Result<Vec<Object>, NoMemory> {
     let mut objects = Vec::with_capacity(alloc, 2)?;
     for id in ids {
-        let mut object = named(alloc, id)?;
-        let values = crate::spelled::spelled(alloc, &Value::Unsigned(7))?;
-        object.properties.push(Property {
-            number: 512,
-            values,
-            writable: false,
-        })?;
-        objects.push(object)?;
+        objects.push(one_listed(alloc, id)?)?;
     }
     Ok(objects)
 }
@@ -132,33 +137,25 @@ fn requests() -> [(u8, &'static [u8], Want<'static>); 5] {
     [
         (
             12,
-            &[0x0C, 0x02, 0x00, 0x00, 0x01, 0x19, 0x4D],
+            b"\x0C\x02\x00\x00\x01\x19\x4D",
             Want::Complex("0C02000001194D3E750600686F7573653F"),
         ),
         (
             12,
-            &[0x0C, 0x00, 0x00, 0x00, 0x05, 0x19, 0x55],
+            b"\x0C\x00\x00\x00\x05\x19\x55",
             Want::Complex("0C0000000519553E444290999A3F"),
         ),
         (
             6,
-            &[
-                0xC4, 0x02, 0x80, 0x00, 0x01, 0x0E, 0x31, 0x00, 0x21, 0x0A, 0x0F,
-            ],
+            b"\xC4\x02\x80\x00\x01\x0E\x31\x00\x21\x0A\x0F",
             Want::Complex("110E3100624F4B0F"),
         ),
         (
             7,
-            &[
-                0xC4, 0x02, 0x80, 0x00, 0x01, 0x0E, 0x31, 0xFF, 0x61, 0xAA, 0x0F,
-            ],
+            b"\xC4\x02\x80\x00\x01\x0E\x31\xFF\x61\xAA\x0F",
             Want::Complex("0902"),
         ),
-        (
-            12,
-            &[0x0C, 0x00, 0x00, 0x00, 0x09, 0x19, 0x55],
-            Want::Error(1, 31),
-        ),
+        (12, b"\x0C\x00\x00\x00\x09\x19\x55", Want::Error(1, 31)),
     ]
 }
 

@@ -1,31 +1,34 @@
 //! Which objects a store can have, and stores at their limits.
 use super::*;
 use bac_service::{
-    AnyComplex, AnyRequest, Content, FileWritten, PropertyReference, ReadAccess, ReadFile,
+    AnyComplex, AnyRequest, Content, FileWritten, PropertyReference, ReadAccess, ReadFile, Request,
     WriteAccess, WriteFile, WriteProperty, WriteStream,
 };
-
-/// Data of one octet string of so many octets.
-fn string_data(alloc: Global, len: usize) -> Result<DataBuf, Fail> {
-    let octets = vec![in alloc; 0x5A; len]?;
-    let string = bac_value::OctetString::new(octets).ok_or("too long")?;
-    let mut spelling = Vec::new(alloc);
-    write_value(&Value::OctetString(string), &mut spelling)?;
-    data_of(alloc, &spelling)
-}
+use bac_value::{CharacterString, OctetString};
 
 /// So many octets, all alike.
 fn octets_alike(alloc: Global, octet: u8, len: usize) -> Result<Vec<u8>, NoMemory> {
-    Ok(vec![in alloc; octet; len]?)
+    let mut octets = Vec::new(alloc);
+    octets.resize(len, octet)?;
+    Ok(octets)
+}
+
+/// A property of one octet string of so many octets.
+fn string_property(alloc: Global, len: usize) -> Result<Property, Fail> {
+    let string = OctetString::new(octets_alike(alloc, 0x5A, len)?).ok_or("too long")?;
+    let values = crate::spelled::spelled(alloc, &Value::OctetString(string))?;
+    Ok(Property {
+        number: 512,
+        values,
+        writable: true,
+    })
 }
 
 /// A file of so many octets.
-fn file_of(alloc: Global, len: usize) -> Result<Object, Fail> {
+fn file_of(alloc: Global, len: usize, writable: bool) -> Result<Object, Fail> {
+    let octets = octets_alike(alloc, 0x5A, len)?;
     let mut object = bare(alloc, 10, 1)?;
-    object.file = Some(File {
-        octets: octets_alike(alloc, 0x5A, len)?,
-        writable: true,
-    });
+    object.file = Some(File { octets, writable });
     Ok(object)
 }
 
@@ -45,221 +48,226 @@ fn takes_types_of_the_profile(rt: HostRuntime) -> Result<(), Fail> {
     ];
     for (kind, right) in rows {
         let object = bare(rt.alloc(), kind, 5)?;
-        let want = if right {
-            None
-        } else {
-            Some(StoreFault::BadObject)
-        };
-        assert_eq!(rt; fault_of(rt.alloc(), object)?, want, "type {kind}");
+        assert_eq!(rt; is_right(rt.alloc(), object)?, right, "type {kind}");
     }
     Ok(())
 }
 
 #[test]
 fn takes_instances_but_the_greatest(rt: HostRuntime) -> Result<(), Fail> {
-    let last = bare(rt.alloc(), 0, 4_194_302)?;
-    assert_eq!(rt; fault_of(rt.alloc(), last)?, None);
-    let any = bare(rt.alloc(), 0, 4_194_303)?;
-    assert_eq!(rt; fault_of(rt.alloc(), any)?, Some(StoreFault::BadObject));
+    for (instance, right) in [(4_194_302, true), (4_194_303, false)] {
+        let object = bare(rt.alloc(), 0, instance)?;
+        assert_eq!(rt; is_right(rt.alloc(), object)?, right, "{instance}");
+    }
     Ok(())
 }
 
+/// Whether three objects with these types are told to have a duplicate.
+fn has_duplicate(alloc: Global, kinds: [u16; 3]) -> Result<bool, Fail> {
+    let mut objects = Vec::new(alloc);
+    for kind in kinds {
+        objects.push(bare(alloc, kind, 5)?)?;
+    }
+    Ok(Store::new(alloc, objects).err() == Some(StoreFault::Duplicate))
+}
+
+/// Of two objects with one identifier, and before a type that is none.
 #[test]
 fn finds_duplicates_first(rt: HostRuntime) -> Result<(), Fail> {
-    let mut objects = Vec::new(rt.alloc());
-    for (kind, instance) in [(0, 5), (2, 5), (0, 5)] {
-        objects.push(bare(rt.alloc(), kind, instance)?)?;
-    }
-    assert_eq!(rt;
-        Store::new(rt.alloc(), objects).err(),
-        Some(StoreFault::Duplicate)
-    );
-    let mut objects = Vec::new(rt.alloc());
-    for (kind, instance) in [(7, 5), (2, 5), (7, 5)] {
-        objects.push(bare(rt.alloc(), kind, instance)?)?;
-    }
-    assert_eq!(rt;
-        Store::new(rt.alloc(), objects).err(),
-        Some(StoreFault::Duplicate)
-    );
+    assert!(rt; has_duplicate(rt.alloc(), [0, 2, 0])?);
+    assert!(rt; has_duplicate(rt.alloc(), [7, 2, 7])?);
+    assert!(rt; !has_duplicate(rt.alloc(), [0, 2, 7])?);
     Ok(())
+}
+
+/// Whether an object may list such a property.
+fn may_list(alloc: Global, kind: u16, number: u32, octets: &[u8]) -> Result<bool, Fail> {
+    let object = with_property(alloc, kind, property(alloc, number, octets)?)?;
+    is_right(alloc, object)
 }
 
 #[test]
 fn takes_properties_of_the_profile(rt: HostRuntime) -> Result<(), Fail> {
-    let rows: [(u16, u32, &[u8], bool); 20] = [
-        (0, 28, &[0x71, 0], true),
-        (0, 28, &[0x91, 0], false),
-        (0, 28, &[], false),
-        (0, 28, &[0x71, 0, 0x71, 0], false),
-        (0, 85, &[0x44, 0, 0, 0, 0], true),
-        (2, 85, &[0x44, 0, 0, 0, 0], true),
-        (0, 85, &[0x21, 0], false),
-        (2, 85, &[0x91, 0], false),
-        (5, 85, &[0x91, 0], true),
-        (5, 85, &[0x91, 1], true),
-        (5, 85, &[0x91, 2], false),
-        (5, 85, &[0x21, 1], false),
-        (8, 85, &[0x0E, 0x0F], true),
-        (0, 29, &[0x71, 0], false),
-        (0, 77, &[0x71, 0], false),
-        (0, 511, &[0x00], false),
-        (0, 512, &[0x00], true),
-        (0, 512, &[], true),
-        (0, 4_194_303, &[0x00], true),
-        (0, 4_194_304, &[0x00], false),
+    let rows = [
+        (0, 28, "7100", true),
+        (0, 28, "9100", false),
+        (0, 28, "", false),
+        (0, 28, "71007100", false),
+        (0, 85, "4400000000", true),
+        (2, 85, "4400000000", true),
+        (0, 85, "2100", false),
+        (2, 85, "9100", false),
+        (5, 85, "9100", true),
+        (5, 85, "9101", true),
+        (5, 85, "9102", false),
+        (5, 85, "2101", false),
+        (8, 85, "0E0F", true),
+        (0, 29, "7100", false),
+        (0, 77, "7100", false),
+        (0, 511, "00", false),
+        (0, 512, "00", true),
+        (0, 512, "", true),
+        (0, 4_194_303, "00", true),
+        (0, 4_194_304, "00", false),
     ];
-    for (kind, number, octets, right) in rows {
-        let values = data_of(rt.alloc(), octets)?;
-        let object = with_property(rt.alloc(), kind, number, values)?;
-        let want = if right {
-            None
-        } else {
-            Some(StoreFault::BadObject)
-        };
-        assert_eq!(rt; fault_of(rt.alloc(), object)?, want, "{kind} {number}");
+    for (kind, number, text, right) in rows {
+        let octets = octets_of(rt.alloc(), text)?;
+        let may = may_list(rt.alloc(), kind, number, &octets)?;
+        assert_eq!(rt; may, right, "{kind} {number} {text}");
     }
     Ok(())
 }
 
+/// An Unsigned of the last octet of a number.
+fn last_octet(number: u32) -> [u8; 2] {
+    let [_, _, _, low] = number.to_be_bytes();
+    [0x21, low]
+}
+
+/// An object with properties of these numbers, each with the last octet of its number as its value.
+fn numbered(alloc: Global, numbers: &[u32]) -> Result<Object, Fail> {
+    let mut properties = Vec::new(alloc);
+    for number in numbers {
+        properties.push(property(alloc, *number, &last_octet(*number))?)?;
+    }
+    with_properties(alloc, 0, properties)
+}
+
 #[test]
 fn lists_a_property_once(rt: HostRuntime) -> Result<(), Fail> {
-    let values = data_of(rt.alloc(), &[0x00])?;
-    let mut object = with_property(rt.alloc(), 0, 600, values)?;
-    for number in [512, 700, 600] {
-        object.properties.push(Property {
-            number,
-            values: data_of(rt.alloc(), &[0x00])?,
-            writable: false,
-        })?;
-    }
-    assert_eq!(rt; fault_of(rt.alloc(), object)?, Some(StoreFault::BadObject));
+    let object = numbered(rt.alloc(), &[600, 512, 700, 600])?;
+    assert!(rt; !is_right(rt.alloc(), object)?);
     Ok(())
 }
 
 #[test]
 fn limits_values_to_4096_octets(rt: HostRuntime) -> Result<(), Fail> {
-    for (len, want) in [(4_092, None), (4_093, Some(StoreFault::BadObject))] {
-        let values = string_data(rt.alloc(), len)?;
-        let object = with_property(rt.alloc(), 0, 512, values)?;
-        assert_eq!(rt; fault_of(rt.alloc(), object)?, want, "{len}");
+    for (len, right) in [(4_092, true), (4_093, false)] {
+        let property = string_property(rt.alloc(), len)?;
+        let object = with_property(rt.alloc(), 0, property)?;
+        assert_eq!(rt; is_right(rt.alloc(), object)?, right, "{len}");
     }
     Ok(())
 }
 
 #[test]
 fn limits_names_to_4096_octets(rt: HostRuntime) -> Result<(), Fail> {
-    for (len, want) in [(4_091, None), (4_092, Some(StoreFault::BadObject))] {
+    for (len, right) in [(4_091, true), (4_092, false)] {
         let mut object = bare(rt.alloc(), 0, 1)?;
-        let mut name = String::new(rt.alloc());
-        for _ in 0..len {
-            name.push_str("n")?;
-        }
-        object.name = name;
-        assert_eq!(rt; fault_of(rt.alloc(), object)?, want, "{len}");
+        object.name = String::from_utf8(octets_alike(rt.alloc(), b'n', len)?)?;
+        assert_eq!(rt; is_right(rt.alloc(), object)?, right, "{len}");
     }
     Ok(())
 }
 
 #[test]
 fn takes_files_alone_with_octets(rt: HostRuntime) -> Result<(), Fail> {
-    for (len, want) in [
-        (0, None),
-        (60_000, None),
-        (60_001, Some(StoreFault::BadObject)),
-    ] {
-        let object = file_of(rt.alloc(), len)?;
-        assert_eq!(rt; fault_of(rt.alloc(), object)?, want, "{len}");
+    for (len, right) in [(0, true), (60_000, true), (60_001, false)] {
+        let object = file_of(rt.alloc(), len, true)?;
+        assert_eq!(rt; is_right(rt.alloc(), object)?, right, "{len}");
     }
     let none = bare(rt.alloc(), 10, 1)?;
-    assert_eq!(rt; fault_of(rt.alloc(), none)?, Some(StoreFault::BadObject));
-    let mut other = bare(rt.alloc(), 0, 1)?;
-    other.file = Some(File {
-        octets: Vec::new(rt.alloc()),
-        writable: false,
-    });
-    assert_eq!(rt; fault_of(rt.alloc(), other)?, Some(StoreFault::BadObject));
+    assert!(rt; !is_right(rt.alloc(), none)?);
+    let mut other = file_of(rt.alloc(), 0, false)?;
+    other.id = ObjectIdentifier::new(0, 1).ok_or("no such identifier")?;
+    assert!(rt; !is_right(rt.alloc(), other)?);
+    Ok(())
+}
+
+/// Three octets are appended to a file of so many, and its end is read: what both get.
+fn appends_three(
+    rt: &impl Abort,
+    alloc: Global,
+    len: usize,
+    wants: [Want<'_>; 2],
+) -> Result<(), Fail> {
+    let mut store = store_of(alloc, file_of(alloc, len, true)?)?;
+    let rows = [
+        (7, "C4028000010E31FF63AABBCC0F", wants[0]),
+        (6, "C4028000010E3300EA5C21FF0F", wants[1]),
+    ];
+    performs_all(rt, alloc, &mut store, &rows)?;
     Ok(())
 }
 
 #[test]
 fn refuses_files_that_grow_too_long(rt: HostRuntime) -> Result<(), Fail> {
-    let append = "C4028000010E31FF63AABBCC0F";
-    let tail = "C4028000010E3300EA5C21FF0F";
-    let rows = [
-        (
-            59_998,
-            Want::Error(3, 20),
-            Want::Complex("110E3300EA5C625A5A0F"),
-        ),
-        (
-            59_997,
-            Want::Complex("0B00EA5D"),
-            Want::Complex("110E3300EA5C645AAABBCC0F"),
-        ),
-    ];
-    for (len, want, then) in rows {
-        let Ok(mut store) = store_of(rt.alloc(), file_of(rt.alloc(), len)?)? else {
-            return Err(Fail::from("no store"));
-        };
-        let right = performs(rt.alloc(), &mut store, 7, append, want)?;
-        assert!(rt; right, "{len}");
-        let kept = performs(rt.alloc(), &mut store, 6, tail, then)?;
-        assert!(rt; kept, "{len} then");
-    }
-    Ok(())
+    let kept = Want::Complex("110E3300EA5C625A5A0F");
+    appends_three(&rt, rt.alloc(), 59_998, [Want::Error(3, 20), kept])?;
+    let grown = Want::Complex("110E3300EA5C645AAABBCC0F");
+    appends_three(&rt, rt.alloc(), 59_997, [Want::Complex("0B00EA5D"), grown])
 }
 
 #[test]
 fn keeps_files_that_cannot_be_written(rt: HostRuntime) -> Result<(), Fail> {
-    let mut object = file_of(rt.alloc(), 2)?;
-    if let Some(file) = &mut object.file {
-        file.writable = false;
-    }
-    let Ok(mut store) = store_of(rt.alloc(), object)? else {
-        return Err(Fail::from("no store"));
-    };
+    let mut store = store_of(rt.alloc(), file_of(rt.alloc(), 2, false)?)?;
+    let octets = Want::Complex("110E3100625A5A0F");
     let rows = [
         (7, "C4028000010E31FF61AA0F", Want::Error(5, 5)),
         (7, "C4028000010E310961AA0F", Want::Error(5, 5)),
-        (
-            6,
-            "C4028000010E310021FF0F",
-            Want::Complex("110E3100625A5A0F"),
-        ),
+        (6, "C4028000010E310021FF0F", octets),
     ];
-    for (choice, text, want) in rows {
-        let right = performs(rt.alloc(), &mut store, choice, text, want)?;
-        assert!(rt; right, "{choice} {text}");
-    }
+    performs_all(&rt, rt.alloc(), &mut store, &rows)?;
+    Ok(())
+}
+
+/// A store of an object with property 512 of these octets.
+fn store_with(alloc: Global, octets: &[u8]) -> Result<Store, Fail> {
+    let object = with_property(alloc, 0, property(alloc, 512, octets)?)?;
+    store_of(alloc, object)
+}
+
+/// The first values are no single application value, so any may follow.
+#[test]
+fn keeps_the_kind_of_the_first_values(rt: HostRuntime) -> Result<(), Fail> {
+    let mut store = store_with(rt.alloc(), &[0x0E, 0x0F])?;
+    let last = Want::Complex("0C000000011A02003E91013F");
+    let rows = [
+        (15, "0C000000011A02003E21013F", Want::Simple),
+        (15, "0C000000011A02003E91013F", Want::Simple),
+        (12, "0C000000011A0200", last),
+    ];
+    performs_all(&rt, rt.alloc(), &mut store, &rows)?;
     Ok(())
 }
 
 #[test]
-fn keeps_the_kind_of_the_first_values(rt: HostRuntime) -> Result<(), Fail> {
-    let values = data_of(rt.alloc(), &[0x0E, 0x0F])?;
-    let object = with_property(rt.alloc(), 0, 512, values)?;
-    let Ok(mut store) = store_of(rt.alloc(), object)? else {
-        return Err(Fail::from("no store"));
-    };
-    // the first values are no single application value, so any may follow
+fn keeps_the_kind_of_a_real(rt: HostRuntime) -> Result<(), Fail> {
+    let mut store = store_with(rt.alloc(), &[0x44, 0, 0, 0, 0])?;
     let rows = [
-        (15, "0C000000011A02003E21013F", Want::Simple),
-        (15, "0C000000011A02003E91013F", Want::Simple),
-        (
-            12,
-            "0C000000011A0200",
-            Want::Complex("0C000000011A02003E91013F"),
-        ),
+        (15, "0C000000011A02003E21013F", Want::Error(2, 9)),
+        (15, "0C000000011A02003E44433400003F", Want::Simple),
+        (15, "0C000000011A02003E0E0F3F", Want::Error(2, 9)),
     ];
-    for (choice, text, want) in rows {
-        let right = performs(rt.alloc(), &mut store, choice, text, want)?;
-        assert!(rt; right, "{choice} {text}");
-    }
+    performs_all(&rt, rt.alloc(), &mut store, &rows)?;
     Ok(())
 }
 
-/// With ample memory, in descending order; and all of them are copied.
+/// A read of a property of analog-input `instance`.
+fn read_of(instance: u32, property: u32) -> Result<Request<'static>, Fail> {
+    let object = ObjectIdentifier::new(0, instance).ok_or("no such identifier")?;
+    Ok(AnyRequest::ReadProperty(PropertyReference {
+        object,
+        property,
+        index: None,
+    }))
+}
+
+/// Whether a read gets these values.
+fn gives(
+    alloc: Global,
+    store: &Store,
+    request: &Request<'_>,
+    values: &[u8],
+) -> Result<bool, NoMemory> {
+    let plan = store.prepare(alloc, request)?;
+    match plan.reply() {
+        AnyReply::Complex(AnyComplex::PropertyRead(read)) => Ok(read.values.octets == values),
+        _ => Ok(false),
+    }
+}
+
+/// With ample memory, in descending order, each is found by its object-identifier; and all of them are copied.
 #[test]
 fn finds_each_of_twenty_thousand_objects(rt: HostRuntime) -> Result<(), Fail> {
     let mut objects = Vec::new(rt.alloc());
@@ -270,131 +278,125 @@ fn finds_each_of_twenty_thousand_objects(rt: HostRuntime) -> Result<(), Fail> {
         return Err(Fail::from("no store"));
     };
     for instance in 0..20_000u32 {
-        let object = ObjectIdentifier::new(0, instance).ok_or("no such identifier")?;
-        // its object-identifier, so that it is known from all others
-        let reference = PropertyReference {
-            object,
-            property: 75,
-            index: None,
-        };
-        let plan = store.prepare(rt.alloc(), &AnyRequest::ReadProperty(reference))?;
         let [_, high, middle, low] = instance.to_be_bytes();
-        let is_found = match plan.reply() {
-            AnyReply::Complex(AnyComplex::PropertyRead(read)) => {
-                read.values.octets == [0xC4, 0, high, middle, low].as_slice()
-            }
-            _ => false,
-        };
+        let values = [0xC4, 0, high, middle, low];
+        let is_found = gives(rt.alloc(), &store, &read_of(instance, 75)?, &values)?;
         assert!(rt; is_found, "{instance}");
     }
-    let copy = store.copy(rt.alloc())?;
-    assert!(rt; copy.same(&store), "a copy");
+    assert!(rt; is_copied(rt.alloc(), &store)?, "a copy");
     Ok(())
 }
 
-/// With ample memory, the longest file is written whole and read whole.
+/// Whether a copy of a store is the same.
+fn is_copied(alloc: Global, store: &Store) -> Result<bool, NoMemory> {
+    let copy = store.copy(alloc)?;
+    Ok(copy.same(store))
+}
+
+/// With ample memory, in descending order, each is found by its number.
 #[test]
-fn writes_and_reads_60000_octets(rt: HostRuntime) -> Result<(), Fail> {
-    let Ok(mut store) = store_of(rt.alloc(), file_of(rt.alloc(), 60_000)?)? else {
+fn finds_each_of_a_hundred_properties(rt: HostRuntime) -> Result<(), Fail> {
+    let mut numbers = Vec::new(rt.alloc());
+    for place in 0..100u32 {
+        numbers.push(699 - place)?;
+    }
+    let store = store_of(rt.alloc(), numbered(rt.alloc(), &numbers)?)?;
+    for number in 600..700u32 {
+        let values = last_octet(number);
+        let is_found = gives(rt.alloc(), &store, &read_of(1, number)?, &values)?;
+        assert!(rt; is_found, "{number}");
+    }
+    assert!(rt; is_copied(rt.alloc(), &store)?, "a copy");
+    Ok(())
+}
+
+/// A store of no objects is one: it is copied, and finds nothing.
+#[test]
+fn takes_no_objects(rt: HostRuntime) -> Result<(), Fail> {
+    let Ok(mut store) = Store::new(rt.alloc(), Vec::new(rt.alloc())) else {
         return Err(Fail::from("no store"));
     };
-    let file = ObjectIdentifier::new(10, 1).ok_or("no such identifier")?;
-    let octets = octets_alike(rt.alloc(), 0xA5, 60_000)?;
-    let content = Content::new(&octets).ok_or("too long")?;
+    assert!(rt; is_copied(rt.alloc(), &store)?, "a copy");
+    let rows = [(12, "0C000000011955", Want::Error(1, 31))];
+    performs_all(&rt, rt.alloc(), &mut store, &rows)?;
+    Ok(())
+}
+
+/// With ample memory, the longest file and the longest values are copied.
+#[test]
+fn copies_the_longest_file_and_values(rt: HostRuntime) -> Result<(), Fail> {
+    let mut object = file_of(rt.alloc(), 60_000, true)?;
+    object.properties.push(string_property(rt.alloc(), 4_092)?)?;
+    let store = store_of(rt.alloc(), object)?;
+    assert!(rt; is_copied(rt.alloc(), &store)?);
+    Ok(())
+}
+
+/// The longest file.
+fn longest_file() -> Result<ObjectIdentifier, Fail> {
+    Ok(ObjectIdentifier::new(10, 1).ok_or("no such identifier")?)
+}
+
+/// With ample memory, the longest file is written whole.
+fn writes_whole(alloc: Global, store: &mut Store, octets: &[u8]) -> Result<bool, Fail> {
+    let content = Content::new(octets).ok_or("too long")?;
     let access = WriteAccess::Stream(WriteStream { start: 0, content });
-    let write = AnyRequest::WriteFile(WriteFile { file, access });
-    let plan = store.prepare(rt.alloc(), &write)?;
-    let reply = store.commit(plan);
-    let is_written = matches!(
-        reply,
+    let file = longest_file()?;
+    let plan = store.prepare(alloc, &AnyRequest::WriteFile(WriteFile { file, access }))?;
+    Ok(matches!(
+        store.commit(plan),
         AnyReply::Complex(AnyComplex::FileWritten(FileWritten::Stream(0)))
-    );
-    assert!(rt; is_written);
+    ))
+}
+
+/// With ample memory, the longest file is read whole.
+fn reads_whole(alloc: Global, store: &mut Store, octets: &[u8]) -> Result<bool, Fail> {
     let access = ReadAccess::Stream {
         start: 0,
         count: 60_000,
     };
-    let read = AnyRequest::ReadFile(ReadFile { file, access });
-    match store.perform(rt.alloc(), &read)? {
+    let file = longest_file()?;
+    match store.perform(alloc, &AnyRequest::ReadFile(ReadFile { file, access }))? {
         AnyReply::Complex(AnyComplex::FileRead(read)) => {
-            assert!(rt; read.end_of_file);
-            assert!(rt; read.content.octets == octets);
+            Ok(read.end_of_file && read.content.octets.as_slice() == octets)
         }
-        _ => return Err(Fail::from("another reply")),
+        _ => Ok(false),
     }
-    Ok(())
 }
 
 #[test]
-fn finds_each_of_three_properties(rt: HostRuntime) -> Result<(), Fail> {
-    let values = data_of(rt.alloc(), &[0x91, 1])?;
-    let mut object = with_property(rt.alloc(), 0, 600, values)?;
-    for (number, state) in [(512, 2), (700, 3)] {
-        object.properties.push(Property {
-            number,
-            values: data_of(rt.alloc(), &[0x91, state])?,
-            writable: true,
-        })?;
-    }
-    let Ok(mut store) = store_of(rt.alloc(), object)? else {
-        return Err(Fail::from("no store"));
-    };
-    let rows = [
-        ("0C000000011A0200", "0C000000011A02003E91023F"),
-        ("0C000000011A0258", "0C000000011A02583E91013F"),
-        ("0C000000011A02BC", "0C000000011A02BC3E91033F"),
-    ];
+fn writes_and_reads_60000_octets(rt: HostRuntime) -> Result<(), Fail> {
+    let mut store = store_of(rt.alloc(), file_of(rt.alloc(), 60_000, true)?)?;
+    let octets = octets_alike(rt.alloc(), 0xA5, 60_000)?;
+    assert!(rt; writes_whole(rt.alloc(), &mut store, &octets)?);
+    assert!(rt; reads_whole(rt.alloc(), &mut store, &octets)?);
+    Ok(())
+}
+
+/// A written copy leaves the store.
+#[test]
+fn writes_a_copy(rt: HostRuntime) -> Result<(), Fail> {
+    let store = store_with(rt.alloc(), &[0x91, 1])?;
     let mut copy = store.copy(rt.alloc())?;
-    assert!(rt; copy.same(&store));
-    for (text, want) in rows {
-        let right = performs(rt.alloc(), &mut store, 12, text, Want::Complex(want))?;
-        assert!(rt; right, "{text}");
-        let right = performs(rt.alloc(), &mut copy, 12, text, Want::Complex(want))?;
-        assert!(rt; right, "{text} of the copy");
-    }
-    let write = "0C000000011A02BC3E91043F";
-    let right = performs(rt.alloc(), &mut copy, 15, write, Want::Simple)?;
-    assert!(rt; right);
+    let rows = [
+        (15, "0C000000011A02003E91043F", Want::Simple),
+        (
+            12,
+            "0C000000011A0200",
+            Want::Complex("0C000000011A02003E91043F"),
+        ),
+    ];
+    performs_all(&rt, rt.alloc(), &mut copy, &rows)?;
     assert!(rt; !copy.same(&store));
     Ok(())
 }
 
-#[test]
-fn keeps_the_kind_of_a_real(rt: HostRuntime) -> Result<(), Fail> {
-    let values = data_of(rt.alloc(), &[0x44, 0, 0, 0, 0])?;
-    let object = with_property(rt.alloc(), 0, 512, values)?;
-    let Ok(mut store) = store_of(rt.alloc(), object)? else {
-        return Err(Fail::from("no store"));
-    };
-    let rows = [
-        (15, "0C000000011A02003E21013F", Want::Error(2, 9)),
-        (15, "0C000000011A02003E44433400003F", Want::Simple),
-        (15, "0C000000011A02003E0E0F3F", Want::Error(2, 9)),
-    ];
-    for (choice, text, want) in rows {
-        let right = performs(rt.alloc(), &mut store, choice, text, want)?;
-        assert!(rt; right, "{text}");
-    }
-    Ok(())
-}
-
-/// Data of a CharacterString whose spelling has 5 octets and so many more, from 253 to 65,534.
-fn text_data(alloc: Global, more: u16) -> Result<DataBuf, Fail> {
-    let mut spelling = Vec::new(alloc);
-    let [high, low] = more.saturating_add(1).to_be_bytes();
-    for octet in [0x75, 254, high, low, 0] {
-        spelling.push(octet)?;
-    }
-    for _ in 0..more {
-        spelling.push(b'a')?;
-    }
-    data_of(alloc, &spelling)
-}
-
-/// With what Error, if any, the house store answers to a write of a description whose spelling has 5 octets and so many more.
-fn error_at_a_text(alloc: Global, more: u16) -> Result<Option<(u32, u32)>, Fail> {
+/// With what Error, if any, the house store answers to a write of a description of so many characters.
+fn error_at_a_text(alloc: Global, len: usize) -> Result<Option<(u32, u32)>, Fail> {
     let mut store = house(alloc)?;
-    let values = text_data(alloc, more)?;
+    let text = octets_alike(alloc, b'a', len)?;
+    let string = CharacterString::new(0, text).ok_or("too long")?;
+    let values = crate::spelled::spelled(alloc, &Value::CharacterString(string))?;
     let reference = PropertyReference {
         object: ObjectIdentifier::new(2, 1).ok_or("no such identifier")?,
         property: 28,

@@ -1,6 +1,7 @@
 //! Requests of the house store and their replies.
 use super::*;
 
+/// Reads before writes, so that one house serves all.
 #[test]
 fn answers_properties_of_the_house(rt: HostRuntime) -> Result<(), Fail> {
     let rows = [
@@ -63,20 +64,47 @@ fn answers_properties_of_the_house(rt: HostRuntime) -> Result<(), Fail> {
         (15, "0C00000005195529003E44000000003F", Want::Error(2, 50)),
         (15, "0C0000000519553E21013F", Want::Error(2, 40)),
     ];
-    for (choice, text, want) in rows {
-        let mut store = house(rt.alloc())?;
-        let right = performs(rt.alloc(), &mut store, choice, text, want)?;
-        assert!(rt; right, "{choice} {text}");
-    }
+    performs_all(&rt, rt.alloc(), &mut house(rt.alloc())?, &rows)?;
     Ok(())
 }
 
 #[test]
-fn answers_files_of_the_house(rt: HostRuntime) -> Result<(), Fail> {
-    let whole = "C4028000010E310021FF0F";
+fn reads_files_of_the_house(rt: HostRuntime) -> Result<(), Fail> {
+    let log = Want::Complex("110E3100624F4B0F");
+    let rows = [
+        (6, "C4028000010E3100210A0F", log),
+        (6, "C4028000010E310021010F", Want::Complex("100E3100614F0F")),
+        (6, "C4028000010E310021020F", log),
+        (6, "C4028000010E310221010F", Want::Complex("110E3102600F")),
+        (6, "C4028000010E310121000F", Want::Complex("100E3101600F")),
+        (6, "C4028000010E310321010F", Want::Error(5, 11)),
+        (6, "C4028000010E31FF21010F", Want::Error(5, 11)),
+        (6, "C4028000011E310021011F", Want::Error(5, 10)),
+        (6, "C4008000010E310021010F", Want::Error(1, 31)),
+    ];
+    performs_all(&rt, rt.alloc(), &mut house(rt.alloc())?, &rows)?;
+    Ok(())
+}
+
+/// A write of a fresh house, its reply, and what is read of the file then.
+fn writes(
+    rt: &impl Abort,
+    alloc: Global,
+    text: &str,
+    want: Want<'_>,
+    then: &str,
+) -> Result<(), NoMemory> {
+    let rows = [
+        (7, text, want),
+        (6, "C4028000010E310021FF0F", Want::Complex(then)),
+    ];
+    performs_all(rt, alloc, &mut house(alloc)?, &rows)
+}
+
+#[test]
+fn writes_files_of_the_house(rt: HostRuntime) -> Result<(), Fail> {
     let log = "110E3100624F4B0F";
-    // a write, its reply, and what is read of the file then
-    let writes = [
+    let rows = [
         ("C4028000010E31FF600F", Want::Complex("0902"), log),
         (
             "C4028000010E310162AABB0F",
@@ -105,42 +133,18 @@ fn answers_files_of_the_house(rt: HostRuntime) -> Result<(), Fail> {
         ("C4028000020E310061AA0F", Want::Error(1, 31), log),
         ("C4000000051E3100210162ABCD1F", Want::Error(1, 31), log),
     ];
-    for (text, want, then) in writes {
-        let mut store = house(rt.alloc())?;
-        let right = performs(rt.alloc(), &mut store, 7, text, want)?;
-        assert!(rt; right, "{text}");
-        let kept = performs(rt.alloc(), &mut store, 6, whole, Want::Complex(then))?;
-        assert!(rt; kept, "{text} then");
-    }
-    let reads = [
-        ("C4028000010E3100210A0F", Want::Complex(log)),
-        ("C4028000010E310021010F", Want::Complex("100E3100614F0F")),
-        ("C4028000010E310021020F", Want::Complex(log)),
-        ("C4028000010E310221010F", Want::Complex("110E3102600F")),
-        ("C4028000010E310121000F", Want::Complex("100E3101600F")),
-        ("C4028000010E310321010F", Want::Error(5, 11)),
-        ("C4028000010E31FF21010F", Want::Error(5, 11)),
-        ("C4028000011E310021011F", Want::Error(5, 10)),
-        ("C4008000010E310021010F", Want::Error(1, 31)),
-    ];
-    for (text, want) in reads {
-        let mut store = house(rt.alloc())?;
-        let right = performs(rt.alloc(), &mut store, 6, text, want)?;
-        assert!(rt; right, "{text}");
+    for (text, want, then) in rows {
+        writes(&rt, rt.alloc(), text, want, then)?;
     }
     Ok(())
 }
 
 #[test]
 fn keeps_what_was_written(rt: HostRuntime) -> Result<(), Fail> {
-    let mut store = house(rt.alloc())?;
-    let steps = [
+    let written = Want::Complex("0C0080000119553E44433400003F");
+    let rows = [
         (15, "0C0080000119553E44433400003F", Want::Simple),
-        (
-            12,
-            "0C008000011955",
-            Want::Complex("0C0080000119553E44433400003F"),
-        ),
+        (12, "0C008000011955", written),
         (15, "0C00800001191C3E626B573F", Want::Error(2, 9)),
         (15, "0C00800001191C3E73006B573F", Want::Simple),
         (
@@ -156,18 +160,10 @@ fn keeps_what_was_written(rt: HostRuntime) -> Result<(), Fail> {
             Want::Complex("0C0000000519553E444290999A3F"),
         ),
     ];
-    for (choice, text, want) in steps {
-        let right = performs(rt.alloc(), &mut store, choice, text, want)?;
-        assert!(rt; right, "{choice} {text}");
-    }
+    let mut store = house(rt.alloc())?;
+    performs_all(&rt, rt.alloc(), &mut store, &rows)?;
     let mut copy = store.copy(rt.alloc())?;
-    let same = performs(
-        rt.alloc(),
-        &mut copy,
-        12,
-        "0C008000011955",
-        Want::Complex("0C0080000119553E44433400003F"),
-    )?;
-    assert!(rt; same, "a copy");
+    let rows = [(12, "0C008000011955", written)];
+    performs_all(&rt, rt.alloc(), &mut copy, &rows)?;
     Ok(())
 }

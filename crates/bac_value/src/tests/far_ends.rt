@@ -1,33 +1,27 @@
 //! Far ends, with ample memory: 65,535 octets in one piece and in many, and the lengths at which a tag grows.
+ghost use Rattle.std.specs.Prelude.{◌<◌};
+
 use super::pieces::append_out;
 use super::values::is_written_back;
 use super::*;
 
-/// The octets with which the spelling of an octet string begins, and how many it has, by the length of the string.
-const LONG_STRINGS: &[(usize, &str, usize)] = &[
-    (4, "64", 5),
-    (5, "6505", 7),
-    (253, "65FD", 255),
-    (254, "65FE00FE", 258),
-    (65_535, "65FEFFFF", 65_539),
-    (65_536, "65FF00010000", 65_542),
+/// The tags of octet strings of 4, 5, 253, 254, 65,535 and 65,536 octets, and how many octets there are with the tag.
+const LONG_STRINGS: &[(&str, usize)] = &[
+    ("64", 5),
+    ("6505", 7),
+    ("65FD", 255),
+    ("65FE00FE", 258),
+    ("65FEFFFF", 65_539),
+    ("65FF00010000", 65_542),
 ];
-
-fn written_string(alloc: Global, count: usize) -> Result<Vec<u8>, Fail> {
-    let string = OctetString::new(vec![in alloc; 7u8; count]?).ok_or("octets")?;
-    let mut out = Vec::new(alloc);
-    write_value(&Value::OctetString(string), &mut out)?;
-    Ok(out)
-}
 
 #[test]
 fn long_octet_strings_have_the_shortest_tags(rt: HostRuntime) -> Result<(), Fail> {
-    for (count, begin, all) in LONG_STRINGS {
-        let out = written_string(rt.alloc(), *count)?;
-        let front = octets_of(rt.alloc(), begin)?;
-        assert!(rt; out.starts_with(&front), "{count}");
-        assert_eq!(rt; element_outcome(&out), (0, *all), "{count}");
-        assert_eq!(rt; out.len(), *all, "{count}");
+    for (tag, len) in LONG_STRINGS {
+        let mut octets = octets_of(rt.alloc(), tag)?;
+        octets.resize(*len, 7)?;
+        assert_eq!(rt; element_outcome(&octets), (0, *len), "{tag}");
+        assert!(rt; is_written_back(rt.alloc(), &octets)?, "{tag}");
     }
     Ok(())
 }
@@ -50,8 +44,11 @@ fn is_copied_as_data(alloc: Global, octets: &[u8]) -> Result<bool, Fail> {
     Ok(out.as_slice() == octets)
 }
 
-fn is_copied_out(alloc: Global, octets: &[u8]) -> Result<bool, Fail> {
-    let pieces = pieces_of(alloc, octets, 1000)?;
+/// Whether octets in pieces of that size are copied as they are.
+fn is_copied_out(alloc: Global, octets: &[u8], size: usize) -> Result<bool, NoMemory>
+    requires { 0 < size }
+{
+    let pieces = pieces_of(alloc, octets, size)?;
     let mut out = Vec::new(alloc);
     append_out(&pieces, 0, octets.len(), &mut out)?;
     Ok(out.as_slice() == octets)
@@ -66,21 +63,23 @@ fn copies_and_writes_65535_octets(rt: HostRuntime) -> Result<(), Fail> {
         octets.resize(65_535, 0)?;
         assert!(rt; is_copied_as_data(alloc, &octets)?, "{tag}");
         assert!(rt; is_written_back(alloc, &octets)?, "{tag}");
-        assert!(rt; is_copied_out(alloc, &octets)?, "{tag}");
+        assert!(rt; is_copied_out(alloc, &octets, 1000)?, "{tag}");
     }
     Ok(())
+}
+
+fn data_len(pieces: &[Vec<u8>]) -> Option<usize> {
+    let parts = Parts::try_new(pieces)?;
+    check_data_at(&parts, 0).ok()
 }
 
 #[test]
 fn reads_many_pieces_of_one_octet(rt: HostRuntime) -> Result<(), Fail> {
     let alloc = rt.alloc();
-    let octets = vec![in alloc; 0u8; 65_535]?;
+    let mut octets = Vec::new(alloc);
+    octets.resize(65_535, 0)?;
     let pieces = pieces_of(alloc, &octets, 1)?;
-    let parts = Parts::try_new(&pieces).ok_or("few octets")?;
-    assert_eq!(rt; parts.len(), 65_535);
-    assert!(rt; matches!(check_data_at(&parts, 0), Ok(65_535)));
-    let mut out = Vec::new(alloc);
-    parts.append_to(&mut out)?;
-    assert!(rt; out == octets);
+    assert_eq!(rt; data_len(&pieces), Some(65_535));
+    assert!(rt; is_copied_out(alloc, &octets, 1)?);
     Ok(())
 }

@@ -29,5 +29,6 @@ returns-clause-answered c = λ peer invoke_id choice service r s q.
 pub returns-clause-rejected : goal.returns-clause-rejected
 returns-clause-rejected c = λ peer invoke_id choice service s never.
     let one = asks_one c.in-Some.ensures s in
-    let rejection = subst (IsRejection c.in-Some.asked.choice c.in-Some.asked.service.now) (sym c.as_reply.ensures) (c.in_ok-reply.ensures.rejected (none_so one never)) in
+    let rejection = subst (IsRejection c.in-Some.asked.choice c.in-Some.asked.service.now) (sym c.as_reply.ensures)
+    (c.in_ok-reply.ensures.rejected (none_so one never)) in
     rejected_so c.in_ok-frame.frame.items (reply_view c.as_reply.result) one c.in_ok-frame.ensures rejection

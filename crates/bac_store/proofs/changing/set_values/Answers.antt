@@ -19,7 +19,8 @@ returns-in-Some c =
     let n = c.args.property in
     let values = c.args.values.octets.items in
     let kept : length c.set_slot.new.slots ≡ old.slots.len = omega (arith, c.deref_mut.ensures.len) in
-    let slots : map slot_view (with_items old.slots c.set_slot.new.slots).items ≡ where_that (is_number n) (with_own_values values) (map slot_view old.slots.items) =
+    let slots : map slot_view (with_items old.slots c.set_slot.new.slots).items
+    ≡ where_that (is_number n) (with_own_values values) (map slot_view old.slots.items) =
     ap (map slot_view) (with_items_is old.slots c.set_slot.new.slots kept)
     ∙ c.set_slot.ensures
     ∙ ap (λ xs. where_that (is_number n) (with_own_values values) (map slot_view xs)) c.deref_mut.ensures.value in

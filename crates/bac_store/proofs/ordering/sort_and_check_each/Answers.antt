@@ -10,7 +10,8 @@ returns-then-not-sort_and_check c = λ all.
     let i = c.loop-object.object-index in
     let x = c.object-item.result in
     c.if-not-sort_and_check.ensures
-    (subst (λ o. IsRight (object_view o)) (sym (c.loop-object.invariant.left i x (omega arith))) (All-unmap object_view IsRight c.args.objects.now all i x (omega arith)))
+    (subst (λ o. IsRight (object_view o)) (sym (c.loop-object.invariant.left i x (omega arith)))
+    (All-unmap object_view IsRight c.args.objects.now all i x (omega arith)))
 
 pub loop-object-preserved : goal.loop-object-preserved
 loop-object-preserved c =

@@ -1,5 +1,0 @@
-use Rattle.bac_text.proofs.Appending.{before}
-use Rattle.bac_text.proofs.service_line.print_answer.Goals as goal
-
-pub returns : goal.returns
-returns g c = before _ _ _ _ _ _ c.in_ok-print_answer_members.ensures c.print_end.ensures
