@@ -1,4 +1,4 @@
-//! Rows that were worked out by hand, and rows of an independent program. Here is what the tests share.
+//! Rows that were worked out by hand, and rows that this stack did not write. Here is what the tests share.
 ghost use Rattle.std.specs.Prelude.{◌<◌};
 
 use super::*;

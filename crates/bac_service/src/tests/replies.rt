@@ -56,8 +56,8 @@ const WORKED: &[Row<'_>] = &[
     (8, "0902", Some((2, 0))),
 ];
 
-/// Octets of an independent program, and what it says of them.
-const OTHER_PROGRAM: &[Row<'_>] = &[
+/// Octets that this stack did not write, and what another reader makes of them.
+const FOREIGN_ROWS: &[Row<'_>] = &[
     (6, "100E310061EC0F", None),
     (6, "100E330100006505A82318A5A30F", None),
     (6, "100E3200", Some((1, 2))),
@@ -111,8 +111,8 @@ fn reads_worked_replies(rt: HostRuntime) -> Result<(), Fail> {
 }
 
 #[test]
-fn reads_replies_as_another_program_does(rt: HostRuntime) -> Result<(), Fail> {
-    assert_eq!(rt; first_wrong(rt.alloc(), OTHER_PROGRAM)?, None);
+fn reads_replies_that_this_stack_did_not_write(rt: HostRuntime) -> Result<(), Fail> {
+    assert_eq!(rt; first_wrong(rt.alloc(), FOREIGN_ROWS)?, None);
     Ok(())
 }
 

@@ -70,8 +70,8 @@ const WORKED: &[Row<'_>] = &[
     (14, "", Some(9)),
 ];
 
-/// Octets of an independent program, and what it says of them.
-const OTHER_PROGRAM: &[Row<'_>] = &[
+/// Octets that this stack did not write, and what another reader makes of them.
+const FOREIGN_ROWS: &[Row<'_>] = &[
     (6, "C4028000021E310421021F", None),
     (6, "C4028000011E31FE2508FFFFFFFFFFFFFFFF1F", None),
     (6, "C4028000011431FF210A0F", Some(3)),
@@ -123,8 +123,8 @@ fn reads_worked_requests(rt: HostRuntime) -> Result<(), Fail> {
 }
 
 #[test]
-fn reads_requests_as_another_program_does(rt: HostRuntime) -> Result<(), Fail> {
-    assert_eq!(rt; first_wrong(rt.alloc(), OTHER_PROGRAM)?, None);
+fn reads_requests_that_this_stack_did_not_write(rt: HostRuntime) -> Result<(), Fail> {
+    assert_eq!(rt; first_wrong(rt.alloc(), FOREIGN_ROWS)?, None);
     Ok(())
 }
 
