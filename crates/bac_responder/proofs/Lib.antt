@@ -1,0 +1,5 @@
+pub mod Turned
+pub mod Firsts
+pub mod Sweeps
+pub mod Begun
+pub mod Orders

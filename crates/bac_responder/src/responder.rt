@@ -1,0 +1,94 @@
+//! The server's end.
+ghost use Rattle.std.specs.Prelude.{◌≡◌, [], IfOk};
+ghost use Rattle.bac_apdu.specs.Views.{apdu_view};
+ghost use Rattle.bac_npdu.specs.Views.{peer_view};
+ghost use Rattle.bac_ends.specs.Ends.{server_hears, servers_tick};
+ghost use Rattle.bac_ends.specs.Sends.{Pairwise, IsSent};
+ghost use Rattle.bac_ends.specs.Views.{settings_view};
+ghost use Rattle.bac_server.specs.Services.{service_of};
+ghost use Rattle.bac_responder.specs.Views.{end_of, Serves};
+
+use crate::hearing::hears;
+use crate::served::Served;
+use crate::ticking::{tick, tick_sends};
+use bac_apdu::Apdu;
+use bac_ends::{Datagram, PeerKey, Settings, invoke_id_of};
+use bac_npdu::Peer;
+use bac_server::{Context, Entry};
+use bac_slots::SlotTable;
+use bac_store::Store;
+use bac_value::NoMemory;
+use std::alloc::Global;
+use std::marker::Model;
+
+/// The server's end: a node's settings, and the reply table.
+#[derive(Drop)]
+pub struct Responder<S: SlotTable<PeerKey, Entry> + Drop> {
+    settings: Settings,
+    table: S,
+}
+
+impl<S: SlotTable<PeerKey, Entry> + Drop> Model for Responder<S> {
+    ghost use Rattle.bac_responder.specs.Turns.{Serving};
+
+    ghost Value = { Serving };
+
+    ghost use Rattle.bac_ends.specs.Views.{settings_view};
+    ghost use Rattle.bac_responder.specs.Views.{end_of};
+
+    ghost view = { λ r. record { settings = settings_view r.settings; end = end_of (S.slots r.table) (S.capacity r.table) } };
+}
+
+impl<S: SlotTable<PeerKey, Entry> + Drop> Responder<S> {
+    /// A server's end without entries, with room for so many slots; an Err where the memory for them is refused. Nothing takes memory for slots later.
+    pub fn new(alloc: Global, settings: Settings, slots: usize) -> Result<Responder<S>, NoMemory>
+        ensures { IfOk result (λ r. r ≡ record { settings = settings_view settings; end = record { slots = []; capacity = slots } }) }
+    {
+        let table = S::new(alloc, slots)?;
+        Ok(Responder { settings, table })
+    }
+
+    /// An APDU comes from a peer, at that moment in milliseconds.
+    ///
+    /// A live entry is never evicted; where no slot is free, a new request gets an Abort with reason 0. An Err comes only where an allocation was refused;
+    /// the server's end and the store are then as before.
+    pub fn on(
+        &mut self,
+        alloc: Global,
+        moment: u64,
+        peer: &Peer,
+        apdu: &Apdu<'_>,
+        store: &mut Store,
+    ) -> Result<Served, NoMemory>
+        ensures turn { Serves (server_hears self.old.settings moment (service_of store.old) (peer_view peer.now) (apdu_view apdu.now) self.old.end) self.old.end
+            store.old result self.new.end store.new }
+        ensures settings { self.new.settings ≡ self.old.settings }
+    {
+        let key = PeerKey {
+            peer: *peer,
+            invoke_id: invoke_id_of(apdu),
+        };
+        let context = Context {
+            settings: self.settings,
+            key,
+            moment,
+        };
+        hears(alloc, &context, &mut self.table, apdu, store)
+    }
+
+    /// What a tick sends, in ascending order of peer and invoke ID: the windows of replies that no SegmentACK came for in 2,000 ms, while a retry is left.
+    /// An Err comes only where an allocation was refused.
+    pub fn prepare_tick(&self, alloc: Global, moment: u64) -> Result<Vec<Datagram>, NoMemory>
+        ensures { IfOk result (λ v. Pairwise IsSent (servers_tick self.now.settings moment self.now.end).sends v.items) }
+    {
+        tick_sends(alloc, &self.settings, &self.table, moment)
+    }
+
+    /// The entries after a tick. It takes no memory.
+    pub fn commit_tick(&mut self, moment: u64)
+        ensures { self.new ≡ record self.old { end = (servers_tick self.old.settings moment self.old.end).end } }
+    {
+        let settings = self.settings;
+        tick(&settings, &mut self.table, moment);
+    }
+}

@@ -1,0 +1,95 @@
+//! A tick of the table, in two steps: what it sends, and what it changes.
+ghost use Rattle.std.specs.Prelude.{◌≡◌, map, IfOk, MatchOption, Some, None, slice_get};
+ghost use Rattle.bac_slots.specs.Slots.{nth_by_key};
+ghost use Rattle.bac_ends.specs.Ends.{server_tick_sends, servers_tick};
+ghost use Rattle.bac_ends.specs.Sends.{Pairwise, IsSent};
+ghost use Rattle.bac_ends.specs.Views.{settings_view, slot_view, code_key_cmp};
+ghost use Rattle.bac_responder.specs.Tables.{TableSlot, given, ticked};
+ghost use Rattle.bac_responder.specs.Views.{end_of};
+
+use crate::table::put_back;
+use bac_ends::{Datagram, PeerKey, Settings};
+use bac_server::{Context, Entry};
+use bac_slots::SlotTable;
+use bac_value::NoMemory;
+use std::alloc::Global;
+
+/// The key of the n-th slot in order of putting.
+fn key_at<S: SlotTable<PeerKey, Entry>>(table: &S, n: usize) -> Option<PeerKey>
+    ensures { MatchOption result (slice_get (S.slots table.now) n ≡ None)
+        (λ k. (s : TableSlot) × (slice_get (S.slots table.now) n ≡ Some s) × (s.key ≡ k)) }
+{
+    match table.by_age(n) {
+        Some((key, _, _)) => Some(key),
+        None => None,
+    }
+}
+
+/// All entries go on. It takes no memory.
+fn commit_all<S: SlotTable<PeerKey, Entry>>(settings: &Settings, table: &mut S, moment: u64)
+    ensures slots { S.slots table.new ≡ map (given (ticked (settings_view settings.now) moment)) (S.slots table.old) }
+    ensures same { S.capacity table.new ≡ S.capacity table.old }
+{
+    for n in 0..table.len() {
+        let Some(key) = key_at(table, n) else {
+            continue;
+        };
+        let Some(entry) = table.set(&key, Entry::placeholder()) else {
+            continue;
+        };
+        let context = Context {
+            settings: *settings,
+            key,
+            moment,
+        };
+        put_back(table, &key, entry.ticked(&context));
+    }
+}
+
+/// The table after a tick. It takes no memory.
+pub(crate) fn tick<S: SlotTable<PeerKey, Entry>>(settings: &Settings, table: &mut S, moment: u64)
+    ensures { end_of (S.slots table.new) (S.capacity table.new)
+        ≡ (servers_tick (settings_view settings.now) moment (end_of (S.slots table.old) (S.capacity table.old))).end }
+{
+    commit_all(settings, table, moment);
+}
+
+/// What the n-th entry sends at a tick, in ascending order of keys.
+fn nth_sends<S: SlotTable<PeerKey, Entry>>(
+    alloc: Global,
+    settings: &Settings,
+    table: &S,
+    n: usize,
+    moment: u64,
+) -> Result<Vec<Datagram>, NoMemory>
+    ensures { IfOk result (λ v. (s : TableSlot) → nth_by_key code_key_cmp n (S.slots table.now) ≡ Some s
+        → Pairwise IsSent (server_tick_sends (settings_view settings.now) moment (slot_view s)) v.items) }
+{
+    let Some((key, _, entry)) = table.at(n) else {
+        return Ok(Vec::new(alloc));
+    };
+    let context = Context {
+        settings: *settings,
+        key,
+        moment,
+    };
+    entry.tick_sends(alloc, &context)
+}
+
+/// What all entries send at a tick, in ascending order of their keys.
+pub(crate) fn tick_sends<S: SlotTable<PeerKey, Entry>>(
+    alloc: Global,
+    settings: &Settings,
+    table: &S,
+    moment: u64,
+) -> Result<Vec<Datagram>, NoMemory>
+    ensures { IfOk result (λ v. Pairwise IsSent
+        (servers_tick (settings_view settings.now) moment (end_of (S.slots table.now) (S.capacity table.now))).sends v.items) }
+{
+    let mut sends = Vec::new(alloc);
+    for n in 0..table.len() {
+        let mut more = nth_sends(alloc, settings, table, n, moment)?;
+        sends.append(&mut more)?;
+    }
+    Ok(sends)
+}
