@@ -1,12 +1,12 @@
 -- An ask: the least invoke ID, the slots after it, and how it is refused.
-use Rattle.std.proofs.Common.{◌≡◌, ℕ, zero, suc, ◌+◌, ◌-◌, ◌<◌, ◌≤◌, ◌||◌, Bool, true, false, List, [], ◌∷◌, ◌++◌, map, filter, count_by, cond, length, Option, Some, None, Result, Ok, Err, nat_le, if◌then◌else◌, refl, ap, sym, subst, ◌∙◌, arith}
+use Rattle.std.proofs.Common.{◌≡◌, ℕ, zero, suc, ◌+◌, ◌-◌, ◌<◌, ◌≤◌, ◌||◌, Bool, true, false, List, [], ◌∷◌, ◌++◌, filter, count_by, cond, length, Option, Some, None, Result, Ok, Err, nat_le, if◌then◌else◌, refl, ap, sym, subst, ◌∙◌, arith}
 use Rattle.std.proofs.lemmas.Bool.Decides.{nat_tests}
 use Rattle.std.proofs.lemmas.List.Sums.{sum_by-cons}
 use Rattle.bac_npdu.specs.Peers.{PeerView}
 use Rattle.bac_slots.specs.declared.slot.Slot.{Slot}
 use Rattle.bac_slots.specs.Slots.{value_at, keep}
 use Rattle.bac_protocol.specs.Context.{Settings, Context}
-use Rattle.bac_protocol.specs.Client.{Ask, Ticket, Reaction, after, asked_ticket, new_ticket, request_apdu, sends_request_window}
+use Rattle.bac_protocol.specs.Client.{Ask, Ticket, after, asked_ticket, new_ticket, request_apdu, sends_request_window}
 use Rattle.bac_protocol.specs.Client.Reaction.{GoesOn}
 use Rattle.bac_protocol.specs.Client.Phase.{AwaitConfirmation}
 use Rattle.bac_segment.specs.Window.{outgoing}

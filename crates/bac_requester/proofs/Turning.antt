@@ -1,5 +1,5 @@
 -- One APDU at one slot.
-use Rattle.std.proofs.Common.{◌≡◌, ℕ, List, [], ◌∷◌, Option, Some, None, Result, Ok, Err, refl, ap, sym, subst, ◌∙◌}
+use Rattle.std.proofs.Common.{◌≡◌, ℕ, List, [], Option, Some, None, Result, Ok, Err, refl, ap, sym, subst, ◌∙◌}
 use Rattle.std.specs.Option.{option_map}
 use Rattle.bac_apdu.specs.Apdu.{Apdu}
 use Rattle.bac_service.specs.Services.{reads_reply}
@@ -7,10 +7,9 @@ use Rattle.bac_slots.specs.declared.slot.Slot.{Slot}
 use Rattle.bac_slots.specs.Slots.{value_at, with_value}
 use Rattle.bac_slots.proofs.Slots.{with_value-none}
 use Rattle.bac_slots.proofs.Values.{set_twice, set_back}
-use Rattle.bac_protocol.specs.Context.{Settings}
 use Rattle.bac_protocol.specs.Service as machine
 use Rattle.bac_protocol.specs.Client.{Ticket, client_gets, ending_of, sends_of}
-use Rattle.bac_ends.specs.Ends.{Client, ClientEnd, ClientTurn, ClientSlot, client_hears, client_hears_at, key_of, client_after, context_of, ended_with}
+use Rattle.bac_ends.specs.Ends.{Client, ClientEnd, ClientTurn, client_hears, client_hears_at, key_of, client_after, ended_with}
 use Rattle.bac_ends.specs.Ends.Held.{Open, Closed}
 use Rattle.bac_ends.specs.Keys as keys
 use Rattle.bac_ends.specs.Keys.{same_key}

@@ -1,5 +1,5 @@
 -- How an ask is refused, and the end after an accepted one.
-use Rattle.std.proofs.Common.{◌≡◌, ◌<◌, ◌+◌, ◌∙◌, refl, sym, subst, arith}
+use Rattle.std.proofs.Common.{◌<◌, ◌+◌, ◌∙◌, refl, sym, subst, arith}
 use Rattle.bac_npdu.specs.Views.{peer_view}
 use Rattle.bac_protocol.specs.Client.{Ask}
 use Rattle.bac_ends.specs.Ends.{AskOutcome, ClientEnd, is_id_held}

@@ -1,5 +1,4 @@
 -- The slots after a new one came.
-use Rattle.std.proofs.Common.{◌∙◌}
 use Rattle.bac_requester.proofs.Accepting.{test, absent_after, room_after, entered}
 use Rattle.bac_requester.proofs.asking.enter.Goals as goal
 

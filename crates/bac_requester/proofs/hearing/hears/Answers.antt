@@ -1,6 +1,5 @@
 -- One APDU at one slot.
 use Rattle.std.proofs.Common.{◌≡◌, ◌∙◌, Some, refl, ap, sym}
-use Rattle.bac_apdu.specs.Apdu.{Apdu}
 use Rattle.bac_apdu.specs.Views.{apdu_view}
 use Rattle.bac_ends.specs.Ends.{Client}
 use Rattle.bac_ends.specs.Ends.Held.{Open, Closed}

@@ -1,5 +1,5 @@
 -- One slot goes on.
-use Rattle.std.proofs.Common.{◌≡◌, ◌∙◌, ap, sym}
+use Rattle.std.proofs.Common.{◌∙◌, ap, sym}
 use Rattle.bac_ends.specs.Ends.{Client, held_ticked}
 use Rattle.bac_ends.specs.Views.{settings_view}
 use Rattle.bac_client.specs.Views.{context_view}

@@ -1,5 +1,5 @@
 -- The ask of the table is that of the end.
-use Rattle.std.proofs.Common.{◌≡◌, ◌∙◌, refl, ap, sym, subst}
+use Rattle.std.proofs.Common.{◌∙◌, refl, ap, sym, subst}
 use Rattle.bac_apdu.specs.Views.{limits_view}
 use Rattle.bac_npdu.specs.Views.{peer_view}
 use Rattle.bac_protocol.specs.Context.{Settings}
