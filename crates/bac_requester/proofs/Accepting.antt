@@ -1,5 +1,6 @@
 -- An ask: the least invoke ID, the slots after it, and how it is refused.
-use Rattle.std.proofs.Common.{◌≡◌, ℕ, zero, suc, ◌+◌, ◌-◌, ◌<◌, ◌≤◌, ◌||◌, Bool, true, false, List, [], ◌∷◌, ◌++◌, filter, count_by, cond, length, Option, Some, None, Result, Ok, Err, nat_le, if◌then◌else◌, refl, ap, sym, subst, ◌∙◌, arith}
+use Rattle.std.proofs.Common.{◌≡◌, ℕ, zero, suc, ◌+◌, ◌-◌, ◌<◌, ◌≤◌, ◌||◌, Bool, true, false, List, [], ◌∷◌, ◌++◌, filter, count_by, cond, length, Option}
+use Rattle.std.proofs.Common.{Some, None, Result, Ok, Err, nat_le, if◌then◌else◌, refl, ap, sym, subst, ◌∙◌, arith}
 use Rattle.std.proofs.lemmas.Bool.Decides.{nat_tests}
 use Rattle.std.proofs.lemmas.List.Sums.{sum_by-cons}
 use Rattle.bac_npdu.specs.Peers.{PeerView}
@@ -13,7 +14,8 @@ use Rattle.bac_segment.specs.Window.{outgoing}
 use Rattle.bac_protocol.specs.Service.{Octets}
 use Rattle.bac_protocol.specs.Sizes.{Way, RequestFault}
 use Rattle.bac_protocol.specs.Sizes.Way.{InOne, InSegments}
-use Rattle.bac_ends.specs.Ends.{Client, ClientEnd, ClientSlot, AskOutcome, AskRefusal, CannotGo, Held, MOST_ASKS, context_of, kept, is_held, is_held_there, is_id_held, is_slot_held, has_no_slot, least_not, accepts, asks_by_way, asks_for, asks_with_id}
+use Rattle.bac_ends.specs.Ends.{Client, ClientEnd, ClientSlot, AskOutcome, AskRefusal, CannotGo, Held, MOST_ASKS, context_of, kept, is_held, is_held_there}
+use Rattle.bac_ends.specs.Ends.{is_id_held, is_slot_held, has_no_slot, least_not, accepts, asks_by_way, asks_for, asks_with_id}
 use Rattle.bac_ends.specs.Ends.Held.{Open}
 use Rattle.bac_ends.specs.Keys as keys
 use Rattle.bac_ends.specs.Views.{code_same_key, peer_key_view, slot_view, slots_view}
