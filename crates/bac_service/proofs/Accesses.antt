@@ -301,8 +301,8 @@ unfolding write_access_at
 write_access_exact =
     let records = enclosed_exact 1 (lit< tt) NoString counted_at Counted counted_exact (λ rest. no_string_closing 1 rest (lit< tt)) in
     let counted = that_exact Anything Inconsistent are_counted (enclosed_at 1 counted_at) (λ t. Enclosed 1 (Counted t)) records in
-    let one =
-    made_exact Anything written_records (that_at Inconsistent are_counted (enclosed_at 1 counted_at)) (That are_counted (λ t. Enclosed 1 (Counted t))) counted in
+    let one = made_exact Anything written_records (that_at Inconsistent are_counted (enclosed_at 1 counted_at)) (That are_counted (λ t. Enclosed 1 (Counted t)))
+    counted in
     let other = made_exact Anything written_stream (enclosed_at 0 content_at) (λ t. Enclosed 0 (Content t))
     (enclosed_exact 0 (lit< tt) Anything content_at Content content_exact (λ rest. tt)) in
     either_exact Anything Anything Anything (is_opened 1) (made_at written_records (that_at Inconsistent are_counted (enclosed_at 1 counted_at)))

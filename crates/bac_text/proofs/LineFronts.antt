@@ -1,6 +1,6 @@
 -- Lines and their fronts, and what is kept of them.
-use Rattle.std.proofs.Common.{◌≡◌, ◌<◌, ◌≤◌, ◌+◌, ◌-◌, min, nat_lt, ◌==◌, ◌&&◌, true, false, Bool, ℕ, zero, suc, List, [], ◌∷◌, ◌++◌, length, take, drop}
-use Rattle.std.proofs.Common.{Option, Some, None, IfSome, refl, sym, ap, subst, ◌∙◌, arith, rules, append_assoc, append-nil, length-take}
+use Rattle.std.proofs.Common.{◌≡◌, ◌<◌, ◌≤◌, ◌+◌, min, nat_lt, ◌==◌, true, false, Bool, ℕ, zero, suc, List, [], ◌∷◌, ◌++◌, length, take, drop}
+use Rattle.std.proofs.Common.{Option, Some, None, IfSome, refl, sym, ap, subst, ◌∙◌, arith, append_assoc, append-nil, length-take}
 use Rattle.std.proofs.Common.{length-take-le, if◌then◌else◌, cond}
 use Rattle.std.proofs.KnownBytes.{starts_with_rest}
 use Rattle.std.proofs.lemmas.Bool.Decides.{nat_tests}
@@ -12,7 +12,7 @@ use Rattle.std.specs.Io.BufRead.{drop_through, DropsConsumable}
 use Rattle.std.specs.Io.KnownBytes.{Keeps}
 use Rattle.bac_text.specs.Capture.{capture_at}
 use Rattle.bac_text.specs.Lines.{LINE_END, LINE_LIMIT, is_line_end, line_in, lines_of, onto_first, short_capture_at}
-use Rattle.bac_text.specs.NextLine.{kept, IsFront, IsRest, IsPart, IsLine, IsEmptyInput, IsNextLine}
+use Rattle.bac_text.specs.NextLine.{kept, IsRest, IsPart, IsLine, IsEmptyInput, IsNextLine}
 
 -- ---- the front of a list
 

@@ -1,10 +1,10 @@
 -- The lines of a layer, and of what is in it.
-use Rattle.std.proofs.Common.{◌≡◌, ℕ, List, [], ◌∷◌, ◌++◌, Option, Some, None, Result, Ok, Err, OnOk, refl, sym}
+use Rattle.std.proofs.Common.{◌≡◌, ℕ, List, [], ◌++◌, Option, Some, None, Result, Ok, Err, OnOk, refl, sym}
 use Rattle.std.proofs.lemmas.List.{append-nil}
 use Rattle.std.specs.Io.KnownBytes.{Appends, Keeps}
 use Rattle.bac_service.specs.Members.{◌⨾◌}
 use Rattle.bac_service.specs.Values.{Request, Complex}
-use Rattle.bac_text.specs.Decoded.{Is, IsLayer, IsRequestLine, IsComplexLine, AreRequestLines, AreComplexLines, AreLayerLines, fault_line, AreLines}
+use Rattle.bac_text.specs.Decoded.{Is, IsLayer, AreRequestLines, AreComplexLines, AreLayerLines, fault_line, AreLines}
 use Rattle.bac_text.specs.declared.fault.LayerFault.{LayerFault}
 use Rattle.bac_text.specs.declared.status.Status.{Status}
 use Rattle.bac_text.specs.declared.status.Status.TheVariants.{Done, Faulty}

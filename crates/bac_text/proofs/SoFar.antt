@@ -9,9 +9,9 @@ use Rattle.bac_text.specs.declared.fault.LineFault.{LineFault}
 use Rattle.bac_text.specs.declared.status.Status.{Status}
 use Rattle.bac_text.specs.declared.status.Status.TheVariants as status
 use Rattle.bac_text.specs.Checked.{verdict_text, verdicts_text, tally_text, IsChecked, IsReportOf}
-use Rattle.bac_text.specs.Checking.{Count, count_of, IsCounted, IsNextCounted, IsStep, IsSoFar, AreSoFar, IsCountOf, AreCounted}
+use Rattle.bac_text.specs.Checking.{Count, count_of, IsCounted, IsNextCounted, IsStep, AreSoFar, IsCountOf, AreCounted}
 use Rattle.bac_text.specs.Lines.{lines_of, line_in, AreJudged, IsJudged, short_capture_at, good_among, LINE_END}
-use Rattle.bac_text.specs.NextLine.{kept, IsNextLine}
+use Rattle.bac_text.specs.NextLine.{IsNextLine}
 use Rattle.bac_text.specs.Statuses.{IsTallied}
 use Rattle.bac_text.proofs.LineFronts.{first_line, kept_capture}
 use Rattle.std.specs.Io.BufRead.{drop_through}

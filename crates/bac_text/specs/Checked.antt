@@ -1,10 +1,10 @@
 -- What `bac check` prints of a capture, and how it ends.
-use Rattle.std.specs.Prelude.{◌≡◌, ℕ, suc, ◌+◌, ◌-◌, ◌<◌, ◌++◌, Bool, true, false, List, [], ◌∷◌, length, codes, decimal, ⊤, Option, Some, None}
+use Rattle.std.specs.Prelude.{ℕ, ◌+◌, ◌-◌, ◌++◌, List, [], ◌∷◌, length, codes, decimal, ⊤, Option, Some, None}
 use Rattle.std.specs.Io.KnownBytes.{Appends}
 use Rattle.bac_text.specs.declared.fault.LineFault.{LineFault}
 use Rattle.bac_text.specs.declared.status.Status.{Status}
 use Rattle.bac_text.specs.declared.status.Status.TheVariants.{Done, Faulty, CommandLine, Output, Memory}
-use Rattle.bac_text.specs.Lines.{lines_of, short_capture_at, IsJudged, AreJudged, good_among}
+use Rattle.bac_text.specs.Lines.{lines_of, AreJudged, good_among}
 use Rattle.bac_text.specs.Statuses.{IsTallied}
 use Rattle.bac_text.specs.Texts.{line_fault_text, line_end}
 

@@ -18,3 +18,4 @@ pub mod Computed
 pub mod NodeLaws
 pub mod Apart
 pub mod TickLaws
+pub mod Answered

@@ -13,7 +13,13 @@ use Rattle.bac_npdu.proofs.Datagrams.{carries_one, means_one, dropped_means_none
 use Rattle.bac_segment.specs.Window.{Outgoing, resume}
 use Rattle.bac_service.proofs.Wholes.{request_again}
 use Rattle.bac_service.proofs.OnlySpelling.{one_request}
+use Rattle.bac_service.specs.Values.{choice_of}
+use Rattle.bac_service.specs.Replies as plain
+use Rattle.bac_service.specs.Spellings.{complex_spelling}
 use Rattle.bac_store.specs.Replies.{reply_to}
+use Rattle.bac_store.specs.ReplyKinds.{FitsChoice}
+use Rattle.bac_store.proofs.ReplyKinds.{replies_fit}
+use Rattle.bac_protocol.specs.Service as machine
 use Rattle.bac_protocol.specs.declared.times.TheConstants.{KEEP}
 use Rattle.bac_protocol.specs.Context.{Context}
 use Rattle.bac_protocol.specs.Sizes.Way.{InOne}
@@ -28,11 +34,11 @@ use Rattle.bac_slots.specs.Slots.{value_at, IsDistinct}
 use Rattle.bac_slots.proofs.Values.{set_back}
 use Rattle.bac_ends.specs.Keys.{PeerKey, same_key}
 use Rattle.bac_ends.specs.Ends.{context_of, is_free, server_goes, act_at, put_entry, set_or_put}
-use Rattle.bac_server.specs.Services.{service_of, outcome_by}
+use Rattle.bac_server.specs.Services.{service_of, outcome_of, outcome_by}
 use Rattle.bac_world.specs.Services.{Performed, ArePerformed, store_after}
 use Rattle.bac_world.specs.Node.{Node, Outcome, Cause, NodeOn, IsWhy, IsDropped, IsHeardBy, IsServerTurn}
 use Rattle.bac_world.specs.Laws.{IsMeaningless, DropsExactly, Gets, SendsAlone, NewIsPerformed, IsEntry, IsAnsweredOnly, RepeatGetsKeptReply}
-use Rattle.bac_world.specs.Laws.{IsResumed, StoppedIsResumed}
+use Rattle.bac_world.specs.Laws.{IsResumed, StoppedIsResumed, StoresReply}
 use Rattle.bac_world.proofs.Slots.{keys_equivalent}
 use Rattle.bac_world.proofs.Table.{entry_here}
 
@@ -201,6 +207,15 @@ new_is_performed now old new o key choice limits service gets dead free r spelle
     made (Some d) k =
         let same : d.request ≡ r = one_request choice d.request r service k.what.request spelled in
         λ i. Some (record { key = k.key i; request = same i; reply = (k.what.reply ∙ ap (reply_to old.store) same) i })
+
+pub stores_reply : StoresReply
+stores_reply s r = go (reply_to s r) (replies_fit s r)
+  where
+    go : (p : plain.Reply) → FitsChoice (choice_of r) p → (reply : machine.Reply) × (outcome_of p ≡ machine.Outcome.Replies reply)
+    go plain.Reply.Simple h = (machine.Reply.Simple, refl)
+    go (plain.Reply.Complex c) h = (machine.Reply.Complex (complex_spelling c), refl)
+    go (plain.Reply.Error class code) h = (machine.Reply.Error class code, refl)
+    go (plain.Reply.Reject reason) h = absurd h
 
 -- A repeated request.
 

@@ -8,6 +8,7 @@ use Rattle.bac_npdu.specs.Datagram.{Means}
 use Rattle.bac_segment.specs.Window.{Outgoing, resume}
 use Rattle.bac_service.specs.Values.{Request}
 use Rattle.bac_service.specs.Requests.{SpellsRequest}
+use Rattle.bac_store.specs.Stores.{Store}
 use Rattle.bac_store.specs.Replies.{reply_to}
 use Rattle.bac_store.specs.Changes.{after}
 use Rattle.bac_protocol.specs.Sizes.{reply_way_of}
@@ -71,6 +72,10 @@ pub record IsPerformedNow (now : ℕ) (old new : Node) (o : Outcome) (key : Peer
         request = Some service;
         state = Done (reply_apdu (context_of old.settings now key) choice reply);
       })
+
+-- a store replies to each request: a Reject is for octets that are none
+abbrev pub StoresReply : Type 0
+StoresReply = (s : Store) (r : Request) → (reply : Reply) × (outcome_of (reply_to s r) ≡ Replies reply)
 
 -- a Confirmed-Request without SEG that comes with no live entry and a free slot, whose service data spell a request, and whose reply, in octets, fits
 -- one APDU

@@ -6,3 +6,4 @@ pub mod Examples
 pub mod Laws
 pub mod Keys
 pub mod Ticks
+pub mod AnsweredRun

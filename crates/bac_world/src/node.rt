@@ -1,5 +1,5 @@
 //! What a node does with a datagram and with a tick.
-ghost use Rattle.bac_world.specs.Laws.{DropsExactly, NewIsPerformed, RepeatGetsKeptReply, StoppedIsResumed};
+ghost use Rattle.bac_world.specs.Laws.{DropsExactly, NewIsPerformed, RepeatGetsKeptReply, StoppedIsResumed, StoresReply};
 ghost use Rattle.bac_world.specs.Keys.{KeysStayApart};
 ghost use Rattle.bac_world.specs.Ticks.{TickRepeats};
 
@@ -13,6 +13,11 @@ pub fn drops_exactly()
 /// one datagram of that reply goes out, that request is performed with it, the store becomes the one after it, and the reply is kept.
 pub fn new_request_is_performed()
     ensures { NewIsPerformed }
+{}
+
+/// A store has a reply for each request, which is no Reject: only octets that spell none are rejected.
+pub fn stores_reply()
+    ensures { StoresReply }
 {}
 
 /// A Confirmed-Request without SEG that comes for a live entry of such a request, which keeps a reply of one APDU: with the same choice and data that reply

@@ -39,34 +39,50 @@ fn priorities_are_1_to_16(rt: HostRuntime) {
     }
 }
 
+fn file_write_in(octets: &[u8]) -> Option<WriteFile<Content<'_>, Records<'_>>> {
+    match read_request(7, octets) {
+        Ok(AnyRequest::WriteFile(write)) => Some(write),
+        _ => None,
+    }
+}
+
+fn records_in(octets: &[u8]) -> Option<WriteRecords<Records<'_>>> {
+    match file_write_in(octets)?.access {
+        WriteAccess::Records(records) => Some(records),
+        WriteAccess::Stream(_) => None,
+    }
+}
+
+fn stream_in(octets: &[u8]) -> Option<WriteStream<Content<'_>>> {
+    match file_write_in(octets)?.access {
+        WriteAccess::Stream(stream) => Some(stream),
+        WriteAccess::Records(_) => None,
+    }
+}
+
 #[test]
 fn reads_records(rt: HostRuntime) -> Result<(), Fail> {
     let octets = octets_of(rt.alloc(), "C4028000011E3100210162ABCD1F")?;
-    let run = octets_of(rt.alloc(), "62ABCD")?;
-    let Ok(AnyRequest::WriteFile(write)) = read_request(7, &octets) else {
-        return Err(Fail::from("no AtomicWriteFile"));
-    };
-    let WriteAccess::Records(records) = write.access else {
-        return Err(Fail::from("no records"));
-    };
-    assert_eq!(rt; Some(write.file), ObjectIdentifier::new(10, 1));
+    let records = records_in(&octets).ok_or("no records")?;
     assert_eq!(rt; (records.start, records.records.count), (0, 1));
-    assert_eq!(rt; records.records.run, run.as_slice());
+    assert!(rt; records.records.run == b"\x62\xAB\xCD".as_slice());
     Ok(())
 }
 
 #[test]
 fn reads_octets_for_a_file(rt: HostRuntime) -> Result<(), Fail> {
     let octets = octets_of(rt.alloc(), "C4028000010E31FF63AABBCC0F")?;
-    let content = octets_of(rt.alloc(), "AABBCC")?;
-    let Ok(AnyRequest::WriteFile(write)) = read_request(7, &octets) else {
-        return Err(Fail::from("no AtomicWriteFile"));
-    };
-    let WriteAccess::Stream(stream) = write.access else {
-        return Err(Fail::from("no octets"));
-    };
+    let stream = stream_in(&octets).ok_or("no octets")?;
     assert_eq!(rt; stream.start, -1);
-    assert_eq!(rt; stream.content.octets, content.as_slice());
+    assert!(rt; stream.content.octets == b"\xAA\xBB\xCC".as_slice());
+    Ok(())
+}
+
+#[test]
+fn reads_which_file_is_written(rt: HostRuntime) -> Result<(), Fail> {
+    let octets = octets_of(rt.alloc(), "C4028000010E31FF63AABBCC0F")?;
+    let write = file_write_in(&octets).ok_or("no AtomicWriteFile")?;
+    assert_eq!(rt; Some(write.file), ObjectIdentifier::new(10, 1));
     Ok(())
 }
 

@@ -1,4 +1,4 @@
-use Rattle.std.proofs.Common.{sym, ◌∙◌, arith, subst, length, ◌≤◌, ◌≡◌}
+use Rattle.std.proofs.Common.{sym, ◌∙◌, arith, length, ◌≡◌}
 use Rattle.bac_text.specs.Lines.{line_in}
 use Rattle.bac_text.proofs.LineFronts.{len_some, len_none, line_within}
 use Rattle.bac_text.proofs.lines.line_len.Goals as goal

@@ -1,0 +1,183 @@
+-- An ask: the least invoke ID, the slots after it, and how it is refused.
+use Rattle.std.proofs.Common.{◌≡◌, ℕ, zero, suc, ◌+◌, ◌-◌, ◌<◌, ◌≤◌, ◌||◌, Bool, true, false, List, [], ◌∷◌, ◌++◌, filter, count_by, cond, length, Option, Some, None, Result, Ok, Err, nat_le, if◌then◌else◌, refl, ap, sym, subst, ◌∙◌, arith}
+use Rattle.std.proofs.lemmas.Bool.Decides.{nat_tests}
+use Rattle.std.proofs.lemmas.List.Sums.{sum_by-cons}
+use Rattle.bac_npdu.specs.Peers.{PeerView}
+use Rattle.bac_slots.specs.declared.slot.Slot.{Slot}
+use Rattle.bac_slots.specs.Slots.{value_at, keep}
+use Rattle.bac_protocol.specs.Context.{Settings, Context}
+use Rattle.bac_protocol.specs.Client.{Ask, Ticket, after, asked_ticket, new_ticket, request_apdu, sends_request_window}
+use Rattle.bac_protocol.specs.Client.Reaction.{GoesOn}
+use Rattle.bac_protocol.specs.Client.Phase.{AwaitConfirmation}
+use Rattle.bac_segment.specs.Window.{outgoing}
+use Rattle.bac_protocol.specs.Service.{Octets}
+use Rattle.bac_protocol.specs.Sizes.{Way, RequestFault}
+use Rattle.bac_protocol.specs.Sizes.Way.{InOne, InSegments}
+use Rattle.bac_ends.specs.Ends.{Client, ClientEnd, ClientSlot, AskOutcome, AskRefusal, CannotGo, Held, MOST_ASKS, context_of, kept, is_held, is_held_there, is_id_held, is_slot_held, has_no_slot, least_not, accepts, asks_by_way, asks_for, asks_with_id}
+use Rattle.bac_ends.specs.Ends.Held.{Open}
+use Rattle.bac_ends.specs.Keys as keys
+use Rattle.bac_ends.specs.Views.{code_same_key, peer_key_view, slot_view, slots_view}
+use Rattle.bac_ends.specs.declared.peer_key.PeerKey.{PeerKey}
+use Rattle.bac_ends.proofs.Keyed.{value_viewed, put_viewed, filter_viewed}
+use Rattle.bac_client.specs.Requests.{OutgoingRequest, ask_at, request_by_way}
+use Rattle.bac_requester.specs.Turns.{Asks, AsksTable, MayBegin}
+use Rattle.bac_requester.specs.Views.{Requester}
+use Rattle.bac_requester.specs.declared.asking.Asked.{Asked}
+use Rattle.bac_requester.specs.declared.asking.AskFault.{AskFault}
+
+abbrev Slots : Type 0
+Slots = List (Slot PeerKey Client)
+
+-- The least number that a test refuses.
+
+abbrev pub or_else : Bool → (later : Option ℕ) → ℕ → Option ℕ
+or_else b later n = if b then later else Some n
+
+step : (test : ℕ → Bool) (n : ℕ) (b : Bool) → n < 256 → test n ≡ b → least_not test (256 - n) n ≡ or_else b (least_not test (256 - (n + 1)) (n + 1)) n
+step test n b lt is =
+    let count : 256 - n ≡ suc (256 - (n + 1)) = omega arith in
+    ap (λ k. least_not test k n) count ∙ ap (λ x. or_else x (least_not test (256 - (n + 1)) (n + 1)) n) is
+
+pub least_more : (test : ℕ → Bool) (n : ℕ) (whole : Option ℕ) → n < 256 → least_not test (256 - n) n ≡ whole → test n ≡ true
+    → least_not test (256 - (n + 1)) (n + 1) ≡ whole
+least_more test n whole lt e t = sym (step test n true lt t) ∙ e
+
+pub least_found : (test : ℕ → Bool) (n : ℕ) (whole : Option ℕ) → n < 256 → least_not test (256 - n) n ≡ whole → test n ≡ false → Some n ≡ whole
+least_found test n whole lt e t = sym (step test n false lt t) ∙ e
+
+pub least_none : (test : ℕ → Bool) (n : ℕ) (whole : Option ℕ) → 256 ≤ n → least_not test (256 - n) n ≡ whole → None ≡ whole
+least_none test n whole le e = let count : 256 - n ≡ 0 = omega arith in sym (ap (λ k. least_not test k n) count) ∙ e
+
+pub least_free : (test : ℕ → Bool) (count from id : ℕ) → Some id ≡ least_not test count from → test id ≡ false
+least_free test zero from id e = absurd cc
+least_free test (suc count) from id e = go (test from) refl e (λ f. least_free test count (from + 1) id f)
+  where
+    go : (b : Bool) → test from ≡ b → Some id ≡ or_else b (least_not test count (from + 1)) from
+        → (Some id ≡ least_not test count (from + 1) → test id ≡ false) → test id ≡ false
+    go true is e again = again e
+    go false is e again = let same : id ≡ from = cc in ap test same ∙ is
+
+-- The slots.
+
+pub id_held : (now : ℕ) (key : PeerKey) (slots : Slots) (o : Option Client) → value_at code_same_key key slots ≡ o
+    → is_held_there now o ≡ is_id_held now (slots_view slots) (peer_key_view key).peer key.invoke_id
+id_held now key slots o is = ap (λ p. is_held_there now p) (sym is ∙ value_viewed Client key slots)
+
+module _ (now : ℕ) where
+  abbrev pub test : Client → Bool
+  test v = is_held now v.held
+
+  abbrev pub swept : Slots → Slots
+  swept slots = filter (λ s. test s.value) slots
+
+  pub absent_after : (key : PeerKey) (slots after : Slots) → after ≡ swept slots
+      → value_at code_same_key key (swept slots) ≡ keep test (value_at code_same_key key slots)
+      → is_id_held now (slots_view slots) (peer_key_view key).peer key.invoke_id ≡ false → value_at code_same_key key after ≡ None
+  absent_after key slots after e law free =
+      ap (λ l. value_at code_same_key key l) e ∙ law ∙ go (value_at code_same_key key slots) (id_held now key slots _ refl ∙ free)
+    where
+      go : (o : Option Client) → is_held_there now o ≡ false → keep test o ≡ None
+      go None f = refl
+      go (Some v) f = ap (λ b. if b then Some v else None) f
+
+  pub count_viewed : (slots : Slots) → count_by (is_slot_held now) (slots_view slots) ≡ count_by (λ s. test s.value) slots
+  count_viewed [] = refl
+  count_viewed (s ∷ slots) =
+      let f : Slot PeerKey Client → ℕ = λ y. cond (test y.value) 1 0 in
+      let h : ClientSlot → ℕ = λ y. cond (is_slot_held now y) 1 0 in
+      sum_by-cons h (slot_view s) (slots_view slots) ∙ ap (λ z. f s + z) (count_viewed slots) ∙ sym (sum_by-cons f s slots)
+
+  pub room_after : (slots after : Slots) (capacity room : ℕ) → after ≡ swept slots → length (swept slots) ≡ count_by (λ s. test s.value) slots
+      → count_by (is_slot_held now) (slots_view slots) < capacity → room ≡ capacity → length after < room
+  room_after slots after capacity room e law lt same =
+      let few = ap length e ∙ law ∙ sym (count_viewed slots) in omega (arith, few, lt, same)
+
+  pub entered : (key : PeerKey) (v : Client) (slots after new : Slots) → after ≡ swept slots → new ≡ after ++ record { key = key; begin = now; value = v } ∷ []
+      → slots_view new ≡ filter (is_slot_held now) (slots_view slots) ++ record { key = peer_key_view key; begin = now; value = v } ∷ []
+  entered key v slots after new e put =
+      let x : Slot PeerKey Client = record { key = key; begin = now; value = v } in
+      ap (λ l. slots_view l) put ∙ put_viewed Client after x
+      ∙ ap (λ l. l ++ slot_view x ∷ []) (ap (λ l. slots_view l) e ∙ filter_viewed Client test slots)
+
+-- The outcome.
+
+module _ (c : Settings) (now : ℕ) (peer : PeerView) (ask : Ask) (e : ClientEnd) where
+  with_id : (o : Option ℕ) → o ≡ least_not (is_id_held now e.slots peer) 256 0 → asks_for c now peer ask e ≡ asks_with_id c now peer ask e o
+  with_id o is = ap (λ p. asks_with_id c now peer ask e p) (sym is)
+
+  pub no_id : (o : Option ℕ) → o ≡ least_not (is_id_held now e.slots peer) 256 0 → o ≡ None
+      → asks_for c now peer ask e ≡ AskOutcome.Refused AskRefusal.NoInvokeId
+  no_id o is none = with_id o is ∙ ap (λ p. asks_with_id c now peer ask e p) none
+
+  abbrev chosen : ℕ → Bool → AskOutcome
+  chosen id full = if full then AskOutcome.Refused AskRefusal.NoSlot else AskOutcome.Asked (accepts c now (record { peer = peer; invoke_id = id }) ask e)
+
+  pub no_slot : (o : Option ℕ) (id : ℕ) → o ≡ least_not (is_id_held now e.slots peer) 256 0 → o ≡ Some id → has_no_slot now e ≡ true
+      → asks_for c now peer ask e ≡ AskOutcome.Refused AskRefusal.NoSlot
+  no_slot o id is some full = with_id o is ∙ ap (λ p. asks_with_id c now peer ask e p) some ∙ ap (λ b. chosen id b) full
+
+  pub accepted : (o : Option ℕ) (id : ℕ) → o ≡ least_not (is_id_held now e.slots peer) 256 0 → o ≡ Some id → has_no_slot now e ≡ false
+      → asks_for c now peer ask e ≡ AskOutcome.Asked (accepts c now (record { peer = peer; invoke_id = id }) ask e)
+  accepted o id is some full = with_id o is ∙ ap (λ p. asks_with_id c now peer ask e p) some ∙ ap (λ b. chosen id b) full
+
+  pub may_begin : (o : Option ℕ) (id : ℕ) → o ≡ least_not (is_id_held now e.slots peer) 256 0 → o ≡ Some id → has_no_slot now e ≡ false
+      → MayBegin (asks_for c now peer ask e)
+  may_begin o id is some full = subst MayBegin (sym (accepted o id is some full)) tt
+
+pub has_room : (now : ℕ) (e : ClientEnd) → has_no_slot now e ≡ false → count_by (is_slot_held now) e.slots < e.capacity
+has_room now e f = go (count_by (is_slot_held now) e.slots) e.capacity (nat_le MOST_ASKS e.asked) f
+  where
+    go : (n m : ℕ) (b : Bool) → (nat_le m n || b) ≡ false → n < m
+    go n m true f = grind (arith, nat_tests)
+    go n m false f = grind (arith, nat_tests)
+
+pub has_number : (now : ℕ) (e : ClientEnd) → has_no_slot now e ≡ false → e.asked < MOST_ASKS
+has_number now e f = go (nat_le e.capacity (count_by (is_slot_held now) e.slots)) e.asked MOST_ASKS f
+  where
+    go : (b : Bool) (n m : ℕ) → (b || nat_le m n) ≡ false → n < m
+    go true n m f = absurd cc
+    go false n m f = grind (arith, nat_tests)
+
+-- a new ticket is open
+pub kept_open : (c : Context) (ask : Ask) → kept (asked_ticket c ask) ≡ Open (asked_ticket c ask)
+kept_open c ask = go ask.whole
+  where
+    go : (b : Bool)
+        → kept (after c.now (new_ticket c.now ask) (if b then GoesOn AwaitConfirmation (request_apdu c ask ∷ []) else sends_request_window c ask.choice (outgoing ask.pieces) false))
+        ≡ Open (after c.now (new_ticket c.now ask) (if b then GoesOn AwaitConfirmation (request_apdu c ask ∷ []) else sends_request_window c ask.choice (outgoing ask.pieces) false))
+    go true = refl
+    go false = refl
+
+-- The way of a request.
+
+abbrev pub by_request : Settings → (now : ℕ) → PeerView → ClientEnd → Result OutgoingRequest RequestFault → AskOutcome
+by_request c now peer e (Ok r) = asks_for c now peer (ask_at now r) e
+by_request c now peer e (Err why) = AskOutcome.Refused (CannotGo why)
+
+pub by_way : (c : Settings) (now : ℕ) (peer : PeerView) (choice : ℕ) (octets : Octets) (e : ClientEnd) (way : Way RequestFault)
+    → asks_by_way c now peer choice octets e way ≡ by_request c now peer e (request_by_way choice octets way)
+by_way c now peer choice octets e InOne = refl
+by_way c now peer choice octets e (InSegments pieces) = refl
+by_way c now peer choice octets e (Way.Refused why) = refl
+
+-- The end after an ask.
+
+pub entered_end : (c : Settings) (now : ℕ) (key : keys.PeerKey) (ask : Ask) (slots new : List ClientSlot) (capacity room number : ℕ) (t : Ticket)
+    → t ≡ asked_ticket (context_of c now key) ask
+    → new ≡ filter (is_slot_held now) slots ++ record { key = key; begin = now; value = record { number = number; held = Open t } } ∷ [] → room ≡ capacity
+    → (let e : ClientEnd = record { slots = new; capacity = room; asked = number + 1 } in e)
+    ≡ (accepts c now key ask (record { slots = slots; capacity = capacity; asked = number })).end
+entered_end c now key ask slots new capacity room number t is put same =
+    let with_slots : List ClientSlot → ℕ → ClientEnd = λ l k. record { slots = l; capacity = k; asked = number + 1 } in
+    let with_held : Held → List ClientSlot = λ h. filter (is_slot_held now) slots ++ record { key = key; begin = now; value = record { number = number; held = h } } ∷ [] in
+    ap (λ l. with_slots l room) put ∙ ap (λ k. with_slots (with_held (Open t)) k) same
+    ∙ ap (λ h. with_slots (with_held h) capacity) (ap (λ u. Open u) is ∙ sym (kept_open (context_of c now key) ask))
+
+pub asked_so : (s : Requester) (outcome other : AskOutcome) (result : Result Asked AskFault) (new : ClientEnd) → outcome ≡ other
+    → AsksTable other s.end result new → Asks outcome s result (record s { end = new })
+asked_so s outcome other result new is did = go result outcome (subst (λ (o : AskOutcome). AsksTable o s.end result new) (sym is) did)
+  where
+    go : (result : Result Asked AskFault) (outcome : AskOutcome) → AsksTable outcome s.end result new → Asks outcome s result (record s { end = new })
+    go (Ok x) (AskOutcome.Refused why) did = absurd did
+    go (Ok x) (AskOutcome.Asked a) did = record { end = ap (λ k. record s { end = k }) did.0; ticket = did.1; invoke_id = did.2; sends = did.3 }
+    go (Err e) outcome did = (did.0, ap (λ k. record s { end = k }) did.1)

@@ -1,0 +1,4 @@
+pub mod Tables
+pub mod Turning
+pub mod Ticks
+pub mod Accepting

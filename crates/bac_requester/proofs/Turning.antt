@@ -1,0 +1,137 @@
+-- One APDU at one slot.
+use Rattle.std.proofs.Common.{◌≡◌, ℕ, List, [], Option, Some, None, Result, Ok, Err, refl, ap, sym, subst, ◌∙◌}
+use Rattle.std.specs.Option.{option_map}
+use Rattle.bac_apdu.specs.Apdu.{Apdu}
+use Rattle.bac_service.specs.Services.{reads_reply}
+use Rattle.bac_slots.specs.declared.slot.Slot.{Slot}
+use Rattle.bac_slots.specs.Slots.{value_at, with_value}
+use Rattle.bac_slots.proofs.Slots.{with_value-none}
+use Rattle.bac_slots.proofs.Values.{set_twice, set_back}
+use Rattle.bac_protocol.specs.Service as machine
+use Rattle.bac_protocol.specs.Client.{Ticket, client_gets, ending_of, sends_of}
+use Rattle.bac_ends.specs.Ends.{Client, ClientEnd, ClientTurn, client_hears, client_hears_at, key_of, client_after, ended_with}
+use Rattle.bac_ends.specs.Ends.Held.{Open, Closed}
+use Rattle.bac_ends.specs.Keys as keys
+use Rattle.bac_ends.specs.Keys.{same_key}
+use Rattle.bac_ends.specs.Meanings as meanings
+use Rattle.bac_ends.specs.Meanings.{Finish, IsFinish}
+use Rattle.bac_ends.specs.Sends.{Datagram, IsSent, Pairwise, to_all}
+use Rattle.bac_ends.specs.Views.{code_same_key, peer_key_view, settings_view, slots_view}
+use Rattle.bac_ends.specs.declared.peer_key.PeerKey.{PeerKey}
+use Rattle.bac_ends.proofs.Keyed.{value_viewed, with_value_viewed}
+use Rattle.bac_client.specs.Reacts.{IsReacted, MeansEnd}
+use Rattle.bac_client.specs.Views.{context_view, ending_view, held_view}
+use Rattle.bac_client.specs.declared.context.Context.{Context}
+use Rattle.bac_client.specs.declared.reacted.Reacted.{Reacted}
+use Rattle.bac_npdu.specs.Peers.{PeerView}
+use Rattle.bac_value.specs.declared.memory.NoMemory.{NoMemory}
+use Rattle.bac_requester.specs.Turns.{Hears, HearsTable, IsTold, finishes_with, hears_key}
+use Rattle.bac_requester.specs.Views.{Requester, end_of, finishes_of}
+use Rattle.bac_requester.specs.declared.turn.Turn.{Turn}
+use Rattle.bac_requester.proofs.Tables.{key_equal}
+
+abbrev Slots : Type 0
+Slots = List (Slot PeerKey Client)
+
+-- the turn of an APDU that comes for a context's key
+abbrev pub turn_of : Context → Apdu → ClientEnd → ClientTurn
+turn_of c a e = hears_key (settings_view c.settings) c.moment (peer_key_view c.key) a e
+
+pub finishes_are : (number choice : ℕ) (e : Option machine.Ending) (f : Option meanings.Ending) → MeansEnd choice e f
+    → Pairwise IsFinish (ended_with number choice e) (finishes_with number f)
+finishes_are number choice None None m = tt
+finishes_are number choice None (Some f) m = absurd m
+finishes_are number choice (Some e) None m = absurd m
+finishes_are number choice (Some e) (Some f) m = (record { ticket = refl; how = m }, tt)
+
+turn_at : (c : Context) (a : Apdu) (slots : Slots) (capacity asked : ℕ) (o : Option Client) → value_at code_same_key c.key slots ≡ o
+    → turn_of c a (end_of slots capacity asked)
+    ≡ client_hears_at (settings_view c.settings) reads_reply c.moment a (end_of slots capacity asked) (peer_key_view c.key) o
+turn_at c a slots capacity asked o is =
+    ap (λ p. client_hears_at (settings_view c.settings) reads_reply c.moment a (end_of slots capacity asked) (peer_key_view c.key) p)
+    (sym (value_viewed Client c.key slots) ∙ is)
+
+same_end : (old new : Slots) (capacity room asked : ℕ) → new ≡ old → room ≡ capacity → end_of new room asked ≡ end_of old capacity asked
+same_end old new capacity room asked e f = ap (λ l. end_of l room asked) e ∙ ap (λ k. end_of old k asked) f
+
+nothing_told : (e : ClientEnd) (x : Turn) → x.sends.items ≡ [] → finishes_of x.ended ≡ []
+    → IsTold (record { end = e; sends = []; ended = [] }) x.sends.items (finishes_of x.ended)
+nothing_told e x f g = record {
+  sends = subst (λ (l : List Datagram). Pairwise IsSent [] l) (sym f) tt;
+  finishes = subst (λ (l : List Finish). Pairwise IsFinish [] l) (sym g) tt;
+}
+
+-- the key has no slot
+pub heard_nothing : (c : Context) (a : Apdu) (old new : Slots) (v : Client) (capacity room asked : ℕ) (x : Turn)
+    → value_at code_same_key c.key old ≡ None → new ≡ with_value code_same_key c.key v old → room ≡ capacity
+    → x.sends.items ≡ [] → finishes_of x.ended ≡ []
+    → HearsTable (turn_of c a (end_of old capacity asked)) (end_of old capacity asked) (Ok x) (end_of new room asked)
+heard_nothing c a old new v capacity room asked x is set same sent ended =
+    let e : ClientEnd = end_of old capacity asked in
+    let kept = same_end old new capacity room asked (set ∙ with_value-none code_same_key c.key v old is) same in
+    subst (λ (t : ClientTurn). HearsTable t e (Ok x) (end_of new room asked)) (sym (turn_at c a old capacity asked None is)) (kept, nothing_told e x sent ended)
+
+-- what was out is back
+back : (key : PeerKey) (old mid new : Slots) (u v w : Client) → value_at code_same_key key old ≡ Some u → mid ≡ with_value code_same_key key v old
+    → w ≡ u → new ≡ with_value code_same_key key w mid → new ≡ old
+back key old mid new u v w is out same set =
+    set ∙ ap (λ l. with_value code_same_key key w l) out ∙ set_twice PeerKey Client code_same_key key_equal key v w old
+    ∙ ap (λ y. with_value code_same_key key y old) same ∙ set_back PeerKey Client code_same_key key_equal key u old is
+
+-- its ticket has ended
+pub heard_closed : (c : Context) (a : Apdu) (old mid new : Slots) (v w : Client) (capacity room asked number first : ℕ) (x : Turn)
+    → value_at code_same_key c.key old ≡ Some (record { number = number; held = Closed first }) → mid ≡ with_value code_same_key c.key v old
+    → w ≡ record { number = number; held = Closed first } → new ≡ with_value code_same_key c.key w mid → room ≡ capacity
+    → x.sends.items ≡ [] → finishes_of x.ended ≡ []
+    → HearsTable (turn_of c a (end_of old capacity asked)) (end_of old capacity asked) (Ok x) (end_of new room asked)
+heard_closed c a old mid new v w capacity room asked number first x is out same set kept sent ended =
+    let e : ClientEnd = end_of old capacity asked in
+    subst (λ (t : ClientTurn). HearsTable t e (Ok x) (end_of new room asked)) (sym (turn_at c a old capacity asked _ is))
+    (same_end old new capacity room asked (back c.key old mid new _ v w is out same set) kept, nothing_told e x sent ended)
+
+-- out of memory
+pub heard_unchanged : (key : PeerKey) (old mid new : Slots) (u v w : Client) (capacity room asked : ℕ) → value_at code_same_key key old ≡ Some u
+    → mid ≡ with_value code_same_key key v old → w ≡ u → new ≡ with_value code_same_key key w mid → room ≡ capacity
+    → end_of new room asked ≡ end_of old capacity asked
+heard_unchanged key old mid new u v w capacity room asked is out same set kept =
+    same_end old new capacity room asked (back key old mid new u v w is out same set) kept
+
+-- its ticket goes on
+pub heard_open : (c : Context) (a : Apdu) (old mid new : Slots) (v w : Client) (capacity room asked number : ℕ) (t : Ticket) (r : Reacted) (x : Turn)
+    → value_at code_same_key c.key old ≡ Some (record { number = number; held = Open t }) → mid ≡ with_value code_same_key c.key v old
+    → IsReacted c t (client_gets (context_view c) reads_reply t a) r
+    → w ≡ record { number = number; held = held_view r.held } → new ≡ with_value code_same_key c.key w mid → room ≡ capacity
+    → x.sends.items ≡ r.sends.items → finishes_of x.ended ≡ finishes_with number (option_map ending_view r.ended)
+    → HearsTable (turn_of c a (end_of old capacity asked)) (end_of old capacity asked) (Ok x) (end_of new room asked)
+heard_open c a old mid new v w capacity room asked number t r x is out did same set kept sent ended =
+    let e : ClientEnd = end_of old capacity asked in
+    let next : Client = client_after c.moment number t (client_gets (context_view c) reads_reply t a) in
+    let value : w ≡ next = same ∙ ap (λ h. record { number = number; held = h }) did.held in
+    let slots : new ≡ with_value code_same_key c.key next old =
+    set ∙ ap (λ l. with_value code_same_key c.key w l) out ∙ set_twice PeerKey Client code_same_key key_equal c.key v w old
+    ∙ ap (λ y. with_value code_same_key c.key y old) value in
+    let viewed : slots_view new ≡ with_value same_key (peer_key_view c.key) next (slots_view old) =
+    ap (λ l. slots_view l) slots ∙ with_value_viewed Client c.key next old in
+    let after : end_of new room asked ≡ record e { slots = with_value same_key (peer_key_view c.key) next (slots_view old) } =
+    ap (λ k. end_of new k asked) kept ∙ ap (λ l. record e { slots = l }) viewed in
+    subst (λ (t : ClientTurn). HearsTable t e (Ok x) (end_of new room asked)) (sym (turn_at c a old capacity asked _ is)) (
+      after,
+      record {
+        sends = subst (λ (l : List Datagram). Pairwise IsSent (to_all (peer_key_view c.key).peer (sends_of (client_gets (context_view c) reads_reply t a))) l)
+            (sym sent) did.sends;
+        finishes = subst (λ (l : List Finish). Pairwise IsFinish (ended_with number t.ask.choice (ending_of (client_gets (context_view c) reads_reply t a))) l)
+            (sym ended) (finishes_are number t.ask.choice _ _ did.ended);
+      },
+    )
+
+-- the turn at the key that the APDU has for its peer
+pub heard : (s : Requester) (now : ℕ) (peer : PeerView) (a : Apdu) (key : keys.PeerKey) (result : Result Turn NoMemory) (new : ClientEnd) → key ≡ key_of peer a
+    → HearsTable (hears_key s.settings now key a s.end) s.end result new
+    → Hears (client_hears s.settings reads_reply now peer a s.end) s result (record s { end = new })
+heard s now peer a key result new is did =
+    go result (subst (λ (k : keys.PeerKey). HearsTable (hears_key s.settings now k a s.end) s.end result new) is did)
+  where
+    go : (result : Result Turn NoMemory) → HearsTable (hears_key s.settings now (key_of peer a) a s.end) s.end result new
+        → Hears (client_hears s.settings reads_reply now peer a s.end) s result (record s { end = new })
+    go (Ok x) did = record { end = ap (λ k. record s { end = k }) did.0; told = did.1 }
+    go (Err e) did = ap (λ k. record s { end = k }) did

@@ -1,0 +1,119 @@
+-- What the calls answer.
+use Rattle.std.specs.Prelude.{◌≡◌, ℕ, List, [], ◌∷◌, map, Option, Some, None, Result, Ok, Err}
+use Rattle.bac_apdu.specs.Apdu.{Apdu}
+use Rattle.bac_service.specs.Services.{reads_reply}
+use Rattle.bac_slots.specs.declared.slot.Slot.{Slot}
+use Rattle.bac_slots.specs.Slots.{value_at, with_value}
+use Rattle.bac_value.specs.declared.memory.NoMemory.{NoMemory}
+use Rattle.bac_protocol.specs.Context.{Settings}
+use Rattle.bac_ends.specs.Ends.{Client, ClientEnd, ClientSlot, ClientTurn, client_hears_at, client_tick_sends, client_tick_ends, held_ticked, context_of}
+use Rattle.bac_ends.specs.Keys as keys
+use Rattle.bac_ends.specs.Keys.{same_key}
+use Rattle.bac_ends.specs.Meanings as meanings
+use Rattle.bac_ends.specs.Meanings.{Finish, IsFinish}
+use Rattle.bac_ends.specs.Sends.{Datagram, IsSent, Pairwise}
+use Rattle.bac_ends.specs.Views.{code_same_key, peer_key_view}
+use Rattle.bac_ends.specs.declared.peer_key.PeerKey.{PeerKey}
+use Rattle.bac_requester.specs.Views.{Requester, finish_view, finishes_of}
+use Rattle.bac_requester.specs.declared.turn.Turn.{Turn}
+use Rattle.bac_requester.specs.declared.turn.Due.{Due}
+use Rattle.bac_requester.specs.declared.asking.Asked.{Asked}
+use Rattle.bac_requester.specs.declared.asking.AskFault.{AskFault}
+use Rattle.bac_requester.specs.declared.asking.AskFault.TheVariants as fault
+use Rattle.bac_protocol.specs.Sizes.{RequestFault}
+use Rattle.bac_ends.specs.Ends.{Accepted, AskOutcome, AskRefusal, CannotGo}
+
+-- what is sent and what has ended are this turn's, as datagrams and values
+pub record IsTold (turn : ClientTurn) (sent : List Datagram) (ended : List Finish) : Type 0 where
+  pub sends : Pairwise IsSent turn.sends sent
+  pub finishes : Pairwise IsFinish turn.ended ended
+
+-- the turn was done
+pub record IsDone (turn : ClientTurn) (old new : Requester) (x : Turn) : Type 0 where
+  pub end : new ≡ record old { end = turn.end }
+  pub told : IsTold turn x.sends.items (finishes_of x.ended)
+
+-- or there was no memory, and nothing has changed
+abbrev pub Hears : ClientTurn → Requester → Result Turn NoMemory → Requester → Type 0
+Hears turn old (Ok x) new = IsDone turn old new x
+Hears turn old (Err e) new = new ≡ old
+
+-- what a tick sends and ends
+abbrev pub IsDue : ClientTurn → Due → Type 0
+IsDue turn x = IsTold turn x.sends.items (map finish_view x.ended.items)
+
+-- An ask.
+
+-- an ask was accepted
+pub record IsAccepted (a : Accepted) (old new : Requester) (x : Asked) : Type 0 where
+  pub end : new ≡ record old { end = a.end }
+  pub ticket : x.ticket ≡ a.ticket
+  pub invoke_id : x.invoke_id ≡ a.invoke_id
+  pub sends : Pairwise IsSent a.sends x.sends.items
+
+abbrev pub Accepts : AskOutcome → Requester → Requester → Asked → Type 0
+Accepts (AskOutcome.Refused why) old new x = ⊥
+Accepts (AskOutcome.Asked a) old new x = IsAccepted a old new x
+
+-- an ask with that outcome would be accepted
+abbrev pub MayBegin : AskOutcome → Type 0
+MayBegin (AskOutcome.Asked a) = Unit {0}
+MayBegin (AskOutcome.Refused why) = ⊥
+
+-- the fault says why an ask with that outcome has no ticket; out of memory is told only of one that would be accepted
+abbrev pub Refuses : AskFault → AskOutcome → Type 0
+Refuses fault.SelfPeer outcome = ⊥
+Refuses fault.TooLong outcome = outcome ≡ AskOutcome.Refused (CannotGo RequestFault.TooLong)
+Refuses fault.NeedsSegments outcome = outcome ≡ AskOutcome.Refused (CannotGo RequestFault.NeedsSegments)
+Refuses fault.NoInvokeId outcome = outcome ≡ AskOutcome.Refused AskRefusal.NoInvokeId
+Refuses fault.NoSlot outcome = outcome ≡ AskOutcome.Refused AskRefusal.NoSlot
+Refuses fault.NoMemory outcome = MayBegin outcome
+
+-- what an ask of another link answers; after a fault nothing has changed
+abbrev pub Asks : AskOutcome → Requester → Result Asked AskFault → Requester → Type 0
+Asks outcome old (Ok x) new = Accepts outcome old new x
+Asks outcome old (Err e) new = Refuses e outcome × (new ≡ old)
+
+-- Steps.
+
+abbrev pub finishes_with : (ticket : ℕ) → Option meanings.Ending → List Finish
+finishes_with ticket None = []
+finishes_with ticket (Some how) = record { ticket = ticket; how = how } ∷ []
+
+-- what a tick of one slot sends and ends
+pub record IsSlotTold (c : Settings) (now : ℕ) (s : ClientSlot) (sent : List Datagram) (ended : List Finish) : Type 0 where
+  pub sends : Pairwise IsSent (client_tick_sends c now s) sent
+  pub finishes : Pairwise IsFinish (client_tick_ends c now s) ended
+
+-- a slot with the value that a function makes of it
+abbrev pub changed : {K T : Type 0} → (Slot K T → T) → Slot K T → Slot K T
+changed h s = record s { value = h s }
+
+-- an APDU comes for a key
+abbrev pub hears_key : Settings → (now : ℕ) → keys.PeerKey → Apdu → ClientEnd → ClientTurn
+hears_key c now key a e = client_hears_at c reads_reply now a e key (value_at same_key key e.slots)
+
+abbrev pub HearsTable : ClientTurn → (old : ClientEnd) → Result Turn NoMemory → (new : ClientEnd) → Type 0
+HearsTable turn old (Ok x) new = (new ≡ turn.end) × IsTold turn x.sends.items (finishes_of x.ended)
+HearsTable turn old (Err e) new = new ≡ old
+
+-- a slot's value after a tick
+abbrev pub value_ticked : Settings → (now : ℕ) → Slot PeerKey Client → Client
+value_ticked c now s = held_ticked (context_of c now (peer_key_view s.key)) s.value.number s.value.held
+
+-- the slots after a tick of the one with that key
+abbrev pub ticked_there : Settings → (now : ℕ) → PeerKey → List (Slot PeerKey Client) → Option Client → List (Slot PeerKey Client)
+ticked_there c now key slots None = slots
+ticked_there c now key slots (Some v) = with_value code_same_key key (held_ticked (context_of c now (peer_key_view key)) v.number v.held) slots
+
+abbrev pub ticked_at : Settings → (now : ℕ) → PeerKey → List (Slot PeerKey Client) → List (Slot PeerKey Client)
+ticked_at c now key slots = ticked_there c now key slots (value_at code_same_key key slots)
+
+-- the ask of a table
+abbrev pub AcceptsTable : AskOutcome → (new : ClientEnd) → Asked → Type 0
+AcceptsTable (AskOutcome.Refused why) new x = ⊥
+AcceptsTable (AskOutcome.Asked a) new x = (new ≡ a.end) × (x.ticket ≡ a.ticket) × (x.invoke_id ≡ a.invoke_id) × Pairwise IsSent a.sends x.sends.items
+
+abbrev pub AsksTable : AskOutcome → (old : ClientEnd) → Result Asked AskFault → (new : ClientEnd) → Type 0
+AsksTable outcome old (Ok x) new = AcceptsTable outcome new x
+AsksTable outcome old (Err e) new = Refuses e outcome × (new ≡ old)

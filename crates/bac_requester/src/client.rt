@@ -1,0 +1,55 @@
+//! The value of a slot.
+ghost use Rattle.std.specs.Prelude.{◌≡◌};
+ghost use Rattle.bac_ends.specs.Ends.{is_held};
+
+use bac_client::Held;
+use bac_slots::Test;
+use std::marker::Model;
+
+/// The value of a slot: a ticket's number, and what is kept of the ticket.
+#[derive(Drop)]
+pub struct Client {
+    pub(crate) number: u64,
+    pub(crate) held: Held,
+}
+
+impl Model for Client {
+    ghost use Rattle.bac_ends.specs.Ends as ends;
+
+    ghost Value = { ends.Client };
+
+    ghost use Rattle.bac_client.specs.Views.{held_view};
+
+    ghost view = { λ c. record { number = c.number; held = held_view c.held } };
+}
+
+impl Client {
+    /// Whether its invoke ID is held: its ticket is open, or no more than 135,000 milliseconds have passed since the first sending.
+    pub fn is_held(&self, now: u64) -> bool
+        ensures { result ≡ is_held now self.now.held }
+    {
+        self.held.is_held(now)
+    }
+
+    /// A value that stands in a slot while its own is out.
+    pub(crate) fn stand_in() -> Client {
+        Client {
+            number: 0,
+            held: Held::Closed { first: 0 },
+        }
+    }
+}
+
+/// Whether a slot is held at a moment.
+#[derive(Drop)]
+pub(crate) struct HeldAt {
+    pub(crate) moment: u64,
+}
+
+impl Test<Client> for HeldAt {
+    ghost passes = { λ t c. is_held t.moment c.held };
+
+    fn passes(&self, client: &Client) -> bool {
+        client.is_held(self.moment)
+    }
+}

@@ -1,0 +1,91 @@
+//! An APDU comes for a key.
+ghost use Rattle.std.specs.Prelude.{◌≡◌, ℕ, []};
+ghost use Rattle.std.specs.Option.{option_map};
+ghost use Rattle.bac_client.specs.Views.{ending_view};
+ghost use Rattle.bac_apdu.specs.Views.{apdu_view};
+ghost use Rattle.bac_ends.specs.Views.{code_same_key, peer_key_view, settings_view};
+ghost use Rattle.bac_slots.specs.Slots.{with_value};
+ghost use Rattle.bac_requester.specs.Turns.{HearsTable, finishes_with, hears_key};
+ghost use Rattle.bac_requester.specs.Views.{end_of, finishes_of};
+
+use crate::client::Client;
+use crate::turn::{Finish, Turn};
+use bac_apdu::Apdu;
+use bac_client::{Context, Ending, Held, Reacted};
+use bac_ends::{Datagram, PeerKey};
+use bac_slots::SlotTable;
+use bac_value::NoMemory;
+use std::alloc::Global;
+
+/// Sets the value back that was out.
+pub(crate) fn put_back<S: SlotTable<PeerKey, Client>>(table: &mut S, key: &PeerKey, client: Client)
+    ensures slots { S.slots table.new ≡ with_value code_same_key key.now client (S.slots table.old) }
+    ensures same { S.capacity table.new ≡ S.capacity table.old }
+{
+    let _ = table.set(key, client);
+}
+
+/// Nothing is sent or ended.
+pub(crate) fn nothing(alloc: Global) -> Turn
+    ensures sends { result.sends.items ≡ [] }
+    ensures ended { finishes_of result.ended ≡ [] }
+{
+    Turn {
+        sends: Vec::new(alloc),
+        ended: None,
+    }
+}
+
+/// What a ticket of that number sends, and how it ends.
+pub(crate) fn turn_of(number: u64, sends: Vec<Datagram>, ended: Option<Ending>) -> Turn
+    ensures sends { result.sends.items ≡ sends.items }
+    ensures ended { finishes_of result.ended ≡ finishes_with number (option_map ending_view ended) }
+{
+    match ended {
+        Some(how) => Turn {
+            sends,
+            ended: Some(Finish {
+                ticket: number,
+                how,
+            }),
+        },
+        None => Turn { sends, ended: None },
+    }
+}
+
+/// An APDU comes for a key. Where memory is refused, the slots are as they were.
+pub(crate) fn hears<S: SlotTable<PeerKey, Client>>(
+    alloc: Global,
+    context: &Context,
+    table: &mut S,
+    apdu: &Apdu<'_>,
+) -> Result<Turn, NoMemory>
+    ensures { (asked : ℕ) → HearsTable (hears_key (settings_view context.now.settings) context.now.moment (peer_key_view context.now.key) (apdu_view apdu.now)
+        (end_of (S.slots table.old) (S.capacity table.old) asked)) (end_of (S.slots table.old) (S.capacity table.old) asked) result
+        (end_of (S.slots table.new) (S.capacity table.new) asked) }
+{
+    let key = &context.key;
+    let Some(client) = table.set(key, Client::stand_in()) else {
+        return Ok(nothing(alloc));
+    };
+    let Client { number, held } = client;
+    match held {
+        Held::Closed { first } => {
+            let held = Held::Closed { first };
+            put_back(table, key, Client { number, held });
+            Ok(nothing(alloc))
+        }
+        Held::Open(ticket) => match ticket.gets(alloc, context, apdu) {
+            Ok(reacted) => {
+                let Reacted { held, sends, ended } = reacted;
+                put_back(table, key, Client { number, held });
+                Ok(turn_of(number, sends, ended))
+            }
+            Err(ticket) => {
+                let held = Held::Open(ticket);
+                put_back(table, key, Client { number, held });
+                Err(NoMemory)
+            }
+        },
+    }
+}

@@ -1,0 +1,156 @@
+//! The client's end.
+ghost use Rattle.std.specs.Prelude.{◌≡◌, ◌↔◌, [], IfOk, IsErrOf};
+ghost use Rattle.bac_apdu.specs.Views.{apdu_view, limits_view};
+ghost use Rattle.bac_npdu.specs.Views.{peer_view};
+ghost use Rattle.bac_service.specs.Services.{reads_reply};
+ghost use Rattle.bac_ends.specs.Ends.{CannotGo, client_asks, client_hears, clients_tick};
+ghost use Rattle.bac_ends.specs.Ends.AskOutcome.{Refused};
+ghost use Rattle.bac_ends.specs.Views.{settings_view};
+ghost use Rattle.bac_client.specs.Views.{fault_view};
+ghost use Rattle.bac_requester.specs.Turns.{Asks, Hears, IsDue, Refuses};
+ghost use Rattle.bac_requester.specs.Views.{Requester as Requesting};
+
+use crate::asking::{AskFault, Asked, ask};
+use crate::client::Client;
+use crate::hearing::hears;
+use crate::ticking::{commit, prepare};
+use crate::turn::{Due, Turn};
+use bac_apdu::{Apdu, Limits};
+use bac_client::{Context, OutgoingRequest, RequestFault};
+use bac_ends::{PeerKey, Settings, invoke_id_of};
+use bac_npdu::Peer;
+use bac_slots::SlotTable;
+use bac_value::NoMemory;
+use std::alloc::Global;
+use std::marker::Model;
+
+/// The client's end of a node: its transactions, in a table that is made once.
+#[derive(Drop)]
+pub struct Requester<S: SlotTable<PeerKey, Client> + Drop> {
+    alloc: Global,
+    link: [u8; 6],
+    settings: Settings,
+    table: S,
+    asked: u64,
+}
+
+impl<S: SlotTable<PeerKey, Client> + Drop> Model for Requester<S> {
+    ghost use Rattle.bac_requester.specs.Views as views;
+
+    ghost Value = { views.Requester };
+
+    ghost use Rattle.bac_ends.specs.Views.{settings_view};
+    ghost use Rattle.bac_requester.specs.Views.{end_of};
+
+    ghost view = { λ r. record { link = r.link; settings = settings_view r.settings; end = end_of (S.slots r.table) (S.capacity r.table) r.asked } };
+}
+
+/// A request that can't go, as the fault of its ask.
+fn fault_of(fault: RequestFault) -> AskFault
+    ensures { Refuses result (Refused (CannotGo (fault_view fault))) }
+{
+    match fault {
+        RequestFault::NeedsSegments => AskFault::NeedsSegments,
+        RequestFault::TooLong => AskFault::TooLong,
+    }
+}
+
+impl<S: SlotTable<PeerKey, Client> + Drop> Requester<S> {
+    /// A client's end without transactions, of a node with that link and these settings, with room for so many.
+    pub fn new(
+        alloc: Global,
+        link: [u8; 6],
+        settings: Settings,
+        slots: usize,
+    ) -> Result<Requester<S>, NoMemory>
+        ensures { IfOk result (λ r. r ≡ record { link = link; settings = settings_view settings; end = record { slots = []; capacity = slots; asked = 0 } }) }
+    {
+        let Ok(table) = S::new(alloc, slots) else {
+            return Err(NoMemory);
+        };
+        Ok(Requester {
+            alloc,
+            link,
+            settings,
+            table,
+            asked: 0,
+        })
+    }
+
+    /// Asks a peer that takes so much, with the service data of a request of a service choice. It takes the least invoke ID that is not held for the
+    /// peer, and a slot that is not held. After a fault nothing has changed.
+    pub fn ask(
+        &mut self,
+        now: u64,
+        peer: &Peer,
+        limits: &Limits,
+        choice: u8,
+        service: Vec<u8>,
+    ) -> Result<Asked, AskFault>
+        ensures own { IsErrOf result AskFault.SelfPeer ↔ (peer.now.link ≡ self.old.link) }
+        ensures asks { (peer.now.link ≡ self.old.link → ⊥)
+            → Asks (client_asks self.old.settings now (peer_view peer.now) (limits_view limits.now) choice service.items self.old.end) self.old result self.new }
+        ensures same { peer.now.link ≡ self.old.link → self.new ≡ self.old }
+    {
+        if peer.link == self.link {
+            return Err(AskFault::SelfPeer);
+        }
+        self.ask_other(now, peer, limits, choice, service)
+    }
+
+    /// Asks a peer of another link.
+    fn ask_other(
+        &mut self,
+        now: u64,
+        peer: &Peer,
+        limits: &Limits,
+        choice: u8,
+        service: Vec<u8>,
+    ) -> Result<Asked, AskFault>
+        ensures { Asks (client_asks self.old.settings now (peer_view peer.now) (limits_view limits.now) choice service.items self.old.end) self.old result self.new }
+    {
+        let request = match OutgoingRequest::new(&self.settings, limits, choice, service) {
+            Ok(request) => request,
+            Err(fault) => return Err(fault_of(fault)),
+        };
+        ask(
+            self.alloc,
+            &self.settings,
+            &mut self.table,
+            &mut self.asked,
+            now,
+            peer,
+            request,
+        )
+    }
+
+    /// An APDU comes from a peer at a moment, in milliseconds. Where memory is refused, nothing has changed.
+    pub fn on(&mut self, now: u64, peer: &Peer, apdu: &Apdu<'_>) -> Result<Turn, NoMemory>
+        ensures { Hears (client_hears self.old.settings reads_reply now (peer_view peer.now) (apdu_view apdu.now) self.old.end) self.old result self.new }
+    {
+        let key = PeerKey {
+            peer: *peer,
+            invoke_id: invoke_id_of(apdu),
+        };
+        let context = Context {
+            settings: self.settings,
+            key,
+            moment: now,
+        };
+        hears(self.alloc, &context, &mut self.table, apdu)
+    }
+
+    /// What a tick sends and ends. Nothing changes.
+    pub fn prepare_tick(&self, now: u64) -> Result<Due, NoMemory>
+        ensures { IfOk result (IsDue (clients_tick self.now.settings now self.now.end)) }
+    {
+        prepare(self.alloc, &self.settings, &self.table, now)
+    }
+
+    /// The end after a tick, of which `prepare_tick` says what is sent and ended. It takes no memory.
+    pub fn commit_tick(&mut self, now: u64)
+        ensures { self.new ≡ record self.old { end = (clients_tick self.old.settings now self.old.end).end } }
+    {
+        commit(&self.settings, &mut self.table, now);
+    }
+}

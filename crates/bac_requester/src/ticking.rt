@@ -1,0 +1,133 @@
+//! A tick of all tickets.
+ghost use Rattle.std.specs.Prelude.{◌≡◌, ℕ, ◌++◌, Some, None, IfOk, OnOk, MatchOption, map, slice_get};
+ghost use Rattle.bac_slots.specs.declared.slot.Slot.{Slot};
+ghost use Rattle.bac_ends.specs.Ends as ends;
+ghost use Rattle.bac_ends.specs.Ends.{clients_tick, held_ticked};
+ghost use Rattle.bac_ends.specs.Views.{peer_key_view, settings_view};
+ghost use Rattle.bac_client.specs.Views.{context_view, held_view};
+ghost use Rattle.bac_requester.specs.Turns.{IsDue, IsSlotTold, changed, ticked_at, value_ticked};
+ghost use Rattle.bac_requester.specs.Views.{end_of, finish_view, finishes_of};
+
+use crate::client::Client;
+use crate::hearing::{nothing, put_back, turn_of};
+use crate::turn::{Due, Turn};
+use bac_client::{Context, Held};
+use bac_ends::{PeerKey, Settings};
+use bac_slots::{SlotTable, slots_in_order};
+use bac_value::NoMemory;
+use std::alloc::Global;
+
+/// The key of the n-th slot in order of putting.
+fn key_at<S: SlotTable<PeerKey, Client>>(table: &S, n: usize) -> Option<PeerKey>
+    ensures { MatchOption result (slice_get (S.slots table.now) n ≡ None)
+        (λ k. (s : Slot PeerKey ends.Client) × (slice_get (S.slots table.now) n ≡ Some s) × (s.key ≡ k)) }
+{
+    match table.by_age(n) {
+        Some((key, _, _)) => Some(key),
+        None => None,
+    }
+}
+
+/// What is kept of a ticket after a tick.
+fn ticked(context: &Context, held: Held) -> Held
+    ensures { (number : ℕ) → held_ticked (context_view context.now) number (held_view held) ≡ record { number = number; held = held_view result } }
+{
+    match held {
+        Held::Closed { first } => Held::Closed { first },
+        Held::Open(ticket) => ticket.commit_tick(context),
+    }
+}
+
+/// The slot of a key after a tick.
+fn tick_at<S: SlotTable<PeerKey, Client>>(table: &mut S, context: &Context)
+    ensures slots { S.slots table.new ≡ ticked_at (settings_view context.now.settings) context.now.moment context.now.key (S.slots table.old) }
+    ensures same { S.capacity table.new ≡ S.capacity table.old }
+{
+    let key = &context.key;
+    let Some(client) = table.set(key, Client::stand_in()) else {
+        return;
+    };
+    let Client { number, held } = client;
+    let held = ticked(context, held);
+    put_back(table, key, Client { number, held });
+}
+
+/// All slots go on.
+pub(crate) fn commit<S: SlotTable<PeerKey, Client>>(settings: &Settings, table: &mut S, now: u64)
+    ensures slots { S.slots table.new ≡ map (changed (value_ticked (settings_view settings.now) now)) (S.slots table.old) }
+    ensures same { S.capacity table.new ≡ S.capacity table.old }
+{
+    for n in 0..table.len() {
+        let Some(key) = key_at(table, n) else {
+            continue;
+        };
+        let context = Context {
+            settings: *settings,
+            key,
+            moment: now,
+        };
+        tick_at(table, &context);
+    }
+}
+
+/// What a tick of one slot sends and ends.
+fn slot_due(
+    alloc: Global,
+    settings: &Settings,
+    now: u64,
+    key: &PeerKey,
+    client: &Client,
+) -> Result<Turn, NoMemory>
+    ensures { (begin : ℕ) → IfOk result (λ x. IsSlotTold (settings_view settings.now) now (record { key = peer_key_view key.now; begin = begin; value = client.now })
+        x.sends.items (finishes_of x.ended)) }
+{
+    let Held::Open(ticket) = &client.held else {
+        return Ok(nothing(alloc));
+    };
+    let context = Context {
+        settings: *settings,
+        key: *key,
+        moment: now,
+    };
+    let due = ticket.prepare_tick(alloc, &context)?;
+    Ok(turn_of(client.number, due.sends, due.ended))
+}
+
+/// What a slot sends and ends comes after what others do.
+fn tell(due: &mut Due, turn: Turn) -> Result<(), NoMemory>
+    ensures sends { OnOk result (due.new.sends.items ≡ due.old.sends.items ++ turn.sends.items) }
+    ensures ended { OnOk result (map finish_view due.new.ended.items ≡ map finish_view due.old.ended.items ++ finishes_of turn.ended) }
+{
+    let Turn { mut sends, ended } = turn;
+    due.sends.append(&mut sends)?;
+    let Some(finish) = ended else {
+        return Ok(());
+    };
+    due.ended.push(finish)?;
+    Ok(())
+}
+
+/// What a tick sends and ends, in ascending order of keys.
+pub(crate) fn prepare<S: SlotTable<PeerKey, Client>>(
+    alloc: Global,
+    settings: &Settings,
+    table: &S,
+    now: u64,
+) -> Result<Due, NoMemory>
+    ensures { IfOk result (IsDue (clients_tick (settings_view settings.now) now (end_of (S.slots table.now) (S.capacity table.now) 0))) }
+{
+    let mut due = Due {
+        sends: Vec::new(alloc),
+        ended: Vec::new(alloc),
+    };
+    // the n-th by key is the n-th in order
+    slots_in_order::<PeerKey, Client>();
+    for n in 0..table.len() {
+        let Some((key, _, client)) = table.at(n) else {
+            continue;
+        };
+        let turn = slot_due(alloc, settings, now, &key, client)?;
+        tell(&mut due, turn)?;
+    }
+    Ok(due)
+}
