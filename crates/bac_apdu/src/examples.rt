@@ -8,14 +8,14 @@ ghost use Rattle.bac_apdu.specs.Spelling.{apdu_fits, apdu_spelling, enumerated_s
 
 fn whole_request()
     ensures { apdu_spelling (ConfirmedRequest (record { takes_segments = false; max_segments = 0; max_apdu = 5 }) 1 None 12
-            (0x0C ∷ 0x00 ∷ 0x00 ∷ 0x00 ∷ 0x05 ∷ 0x19 ∷ 0x55 ∷ []))
+        (0x0C ∷ 0x00 ∷ 0x00 ∷ 0x00 ∷ 0x05 ∷ 0x19 ∷ 0x55 ∷ []))
         ≡ 0x00 ∷ 0x05 ∷ 0x01 ∷ 0x0C ∷ 0x0C ∷ 0x00 ∷ 0x00 ∷ 0x00 ∷ 0x05 ∷ 0x19 ∷ 0x55 ∷ [] }
 {}
 
 // The first of several segments, by a client that takes segments: SEG, MOR and SA are set.
 fn first_segment()
     ensures { apdu_spelling (ConfirmedRequest (record { takes_segments = true; max_segments = 7; max_apdu = 5 }) 0
-            (Some (record { more = true; number = 0; window = 32 })) 7 (0xC4 ∷ 0x02 ∷ 0x80 ∷ 0x00 ∷ 0x01 ∷ []))
+        (Some (record { more = true; number = 0; window = 32 })) 7 (0xC4 ∷ 0x02 ∷ 0x80 ∷ 0x00 ∷ 0x01 ∷ []))
         ≡ 0x0E ∷ 0x75 ∷ 0x00 ∷ 0x00 ∷ 0x20 ∷ 0x07 ∷ 0xC4 ∷ 0x02 ∷ 0x80 ∷ 0x00 ∷ 0x01 ∷ [] }
 {}
 

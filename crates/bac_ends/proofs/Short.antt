@@ -59,4 +59,4 @@ pub short_error : (invoke_id choice class code : ℕ) → IsShort (Apdu.Error in
 unfolding apdu_spelling
 short_error invoke_id choice class code =
     let a = enumerated_short class in let b = enumerated_short code in let e = length-append (enumerated_spelling class) (enumerated_spelling code) in omega
-        arith
+    arith

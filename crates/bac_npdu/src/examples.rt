@@ -1,10 +1,5 @@
 //! Octets of whole datagrams, computed from the definitions: each function's contract is an example.
-#![tactic(auto, unfolding(
-    crate::specs::Datagram::frame,
-    crate::specs::Npdu::npdu_spelling,
-    crate::specs::Npdu::bvll_spelling,
-    crate::specs::Npdu::members_spelling
-))]
+#![tactic(auto, unfolding(crate::specs::Datagram::frame, crate::specs::Npdu::npdu_spelling, crate::specs::Npdu::bvll_spelling, crate::specs::Npdu::members_spelling))]
 
 ghost use Rattle.std.specs.Prelude.{◌≡◌, List, [], ◌∷◌, Some, None, true, false, IsTrue};
 ghost use Rattle.std.specs.declared.cmp.Ordering.TheVariants.{Less, Greater};

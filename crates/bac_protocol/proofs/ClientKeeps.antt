@@ -464,7 +464,7 @@ module _ (W V : ℕ) (some : 0 < W) (room : V + 2 * W ≤ 255) (settings : Setti
     first_piece : (up : Up) (down : Down) → SoundOf W key w t up down → IsUntaken down → (k : ℕ) → k ≤ V → (g : Segment) (o : Octets) → g.number ≡ 0
         → IsPieceDown W down k g o → (choice proposed : ℕ)
         → IsKept (client.conf_segment_taken c readable choice g.number (incoming settings.window proposed).window
-            (takes (incoming settings.window proposed) g.number g.more o))
+        (takes (incoming settings.window proposed) g.number g.more o))
     first_piece up Unsent s untaken k late g o e piece choice proposed = absurd piece
     first_piece up (Sent ps tk sn) s untaken k late g o e piece choice proposed =
         let some = s.download.some in

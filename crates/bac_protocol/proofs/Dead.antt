@@ -38,7 +38,7 @@ module _ (c : Context) (service : Service) where
 
   segment_same : (e : Entry) → is_live c.now e ≡ false → (free : Bool) (choice : ℕ) (limits : Limits) (g : Segment) (octets : Octets)
       → IsSameReaction c.now (server.idle_gets_segment c service (Some e) free choice limits g octets)
-          (server.idle_gets_segment c service None free choice limits g octets)
+      (server.idle_gets_segment c service None free choice limits g octets)
   segment_same e is free choice limits g octets = go (nat_eq g.number 0) free
     where
       first : Reaction
@@ -47,7 +47,7 @@ module _ (c : Context) (service : Service) where
 
       go : (b d : Bool) → IsSameReaction c.now (if not b then server.rests (Some e) [] else if d then first else server.rests (Some e)
           (server.server_abort c OTHER ∷ [])) (if not b then server.rests None [] else if d then first else server.rests None
-              (server.server_abort c OTHER ∷ []))
+          (server.server_abort c OTHER ∷ []))
       go true true = record { entry = refl; sends = refl; effect = refl }
       go true false = record { entry = dead_is e is; sends = refl; effect = refl }
       go false d = record { entry = dead_is e is; sends = refl; effect = refl }

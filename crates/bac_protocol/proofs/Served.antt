@@ -113,7 +113,7 @@ module _ (c : Context) (service : Service) where
 
   request_segment_served : (P : Octets → Type 0) (e : Entry) (inc : Incoming) (number window : ℕ) (more : Bool) (octets : Octets)
       → (more ≡ false → P (join (inc.parts ++ octets ∷ []))) → Serves P e (server.request_segment_taken c service e number window
-          (takes inc number more octets))
+      (takes inc number more octets))
   request_segment_served P e inc number window more octets h =
       takes_cases inc number more octets (λ x. Serves P e (server.request_segment_taken c service e number window x))
       (λ ne. (tt, becomes e (State.SegmentedRequest (record inc { unacknowledged = 0 }) c.now)))
@@ -150,7 +150,7 @@ module _ (c : Context) (service : Service) where
     where
       go : (b d : Bool) → Performs P Q (if not b then server.rests dead [] else if d then server.request_segment_taken c service
           (server.begins c choice limits None) g.number (incoming c.settings.window g.window).window
-              (takes (incoming c.settings.window g.window) g.number g.more octets)
+          (takes (incoming c.settings.window g.window) g.number g.more octets)
           else server.rests dead (server.server_abort c OTHER ∷ []))
       go true true =
           let e = server.begins c choice limits None in

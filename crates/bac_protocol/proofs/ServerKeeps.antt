@@ -371,7 +371,7 @@ module _ (W V : ℕ) (some : 0 < W) (room : V + 2 * W ≤ 255) (settings : Setti
             let any = s.upload.some in
             let none = un.0 in
             request_segment_kept in_time o tk sn s un.1 whole (server.begins c choice limits None) s.clock soon chosen (incoming settings.window g.window)
-                (sym un.0)
+            (sym un.0)
             (ap (λ n. take n t.ask.pieces) (sym un.0)) (omega arith) k late g octets piece (λ ne. absurd (ne zero_is))
         by_number true is false = no_slot
         by_number false is d = (Reading tk sn, Unsent, s)
@@ -483,7 +483,7 @@ module _ (W V : ℕ) (some : 0 < W) (room : V + 2 * W ≤ 255) (settings : Setti
 
         by_end : ahead number out.first < in_window out → (b : Bool)
             → IsKept (if b then server.becomes e (SegmentedResponse (moved settings.window out number window) Finished w.now) []
-                else server.sends_reply_window c e
+            else server.sends_reply_window c e
             (moved settings.window out number window))
         by_end lt true = rests_in_response up down s (moved settings.window out number window) Finished w.now (on lt)
         by_end lt false = sends_reply_window_kept up down s (moved settings.window out number window) (on lt)

@@ -49,7 +49,7 @@ module _ (W : ℕ) (x : Rules) (bound : IsBounded W x) where
   posted : (n : Net) → Sound n → (number : ℕ) (p : Post) → slice_get n.posts number ≡ Some p → n.tickets p.key ≡ None → ⊥
   posted n s number p at is = none_there (later p.key number n.posts) p.copy
       (subst (λ (cs : List Copy). slice_get cs (later p.key number n.posts) ≡ Some p.copy) (sound_at W n p.key None is s.net).no_copies
-          (copy_at number n.posts p at))
+      (copy_at number n.posts p at))
 
   arrives_sound : (n : Net) → Sound n → (number : ℕ) (p : Post) → slice_get n.posts number ≡ Some p → n.now - p.copy.moment ≤ LIFE
       → later p.key number n.posts ≤ x.overtake → (free : Bool) (service : Service) (o : Option Ticket) → n.tickets p.key ≡ o → (up : Bool)

@@ -407,9 +407,9 @@ TwoSegments =
     ≡ record {
       sent =
           (append_apdu ∷ ComplexAck 0 (Some (record { more = true; number = 0; window = 32 })) 7 (zeros 45) ∷ SegmentAck false 0
-              (record { nak = false; number = 0; window = 32 }) ∷ [])
+          (record { nak = false; number = 0; window = 32 }) ∷ [])
           ++ (ComplexAck 0 (Some (record { more = false; number = 1; window = 32 })) 7 (zeros 3) ∷ SegmentAck false 0
-              (record { nak = false; number = 1; window = 32 }) ∷ []);
+          (record { nak = false; number = 1; window = 32 }) ∷ []);
       log = Ended 0 (Answered (Complex (zeros 48))) ∷ performed append (Complex (zeros 48)) ∷ asked append ∷ [];
       effects = 1;
     }
@@ -499,7 +499,7 @@ SegmentLimits =
 abbrev pub request_between : (own peer octets : ℕ) → Way RequestFault
 request_between own peer octets =
     request_way_of (record ((rules 32).settings 0) { limits = record (limits true 7) { max_apdu = own } }) (record (limits true 7) { max_apdu = peer })
-        (zeros octets)
+    (zeros octets)
 
 abbrev pub RequestsOfAllSizes : Type 0
 RequestsOfAllSizes =
@@ -569,8 +569,14 @@ KeptReply =
 
 -- the entry after segment 0, and after the client's Abort
 abbrev pub segmented_request_entry : Entry
-segmented_request_entry = record { begin = 0; choice = 7; limits = limits true 7; request = None; state = State.SegmentedRequest
-    (record { parts = one ∷ []; unacknowledged = 0; window = 32 }) 0 }
+segmented_request_entry = record {
+  begin = 0;
+  choice = 7;
+  limits = limits true 7;
+  request = None;
+  state = State.SegmentedRequest
+      (record { parts = one ∷ []; unacknowledged = 0; window = 32 }) 0;
+}
 
 abbrev pub dropped : Entry
 dropped = record segmented_request_entry { state = Dropped }
@@ -598,7 +604,7 @@ KeptSegments =
     × (serves 65000 (Some stopped) (ConfirmedRequest (limits true 7) 0 None 12 append) ≡ record
     { entry = Some stopped; sends = Abort true 0 0 ∷ []; effect = None })
     × (serves 65000 (Some stopped) (ConfirmedRequest (limits true 7) 0 None 7 one) ≡ record
-        { entry = Some stopped; sends = Abort true 0 0 ∷ []; effect = None })
+    { entry = Some stopped; sends = Abort true 0 0 ∷ []; effect = None })
 
 -- so many segments without octets
 abbrev pub empties : ℕ → List Octets
@@ -654,8 +660,10 @@ SegmentedEntry =
 
 -- an entry that gives its reply in two segments, with so many retries left
 abbrev pub segmented_response : (retries : ℕ) → Transfer → (since : ℕ) → Entry
-segmented_response retries transfer since = record done { state = SegmentedResponse (record (outgoing (zeros 45 ∷ zeros 3 ∷ [])) { retries = retries })
-    transfer since }
+segmented_response retries transfer since = record done {
+  state = SegmentedResponse (record (outgoing (zeros 45 ∷ zeros 3 ∷ [])) { retries = retries })
+      transfer since;
+}
 
 abbrev pub given_apdu : Apdu
 given_apdu = ComplexAck 0 (Some (record { more = true; number = 0; window = 32 })) 7 (zeros 45)
@@ -671,7 +679,7 @@ SegmentedResponseSteps =
     × (serves 0 (Some (segmented_response 3 Running 0)) (Abort false 0 0) ≡ stays_as (segmented_response 3 Finished 0) [])
     × (ticks_entry 2000 (segmented_response 3 Finished 0) ≡ stays_as (segmented_response 3 Finished 0) [])
     × (serves 0 (Some (segmented_response 3 Finished 0)) (SegmentAck false 0 (record { nak = false; number = 0; window = 32 })) ≡ stays_as
-        (segmented_response 3 Finished 0) [])
+    (segmented_response 3 Finished 0) [])
     × (serves 0 (Some (segmented_response 3 Finished 0)) append_apdu ≡ stays_as (segmented_response 3 Finished 0) [])
 
 -- a Reject and a server's Abort end a ticket; a client that takes no segments ignores segment 0 of a reply
@@ -700,8 +708,10 @@ ticks_ticket now t = client_ticks (at now) t
 
 -- a ticket that sends segment 0 of three, with so many retries left
 abbrev pub segmented_request_with : (retries : ℕ) → Ticket
-segmented_request_with retries = record segmented_request { phase = Phase.SegmentedRequest (record (outgoing (one ∷ two ∷ three ∷ []))
-    { retries = retries }) false }
+segmented_request_with retries = record segmented_request {
+  phase = Phase.SegmentedRequest (record (outgoing (one ∷ two ∷ three ∷ []))
+      { retries = retries }) false;
+}
 
 -- 2,000 after its window was sent a tick sends it again, or ends the ticket where no retry is left; 8,000 after the last segment of a reply
 -- a whole request is sent again, and one in segments is not

@@ -6,7 +6,7 @@ ghost use Rattle.bac_service.specs.Reading.{enclosed_at, extent_at, content_at, 
 use crate::stop::{Stop, Why};
 use crate::tag_reading::{closing, opening};
 use crate::value_reading::{signed, string, unsigned};
-use bac_value::{Class, Octets, take_data};
+use bac_value::{Class, Octets, kinds, take_data};
 
 /// Where a file is read, and how much of it, between a pair of tags of that number.
 #[tactic(auto, unfolding(crate::specs::Reading::enclosed_at))]
@@ -14,8 +14,8 @@ pub(crate) fn extent<O: Octets>(octets: O, number: u8) -> Result<((i64, u64), O)
     ensures { Reads (λ t. t) O.octets (O.octets octets) result (enclosed_at number extent_at) }
 {
     let rest = opening(octets, number)?;
-    let (start, rest) = signed(rest, Class::Application, 3)?;
-    let (count, rest) = unsigned(rest, Class::Application, 2)?;
+    let (start, rest) = signed(rest, Class::Application, kinds::SIGNED)?;
+    let (count, rest) = unsigned(rest, Class::Application, kinds::UNSIGNED)?;
     let rest = closing(rest, number)?;
     Ok(((start, count), rest))
 }
@@ -26,7 +26,7 @@ pub(crate) fn content<O: Octets>(octets: O) -> Result<((i64, O), O), Stop>
     ensures { Reads (λ t. (t.0, O.octets t.1)) O.octets (O.octets octets) result (enclosed_at 0 content_at) }
 {
     let rest = opening(octets, 0)?;
-    let (start, rest) = signed(rest, Class::Application, 3)?;
+    let (start, rest) = signed(rest, Class::Application, kinds::SIGNED)?;
     let (content, rest) = string(rest)?;
     let rest = closing(rest, 0)?;
     Ok(((start, content), rest))

@@ -7,7 +7,7 @@ ghost use Rattle.bac_service.specs.Services.{StringStep};
 use crate::stop::Stop;
 use crate::tag_reading::{announced_by, closing, opening, tag};
 use crate::value_reading::{signed, string, unsigned};
-use bac_value::{Class, Octets};
+use bac_value::{Class, Octets, kinds};
 
 /// Octet strings one after the other, and how many they are.
 #[derive(Clone, Copy)]
@@ -22,7 +22,7 @@ fn next_string<O: Octets>(octets: O) -> Result<Option<O>, Stop>
     ensures onward { IfOk result (λ o. IfSome o (λ rest. length (O.octets rest) < length (O.octets octets))) }
 {
     let (tag, _) = tag(octets)?;
-    if announced_by(tag, Class::Application, 6).is_none() {
+    if announced_by(tag, Class::Application, kinds::OCTET_STRING).is_none() {
         return Ok(None);
     }
     let (_, rest) = string(octets)?;
@@ -61,8 +61,8 @@ pub(crate) fn counted<O: Octets>(octets: O) -> Result<((i64, u64, u64, O), O), S
     ensures { Reads (λ t. (t.0, (t.1, (t.2, O.octets t.3)))) O.octets (O.octets octets) result (enclosed_at 1 counted_at) }
 {
     let rest = opening(octets, 1)?;
-    let (start, rest) = signed(rest, Class::Application, 3)?;
-    let (count, rest) = unsigned(rest, Class::Application, 2)?;
+    let (start, rest) = signed(rest, Class::Application, kinds::SIGNED)?;
+    let (count, rest) = unsigned(rest, Class::Application, kinds::UNSIGNED)?;
     let ((number, run), rest) = take_run(rest)?;
     let rest = closing(rest, 1)?;
     Ok(((start, count, number, run), rest))

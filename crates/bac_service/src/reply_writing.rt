@@ -11,8 +11,8 @@ use crate::lengths::reply_len;
 use crate::reply::{AnyComplex, Complex, FileWritten};
 use crate::value::{Content, PropertyReference};
 use bac_value::{
-    Class, Form, NoMemory, Tag, put_boolean, put_object_identifier, put_primitive, put_signed,
-    put_tag, put_unsigned,
+    Class, Form, NoMemory, Tag, kinds, put_boolean, put_object_identifier, put_primitive,
+    put_signed, put_tag, put_unsigned,
 };
 
 pub(crate) fn put_opening(number: u8, out: &mut Vec<u8>) -> Result<(), NoMemory>
@@ -93,8 +93,8 @@ pub(crate) fn put_content(
     ensures grows { vec_capacity out.old ≤ vec_capacity out.new }
 {
     put_opening(0, out)?;
-    put_signed(Class::Application, 3, start, out)?;
-    put_primitive(Class::Application, 6, content.octets, out)?;
+    put_signed(Class::Application, kinds::SIGNED, start, out)?;
+    put_primitive(Class::Application, kinds::OCTET_STRING, content.octets, out)?;
     put_closing(0, out)
 }
 

@@ -20,7 +20,7 @@ use crate::stop::{Stop, Why};
 use crate::tag_reading::opens_next;
 use crate::value::{Content, Records};
 use crate::value_reading::object;
-use bac_value::{Class, Data, Octets};
+use bac_value::{Class, Data, Octets, kinds};
 
 /// A request whose strings and data are still the octets that it is read from.
 pub(crate) type Found<O> = RequestOver<O, O, Run<O>>;
@@ -76,12 +76,12 @@ fn members_in<O: Octets>(service: Service, octets: O) -> Result<(Found<O>, O), S
 {
     match service {
         Service::AtomicReadFile => {
-            let (file, rest) = object(octets, Class::Application, 12)?;
+            let (file, rest) = object(octets, Class::Application, kinds::OBJECT_IDENTIFIER)?;
             let (access, rest) = read_access_in(rest)?;
             Ok((AnyRequest::ReadFile(ReadFile { file, access }), rest))
         }
         Service::AtomicWriteFile => {
-            let (file, rest) = object(octets, Class::Application, 12)?;
+            let (file, rest) = object(octets, Class::Application, kinds::OBJECT_IDENTIFIER)?;
             let (access, rest) = write_access_in(rest)?;
             Ok((AnyRequest::WriteFile(WriteFile { file, access }), rest))
         }

@@ -8,7 +8,7 @@ ghost use Rattle.bac_service.specs.Reading.{member_at};
 use crate::stop::{Stop, Why};
 use crate::tag_reading::head;
 use bac_value::{
-    Class, ObjectIdentifier, Octets, take_contents, take_enumerated, take_object_identifier,
+    Class, ObjectIdentifier, Octets, kinds, take_contents, take_enumerated, take_object_identifier,
     take_signed, take_unsigned,
 };
 
@@ -75,8 +75,8 @@ pub(crate) fn string<O: Octets>(octets: O) -> Result<(O, O), Stop>
     ensures onward { IfOk result (λ r. length (O.octets r.1) < length (O.octets octets)) }
 {
     let left = octets.len();
-    let (len, contents) = head(octets, Class::Application, 6)?;
-    match take_contents(contents, 6, len) {
+    let (len, contents) = head(octets, Class::Application, kinds::OCTET_STRING)?;
+    match take_contents(contents, kinds::OCTET_STRING, len) {
         Ok(read) => Ok(read),
         Err(kind) => Err(Stop::new(Why::Fault(kind), left)),
     }

@@ -6,7 +6,7 @@ ghost use Rattle.hex.specs.Hex.{encode_upper};
 ghost use Rattle.std.specs.Prelude.{codes};
 ghost use Rattle.bac_text.specs.Texts.{AreTheStrings, more_strings_text, strings_text};
 
-use bac_value::{Class, read_element};
+use bac_value::{Class, kinds, read_element};
 use std::alloc::Global;
 use std::io;
 use std::io::{ErrorKind, Write};
@@ -17,8 +17,11 @@ fn string_at(run: &[u8]) -> io::Result<(&[u8], &[u8])>
     ensures onward { IfOk result (λ r. length r.1.now < length run.now) }
 {
     match read_element(run) {
-        Ok((element, len)) if element.tag.number == 6 && element.tag.class == Class::Application =>
-            { Ok((element.contents, &run[len..])) }
+        Ok((element, len))
+            if element.tag.number == kinds::OCTET_STRING
+                && element.tag.class == Class::Application => {
+            Ok((element.contents, &run[len..]))
+        }
         _ => Err(io::Error::from(ErrorKind::InvalidData)),
     }
 }
