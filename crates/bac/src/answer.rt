@@ -89,7 +89,7 @@ fn framed(alloc: Global, to: &Asking<'_>, reply: Reply<'_>) -> Result<Vec<u8>, N
 /// its own and gets its reply, in one SimpleACK, ComplexACK or Error. A Confirmed-Request that is no segment and whose service
 /// data spell no request gets a Reject, with the reason that reading them answers: 9 where the service choice is another. Any other
 /// datagram gets nothing.
-/// An Err comes only where memory ran out, and never where nothing is answered.
+/// An Err says that memory was refused, and never comes where nothing is answered.
 pub fn answer_datagram(alloc: Global, octets: &[u8]) -> Result<Option<Vec<u8>>, NoMemory>
     ensures answered { (peer : PeerView) (invoke_id choice : ℕ) (service : List ℕ) (r : Request)
         → Asks octets.now peer invoke_id choice service → SpellsRequest choice r service

@@ -7,7 +7,7 @@ pub record Segment : Type 0 where
   pub number : ℕ
   pub window : ℕ
 
--- what the sender of a request takes of the answer: whether in segments (clause 20.1.2.3), the code of how many of them (clause 20.1.2.4),
+-- what the sender of a request takes of the reply: whether in segments (clause 20.1.2.3), the code of how many of them (clause 20.1.2.4),
 -- and the code of the longest APDU (clause 20.1.2.5)
 pub record Limits : Type 0 where
   pub takes_segments : Bool

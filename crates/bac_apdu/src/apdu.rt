@@ -12,7 +12,7 @@ use crate::limits::{Limits, Segment, Window};
 pub enum Apdu<'a> {
     /// A request that is to be answered (clause 20.1.2).
     ConfirmedRequest {
-        /// What the sender takes of the answer.
+        /// What the sender takes of the reply.
         limits: Limits,
         invoke_id: u8,
         /// None where the APDU has the whole request.
@@ -20,20 +20,20 @@ pub enum Apdu<'a> {
         choice: u8,
         service: &'a [u8],
     },
-    /// A request without an answer (clause 20.1.3).
+    /// A request that is not answered (clause 20.1.3).
     UnconfirmedRequest {
         choice: u8,
         service: &'a [u8],
     },
-    /// An answer without data (clause 20.1.4).
+    /// A reply without service data (clause 20.1.4).
     SimpleAck {
         invoke_id: u8,
         choice: u8,
     },
-    /// An answer with data (clause 20.1.5).
+    /// A reply with service data (clause 20.1.5).
     ComplexAck {
         invoke_id: u8,
-        /// None where the APDU has the whole answer.
+        /// None where the APDU has the whole service data.
         segment: Option<Segment>,
         choice: u8,
         service: &'a [u8],

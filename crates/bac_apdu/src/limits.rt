@@ -35,7 +35,7 @@ pub struct Segment {
     pub window: Window,
 }
 
-/// What the sender of a request takes of the answer: whether segments, and by their codes how many and APDUs how long
+/// What the sender of a request takes of the reply: whether segments, and by their codes how many and APDUs how long
 /// (clauses 20.1.2.3 to 20.1.2.5).
 ///
 /// Codes of segments are 0 (unspecified), 1 to 6 (2, 4, 8, 16, 32, 64) and 7 (more than 64); codes of octets are 0 to 5 (50, 128, 206, 480, 1,024, 1,476).
@@ -43,7 +43,7 @@ pub struct Segment {
 pub struct Limits {
     /// The code of the longest APDU.
     pub max_apdu: u8,
-    /// Whether an answer in segments is taken.
+    /// Whether a reply in segments is taken.
     pub takes_segments: bool,
     /// The code of how many segments are taken.
     pub max_segments: u8,

@@ -50,7 +50,7 @@ impl<S: SlotTable<PeerKey, Entry> + Drop> Responder<S> {
 
     /// An APDU comes from a peer, at that moment in milliseconds.
     ///
-    /// A live entry is never evicted; where no slot is free, a new request gets an Abort with reason 0. An Err comes only where an allocation was refused;
+    /// A live entry is never evicted; where no slot is free, a new request gets an Abort with reason 0. An Err says that memory was refused;
     /// the server's end and the store are then as before.
     pub fn on(
         &mut self,
@@ -77,7 +77,7 @@ impl<S: SlotTable<PeerKey, Entry> + Drop> Responder<S> {
     }
 
     /// What a tick sends, in ascending order of peer and invoke ID: the windows of replies that no SegmentACK came for in 2,000 ms, while a retry is left.
-    /// An Err comes only where an allocation was refused.
+    /// An Err says that memory was refused.
     pub fn prepare_tick(&self, alloc: Global, moment: u64) -> Result<Vec<Datagram>, NoMemory>
         ensures { IfOk result (λ v. Pairwise IsSent (servers_tick self.now.settings moment self.now.end).sends v.items) }
     {

@@ -95,7 +95,7 @@ fn segment_comes(
 /// An APDU comes where no entry of its key is live; `free` says whether a slot of the reply table has no live entry.
 ///
 /// A request is performed, and segment 0 of one begins to be received, where a slot is free; otherwise an Abort with reason 0 is sent, and nothing is
-/// remembered. All else is ignored. An Err comes only where an allocation was refused; the store is then as before.
+/// remembered. All else is ignored. An Err says that memory was refused; the store is then as before.
 pub fn idle_gets(
     alloc: Global,
     context: &Context,

@@ -83,7 +83,7 @@ fn refused(
 ///
 /// A request that is being received goes on with its next segment, and is performed with its last one; a kept reply is sent again, or its transfer in
 /// segments goes on; another request with the invoke ID, and each request after a reassembly that was given up, gets an Abort with reason 0. What the
-/// state does not name is ignored. An Err comes only where an allocation was refused; it hands the entry back, which is then as before, as is the store.
+/// state does not name is ignored. An Err says that memory was refused; it hands the entry back, which is then as before, as is the store.
 pub fn live_gets(
     alloc: Global,
     context: &Context,

@@ -33,7 +33,7 @@ fn after_timer(context: &Context, origin: Origin, mut outgoing: Outgoing, since:
 
 impl Entry {
     /// What a tick sends: the window again, where the transfer of a reply runs, no SegmentACK came for 2,000 ms or longer, and a retry is left. An Err
-    /// comes only where an allocation was refused.
+    /// says that memory was refused.
     pub fn tick_sends(&self, alloc: Global, context: &Context) -> Result<Vec<Datagram>, NoMemory>
         ensures { IfOk result (λ v. Pairwise IsSent (to_all (peer_of context.now) (server_ticks (context_view context.now) (Some self.now)).sends) v.items) }
     {
