@@ -192,7 +192,7 @@ rules_bounded W overtake w b = record { some = b.some; windows = λ i. go (slice
     go None h = omega arith
     go (Some a) h = h a refl
 
-fresh_over : (W overtake : ℕ) (w : World) → (h : IsFresh w) → (b : IsBounded W overtake w)
+pub fresh_over : (W overtake : ℕ) (w : World) → (h : IsFresh w) → (b : IsBounded W overtake w)
     → Over (link_at w.nodes) h.apart W (rules_of overtake w) w net_start
 fresh_over W overtake w h b = record {
   now = sym h.now;

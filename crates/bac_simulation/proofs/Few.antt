@@ -1,0 +1,386 @@
+-- How many APDUs one event makes an end send: no more than its greatest window and one.
+use Rattle.std.proofs.Common.{◌≡◌, ℕ, ◌+◌, ◌-◌, ◌≤◌, ◌⊎◌, length, Bool, true, false, ◌&&◌, ◌||◌, not, List, [], ◌∷◌, ◌++◌, Option, Some, None, min}
+use Rattle.std.proofs.Common.{if◌then◌else◌, nat_le, nat_eq, nat_lt, refl, sym, ap, subst, inl, inr, slice_get, arith}
+use Rattle.std.proofs.lemmas.Bool.Decides.{nat_tests}
+use Rattle.std.specs.Prelude.{is_some}
+use Rattle.bac_apdu.specs.Apdu.{Apdu, Limits, Segment}
+use Rattle.bac_service.specs.Choices.{has_simple_ack, has_complex_ack}
+use Rattle.bac_apdu.specs.Apdu.Apdu.{ConfirmedRequest, SimpleAck, ComplexAck, SegmentAck, Error, Reject, Abort}
+use Rattle.bac_segment.specs.Limits.{RETRIES}
+use Rattle.bac_segment.specs.Pieces.{join}
+use Rattle.bac_segment.specs.Numbers.{ahead}
+use Rattle.bac_segment.specs.Window.{Outgoing, outgoing, in_window, is_finished, acknowledged, again, resume, Incoming, incoming, Taking, takes}
+use Rattle.bac_segment.specs.Window.Taking.{Taken, Whole, Nak, TooLong}
+use Rattle.bac_protocol.specs.declared.times.TheConstants.{T_SEG, WAIT_SEG}
+use Rattle.bac_protocol.specs.Context.{Context}
+use Rattle.bac_protocol.specs.Service.{Octets, Readable, OTHER, Reply as reply, Outcome}
+use Rattle.bac_protocol.specs.Service.Outcome.{Replies, Rejects}
+use Rattle.bac_protocol.specs.Service.Ending.{Answered, Aborted, TimedOut, Expired}
+use Rattle.bac_protocol.specs.Wire.{is_from_server, is_from_client, pieces_from}
+use Rattle.bac_protocol.specs.Client as client
+use Rattle.bac_protocol.specs.Client.{Ask, Phase, Ticket}
+use Rattle.bac_protocol.specs.Client.Phase.{AwaitConfirmation, SegmentedConf, Idle}
+use Rattle.bac_protocol.specs.Client.Reaction.{Stays, GoesOn, Repeats, Ends}
+use Rattle.bac_protocol.specs.Server as server
+use Rattle.bac_protocol.specs.Server.{Transfer, State, Entry, Service, is_live}
+use Rattle.bac_protocol.specs.Sizes.{Way, reply_way_of}
+use Rattle.bac_protocol.specs.Server.Transfer.{Running, Stopped, Finished}
+use Rattle.bac_protocol.specs.Server.State.{Done, SegmentedResponse, Dropped}
+use Rattle.bac_protocol.specs.Sizes.Way.{InOne, InSegments, Refused}
+use Rattle.bac_protocol.specs.Transaction.{Key, Rules, server_context}
+use Rattle.bac_protocol.specs.World.{Net, Post, net_start, set_at, is_key_held, asked_at, is_deliverable}
+use Rattle.bac_protocol.specs.Claims.{IsBounded}
+use Rattle.bac_protocol.specs.Moves.{Move, taken_by_client, taken_by_server, arrived, ticket_ticked, moved, IsReached}
+use Rattle.bac_protocol.specs.Moves.Move.{Asks, Arrives, TicksTicket, TicksEntry, Passes}
+use Rattle.bac_protocol.specs.Moves.IsReached.{Still, Moved}
+use Rattle.bac_protocol.proofs.Keys.{set_same, set_other, decide_key}
+use Rattle.bac_protocol.proofs.Facts.{pieces_length}
+
+push_few : (acks : List Apdu) (a : Apdu) (n : ℕ) → length acks ≤ n → length (acks ++ a ∷ []) ≤ n + 1
+push_few [] a n h = omega arith
+push_few (b ∷ acks) a n h =
+    let less : length acks ≤ n - 1 = omega arith in
+    let again = push_few acks a (n - 1) less in
+    omega arith
+
+window_few : (W : ℕ) (piece : ℕ → Apdu) (out : Outgoing) → out.window ≤ W → length (pieces_from piece out.first (in_window out)) ≤ W + 1
+window_few W piece out h =
+    let is : length (pieces_from piece out.first (in_window out)) ≡ in_window out = pieces_length piece out.first (in_window out) in
+    let few : in_window out ≤ out.window = omega arith in
+    omega arith
+
+-- the window that a SegmentACK leaves
+abbrev OutFew : ℕ → Option Outgoing → Type 0
+OutFew W None = Unit {0}
+OutFew W (Some out) = out.window ≤ W
+
+acknowledged_few : (W own : ℕ) → own ≤ W → (out : Outgoing) (number window : ℕ) → OutFew W (acknowledged own out number window)
+acknowledged_few W own le out number window = go (nat_lt (ahead number out.first) (in_window out))
+  where
+    go : (b : Bool) → OutFew W (if b
+        then Some (record out { first = out.first + ahead number out.first + 1; window = min window own; retries = RETRIES })
+        else None)
+    go true = omega arith
+    go false = tt
+
+again_few : (W : ℕ) (out : Outgoing) → out.window ≤ W → OutFew W (again out)
+again_few W out h = go (nat_eq out.retries 0)
+  where
+    go : (b : Bool) → OutFew W (if b then None else Some (record out { retries = out.retries - 1 }))
+    go true = tt
+    go false = h
+
+-- The client, on what it hears.
+
+module _ (c : Context) (readable : Readable) (W : ℕ) (some : 1 ≤ W) (own : c.settings.window ≤ W) where
+  abbrev Few : client.Reaction → Type 0
+  Few r = length (client.sends_of r) ≤ W + 1
+
+  answered_few : (choice : ℕ) (acks : List Apdu) (octets : Octets) → length acks ≤ 1 → Few (client.answered_with c readable choice acks octets)
+  answered_few choice acks octets h = go (readable choice octets)
+    where
+      go : (b : Bool) → Few (if b then Ends acks (Answered (reply.Complex octets)) else Ends (acks ++ Abort false c.invoke_id OTHER ∷ []) (Aborted OTHER))
+      go true = omega arith
+      go false = let few = push_few acks (Abort false c.invoke_id OTHER) 1 h in omega arith
+
+  conf_segment_few : (choice number window : ℕ) (y : Taking) → Few (client.conf_segment_taken c readable choice number window y)
+  conf_segment_few choice number window (Taken true inc) = omega arith
+  conf_segment_few choice number window (Taken false inc) = omega arith
+  conf_segment_few choice number window (Whole parts) = answered_few choice (client.client_ack c false number window ∷ []) (join parts) (omega arith)
+  conf_segment_few choice number window (Nak inc) = omega arith
+  conf_segment_few choice number window TooLong = omega arith
+
+  if_few : (b : Bool) (r : client.Reaction) → Few r → Few (if b then r else Stays)
+  if_few true r h = h
+  if_few false r h = omega arith
+
+  refusal_few : (a : Apdu) → Few (client.gets_refusal a)
+  refusal_few (Reject i r) = omega arith
+  refusal_few (Abort true i r) = omega arith
+  refusal_few _ = omega arith
+
+  await_confirmation_few : (ask : Ask) (a : Apdu) → Few (client.await_confirmation_gets c readable ask a)
+  await_confirmation_few ask (SimpleAck i choice) =
+      if_few (nat_eq choice ask.choice && has_simple_ack ask.choice) (Ends [] (Answered reply.Simple)) (omega arith)
+  await_confirmation_few ask (ComplexAck i None choice o) = if_few (nat_eq choice ask.choice && has_complex_ack ask.choice)
+      (client.answered_with c readable ask.choice [] o) (answered_few ask.choice [] o (omega arith))
+  await_confirmation_few ask (ComplexAck i (Some g) choice o) =
+      let inc = incoming c.settings.window g.window in
+      if_few (nat_eq choice ask.choice && (has_complex_ack ask.choice && (c.settings.limits.takes_segments && nat_eq g.number 0)))
+      (client.conf_segment_taken c readable ask.choice g.number inc.window (takes inc g.number g.more o))
+      (conf_segment_few ask.choice g.number inc.window (takes inc g.number g.more o))
+  await_confirmation_few ask (Error i choice class code) = if_few (nat_eq choice ask.choice) (Ends [] (Answered (reply.Error class code))) (omega arith)
+  await_confirmation_few ask (Reject i r) = omega arith
+  await_confirmation_few ask (Abort true i r) = omega arith
+  await_confirmation_few ask _ = omega arith
+
+  moves_request_window_few : (choice : ℕ) (all_sent : Bool) (o : Option Outgoing) → OutFew W o → Few (client.moves_request_window c choice all_sent o)
+  moves_request_window_few choice all_sent None h = omega arith
+  moves_request_window_few choice all_sent (Some out) h = go (is_finished out)
+    where
+      go : (b : Bool) → Few (if b then GoesOn AwaitConfirmation [] else client.sends_request_window c choice out all_sent)
+      go true = omega arith
+      go false = window_few W (client.request_piece c choice out.pieces) out h
+
+  segmented_request_few : (ask : Ask) (out : Outgoing) (all_sent : Bool) (a : Apdu) → Few (client.segmented_request_gets c readable ask out all_sent a)
+  segmented_request_few ask out all_sent (SegmentAck true i ack) = moves_request_window_few ask.choice all_sent
+      (acknowledged c.settings.window out ack.number ack.window) (acknowledged_few W c.settings.window own out ack.number ack.window)
+  segmented_request_few ask out true a = await_confirmation_few ask a
+  segmented_request_few ask out false a = refusal_few a
+
+  segmented_conf_few : (ask : Ask) (inc : Incoming) (a : Apdu) → Few (client.segmented_conf_gets c readable ask inc a)
+  segmented_conf_few ask inc (ComplexAck i (Some g) choice o) = if_few (nat_eq choice ask.choice)
+      (client.conf_segment_taken c readable ask.choice g.number inc.window (takes inc g.number g.more o))
+      (conf_segment_few ask.choice g.number inc.window (takes inc g.number g.more o))
+  segmented_conf_few ask inc a = refusal_few a
+
+  open_few : (ask : Ask) (phase : Phase) (a : Apdu) → Few (client.open_gets c readable ask phase a)
+  open_few ask (Phase.SegmentedRequest out all_sent) a = segmented_request_few ask out all_sent a
+  open_few ask AwaitConfirmation a = await_confirmation_few ask a
+  open_few ask (SegmentedConf inc) a = segmented_conf_few ask inc a
+  open_few ask Idle a = omega arith
+
+  pub client_gets_few : (t : Ticket) (a : Apdu) → length (client.sends_of (client.client_gets c readable t a)) ≤ W + 1
+  client_gets_few t a = go (client.is_idle t.phase || not (is_from_server a)) (client.is_expired c.now t.ask)
+    where
+      go : (b d : Bool) → Few (if b then Stays else if d then Ends [] Expired else client.open_gets c readable t.ask t.phase a)
+      go true d = omega arith
+      go false true = omega arith
+      go false false = open_few t.ask t.phase a
+
+-- an ask
+pub asks_few : (c : Context) (W : ℕ) → 1 ≤ W → (ask : Ask) → length (client.sends_of (client.asks c ask)) ≤ W + 1
+asks_few c W some ask = go ask.whole
+  where
+    go : (b : Bool) → length (client.sends_of (if b then GoesOn AwaitConfirmation (client.request_apdu c ask ∷ [])
+        else client.sends_request_window c ask.choice (outgoing ask.pieces) false)) ≤ W + 1
+    go true = omega arith
+    go false = window_few W (client.request_piece c ask.choice ask.pieces) (outgoing ask.pieces) some
+
+-- The server: what it sends, and the window that its entry keeps.
+
+abbrev pub StateFew : ℕ → State → Type 0
+StateFew W (SegmentedResponse out transfer since) = out.window ≤ W
+StateFew W (State.SegmentedRequest inc since) = Unit {0}
+StateFew W (Done kept) = Unit {0}
+StateFew W Dropped = Unit {0}
+
+abbrev pub EntryFew : ℕ → Option Entry → Type 0
+EntryFew W None = Unit {0}
+EntryFew W (Some e) = StateFew W e.state
+
+pub record IsFew (W : ℕ) (v : server.Reaction) : Type 0 where
+  pub sends : length v.sends ≤ W + 1
+  pub entry : EntryFew W v.entry
+
+module _ (c : Context) (service : Service) (W : ℕ) (some : 1 ≤ W) (own : c.settings.window ≤ W) where
+  sends_reply_few : (e : Entry) (acks : List Apdu) (octets : Octets) (p : reply) (way : Way ℕ) → length acks ≤ 1
+      → IsFew W (server.sends_reply c e acks octets p way)
+  sends_reply_few e acks octets p InOne h =
+      record { sends = (let few = push_few acks (server.reply_apdu c e.choice p) 1 h in omega arith); entry = tt }
+  sends_reply_few e acks octets p (InSegments ps) h =
+      record { sends = (let few = push_few acks (server.reply_piece c e.choice ps 0) 1 h in omega arith); entry = some }
+  sends_reply_few e acks octets p (Refused reason) h =
+      record { sends = (let few = push_few acks (Abort true c.invoke_id reason) 1 h in omega arith); entry = tt }
+
+  so_few : (e : Entry) (acks : List Apdu) (octets : Octets) (o : Outcome) → length acks ≤ 1 → IsFew W (server.performs_so c e acks octets o)
+  so_few e acks octets (Replies p) h = sends_reply_few e acks octets p (reply_way_of c.settings e.limits p) h
+  so_few e acks octets (Rejects reason) h =
+      record { sends = (let few = push_few acks (Reject c.invoke_id reason) 1 h in omega arith); entry = tt }
+
+  request_segment_few : (e : Entry) (number window : ℕ) (y : Taking) → IsFew W (server.request_segment_taken c service e number window y)
+  request_segment_few e number window (Taken true inc) = record { sends = omega arith; entry = tt }
+  request_segment_few e number window (Taken false inc) = record { sends = omega arith; entry = tt }
+  request_segment_few e number window (Whole parts) = so_few e (server.server_ack c false number window ∷ []) (join parts)
+      (service e.choice (join parts)) (omega arith)
+  request_segment_few e number window (Nak inc) = record { sends = omega arith; entry = tt }
+  request_segment_few e number window TooLong = record { sends = omega arith; entry = tt }
+
+  rests_few : (o : Option Entry) → EntryFew W o → IsFew W (server.rests o [])
+  rests_few o h = record { sends = omega arith; entry = h }
+
+  one_few : (o : Option Entry) (a : Apdu) → EntryFew W o → IsFew W (server.rests o (a ∷ []))
+  one_few o a h = record { sends = omega arith; entry = h }
+
+  request_few : (o : Option Entry) → EntryFew W o → (free : Bool) (choice : ℕ) (limits : Limits) (octets : Octets)
+      → IsFew W (server.idle_gets_request c service o free choice limits octets)
+  request_few o h true choice limits octets = so_few (server.begins c choice limits (Some octets)) [] octets (service choice octets) (omega arith)
+  request_few o h false choice limits octets = one_few o (server.server_abort c OTHER) h
+
+  segment_few : (o : Option Entry) → EntryFew W o → (free : Bool) (choice : ℕ) (limits : Limits) (g : Segment) (octets : Octets)
+      → IsFew W (server.idle_gets_segment c service o free choice limits g octets)
+  segment_few o h free choice limits g octets = go (nat_eq g.number 0) free
+    where
+      go : (b d : Bool) → IsFew W (if not b then server.rests o [] else if d then server.request_segment_taken c service
+          (server.begins c choice limits None) g.number (incoming c.settings.window g.window).window
+          (takes (incoming c.settings.window g.window) g.number g.more octets) else server.rests o (server.server_abort c OTHER ∷ []))
+      go true true = request_segment_few (server.begins c choice limits None) g.number (incoming c.settings.window g.window).window
+          (takes (incoming c.settings.window g.window) g.number g.more octets)
+      go true false = one_few o (server.server_abort c OTHER) h
+      go false d = rests_few o h
+
+  idle_few : (o : Option Entry) → EntryFew W o → (free : Bool) (a : Apdu) → IsFew W (server.idle_gets c service o free a)
+  idle_few o h free (ConfirmedRequest limits i None choice octets) = request_few o h free choice limits octets
+  idle_few o h free (ConfirmedRequest limits i (Some g) choice octets) = segment_few o h free choice limits g octets
+  idle_few o h free _ = rests_few o h
+
+  request_in_segments_few : (e : Entry) → EntryFew W (Some e) → (inc : Incoming) (since : ℕ) (a : Apdu)
+      → IsFew W (server.segmented_request_gets c service e inc since a)
+  request_in_segments_few e h inc since (ConfirmedRequest limits i (Some g) choice octets) = go (nat_le WAIT_SEG (c.now - since))
+    where
+      go : (b : Bool) → IsFew W (if b then server.becomes e Dropped (server.server_abort c OTHER ∷ []) else server.request_segment_taken c service e
+          g.number inc.window (takes inc g.number g.more octets))
+      go true = record { sends = omega arith; entry = tt }
+      go false = request_segment_few e g.number inc.window (takes inc g.number g.more octets)
+  request_in_segments_few e h inc since (Abort false i reason) = record { sends = omega arith; entry = tt }
+  request_in_segments_few e h inc since _ = rests_few (Some e) h
+
+  done_few : (e : Entry) → EntryFew W (Some e) → (kept : Apdu) (a : Apdu) → IsFew W (server.done_gets c e kept a)
+  done_few e h kept (ConfirmedRequest limits i None choice octets) =
+      one_few (Some e) (if server.is_kept e e.request choice octets then kept else server.server_abort c OTHER) h
+  done_few e h kept (ConfirmedRequest limits i (Some g) choice octets) = one_few (Some e) (if is_some e.request then server.server_abort c OTHER else kept) h
+  done_few e h kept _ = rests_few (Some e) h
+
+  sends_reply_window_few : (e : Entry) (out : Outgoing) → out.window ≤ W → IsFew W (server.sends_reply_window c e out)
+  sends_reply_window_few e out h = record { sends = window_few W (server.reply_piece c e.choice out.pieces) out h; entry = h }
+
+  resumes_few : (e : Entry) → EntryFew W (Some e) → (out : Outgoing) → out.window ≤ W → (transfer : Transfer) → IsFew W (server.resumes c e out transfer)
+  resumes_few e h out k Stopped = sends_reply_window_few e (resume out) k
+  resumes_few e h out k Running = rests_few (Some e) h
+  resumes_few e h out k Finished = rests_few (Some e) h
+
+  moves_reply_window_few : (e : Entry) → EntryFew W (Some e) → (o : Option Outgoing) → OutFew W o → IsFew W (server.moves_reply_window c e o)
+  moves_reply_window_few e h None k = rests_few (Some e) h
+  moves_reply_window_few e h (Some out) k = go (is_finished out)
+    where
+      go : (b : Bool) → IsFew W (if b then server.becomes e (SegmentedResponse out Finished c.now) [] else server.sends_reply_window c e out)
+      go true = record { sends = omega arith; entry = k }
+      go false = sends_reply_window_few e out k
+
+  response_ack_few : (e : Entry) → EntryFew W (Some e) → (out : Outgoing) → out.window ≤ W → (transfer : Transfer) (number window : ℕ)
+      → IsFew W (server.segmented_response_gets_ack c e out transfer number window)
+  response_ack_few e h out k Running number window = moves_reply_window_few e h (acknowledged c.settings.window out number window)
+      (acknowledged_few W c.settings.window own out number window)
+  response_ack_few e h out k Stopped number window = rests_few (Some e) h
+  response_ack_few e h out k Finished number window = rests_few (Some e) h
+
+  response_few : (e : Entry) → EntryFew W (Some e) → (out : Outgoing) → out.window ≤ W → (transfer : Transfer) (since : ℕ) (a : Apdu)
+      → IsFew W (server.segmented_response_gets c e out transfer since a)
+  response_few e h out k transfer since (ConfirmedRequest limits i None choice octets) = go (server.is_kept e e.request choice octets)
+    where
+      go : (b : Bool) → IsFew W (if b then server.resumes c e out transfer else server.rests (Some e) (server.server_abort c OTHER ∷ []))
+      go true = resumes_few e h out k transfer
+      go false = one_few (Some e) (server.server_abort c OTHER) h
+  response_few e h out k transfer since (ConfirmedRequest limits i (Some g) choice octets) = go (is_some e.request)
+    where
+      go : (b : Bool) → IsFew W (if b then server.rests (Some e) (server.server_abort c OTHER ∷ []) else server.resumes c e out transfer)
+      go true = one_few (Some e) (server.server_abort c OTHER) h
+      go false = resumes_few e h out k transfer
+  response_few e h out k transfer since (SegmentAck false i ack) = response_ack_few e h out k transfer ack.number ack.window
+  response_few e h out k transfer since (Abort false i reason) = record { sends = omega arith; entry = k }
+  response_few e h out k transfer since _ = rests_few (Some e) h
+
+  dropped_few : (e : Entry) → EntryFew W (Some e) → (a : Apdu) → IsFew W (server.dropped_gets c e a)
+  dropped_few e h (ConfirmedRequest limits i g choice octets) = one_few (Some e) (server.server_abort c OTHER) h
+  dropped_few e h _ = rests_few (Some e) h
+
+  live_few : (e : Entry) → EntryFew W (Some e) → (st : State) → StateFew W st → (a : Apdu) → IsFew W (server.live_gets c service e st a)
+  live_few e h (State.SegmentedRequest inc since) k a = request_in_segments_few e h inc since a
+  live_few e h (Done kept) k a = done_few e h kept a
+  live_few e h (SegmentedResponse out transfer since) k a = response_few e h out k transfer since a
+  live_few e h Dropped k a = dropped_few e h a
+
+  pub server_gets_few : (o : Option Entry) (free : Bool) (a : Apdu) → EntryFew W o → IsFew W (server.server_gets c service o free a)
+  server_gets_few None free a h = idle_few None h free a
+  server_gets_few (Some e) free a h = go (is_live c.now e)
+    where
+      go : (b : Bool) → IsFew W (if b then server.live_gets c service e e.state a else server.idle_gets c service (Some e) free a)
+      go true = live_few e h e.state h a
+      go false = idle_few (Some e) h free a
+
+nothing : Service
+nothing choice octets = Rejects 0
+
+module _ (c : Context) (W : ℕ) (some : 1 ≤ W) (own : c.settings.window ≤ W) where
+  sends_again_few : (e : Entry) (out : Outgoing) → out.window ≤ W → (since : ℕ) (o : Option Outgoing) → OutFew W o
+      → IsFew W (server.sends_reply_again c e out since o)
+  sends_again_few e out k since None h = record { sends = omega arith; entry = k }
+  sends_again_few e out k since (Some next) h = sends_reply_window_few c nothing W some own e next h
+
+  live_ticks_few : (e : Entry) → EntryFew W (Some e) → (st : State) → StateFew W st → IsFew W (server.live_ticks c e st)
+  live_ticks_few e h (State.SegmentedRequest inc since) k = go (nat_le WAIT_SEG (c.now - since))
+    where
+      go : (b : Bool) → IsFew W (if b then server.becomes e Dropped [] else server.rests (Some e) [])
+      go true = record { sends = omega arith; entry = tt }
+      go false = record { sends = omega arith; entry = h }
+  live_ticks_few e h (SegmentedResponse out Running since) k = go (nat_le T_SEG (c.now - since))
+    where
+      go : (b : Bool) → IsFew W (if b then server.sends_reply_again c e out since (again out) else server.rests (Some e) [])
+      go true = sends_again_few e out k since (again out) (again_few W out k)
+      go false = record { sends = omega arith; entry = h }
+  live_ticks_few e h (SegmentedResponse out Stopped since) k = record { sends = omega arith; entry = h }
+  live_ticks_few e h (SegmentedResponse out Finished since) k = record { sends = omega arith; entry = h }
+  live_ticks_few e h (Done kept) k = record { sends = omega arith; entry = h }
+  live_ticks_few e h Dropped k = record { sends = omega arith; entry = h }
+
+  server_ticks_few : (o : Option Entry) → EntryFew W o → IsFew W (server.server_ticks c o)
+  server_ticks_few None h = record { sends = omega arith; entry = tt }
+  server_ticks_few (Some e) h = go (is_live c.now e)
+    where
+      go : (b : Bool) → IsFew W (if b then server.live_ticks c e e.state else server.rests (Some e) [])
+      go true = live_ticks_few e h e.state h
+      go false = record { sends = omega arith; entry = h }
+
+-- All entries of a net that moves lead to.
+
+module _ (W : ℕ) (x : Rules) (bound : IsBounded W x) where
+  abbrev Small : Net → Type 0
+  Small n = (key : Key) → EntryFew W (n.entries key)
+
+  small_set : (n : Net) → Small n → (key : Key) (o : Option Entry) → EntryFew W o → (k : Key) → EntryFew W (set_at n.entries key o k)
+  small_set n s key o few k = go (decide_key key k)
+    where
+      go : ((key ≡ k) ⊎ (key ≡ k → ⊥)) → EntryFew W (set_at n.entries key o k)
+      go (inl is) = subst (λ (j : Key). EntryFew W (set_at n.entries key o j)) is (subst (EntryFew W) (sym (set_same n.entries key o)) few)
+      go (inr ne) = subst (EntryFew W) (sym (set_other n.entries key o k ne)) (s k)
+
+  served_small : (n : Net) → Small n → (p : Post) (free : Bool) (service : Service) → Small (taken_by_server x n p free service)
+  served_small n s p free service =
+      let c = server_context x p.key n.now in
+      small_set n s p.key (server.server_gets c service (n.entries p.key) free p.copy.apdu).entry
+      (server_gets_few c service W bound.some (bound.windows p.key.server) (n.entries p.key) free p.copy.apdu (s p.key)).entry
+
+  heard_small : (n : Net) → Small n → (p : Post) (o : Option Ticket) → Small (taken_by_client x n p o)
+  heard_small n s p None = s
+  heard_small n s p (Some t) = s
+
+  arrived_small : (n : Net) → Small n → (number : ℕ) (free : Bool) (service : Service) (o : Option Post) → Small (arrived x n number free service o)
+  arrived_small n s number free service None = s
+  arrived_small n s number free service (Some p) = go (is_deliverable x n.now number n.posts p) (is_from_client p.copy.apdu)
+    where
+      go : (a b : Bool) → Small (if a then (if b then taken_by_server x n p free service else taken_by_client x n p (n.tickets p.key)) else n)
+      go true true = served_small n s p free service
+      go true false = heard_small n s p (n.tickets p.key)
+      go false b = s
+
+  ticked_small : (n : Net) → Small n → (key : Key) (o : Option Ticket) → Small (ticket_ticked x n key o)
+  ticked_small n s key None = s
+  ticked_small n s key (Some t) = s
+
+  moved_small : (n : Net) → Small n → (m : Move) → Small (moved x n m)
+  moved_small n s (Asks key choice whole front rest) = go (is_key_held n.now (n.tickets key))
+    where
+      go : (b : Bool) → Small (if b then n else asked_at x n key (record { first = n.now; choice = choice; whole = whole; pieces = front ∷ rest }))
+      go true = s
+      go false = s
+  moved_small n s (Arrives number free service) = arrived_small n s number free service (slice_get n.posts number)
+  moved_small n s (TicksTicket key) = ticked_small n s key (n.tickets key)
+  moved_small n s (TicksEntry key) =
+      let c = server_context x key n.now in
+      small_set n s key (server.server_ticks c (n.entries key)).entry
+      (server_ticks_few c W bound.some (bound.windows key.server) (n.entries key) (s key)).entry
+  moved_small n s (Passes by) = s
+
+  pub entries_few : (n : Net) → IsReached x net_start n → (key : Key) → EntryFew W (n.entries key)
+  entries_few _ Still = λ key. tt
+  entries_few _ (Moved n m h) = moved_small n (entries_few n h) m

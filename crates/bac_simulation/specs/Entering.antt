@@ -1,0 +1,70 @@
+-- What comes of a node's call can enter the world: each datagram goes to a node, in a transaction; each ending is an ask's, and so is what was performed.
+use Rattle.std.specs.Prelude.{◌≡◌, ℕ, suc, ◌+◌, ◌≤◌, true, List, [], ◌∷◌, length, if◌then◌else◌, nat_eq, Option, Some, None, slice_get}
+use Rattle.bac_apdu.specs.Apdu.{Limits}
+use Rattle.bac_service.specs.Values.{Request}
+use Rattle.bac_protocol.specs.Service.{Octets}
+use Rattle.bac_ends.specs.Sends.{Datagram}
+use Rattle.bac_ends.specs.Meanings.{Finish}
+use Rattle.bac_ends.specs.Ends.{Accepted}
+use Rattle.bac_world.specs.Services.{Performed}
+use Rattle.bac_world.specs.Node.{Node, Outcome, NodeOn, NodeTick, NodeAsks}
+use Rattle.bac_world.specs.World.{World, Copy, Note, Event, link_at, peer_at, newest, ask_of, is_deliverable, IsCopied, WorldRun, IsFresh, IsBounded}
+
+-- each member of a list has that
+abbrev pub Every : {A : Type 0} → (A → Type 0) → List A → Type 0
+Every P [] = Unit {0}
+Every P (x ∷ xs) = P x × Every P xs
+
+-- a datagram that a node sends can become a copy
+pub record CanBeCopied (w : World) (sender : ℕ) (d : Datagram) : Type 0 where
+  pub copy : Copy
+  pub is : IsCopied w.nodes w.now sender d copy
+
+-- a ticket's ending has the number of an ask
+abbrev pub IsNoted : World → (node : ℕ) → Finish → Type 0
+IsNoted w node f = (number : ℕ) × (ask_of node f.ticket w.notes ≡ Some number)
+
+-- what was performed has a client, and the number of its newest ask
+pub record IsOfClient (w : World) (node : ℕ) (p : Performed) : Type 0 where
+  pub client : ℕ
+  pub number : ℕ
+  pub link : link_at w.nodes client ≡ Some p.key.peer.link
+  pub noted : newest (record { client = client; server = node; invoke_id = p.key.invoke_id }) w.notes ≡ Some number
+
+abbrev pub AreOfClient : World → (node : ℕ) → Option Performed → Type 0
+AreOfClient w node None = Unit {0}
+AreOfClient w node (Some p) = IsOfClient w node p
+
+pub record CanEnter (w : World) (node : ℕ) (o : Outcome) : Type 0 where
+  pub sends : Every (CanBeCopied w node) o.sends
+  pub ended : Every (IsNoted w node) o.ended
+  pub performed : AreOfClient w node o.performed
+
+-- how many asks of that client were noted
+abbrev pub asks_by : ℕ → List Note → ℕ
+asks_by client [] = 0
+asks_by client (n ∷ notes) = if nat_eq n.key.client client then suc (asks_by client notes) else asks_by client notes
+
+-- what is known of each world that a run leads to, where all windows are at most W
+pub record IsOpen (W overtake : ℕ) (w : World) : Type 0 where
+  -- no node was told a later moment
+  pub punctual : (i : ℕ) (a : Node) → slice_get w.nodes i ≡ Some a → a.latest ≤ w.now
+  -- a node's tickets count its asks
+  pub counted : (i : ℕ) (a : Node) → slice_get w.nodes i ≡ Some a → a.clients.asked ≡ asks_by i w.notes
+  -- a copy goes from a node to a node
+  pub from : (number : ℕ) (c : Copy) → slice_get w.copies number ≡ Some c → (a : Node) × (slice_get w.nodes c.from ≡ Some a)
+  pub to : (number : ℕ) (c : Copy) → slice_get w.copies number ≡ Some c → (a : Node) × (slice_get w.nodes c.to ≡ Some a)
+  -- a node hears a copy
+  pub hears : (number : ℕ) (c : Copy) → slice_get w.copies number ≡ Some c → is_deliverable overtake w.now number w.copies c ≡ true
+      → (link : Octets) → link_at w.nodes c.from ≡ Some link → (a b : Node) (o : Outcome) → slice_get w.nodes c.to ≡ Some a
+      → NodeOn w.now link c.octets a b o → CanEnter w c.to o × (length o.sends ≤ W + 1) × (length o.ended ≤ 1)
+  -- it ticks
+  pub ticks : (i : ℕ) (a b : Node) (o : Outcome) → slice_get w.nodes i ≡ Some a → NodeTick w.now a b o → CanEnter w i o
+  -- and asks
+  pub asks : (client server : ℕ) (a b : Node) (link : Octets) (limits : Limits) (r : Request) (accepted : Accepted) (sends : List Datagram)
+      → slice_get w.nodes client ≡ Some a → link_at w.nodes server ≡ Some link → NodeAsks w.now (peer_at link) limits r a b accepted sends
+      → Every (CanBeCopied w client) sends × (length sends ≤ W + 1)
+
+abbrev pub RunsStayOpen : Type 0
+RunsStayOpen = (W overtake : ℕ) (w w' : World) → IsFresh w → IsBounded W overtake w → (events : List Event) → WorldRun overtake w events w'
+    → IsOpen W overtake w'
