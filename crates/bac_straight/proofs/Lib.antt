@@ -1,0 +1,13 @@
+pub mod Posts
+pub mod Growing
+pub mod Shops
+pub mod Delivering
+pub mod Tickets
+pub mod Following
+pub mod Facts
+pub mod Rights
+pub mod Ways
+pub mod Loops
+pub mod Reading
+pub mod Answering
+pub mod Reached

@@ -1,0 +1,4 @@
+pub mod Straight
+pub mod Answers
+pub mod Free
+pub mod Room
