@@ -53,7 +53,7 @@ use Rattle.bac_straight.proofs.Shops.{Machines, shop, outcome_at, after_read}
 use Rattle.bac_straight.proofs.Delivering.{Fit}
 use Rattle.bac_straight.proofs.Following.{Followed, follows}
 use Rattle.bac_straight.proofs.Tickets.{closed_there}
-use Rattle.bac_straight.proofs.Facts.{three, IsThree, three_more, pairwise_length, facts_are}
+use Rattle.bac_straight.proofs.Facts.{three, IsThree, AreFacts, three_more, pairwise_length, facts_are}
 use Rattle.bac_straight.proofs.Rights.{reply_is}
 use Rattle.bac_straight.proofs.Reading.{was_performed}
 use Rattle.bac_straight.proofs.Ways.{asked_goes, way_is, way_fits, counted_so, kind_fits}
@@ -153,7 +153,8 @@ module _ (links : ℕ → Option Octets) (apart : (i j : ℕ) (l : Octets) → l
   key_is = λ d. slot_key run.asks.link ((parts.is d).invoke_id)
 
   followed : is_free w.now b.servers ≡ true → Followed links apart W x bound readable opening run.asked new v1 key true count (length n.posts)
-  followed slot = follows links apart W x bound readable opening n.posts key two run.asks.link server_at count (length n.posts) run.asked new v1 fit own (omega arith)
+  followed slot = follows links apart W x bound readable opening n.posts key two run.asks.link server_at count (length n.posts) run.asked new v1 fit own
+      (omega arith)
       (subst (λ (k : ℕ). DeliverEach x.overtake i (slot_key run.asks.link key.invoke_id) count k run.asked new) (sym counted)
       (subst (λ (q : PeerKey). DeliverEach x.overtake i q count (length w.copies) run.asked new) key_is run.delivers))
       true
@@ -258,19 +259,24 @@ module _ (links : ℕ → Option Octets) (apart : (i j : ℕ) (l : Octets) → l
       abbrev with_reply : ℕ → Reply → List Fact
       with_reply k y = three (Fact.Ended k (Answered y)) (Fact.Performed k r y) (Fact.Asked k i s r) w.log
 
+      means : Pairwise FactMeans machine_facts (three log_three.first log_three.second log_three.third w.log)
+      means = subst (Pairwise FactMeans machine_facts) log_three.is log_means
+
+      facts : AreFacts opening (stores_of new.nodes) n.asks i s (choice_of r) (join pieces) r spelled m w.log log_three.first log_three.second log_three.third
+      facts = facts_are opening (stores_of new.nodes) n.asks i s (choice_of r) (join pieces) r spelled m w.log log_three.first log_three.second log_three.third
+          means.0 means.1.0 means.1.1.0 (subst (λ (l : List Fact). IsOnce opening l (stores_of new.nodes)) log_three.is f.fit.once)
+
+      log_so : new.log ≡ with_reply n.asks facts.reply'
+      log_so = log_three.is ∙ facts.is
+
+      right : IsOnce opening (with_reply n.asks facts.reply') (stores_of new.nodes)
+      right = subst (λ (l : List Fact). IsOnce opening l (stores_of new.nodes)) log_so f.fit.once
+
+      reply_so : facts.reply' ≡ p
+      reply_so = reply_is opening n.asks i s r facts.reply' w.log right.0 (stores_of w.nodes) b.store right.2 once store_at
+
       log_is : new.log ≡ with_reply (length w.notes) p
-      log_is =
-          let t = log_three in
-          let means : Pairwise FactMeans machine_facts (three t.first t.second t.third w.log) = subst (Pairwise FactMeans machine_facts) t.is log_means in
-          let y = facts_are opening (stores_of new.nodes) n.asks i s (choice_of r) (join pieces) r spelled m w.log t.first t.second t.third
-          means.0 means.1.0 means.1.1.0 (subst (λ (l : List Fact). IsOnce opening l (stores_of new.nodes)) t.is f.fit.once) in
-          let so : new.log ≡ with_reply n.asks y.reply' = t.is ∙ y.is in
-          let right : IsOnce opening (with_reply n.asks y.reply') (stores_of new.nodes) =
-          subst (λ (l : List Fact). IsOnce opening l (stores_of new.nodes)) so f.fit.once in
-          so
-          ∙ ap (with_reply n.asks)
-          (reply_is opening n.asks i s r y.reply' w.log right.0 (stores_of w.nodes) b.store right.2 once store_at)
-          ∙ ap (λ (k : ℕ). with_reply k p) h.asks
+      log_is = log_so ∙ ap (with_reply n.asks) reply_so ∙ ap (λ (k : ℕ). with_reply k p) h.asks
 
       cheap : count ≤ cost (datagrams (request_way_of a.settings limits run.asks.asks.octets)) (datagrams (way_between a.settings b.settings p))
       cheap = subst (λ (k : ℕ). count ≤ cost (datagrams (request_way_of a.settings limits run.asks.asks.octets)) k)

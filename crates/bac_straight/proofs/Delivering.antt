@@ -151,7 +151,8 @@ module _ (links : ℕ → Option Octets) (apart : (i j : ℕ) (l : Octets) → l
               (ap (λ (y : Node). y.store) turn.node);
         });
         own = subst (λ (y : Machines). AreOwn old key y.net.posts) (sym becomes)
-            (subst (λ (k : Key). AreOwn old k (n.posts ++ map (net.post_of p.key n.now) u.sends)) key_is (own_more old p.key n.posts own_of_post n.now u.sends));
+            (subst (λ (k : Key). AreOwn old k (n.posts ++ map (net.post_of p.key n.now) u.sends)) key_is
+            (own_more old p.key n.posts own_of_post n.now u.sends));
         now = acts.now;
         grows = acts_grow w w' c.to b o acts;
       }

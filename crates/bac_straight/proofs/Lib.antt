@@ -11,3 +11,5 @@ pub mod Loops
 pub mod Reading
 pub mod Answering
 pub mod Reached
+pub mod Counts
+pub mod Room

@@ -89,7 +89,8 @@ module _ (S : Type 0) (shop : Shop S) (x : Rules) (now number : ℕ) (key : Key)
       (stops_at (first + suc j) (suc first + j) u (omega arith) stops)
 
 module _ (S : Type 0) (shop : Shop S) (x : Rules) (w : World S) (key : Key) (good : AreStraight x key) (choice : ℕ) (front : Octets) (rest : List Octets)
-    (p : Reply) (dead : is_none_live w.net.now (w.net.entries key) ≡ true) (outcome : shop.outcome (w.stores key.server) choice (join (front ∷ rest)) ≡ Replies p)
+    (p : Reply) (dead : is_none_live w.net.now (w.net.entries key) ≡ true)
+    (outcome : shop.outcome (w.stores key.server) choice (join (front ∷ rest)) ≡ Replies p)
     (way : WayFits (way_to x key p)) where
   abbrev pieces : List Octets
   pieces = front ∷ rest
