@@ -1,6 +1,10 @@
 -- Requests, replies and endings of a transaction. The octets of service data are not read here.
 use Rattle.std.specs.Prelude.{ℕ, Bool, List}
 
+-- the reasons of the Aborts that are sent, as the code states them (clause 18.10)
+pub use Rattle.bac_protocol.specs.declared.reasons.TheConstants.{OTHER, BUFFER_OVERFLOW, SEGMENTATION_NOT_SUPPORTED}
+
+-- service data as they are sent: octets
 abbrev pub Octets : Type 0
 Octets = List ℕ
 
@@ -19,16 +23,6 @@ pub data Reply : Type 0 where
 pub data Outcome : Type 0 where
   Replies : (reply : Reply) → Outcome
   Rejects : (reason : ℕ) → Outcome
-
--- reasons of an Abort (clause 18.10)
-abbrev pub OTHER : ℕ
-OTHER = 0
-
-abbrev pub BUFFER_OVERFLOW : ℕ
-BUFFER_OVERFLOW = 1
-
-abbrev pub SEGMENTATION_NOT_SUPPORTED : ℕ
-SEGMENTATION_NOT_SUPPORTED = 4
 
 -- how a ticket ends
 pub data Ending : Type 0 where
