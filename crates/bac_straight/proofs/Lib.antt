@@ -13,3 +13,6 @@ pub mod Answering
 pub mod Reached
 pub mod Counts
 pub mod Room
+pub mod Networks
+pub mod ShortRun
+pub mod LongRun

@@ -3,6 +3,8 @@
 //! The definitions stand in `specs/`, over those of bac_world. The functions here have no body: each carries a law as its contract.
 #![tactic(auto)]
 
+pub mod examples;
+
 ghost use Rattle.std.specs.Prelude.{ℕ, List};
 ghost use Rattle.bac_world.specs.World.{World, Event, WorldRun, IsFresh, IsBounded};
 ghost use Rattle.bac_straight.specs.Straight.{DeliveriesGoOn, IsRunOfDeliveries};
