@@ -1,2 +1,3 @@
 pub mod Entering
 pub mod Views
+pub mod Index

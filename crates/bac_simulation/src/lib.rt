@@ -1,6 +1,7 @@
 //! Nodes in one simulated network, in code.
 #![tactic(auto)]
 
+mod asks;
 mod copies;
 mod meaning;
 mod transaction;

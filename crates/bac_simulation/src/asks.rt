@@ -1,0 +1,59 @@
+//! What is kept of transactions and tickets, so that none is looked for in a list.
+ghost use Rattle.std.specs.Prelude.{◌≡◌, ◌+◌, ◌*◌, ◌<◌, ◌≤◌, length, slice_get, vec_capacity, Some};
+ghost use Rattle.bac_simulation.specs.Index.{cell_at, number_at, place_of, IsWithRow, IsWithCell, IsWithNumber};
+ghost use Rattle.bac_simulation.specs.Views.{key_view};
+
+use crate::transaction::Transaction;
+
+/// What is kept of a transaction: its newest ask, and how many of the copies are its.
+#[derive(Clone, Copy, Debug, PartialEq, Eq)]
+pub(crate) struct Cell {
+    pub newest: Option<usize>,
+    pub sent: usize,
+}
+
+/// What is kept of a node as a client: its transactions, by server and invoke ID, and the numbers of its asks, by ticket.
+#[derive(Drop)]
+pub(crate) struct Row {
+    pub cells: Vec<Cell>,
+    pub numbers: Vec<usize>,
+}
+
+/// What is kept of a transaction; None where there is no such node.
+pub(crate) fn cell(rows: &[Row], key: &Transaction) -> Option<Cell>
+    ensures { result ≡ cell_at rows.now (key_view key.now) }
+{
+    let row = rows.get(key.client)?;
+    let place = key
+        .server
+        .checked_mul(256)?
+        .checked_add(usize::from(key.invoke_id))?;
+    row.cells.get(place).copied()
+}
+
+/// The number of the ask of a ticket; None where there is none.
+pub(crate) fn number(rows: &[Row], client: usize, ticket: u64) -> Option<usize>
+    ensures { result ≡ number_at rows.now client ticket }
+{
+    let row = rows.get(client)?;
+    row.numbers.get(ticket as usize).copied()
+}
+
+/// Sets what is kept of a transaction of nodes that there are.
+pub(crate) fn set_cell(rows: &mut [Row], key: &Transaction, cell: Cell)
+    requires { (r : _) × (slice_get rows.old key.now.client ≡ Some r) × (place_of key.now.server key.now.invoke_id < length r.cells.items) }
+    ensures { IsWithRow rows.old key.now.client (IsWithCell (place_of key.now.server key.now.invoke_id) cell) rows.new }
+{
+    let place = key.server * 256 + usize::from(key.invoke_id);
+    let row = &mut rows[key.client];
+    row.cells[place] = cell;
+}
+
+/// Notes the number of the ask of a client's next ticket, for which there is room.
+pub(crate) fn add_number(rows: &mut [Row], client: usize, number: usize)
+    requires { (r : _) × (slice_get rows.old client ≡ Some r) × (length r.numbers.items + 1 ≤ vec_capacity r.numbers) }
+    ensures { IsWithRow rows.old client (IsWithNumber number) rows.new }
+{
+    let row = &mut rows[client];
+    row.numbers.push_reserved(number);
+}
