@@ -1,6 +1,11 @@
 pub mod Lists
+pub mod Index
+pub mod Noted
+pub mod Fresh
+pub mod Sends
+pub mod Grown
 pub mod Few
 pub mod Copied
 pub mod Heard
 pub mod Ticked
-pub mod Opening
+pub mod GoingOn

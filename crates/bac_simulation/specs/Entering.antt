@@ -46,7 +46,7 @@ asks_by client [] = 0
 asks_by client (n ∷ notes) = if nat_eq n.key.client client then suc (asks_by client notes) else asks_by client notes
 
 -- what is known of each world that a run leads to, where all windows are at most W
-pub record IsOpen (W overtake : ℕ) (w : World) : Type 0 where
+pub record CanGoOn (W overtake : ℕ) (w : World) : Type 0 where
   -- no node was told a later moment
   pub punctual : (i : ℕ) (a : Node) → slice_get w.nodes i ≡ Some a → a.latest ≤ w.now
   -- a node's tickets count its asks
@@ -65,6 +65,6 @@ pub record IsOpen (W overtake : ℕ) (w : World) : Type 0 where
       → slice_get w.nodes client ≡ Some a → link_at w.nodes server ≡ Some link → NodeAsks w.now (peer_at link) limits r a b accepted sends
       → Every (CanBeCopied w client) sends × (length sends ≤ W + 1)
 
-abbrev pub RunsStayOpen : Type 0
-RunsStayOpen = (W overtake : ℕ) (w w' : World) → IsFresh w → IsBounded W overtake w → (events : List Event) → WorldRun overtake w events w'
-    → IsOpen W overtake w'
+abbrev pub RunsCanGoOn : Type 0
+RunsCanGoOn = (W overtake : ℕ) (w w' : World) → IsFresh w → IsBounded W overtake w → (events : List Event) → WorldRun overtake w events w'
+    → CanGoOn W overtake w'

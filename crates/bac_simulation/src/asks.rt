@@ -20,7 +20,7 @@ pub(crate) struct Row {
 }
 
 /// What is kept of a transaction; None where there is no such node.
-pub(crate) fn cell(rows: &[Row], key: &Transaction) -> Option<Cell>
+pub(crate) fn known(rows: &[Row], key: &Transaction) -> Option<Cell>
     ensures { result ≡ cell_at rows.now (key_view key.now) }
 {
     let row = rows.get(key.client)?;
@@ -32,7 +32,7 @@ pub(crate) fn cell(rows: &[Row], key: &Transaction) -> Option<Cell>
 }
 
 /// The number of the ask of a ticket; None where there is none.
-pub(crate) fn number(rows: &[Row], client: usize, ticket: u64) -> Option<usize>
+pub(crate) fn number_of(rows: &[Row], client: usize, ticket: u64) -> Option<usize>
     ensures { result ≡ number_at rows.now client ticket }
 {
     let row = rows.get(client)?;
@@ -40,7 +40,7 @@ pub(crate) fn number(rows: &[Row], client: usize, ticket: u64) -> Option<usize>
 }
 
 /// Sets what is kept of a transaction of nodes that there are.
-pub(crate) fn set_cell(rows: &mut [Row], key: &Transaction, cell: Cell)
+pub(crate) fn set_known(rows: &mut [Row], key: &Transaction, cell: Cell)
     requires { (r : _) × (slice_get rows.old key.now.client ≡ Some r) × (place_of key.now.server key.now.invoke_id < length r.cells.items) }
     ensures { IsWithRow rows.old key.now.client (IsWithCell (place_of key.now.server key.now.invoke_id) cell) rows.new }
 {

@@ -1,5 +1,5 @@
 //! Copies of the datagrams that nodes send.
-ghost use Rattle.std.specs.Prelude.{◌≡◌, ◌≢◌, ℕ, ◌<◌, List, Some, None, IfSome, length, slice_get};
+ghost use Rattle.std.specs.Prelude.{◌≡◌, ◌≢◌, ◌↔◌, IsTrue, ℕ, ◌<◌, List, Some, None, IfSome, length, slice_get};
 ghost use Rattle.bac_protocol.specs.Service.{Octets};
 ghost use Rattle.bac_world.specs.Node.{Node};
 ghost use Rattle.bac_world.specs.World.{IsCopied};
@@ -26,13 +26,30 @@ pub struct Copy {
     pub before: usize,
 }
 
+/// Whether two links are one.
+fn is_link(one: [u8; 6], other: [u8; 6]) -> bool
+    ensures { IsTrue result ↔ (one ≡ other) }
+{
+    one == other
+}
+
+/// Whether a node is at that link.
+fn is_at(links: &[[u8; 6]], node: usize, link: [u8; 6]) -> bool
+    ensures { IsTrue result ↔ (slice_get links.now node ≡ Some link) }
+{
+    match links.get(node) {
+        Some(other) => is_link(*other, link),
+        None => false,
+    }
+}
+
 /// The node at a link, if there is one.
 pub(crate) fn node_at(links: &[[u8; 6]], link: [u8; 6]) -> Option<usize>
     ensures some { IfSome result (λ n. slice_get links.now n ≡ Some link) }
     ensures none { result ≡ None → (n : ℕ) → slice_get links.now n ≢ Some link }
 {
     for n in 0..links.len() {
-        if links[n] == link {
+        if is_at(links, n, link) {
             return Some(n);
         }
     }
@@ -48,6 +65,7 @@ pub(crate) fn copy_of(
 ) -> Option<Copy>
     requires sender { sender < length links.now }
     ensures some { (nodes : List Node) → AreLinks nodes links.now → IfSome result (λ c. IsCopied nodes now sender datagram (copy_view c)) }
+    ensures fits { IfSome result (λ c. c.transaction.invoke_id < 256) }
     ensures none { (nodes : List Node) → AreLinks nodes links.now → (c : _) → IsCopied nodes now sender datagram c → result ≢ None }
 {
     let to = node_at(links, datagram.to())?;

@@ -1,5 +1,5 @@
 //! What datagrams mean.
-ghost use Rattle.std.specs.Prelude.{◌≡◌, None, IfSome};
+ghost use Rattle.std.specs.Prelude.{◌≡◌, ◌<◌, None, IfSome};
 ghost use Rattle.bac_apdu.specs.Spelling.{SpellsApdu};
 ghost use Rattle.bac_apdu.specs.Views.{apdu_view};
 ghost use Rattle.bac_npdu.specs.Datagram.{Means};
@@ -46,7 +46,8 @@ fn is_from_client(apdu: &Apdu<'_>) -> bool
 
 /// The transaction of an APDU that goes from a node to a node.
 pub(crate) fn transaction_of(from: usize, to: usize, apdu: &Apdu<'_>) -> Transaction
-    ensures { key_view result ≡ transaction_of from to (apdu_view apdu.now) }
+    ensures is { key_view result ≡ transaction_of from to (apdu_view apdu.now) }
+    ensures fits { result.invoke_id < 256 }
 {
     let invoke_id = invoke_id_of(apdu);
     if is_from_client(apdu) {

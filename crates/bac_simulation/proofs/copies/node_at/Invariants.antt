@@ -5,6 +5,6 @@ use Rattle.bac_simulation.proofs.copies.node_at.Given as goal
 abbrev pub invariant-loop-n : goal.invariant-loop-n
 invariant-loop-n l =
     record {
-      ends : l.n-end ≡ length l.links.now;
-      none : (k : ℕ) → k < l.n → slice_get l.links.now k ≢ Some l.link;
+      ends : l.n-end ≡ length l.links;
+      none : (k : ℕ) → k < l.n → slice_get l.links k ≢ Some l.link;
     }

@@ -30,7 +30,7 @@ use Rattle.bac_world.proofs.Bridge.{IsCopyOf, IsBetween, framed_means}
 use Rattle.bac_world.proofs.Steps.{Over, decide_number}
 use Rattle.bac_world.proofs.Asking.{accepted_is}
 use Rattle.bac_world.proofs.Headline.{run_over, rules_of, rules_bounded, fresh_over}
-use Rattle.bac_simulation.specs.Entering.{Every, CanBeCopied, CanEnter, IsOpen, asks_by}
+use Rattle.bac_simulation.specs.Entering.{Every, CanBeCopied, CanEnter, CanGoOn, asks_by}
 use Rattle.bac_simulation.proofs.Heard.{Enters, nothing_enters, server_enters, client_enters}
 use Rattle.bac_simulation.proofs.Ticked.{tick_enters, ask_enters}
 
@@ -213,7 +213,7 @@ module _ (links : ℕ → Option Octets) (apart : (i j : ℕ) (l : Octets) → l
       (subst (λ (q : PeerView). IsHeardBy (is_from_client p.other.copy.apdu) q p.other.copy.apdu w.now a b o) one.0
       (subst (λ (y : Apdu). IsHeardBy (is_from_client y) d.peer y w.now a b o) one.1 d.heard))
 
-  opens : Tidy w → (overtake : ℕ) → IsOpen W overtake w
+  opens : Tidy w → (overtake : ℕ) → CanGoOn W overtake w
   opens t overtake = record {
     punctual = t.punctual;
     counted = t.counted;
@@ -225,9 +225,9 @@ module _ (links : ℕ → Option Octets) (apart : (i j : ℕ) (l : Octets) → l
     asks = ask_enters links apart W x bound w n h;
   }
 
-pub runs_stay_open : (W overtake : ℕ) (w w' : World) → IsFresh w → IsBounded W overtake w → (events : List Event) → WorldRun overtake w events w'
-    → IsOpen W overtake w'
-runs_stay_open W overtake w w' f b events run =
+pub runs_can_go_on : (W overtake : ℕ) (w w' : World) → IsFresh w → IsBounded W overtake w → (events : List Event) → WorldRun overtake w events w'
+    → CanGoOn W overtake w'
+runs_can_go_on W overtake w w' f b events run =
     let x = rules_of overtake w in
     let bound = rules_bounded W overtake w b in
     let reached = run_over (link_at w.nodes) f.apart W x bound refl (stores_of w.nodes) events w w' net_start (fresh_over W overtake w f b)
