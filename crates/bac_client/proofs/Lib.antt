@@ -1,3 +1,4 @@
 pub mod Short
+pub mod Ways
 pub mod Windows
 pub mod Taking

@@ -2,6 +2,8 @@
 use Rattle.std.specs.Prelude.{◌≡◌, ℕ, ◌≤◌, Bool, true, length}
 use Rattle.bac_segment.specs.Pieces.{join, piece_at}
 use Rattle.bac_segment.specs.Window.{Outgoing, outgoing}
+use Rattle.bac_client.specs.declared.outgoing_request.RequestWay.{RequestWay}
+use Rattle.bac_client.specs.declared.outgoing_request.RequestWay.TheVariants as way
 
 -- six octets stand in front of a piece, and the longest APDU has 1,476 (clause 20.1.2.5)
 pub record ArePiecesShort (out : Outgoing) : Type 0 where
@@ -16,3 +18,8 @@ pub record IsShort (whole : Bool) (out : Outgoing) : Type 0 where
 pub record IsNew (whole : Bool) (out : Outgoing) : Type 0 where
   pub start : out ≡ outgoing out.pieces
   pub short : IsShort whole out
+
+-- service data of so many octets can go that way, whatever the sizes of both ends
+abbrev pub IsWayFor : RequestWay → (len : ℕ) → Type 0
+IsWayFor way.InOne len = len ≤ 1472
+IsWayFor (way.InSegments size) len = (1 ≤ size) × (size ≤ 1470)

@@ -20,8 +20,8 @@ use Rattle.bac_client.specs.declared.context.Context.{Context}
 use Rattle.bac_client.specs.declared.ticket.Core.{Core}
 use Rattle.bac_client.specs.declared.ticket.Phase.{Phase}
 use Rattle.bac_client.specs.declared.asking.Begun.{Begun}
-use Rattle.bac_client.specs.declared.reacted.Reacted.{Reacted}
-use Rattle.bac_client.specs.declared.reacted.Finish.{Finish}
+use Rattle.bac_client.specs.declared.reaction.Reaction as code
+use Rattle.bac_client.specs.declared.reaction.Finish.{Finish}
 use Rattle.bac_client.specs.declared.ticking.Due.{Due}
 
 -- how a ticket ends, if it does
@@ -37,14 +37,14 @@ pub record IsBegun (c : Context) (ask : Ask) (x : Begun) : Type 0 where
   pub sends : Pairwise IsSent (to_all (peer_of c) (sends_of (asks (context_view c) ask))) x.sends.items
 
 -- it did what the machine says
-pub record IsReacted (c : Context) (t : Ticket) (r : Reaction) (x : Reacted) : Type 0 where
+pub record IsReaction (c : Context) (t : Ticket) (r : Reaction) (x : code.Reaction) : Type 0 where
   pub held : held_view x.held ≡ kept (after c.moment t r)
   pub sends : Pairwise IsSent (to_all (peer_of c) (sends_of r)) x.sends.items
   pub ended : MeansEnd t.ask.choice (ending_of r) (option_map ending_view x.ended)
 
 -- or there was no memory, and the ticket is as it was
-abbrev pub Reacts : Context → Ticket → Reaction → Result Reacted Ticket → Type 0
-Reacts c t r (Ok x) = IsReacted c t r x
+abbrev pub Reacts : Context → Ticket → Reaction → Result code.Reaction Ticket → Type 0
+Reacts c t r (Ok x) = IsReaction c t r x
 Reacts c t r (Err old) = old ≡ t
 
 -- what a tick sends, and how it ends the ticket
@@ -66,8 +66,8 @@ IsRead choice octets (Some x) = SpellsComplex choice x octets × (reads_reply ch
 IsRead choice octets None = reads_reply choice octets ≡ false
 
 -- a segment came for a ticket, whatever state it had; or there was no memory, and all is as it was
-abbrev pub TakesSegment : Context → Reaction → Core → Incoming → Result Reacted (Core × Incoming) → Type 0
-TakesSegment c r core inc (Ok x) = (p : Phase) → IsReacted c (ticket_view core p) r x
+abbrev pub TakesSegment : Context → Reaction → Core → Incoming → Result code.Reaction (Core × Incoming) → Type 0
+TakesSegment c r core inc (Ok x) = (p : Phase) → IsReaction c (ticket_view core p) r x
 TakesSegment c r core inc (Err old) = (old.0 ≡ core) × (old.1 ≡ inc)
 
 -- the SegmentACK of a segment, if any

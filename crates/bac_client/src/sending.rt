@@ -82,11 +82,11 @@ pub(crate) fn whole_request(
     only(alloc, datagram)
 }
 
-fn piece_apdu<'a>(context: &Context, choice: u8, out: &'a Outgoing, n: usize) -> Apdu<'a>
-    requires { n < length out.now.pieces }
-    ensures { apdu_view result ≡ request_piece (context_view context.now) choice out.now.pieces n }
+fn piece_apdu<'a>(context: &Context, choice: u8, outgoing: &'a Outgoing, n: usize) -> Apdu<'a>
+    requires { n < length outgoing.now.pieces }
+    ensures { apdu_view result ≡ request_piece (context_view context.now) choice outgoing.now.pieces n }
 {
-    let count = out.count();
+    let count = outgoing.count();
     let segment = Segment {
         more: n + 1 < count,
         number: (n % 256) as u8,
@@ -97,7 +97,7 @@ fn piece_apdu<'a>(context: &Context, choice: u8, out: &'a Outgoing, n: usize) ->
         invoke_id: context.key.invoke_id,
         segment: Some(segment),
         choice,
-        service: out.piece(n),
+        service: outgoing.piece(n),
     }
 }
 
@@ -105,14 +105,14 @@ fn piece(
     alloc: Global,
     context: &Context,
     choice: u8,
-    out: &Outgoing,
+    outgoing: &Outgoing,
     n: usize,
 ) -> Result<Datagram, NoMemory>
-    requires within { n < length out.now.pieces }
-    requires short { ArePiecesShort out.now }
-    ensures { IfOk result (IsSent (to_peer (peer_of context.now) (request_piece (context_view context.now) choice out.now.pieces n))) }
+    requires within { n < length outgoing.now.pieces }
+    requires short { ArePiecesShort outgoing.now }
+    ensures { IfOk result (IsSent (to_peer (peer_of context.now) (request_piece (context_view context.now) choice outgoing.now.pieces n))) }
 {
-    let apdu = piece_apdu(context, choice, out, n);
+    let apdu = piece_apdu(context, choice, outgoing, n);
     datagram_of(alloc, &context.key.peer, &apdu)
 }
 
@@ -121,19 +121,19 @@ pub(crate) fn pieces(
     alloc: Global,
     context: &Context,
     choice: u8,
-    out: &Outgoing,
+    outgoing: &Outgoing,
     start: usize,
     end: usize,
 ) -> Result<Vec<Datagram>, NoMemory>
     requires forward { start ≤ end }
-    requires within { end ≤ length out.now.pieces }
-    requires short { ArePiecesShort out.now }
+    requires within { end ≤ length outgoing.now.pieces }
+    requires short { ArePiecesShort outgoing.now }
     ensures { IfOk result (λ v. Pairwise IsSent (to_all (peer_of context.now)
-        (pieces_from (request_piece (context_view context.now) choice out.now.pieces) start (end - start))) v.items) }
+        (pieces_from (request_piece (context_view context.now) choice outgoing.now.pieces) start (end - start))) v.items) }
 {
     let mut sends = Vec::new(alloc);
     for n in start..end {
-        let datagram = piece(alloc, context, choice, out, n)?;
+        let datagram = piece(alloc, context, choice, outgoing, n)?;
         sends.push(datagram)?;
     }
     Ok(sends)
@@ -144,11 +144,11 @@ pub(crate) fn window(
     alloc: Global,
     context: &Context,
     choice: u8,
-    out: &Outgoing,
+    outgoing: &Outgoing,
 ) -> Result<Vec<Datagram>, NoMemory>
-    requires { ArePiecesShort out.now }
-    ensures { IfOk result (λ v. Pairwise IsSent (to_all (peer_of context.now) (request_window (context_view context.now) choice out.now)) v.items) }
+    requires { ArePiecesShort outgoing.now }
+    ensures { IfOk result (λ v. Pairwise IsSent (to_all (peer_of context.now) (request_window (context_view context.now) choice outgoing.now)) v.items) }
 {
-    let window = out.window();
-    pieces(alloc, context, choice, out, window.start, window.end)
+    let window = outgoing.window();
+    pieces(alloc, context, choice, outgoing, window.start, window.end)
 }
