@@ -1,4 +1,4 @@
+-- Lemmas of the client's transactions.
 pub mod Short
 pub mod Ways
-pub mod Windows
 pub mod Taking

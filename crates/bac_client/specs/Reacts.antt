@@ -1,22 +1,20 @@
 -- What the calls answer for one ticket.
-use Rattle.std.specs.Prelude.{◌≡◌, ℕ, ◌-◌, ◌%◌, true, false, List, [], ◌∷◌, Option, Some, None, Result, Ok, Err}
+use Rattle.std.specs.Prelude.{◌≡◌, ℕ, true, false, Option, Some, None, Result, Ok, Err}
 use Rattle.std.specs.Option.{option_map}
 use Rattle.bac_apdu.specs.Apdu.{Apdu}
 use Rattle.bac_service.specs.Replies.{SpellsComplex}
 use Rattle.bac_service.specs.Services.{reads_reply}
 use Rattle.bac_service.specs.Values.{Complex}
 use Rattle.bac_segment.specs.Window.{Incoming}
-use Rattle.bac_segment.specs.declared.incoming.Step.{Step}
-use Rattle.bac_segment.specs.declared.incoming.Step.TheVariants as step
-use Rattle.bac_protocol.specs.Context as plain
 use Rattle.bac_protocol.specs.Service.{Octets, Ending}
-use Rattle.bac_protocol.specs.Client.{Ask, Ticket, Reaction, after, sends_of, ending_of, client_ack, asked_ticket, asks}
+use Rattle.bac_protocol.specs.Client.{Ask, Ticket, Reaction, after, sends_of, ending_of, asked_ticket, asks}
 use Rattle.bac_ends.specs.Ends.{Held, kept}
 use Rattle.bac_ends.specs.Meanings as meanings
 use Rattle.bac_ends.specs.Meanings.{MeansEnding}
 use Rattle.bac_ends.specs.Sends.{Pairwise, IsSent, to_all}
-use Rattle.bac_client.specs.Views.{context_view, peer_of, held_view, ending_view, ticket_view}
-use Rattle.bac_client.specs.declared.context.Context.{Context}
+use Rattle.bac_ends.specs.Views.{context_view, peer_of}
+use Rattle.bac_client.specs.Views.{held_view, ending_view, ticket_view}
+use Rattle.bac_ends.specs.declared.context.Context.{Context}
 use Rattle.bac_client.specs.declared.ticket.Core.{Core}
 use Rattle.bac_client.specs.declared.ticket.Phase.{Phase}
 use Rattle.bac_client.specs.declared.asking.Begun.{Begun}
@@ -67,12 +65,5 @@ IsRead choice octets None = reads_reply choice octets ≡ false
 
 -- a segment came for a ticket, whatever state it had; or there was no memory, and all is as it was
 abbrev pub TakesSegment : Context → Reaction → Core → Incoming → Result code.Reaction (Core × Incoming) → Type 0
-TakesSegment c r core inc (Ok x) = (p : Phase) → IsReaction c (ticket_view core p) r x
-TakesSegment c r core inc (Err old) = (old.0 ≡ core) × (old.1 ≡ inc)
-
--- the SegmentACK of a segment, if any
-abbrev pub acks_of : plain.Context → (number window taken : ℕ) → Step → List Apdu
-acks_of c number window taken (step.Taken false) = []
-acks_of c number window taken (step.Taken true) = client_ack c false number window ∷ []
-acks_of c number window taken step.Whole = client_ack c false number window ∷ []
-acks_of c number window taken step.Nak = client_ack c true ((taken - 1) % 256) window ∷ []
+TakesSegment c r core incoming (Ok x) = (p : Phase) → IsReaction c (ticket_view core p) r x
+TakesSegment c r core incoming (Err old) = (old.0 ≡ core) × (old.1 ≡ incoming)

@@ -5,11 +5,10 @@ ghost use Rattle.bac_client.specs.Fits.{IsShort};
 ghost use Rattle.bac_client.specs.Reacts.{IsBegun};
 ghost use Rattle.bac_client.specs.Requests.{ask_at};
 
-use crate::context::Context;
 use crate::outgoing_request::OutgoingRequest;
 use crate::sending::{whole_request, window};
 use crate::ticket::{Core, Phase, Ticket};
-use bac_ends::Datagram;
+use bac_ends::{Context, Datagram};
 use bac_segment::{Outgoing, RETRIES};
 use bac_value::NoMemory;
 use std::alloc::Global;

@@ -5,17 +5,17 @@ ghost use Rattle.bac_service.specs.Choices.{has_complex_ack, has_simple_ack};
 ghost use Rattle.bac_service.specs.Services.{reads_reply};
 ghost use Rattle.bac_protocol.specs.Client.{answered_with, await_confirmation_gets, gets_complex_ack, gets_error, gets_first_segment, gets_simple_ack};
 ghost use Rattle.bac_client.specs.Reacts.{Finishes, IsReaction, Reacts};
-ghost use Rattle.bac_client.specs.Views.{context_view};
+ghost use Rattle.bac_ends.specs.Views.{context_view};
 
-use crate::context::Context;
 use crate::ending::Ending;
 use crate::getting::gets_refusal;
 use crate::reaction::{Finish, Reaction, closes, ends, stays};
 use crate::reading::read_one;
-use crate::segmented_conf::{OTHER, takes_segment};
-use crate::sending::abort_alone;
+use crate::segmented_conf::takes_segment;
 use crate::ticket::Ticket;
 use bac_apdu::{Apdu, Segment};
+use bac_ends::{Context, only_abort};
+use bac_protocol::reasons::OTHER;
 use bac_segment::Incoming;
 use bac_service::{ATOMIC_READ_FILE, ATOMIC_WRITE_FILE, AnyReply, READ_PROPERTY, WRITE_PROPERTY};
 use bac_value::NoMemory;
@@ -68,7 +68,7 @@ fn finish_one(
     ensures { IfOk result (Finishes context.now choice (answered_with (context_view context.now) reads_reply choice [] service.now)) }
 {
     let Some(complex) = read_one(alloc, choice, service)? else {
-        let sends = abort_alone(alloc, context, OTHER)?;
+        let sends = only_abort(alloc, context, false, OTHER)?;
         return Ok(Finish {
             sends,
             how: Ending::Aborted(OTHER),

@@ -5,16 +5,16 @@ ghost use Rattle.bac_service.specs.Services.{reads_reply};
 ghost use Rattle.bac_protocol.specs.Client.{client_gets, gets_refusal};
 ghost use Rattle.bac_protocol.specs.Wire.{is_from_server};
 ghost use Rattle.bac_client.specs.Reacts.{IsReaction, Reacts};
-ghost use Rattle.bac_client.specs.Views.{context_view};
+ghost use Rattle.bac_ends.specs.Views.{context_view};
 
 use crate::await_confirmation::await_confirmation_gets;
-use crate::context::Context;
 use crate::ending::Ending;
 use crate::reaction::{Reaction, ends, stays};
 use crate::segmented_conf::segmented_conf_gets;
 use crate::segmented_request::segmented_request_gets;
 use crate::ticket::{Phase, Ticket};
 use bac_apdu::Apdu;
+use bac_ends::Context;
 use std::alloc::Global;
 
 /// A Reject or an Abort of the server ends the ticket; nothing else is looked at.

@@ -5,7 +5,6 @@
 
 mod asking;
 mod await_confirmation;
-mod context;
 mod ending;
 mod getting;
 mod held;
@@ -19,7 +18,6 @@ mod ticket;
 mod ticking;
 
 pub use asking::Begun;
-pub use context::Context;
 pub use ending::Ending;
 pub use held::Held;
 pub use outgoing_request::{OutgoingRequest, RequestFault, RequestWay};

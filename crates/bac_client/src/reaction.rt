@@ -6,11 +6,10 @@ ghost use Rattle.bac_ends.specs.Ends.Held.{Closed};
 ghost use Rattle.bac_client.specs.Reacts.{IsReaction};
 ghost use Rattle.bac_client.specs.Views.{ending_view, held_view};
 
-use crate::context::Context;
 use crate::ending::Ending;
 use crate::held::Held;
 use crate::ticket::Ticket;
-use bac_ends::Datagram;
+use bac_ends::{Context, Datagram};
 use std::alloc::Global;
 
 /// What an APDU made of a ticket.

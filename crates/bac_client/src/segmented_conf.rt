@@ -8,53 +8,26 @@ ghost use Rattle.bac_segment.specs.Window.Taking.{TooLong};
 ghost use Rattle.bac_segment.specs.declared.incoming.Step.TheVariants.{Whole};
 ghost use Rattle.bac_service.specs.Services.{reads_reply};
 ghost use Rattle.bac_protocol.specs.Client.{answered_with, client_ack, conf_segment_taken, gets_next_segment, segmented_conf_gets};
-ghost use Rattle.bac_ends.specs.Sends.{IsSent, Pairwise, to_all};
 ghost use Rattle.bac_client.specs.Fits.{IsShort};
-ghost use Rattle.bac_client.specs.Reacts.{Finishes, Reacts, TakesSegment, acks_of};
-ghost use Rattle.bac_client.specs.Views.{ask_view, context_view, peer_of, ticket_view};
+ghost use Rattle.bac_client.specs.Reacts.{Finishes, Reacts, TakesSegment};
+ghost use Rattle.bac_ends.specs.Views.{context_view};
+ghost use Rattle.bac_client.specs.Views.{ask_view, ticket_view};
 ghost use Rattle.bac_client.specs.declared.ticket.Phase.TheVariants.{SegmentedConf as Conf};
 
-use crate::context::Context;
 use crate::ending::Ending;
 use crate::getting::gets_refusal;
 use crate::held::Held;
 use crate::reaction::{Finish, Reaction, closes, stays};
 use crate::reading::read_parts;
-use crate::sending::{abort, abort_alone, ack};
+use crate::sending::abort;
 use crate::ticket::{Core, Phase, Ticket};
-use bac_apdu::{Apdu, Segment, Window};
-use bac_ends::Datagram;
+use bac_apdu::{Apdu, Segment};
+use bac_ends::{Context, only_abort, only_ack, step_acks};
+use bac_protocol::reasons::{BUFFER_OVERFLOW, OTHER};
 use bac_segment::{Incoming, Step};
 use bac_service::AnyReply;
 use bac_value::NoMemory;
 use std::alloc::Global;
-
-/// The reason 'other' of an Abort (clause 18.10).
-pub(crate) const OTHER: u8 = 0;
-
-/// The reason 'buffer-overflow' of an Abort (clause 18.10).
-const BUFFER_OVERFLOW: u8 = 1;
-
-/// What a segment is answered.
-fn step_acks(
-    alloc: Global,
-    context: &Context,
-    number: u8,
-    window: Window,
-    taken: usize,
-    step: Step,
-) -> Result<Vec<Datagram>, NoMemory>
-    ensures { IfOk result (λ v. Pairwise IsSent (to_all (peer_of context.now) (acks_of (context_view context.now) number window.size taken step)) v.items) }
-{
-    match step {
-        Step::Taken { ack: false } => Ok(Vec::new(alloc)),
-        Step::Taken { ack: true } | Step::Whole => ack(alloc, context, false, number, window),
-        Step::Nak => {
-            let last = (taken.saturating_sub(1) % 256) as u8;
-            ack(alloc, context, true, last, window)
-        }
-    }
-}
 
 /// All segments are there.
 fn finish_whole(
@@ -67,7 +40,7 @@ fn finish_whole(
     ensures { IfOk result (Finishes context.now choice (answered_with (context_view context.now) reads_reply choice
         (client_ack (context_view context.now) false number incoming.now.window ∷ []) (join incoming.now.parts))) }
 {
-    let mut sends = ack(alloc, context, false, number, incoming.window())?;
+    let mut sends = only_ack(alloc, context, false, false, number, incoming.window())?;
     let Some(complex) = read_parts(alloc, choice, incoming)? else {
         let abort = abort(alloc, context, OTHER)?;
         sends.push(abort)?;
@@ -91,7 +64,7 @@ fn too_long(
 ) -> Result<Reaction, (Core, Incoming)>
     ensures { TakesSegment context.now (conf_segment_taken (context_view context.now) reads_reply core.choice 0 0 TooLong) core incoming result }
 {
-    let Ok(sends) = abort_alone(alloc, context, BUFFER_OVERFLOW) else {
+    let Ok(sends) = only_abort(alloc, context, false, BUFFER_OVERFLOW) else {
         return Err((core, incoming));
     };
     let finish = Finish {
@@ -146,7 +119,8 @@ pub(crate) fn takes_segment(
     if let Step::Whole = step {
         return takes_last(alloc, context, core, incoming, number, more, octets);
     }
-    let Ok(sends) = step_acks(alloc, context, number, incoming.window(), incoming.taken(), step) else {
+    let (window, taken) = (incoming.window(), incoming.taken());
+    let Ok(sends) = step_acks(alloc, context, false, number, window, taken, step) else {
         return Err((core, incoming));
     };
     let Ok(_) = incoming.on_segment(number, more, octets) else {

@@ -6,18 +6,19 @@ ghost use Rattle.bac_service.specs.Services.{reads_reply};
 ghost use Rattle.bac_protocol.specs.Client.{moves_request_window, segmented_request_gets};
 ghost use Rattle.bac_client.specs.Fits.{IsShort};
 ghost use Rattle.bac_client.specs.Reacts.{Reacts};
-ghost use Rattle.bac_client.specs.Views.{ask_view, context_view, ticket_view};
+ghost use Rattle.bac_ends.specs.Views.{context_view};
+ghost use Rattle.bac_client.specs.Views.{ask_view, ticket_view};
 ghost use Rattle.bac_client.specs.declared.ticket.Phase.TheVariants.{SegmentedRequest};
 
 use crate::asking::ends_all;
 use crate::await_confirmation::await_confirmation_gets;
-use crate::context::Context;
 use crate::getting::gets_refusal;
 use crate::held::Held;
 use crate::reaction::{Reaction, stays};
 use crate::sending::window;
 use crate::ticket::{Core, Phase, Ticket};
 use bac_apdu::{Apdu, Window};
+use bac_ends::Context;
 use bac_segment::Progress;
 use std::alloc::Global;
 

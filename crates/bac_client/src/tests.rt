@@ -3,7 +3,7 @@ ghost use Rattle.std.specs.Prelude.{◌≤◌};
 
 use super::*;
 use bac_apdu::{Limits, Window, read};
-use bac_ends::{Datagram, PeerKey, Settings};
+use bac_ends::{Context, Datagram, PeerKey, Settings};
 use bac_npdu::Peer;
 use bac_service::AnyReply;
 use bac_value::NoMemory;

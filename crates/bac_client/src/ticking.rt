@@ -6,17 +6,17 @@ ghost use Rattle.bac_protocol.specs.Client.{after, client_ticks, repeats, sends_
 ghost use Rattle.bac_ends.specs.Ends.{kept};
 ghost use Rattle.bac_client.specs.Fits.{IsShort};
 ghost use Rattle.bac_client.specs.Reacts.{IsDue};
-ghost use Rattle.bac_client.specs.Views.{context_view, ending_view, held_view, ticket_view};
+ghost use Rattle.bac_ends.specs.Views.{context_view};
+ghost use Rattle.bac_client.specs.Views.{ending_view, held_view, ticket_view};
 ghost use Rattle.bac_client.specs.declared.ticket.Phase.{Phase};
 ghost use Rattle.bac_client.specs.declared.ticket.Phase.TheVariants.{SegmentedRequest};
 
 use crate::asking::ends_all;
-use crate::context::Context;
 use crate::ending::Ending;
 use crate::held::Held;
 use crate::sending::{pieces, whole_request, window};
 use crate::ticket::{Core, Phase, Ticket};
-use bac_ends::Datagram;
+use bac_ends::{Context, Datagram};
 use bac_protocol::times::{T_OUT, T_SEG, WAIT_SEG};
 use bac_segment::Timeout;
 use bac_value::NoMemory;

@@ -17,8 +17,8 @@ ghost use Rattle.bac_requester.specs.Views.{end_of};
 
 use crate::ask_fault::AskFault;
 use crate::client::{Client, HeldAt};
-use bac_client::{Begun, Context, Held, OutgoingRequest, RequestWay, Ticket};
-use bac_ends::{Datagram, PeerKey, Settings};
+use bac_client::{Begun, Held, OutgoingRequest, RequestWay, Ticket};
+use bac_ends::{Context, Datagram, PeerKey, Settings};
 use bac_npdu::Peer;
 use bac_service::{AnyRequest, Request, Service, write_request};
 use bac_slots::{SlotTable, count_passing, sweep, sweeping_slots};

@@ -39,15 +39,13 @@ enum End {
 /// The moment, the APDU that comes (none: a tick), the first octets of the datagrams that are sent, and the end.
 type Row<'a> = (u64, &'a str, &'a str, End);
 
-/// What a node takes that takes APDUs of 1,476 octets, and segments of any number.
-const LARGE_LIMITS: Limits = Limits {
-    max_apdu: 5,
-    takes_segments: true,
-    max_segments: 7,
-};
-
+/// A node that takes APDUs of 1,476 octets, and segments of any number.
 const LARGE: Settings = Settings {
-    limits: LARGE_LIMITS,
+    limits: Limits {
+        max_apdu: 5,
+        takes_segments: true,
+        max_segments: 7,
+    },
     window: Window { size: 32 },
 };
 

@@ -1,7 +1,16 @@
 //! Asks: which invoke ID and which slot they take, and each fault on both sides of its limit.
 use super::*;
 
-const NO_SEGMENTS: Limits = Limits {
+/// What a peer takes.
+#[derive(Clone, Copy, Debug, PartialEq, Eq)]
+enum Takes {
+    OneApdu,
+    TwoSegments,
+    FourSegments,
+    All,
+}
+
+const ONE_APDU: Limits = Limits {
     max_apdu: 0,
     takes_segments: false,
     max_segments: 0,
@@ -19,30 +28,40 @@ const FOUR_SEGMENTS: Limits = Limits {
     max_segments: 2,
 };
 
-/// The number of a peer of a client at 1, what the peer takes, how many octets are put there, and what becomes of it where a slot is free.
-const PUTS: &[(u8, Limits, usize, End)] = &[
-    (1, NO_SEGMENTS, 65_523, End::Refused(AskFault::SelfPeer)),
-    (2, NO_SEGMENTS, 65_523, End::Refused(AskFault::TooLong)),
-    (2, LARGE_LIMITS, 65_523, End::Refused(AskFault::TooLong)),
-    (2, LARGE_LIMITS, 65_522, End::Open),
-    (2, NO_SEGMENTS, 36, End::Refused(AskFault::NeedsSegments)),
-    (2, NO_SEGMENTS, 35, End::Open),
-    (2, TWO_SEGMENTS, 100, End::Refused(AskFault::NeedsSegments)),
-    (2, TWO_SEGMENTS, 77, End::Open),
-    (2, FOUR_SEGMENTS, 100, End::Open),
+fn limits(takes: Takes) -> Limits {
+    match takes {
+        Takes::OneApdu => ONE_APDU,
+        Takes::TwoSegments => TWO_SEGMENTS,
+        Takes::FourSegments => FOUR_SEGMENTS,
+        Takes::All => LARGE.limits,
+    }
+}
+
+/// The number of a peer of client 1, what it takes, how many octets are put there, and what becomes of it where a slot is free.
+const PUTS: &[(u8, Takes, usize, End)] = &[
+    (1, Takes::OneApdu, 65_523, End::Refused(AskFault::SelfPeer)),
+    (2, Takes::OneApdu, 65_523, End::Refused(AskFault::TooLong)),
+    (2, Takes::All, 65_523, End::Refused(AskFault::TooLong)),
+    (2, Takes::All, 65_522, End::Open),
+    (2, Takes::OneApdu, 36, End::Refused(AskFault::NeedsSegments)),
+    (2, Takes::OneApdu, 35, End::Open),
+    (2, Takes::TwoSegments, 100, End::Refused(AskFault::NeedsSegments)),
+    (2, Takes::TwoSegments, 77, End::Open),
+    (2, Takes::FourSegments, 100, End::Open),
 ];
 
 #[test]
 fn puts(rt: HostRuntime) -> Result<(), Fail> {
     let alloc = rt.alloc();
-    for (n, limits, len, how) in PUTS {
+    for (n, takes, len, how) in PUTS {
         let put = put(alloc, *len)?;
+        let limits = limits(*takes);
         let mut one: Indexed = requester(alloc, &LARGE, 1)?;
-        let told = ask(&mut one, alloc, 0, *n, limits, &put)?;
+        let told = ask(&mut one, alloc, 0, *n, &limits, &put)?;
         assert!(rt; told.end == *how, "{}", len);
         // without a slot, the fault is the same
         let mut none: Indexed = requester(alloc, &LARGE, 0)?;
-        let told = ask(&mut none, alloc, 0, *n, limits, &put)?;
+        let told = ask(&mut none, alloc, 0, *n, &limits, &put)?;
         let wanted = if *how == End::Open {
             End::Refused(AskFault::NoSlot)
         } else {
@@ -60,7 +79,7 @@ fn reads(
     n: u8,
     read: &OwnedRequest,
 ) -> Result<(u64, u8), AskFault> {
-    let asked = end.ask(now, &peer(n), &NO_SEGMENTS, read)?;
+    let asked = end.ask(now, &peer(n), &ONE_APDU, read)?;
     Ok((asked.ticket, asked.invoke_id))
 }
 

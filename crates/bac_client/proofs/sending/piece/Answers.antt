@@ -1,7 +1,7 @@
 -- A piece is short enough for a frame.
 use Rattle.std.proofs.Common.{sym, subst}
 use Rattle.bac_protocol.specs.Short as apdus
-use Rattle.bac_client.specs.Views.{context_view}
+use Rattle.bac_ends.specs.Views.{context_view}
 use Rattle.bac_client.proofs.Short.{piece_is_short}
 use Rattle.bac_client.proofs.sending.piece.Goals as goal
 

@@ -3,7 +3,7 @@ use Rattle.std.proofs.Common.{◌≤◌, ◌-◌}
 use Rattle.bac_protocol.specs.Client.{request_piece}
 use Rattle.bac_protocol.specs.Wire.{pieces_from}
 use Rattle.bac_ends.specs.Sends.{Pairwise, IsSent, to_all}
-use Rattle.bac_client.specs.Views.{context_view, peer_of}
+use Rattle.bac_ends.specs.Views.{context_view, peer_of}
 use Rattle.bac_client.proofs.sending.pieces.Given as goal
 
 abbrev pub invariant-loop-n : goal.invariant-loop-n
