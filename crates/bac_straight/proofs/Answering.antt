@@ -1,6 +1,5 @@
 -- A straight run answers its ask.
-use Rattle.std.proofs.Common.{Bool}
-use Rattle.std.proofs.Common.{◌≡◌, ◌+◌, ◌≤◌, ◌<◌, ◌⊎◌, ℕ, suc, true, false, List, [], ◌∷◌, ◌++◌, length, Option, Some, slice_get, if◌then◌else◌}
+use Rattle.std.proofs.Common.{◌≡◌, ◌+◌, ◌≤◌, ◌<◌, ◌⊎◌, ℕ, suc, Bool, true, false, List, [], ◌∷◌, ◌++◌, length, Option, Some, slice_get, if◌then◌else◌}
 use Rattle.std.proofs.Common.{nat_eq, Ok, refl, sym, ap, subst, inl, inr, ◌∙◌, arith, append_assoc}
 use Rattle.std.proofs.lemmas.Bool.Decides.{nat_tests}
 use Rattle.std.specs.Option.{option_map}
@@ -156,8 +155,8 @@ module _ (links : ℕ → Option Octets) (apart : (i j : ℕ) (l : Octets) → l
 
   followed : (has_slot : Bool) → (has_slot ≡ true → is_free w.now b.servers ≡ true)
       → Followed links apart W x bound readable opening run.asked new v1 n.posts key has_slot count (length n.posts)
-  followed has_slot slot = follows links apart W x bound readable opening n.posts key two run.asks.link server_at count (length n.posts) run.asked new v1 fit own
-      (omega arith)
+  followed has_slot slot = follows links apart W x bound readable opening n.posts key two run.asks.link server_at count (length n.posts) run.asked new
+      v1 fit own (omega arith)
       (subst (λ (k : ℕ). DeliverEach x.overtake i (slot_key run.asks.link key.invoke_id) count k run.asked new) (sym counted)
       (subst (λ (q : PeerKey). DeliverEach x.overtake i q count (length w.copies) run.asked new) key_is run.delivers))
       has_slot
