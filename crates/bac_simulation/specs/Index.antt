@@ -1,5 +1,5 @@
 -- What is kept of transactions and tickets beside the lists, so that nothing is looked for in them.
-use Rattle.std.specs.Prelude.{◌≡◌, ℕ, ◌+◌, ◌*◌, ◌<◌, List, [], ◌∷◌, ◌++◌, map, length, take, Option, Some, None, option_and_then, slice_get, slice_set}
+use Rattle.std.specs.Prelude.{◌≡◌, ℕ, ◌+◌, ◌*◌, ◌≤◌, List, [], ◌∷◌, ◌++◌, map, length, take, Option, Some, None, option_and_then, slice_get, slice_set, vec_capacity}
 use Rattle.bac_protocol.specs.Transaction.{Key}
 use Rattle.bac_world.specs.World.{Note, newest, ask_of, count_of}
 use Rattle.bac_simulation.specs.declared.asks.Cell.{Cell}
@@ -40,3 +40,12 @@ pub record IsWithCell (place : ℕ) (cell : Cell) (old new : Row) : Type 0 where
 pub record IsWithNumber (number : ℕ) (old new : Row) : Type 0 where
   pub cells : new.cells ≡ old.cells
   pub numbers : new.numbers.items ≡ old.numbers.items ++ number ∷ []
+
+-- what it says is as it was
+pub record IsSameRow (old new : Row) : Type 0 where
+  pub cells : new.cells.items ≡ old.cells.items
+  pub numbers : new.numbers.items ≡ old.numbers.items
+
+-- there is room for the ask of that client's next ticket
+abbrev pub HasTicketRoom : List Row → (client : ℕ) → Type 0
+HasTicketRoom rows client = (r : Row) × (slice_get rows client ≡ Some r) × (length r.numbers.items + 1 ≤ vec_capacity r.numbers)

@@ -9,14 +9,14 @@ use Rattle.bac_simulation.specs.Views.{copy_view}
 -- the nodes' links, the moment, the copies and for how many more there is room, and the notes
 pub record JournalView : Type 0 where
   pub links : List Octets
-  pub now : ℕ
+  pub moment : ℕ
   pub copies : List world.Copy
   pub room : ℕ
   pub notes : List world.Note
 
 abbrev pub view_of : List Octets → (now : ℕ) → List Copy → (capacity : ℕ) → List world.Note → JournalView
 view_of links now copies capacity notes =
-    record { links = links; now = now; copies = map copy_view copies; room = capacity - length copies; notes = notes }
+    record { links = links; moment = now; copies = map copy_view copies; room = capacity - length copies; notes = notes }
 
 -- a client that has asked nothing, beside so many nodes
 pub record IsFreshRow (nodes : ℕ) (r : Row) : Type 0 where

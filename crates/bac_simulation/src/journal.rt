@@ -1,18 +1,20 @@
 //! What a simulated network keeps beside its nodes.
-ghost use Rattle.std.specs.Prelude.{◌≡◌, ◌↔◌, ◌+◌, ◌<◌, ◌≤◌, IfOk, IsNone, IsSome, OnOk, OnErr, List, [], None, Some, length, map, slice_get};
+ghost use Rattle.std.specs.Prelude.{◌≡◌, ◌↔◌, ◌+◌, ◌<◌, ◌≤◌, IfOk, IsNone, IsSome, OnOk, OnErr, List, [], ◌∷◌, None, Some, length, map, slice_get};
 ghost use Rattle.bac_world.specs.Node.{Node};
 ghost use Rattle.bac_world.specs.World as world;
-ghost use Rattle.bac_world.specs.World.{is_deliverable};
+ghost use Rattle.bac_world.specs.World.{ask_of, is_deliverable, newest};
+ghost use Rattle.bac_simulation.specs.Entering.{asks_by};
 ghost use Rattle.bac_simulation.specs.Growing.{BecomeCopies, CanGo};
 ghost use Rattle.bac_simulation.specs.Journals.{AreFresh, IsFreshRow, JournalView};
-ghost use Rattle.bac_simulation.specs.Notes.{notes_view};
-ghost use Rattle.bac_simulation.specs.Views.{copy_view, AreLinks};
+ghost use Rattle.bac_simulation.specs.Notes.{note_view, notes_view};
+ghost use Rattle.bac_simulation.specs.Views.{copy_view, key_view, AreLinks};
 
-use crate::arriving::may_arrive;
-use crate::asks::{Cell, Row};
+use crate::arriving::deliverable;
+use crate::asks::{Cell, Row, known, number_of, reserve_number};
 use crate::copies::Copy;
-use crate::noting::Note;
+use crate::noting::{Note, add_note};
 use crate::sending::send_all;
+use crate::transaction::Transaction;
 use bac_ends::Datagram;
 use bac_value::NoMemory;
 use std::alloc::Global;
@@ -23,7 +25,7 @@ use std::marker::Model;
 #[derive(Drop)]
 pub struct Journal {
     links: Vec<[u8; 6]>,
-    now: u64,
+    moment: u64,
     copies: Vec<Copy>,
     notes: Vec<Note>,
     rows: Vec<Row>,
@@ -37,7 +39,7 @@ impl Model for Journal {
 
     ghost Value = { JournalView };
 
-    ghost view = { λ j. view_of j.links.items j.now j.copies.items j.copies.cap (notes_view j.notes.items) };
+    ghost view = { λ j. view_of j.links.items j.moment j.copies.items j.copies.cap (notes_view j.notes.items) };
 
     ghost invariant = { λ j. IsKept j.rows.items j.copies.items (notes_view j.notes.items) × (length j.rows.items ≡ length j.links.items) };
 }
@@ -73,14 +75,13 @@ fn fresh_rows(alloc: Global, nodes: usize) -> Result<Vec<Row>, NoMemory>
 
 impl Journal {
     /// Nothing has happened: the moment is 0. The places for the transactions of all nodes are made: 256 for each client and server.
-    #[tactic(auto, using(crate::proofs::Fresh::fresh_kept))]
     pub fn new(alloc: Global, links: Vec<[u8; 6]>) -> Result<Journal, NoMemory>
-        ensures { IfOk result (λ j. j ≡ record { links = links.items; now = 0; copies = []; room = 0; notes = [] }) }
+        ensures { IfOk result (λ j. j ≡ record { links = links.items; moment = 0; copies = []; room = 0; notes = [] }) }
     {
         let rows = fresh_rows(alloc, links.len())?;
         Ok(Journal {
             links,
-            now: 0,
+            moment: 0,
             copies: Vec::new(alloc),
             notes: Vec::new(alloc),
             rows,
@@ -89,9 +90,9 @@ impl Journal {
 
     /// The moment, in milliseconds.
     pub fn now(&self) -> u64
-        ensures { result ≡ self.now.now }
+        ensures { result ≡ self.now.moment }
     {
-        self.now
+        self.moment
     }
 
     /// The copies, oldest first; they are numbered from 0.
@@ -110,11 +111,11 @@ impl Journal {
 
     /// The clock goes on by so many milliseconds; None, and nothing changes, where the moment would pass 64 bits.
     pub fn advance(&mut self, by: u64) -> Option<()>
-        ensures some { IsSome result → self.new ≡ record (self.old) { now = self.old.now + by } }
+        ensures some { IsSome result → self.new ≡ record (self.old) { moment = self.old.moment + by } }
         ensures none { IsNone result → self.new ≡ self.old }
-        ensures passes { IsNone result ↔ (u64.MAX < self.old.now + by) }
+        ensures passes { IsNone result ↔ (u64.MAX < self.old.moment + by) }
     {
-        self.now = self.now.checked_add(by)?;
+        self.moment = self.moment.checked_add(by)?;
         Some(())
     }
 
@@ -122,18 +123,24 @@ impl Journal {
     /// such copy. It takes no memory.
     pub fn is_deliverable(&self, overtake: u8, number: usize) -> Option<bool>
         ensures none { slice_get self.now.copies number ≡ None → result ≡ None }
-        ensures is { (c : world.Copy) → slice_get self.now.copies number ≡ Some c → result ≡ Some (is_deliverable overtake self.now.now number self.now.copies c) }
+        ensures is { (c : world.Copy) → slice_get self.now.copies number ≡ Some c → result ≡ Some (is_deliverable overtake self.now.moment number self.now.copies c) }
     {
-        match self.copies.get(number) {
-            Some(copy) => Some(may_arrive(
-                overtake,
-                self.now,
-                &self.copies,
-                &self.rows,
-                copy,
-            )),
-            None => None,
-        }
+        deliverable(overtake, self.moment, &self.copies, &self.rows, number)
+    }
+
+    /// The newest ask of a transaction, by its number; None where there is none. It takes no memory.
+    pub fn newest(&self, transaction: &Transaction) -> Option<usize>
+        ensures { result ≡ newest (key_view transaction.now) self.now.notes }
+    {
+        transaction.fits();
+        known(&self.rows, transaction)?.newest
+    }
+
+    /// The ask of a client's ticket, by its number; None where there is none. It takes no memory.
+    pub fn ask_of(&self, client: usize, ticket: u64) -> Option<usize>
+        ensures { result ≡ ask_of client ticket self.now.notes }
+    {
+        number_of(&self.rows, client, ticket)
     }
 
     /// Makes room for so many more copies. After an Err nothing has changed.
@@ -148,21 +155,36 @@ impl Journal {
 
     /// The datagrams that a node sends become the newest copies, for which room was made. Each goes to a node, and means an APDU. It takes no memory.
     pub fn send(&mut self, sender: usize, sends: Vec<Datagram>)
-        requires can { CanGo self.old.links self.old.now sender sends.items }
+        requires can { CanGo self.old.links self.old.moment sender sends.items }
         requires room { length sends.items ≤ self.old.room }
         requires sender { sender < length self.old.links }
         ensures copies { (nodes : List Node) → AreLinks nodes self.old.links
-            → BecomeCopies nodes self.old.now sender sends.items self.old.copies self.new.copies }
+            → BecomeCopies nodes self.old.moment sender sends.items self.old.copies self.new.copies }
         ensures same { self.new ≡ record (self.old) { copies = self.new.copies; room = self.new.room } }
         ensures room { self.new.room + length sends.items ≡ self.old.room }
     {
         send_all(
             &self.links,
-            self.now,
+            self.moment,
             sender,
             &mut self.copies,
             &mut self.rows,
             sends,
         );
+    }
+
+    /// An ask that was accepted is noted, of nodes that there are; its client's tickets count its asks. After an Err nothing has changed.
+    pub fn note(&mut self, note: Note) -> Result<(), NoMemory>
+        requires client { note.transaction.client < length self.old.links }
+        requires server { note.transaction.server < length self.old.links }
+        requires ticket { note.ticket ≡ asks_by note.transaction.client self.old.notes }
+        ensures ok { OnOk result (self.new ≡ record (self.old) { notes = note_view note ∷ self.old.notes }) }
+        ensures err { OnErr result (self.new ≡ self.old) }
+    {
+        self.notes.reserve(1)?;
+        reserve_number(&mut self.rows, note.transaction.client)?;
+        note.transaction.fits();
+        add_note(&mut self.notes, &mut self.rows, note);
+        Ok(())
     }
 }

@@ -10,12 +10,12 @@ mod noting;
 mod sending;
 mod transaction;
 
+ghost use Rattle.bac_simulation.specs.Entering.{RunsCanGoOn};
+
 pub use copies::Copy;
 pub use journal::Journal;
 pub use noting::Note;
 pub use transaction::Transaction;
-
-ghost use Rattle.bac_simulation.specs.Entering.{RunsCanGoOn};
 
 /// In each world that a run of a fresh one leads to, what comes of a node's call can enter the world: each datagram goes to a node, in a transaction,
 /// each ending is an ask's, and so is what was performed. A copy makes a node send at most W + 1 datagrams.

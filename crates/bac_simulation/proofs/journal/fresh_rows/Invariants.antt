@@ -3,8 +3,8 @@ use Rattle.std.proofs.Common.{◌≡◌, length}
 use Rattle.bac_simulation.specs.Journals.{AreFresh}
 use Rattle.bac_simulation.proofs.journal.fresh_rows.Given as goal
 
-abbrev pub invariant-loop-_node : goal.invariant-loop-_node
-invariant-loop-_node l =
+abbrev pub invariant-loop-node : goal.invariant-loop-node
+invariant-loop-node l =
     record {
       many : length l.rows.items ≡ l._node;
       fresh : AreFresh l.nodes l.rows.items;

@@ -29,4 +29,4 @@ returns-clause-kept c = λ copies ticket h.
     (kept_note c.args.rows.now c.set_known.new.rows c.add_number.new.rows key _ c.in-Some.found _ c.set_known.ensures
     (within_of c.args.rows.now key c.in-Some.found c.set_known.ensures.before there c.set_known.ensures.was)
     c.add_number.ensures c.fits.ensures there refl refl copies (notes_view c.args.notes.now.items) c.args.note.ticket
-    (notes_many c.args.notes.now.items) ticket h)
+    (c.len-number.ensures ∙ c.args.notes.now.ok.0 ∙ notes_many c.args.notes.now.items) ticket h)
