@@ -1,20 +1,15 @@
 //! What a simulated network keeps beside its nodes.
-ghost use Rattle.std.specs.Prelude.{◌≡◌, ◌↔◌, ◌+◌, ◌<◌, ◌≤◌, IfOk, IsNone, IsSome, OnOk, OnErr, List, [], ◌∷◌, None, Some, length, map, slice_get};
+ghost use Rattle.std.specs.Prelude.{◌≡◌, ◌↔◌, ◌+◌, ◌<◌, ◌≤◌, IfOk, IsNone, IsSome, OnOk, OnErr, List, [], length, map};
 ghost use Rattle.bac_world.specs.Node.{Node};
-ghost use Rattle.bac_world.specs.World as world;
-ghost use Rattle.bac_world.specs.World.{ask_of, is_deliverable, newest};
-ghost use Rattle.bac_simulation.specs.Entering.{asks_by};
 ghost use Rattle.bac_simulation.specs.Growing.{BecomeCopies, CanGo};
 ghost use Rattle.bac_simulation.specs.Journals.{AreFresh, IsFreshRow, JournalView};
-ghost use Rattle.bac_simulation.specs.Notes.{note_view, notes_view};
-ghost use Rattle.bac_simulation.specs.Views.{copy_view, key_view, AreLinks};
+ghost use Rattle.bac_simulation.specs.Notes.{notes_view};
+ghost use Rattle.bac_simulation.specs.Views.{copy_view, AreLinks};
 
-use crate::arriving::deliverable;
-use crate::asks::{Cell, Row, known, number_of, reserve_number};
+use crate::asks::{Cell, Row};
 use crate::copies::Copy;
-use crate::noting::{Note, add_note};
+use crate::noting::Note;
 use crate::sending::send_all;
-use crate::transaction::Transaction;
 use bac_ends::Datagram;
 use bac_value::NoMemory;
 use std::alloc::Global;
@@ -119,30 +114,6 @@ impl Journal {
         Some(())
     }
 
-    /// Whether a copy may arrive now: it was sent at most 5,000 ms ago, and at most so many later copies are of its transaction. None where there is no
-    /// such copy. It takes no memory.
-    pub fn is_deliverable(&self, overtake: u8, number: usize) -> Option<bool>
-        ensures none { slice_get self.now.copies number ≡ None → result ≡ None }
-        ensures is { (c : world.Copy) → slice_get self.now.copies number ≡ Some c → result ≡ Some (is_deliverable overtake self.now.moment number self.now.copies c) }
-    {
-        deliverable(overtake, self.moment, &self.copies, &self.rows, number)
-    }
-
-    /// The newest ask of a transaction, by its number; None where there is none. It takes no memory.
-    pub fn newest(&self, transaction: &Transaction) -> Option<usize>
-        ensures { result ≡ newest (key_view transaction.now) self.now.notes }
-    {
-        transaction.fits();
-        known(&self.rows, transaction)?.newest
-    }
-
-    /// The ask of a client's ticket, by its number; None where there is none. It takes no memory.
-    pub fn ask_of(&self, client: usize, ticket: u64) -> Option<usize>
-        ensures { result ≡ ask_of client ticket self.now.notes }
-    {
-        number_of(&self.rows, client, ticket)
-    }
-
     /// Makes room for so many more copies. After an Err nothing has changed.
     pub fn reserve(&mut self, count: usize) -> Result<(), NoMemory>
         ensures ok { OnOk result (count ≤ self.new.room) }
@@ -171,20 +142,5 @@ impl Journal {
             &mut self.rows,
             sends,
         );
-    }
-
-    /// An ask that was accepted is noted, of nodes that there are; its client's tickets count its asks. After an Err nothing has changed.
-    pub fn note(&mut self, note: Note) -> Result<(), NoMemory>
-        requires client { note.transaction.client < length self.old.links }
-        requires server { note.transaction.server < length self.old.links }
-        requires ticket { note.ticket ≡ asks_by note.transaction.client self.old.notes }
-        ensures ok { OnOk result (self.new ≡ record (self.old) { notes = note_view note ∷ self.old.notes }) }
-        ensures err { OnErr result (self.new ≡ self.old) }
-    {
-        self.notes.reserve(1)?;
-        reserve_number(&mut self.rows, note.transaction.client)?;
-        note.transaction.fits();
-        add_note(&mut self.notes, &mut self.rows, note);
-        Ok(())
     }
 }
