@@ -8,7 +8,7 @@ use Rattle.bac_service.specs.Values.{Request, choice_of}
 use Rattle.bac_protocol.specs.declared.times.TheConstants.{DEADLINE}
 use Rattle.bac_protocol.specs.Context.{Context}
 use Rattle.bac_protocol.specs.Service.{Octets}
-use Rattle.bac_protocol.specs.Service.Ending as ending
+use Rattle.bac_protocol.specs.Service.{Ending}
 use Rattle.bac_protocol.specs.Client as client
 use Rattle.bac_protocol.specs.Client.{Ask, Ticket, Reaction, is_idle, is_expired}
 use Rattle.bac_protocol.specs.Client.Reaction.{Stays, GoesOn, Repeats, Ends}
@@ -19,9 +19,7 @@ use Rattle.bac_protocol.specs.Claims as claims
 use Rattle.bac_protocol.proofs.Keys.{set_same}
 use Rattle.bac_protocol.proofs.Dead.{ended_is_silent}
 use Rattle.bac_progress.specs.Runs as net
-use Rattle.bac_progress.proofs.Paths.{Any, ask_of, Path, path_then, path_log}
-use Rattle.bac_progress.proofs.Paths.Path.{Here, Then}
-use Rattle.bac_progress.proofs.Paths.Step as step
+use Rattle.bac_progress.proofs.Paths.{Any, Path, path_then, path_log}
 use Rattle.bac_progress.proofs.Changes.{IdleIsLogged, HasEnded, IsThere, ended_grows, logged_path}
 use Rattle.bac_progress.proofs.Endings.{Tracked, tracked_path, ended_once}
 use Rattle.bac_slots.specs.Slots.{value_at}
@@ -44,7 +42,8 @@ use Rattle.bac_world.proofs.ClientTick.{client_tick}
 use Rattle.bac_world.proofs.Headline.{fresh_over, rules_of, rules_bounded}
 use Rattle.bac_completion.specs.Runs.{Throughout, endings_of}
 use Rattle.bac_completion.specs.Ends.{IsOpen, EndsInTime, AsksEnd}
-use Rattle.bac_completion.proofs.Following.{Followed, Parts, accepted, asked_free, asked_net, asked_over, Gives, step_followed, run_followed}
+use Rattle.bac_completion.proofs.Asked.{after_ask, key, ask, made, made_over, made_path, there, server_link}
+use Rattle.bac_completion.proofs.Following.{Followed, Parts, accepted, Gives, step_followed, run_followed}
 
 -- Endings are counted alike in a log of octets and in the same log as values.
 
@@ -93,12 +92,6 @@ opened t u e = go (is_idle t.phase) refl e
     go true is e = absurd cc
     go false is e = let same : t ≡ u = cc in (same, is)
 
-after_ask : (now : ℕ) (t : Ticket) (r : Reaction) → (client.after now t r).ask ≡ t.ask
-after_ask now t Stays = refl
-after_ask now t (GoesOn phase sends) = refl
-after_ask now t (Repeats phase sends) = refl
-after_ask now t (Ends sends how) = refl
-
 ticked_in_time : (c : Context) (t u : Ticket) → kept (client.after c.now t (client.client_ticks c t)) ≡ Open u → c.now - u.ask.first ≤ DEADLINE
 ticked_in_time c t u e = go (is_idle t.phase) refl (is_expired c.now t.ask) refl
   where
@@ -112,7 +105,7 @@ ticked_in_time c t u e = go (is_idle t.phase) refl (is_expired c.now t.ask) refl
     first = ap (λ (a : Ask). a.first) (sym (after_ask c.now t (client.client_ticks c t))) ∙ ap (λ (y : Ticket). y.ask.first) same
 
     by : Bool → Bool → Reaction
-    by b d = if b then Stays else if d then Ends [] ending.Expired else client.open_ticks c t t.phase
+    by b d = if b then Stays else if d then Ends [] Ending.Expired else client.open_ticks c t t.phase
 
     going : (b d : Bool) → is_idle t.phase ≡ b → is_expired c.now t.ask ≡ d → is_idle (client.after c.now t (by b d)).phase ≡ false
     going b d is ex = subst (λ (y : Bool). is_idle (client.after c.now t (by y d)).phase ≡ false) is
@@ -130,10 +123,10 @@ held_in_time c number (Open t) u e = ticked_in_time c t u e
 
 pub tick_leaves : (now : ℕ) (old new : Node) (o : Outcome) → NodeTick now old new o → (key : PeerKey) (number : ℕ) (u : Ticket)
     → IsOpen new key number u → now - u.ask.first ≤ DEADLINE
-tick_leaves now old new o tick key number u open = go (value_at same_key key old.clients.slots) (sym looked ∙ open')
+tick_leaves now old new o tick key number u is = go (value_at same_key key old.clients.slots) (sym looked ∙ opened')
   where
-    open' : value_at same_key key (changed Client (client_tick old.settings now) old.clients.slots) ≡ Some (record { number = number; held = Open u })
-    open' = subst (λ (n : Node). IsOpen n key number u) tick.node open
+    opened' : value_at same_key key (changed Client (client_tick old.settings now) old.clients.slots) ≡ Some (record { number = number; held = Open u })
+    opened' = subst (λ (n : Node). IsOpen n key number u) tick.node is
 
     looked : value_at same_key key (changed Client (client_tick old.settings now) old.clients.slots)
         ≡ changed_value Client (client_tick old.settings now) key (value_at same_key key old.clients.slots)
@@ -171,7 +164,7 @@ module _ (links : ℕ → Option Octets) (apart : (i j : ℕ) (l : Octets) → l
       → Followed links apart W x bound readable Any w' n
   on_step w w' n h e did = step_followed links apart W x bound readable Any w w' n h e (gives_any w n e) did
 
-  once_in : (w : World) (n : Net) → Over links apart W x w n → (number : ℕ) → HasEnded number n.log → endings_of number w.log ≡ 1
+  pub once_in : (w : World) (n : Net) → Over links apart W x w n → (number : ℕ) → HasEnded number n.log → endings_of number w.log ≡ 1
   once_in w n h number ended =
       endings_alike number n.log w.log h.log ∙ ended_once number n.log (orderly W x bound n h.sound) ended
 
@@ -212,33 +205,18 @@ module _ (links : ℕ → Option Octets) (apart : (i j : ℕ) (l : Octets) → l
     parts = accepted_is (x.settings c) n.now (peer_at a.link) (choice_of r) a.asks.octets a.before.clients a.accepted limits
         (accepted links apart W x bound readable old n h c s limits r asked a)
 
-    abbrev key : Key
-    key = key_of c s parts.id
+    abbrev asks_key : Key
+    asks_key = key links apart W x bound readable old n h c s limits r asked a parts
 
-    abbrev ask : Ask
-    ask = ask_of n.now (choice_of r) parts.whole parts.front parts.rest
+    abbrev its_ask : Ask
+    its_ask = ask links apart W x bound readable old n h c s limits r asked a parts
 
-    abbrev made : Net
-    made = asked_net links apart W x bound readable old n h c s limits r asked a parts
-
-    made_over : Over links apart W x asked made
-    made_over = asked_over links apart W x bound readable old n h c s limits r asked a parts
-
-    made_path : Path x Any n made
-    made_path = Then n made Here (step.Asks (key_of c s parts.id) (choice_of r) parts.whole parts.front parts.rest
-        (asked_free links apart W x bound readable old n h c s limits r asked a parts))
-
-    there : IsThere x Any key n.asks ask made
-    there = record {
-      ticket = client.asked_ticket (client_context x key n.now) ask;
-      at = set_same n.tickets key (Some (client.asked_ticket (client_context x key n.now) ask));
-      is = after_ask n.now (client.new_ticket n.now ask) (client.asks (client_context x key n.now) ask);
-      number_is = set_same n.numbers key n.asks;
-    }
+    abbrev first : Net
+    first = made links apart W x bound readable old n h c s limits r asked a parts
 
     -- where it leads
-    followed : (events : List Event) (w : World) → WorldRun x.overtake asked events w → Followed links apart W x bound readable Any w made
-    followed events w run = on_run events asked w made made_over run
+    followed : (events : List Event) (w : World) → WorldRun x.overtake asked events w → Followed links apart W x bound readable Any w first
+    followed events w run = on_run events asked w first (made_over links apart W x bound readable old n h c s limits r asked a parts) run
 
     once : (w : World) (m : Net) → Over links apart W x w m → HasEnded n.asks m.log → endings_of (length old.notes) w.log ≡ 1
     once w m over ended = subst (λ (k : ℕ). endings_of k w.log ≡ 1) h.asks (once_in w m over n.asks ended)
@@ -246,7 +224,7 @@ module _ (links : ℕ → Option Octets) (apart : (i j : ℕ) (l : Octets) → l
     before : (events : List Event) (w : World) → WorldRun x.overtake asked events w → endings_of (length old.notes) w.log ≤ 1
     before events w run = go (some_ended n.asks f.net.log)
       where
-        f : Followed links apart W x bound readable Any w made
+        f : Followed links apart W x bound readable Any w first
         f = followed events w run
 
         go : (net.endings_of n.asks f.net.log ≡ 0) ⊎ HasEnded n.asks f.net.log → endings_of (length old.notes) w.log ≤ 1
@@ -262,7 +240,7 @@ module _ (links : ℕ → Option Octets) (apart : (i j : ℕ) (l : Octets) → l
     tick between late ticked run over ticks after w run' = once w last.net last.over
         (ended_grows n.asks then.net.log last.net.log (path_log x Any then.net last.net last.path) ended)
       where
-        f : Followed links apart W x bound readable Any late made
+        f : Followed links apart W x bound readable Any late first
         f = followed between late run
 
         then : Followed links apart W x bound readable Any ticked f.net
@@ -271,36 +249,35 @@ module _ (links : ℕ → Option Octets) (apart : (i j : ℕ) (l : Octets) → l
         last : Followed links apart W x bound readable Any w then.net
         last = on_run after ticked w then.net then.over run'
 
-        path : Path x Any made then.net
-        path = path_then made f.net then.net f.path then.path
+        path : Path x Any first then.net
+        path = path_then x Any first f.net then.net f.path then.path
 
         now : then.net.now ≡ late.now
         now = then.over.now ∙ ticks.acts.now
 
-        logged_made : IdleIsLogged made
-        logged_made = logged_path x Any n made made_path logged
+        logged_first : IdleIsLogged first
+        logged_first = logged_path x Any n first (made_path links apart W x bound readable old n h c s limits r asked a parts Any) logged
 
         logged_then : IdleIsLogged then.net
-        logged_then = logged_path x Any made then.net path logged_made
+        logged_then = logged_path x Any first then.net path logged_first
 
-        server_link : links s ≡ Some a.link
-        server_link = sym (h.linked s) ∙ a.peer
-
-        go : Tracked x key n.asks ask then.net → HasEnded n.asks then.net.log
+        go : Tracked x asks_key n.asks its_ask then.net → HasEnded n.asks then.net.log
         go (inr e) = e
         go (inl t) = by (is_idle t.ticket.phase) refl
           where
             by : (b : Bool) → is_idle t.ticket.phase ≡ b → HasEnded n.asks then.net.log
-            by true idle = subst (λ (k : ℕ). HasEnded k then.net.log) t.number_is (logged_then key t.ticket t.at idle)
+            by true idle = subst (λ (k : ℕ). HasEnded k then.net.log) t.number_is (logged_then asks_key t.ticket t.at idle)
             by false going = absurd (
-              let young = open_in_time late ticked then.net then.over c ticks now key refl t.ticket t.at going a.link server_link in
+              let young = open_in_time late ticked then.net then.over c ticks now asks_key refl t.ticket t.at going a.link
+                (server_link links apart W x bound readable old n h c s limits r asked a parts) in
               let first : t.ticket.ask.first ≡ n.now = ap (λ (y : Ask). y.first) t.is in
               let when : n.now ≡ old.now = h.now in
               omega arith
             )
 
         ended : HasEnded n.asks then.net.log
-        ended = go (tracked_path x key n.asks ask made then.net path logged_made (inl there))
+        ended = go (tracked_path x asks_key n.asks its_ask first then.net path logged_first
+            (inl (there links apart W x bound readable old n h c s limits r asked a parts Any)))
 
     ends : EndsInTime x.overtake old c asked
     ends = record { before = before; tick = tick }

@@ -24,7 +24,6 @@ use Rattle.bac_ends.specs.Keys.{same_key}
 use Rattle.bac_ends.specs.Ends.{AskOutcome, is_free, client_asks}
 use Rattle.bac_server.specs.Services.{service_of}
 use Rattle.bac_progress.proofs.Paths.{ask_of, Comes, Step, Path, path_then}
-use Rattle.bac_progress.proofs.Paths.Step as step
 use Rattle.bac_progress.proofs.Paths.Path.{Here, Then}
 use Rattle.bac_world.specs.Node.{Node, Outcome, IsDropped, IsHeard, IsHeardBy, NodeOn}
 use Rattle.bac_world.specs.World.{World, Event, Copy, link_at, later, is_deliverable, peer_at, Acts, DeliversIf, Delivers, HearsNoise, IsAsked, WorldStep, WorldRun}
@@ -36,7 +35,6 @@ use Rattle.bac_world.proofs.Pairs.{IsPaired, pairwise_get}
 use Rattle.bac_world.proofs.Bridge.{IsCopyOf, IsBetween, key_of, slot_key, framed_means, later_alike}
 use Rattle.bac_world.proofs.Steps.{Over}
 use Rattle.bac_world.proofs.Leads.{Leads}
-use Rattle.bac_world.proofs.Leads.Leads as leads
 use Rattle.bac_world.proofs.Machines.{may_arrive}
 use Rattle.bac_world.proofs.Serving.{serves, served_so}
 use Rattle.bac_world.proofs.Clients.{hears, quiet}
@@ -180,15 +178,15 @@ module _ (links : ℕ → Option Octets) (apart : (i j : ℕ) (l : Octets) → l
             none : (y.link ≡ y.hears.before.link) ⊎ IsMeaningless y.link c.octets → ⊥
             none (inl own) = away (is_from_client post.other.copy.apdu) post.goes.between
                 (apart c.from c.to y.link (sym (h.linked c.from) ∙ y.sender) ((h.nodes c.to y.hears.before y.hears.at).link ∙ ap Some (sym own)))
-            none (inr no) = no (peer_at y.link) post.other.copy.apdu
+            none (inr nothing) = nothing (peer_at y.link) post.other.copy.apdu
                 (frame_means SpellsApdu is_confirmed_request y.link post.goes.to_link c.octets post.other.copy.apdu
                 (λ text s. subst (λ (l : Octets). length l ≤ 1476) (sym s.is) post.goes.short) post.goes.frame)
 
         go : (e f : Bool) → nat_le (w.now - c.moment) LIFE ≡ e → nat_le (later c.key number w.copies) x.overtake ≡ f → (e && f) ≡ true
             → DeliversIf (e && f) w c w' → IsTaken w w' n number post.other c
-        go true true e f yes y = on (grind (arith, nat_tests)) (grind (arith, nat_tests)) y y.hears.on
-        go true false e f yes y = absurd cc
-        go false f e g yes y = absurd cc
+        go true true e f all y = on (grind (arith, nat_tests)) (grind (arith, nat_tests)) y y.hears.on
+        go true false e f all y = absurd cc
+        go false f e g all y = absurd cc
 
   -- Every step, where a premise says of each delivery at a server with which service it comes, and whether a slot is free.
   module _ (Q : Net → ℕ → Bool → Service → Type 0) where
@@ -206,13 +204,13 @@ module _ (links : ℕ → Option Octets) (apart : (i j : ℕ) (l : Octets) → l
     same_followed w w' n h is = record { net = n; over = subst (λ (u : World). Over links apart W x u n) (sym is) h; path = Here }
 
     leads_path : (n m : Net) → Leads x n m → Path x Q n m
-    leads_path n _ leads.Here = Here
-    leads_path n _ (leads.Hears m number p t before at arrives down there) =
-        Then m (taken_by_client x m p (Some t)) (leads_path n m before) (step.Hears number p t (record { at = at; arrives = arrives }) down there)
-    leads_path n _ (leads.TicksTicket m key t before there) =
-        Then m (ticket_ticked x m key (Some t)) (leads_path n m before) (step.TicksTicket key t there)
-    leads_path n _ (leads.TicksEntry m key before) =
-        Then m (server_acts m key (server_ticks (server_context x key m.now) (m.entries key))) (leads_path n m before) (step.TicksEntry key)
+    leads_path n _ Leads.Here = Here
+    leads_path n _ (Leads.Hears m number p t before at arrives down there) =
+        Then m (taken_by_client x m p (Some t)) (leads_path n m before) (Step.Hears number p t (record { at = at; arrives = arrives }) down there)
+    leads_path n _ (Leads.TicksTicket m key t before there) =
+        Then m (ticket_ticked x m key (Some t)) (leads_path n m before) (Step.TicksTicket key t there)
+    leads_path n _ (Leads.TicksEntry m key before) =
+        Then m (server_acts m key (server_ticks (server_context x key m.now) (m.entries key))) (leads_path n m before) (Step.TicksEntry key)
 
     dropped : (w w' : World) (n : Net) → Over links apart W x w n → (i : ℕ) (a b : Node) (o : Outcome) → slice_get w.nodes i ≡ Some a → Acts w i b o w'
         → (from octets : Octets) → IsDropped w.now from octets a b o → Followed w' n
@@ -225,8 +223,9 @@ module _ (links : ℕ → Option Octets) (apart : (i j : ℕ) (l : Octets) → l
 
     told_path : (n : Net) (number : ℕ) (p : Post) → Comes x n number p → is_from_client p.copy.apdu ≡ false → (t : Option Ticket) → n.tickets p.key ≡ t
         → Path x Q n (taken_by_client x n p t)
-    told_path n number p comes down None there = Here
-    told_path n number p comes down (Some t) there = Then n (taken_by_client x n p (Some t)) Here (step.Hears number p t comes down there)
+    told_path n number p comes_now down None there = Here
+    told_path n number p comes_now down (Some t) there =
+        Then n (taken_by_client x n p (Some t)) Here (Step.Hears number p t comes_now down there)
 
     heard : (w w' : World) (n : Net) (h : Over links apart W x w n) (number : ℕ) → Gives w n (Deliver number) → (p : Post) (c : Copy)
         → IsTaken w w' n number p c → Followed w' n
@@ -240,7 +239,7 @@ module _ (links : ℕ → Option Octets) (apart : (i j : ℕ) (l : Octets) → l
               net = server_acts n p.key (served_so links apart W x n p (service_of t.before.store) t.before.servers);
               over = s.1;
               path = Then n (taken_by_server x n p (is_free n.now t.before.servers) (service_of t.before.store)) Here
-                  (step.Serves number p (is_free n.now t.before.servers) (service_of t.before.store) comes_now up (gives p t.before comes_now up s.0));
+                  (Step.Serves number p (is_free n.now t.before.servers) (service_of t.before.store) comes_now up (gives p t.before comes_now up s.0));
             }
         go false down = record {
           net = taken_by_client x n p (n.tickets p.key);
@@ -278,7 +277,7 @@ module _ (links : ℕ → Option Octets) (apart : (i j : ℕ) (l : Octets) → l
           net = asked_net w n h c s limits r w' a p;
           over = asked_over w n h c s limits r w' a p;
           path = Then n (asked_net w n h c s limits r w' a p) Here
-              (step.Asks (key_of c s p.id) (choice_of r) p.whole p.front p.rest (asked_free w n h c s limits r w' a p));
+              (Step.Asks (key_of c s p.id) (choice_of r) p.whole p.front p.rest (asked_free w n h c s limits r w' a p));
         }
 
     pub step_followed : (w w' : World) (n : Net) → Over links apart W x w n → (e : Event) → Gives w n e → WorldStep x.overtake w e w' → Followed w' n
@@ -296,7 +295,7 @@ module _ (links : ℕ → Option Octets) (apart : (i j : ℕ) (l : Octets) → l
     step_followed w w' n h (Advance by) gives is = record {
       net = record n { now = n.now + by };
       over = subst (λ (u : World). Over links apart W x u (record n { now = n.now + by })) (sym is) (advanced_over links apart W x bound readable w n h by);
-      path = Then n (record n { now = n.now + by }) Here (step.Passes by);
+      path = Then n (record n { now = n.now + by }) Here (Step.Passes by);
     }
 
     -- and every run, where what is said of its events gives that
@@ -307,4 +306,4 @@ module _ (links : ℕ → Option Octets) (apart : (i j : ℕ) (l : Octets) → l
       run_followed (e ∷ es) w w' n h run each =
           let f = step_followed w run.0 n h e (so w n h e each.0) run.1 in
           let g = run_followed es run.0 w' f.net f.over run.2 each.1 in
-          record { net = g.net; over = g.over; path = path_then n f.net g.net f.path g.path }
+          record { net = g.net; over = g.over; path = path_then x Q n f.net g.net f.path g.path }

@@ -1,2 +1,5 @@
 pub mod Following
+pub mod Asked
 pub mod Endings
+pub mod Values
+pub mod RoundTrips

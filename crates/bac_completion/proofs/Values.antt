@@ -138,19 +138,19 @@ module _ (opening stores : Stores) (n : ℕ) (q : machine.Request) (p : machine.
           (subst (λ (y : plain.Reply). FitsChoice (choice_of was.request) y) (sym by.1) (replies_fit by.0 was.request))
 
       complex : (c : Complex) → has_complex_ack (complex_choice_of c) ≡ true
-      complex (FileRead e start data) = refl
+      complex (FileRead e start bytes) = refl
       complex (StreamWritten start) = refl
       complex (RecordsWritten start) = refl
       complex (PropertyRead reference values) = refl
 
       go : (p : machine.Reply) (v : plain.Reply) → MeansReply q.choice p v → FitsChoice q.choice v → KindFits reads_reply q.choice p
       go machine.Reply.Simple plain.Reply.Simple m f = ap has_simple_ack f
-      go (machine.Reply.Complex data) (plain.Reply.Complex c) m f =
-          (ap has_complex_ack f ∙ complex c, ap is_read (complex_again q.choice data c m))
+      go (machine.Reply.Complex bytes) (plain.Reply.Complex c) m f =
+          (ap has_complex_ack f ∙ complex c, ap is_read (complex_again q.choice bytes c m))
       go (machine.Reply.Error class code) v m f = tt
       go machine.Reply.Simple (plain.Reply.Complex c) m f = absurd m
       go machine.Reply.Simple (plain.Reply.Error a b) m f = absurd m
       go machine.Reply.Simple (plain.Reply.Reject a) m f = absurd m
-      go (machine.Reply.Complex data) plain.Reply.Simple m f = absurd m
-      go (machine.Reply.Complex data) (plain.Reply.Error a b) m f = absurd m
-      go (machine.Reply.Complex data) (plain.Reply.Reject a) m f = absurd m
+      go (machine.Reply.Complex bytes) plain.Reply.Simple m f = absurd m
+      go (machine.Reply.Complex bytes) (plain.Reply.Error a b) m f = absurd m
+      go (machine.Reply.Complex bytes) (plain.Reply.Reject a) m f = absurd m
