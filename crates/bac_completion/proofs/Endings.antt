@@ -150,7 +150,7 @@ module _ (links : ℕ → Option Octets) (apart : (i j : ℕ) (l : Octets) → l
 
   gives_any : (w : World) (n : Net) → (e : Event) → Gives links apart W x bound readable Any w n e
   gives_any w n (Event.Ask c s limits r) = tt
-  gives_any w n (Event.Deliver number) = λ p a comes up at. tt
+  gives_any w n (Event.Deliver number) = λ w' p c t up. tt
   gives_any w n (Event.Noise node from octets) = tt
   gives_any w n (Event.Tick node) = tt
   gives_any w n (Event.Advance by) = tt

@@ -13,6 +13,7 @@ use Rattle.bac_protocol.specs.Context.{Settings}
 use Rattle.bac_protocol.specs.Service.{Octets}
 use Rattle.bac_protocol.specs.Wire.{is_from_client}
 use Rattle.bac_protocol.specs.Client.{Ticket}
+use Rattle.bac_protocol.specs.Server as server
 use Rattle.bac_protocol.specs.Server.{Service, server_ticks}
 use Rattle.bac_protocol.specs.Transaction.{Key, Rules, server_context}
 use Rattle.bac_protocol.specs.World.{Net, Post, asked_at, server_acts, is_key_held}
@@ -21,10 +22,11 @@ use Rattle.bac_protocol.specs.Moves.{taken_by_client, taken_by_server, ticket_ti
 use Rattle.bac_protocol.specs.Claims as claims
 use Rattle.bac_slots.specs.Slots.{value_at}
 use Rattle.bac_ends.specs.Keys.{same_key}
-use Rattle.bac_ends.specs.Ends.{AskOutcome, is_free, client_asks}
+use Rattle.bac_ends.specs.Ends.{AskOutcome, act_at, is_free, client_asks}
 use Rattle.bac_server.specs.Services.{service_of}
 use Rattle.bac_progress.proofs.Paths.{ask_of, Comes, Step, Path, path_then}
 use Rattle.bac_progress.proofs.Paths.Path.{Here, Then}
+use Rattle.bac_world.specs.Services.{ArePerformed}
 use Rattle.bac_world.specs.Node.{Node, Outcome, IsDropped, IsHeard, IsHeardBy, NodeOn}
 use Rattle.bac_world.specs.World.{World, Event, Copy, link_at, later, is_deliverable, peer_at, Acts, DeliversIf, Delivers, HearsNoise, IsAsked, WorldStep, WorldRun}
 use Rattle.bac_world.specs.World.{IsFresh, IsBounded}
@@ -42,6 +44,7 @@ use Rattle.bac_world.proofs.Asking.{IsAccepted, accepted_is, free_ticket, asks_w
 use Rattle.bac_world.proofs.Ticking.{tick_over, tick_leads}
 use Rattle.bac_world.proofs.Headline.{advanced_over, fresh_over, rules_of, rules_bounded}
 use Rattle.bac_completion.specs.Runs.{Throughout}
+use Rattle.bac_completion.specs.RoundTrip.{MayArrive}
 
 module _ (links : ℕ → Option Octets) (apart : (i j : ℕ) (l : Octets) → links i ≡ Some l → links j ≡ Some l → i ≡ j) (W : ℕ) (x : Rules)
     (bound : claims.IsBounded W x) (readable : x.readable ≡ reads_reply) where
@@ -80,6 +83,7 @@ module _ (links : ℕ → Option Octets) (apart : (i j : ℕ) (l : Octets) → l
   -- what is known of a copy and of its post as it is heard: it may arrive, and a node takes its APDU
   pub record IsTaken (w w' : World) (n : Net) (number : ℕ) (p : Post) (c : Copy) : Type 0 where
     pub at : slice_get n.posts number ≡ Some p
+    pub may : MayArrive x.overtake w number c
     pub copied : IsCopyOf links apart p c
     pub young : n.now - p.copy.moment ≤ LIFE
     pub few : machine.later p.key number n.posts ≤ x.overtake
@@ -96,21 +100,25 @@ module _ (links : ℕ → Option Octets) (apart : (i j : ℕ) (l : Octets) → l
     pub comes : Comes x n number p
     comes = record { at = t.at; arrives = may_arrive W x bound n number p t.young t.few }
 
+    -- what a server makes of it
+    abbrev pub served_reaction : server.Reaction
+    served_reaction = served_so links apart W x n p (service_of t.before.store) t.before.servers
+
+    pub record IsServedBy : Type 0 where
+      pub node : slice_get w.nodes p.key.server ≡ Some t.before
+      pub over : Over links apart W x w' (server_acts n p.key served_reaction)
+      pub performed : ArePerformed t.before.store (act_at (slot_key t.link p.key.invoke_id) served_reaction.effect) t.outcome.performed
+
     served_by : (up : Bool) → up ≡ true → is_from_client p.copy.apdu ≡ up → IsBetween up p.key c.from c.to
-        → IsHeardBy up (peer_at t.link) p.copy.apdu w.now t.before t.after t.outcome
-        → (slice_get w.nodes p.key.server ≡ Some t.before)
-        × Over links apart W x w' (server_acts n p.key (served_so links apart W x n p (service_of t.before.store) t.before.servers))
+        → IsHeardBy up (peer_at t.link) p.copy.apdu w.now t.before t.after t.outcome → IsServedBy
     served_by false is up between turn = absurd cc
-    served_by true is up between turn = (
-      subst (λ (i : ℕ). slice_get w.nodes i ≡ Some t.before) between.1 t.node,
-      (serves links apart W x bound w w' n h number p c t.at t.copied t.young t.few up between.0 between.1 t.before t.after t.outcome t.node t.link t.from
-          (service_of t.before.store) turn t.acts).bridge,
-    )
+    served_by true is up between turn =
+        let s = serves links apart W x bound w w' n h number p c t.at t.copied t.young t.few up between.0 between.1 t.before t.after t.outcome t.node
+        t.link t.from (service_of t.before.store) turn t.acts in
+        record { node = subst (λ (i : ℕ). slice_get w.nodes i ≡ Some t.before) between.1 t.node; over = s.0.bridge; performed = s.1 }
 
     -- by a server
-    pub served_over : is_from_client p.copy.apdu ≡ true
-        → (slice_get w.nodes p.key.server ≡ Some t.before)
-        × Over links apart W x w' (server_acts n p.key (served_so links apart W x n p (service_of t.before.store) t.before.servers))
+    pub served_over : is_from_client p.copy.apdu ≡ true → IsServedBy
     served_over up = served_by (is_from_client p.copy.apdu) up refl t.copied.between t.heard
 
     told_by : (up : Bool) → up ≡ false → is_from_client p.copy.apdu ≡ up → IsBetween up p.key c.from c.to
@@ -133,6 +141,7 @@ module _ (links : ℕ → Option Octets) (apart : (i j : ℕ) (l : Octets) → l
         → IsHeard w.now y.link c.octets y.hears.before y.hears.after y.hears.outcome → IsTaken w w' n number post.other c
     taken young few y z = record {
       at = post.there;
+      may = record { at = there; arrives = both (nat_le (w.now - c.moment) LIFE) (nat_le (later c.key number w.copies) x.overtake) refl refl };
       copied = post.goes;
       young = subst (λ (m : ℕ). m - p.copy.moment ≤ LIFE) (sym h.now) (subst (λ (m : ℕ). w.now - m ≤ LIFE) post.goes.moment young);
       few = subst (λ (m : ℕ). m ≤ x.overtake) (later_alike links apart p.key number n.posts w.copies h.posts)
@@ -151,6 +160,11 @@ module _ (links : ℕ → Option Octets) (apart : (i j : ℕ) (l : Octets) → l
       where
         p : Post
         p = post.other
+
+        both : (e f : Bool) → nat_le (w.now - c.moment) LIFE ≡ e → nat_le (later c.key number w.copies) x.overtake ≡ f → (e && f) ≡ true
+        both true true e f = refl
+        both true false e f = absurd (grind (arith, nat_tests))
+        both false f e g = absurd (grind (arith, nat_tests))
 
         one : (z.peer ≡ peer_at y.link) × (z.apdu ≡ post.other.copy.apdu)
         one = framed_means y.link post.goes.to_link post.other.copy.apdu z.apdu z.peer c.octets post.goes.frame post.goes.short z.means
@@ -191,8 +205,8 @@ module _ (links : ℕ → Option Octets) (apart : (i j : ℕ) (l : Octets) → l
   -- Every step, where a premise says of each delivery at a server with which service it comes, and whether a slot is free.
   module _ (Q : Net → ℕ → Bool → Service → Type 0) where
     abbrev pub Gives : World → Net → Event → Type 0
-    Gives w n (Deliver number) = (p : Post) (a : Node) → Comes x n number p → is_from_client p.copy.apdu ≡ true → slice_get w.nodes p.key.server ≡ Some a
-        → Q n number (is_free n.now a.servers) (service_of a.store)
+    Gives w n (Deliver number) = (w' : World) (p : Post) (c : Copy) (t : IsTaken w w' n number p c) → is_from_client p.copy.apdu ≡ true
+        → Q n number (is_free n.now t.before.servers) (service_of t.before.store)
     Gives w n _ = Unit {0}
 
     pub record Followed (w : World) (n : Net) : Type 0 where
@@ -237,9 +251,9 @@ module _ (links : ℕ → Option Octets) (apart : (i j : ℕ) (l : Octets) → l
             let comes_now = comes w w' n h number p c t in
             record {
               net = server_acts n p.key (served_so links apart W x n p (service_of t.before.store) t.before.servers);
-              over = s.1;
+              over = s.over;
               path = Then n (taken_by_server x n p (is_free n.now t.before.servers) (service_of t.before.store)) Here
-                  (Step.Serves number p (is_free n.now t.before.servers) (service_of t.before.store) comes_now up (gives p t.before comes_now up s.0));
+                  (Step.Serves number p (is_free n.now t.before.servers) (service_of t.before.store) comes_now up (gives w' p c t up));
             }
         go false down = record {
           net = taken_by_client x n p (n.tickets p.key);

@@ -53,27 +53,15 @@ use Rattle.bac_world.proofs.Asking.{accepted_whole}
 use Rattle.bac_world.proofs.Headline.{headline, fresh_over, rules_of, rules_bounded}
 use Rattle.bac_completion.specs.Runs.{endings_of}
 use Rattle.bac_completion.specs.RoundTrip.{MayArrive, IsWhole, IsRequest, CanPerform, IsAnswered, IsServed, RoundTripSuffices}
-use Rattle.bac_completion.proofs.Following.{Followed, Parts, IsTaken, accepted, post, heard_now, served_over, told_over}
-use Rattle.bac_completion.proofs.Asked.{key, ask, made, made_over, made_path, there, client_link, foreign, request_is, pairwise_rest, pairwise_length}
+use Rattle.bac_completion.proofs.Following.{Followed, Parts, IsTaken, IsServedBy, served_reaction, accepted, post, heard_now, served_over, told_over}
+use Rattle.bac_completion.proofs.Asked.{key, ask, made, made_over, made_path, there, client_link, foreign, request_is, pairwise_rest, pairwise_length, just_one}
 use Rattle.bac_completion.proofs.Endings.{on_run, once_in}
+use Rattle.bac_completion.proofs.Performing.{way, does, reaction}
 use Rattle.bac_completion.proofs.Values.{answered_values, kind_fits}
 
 pub run_join : (overtake : ℕ) (es fs : List Event) (u v w : World) → WorldRun overtake u es v → WorldRun overtake v fs w → WorldRun overtake u (es ++ fs) w
 run_join overtake [] fs u v w h k = subst (λ (y : World). WorldRun overtake y fs w) h k
 run_join overtake (e ∷ es) fs u v w h k = (h.0, h.1, run_join overtake es fs h.0 v w h.2 k)
-
-none_is : (now : ℕ) (o : Option Entry) → live_entry now o ≡ None → is_none_live now o ≡ true
-none_is now None h = refl
-none_is now (Some e) h = go (is_live now e) h
-  where
-    go : (b : Bool) → (if b then Some e else None) ≡ None → (if b then false else true) ≡ true
-    go true h = absurd cc
-    go false h = refl
-
-just_one : {A B : Type 0} (R : A → B → Type 0) (a : A) (bs : List B) → Pairwise R (a ∷ []) bs → (b : B) × (bs ≡ b ∷ [])
-just_one R a [] h = absurd h
-just_one R a (b ∷ []) h = (b, refl)
-just_one R a (b ∷ d ∷ more) h = absurd h.1
 
 module _ (links : ℕ → Option Octets) (apart : (i j : ℕ) (l : Octets) → links i ≡ Some l → links j ≡ Some l → i ≡ j) (W : ℕ) (x : Rules)
     (bound : claims.IsBounded W x) (readable : x.readable ≡ reads_reply) (opening : Stores) (old : World) (n : Net) (h : Over links apart W x old n)
@@ -144,39 +132,14 @@ module _ (links : ℕ → Option Octets) (apart : (i j : ℕ) (l : Octets) → l
     taken : IsTaken links apart W x bound readable w served m number y.other d
     taken = heard_now links apart W x bound readable w served m over number d may.at may.arrives (away y.other.key is.0) did
 
-    so : (slice_get w.nodes y.other.key.server ≡ Some taken.before)
-        × Over links apart W x served (server_acts m y.other.key
-        (served_so links apart W x m y.other (service_of taken.before.store) taken.before.servers))
+    so : IsServedBy links apart W x bound readable w served m over number y.other d taken
     so = served_over links apart W x bound readable w served m over number y.other d taken (ap is_from_client is.1)
 
     node_is : taken.before ≡ node
-    node_is = let e : Some taken.before ≡ Some node = sym so.0 ∙ ap (λ (k : Key). slice_get w.nodes k.server) is.0 ∙ at in cc
+    node_is = let e : Some taken.before ≡ Some node = sym so.node ∙ ap (λ (k : Key). slice_get w.nodes k.server) is.0 ∙ at in cc
 
-    fits : NodeFits links apart x m.now w.notes m s node
-    fits = over.nodes s node at
-
-    id_is : a.accepted.invoke_id ≡ p.id
-    id_is = ap (λ z. z.invoke_id) p.is
-
-    client_settings : a.before.settings ≡ x.settings c
-    client_settings = (h.nodes c a.before a.at).settings
-
-    none : is_none_live m.now (m.entries its_key) ≡ true
-    none = none_is m.now (m.entries its_key)
-        (sym (fits.servers.found c a.before.link p.id (client_link links apart W x bound readable old n h c s limits r asked a p))
-        ∙ ap (λ (k : ℕ). live_entry m.now (value_at same_key (slot_key a.before.link k) node.servers.slots)) (sym id_is)
-        ∙ ap (λ (k : ℕ). live_entry k (value_at same_key (slot_key a.before.link a.accepted.invoke_id) node.servers.slots)) over.now ∙ can.none)
-
-    slot : is_free m.now node.servers ≡ true
-    slot = ap (λ (k : ℕ). is_free k node.servers) over.now ∙ can.slot
-
-    outcome : service_of node.store its_ask.choice (join its_ask.pieces) ≡ Replies can.reply
-    outcome = ap (service_of node.store (choice_of r)) p.joined
-        ∙ ap (outcome_by node.store) (request_again (choice_of r) a.asks.octets r a.asks.spelled) ∙ can.outcome
-
-    way : reply_way_of (x.settings s) (x.settings c).limits can.reply ≡ InOne
-    way = ap (λ (z : Settings). reply_way_of z (x.settings c).limits can.reply) (sym fits.settings)
-        ∙ ap (λ (z : Settings). reply_way_of node.settings z.limits can.reply) (sym client_settings) ∙ can.way
+    way_is : reply_way_of (x.settings s) (x.settings c).limits can.reply ≡ InOne
+    way_is = way links apart W x bound readable old n h c s limits r asked a p w m over node at can
 
     abbrev sender : Context
     sender = client_context x its_key its_ask.first
@@ -184,27 +147,19 @@ module _ (links : ℕ → Option Octets) (apart : (i j : ℕ) (l : Octets) → l
     abbrev answer : Apdu
     answer = answer_to x its_key its_ask can.reply
 
-    abbrev does : server.Reaction
-    does = answers_first (performed_entry m.now (client_context x its_key its_ask.first) its_ask (answer_to x its_key its_ask can.reply)) its_ask can.reply
-        (answer_to x its_key its_ask can.reply)
+    abbrev its_reaction : server.Reaction
+    its_reaction = does links apart W x bound readable old n h c s limits r asked a p w m over node at can
 
-    abbrev gets : Key → Node → Apdu → server.Reaction
-    gets k b z = server_gets (server_context x k m.now) (service_of b.store) (m.entries k) (is_free m.now b.servers) z
-
-    reaction : gets y.other.key taken.before y.other.copy.apdu ≡ does
-    reaction =
-        (λ i. gets (is.0 i) (node_is i) (is.1 i))
-        ∙ ap (λ (b : Bool). server_gets (server_context x its_key m.now) (service_of node.store) (m.entries its_key) b (request_to x its_key its_ask)) slot
-        ∙ serves_new (server_context x its_key m.now) sender (service_of node.store) (m.entries its_key) its_ask can.reply none outcome way
-        ∙ ap (λ (z : Apdu). answers_first (performed_entry m.now sender its_ask z) its_ask can.reply z)
-        (answer_any_time x its_key m.now its_ask.first its_ask.choice can.reply)
+    reaction_is : served_reaction links apart W x bound readable w served m over number y.other d taken ≡ its_reaction
+    reaction_is = reaction links apart W x bound readable old n h c s limits r asked a p w m over node at can y.other is.0 is.1 taken.before node_is
 
     abbrev u : Net
-    u = server_acts m its_key does
+    u = server_acts m its_key its_reaction
 
     u_over : Over links apart W x served u
-    u_over = subst (λ (z : server.Reaction). Over links apart W x served (server_acts m its_key z)) reaction
-        (subst (λ (k : Key). Over links apart W x served (server_acts m k (gets y.other.key taken.before y.other.copy.apdu))) is.0 so.1)
+    u_over = subst (λ (z : server.Reaction). Over links apart W x served (server_acts m its_key z)) reaction_is
+        (subst (λ (k : Key). Over links apart W x served (server_acts m k
+        (served_reaction links apart W x bound readable w served m over number y.other d taken))) is.0 so.over)
 
     since : its_ask.first ≤ m.now
     since = path_now x Any first m path
@@ -294,7 +249,7 @@ module _ (links : ℕ → Option Octets) (apart : (i j : ℕ) (l : Octets) → l
           ≡ Ends [] (Answered can.reply)) kept_then.there.is
           (takes_ends x f.net.now its_key kept_then.there.ticket can.reply takes
           (subst (λ (k : Ask). f.net.now - k.first ≤ DEADLINE) (sym kept_then.there.is) in_time)
-          (subst (λ (k : Ask). FitsInOne x its_key k can.reply) (sym kept_then.there.is) (record { way = way; kind = kind })))
+          (subst (λ (k : Ask). FitsInOne x its_key k can.reply) (sym kept_then.there.is) (record { way = way_is; kind = kind })))
 
       last_over : Over links apart W x answered (client_acts f.net its_key kept_then.there.ticket (Ends [] (Answered can.reply)))
       last_over = subst (λ z. Over links apart W x answered (client_acts f.net its_key kept_then.there.ticket z)) ends

@@ -21,7 +21,7 @@ use Rattle.bac_ends.specs.Meanings.{MeansReply, MeansEnding, Ending}
 use Rattle.bac_ends.specs.Meanings.Ending.{Answered, Rejected, Aborted, TimedOut, Expired}
 use Rattle.bac_world.specs.Once.{Fact, Has, Stores, IsUnperformed, IsOnce}
 use Rattle.bac_world.specs.Once.Fact.{Asked, Performed, Ended}
-use Rattle.bac_world.proofs.Logs.{FactMeans, WasPerformedAs, performed_as}
+use Rattle.bac_world.proofs.Logs.{FactMeans, performed_as}
 use Rattle.bac_completion.specs.RoundTrip.{IsAnswered}
 
 -- In a log that is right.
@@ -107,6 +107,32 @@ answered_as n p (f ∷ log) (v ∷ values) h (inl e) = go v (subst (λ (g : octe
     go (Ended m TimedOut) h = absurd h.1.1
     go (Ended m Expired) h = absurd h.1.1
 
+-- a store's reply is of the kind of the service choice, and can be read
+pub reply_kind : (choice : ℕ) (text : machine.Octets) (s : Store) (r : Request) (p : machine.Reply) (v : plain.Reply) → SpellsRequest choice r text
+    → v ≡ reply_to s r → MeansReply choice p v → KindFits reads_reply choice p
+reply_kind choice text s r p v spelled by means = go p v means fits
+  where
+    fits : FitsChoice choice v
+    fits = subst (λ (k : ℕ). FitsChoice k v) (sym spelled.choice_is)
+        (subst (λ (y : plain.Reply). FitsChoice (choice_of r) y) (sym by) (replies_fit s r))
+
+    complex : (c : Complex) → has_complex_ack (complex_choice_of c) ≡ true
+    complex (FileRead e start bytes) = refl
+    complex (StreamWritten start) = refl
+    complex (RecordsWritten start) = refl
+    complex (PropertyRead reference values) = refl
+
+    go : (p : machine.Reply) (v : plain.Reply) → MeansReply choice p v → FitsChoice choice v → KindFits reads_reply choice p
+    go machine.Reply.Simple plain.Reply.Simple m f = ap has_simple_ack f
+    go (machine.Reply.Complex bytes) (plain.Reply.Complex c) m f = (ap has_complex_ack f ∙ complex c, ap is_read (complex_again choice bytes c m))
+    go (machine.Reply.Error class code) v m f = tt
+    go machine.Reply.Simple (plain.Reply.Complex c) m f = absurd m
+    go machine.Reply.Simple (plain.Reply.Error a b) m f = absurd m
+    go machine.Reply.Simple (plain.Reply.Reject a) m f = absurd m
+    go (machine.Reply.Complex bytes) plain.Reply.Simple m f = absurd m
+    go (machine.Reply.Complex bytes) (plain.Reply.Error a b) m f = absurd m
+    go (machine.Reply.Complex bytes) (plain.Reply.Reject a) m f = absurd m
+
 module _ (opening stores : Stores) (n : ℕ) (q : machine.Request) (p : machine.Reply) (log : List octets.Fact) (values : List Fact)
     (means : Pairwise FactMeans log values) (once : IsOnce opening values stores) (performed : octets.Has (octets.Fact.Performed n q p) log) where
   -- performed and answered
@@ -125,32 +151,7 @@ module _ (opening stores : Stores) (n : ℕ) (q : machine.Request) (p : machine.
 
   -- the reply is of the kind of the service choice, and can be read
   pub kind_fits : KindFits reads_reply q.choice p
-  kind_fits = go p was.reply was.means fits
-    where
-      was : WasPerformedAs n q p values
-      was = performed_as n q p log values means performed
-
-      by : (s : Store) × (was.reply ≡ reply_to s was.request)
-      by = performed_by_store opening stores n was.request was.reply values once was.has
-
-      fits : FitsChoice q.choice was.reply
-      fits = subst (λ (k : ℕ). FitsChoice k was.reply) (sym was.spelled.choice_is)
-          (subst (λ (y : plain.Reply). FitsChoice (choice_of was.request) y) (sym by.1) (replies_fit by.0 was.request))
-
-      complex : (c : Complex) → has_complex_ack (complex_choice_of c) ≡ true
-      complex (FileRead e start bytes) = refl
-      complex (StreamWritten start) = refl
-      complex (RecordsWritten start) = refl
-      complex (PropertyRead reference values) = refl
-
-      go : (p : machine.Reply) (v : plain.Reply) → MeansReply q.choice p v → FitsChoice q.choice v → KindFits reads_reply q.choice p
-      go machine.Reply.Simple plain.Reply.Simple m f = ap has_simple_ack f
-      go (machine.Reply.Complex bytes) (plain.Reply.Complex c) m f =
-          (ap has_complex_ack f ∙ complex c, ap is_read (complex_again q.choice bytes c m))
-      go (machine.Reply.Error class code) v m f = tt
-      go machine.Reply.Simple (plain.Reply.Complex c) m f = absurd m
-      go machine.Reply.Simple (plain.Reply.Error a b) m f = absurd m
-      go machine.Reply.Simple (plain.Reply.Reject a) m f = absurd m
-      go (machine.Reply.Complex bytes) plain.Reply.Simple m f = absurd m
-      go (machine.Reply.Complex bytes) (plain.Reply.Error a b) m f = absurd m
-      go (machine.Reply.Complex bytes) (plain.Reply.Reject a) m f = absurd m
+  kind_fits =
+      let was = performed_as n q p log values means performed in
+      let by = performed_by_store opening stores n was.request was.reply values once was.has in
+      reply_kind q.choice q.service by.0 was.request p was.reply was.spelled by.1 was.means

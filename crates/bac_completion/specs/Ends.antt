@@ -1,5 +1,5 @@
 -- Each ask ends, at its node and in every world (own rule of this profile: nothing is waited for longer than DEADLINE).
-use Rattle.std.specs.Prelude.{◌≡◌, ◌⊎◌, ℕ, suc, ◌-◌, ◌<◌, ◌≤◌, true, false, List, [], ◌∷◌, length, Some, if◌then◌else◌, nat_eq}
+use Rattle.std.specs.Prelude.{◌≡◌, ◌⊎◌, ℕ, suc, ◌-◌, ◌<◌, ◌≤◌, true, false, List, [], ◌∷◌, length, Some, slice_get, if◌then◌else◌, nat_eq}
 use Rattle.bac_apdu.specs.Apdu.{Apdu, Limits}
 use Rattle.bac_npdu.specs.Peers.{PeerView}
 use Rattle.bac_service.specs.Values.{Request}
@@ -10,8 +10,8 @@ use Rattle.bac_slots.specs.Slots.{value_at}
 use Rattle.bac_ends.specs.Keys.{PeerKey, same_key}
 use Rattle.bac_ends.specs.Meanings.{Finish}
 use Rattle.bac_ends.specs.Meanings.Ending.{Expired}
-use Rattle.bac_ends.specs.Ends.{Client, key_of}
-use Rattle.bac_ends.specs.Ends.Held.{Open}
+use Rattle.bac_ends.specs.Ends.{key_of}
+use Rattle.bac_ends.specs.Ends.Held.{Open, Closed}
 use Rattle.bac_world.specs.Node.{Node, Outcome, NodeTick}
 use Rattle.bac_world.specs.Laws.{Gets}
 use Rattle.bac_world.specs.Keys.{HasKeysApart}
@@ -37,13 +37,30 @@ abbrev pub HasFinish : Finish → List Finish → Type 0
 HasFinish f [] = ⊥
 HasFinish f (g ∷ fs) = (g ≡ f) ⊎ HasFinish f fs
 
--- no two slots of a node's client have one key or one ticket's number, numbers below those of later asks, and a ticket that is open has not ended
+-- no two slots of a table have one key, no two open tickets one number, and what is open has not ended
 pub record HasTicketsApart (n : Node) : Type 0 where
   pub keys : HasKeysApart n
-  pub apart : (p q : PeerKey) (a b : Client) → value_at same_key p n.clients.slots ≡ Some a → value_at same_key q n.clients.slots ≡ Some b
-      → a.number ≡ b.number → p ≡ q
-  pub below : (p : PeerKey) (a : Client) → value_at same_key p n.clients.slots ≡ Some a → a.number < n.clients.asked
+  pub apart : (p q : PeerKey) (number : ℕ) (t u : Ticket) → IsOpen n p number t → IsOpen n q number u → p ≡ q
   pub going : (p : PeerKey) (number : ℕ) (t : Ticket) → IsOpen n p number t → is_idle t.phase ≡ false
+
+-- a ticket's end, and the slot that remembers it
+pub record Expires (n : Node) (key : PeerKey) (number : ℕ) (t : Ticket) (ended : List Finish) : Type 0 where
+  pub has : HasFinish (expired number) ended
+  pub once : finishes_of number ended ≡ 1
+  pub closed : value_at same_key key n.clients.slots ≡ Some (record { number = number; held = Closed t.ask.first })
+
+-- a tick leaves no ticket open whose first sending is more than DEADLINE ago; each that was open ends in that tick, once
+pub record TickEnds : Type 0 where
+  pub leaves : (now : ℕ) (old new : Node) (o : Outcome) → NodeTick now old new o → (key : PeerKey) (number : ℕ) (t : Ticket) → IsOpen new key number t
+      → now - t.ask.first ≤ DEADLINE
+  pub ends : (now : ℕ) (old new : Node) (o : Outcome) → NodeTick now old new o → HasTicketsApart old → (key : PeerKey) (number : ℕ) (t : Ticket)
+      → IsOpen old key number t → DEADLINE < now - t.ask.first → Expires new key number t o.ended
+
+-- and so does each APDU of a server that comes for it
+abbrev pub AnswerEnds : Type 0
+AnswerEnds =
+    (now : ℕ) (peer : PeerView) (a : Apdu) (old new : Node) (o : Outcome) → Gets now peer a old new o → is_from_server a ≡ true → HasTicketsApart old
+    → (number : ℕ) (t : Ticket) → IsOpen old (key_of peer a) number t → DEADLINE < now - t.ask.first → Expires new (key_of peer a) number t o.ended
 
 -- In every world.
 
@@ -59,3 +76,7 @@ pub record EndsInTime (overtake : ℕ) (old : World) (client : ℕ) (asked : Wor
 abbrev pub AsksEnd : (overtake : ℕ) → World → Type 0
 AsksEnd overtake old =
     (client server : ℕ) (limits : Limits) (r : Request) (asked : World) → IsAsked old client server limits r asked → EndsInTime overtake old client asked
+
+-- each node of a world
+abbrev pub NodesAreInOrder : World → Type 0
+NodesAreInOrder w = (i : ℕ) (n : Node) → slice_get w.nodes i ≡ Some n → HasTicketsApart n
