@@ -268,12 +268,12 @@ module _ (links : ℕ → Option Octets) (apart : (i j : ℕ) (l : Octets) → l
             by : (b : Bool) → is_idle t.ticket.phase ≡ b → HasEnded n.asks then.net.log
             by true idle = subst (λ (k : ℕ). HasEnded k then.net.log) t.number_is (logged_then asks_key t.ticket t.at idle)
             by false going = absurd (
-              let young = open_in_time late ticked then.net then.over c ticks now asks_key refl t.ticket t.at going a.link
+                let young = open_in_time late ticked then.net then.over c ticks now asks_key refl t.ticket t.at going a.link
                 (server_link links apart W x bound readable old n h c s limits r asked a parts) in
-              let first : t.ticket.ask.first ≡ n.now = ap (λ (y : Ask). y.first) t.is in
-              let when : n.now ≡ old.now = h.now in
-              omega arith
-            )
+                let first : t.ticket.ask.first ≡ n.now = ap (λ (y : Ask). y.first) t.is in
+                let when : n.now ≡ old.now = h.now in
+                omega arith
+                )
 
         ended : HasEnded n.asks then.net.log
         ended = go (tracked_path x asks_key n.asks its_ask first then.net path logged_first

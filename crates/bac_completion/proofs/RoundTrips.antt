@@ -92,11 +92,11 @@ module _ (links : ℕ → Option Octets) (apart : (i j : ℕ) (l : Octets) → l
       go : (b : Bool) → is_idle t.ticket.phase ≡ b → IsOpenIn m
       go false e = (t, e)
       go true e = absurd (
-        let ended = subst (λ (k : ℕ). HasEnded k m.log) t.number_is (log its_key t.ticket t.at e) in
-        let one = once_in links apart W x bound readable w m over n.asks ended in
-        let zero = subst (λ (k : ℕ). endings_of k w.log ≡ 0) (sym h.asks) none in
-        omega arith
-      )
+          let ended = subst (λ (k : ℕ). HasEnded k m.log) t.number_is (log its_key t.ticket t.at e) in
+          let one = once_in links apart W x bound readable w m over n.asks ended in
+          let zero = subst (λ (k : ℕ). endings_of k w.log ≡ 0) (sym h.asks) none in
+          omega arith
+          )
 
   open_in : (w : World) (m : Net) → Path x Any first m → Over links apart W x w m → endings_of (length old.notes) w.log ≡ 0 → IsOpenIn m
   open_in w m path over none = go (tracked_path x its_key n.asks its_ask first m path
@@ -106,10 +106,10 @@ module _ (links : ℕ → Option Octets) (apart : (i j : ℕ) (l : Octets) → l
       go : Tracked x its_key n.asks its_ask m → IsOpenIn m
       go (inl t) = unended_open w m over none (logged_on m path) t
       go (inr ended) = absurd (
-        let one = once_in links apart W x bound readable w m over n.asks ended in
-        let zero = subst (λ (k : ℕ). endings_of k w.log ≡ 0) (sym h.asks) none in
-        omega arith
-      )
+          let one = once_in links apart W x bound readable w m over n.asks ended in
+          let zero = subst (λ (k : ℕ). endings_of k w.log ≡ 0) (sym h.asks) none in
+          omega arith
+          )
 
   same_node : its_key.client ≡ its_key.server → ⊥
   same_node = foreign links apart W x bound readable old n h c s limits r asked a p
