@@ -1,0 +1,174 @@
+//! The store's tables, at the level of requests and replies.
+ghost use Rattle.std.specs.Prelude.{◌<◌};
+
+use bac_service::{AnyReply, Reply, read_request, write_reply};
+use bac_store::{File, Object, Planned, Property, Store, StoreFault, house};
+use bac_value::{Data, DataBuf, NoMemory, ObjectIdentifier, Value, read_data, write_value};
+use std::alloc::Global;
+use std::test::Fail;
+
+mod memory;
+mod objects;
+mod requests;
+
+fn digit(character: u8) -> u8
+    ensures { result < 16 }
+{
+    match character {
+        b'0'..=b'9' => character - b'0',
+        b'A'..=b'F' => character - b'A' + 10,
+        _ => 0,
+    }
+}
+
+fn octets_of(alloc: Global, text: &str) -> Result<Vec<u8>, NoMemory> {
+    let mut octets = Vec::new(alloc);
+    for pair in text.as_bytes().chunks(2) {
+        if let [high, low] = pair {
+            octets.push(16 * digit(*high) + digit(*low))?;
+        }
+    }
+    Ok(octets)
+}
+
+/// What a reply is expected to be.
+#[derive(Clone, Copy)]
+enum Want<'a> {
+    Simple,
+    /// The service data of a ComplexACK.
+    Complex(&'a str),
+    Error(u32, u32),
+}
+
+fn is_wanted(alloc: Global, reply: Reply<'_>, want: Want<'_>) -> Result<bool, NoMemory> {
+    match (reply, want) {
+        (AnyReply::Simple, Want::Simple) => Ok(true),
+        (AnyReply::Complex(told), Want::Complex(text)) => {
+            let mut octets = Vec::new(alloc);
+            write_reply(told, &mut octets)?;
+            Ok(octets.as_slice() == octets_of(alloc, text)?.as_slice())
+        }
+        (AnyReply::Error { class, code }, Want::Error(of_class, of_code)) => {
+            Ok(class == of_class && code == of_code)
+        }
+        _ => Ok(false),
+    }
+}
+
+/// Performs a request by a plan; whether the reply is the wanted one.
+fn performs(
+    alloc: Global,
+    store: &mut Store,
+    choice: u8,
+    text: &str,
+    want: Want<'_>,
+) -> Result<bool, NoMemory> {
+    let octets = octets_of(alloc, text)?;
+    let Ok(request) = read_request(choice, &octets) else {
+        return Ok(false);
+    };
+    let plan = store.prepare(alloc, &request)?;
+    let right = is_wanted(alloc, plan.reply(), want)?;
+    store.commit(plan);
+    Ok(right)
+}
+
+/// A service choice, the octets of a request, and the reply to it.
+type Row<'a> = (u8, &'a str, Want<'a>);
+
+/// Performs requests by plans, one after the other, up to the first whose reply is not the one beside it.
+fn first_wrong<'a>(
+    alloc: Global,
+    store: &mut Store,
+    rows: &[Row<'a>],
+) -> Result<Option<&'a str>, NoMemory> {
+    for (choice, text, want) in rows {
+        if !performs(alloc, store, *choice, text, *want)? {
+            return Ok(Some(text));
+        }
+    }
+    Ok(None)
+}
+
+/// Data of these octets.
+fn data_of(alloc: Global, octets: &[u8]) -> Result<DataBuf, Fail> {
+    match read_data(octets) {
+        Ok((data, _)) => Ok(data.to_owned(alloc)?),
+        Err(_) => Err(Fail::from("no data")),
+    }
+}
+
+/// A value as data.
+fn spelled(alloc: Global, value: &Value) -> Result<DataBuf, Fail> {
+    let mut octets = Vec::new(alloc);
+    write_value(value, &mut octets)?;
+    data_of(alloc, &octets)
+}
+
+/// A property of these octets, which can be written.
+fn property(alloc: Global, number: u32, octets: &[u8]) -> Result<Property, Fail> {
+    let values = data_of(alloc, octets)?;
+    Ok(Property {
+        number,
+        values,
+        writable: true,
+    })
+}
+
+/// An object with a name and these properties, and nothing else.
+fn listing(
+    alloc: Global,
+    id: ObjectIdentifier,
+    properties: Vec<Property>,
+) -> Result<Object, NoMemory> {
+    Ok(Object {
+        id,
+        name: String::from_str(alloc, "bare")?,
+        properties,
+        file: None,
+    })
+}
+
+/// An object with a name and nothing else.
+fn named(alloc: Global, id: ObjectIdentifier) -> Result<Object, NoMemory> {
+    listing(alloc, id, Vec::new(alloc))
+}
+
+fn bare(alloc: Global, kind: u16, instance: u32) -> Result<Object, Fail> {
+    let id = ObjectIdentifier::new(kind, instance).ok_or("no such identifier")?;
+    Ok(named(alloc, id)?)
+}
+
+/// An object with these properties.
+fn with_properties(alloc: Global, kind: u16, properties: Vec<Property>) -> Result<Object, Fail> {
+    let id = ObjectIdentifier::new(kind, 1).ok_or("no such identifier")?;
+    Ok(listing(alloc, id, properties)?)
+}
+
+/// An object with one property.
+fn with_property(alloc: Global, kind: u16, property: Property) -> Result<Object, Fail> {
+    let mut properties = Vec::new(alloc);
+    properties.push(property)?;
+    with_properties(alloc, kind, properties)
+}
+
+/// Whether an object can be a store; otherwise it is a bad one.
+fn is_right(alloc: Global, object: Object) -> Result<bool, Fail> {
+    let mut objects = Vec::new(alloc);
+    objects.push(object)?;
+    match Store::new(alloc, objects) {
+        Ok(_) => Ok(true),
+        Err(StoreFault::BadObject) => Ok(false),
+        Err(_) => Err(Fail::from("another fault")),
+    }
+}
+
+/// A store of one object.
+fn store_of(alloc: Global, object: Object) -> Result<Store, Fail> {
+    let mut objects = Vec::new(alloc);
+    objects.push(object)?;
+    match Store::new(alloc, objects) {
+        Ok(store) => Ok(store),
+        Err(_) => Err(Fail::from("no store")),
+    }
+}
