@@ -14,18 +14,14 @@ for name in bac_value bac_service bac_store bac_store_tests; do
 done
 grep -E '^bac_(value|service|store|store_tests):' "$top/crates.txt" > "$work/crates.txt"
 cd "$work/crates/bac_store_tests"
-rm src/tests/objects.rt src/tests/requests.rt
-sed -i '/^mod objects;$/d; /^mod requests;$/d' src/tests.rt
+rm src/tests/limits.rt src/tests/objects.rt src/tests/requests.rt
+sed -i '/^mod limits;$/d; /^mod objects;$/d; /^mod requests;$/d' src/tests.rt
 cat >> src/tests/memory.rt <<'TEST'
 
 #[test]
 fn has_memory(rt: HostRuntime) -> Result<(), Fail> {
     let store = house(rt.alloc())?;
     let _copy = store.copy(rt.alloc())?;
-    let Ok(request) = read_request(15, WRITE) else {
-        return Err(Fail::from("no request"));
-    };
-    let _plan = store.prepare(rt.alloc(), &request)?;
     for (choice, octets, want) in REQUESTS {
         let Ok(request) = read_request(*choice, octets) else {
             return Err(Fail::from("no request"));

@@ -1,12 +1,13 @@
 //! The store's tables, at the level of requests and replies.
 ghost use Rattle.std.specs.Prelude.{◌<◌};
 
-use bac_service::{AnyReply, Reply, read_request, write_reply};
+use bac_service::{AnyComplex, AnyReply, Reply, read_request, write_reply};
 use bac_store::{File, Object, Planned, Property, Store, StoreFault, house};
-use bac_value::{Data, DataBuf, NoMemory, ObjectIdentifier, Value, read_data, write_value};
+use bac_value::{NoMemory, ObjectIdentifier, read_data};
 use std::alloc::Global;
 use std::test::Fail;
 
+mod limits;
 mod memory;
 mod objects;
 mod requests;
@@ -60,17 +61,16 @@ fn performs(
     alloc: Global,
     store: &mut Store,
     choice: u8,
-    text: &str,
+    octets: &[u8],
     want: Want<'_>,
 ) -> Result<bool, NoMemory> {
-    let octets = octets_of(alloc, text)?;
-    let Ok(request) = read_request(choice, &octets) else {
+    let Ok(request) = read_request(choice, octets) else {
         return Ok(false);
     };
     let plan = store.prepare(alloc, &request)?;
-    let right = is_wanted(alloc, plan.reply(), want)?;
+    let is_told = is_wanted(alloc, plan.reply(), want)?;
     store.commit(plan);
-    Ok(right)
+    Ok(is_told)
 }
 
 /// A service choice, the octets of a request, and the reply to it.
@@ -83,31 +83,18 @@ fn first_wrong<'a>(
     rows: &[Row<'a>],
 ) -> Result<Option<&'a str>, NoMemory> {
     for (choice, text, want) in rows {
-        if !performs(alloc, store, *choice, text, *want)? {
+        let octets = octets_of(alloc, text)?;
+        if !performs(alloc, store, *choice, &octets, *want)? {
             return Ok(Some(text));
         }
     }
     Ok(None)
 }
 
-/// Data of these octets.
-fn data_of(alloc: Global, octets: &[u8]) -> Result<DataBuf, Fail> {
-    match read_data(octets) {
-        Ok((data, _)) => Ok(data.to_owned(alloc)?),
-        Err(_) => Err(Fail::from("no data")),
-    }
-}
-
-/// A value as data.
-fn spelled(alloc: Global, value: &Value) -> Result<DataBuf, Fail> {
-    let mut octets = Vec::new(alloc);
-    write_value(value, &mut octets)?;
-    data_of(alloc, &octets)
-}
-
 /// A property of these octets, which can be written.
 fn property(alloc: Global, number: u32, octets: &[u8]) -> Result<Property, Fail> {
-    let values = data_of(alloc, octets)?;
+    let (data, _) = read_data(octets)?;
+    let values = data.to_owned(alloc)?;
     Ok(Property {
         number,
         values,
@@ -115,48 +102,34 @@ fn property(alloc: Global, number: u32, octets: &[u8]) -> Result<Property, Fail>
     })
 }
 
-/// An object with a name and these properties, and nothing else.
-fn listing(
-    alloc: Global,
-    id: ObjectIdentifier,
-    properties: Vec<Property>,
-) -> Result<Object, NoMemory> {
+/// An object with a name and nothing else.
+fn bare(alloc: Global, kind: u16, instance: u32) -> Result<Object, Fail> {
+    let id = ObjectIdentifier::new(kind, instance).ok_or("no such identifier")?;
     Ok(Object {
         id,
         name: String::from_str(alloc, "bare")?,
-        properties,
+        properties: Vec::new(alloc),
         file: None,
     })
 }
 
-/// An object with a name and nothing else.
-fn named(alloc: Global, id: ObjectIdentifier) -> Result<Object, NoMemory> {
-    listing(alloc, id, Vec::new(alloc))
-}
-
-fn bare(alloc: Global, kind: u16, instance: u32) -> Result<Object, Fail> {
-    let id = ObjectIdentifier::new(kind, instance).ok_or("no such identifier")?;
-    Ok(named(alloc, id)?)
-}
-
-/// An object with these properties.
-fn with_properties(alloc: Global, kind: u16, properties: Vec<Property>) -> Result<Object, Fail> {
-    let id = ObjectIdentifier::new(kind, 1).ok_or("no such identifier")?;
-    Ok(listing(alloc, id, properties)?)
-}
-
 /// An object with one property.
-fn with_property(alloc: Global, kind: u16, property: Property) -> Result<Object, Fail> {
-    let mut properties = Vec::new(alloc);
-    properties.push(property)?;
-    with_properties(alloc, kind, properties)
+fn with_property(alloc: Global, kind: u16, number: u32, octets: &[u8]) -> Result<Object, Fail> {
+    let mut object = bare(alloc, kind, 1)?;
+    object.properties.push(property(alloc, number, octets)?)?;
+    Ok(object)
+}
+
+/// A store of one object, or why there is none.
+fn made_of(alloc: Global, object: Object) -> Result<Result<Store, StoreFault>, NoMemory> {
+    let mut objects = Vec::new(alloc);
+    objects.push(object)?;
+    Ok(Store::new(alloc, objects))
 }
 
 /// Whether an object can be a store; otherwise it is a bad one.
 fn is_right(alloc: Global, object: Object) -> Result<bool, Fail> {
-    let mut objects = Vec::new(alloc);
-    objects.push(object)?;
-    match Store::new(alloc, objects) {
+    match made_of(alloc, object)? {
         Ok(_) => Ok(true),
         Err(StoreFault::BadObject) => Ok(false),
         Err(_) => Err(Fail::from("another fault")),
@@ -165,10 +138,23 @@ fn is_right(alloc: Global, object: Object) -> Result<bool, Fail> {
 
 /// A store of one object.
 fn store_of(alloc: Global, object: Object) -> Result<Store, Fail> {
-    let mut objects = Vec::new(alloc);
-    objects.push(object)?;
-    match Store::new(alloc, objects) {
+    match made_of(alloc, object)? {
         Ok(store) => Ok(store),
         Err(_) => Err(Fail::from("no store")),
     }
+}
+
+/// So many octets, all alike.
+fn octets_alike(alloc: Global, octet: u8, len: usize) -> Result<Vec<u8>, NoMemory> {
+    let mut octets = Vec::new(alloc);
+    octets.resize(len, octet)?;
+    Ok(octets)
+}
+
+/// A file of so many octets, all alike.
+fn file_of(alloc: Global, octet: u8, len: usize, writable: bool) -> Result<Object, Fail> {
+    let octets = octets_alike(alloc, octet, len)?;
+    let mut object = bare(alloc, 10, 1)?;
+    object.file = Some(File { octets, writable });
+    Ok(object)
 }

@@ -1,5 +1,5 @@
 //! APDUs: tables of octets whose readings and writings were worked out by hand.
-use bac_apdu::{Apdu, ApduFault, Limits, Segment, Window, read, write};
+use bac_apdu::{ApduFault, read, write};
 use std::test::Fail;
 
 /// Octets that are no APDU, and their fault.
@@ -83,45 +83,6 @@ fn spellings(rt: HostRuntime) -> Result<(), Fail> {
         write(&apdu, &mut out)?;
         assert_eq!(rt; out.as_slice(), *octets);
     }
-    Ok(())
-}
-
-/// Sizes of a window, and whether there is such a window.
-const WINDOWS: &[(u8, bool)] = &[(0, false), (1, true), (127, true), (128, false)];
-
-/// Codes of segments and of octets, and whether there are such limits.
-const CODES: &[(u8, u8, bool)] = &[(7, 5, true), (8, 0, false), (0, 6, false), (0, 0, true)];
-
-#[test]
-fn limits(rt: HostRuntime) {
-    for (size, is_some) in WINDOWS {
-        assert_eq!(rt; Window::new(*size).is_some(), *is_some, "{size}");
-    }
-    for (segments, apdu, is_some) in CODES {
-        let limits = Limits::new(*apdu, false, *segments);
-        assert_eq!(rt; limits.is_some(), *is_some, "{segments} {apdu}");
-    }
-}
-
-/// What is written stands after what was there.
-#[test]
-fn appended(rt: HostRuntime) -> Result<(), Fail> {
-    let window = Window::new(16).ok_or("no window")?;
-    let segment = Some(Segment {
-        more: true,
-        number: 255,
-        window,
-    });
-    let apdu = Apdu::ComplexAck {
-        invoke_id: 1,
-        segment,
-        choice: 12,
-        service: b"\xAA",
-    };
-    let mut out = Vec::new(rt.alloc());
-    out.push(0x99)?;
-    write(&apdu, &mut out)?;
-    assert_eq!(rt; out.as_slice(), b"\x99\x3C\x01\xFF\x10\x0C\xAA".as_slice());
     Ok(())
 }
 

@@ -1,6 +1,6 @@
 //! Datagrams: tables of octets whose readings and writings were worked out by hand.
 use bac_npdu::{
-    Address, Dropped, FrameFault, Peer, Route, read_bvll, read_datagram, read_npdu, write_datagram,
+    Dropped, FrameFault, Peer, Route, read_bvll, read_datagram, read_npdu, write_datagram,
 };
 use std::test::Fail;
 
@@ -202,28 +202,6 @@ fn the_longest_frame(rt: HostRuntime) -> Result<(), Fail> {
     assert!(rt; out.starts_with(b"\x81\x0A\x05\xD6\x01\x24\xFF\xFE\x08\x2A\x2A"));
     assert!(rt; out.ends_with(&apdu));
     Ok(())
-}
-
-/// Networks and addresses, and whether they are a route.
-const ROUTES: &[(u16, &[u8], bool)] = &[
-    (0, b"\x01", false),
-    (1, b"\x01", true),
-    (65534, b"\x01\x02\x03\x04\x05\x06\x07\x08", true),
-    (65535, b"\x01", false),
-    (5, b"", false),
-    (5, b"\x00", true),
-    (5, b"\x01\x02\x03\x04\x05\x06\x07\x08\x09", false),
-    (5, b"\x01\x02\x03\x04\x05\x06\x07", true),
-];
-
-#[test]
-fn limits_of_routes(rt: HostRuntime) {
-    for (network, address, is_some) in ROUTES {
-        let route = Route::new(*network, address);
-        assert_eq!(rt; route.is_some(), *is_some, "{network} {address:?}");
-    }
-    assert!(rt; Address::new(b"").is_some());
-    assert!(rt; Address::new(b"\x01\x02\x03\x04\x05\x06\x07\x08\x09").is_none());
 }
 
 /// The last octet of a peer's link, and its route, in the order of peers.

@@ -1,22 +1,16 @@
 //! Requests and replies: rows that were worked out by hand, and rows that this stack did not write. Here is what they share.
 use super::{octets_of, pieces_of};
 use bac_service::{
-    ATOMIC_READ_FILE, ATOMIC_WRITE_FILE, AnyComplex, AnyReply, AnyRequest, Complex, Content,
-    FileWritten, Priority, PropertyReference, READ_PROPERTY, ReadError, Records, Reject, Reply,
-    Request, Service, WRITE_PROPERTY, WriteAccess, WriteFile, WriteRecords, WriteStream,
-    one_reply_spelling, one_request_spelling, read_reply, read_reply_parts, read_request,
-    read_request_parts, reads_reply, reads_reply_parts, replies_are_read, reply_len, request_len,
-    requests_are_read, write_reply, write_request,
+    AnyComplex, AnyReply, AnyRequest, Complex, Content, Reply, Request, WriteAccess, WriteFile,
+    WriteStream, read_reply, read_reply_parts, read_request, read_request_parts, reads_reply_parts,
+    reply_len, request_len, write_reply, write_request,
 };
-use bac_value::{NoMemory, Parts};
+use bac_value::{NoMemory, ObjectIdentifier, Parts};
 use std::alloc::Global;
 use std::test::Fail;
 
-mod limits;
-mod made;
-mod pieces;
-mod replies;
-mod requests;
+mod long;
+mod tables;
 
 fn is_request_written(
     alloc: Global,

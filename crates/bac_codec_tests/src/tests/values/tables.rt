@@ -1,5 +1,15 @@
-//! Tables of octets that are read, and of tags that are made.
+//! Tables of octets that are read, and of values with their spellings.
 use super::*;
+
+/// 0 and a length, or the number of a fault and its place.
+type Outcome = (u8, usize);
+
+fn outcome_of<T: Drop>(found: Result<(T, usize), Fault>) -> Outcome {
+    match found {
+        Ok((_, len)) => (0, len),
+        Err(fault) => (fault.kind.number(), fault.at),
+    }
+}
 
 /// As what the octets of a table are read.
 #[derive(Clone, Copy)]
@@ -11,9 +21,9 @@ enum Reading {
 
 fn outcome_as(reading: Reading, octets: &[u8]) -> Outcome {
     match reading {
-        Reading::Tag => tag_outcome(octets),
-        Reading::Element => element_outcome(octets),
-        Reading::Data => data_outcome(octets),
+        Reading::Tag => outcome_of(read_tag(octets)),
+        Reading::Element => outcome_of(read_element(octets)),
+        Reading::Data => outcome_of(read_data(octets)),
     }
 }
 
@@ -127,32 +137,61 @@ fn reads_tables(rt: HostRuntime) -> Result<(), Fail> {
     Ok(())
 }
 
-/// Parts of tags, and whether there is such a tag.
-const PARTS_OF_TAGS: &[(u8, Class, Form, bool)] = &[
-    (0, Class::Application, Form::Length(0), true),
-    (1, Class::Application, Form::Length(0), false),
-    (12, Class::Application, Form::Length(4), true),
-    (13, Class::Application, Form::Length(4), false),
-    (1, Class::Application, Form::Boolean(true), true),
-    (2, Class::Application, Form::Boolean(true), false),
-    (2, Class::Application, Form::Opening, false),
-    (254, Class::Context, Form::Length(u32::MAX), true),
-    (255, Class::Context, Form::Length(1), false),
-    (1, Class::Context, Form::Boolean(true), false),
-    (254, Class::Context, Form::Opening, true),
-    (255, Class::Context, Form::Closing, false),
+/// A number, of one of the three kinds of values that are numbers.
+#[derive(Clone, Copy)]
+enum Number {
+    Unsigned(u64),
+    Signed(i64),
+    Enumerated(u32),
+}
+
+fn value(number: Number) -> Value {
+    match number {
+        Number::Unsigned(number) => Value::Unsigned(number),
+        Number::Signed(number) => Value::Signed(number),
+        Number::Enumerated(number) => Value::Enumerated(number),
+    }
+}
+
+/// Numbers and their spellings.
+const NUMBERS: &[(Number, &str)] = &[
+    (Number::Unsigned(0), "2100"),
+    (Number::Unsigned(255), "21FF"),
+    (Number::Unsigned(256), "220100"),
+    (Number::Unsigned(u64::MAX), "2508FFFFFFFFFFFFFFFF"),
+    (Number::Signed(-1), "31FF"),
+    (Number::Signed(-128), "3180"),
+    (Number::Signed(-129), "32FF7F"),
+    (Number::Signed(128), "320080"),
+    (Number::Signed(i64::MIN), "35088000000000000000"),
+    (Number::Enumerated(0), "9100"),
+    (Number::Enumerated(u32::MAX), "94FFFFFFFF"),
+];
+
+/// Spellings of a value of each other kind.
+const OTHERS: &[&str] = &[
+    "00",
+    "10",
+    "11",
+    "4443340000",
+    "55080102030405060708",
+    "62ABCD",
+    "73004F4B",
+    "820780",
+    "A401020304",
+    "B401020304",
+    "C400800001",
 ];
 
 #[test]
-fn makes_tags(rt: HostRuntime) {
-    for (number, class, form, expected) in PARTS_OF_TAGS {
-        let tag = Tag::new(*number, *class, *form);
-        let parts = tag.map(|tag| (tag.number, tag.class, tag.form));
-        let made = if *expected {
-            Some((*number, *class, *form))
-        } else {
-            None
-        };
-        assert_eq!(rt; parts, made);
+fn writes_values_and_reads_them_back(rt: HostRuntime) -> Result<(), Fail> {
+    for (number, text) in NUMBERS {
+        let octets = octets_of(rt.alloc(), text)?;
+        assert!(rt; is_written(rt.alloc(), &value(*number), &octets)?, "{text}");
     }
+    for text in OTHERS {
+        let octets = octets_of(rt.alloc(), text)?;
+        assert!(rt; is_written_back(rt.alloc(), &octets)?, "{text}");
+    }
+    Ok(())
 }

@@ -1,6 +1,33 @@
-//! The longest service data of a transfer, 65,535 octets, 2,000 records, and the longest values of a store, with ample memory.
-use super::pieces::is_request_in;
+//! Service data in pieces, and the longest: 65,535 octets, 2,000 records, and the longest values of a store, with ample memory.
 use super::*;
+
+/// Whether pieces are read as a request that is written as these octets.
+fn is_request_in(
+    alloc: Global,
+    choice: u8,
+    pieces: &[Vec<u8>],
+    octets: &[u8],
+) -> Result<bool, NoMemory> {
+    let Some(parts) = Parts::try_new(pieces) else {
+        return Ok(false);
+    };
+    match read_request_parts(alloc, choice, parts) {
+        Ok(owned) => is_request_of(alloc, owned.as_request(), octets),
+        Err(_) => Ok(false),
+    }
+}
+
+/// AtomicWriteFile of 100 octets at position 0 of file 1: 111 octets.
+#[test]
+fn pieces_of_every_size_are_one_request(rt: HostRuntime) -> Result<(), Fail> {
+    let alloc = rt.alloc();
+    let octets = octets_in(&(7, "C4028000010E31006564", 100, 0x0F), alloc)?;
+    for size in 1..=111 {
+        let pieces = pieces_of(alloc, &octets, size)?;
+        assert!(rt; is_request_in(alloc, 7, &pieces, &octets)?, "by {size}");
+    }
+    Ok(())
+}
 
 /// Service data: a service choice, their first octets, how many octets of contents follow, and the closing tag at their end.
 type Long<'a> = (u8, &'a str, usize, u8);
@@ -102,41 +129,5 @@ fn reads_and_writes_the_longest_replies(rt: HostRuntime) -> Result<(), Fail> {
         assert_eq!(rt; octets.len(), *len);
         assert!(rt; is_complex(rt.alloc(), row.0, &octets)?);
     }
-    Ok(())
-}
-
-const SERVICES: &[(u8, u8, bool)] = &[
-    (ATOMIC_READ_FILE, 6, true),
-    (ATOMIC_WRITE_FILE, 7, true),
-    (READ_PROPERTY, 12, true),
-    (WRITE_PROPERTY, 15, false),
-];
-
-/// Whether a choice has that number and is a service's, with a ComplexACK or with a SimpleACK.
-fn is_service(choice: u8, number: u8, has_data: bool) -> bool {
-    match Service::of(choice) {
-        Some(service) => {
-            choice == number
-                && service.choice() == number
-                && service.has_complex_ack() == has_data
-                && service.has_simple_ack() != has_data
-        }
-        None => false,
-    }
-}
-
-#[test]
-fn services_have_their_choices(rt: HostRuntime) {
-    for (choice, number, has_data) in SERVICES {
-        assert!(rt; is_service(*choice, *number, *has_data), "{number}");
-    }
-    assert_eq!(rt; Service::of(14), None);
-}
-
-#[test]
-fn services_have_their_replies(rt: HostRuntime) -> Result<(), Fail> {
-    let octets = octets_of(rt.alloc(), "0902")?;
-    assert!(rt; reads_reply(ATOMIC_WRITE_FILE, &octets));
-    assert!(rt; !reads_reply(WRITE_PROPERTY, &octets));
     Ok(())
 }
