@@ -75,7 +75,11 @@ fn faults_of_npdu(rt: HostRuntime) {
 
 /// A datagram, whether it comes from device 2A of network 5, and the octets of its APDU.
 const MEANINGS: &[(&[u8], bool, &[u8])] = &[
-    (&REQUEST, false, b"\x00\x05\x01\x0C\x0C\x00\x00\x00\x05\x19\x55"),
+    (
+        &REQUEST,
+        false,
+        b"\x00\x05\x01\x0C\x0C\x00\x00\x00\x05\x19\x55",
+    ),
     (b"\x81\x0A\x00\x08\x01\x05\x60\x61", false, b"\x60\x61"),
     (b"\x81\x0A\x00\x06\x01\x00", false, b""),
     (
@@ -87,7 +91,11 @@ const MEANINGS: &[(&[u8], bool, &[u8])] = &[
 
 /// The peer itself, or device 2A of network 5 behind it.
 fn peer(is_routed: bool) -> Peer {
-    let route = if is_routed { Route::new(5, b"\x2A") } else { None };
+    let route = if is_routed {
+        Route::new(5, b"\x2A")
+    } else {
+        None
+    };
     Peer { link: LINK, route }
 }
 
