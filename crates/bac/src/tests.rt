@@ -327,6 +327,7 @@ fn runs(alloc: Global, line: &str, files: OneFile) -> Result<Printed, Fail> {
 
 /// A capture without a bad line, and one without a good one.
 const GOOD: &[u8] = b"1 7F000001BAC1 7F000001BAC0 810A000801001013\n";
+
 const BAD: &[u8] = b"x\n";
 
 /// The text of the file, words, what is printed, what is complained of, and the exit status.
