@@ -21,13 +21,13 @@ fn strings_have_the_shortest_tags(rt: HostRuntime) -> Result<(), Fail> {
     Ok(())
 }
 
-fn is_copied_as_data(alloc: Global, octets: &[u8]) -> Result<bool, NoMemory> {
-    let Ok((data, _)) = read_data(octets) else {
-        return Ok(false);
-    };
-    let copy = data.to_owned(alloc)?;
+/// Whether octets are data that are written as they are.
+fn is_data_written(alloc: Global, octets: &[u8]) -> Result<bool, NoMemory> {
     let mut out = Vec::new(alloc);
-    write_data(copy.as_data(), &mut out)?;
+    match read_data(octets) {
+        Ok((data, _)) => write_data(data, &mut out)?,
+        Err(_) => return Ok(false),
+    }
     Ok(out.as_slice() == octets)
 }
 
@@ -48,7 +48,7 @@ fn copies_and_writes_65535_octets(rt: HostRuntime) -> Result<(), Fail> {
     for (tag, size) in [("65FEFFFB", 1_000), ("75FEFFFB", 1), ("85FEFFFB", 65_535)] {
         let mut octets = octets_of(alloc, tag)?;
         octets.resize(65_535, 0)?;
-        assert!(rt; is_copied_as_data(alloc, &octets)?, "{tag}");
+        assert!(rt; is_data_written(alloc, &octets)?, "{tag}");
         assert!(rt; is_written_back(alloc, &octets)?, "{tag}");
         let pieces = pieces_of(alloc, &octets, size)?;
         assert!(rt; is_the_same_in(alloc, &pieces, &octets)?, "{tag}");
