@@ -3,19 +3,18 @@ ghost use Rattle.std.specs.Prelude.{◌≡◌, [], Some, None};
 ghost use Rattle.std.specs.Option.{option_map};
 ghost use Rattle.bac_protocol.specs.Client.Reaction.{Stays};
 ghost use Rattle.bac_ends.specs.Ends.Held.{Closed};
-ghost use Rattle.bac_client.specs.Reacts.{IsReacted};
+ghost use Rattle.bac_client.specs.Reacts.{IsReaction};
 ghost use Rattle.bac_client.specs.Views.{ending_view, held_view};
 
-use crate::context::Context;
 use crate::ending::Ending;
 use crate::held::Held;
 use crate::ticket::Ticket;
-use bac_ends::Datagram;
+use bac_ends::{Context, Datagram};
 use std::alloc::Global;
 
 /// What an APDU made of a ticket.
 #[derive(Drop)]
-pub struct Reacted {
+pub struct Reaction {
     /// What is kept of the ticket from then on.
     pub held: Held,
     /// What is sent, in order of sending.
@@ -32,10 +31,10 @@ pub(crate) struct Finish {
 }
 
 /// Nothing of the ticket changes.
-pub(crate) fn stays(alloc: Global, context: &Context, ticket: Ticket) -> Reacted
-    ensures { IsReacted context.now ticket Stays result }
+pub(crate) fn stays(alloc: Global, context: &Context, ticket: Ticket) -> Reaction
+    ensures { IsReaction context.now ticket Stays result }
 {
-    Reacted {
+    Reaction {
         held: Held::Open(ticket),
         sends: Vec::new(alloc),
         ended: None,
@@ -43,12 +42,12 @@ pub(crate) fn stays(alloc: Global, context: &Context, ticket: Ticket) -> Reacted
 }
 
 /// The ticket ends, and nothing is sent.
-pub(crate) fn ends(alloc: Global, ticket: Ticket, how: Ending) -> Reacted
+pub(crate) fn ends(alloc: Global, ticket: Ticket, how: Ending) -> Reaction
     ensures held { held_view result.held ≡ Closed ticket.ask.first }
     ensures sends { result.sends.items ≡ [] }
     ensures ended { option_map ending_view result.ended ≡ Some (ending_view how) }
 {
-    Reacted {
+    Reaction {
         held: Held::Closed {
             first: ticket.first(),
         },
@@ -58,12 +57,12 @@ pub(crate) fn ends(alloc: Global, ticket: Ticket, how: Ending) -> Reacted
 }
 
 /// The ticket ends.
-pub(crate) fn closes(first: u64, finish: Finish) -> Reacted
+pub(crate) fn closes(first: u64, finish: Finish) -> Reaction
     ensures held { held_view result.held ≡ Closed first }
     ensures sends { result.sends.items ≡ finish.sends.items }
     ensures ended { option_map ending_view result.ended ≡ Some (ending_view finish.how) }
 {
-    Reacted {
+    Reaction {
         held: Held::Closed { first },
         sends: finish.sends,
         ended: Some(finish.how),
