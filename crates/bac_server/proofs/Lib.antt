@@ -3,3 +3,5 @@ pub mod Sent
 pub mod Performances
 pub mod Takings
 pub mod Copies
+pub mod Same
+pub mod Begun

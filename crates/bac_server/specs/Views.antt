@@ -1,5 +1,5 @@
 -- What contracts see of the types in code.
-use Rattle.std.specs.Prelude.{ℕ, ◌≤◌, true, length, Option, None}
+use Rattle.std.specs.Prelude.{ℕ, ◌≤◌, true, false, length, Option, None}
 use Rattle.std.specs.Option.{option_map}
 use Rattle.bac_apdu.specs.Apdu.{Apdu}
 use Rattle.bac_apdu.specs.Views.{limits_view}
@@ -22,10 +22,10 @@ use Rattle.bac_server.specs.declared.entry.State as state
 use Rattle.bac_server.specs.declared.entry.State.TheVariants as state_case
 use Rattle.bac_server.specs.declared.entry.Transfer as transfer
 use Rattle.bac_server.specs.declared.entry.Transfer.TheVariants as transfer_case
-use Rattle.bac_server.specs.declared.kept.SpelledReply as reply
-use Rattle.bac_server.specs.declared.kept.SpelledReply.TheVariants as reply_case
-use Rattle.bac_server.specs.declared.kept.Kept as kept
-use Rattle.bac_server.specs.declared.kept.Kept.TheVariants as kept_case
+use Rattle.bac_server.specs.declared.kept_reply.SpelledReply as reply
+use Rattle.bac_server.specs.declared.kept_reply.SpelledReply.TheVariants as reply_case
+use Rattle.bac_server.specs.declared.kept_reply.KeptReply as kept
+use Rattle.bac_server.specs.declared.kept_reply.KeptReply.TheVariants as kept_case
 
 abbrev pub context_view : Context → context.Context
 context_view c = context_of (settings_view c.settings) c.moment (peer_key_view c.key)
@@ -45,12 +45,12 @@ spelled_view (reply_case.Complex octets) = machine.Reply.Complex octets.items
 spelled_view (reply_case.Error class code) = machine.Reply.Error class code
 
 -- the APDU that a kept reply is
-abbrev pub kept_view : (invoke_id choice : ℕ) → kept.Kept → Apdu
-kept_view invoke_id choice (kept_case.Reply reply_case.Simple) = Apdu.SimpleAck invoke_id choice
-kept_view invoke_id choice (kept_case.Reply (reply_case.Complex octets)) = Apdu.ComplexAck invoke_id None choice octets.items
-kept_view invoke_id choice (kept_case.Reply (reply_case.Error class code)) = Apdu.Error invoke_id choice class code
-kept_view invoke_id choice (kept_case.Reject reason) = Apdu.Reject invoke_id reason
-kept_view invoke_id choice (kept_case.Abort reason) = Apdu.Abort true invoke_id reason
+abbrev pub kept_reply_view : (invoke_id choice : ℕ) → kept.KeptReply → Apdu
+kept_reply_view invoke_id choice (kept_case.Reply reply_case.Simple) = Apdu.SimpleAck invoke_id choice
+kept_reply_view invoke_id choice (kept_case.Reply (reply_case.Complex octets)) = Apdu.ComplexAck invoke_id None choice octets.items
+kept_reply_view invoke_id choice (kept_case.Reply (reply_case.Error class code)) = Apdu.Error invoke_id choice class code
+kept_reply_view invoke_id choice (kept_case.Reject reason) = Apdu.Reject invoke_id reason
+kept_reply_view invoke_id choice (kept_case.Abort reason) = Apdu.Abort true invoke_id reason
 
 abbrev pub transfer_view : transfer.Transfer → server.Transfer
 transfer_view transfer_case.Running = server.Transfer.Running
@@ -59,7 +59,7 @@ transfer_view transfer_case.Finished = server.Transfer.Finished
 
 abbrev pub state_view : (choice : ℕ) → state.State → server.State
 state_view choice (state_case.SegmentedRequest incoming since) = server.State.SegmentedRequest incoming since
-state_view choice (state_case.Done invoke_id k) = server.State.Done (kept_view invoke_id choice k)
+state_view choice (state_case.Done invoke_id k) = server.State.Done (kept_reply_view invoke_id choice k)
 state_view choice (state_case.SegmentedResponse outgoing transfer since) = server.State.SegmentedResponse outgoing (transfer_view transfer) since
 state_view choice state_case.Dropped = server.State.Dropped
 
@@ -70,7 +70,7 @@ pub record ArePiecesShort (out : Outgoing) : Type 0 where
 -- what an entry keeps can be sent
 abbrev pub IsSendable : (choice : ℕ) → state.State → Type 0
 IsSendable choice (state_case.SegmentedRequest incoming since) = Unit {0}
-IsSendable choice (state_case.Done invoke_id k) = IsShort (kept_view invoke_id choice k)
+IsSendable choice (state_case.Done invoke_id k) = IsShort (kept_reply_view invoke_id choice k)
 IsSendable choice (state_case.SegmentedResponse outgoing transfer since) = ArePiecesShort outgoing
 IsSendable choice state_case.Dropped = Unit {0}
 
@@ -81,3 +81,14 @@ entry_of o s =
 
 abbrev pub entry_view : Origin → state.State → server.Entry
 entry_view o s = entry_of o (state_view o.terms.choice s)
+
+-- what stands in a slot whose entry was taken out
+abbrev pub no_entry : server.Entry
+no_entry =
+    record {
+      begin = 0;
+      choice = 0;
+      limits = record { takes_segments = false; max_segments = 0; max_apdu = 0 };
+      request = None;
+      state = server.State.Dropped;
+    }

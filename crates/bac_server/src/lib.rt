@@ -5,11 +5,12 @@
 //! store are as before.
 #![tactic(auto)]
 
+mod comparing;
 mod context;
 mod effect;
 mod entry;
 mod idle;
-mod kept;
+mod kept_reply;
 mod live;
 mod performing;
 mod placing;

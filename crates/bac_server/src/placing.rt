@@ -8,12 +8,12 @@ ghost use Rattle.bac_protocol.specs.Service.Reply.{Complex};
 ghost use Rattle.bac_protocol.specs.Sizes.{reply_way_of, reply_way_in_segments};
 ghost use Rattle.bac_protocol.specs.Sizes.Way.{InSegments};
 ghost use Rattle.bac_protocol.specs.Short.{IsShort};
-ghost use Rattle.bac_server.specs.Preparing.{IsPlaced, IsKept};
-ghost use Rattle.bac_server.specs.Views.{context_view, peer_of, spelled_view, kept_view, ArePiecesShort};
+ghost use Rattle.bac_server.specs.Preparing.{IsPlaced, IsInOneApdu};
+ghost use Rattle.bac_server.specs.Views.{context_view, peer_of, spelled_view, kept_reply_view, ArePiecesShort};
 
 use crate::context::Context;
 use crate::entry::{State, Terms, Transfer};
-use crate::kept::{Kept, SpelledReply};
+use crate::kept_reply::{KeptReply, SpelledReply};
 use crate::sending::{BUFFER_OVERFLOW, SEGMENTATION_NOT_SUPPORTED};
 use bac_apdu::{Apdu, Segment};
 use bac_ends::{Datagram, allows_segments, datagram_of, transfer_size};
@@ -59,15 +59,15 @@ pub(crate) fn piece_apdu<'a>(
 }
 
 /// A reply of one APDU is kept.
-pub(crate) fn keeps(
+pub(crate) fn in_one_apdu(
     alloc: Global,
     context: &Context,
     choice: u8,
-    kept: Kept,
+    kept: KeptReply,
     performed: bool,
 ) -> Result<Placed, NoMemory>
-    requires { IsShort (kept_view context.now.key.invoke_id choice kept) }
-    ensures { IfOk result (IsKept (peer_of context.now) choice (kept_view context.now.key.invoke_id choice kept) performed) }
+    requires { IsShort (kept_reply_view context.now.key.invoke_id choice kept) }
+    ensures { IfOk result (IsInOneApdu (peer_of context.now) choice (kept_reply_view context.now.key.invoke_id choice kept) performed) }
 {
     let invoke_id = context.key.invoke_id;
     let last = datagram_of(alloc, &context.key.peer, &kept.as_apdu(invoke_id, choice))?;
@@ -121,14 +121,20 @@ fn in_segments(
 {
     let choice = terms.choice;
     if !terms.limits.takes_segments {
-        let refusal = Kept::Abort(SEGMENTATION_NOT_SUPPORTED);
-        return keeps(alloc, context, choice, refusal, false);
+        let refusal = KeptReply::Abort(SEGMENTATION_NOT_SUPPORTED);
+        return in_one_apdu(alloc, context, choice, refusal, false);
     }
     let outgoing = Outgoing::new(octets, size - SEGMENT_HEAD);
     if allows_segments(terms.limits.max_segments, outgoing.count()) {
         transfers(alloc, context, choice, outgoing)
     } else {
-        keeps(alloc, context, choice, Kept::Abort(BUFFER_OVERFLOW), false)
+        in_one_apdu(
+            alloc,
+            context,
+            choice,
+            KeptReply::Abort(BUFFER_OVERFLOW),
+            false,
+        )
     }
 }
 
@@ -149,9 +155,9 @@ pub(crate) fn by_way(
             if octets.len() > size - WHOLE_HEAD {
                 return in_segments(alloc, context, terms, octets, size);
             }
-            let kept = Kept::Reply(SpelledReply::Complex(octets));
-            keeps(alloc, context, terms.choice, kept, true)
+            let kept = KeptReply::Reply(SpelledReply::Complex(octets));
+            in_one_apdu(alloc, context, terms.choice, kept, true)
         }
-        reply => keeps(alloc, context, terms.choice, Kept::Reply(reply), true),
+        reply => in_one_apdu(alloc, context, terms.choice, KeptReply::Reply(reply), true),
     }
 }

@@ -11,8 +11,8 @@ ghost use Rattle.bac_server.specs.Views.{context_view, peer_of, spelled_view};
 
 use crate::context::Context;
 use crate::entry::{State, Terms};
-use crate::kept::{Kept, SpelledReply};
-use crate::placing::{Placed, by_way, keeps};
+use crate::kept_reply::{KeptReply, SpelledReply};
+use crate::placing::{Placed, by_way, in_one_apdu};
 use bac_ends::Datagram;
 use bac_service::{AnyReply, OwnedRequest, Reply, write_reply};
 use bac_store::{Planned, Store};
@@ -99,7 +99,13 @@ fn prepare_reject(
         state,
         last,
         performed: _,
-    } = keeps(alloc, context, terms.choice, Kept::Reject(reason), false)?;
+    } = in_one_apdu(
+        alloc,
+        context,
+        terms.choice,
+        KeptReply::Reject(reason),
+        false,
+    )?;
     Ok(Prepared {
         state,
         last,

@@ -6,7 +6,7 @@ ghost use Rattle.bac_segment.specs.Pieces.{join};
 ghost use Rattle.bac_segment.specs.Window.{takes};
 ghost use Rattle.bac_segment.specs.declared.incoming.Step.TheVariants as step;
 ghost use Rattle.bac_protocol.specs.Server.State.{SegmentedRequest, Dropped};
-ghost use Rattle.bac_protocol.specs.Server.{request_segment_taken, segmented_request_gets, segmented_request_gets_segment};
+ghost use Rattle.bac_protocol.specs.Server as machine;
 ghost use Rattle.bac_ends.specs.Sends.{Pairwise, IsSent, to_all};
 ghost use Rattle.bac_server.specs.Reactions.{Reacts};
 ghost use Rattle.bac_server.specs.Segments.{TakesSegment, IsWhole, IsGiven, Gives, acks_of};
@@ -98,7 +98,7 @@ fn last_segment(
     store: &mut Store,
 ) -> Result<Reaction, (Origin, Incoming)>
     requires { Ok step.Whole ≡ answer_of (takes incoming segment.number segment.more octets.now) }
-    ensures { TakesSegment (λ z. request_segment_taken (context_view context.now) (service_of store.old) (entry_of origin z) segment.number incoming.window
+    ensures { TakesSegment (λ z. machine.request_segment_taken (context_view context.now) (service_of store.old) (entry_of origin z) segment.number incoming.window
         (takes incoming segment.number segment.more octets.now)) (peer_of context.now) origin incoming store.old result store.new }
 {
     let unacknowledged = incoming.unacknowledged();
@@ -147,7 +147,7 @@ pub(crate) fn take_segment(
     octets: &[u8],
     store: &mut Store,
 ) -> Result<Reaction, (Origin, Incoming)>
-    ensures { TakesSegment (λ z. request_segment_taken (context_view context.now) (service_of store.old) (entry_of origin z) segment.number incoming.window
+    ensures { TakesSegment (λ z. machine.request_segment_taken (context_view context.now) (service_of store.old) (entry_of origin z) segment.number incoming.window
         (takes incoming segment.number segment.more octets.now)) (peer_of context.now) origin incoming store.old result store.new }
 {
     let step = match incoming.answer(segment.number, segment.more, octets) {
@@ -179,8 +179,8 @@ pub(crate) fn take_segment(
     })
 }
 
-/// The reassembly stays, with these sends.
-fn stays(origin: Origin, incoming: Incoming, since: u64) -> Entry
+/// An entry whose request is received in segments.
+fn with_reassembly(origin: Origin, incoming: Incoming, since: u64) -> Entry
     ensures { result ≡ entry_of origin (SegmentedRequest incoming since) }
 {
     Entry {
@@ -200,23 +200,23 @@ fn segment_comes(
     octets: &[u8],
     store: &mut Store,
 ) -> Result<Reaction, Entry>
-    ensures { Reacts (segmented_request_gets_segment (context_view context.now) (service_of store.old) (entry_of origin (SegmentedRequest incoming since))
+    ensures { Reacts (machine.segmented_request_gets_segment (context_view context.now) (service_of store.old) (entry_of origin (SegmentedRequest incoming since))
         incoming since (segment_view segment) octets.now) (peer_of context.now) (entry_of origin (SegmentedRequest incoming since)) store.old result store.new }
 {
     if context.moment.saturating_sub(since) >= WAIT_SEG {
         let Ok(sends) = abort(alloc, context, OTHER) else {
-            return Err(stays(origin, incoming, since));
+            return Err(with_reassembly(origin, incoming, since));
         };
         return Ok(dropped(origin, sends));
     }
     match take_segment(alloc, context, origin, incoming, segment, octets, store) {
         Ok(reaction) => Ok(reaction),
-        Err((origin, incoming)) => Err(stays(origin, incoming, since)),
+        Err((origin, incoming)) => Err(with_reassembly(origin, incoming, since)),
     }
 }
 
 /// An APDU comes while a request is received in segments.
-pub(crate) fn receiving_gets(
+pub(crate) fn segmented_request_gets(
     alloc: Global,
     context: &Context,
     origin: Origin,
@@ -225,7 +225,7 @@ pub(crate) fn receiving_gets(
     apdu: &Apdu<'_>,
     store: &mut Store,
 ) -> Result<Reaction, Entry>
-    ensures { Reacts (segmented_request_gets (context_view context.now) (service_of store.old) (entry_of origin (SegmentedRequest incoming since))
+    ensures { Reacts (machine.segmented_request_gets (context_view context.now) (service_of store.old) (entry_of origin (SegmentedRequest incoming since))
         incoming since (apdu_view apdu.now)) (peer_of context.now) (entry_of origin (SegmentedRequest incoming since)) store.old result store.new }
 {
     match *apdu {
@@ -235,7 +235,7 @@ pub(crate) fn receiving_gets(
             ..
         } => {
             let Some(segment) = segment else {
-                let entry = stays(origin, incoming, since);
+                let entry = with_reassembly(origin, incoming, since);
                 return Ok(Reaction::silent(alloc, entry));
             };
             segment_comes(
@@ -244,7 +244,7 @@ pub(crate) fn receiving_gets(
         }
         Apdu::Abort { server: false, .. } => Ok(dropped(origin, Vec::new(alloc))),
         _ => {
-            let entry = stays(origin, incoming, since);
+            let entry = with_reassembly(origin, incoming, since);
             Ok(Reaction::silent(alloc, entry))
         }
     }

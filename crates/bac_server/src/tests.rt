@@ -157,11 +157,11 @@ impl Desk {
         let Some(entry) = self.entry.take() else {
             return Ok(Vec::new(alloc));
         };
-        let sends = match entry.tick_sends(alloc, &context) {
+        let sends = match entry.prepare_tick(alloc, &context) {
             Ok(sends) => sends,
-            Err(_) => entry.tick_sends(alloc, &context)?,
+            Err(_) => entry.prepare_tick(alloc, &context)?,
         };
-        self.entry = Some(entry.ticked(&context));
+        self.entry = Some(entry.commit_tick(&context));
         Ok(sends)
     }
 

@@ -8,15 +8,15 @@ use Rattle.bac_protocol.specs.Service.{OTHER}
 use Rattle.bac_protocol.specs.Server.{Entry, Reaction, done_gets, server_abort}
 use Rattle.bac_protocol.specs.Server.State.{Done}
 use Rattle.bac_ends.specs.Sends.{Pairwise, IsSent, to_all}
-use Rattle.bac_server.specs.Views.{context_view, peer_of, entry_of, kept_view}
+use Rattle.bac_server.specs.Views.{context_view, peer_of, entry_of, kept_reply_view}
 use Rattle.bac_server.proofs.Copies.{done_gets_request}
-use Rattle.bac_server.proofs.live.repeated.Goals as goal
+use Rattle.bac_server.proofs.live.done_sends.Goals as goal
 
 pub returns-then-is_repeated : goal.returns-then-is_repeated
 returns-then-is_repeated c =
     let arm = c.in-ConfirmedRequest in
     let set : Context = context_view c.args.context.now in
-    let kept : Apdu = kept_view c.args.invoke_id c.args.origin.now.terms.choice c.args.kept.now in
+    let kept : Apdu = kept_reply_view c.args.invoke_id c.args.origin.now.terms.choice c.args.kept.now in
     let e : Entry = entry_of c.args.origin.now (Done kept) in
     let all =
     ap (λ a. (done_gets set e kept (apdu_view a)).sends) arm.is
@@ -30,7 +30,7 @@ pub returns-else-is_repeated : goal.returns-else-is_repeated
 returns-else-is_repeated c =
     let arm = c.in-ConfirmedRequest in
     let set : Context = context_view c.args.context.now in
-    let kept : Apdu = kept_view c.args.invoke_id c.args.origin.now.terms.choice c.args.kept.now in
+    let kept : Apdu = kept_reply_view c.args.invoke_id c.args.origin.now.terms.choice c.args.kept.now in
     let e : Entry = entry_of c.args.origin.now (Done kept) in
     let all =
     ap (λ a. (done_gets set e kept (apdu_view a)).sends) arm.is
