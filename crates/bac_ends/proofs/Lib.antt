@@ -1,4 +1,6 @@
+-- Lemmas on keys, sizes, pieces and ends.
 pub mod Short
+pub mod Pieces
 pub mod Keyed
 pub mod Computed
 pub mod KeyOrder

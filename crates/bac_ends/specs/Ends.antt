@@ -33,10 +33,12 @@ pub data Held : Type 0 where
   Open : (ticket : Ticket) → Held
   Closed : (first : ℕ) → Held
 
+-- closed, where the ticket is over
 abbrev pub open_unless : Bool → Ticket → Held
 open_unless true t = Closed t.ask.first
 open_unless false t = Open t
 
+-- closed exactly where its machine is idle (IDLE of clause 5.4.4.1)
 abbrev pub kept : Ticket → Held
 kept t = open_unless (is_idle t.phase) t
 
@@ -60,6 +62,7 @@ abbrev pub is_held : ℕ → Held → Bool
 is_held now (Open t) = true
 is_held now (Closed first) = nat_le (now - first) HOLD
 
+-- a slot is held while what it keeps is
 abbrev pub is_slot_held : ℕ → ClientSlot → Bool
 is_slot_held now s = is_held now s.value.held
 
@@ -75,13 +78,16 @@ pub record ClientTurn : Type 0 where
   pub sends : List Send
   pub ended : List Ended
 
+-- nothing comes of it
 abbrev pub stays : ClientEnd → ClientTurn
 stays e = record { end = e; sends = []; ended = [] }
 
+-- that ticket has ended, if it has
 abbrev pub ended_with : (number choice : ℕ) → Option Ending → List Ended
 ended_with number choice None = []
 ended_with number choice (Some how) = record { number = number; choice = choice; how = how } ∷ []
 
+-- a slot after a step of its machine
 abbrev pub client_after : (now number : ℕ) → Ticket → client.Reaction → Client
 client_after now number t r = record { number = number; held = kept (client.after now t r) }
 
@@ -94,14 +100,17 @@ client_goes now e key number t r =
       ended = ended_with number t.ask.choice (client.ending_of r);
     }
 
+-- an APDU for that slot: one that was closed drops it, an open ticket's machine gets it (clause 5.4.4)
 abbrev pub client_hears_held : Settings → Readable → (now : ℕ) → Apdu → ClientEnd → PeerKey → (number : ℕ) → Held → ClientTurn
 client_hears_held c readable now a e key number (Closed first) = stays e
 client_hears_held c readable now a e key number (Open t) = client_goes now e key number t (client_gets (context_of c now key) readable t a)
 
+-- an APDU for the slot of its key, if any; without one it is dropped
 abbrev pub client_hears_at : Settings → Readable → (now : ℕ) → Apdu → ClientEnd → PeerKey → Option Client → ClientTurn
 client_hears_at c readable now a e key None = stays e
 client_hears_at c readable now a e key (Some s) = client_hears_held c readable now a e key s.number s.held
 
+-- the key of an APDU from that peer: its invoke ID is the transaction's (clause 20.1.2.6)
 abbrev pub key_of : PeerView → Apdu → PeerKey
 key_of peer a = record { peer = peer; invoke_id = invoke_id_of a }
 
@@ -111,24 +120,30 @@ client_hears c readable now peer a e = client_hears_at c readable now a e (key_o
 
 -- A tick of the client's end.
 
+-- a slot after a tick; a closed one stays
 abbrev pub held_ticked : Context → (number : ℕ) → Held → Client
 held_ticked c number (Closed first) = record { number = number; held = Closed first }
 held_ticked c number (Open t) = client_after c.now number t (client_ticks c t)
 
+-- a slot in its place after a tick
 abbrev pub client_ticked : Settings → (now : ℕ) → ClientSlot → ClientSlot
 client_ticked c now s = record s { value = held_ticked (context_of c now s.key) s.value.number s.value.held }
 
+-- what a slot sends on a tick (clause 5.4.4); a closed one nothing
 abbrev pub held_tick_sends : Context → PeerView → Held → List Send
 held_tick_sends c peer (Closed first) = []
 held_tick_sends c peer (Open t) = to_all peer (client.sends_of (client_ticks c t))
 
+-- the same in its place
 abbrev pub client_tick_sends : Settings → (now : ℕ) → ClientSlot → List Send
 client_tick_sends c now s = held_tick_sends (context_of c now s.key) s.key.peer s.value.held
 
+-- how a slot ends on a tick, if it does
 abbrev pub held_tick_ends : Context → (number : ℕ) → Held → List Ended
 held_tick_ends c number (Closed first) = []
 held_tick_ends c number (Open t) = ended_with number t.ask.choice (client.ending_of (client_ticks c t))
 
+-- the same in its place
 abbrev pub client_tick_ends : Settings → (now : ℕ) → ClientSlot → List Ended
 client_tick_ends c now s = held_tick_ends (context_of c now s.key) s.value.number s.value.held
 
@@ -149,6 +164,7 @@ pub data AskRefusal : Type 0 where
   NoInvokeId : AskRefusal
   CannotGo : (why : RequestFault) → AskRefusal
 
+-- a slot that is there is held
 abbrev pub is_held_there : ℕ → Option Client → Bool
 is_held_there now None = false
 is_held_there now (Some s) = is_held now s.held
@@ -166,6 +182,7 @@ least_not test (suc count) from = if test from then least_not test count (from +
 abbrev pub MOST_ASKS : ℕ
 MOST_ASKS = 18446744073709551615
 
+-- all slots are held, or no number is left for a further ticket
 abbrev pub has_no_slot : ℕ → ClientEnd → Bool
 has_no_slot now e = nat_le e.capacity (count_by (is_slot_held now) e.slots) || nat_le MOST_ASKS e.asked
 
@@ -177,10 +194,12 @@ pub record Accepted : Type 0 where
   pub ask : Ask
   pub sends : List Send
 
+-- an ask is refused and changes nothing, or accepted
 pub data AskOutcome : Type 0 where
   Refused : (why : AskRefusal) → AskOutcome
   Asked : (accepted : Accepted) → AskOutcome
 
+-- a slot of a ticket that was just asked
 abbrev pub new_client : Context → (number : ℕ) → Ask → Client
 new_client c number ask = record { number = number; held = kept (asked_ticket c ask) }
 
@@ -199,6 +218,7 @@ accepts c now key ask e =
       sends = to_all key.peer (client.sends_of (asks (context_of c now key) ask));
     }
 
+-- an ask with that invoke ID, if one is free
 abbrev pub asks_with_id : Settings → (now : ℕ) → PeerView → Ask → ClientEnd → Option ℕ → AskOutcome
 asks_with_id c now peer ask e None = AskOutcome.Refused NoInvokeId
 asks_with_id c now peer ask e (Some invoke_id) =
@@ -208,6 +228,7 @@ asks_with_id c now peer ask e (Some invoke_id) =
 abbrev pub asks_for : Settings → (now : ℕ) → PeerView → Ask → ClientEnd → AskOutcome
 asks_for c now peer ask e = asks_with_id c now peer ask e (least_not (is_id_held now e.slots peer) 256 0)
 
+-- an ask goes the way of its request: in one APDU, in segments, or not at all (clause 5.2)
 abbrev pub asks_by_way : Settings → (now : ℕ) → PeerView → (choice : ℕ) → Octets → ClientEnd → Way RequestFault → AskOutcome
 asks_by_way c now peer choice octets e Way.InOne =
     asks_for c now peer (record { first = now; choice = choice; whole = true; pieces = octets ∷ [] }) e
@@ -221,6 +242,7 @@ client_asks c now peer limits choice octets e = asks_by_way c now peer choice oc
 
 -- The server's end.
 
+-- an entry in its place
 abbrev pub ServerSlot : Type 0
 ServerSlot = Slot PeerKey Entry
 
@@ -240,6 +262,7 @@ pub record ServerTurn : Type 0 where
   pub sends : List Send
   pub act : Option Act
 
+-- a slot is live while its entry is
 abbrev pub is_slot_live : ℕ → ServerSlot → Bool
 is_slot_live now s = is_live now s.value
 
@@ -257,10 +280,12 @@ abbrev pub put_entry : ℕ → PeerKey → Option Entry → List ServerSlot → 
 put_entry now key None slots = slots
 put_entry now key (Some d) slots = if is_live now d then set_or_put now key d slots (is_none_live now (value_at same_key key slots)) else slots
 
+-- the effect, if any, of that transaction
 abbrev pub act_at : PeerKey → Option Effect → Option Act
 act_at key None = None
 act_at key (Some x) = Some (record { key = key; effect = x })
 
+-- the server's end after a reaction of one machine
 abbrev pub server_goes : (now : ℕ) → ServerEnd → PeerKey → server.Reaction → ServerTurn
 server_goes now e key v =
     record { end = record e { slots = put_entry now key v.entry e.slots }; sends = to_all key.peer v.sends; act = act_at key v.effect }
@@ -277,9 +302,11 @@ abbrev pub entry_or : Entry → Option Entry → Entry
 entry_or old None = old
 entry_or old (Some d) = d
 
+-- a slot in its place after a tick
 abbrev pub server_ticked : Settings → (now : ℕ) → ServerSlot → ServerSlot
 server_ticked c now s = record s { value = entry_or s.value (server_ticks (context_of c now s.key) (Some s.value)).entry }
 
+-- what a slot sends on a tick (clause 5.4.5)
 abbrev pub server_tick_sends : Settings → (now : ℕ) → ServerSlot → List Send
 server_tick_sends c now s = to_all s.key.peer (server_ticks (context_of c now s.key) (Some s.value)).sends
 

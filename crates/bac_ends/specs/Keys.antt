@@ -14,6 +14,7 @@ pub record PeerKey : Type 0 where
 abbrev pub peer_key_cmp : PeerKey → PeerKey → Ordering
 peer_key_cmp = then_cmp (on (λ (k : PeerKey). k.peer) peer_cmp) (on (λ (k : PeerKey). k.invoke_id) nat_cmp)
 
+-- two keys are one where neither comes first
 abbrev pub same_key : PeerKey → PeerKey → Bool
 same_key = eq_by_cmp peer_key_cmp
 

@@ -1,6 +1,8 @@
+-- What both ends stand on: keys, sends, both ends as plain values, and what contracts see of the types in code.
 pub mod Keys
-pub mod Views
 pub mod Sends
 pub mod Ends
+pub mod Views
+pub mod Segments
 pub mod Meanings
 pub mod Examples

@@ -34,6 +34,7 @@ pub record Finish : Type 0 where
   pub ticket : ℕ
   pub how : Ending
 
+-- the ending of a ticket, as a value
 pub record IsFinish (e : Ended) (f : Finish) : Type 0 where
   pub ticket : f.ticket ≡ e.number
   pub how : MeansEnding e.choice e.how f.how

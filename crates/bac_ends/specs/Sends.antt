@@ -11,9 +11,11 @@ pub record Send : Type 0 where
   pub peer : PeerView
   pub apdu : Apdu
 
+-- an APDU to that peer
 abbrev pub to_peer : PeerView → Apdu → Send
 to_peer peer a = record { peer = peer; apdu = a }
 
+-- these APDUs to one peer, in their order
 abbrev pub to_all : PeerView → List Apdu → List Send
 to_all peer apdus = map (to_peer peer) apdus
 

@@ -3,16 +3,21 @@
 //! The definitions stand in `specs/`; the code of the client's and the server's end cites them.
 #![tactic(auto)]
 
+mod answering;
+mod context;
 mod datagram;
 pub mod examples;
 mod invoke_id;
 mod laws;
 mod peer_key;
 mod peer_key_order;
+mod peer_key_same;
 mod settings;
 mod short_sending;
 mod sizes;
 
+pub use answering::{only, only_abort, only_ack, only_apdu, step_acks};
+pub use context::Context;
 pub use datagram::{Datagram, datagram_of};
 pub use invoke_id::invoke_id_of;
 pub use laws::{keys_in_order, slots_are_held_as_tickets};

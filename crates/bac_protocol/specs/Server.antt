@@ -63,13 +63,16 @@ abbrev pub live_entry : ℕ → Option Entry → Option Entry
 live_entry now None = None
 live_entry now (Some e) = if is_live now e then Some e else None
 
+-- no entry is live
 abbrev pub is_none_live : ℕ → Option Entry → Bool
 is_none_live now None = true
 is_none_live now (Some e) = if is_live now e then false else true
 
+-- the entry goes on so, these are sent, and nothing is performed
 abbrev pub rests : Option Entry → List Apdu → Reaction
 rests entry sends = record { entry = entry; sends = sends; effect = None }
 
+-- the entry goes on in that state
 abbrev pub becomes : Entry → State → List Apdu → Reaction
 becomes e state sends = rests (Some (record e { state = state })) sends
 
@@ -97,6 +100,7 @@ reply_piece c choice pieces n = ComplexAck c.invoke_id (Some (segment_of c.setti
 abbrev pub reply_window : Context → (choice : ℕ) → Outgoing → List Apdu
 reply_window c choice out = pieces_from (reply_piece c choice out.pieces) out.first (in_window out)
 
+-- the entry's request with these service data was performed, with that reply
 abbrev pub effect_of : Entry → Octets → Reply → Option Effect
 effect_of e octets reply = Some (record { request = record { choice = e.choice; service = octets }; reply = reply })
 
@@ -117,10 +121,12 @@ sends_reply c e sends octets reply (InSegments pieces) =
     }
 sends_reply c e sends octets reply (Refused reason) = becomes e (Done (server_abort c reason)) (sends ++ server_abort c reason ∷ [])
 
+-- what the service made of the request: a reply is sent, and a Reject is kept and sent (clause 5.4.5.3)
 abbrev pub performs_so : Context → Entry → List Apdu → Octets → Outcome → Reaction
 performs_so c e sends octets (Replies reply) = sends_reply c e sends octets reply (reply_way_of c.settings e.limits reply)
 performs_so c e sends octets (Rejects reason) = becomes e (Done (Reject c.invoke_id reason)) (sends ++ Reject c.invoke_id reason ∷ [])
 
+-- the request with these service data is performed in that entry, after these sends
 abbrev pub performs : Context → Service → Entry → List Apdu → Octets → Reaction
 performs c service e sends octets = performs_so c e sends octets (service e.choice octets)
 
@@ -155,6 +161,7 @@ idle_gets_segment c service dead free choice limits segment octets =
     then request_segment_taken c service (begins c choice limits None) segment.number inc.window (takes inc segment.number segment.more octets)
     else rests dead (server_abort c OTHER ∷ [])
 
+-- an APDU comes where no entry is live: all but a request is dropped
 abbrev pub idle_gets : Context → Service → (dead : Option Entry) → (free : Bool) → Apdu → Reaction
 idle_gets c service dead free (ConfirmedRequest limits invoke_id None choice octets) = idle_gets_request c service dead free choice limits octets
 idle_gets c service dead free (ConfirmedRequest limits invoke_id (Some segment) choice octets) =
@@ -168,6 +175,7 @@ segmented_request_gets_segment c service e inc since segment octets =
     if nat_le WAIT_SEG (c.now - since) then becomes e Dropped (server_abort c OTHER ∷ [])
     else request_segment_taken c service e segment.number inc.window (takes inc segment.number segment.more octets)
 
+-- an APDU comes in SEGMENTED_REQUEST: a segment, or an Abort of its client, which ends the reassembly
 abbrev pub segmented_request_gets : Context → Service → Entry → Incoming → (since : ℕ) → Apdu → Reaction
 segmented_request_gets c service e inc since (ConfirmedRequest limits invoke_id (Some segment) choice octets) =
     segmented_request_gets_segment c service e inc since segment octets
@@ -204,6 +212,7 @@ abbrev pub moves_reply_window : Context → Entry → Option Outgoing → Reacti
 moves_reply_window c e None = rests (Some e) []
 moves_reply_window c e (Some out) = if is_finished out then becomes e (SegmentedResponse out Finished c.now) [] else sends_reply_window c e out
 
+-- only a running transfer hears a SegmentACK
 abbrev pub segmented_response_gets_ack : Context → Entry → Outgoing → Transfer → (number window : ℕ) → Reaction
 segmented_response_gets_ack c e out Running number window = moves_reply_window c e (acknowledged c.settings.window out number window)
 segmented_response_gets_ack c e out Stopped number window = rests (Some e) []
@@ -224,6 +233,7 @@ abbrev pub dropped_gets : Context → Entry → Apdu → Reaction
 dropped_gets c e (ConfirmedRequest limits invoke_id segment choice octets) = rests (Some e) (server_abort c OTHER ∷ [])
 dropped_gets c e _ = rests (Some e) []
 
+-- an APDU comes for a live entry in that state
 abbrev pub live_gets : Context → Service → Entry → State → Apdu → Reaction
 live_gets c service e (SegmentedRequest inc since) apdu = segmented_request_gets c service e inc since apdu
 live_gets c service e (Done kept) apdu = done_gets c e kept apdu
@@ -254,6 +264,7 @@ segmented_response_ticks c e out Running since =
 segmented_response_ticks c e out Stopped since = rests (Some e) []
 segmented_response_ticks c e out Finished since = rests (Some e) []
 
+-- a tick in that state; only SEGMENTED_REQUEST and SEGMENTED_RESPONSE have a timer
 abbrev pub live_ticks : Context → Entry → State → Reaction
 live_ticks c e (SegmentedRequest inc since) = segmented_request_ticks c e since
 live_ticks c e (Done kept) = rests (Some e) []

@@ -13,6 +13,7 @@ use Rattle.bac_protocol.specs.Log.{Fact, Shop}
 use Rattle.bac_protocol.specs.Log.Fact.{Asked}
 use Rattle.bac_protocol.specs.Transaction.{Key, Rules, client_context, server_context, Copy, ended, performed}
 
+-- whether two keys are of one transaction: of one client, one server and one invoke ID (clause 5.4)
 abbrev pub same_key : Key → Key → Bool
 same_key a b = nat_eq a.client b.client && (nat_eq a.server b.server && nat_eq a.invoke_id b.invoke_id)
 
@@ -31,6 +32,7 @@ pub record Net : Type 0 where
   pub posts : List Post  -- every copy that was sent, oldest first, numbered from 0
   pub log : List Fact  -- newest first
 
+-- the whole: a store for each node
 pub record World (S : Type 0) : Type 0 where
   pub net : Net
   pub stores : ℕ → S
@@ -57,17 +59,21 @@ abbrev pub copies_before : Key → List Post → List Copy → List Copy
 copies_before key [] copies = copies
 copies_before key (p ∷ posts) copies = copies_before key posts (if same_key p.key key then p.copy ∷ copies else copies)
 
+-- the copies of one transaction, newest first
 abbrev pub copies_of : Key → List Post → List Copy
 copies_of key posts = copies_before key posts []
 
+-- an APDU of that transaction, sent at that moment
 abbrev pub post_of : Key → ℕ → Apdu → Post
 post_of key now a = record { key = key; copy = record { moment = now; apdu = a } }
 
 -- What one end does.
 
+-- the function with another value at one transaction
 abbrev pub set_at : {A : Type 0} → (Key → A) → Key → A → Key → A
 set_at f key a k = if same_key key k then a else f k
 
+-- what its client does for a ticket: the ticket after it, the copies that it sends, and its ending in the log
 abbrev pub client_acts : Net → Key → Ticket → client.Reaction → Net
 client_acts n key t r =
     record n {
@@ -76,6 +82,7 @@ client_acts n key t r =
       log = ended (n.numbers key) (ending_of r) n.log;
     }
 
+-- what its server does: the entry after it, the copies that it sends, and a performance in the log
 abbrev pub server_acts : Net → Key → server.Reaction → Net
 server_acts n key v =
     record n {
@@ -96,18 +103,22 @@ asked_at x n key ask =
       log = Asked n.asks key.client key.server (request_of ask) ∷ n.log;
     }
 
+-- the servers' stores after what was performed
 abbrev pub stored : (S : Type 0) → Shop S → (server : ℕ) → Option Effect → (ℕ → S) → ℕ → S
 stored S shop server None stores node = stores node
 stored S shop server (Some effect) stores node = if nat_eq node server then shop.after (stores server) effect.request else stores node
 
+-- a client acts; no store changes
 abbrev pub reacts : (S : Type 0) → World S → Key → Ticket → client.Reaction → World S
 reacts S w key t r = record { net = client_acts w.net key t r; stores = w.stores }
 
+-- a server acts, and its store changes with what it performed
 abbrev pub serves : (S : Type 0) → Shop S → World S → Key → server.Reaction → World S
 serves S shop w key v = record { net = server_acts w.net key v; stores = stored S shop key.server v.effect w.stores }
 
 -- Events.
 
+-- what can happen: an ask in one APDU or in these pieces, a delivery of the copy of that number, a tick of a node, noise, and time that passes
 pub data Event : Type 0 where
   MakeAsk : (key : Key) (choice : ℕ) (whole : Bool) (front : Octets) (rest : List Octets) → Event
   Deliver : (number : ℕ) (free : Bool) → Event  -- free: whether a slot of the server's reply table has no live entry
@@ -115,17 +126,21 @@ pub data Event : Type 0 where
   Noise : Event  -- octets that are no datagram with an APDU
   Advance : (by : ℕ) → Event
 
+-- whether an invoke ID is held for that server
 abbrev pub is_key_held : ℕ → Option Ticket → Bool
 is_key_held now None = false
 is_key_held now (Some t) = is_held now t
 
+-- what the transaction's server makes of a request, by its store as it is
 abbrev pub service_of : (S : Type 0) → Shop S → World S → Key → Service
 service_of S shop w key = shop.outcome (w.stores key.server)
 
+-- an APDU reaches the client (clause 5.4.4); without a ticket it is dropped
 abbrev pub takes_at_client : (S : Type 0) → Rules → World S → Key → Apdu → Option Ticket → World S
 takes_at_client S x w key a None = w
 takes_at_client S x w key a (Some t) = reacts S w key t (client_gets (client_context x key w.net.now) x.readable t a)
 
+-- an APDU reaches the server (clause 5.4.5)
 abbrev pub takes_at_server : (S : Type 0) → Shop S → Rules → World S → Key → (free : Bool) → Apdu → World S
 takes_at_server S shop x w key free a = serves S shop w key
     (server_gets (server_context x key w.net.now) (service_of S shop w key) (w.net.entries key) free a)
@@ -139,22 +154,27 @@ abbrev pub delivered : (S : Type 0) → Shop S → Rules → World S → (number
 delivered S shop x w number free None = w
 delivered S shop x w number free (Some p) = if is_deliverable x w.net.now number w.net.posts p then arrives S shop x w p.key free p.copy.apdu else w
 
+-- a tick of one ticket
 abbrev pub ticks_ticket : (S : Type 0) → Rules → World S → Key → Option Ticket → World S
 ticks_ticket S x w key None = w
 ticks_ticket S x w key (Some t) = reacts S w key t (client_ticks (client_context x key w.net.now) t)
 
+-- a tick of these tickets, one after the other
 abbrev pub ticks_as_client : (S : Type 0) → Rules → List Key → World S → World S
 ticks_as_client S x [] w = w
 ticks_as_client S x (key ∷ keys) w = ticks_as_client S x keys (ticks_ticket S x w key (w.net.tickets key))
 
+-- a tick of these entries, one after the other
 abbrev pub ticks_as_server : (S : Type 0) → Shop S → Rules → List Key → World S → World S
 ticks_as_server S shop x [] w = w
 ticks_as_server S shop x (key ∷ keys) w = ticks_as_server S shop x keys
     (serves S shop w key (server_ticks (server_context x key w.net.now) (w.net.entries key)))
 
+-- an accepted ask; no store changes
 abbrev pub ask_made : (S : Type 0) → Rules → World S → Key → Ask → World S
 ask_made S x w key ask = record { net = asked_at x w.net key ask; stores = w.stores }
 
+-- the world after an event; an ask whose invoke ID is held is refused, and changes nothing
 abbrev pub happens : (S : Type 0) → Shop S → Rules → World S → Event → World S
 happens S shop x w (MakeAsk key choice whole front rest) =
     if is_key_held w.net.now (w.net.tickets key) then w
@@ -164,12 +184,15 @@ happens S shop x w (Tick as_client as_server) = ticks_as_server S shop x as_serv
 happens S shop x w Noise = w
 happens S shop x w (Advance by) = record { net = record w.net { now = w.net.now + by }; stores = w.stores }
 
+-- the world after these events, in their order
 abbrev pub run : (S : Type 0) → Shop S → Rules → List Event → World S → World S
 run S shop x [] w = w
 run S shop x (e ∷ es) w = run S shop x es (happens S shop x w e)
 
+-- nothing was asked or sent yet
 abbrev pub net_start : Net
 net_start = record { now = 0; asks = 0; numbers = λ key. 0; tickets = λ key. None; entries = λ key. None; posts = []; log = [] }
 
+-- the world before its first event, with these opening stores
 abbrev pub start : (S : Type 0) → (opening : ℕ → S) → World S
 start S opening = record { net = net_start; stores = opening }

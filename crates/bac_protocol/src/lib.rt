@@ -6,6 +6,7 @@
 
 pub mod examples;
 pub mod moves;
+pub mod reasons;
 pub mod sizes;
 pub mod steps;
 pub mod straight;

@@ -1,6 +1,7 @@
 -- A sweep goes from the last slot to the first: those before a place are as they were, and of the others those that pass.
 use Rattle.std.proofs.Common.{◌≡◌, ℕ, zero, suc, ◌+◌, ◌-◌, ◌<◌, ◌≤◌, Bool, true, false, List, [], ◌∷◌, length, Option, Some, None, slice_get, take}
-use Rattle.std.proofs.Common.{filter, count_by, cond}
+use Rattle.std.proofs.Common.{filter, count_by, cond, map}
+use Rattle.std.specs.Option.{option_map}
 use Rattle.std.proofs.Common.{refl, ap, sym, ◌∙◌, arith}
 use Rattle.std.specs.Cmp.{IsEquivalence}
 use Rattle.std.proofs.lemmas.List.Sums.{sum_by-cons}
@@ -106,13 +107,23 @@ module _ (X : Type 0) (p : X → Bool) where
       go None e = let past = slice_get_from n xs e in absurd (omega (arith, past, l))
       go (Some x) e = count_more n xs x true e (h x e)
 
--- ---- lists with the same elements at each place
+-- ---- lists in which the same is seen at each place
 
-pub same_lists : {X : Type 0} (xs ys : List X) → length xs ≡ length ys → ((k : ℕ) → k < length xs → slice_get xs k ≡ slice_get ys k) → xs ≡ ys
-same_lists [] [] e h = refl
-same_lists [] (y ∷ ys) e h = absurd (omega (arith, e))
-same_lists (x ∷ xs) [] e h = absurd (omega (arith, e))
-same_lists (x ∷ xs) (y ∷ ys) e h =
-    let first : Some x ≡ Some y = h zero (omega arith) in
-    let one : x ≡ y = cc in
-    ap (λ z. z ∷ xs) one ∙ ap (λ l. y ∷ l) (same_lists xs ys (omega (arith, e)) (λ k l. h (suc k) (omega (arith, l))))
+module _ {X Y : Type 0} (f : X → Y) where
+  pub same_lists : (xs ys : List X) → length xs ≡ length ys
+      → ((k : ℕ) → k < length xs → option_map f (slice_get xs k) ≡ option_map f (slice_get ys k)) → map f xs ≡ map f ys
+  same_lists [] [] e h = refl
+  same_lists [] (y ∷ ys) e h = absurd (omega (arith, e))
+  same_lists (x ∷ xs) [] e h = absurd (omega (arith, e))
+  same_lists (x ∷ xs) (y ∷ ys) e h =
+      let first : Some (f x) ≡ Some (f y) = h zero (omega arith) in
+      let one : f x ≡ f y = cc in
+      ap (λ z. z ∷ map f xs) one ∙ ap (λ l. f y ∷ l) (same_lists xs ys (omega (arith, e)) (λ k l. h (suc k) (omega (arith, l))))
+
+  seen_at : (xs : List X) (k : ℕ) → slice_get (map f xs) k ≡ option_map f (slice_get xs k)
+  seen_at [] k = refl
+  seen_at (x ∷ xs) zero = refl
+  seen_at (x ∷ xs) (suc k) = seen_at xs k
+
+  pub seen_same : (xs ys : List X) (k : ℕ) → map f xs ≡ map f ys → option_map f (slice_get xs k) ≡ option_map f (slice_get ys k)
+  seen_same xs ys k e = sym (seen_at xs k) ∙ ap (λ l. slice_get l k) e ∙ seen_at ys k

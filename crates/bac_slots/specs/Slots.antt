@@ -6,6 +6,10 @@ use Rattle.std.specs.declared.cmp.Ordering.{Ordering}
 use Rattle.std.specs.declared.cmp.Ordering.TheVariants.{Less, Equal, Greater}
 use Rattle.bac_slots.specs.declared.slot.Slot.{Slot}
 
+-- a slot with what is seen of its key and of its value
+abbrev pub slot_seen : {K T A B : Type 0} → (K → A) → (T → B) → Slot K T → Slot A B
+slot_seen key value s = record { key = key s.key; begin = s.begin; value = value s.value }
+
 -- the value at a key
 abbrev pub value_at : {K T : Type 0} → (K → K → Bool) → K → List (Slot K T) → Option T
 value_at eq key [] = None

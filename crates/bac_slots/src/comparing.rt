@@ -1,13 +1,20 @@
 //! Whether contracts see a difference between two tables.
-ghost use Rattle.std.specs.Prelude.{◌≡◌, ◌↔◌, IsTrue, slice_get};
+ghost use Rattle.std.specs.Prelude.{◌≡◌, ◌↔◌, IsTrue, map, slice_get};
+ghost use Rattle.std.specs.Option.{option_map};
+ghost use Rattle.bac_slots.specs.Slots.{slot_seen};
 
 use crate::slot_table::SlotTable;
 
 /// A value that can be compared with another as contracts see both.
 pub trait Same {
+    // What contracts see of a value.
+    ghost Seen: { Type 0 };
+
+    ghost seen: { Self → Seen };
+
     /// Whether the two are one value to contracts.
     fn same(&self, other: &Self) -> bool
-        ensures { IsTrue result ↔ (self.now ≡ other.now) };
+        ensures { IsTrue result ↔ (seen self.now ≡ seen other.now) };
 }
 
 /// Whether two tables have the same slots in the same order of putting, and can have as many.
@@ -15,7 +22,8 @@ pub fn same_tables<K: Ord + Copy + Drop + Same, T: Same, S: SlotTable<K, T>>(
     one: &S,
     other: &S,
 ) -> bool
-    ensures { IsTrue result ↔ ((S.slots one.now ≡ S.slots other.now) × (S.capacity one.now ≡ S.capacity other.now)) }
+    ensures { IsTrue result ↔ ((map (slot_seen K.seen T.seen) (S.slots one.now) ≡ map (slot_seen K.seen T.seen) (S.slots other.now))
+        × (S.capacity one.now ≡ S.capacity other.now)) }
 {
     if one.room() != other.room() {
         return false;
@@ -36,7 +44,8 @@ fn same_at<K: Ord + Copy + Drop + Same, T: Same, S: SlotTable<K, T>>(
     other: &S,
     n: usize,
 ) -> bool
-    ensures { IsTrue result ↔ (slice_get (S.slots one.now) n ≡ slice_get (S.slots other.now) n) }
+    ensures { IsTrue result ↔ (option_map (slot_seen K.seen T.seen) (slice_get (S.slots one.now) n)
+        ≡ option_map (slot_seen K.seen T.seen) (slice_get (S.slots other.now) n)) }
 {
     let Some((key, begin, value)) = one.by_age(n) else {
         return other.by_age(n).is_none();

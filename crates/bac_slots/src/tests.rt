@@ -1,5 +1,5 @@
 //! Tables of both kinds: call by call, against each other, at their limits, and what a search compares.
-ghost use Rattle.std.specs.Prelude.{nat_le};
+ghost use Rattle.std.specs.Prelude.{nat_le, ℕ};
 ghost use Rattle.std.proofs.Common.{rules};
 ghost use Rattle.std.specs.Ordering.{nat_cmp, on, eq_by_cmp, as_partial_cmp};
 ghost use Rattle.std.specs.Cmp.{nat_cmp_total, partial_order_from_own_ties};
@@ -284,12 +284,20 @@ impl Test<u8> for AtLeast {
 }
 
 impl Same for u32 {
+    ghost Seen = { ℕ };
+
+    ghost seen = { λ n. n };
+
     fn same(&self, other: &u32) -> bool {
         self == other
     }
 }
 
 impl Same for u8 {
+    ghost Seen = { ℕ };
+
+    ghost seen = { λ n. n };
+
     fn same(&self, other: &u8) -> bool {
         self == other
     }
