@@ -8,8 +8,8 @@ ghost use Rattle.bac_responder.specs.Tables.{TableSlot, given, ticked};
 ghost use Rattle.bac_responder.specs.Views.{end_of};
 
 use crate::table::put_back;
-use bac_ends::{Datagram, PeerKey, Settings};
-use bac_server::{Context, Entry};
+use bac_ends::{Context, Datagram, PeerKey, Settings};
+use bac_server::Entry;
 use bac_slots::SlotTable;
 use bac_value::NoMemory;
 use std::alloc::Global;

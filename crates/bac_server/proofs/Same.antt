@@ -11,13 +11,16 @@ module _ (a b : Origin) (s t : code.State) where
       → MatchBool r ((c : ℕ) → state_view c s ≡ state_view c t) ((c : ℕ) → state_view c s ≡ state_view c t → ⊥)
       → IsTrue r ↔ (entry_view a s ≡ entry_view b t)
   by_state true origin states =
-      let choice : a.terms.choice ≡ b.terms.choice = ap (λ (e : Entry). e.choice) (origin Dropped) in
-      (λ _. origin (state_view a.terms.choice s) ∙ ap (λ (z : State). entry_of b z) (states a.terms.choice)
-      ∙ ap (λ (c : ℕ). entry_of b (state_view c t)) choice, λ _. refl)
+      let choice : a.terms.choice ≡ b.terms.choice = ap (λ (e : Entry). e.choice) (origin Dropped) in (
+        λ _. origin (state_view a.terms.choice s) ∙ ap (λ (z : State). entry_of b z) (states a.terms.choice)
+            ∙ ap (λ (c : ℕ). entry_of b (state_view c t)) choice,
+        λ _. refl,
+      )
   by_state false origin differ =
-      let choice : a.terms.choice ≡ b.terms.choice = ap (λ (e : Entry). e.choice) (origin Dropped) in
-      (λ never. absurd cc,
-      λ same. absurd (differ a.terms.choice (ap (λ (e : Entry). e.state) same ∙ ap (λ (c : ℕ). state_view c t) (sym choice))))
+      let choice : a.terms.choice ≡ b.terms.choice = ap (λ (e : Entry). e.choice) (origin Dropped) in (
+        λ never. absurd cc,
+        λ same. absurd (differ a.terms.choice (ap (λ (e : Entry). e.state) same ∙ ap (λ (c : ℕ). state_view c t) (sym choice))),
+      )
 
   pub by_origin : (r : Bool) → r ≡ false
       → MatchBool r ((z : State) → entry_of a z ≡ entry_of b z) ((y z : State) → entry_of a y ≡ entry_of b z → ⊥)

@@ -98,6 +98,10 @@ fn is_same_origin(origin: &Origin, other: &Origin) -> bool
 }
 
 impl Same for Entry {
+    ghost Seen = { machine.Entry };
+
+    ghost seen = { λ e. e };
+
     fn same(&self, other: &Entry) -> bool {
         is_same_origin(&self.origin, &other.origin) && is_same_state(&self.state, &other.state)
     }

@@ -4,17 +4,17 @@ ghost use Rattle.bac_apdu.specs.Views.{apdu_view, limits_view, segment_view};
 ghost use Rattle.bac_protocol.specs.Server as machine;
 ghost use Rattle.bac_server.specs.Reactions.{IdleReacts, BeginsAt, BeginsWhereFree};
 ghost use Rattle.bac_server.specs.Services.{service_of};
-ghost use Rattle.bac_server.specs.Views.{context_view, peer_of};
+ghost use Rattle.bac_ends.specs.Views.{context_view, peer_of};
 
-use crate::context::Context;
 use crate::entry::{Entry, Origin, Terms};
 use crate::performing::commit;
 use crate::preparing::{Prepared, prepare};
 use crate::reaction::{IdleReaction, Reaction};
 use crate::reading::read_whole;
 use crate::segmented_request::take_segment;
-use crate::sending::{OTHER, abort};
 use bac_apdu::{Apdu, Segment};
+use bac_ends::{Context, only_abort};
+use bac_protocol::reasons::OTHER;
 use bac_segment::Incoming;
 use bac_store::Store;
 use bac_value::NoMemory;
@@ -34,7 +34,7 @@ fn request_comes(
     ensures free { BeginsWhereFree free result }
 {
     if !free {
-        let sends = abort(alloc, context, OTHER)?;
+        let sends = only_abort(alloc, context, true, OTHER)?;
         return Ok(IdleReaction::Stays(sends));
     }
     let found = read_whole(alloc, terms.choice, octets)?;
@@ -77,7 +77,7 @@ fn segment_comes(
         return Ok(IdleReaction::Stays(Vec::new(alloc)));
     }
     if !free {
-        let sends = abort(alloc, context, OTHER)?;
+        let sends = only_abort(alloc, context, true, OTHER)?;
         return Ok(IdleReaction::Stays(sends));
     }
     let origin = Origin {

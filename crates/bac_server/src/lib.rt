@@ -6,7 +6,6 @@
 #![tactic(auto)]
 
 mod comparing;
-mod context;
 mod effect;
 mod entry;
 mod idle;
@@ -20,10 +19,8 @@ mod reading;
 mod repeats;
 mod segmented_request;
 mod segmented_response;
-mod sending;
 mod tick;
 
-pub use context::Context;
 pub use effect::Effect;
 pub use entry::Entry;
 pub use idle::idle_gets;

@@ -8,18 +8,18 @@ ghost use Rattle.bac_protocol.specs.Short.{IsShort};
 ghost use Rattle.bac_ends.specs.Sends.{Pairwise, IsSent, to_all};
 ghost use Rattle.bac_server.specs.Reactions.{Reacts};
 ghost use Rattle.bac_server.specs.Services.{service_of};
-ghost use Rattle.bac_server.specs.Views.{context_view, peer_of, entry_of, kept_reply_view};
+ghost use Rattle.bac_ends.specs.Views.{context_view, peer_of};
+ghost use Rattle.bac_server.specs.Views.{entry_of, kept_reply_view};
 
-use crate::context::Context;
 use crate::entry::{Entry, Origin, State};
 use crate::kept_reply::KeptReply;
 use crate::reaction::Reaction;
 use crate::repeats::is_repeated;
 use crate::segmented_request::segmented_request_gets;
 use crate::segmented_response::segmented_response_gets;
-use crate::sending::{OTHER, abort, one};
 use bac_apdu::Apdu;
-use bac_ends::Datagram;
+use bac_ends::{Context, Datagram, only_abort, only_apdu};
+use bac_protocol::reasons::OTHER;
 use bac_store::Store;
 use bac_value::NoMemory;
 use std::alloc::Global;
@@ -48,13 +48,13 @@ fn done_sends(
         return Ok(Vec::new(alloc));
     };
     if is_repeated(origin, segment, choice, service) {
-        one(
+        only_apdu(
             alloc,
             context,
             &kept.as_apdu(invoke_id, origin.terms.choice),
         )
     } else {
-        abort(alloc, context, OTHER)
+        only_abort(alloc, context, true, OTHER)
     }
 }
 
@@ -73,7 +73,7 @@ fn dropped_gets(
         state: State::Dropped,
     };
     let sends = match apdu {
-        Apdu::ConfirmedRequest { .. } => abort(alloc, context, OTHER),
+        Apdu::ConfirmedRequest { .. } => only_abort(alloc, context, true, OTHER),
         _ => Ok(Vec::new(alloc)),
     };
     Reaction::with_sends(entry, sends)

@@ -9,14 +9,15 @@ ghost use Rattle.bac_protocol.specs.Sizes.{reply_way_of, reply_way_in_segments};
 ghost use Rattle.bac_protocol.specs.Sizes.Way.{InSegments};
 ghost use Rattle.bac_protocol.specs.Short.{IsShort};
 ghost use Rattle.bac_server.specs.Preparing.{IsPlaced, IsInOneApdu};
-ghost use Rattle.bac_server.specs.Views.{context_view, peer_of, spelled_view, kept_reply_view, ArePiecesShort};
+ghost use Rattle.bac_ends.specs.Views.{context_view, peer_of};
+ghost use Rattle.bac_ends.specs.Segments.{ArePiecesShort};
+ghost use Rattle.bac_server.specs.Views.{LONGEST_PIECE, spelled_view, kept_reply_view};
 
-use crate::context::Context;
 use crate::entry::{State, Terms, Transfer};
 use crate::kept_reply::{KeptReply, SpelledReply};
-use crate::sending::{BUFFER_OVERFLOW, SEGMENTATION_NOT_SUPPORTED};
 use bac_apdu::{Apdu, Segment};
-use bac_ends::{Datagram, allows_segments, datagram_of, transfer_size};
+use bac_ends::{Context, Datagram, allows_segments, datagram_of, transfer_size};
+use bac_protocol::reasons::{BUFFER_OVERFLOW, SEGMENTATION_NOT_SUPPORTED};
 use bac_segment::Outgoing;
 use bac_value::NoMemory;
 use std::alloc::Global;
@@ -88,7 +89,7 @@ fn transfers(
 ) -> Result<Placed, NoMemory>
     requires some { 0 < length outgoing.pieces }
     requires start { outgoing ≡ outgoing_at outgoing.pieces }
-    requires short { ArePiecesShort outgoing }
+    requires short { ArePiecesShort LONGEST_PIECE outgoing }
     ensures { IfOk result (IsPlaced (context_view context.now) (peer_of context.now) choice (Complex []) (InSegments outgoing.pieces)) }
 {
     let first = piece_apdu(context, choice, &outgoing, 0);
@@ -105,7 +106,7 @@ fn transfers(
 }
 
 /// How service data that do not fit one APDU of that size go.
-#[tactic(auto, using(bac_ends::proofs::Short::short_abort, crate::proofs::Pieces::pieces_short, crate::proofs::Pieces::some_piece))]
+#[tactic(auto, using(bac_ends::proofs::Short::short_abort, bac_ends::proofs::Pieces::pieces_short, bac_ends::proofs::Pieces::some_piece))]
 fn in_segments(
     alloc: Global,
     context: &Context,

@@ -7,16 +7,17 @@ ghost use Rattle.bac_store.specs.Stores.{Store as Objects};
 ghost use Rattle.bac_ends.specs.Sends.{Pairwise, IsSent, to_all};
 ghost use Rattle.bac_server.specs.Reactions.{Reacts};
 ghost use Rattle.bac_server.specs.Segments.{SendsWindow};
-ghost use Rattle.bac_server.specs.Views.{context_view, peer_of, entry_of, transfer_view, ArePiecesShort};
+ghost use Rattle.bac_ends.specs.Views.{context_view, peer_of};
+ghost use Rattle.bac_ends.specs.Segments.{ArePiecesShort};
+ghost use Rattle.bac_server.specs.Views.{LONGEST_PIECE, entry_of, transfer_view};
 
-use crate::context::Context;
 use crate::entry::{Entry, Origin, State, Transfer};
 use crate::placing::piece_apdu;
 use crate::reaction::Reaction;
 use crate::repeats::is_repeated;
-use crate::sending::{OTHER, abort};
 use bac_apdu::{Apdu, Window};
-use bac_ends::{Datagram, datagram_of};
+use bac_ends::{Context, Datagram, datagram_of, only_abort};
+use bac_protocol::reasons::OTHER;
 use bac_segment::{Outgoing, Progress};
 use bac_value::NoMemory;
 use std::alloc::Global;
@@ -29,7 +30,7 @@ pub(crate) fn window_sends(
     choice: u8,
     outgoing: &Outgoing,
 ) -> Result<Vec<Datagram>, NoMemory>
-    requires { ArePiecesShort outgoing.now }
+    requires { ArePiecesShort LONGEST_PIECE outgoing.now }
     ensures { IfOk result (λ v. Pairwise IsSent (to_all (peer_of context.now) (machine.reply_window (context_view context.now) choice outgoing.now)) v.items) }
 {
     let mut sends = Vec::new(alloc);
@@ -49,7 +50,7 @@ fn runs(
     origin: Origin,
     outgoing: Outgoing,
 ) -> Result<Reaction, (Origin, Outgoing)>
-    requires { ArePiecesShort outgoing }
+    requires { ArePiecesShort LONGEST_PIECE outgoing }
     ensures { SendsWindow (λ z. machine.sends_reply_window (context_view context.now) (entry_of origin z) outgoing) (peer_of context.now) origin outgoing result }
 {
     let Ok(sends) = window_sends(alloc, context, origin.terms.choice, &outgoing) else {
@@ -74,7 +75,7 @@ pub(crate) fn with_transfer(
     transfer: Transfer,
     since: u64,
 ) -> Entry
-    requires { ArePiecesShort outgoing }
+    requires { ArePiecesShort LONGEST_PIECE outgoing }
     ensures { result ≡ entry_of origin (SegmentedResponse outgoing (transfer_view transfer) since) }
 {
     Entry {
@@ -96,7 +97,7 @@ fn resume(
     transfer: Transfer,
     since: u64,
 ) -> Result<Reaction, Entry>
-    requires { ArePiecesShort outgoing }
+    requires { ArePiecesShort LONGEST_PIECE outgoing }
     ensures { (s : Objects) → Reacts (machine.resumes (context_view context.now) (entry_of origin (SegmentedResponse outgoing (transfer_view transfer) since)) outgoing
         (transfer_view transfer)) (peer_of context.now) (entry_of origin (SegmentedResponse outgoing (transfer_view transfer) since)) s result s }
 {
@@ -126,7 +127,7 @@ fn ack_comes(
     number: u8,
     window: Window,
 ) -> Result<Reaction, Entry>
-    requires { ArePiecesShort outgoing }
+    requires { ArePiecesShort LONGEST_PIECE outgoing }
     ensures { (s : Objects) → Reacts (machine.segmented_response_gets_ack (context_view context.now)
         (entry_of origin (SegmentedResponse outgoing (transfer_view transfer) since)) outgoing (transfer_view transfer) number window.size)
         (peer_of context.now) (entry_of origin (SegmentedResponse outgoing (transfer_view transfer) since)) s result s }
@@ -165,7 +166,7 @@ pub(crate) fn segmented_response_gets(
     since: u64,
     apdu: &Apdu<'_>,
 ) -> Result<Reaction, Entry>
-    requires { ArePiecesShort outgoing }
+    requires { ArePiecesShort LONGEST_PIECE outgoing }
     ensures { (s : Objects) → Reacts (machine.segmented_response_gets (context_view context.now)
         (entry_of origin (SegmentedResponse outgoing (transfer_view transfer) since)) outgoing (transfer_view transfer) since (apdu_view apdu.now))
         (peer_of context.now) (entry_of origin (SegmentedResponse outgoing (transfer_view transfer) since)) s result s }
@@ -181,7 +182,7 @@ pub(crate) fn segmented_response_gets(
                 return resume(alloc, context, origin, outgoing, transfer, since);
             }
             let entry = with_transfer(origin, outgoing, transfer, since);
-            Reaction::with_sends(entry, abort(alloc, context, OTHER))
+            Reaction::with_sends(entry, only_abort(alloc, context, true, OTHER))
         }
         Apdu::SegmentAck {
             server,

@@ -5,12 +5,13 @@ ghost use Rattle.bac_protocol.specs.Server.State.{SegmentedResponse};
 ghost use Rattle.bac_protocol.specs.Server.Transfer.{Running};
 ghost use Rattle.bac_ends.specs.Ends.{entry_or};
 ghost use Rattle.bac_ends.specs.Sends.{Pairwise, IsSent, to_all};
-ghost use Rattle.bac_server.specs.Views.{context_view, peer_of, entry_of, ArePiecesShort};
+ghost use Rattle.bac_ends.specs.Views.{context_view, peer_of};
+ghost use Rattle.bac_ends.specs.Segments.{ArePiecesShort};
+ghost use Rattle.bac_server.specs.Views.{LONGEST_PIECE, entry_of};
 
-use crate::context::Context;
 use crate::entry::{Entry, Origin, State, Transfer};
 use crate::segmented_response::{window_sends, with_transfer};
-use bac_ends::Datagram;
+use bac_ends::{Context, Datagram};
 use bac_protocol::times::{T_SEG, WAIT_SEG};
 use bac_segment::{Outgoing, Timeout};
 use bac_value::NoMemory;
@@ -18,7 +19,7 @@ use std::alloc::Global;
 
 /// An entry whose transfer runs, after a tick.
 fn after_timer(context: &Context, origin: Origin, mut outgoing: Outgoing, since: u64) -> Entry
-    requires { ArePiecesShort outgoing }
+    requires { ArePiecesShort LONGEST_PIECE outgoing }
     ensures { result ≡ entry_or (entry_of origin (SegmentedResponse outgoing Running since)) (segmented_response_ticks (context_view context.now)
         (entry_of origin (SegmentedResponse outgoing Running since)) outgoing Running since).entry }
 {

@@ -2,7 +2,7 @@
 use Rattle.std.proofs.Common.{ap}
 use Rattle.bac_apdu.specs.Views.{apdu_view}
 use Rattle.bac_server.specs.Services.{service_of}
-use Rattle.bac_server.specs.Views.{context_view, peer_of}
+use Rattle.bac_ends.specs.Views.{context_view, peer_of}
 use Rattle.bac_server.proofs.Begun.{idle_begins_now}
 use Rattle.bac_server.proofs.idle.idle_gets.Goals as goal
 

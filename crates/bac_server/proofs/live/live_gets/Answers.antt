@@ -5,7 +5,8 @@ use Rattle.bac_protocol.specs.Server.{Entry, live_gets}
 use Rattle.bac_protocol.specs.Server.State.{Dropped, SegmentedResponse}
 use Rattle.bac_server.specs.Reactions.{Reacts}
 use Rattle.bac_server.specs.Services.{service_of}
-use Rattle.bac_server.specs.Views.{context_view, peer_of, entry_of, entry_view, transfer_view}
+use Rattle.bac_ends.specs.Views.{context_view, peer_of}
+use Rattle.bac_server.specs.Views.{entry_of, entry_view, transfer_view}
 use Rattle.bac_server.proofs.live.live_gets.Goals as goal
 
 pub returns-in-Dropped : goal.returns-in-Dropped
