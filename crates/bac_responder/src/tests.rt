@@ -14,6 +14,7 @@ use std::test::Fail;
 mod memory;
 mod replies;
 mod requests;
+mod states;
 mod tables;
 
 type Indexed = Responder<IndexSlots<PeerKey, Entry>>;
@@ -44,42 +45,25 @@ struct Server {
     store: Store,
 }
 
-/// What comes to a server: an APDU of a client, or a tick where it has no octets; the first octets of all APDUs that are sent, and whether a request is
-/// performed.
-struct Row {
-    moment: u64,
-    client: u8,
-    heard: &'static str,
-    sent: &'static str,
-    performed: bool,
-}
-
-const fn row(
-    moment: u64,
-    client: u8,
-    heard: &'static str,
-    sent: &'static str,
-    performed: bool,
-) -> Row {
-    Row {
-        moment,
-        client,
-        heard,
-        sent,
-        performed,
-    }
-}
+/// What comes to a server, and what comes of it: the moment, the client, its APDU (no octets: a tick), the first octets of all APDUs that are sent, and
+/// whether a request is performed.
+type Row = (u64, u8, &'static str, &'static str, bool);
 
 impl Server {
-    fn new(alloc: Global, slots: usize) -> Result<Server, NoMemory> {
+    fn new(alloc: Global, slots: usize, window: Window) -> Result<Server, NoMemory> {
         let store = house(alloc)?;
-        Server::with_store(alloc, slots, store)
+        Server::with_store(alloc, slots, window, store)
     }
 
-    fn with_store(alloc: Global, slots: usize, store: Store) -> Result<Server, NoMemory> {
+    fn with_store(
+        alloc: Global,
+        slots: usize,
+        window: Window,
+        store: Store,
+    ) -> Result<Server, NoMemory> {
         let settings = Settings {
             limits: LIMITS,
-            window: WINDOW,
+            window,
         };
         let end = Responder::new(alloc, settings, slots)?;
         Ok(Server { end, store })
@@ -107,14 +91,15 @@ impl Server {
 
     /// What a row's APDU or tick makes it do.
     fn meets(&mut self, alloc: Global, row: &Row) -> Result<(Vec<Datagram>, bool), NoMemory> {
-        let octets = octets_of(alloc, row.heard)?;
+        let (moment, client, heard, _, _) = *row;
+        let octets = octets_of(alloc, heard)?;
         match read(&octets) {
-            Ok(apdu) => self.hears(alloc, row.moment, row.client, &apdu),
-            Err(_) => Ok((self.ticks(alloc, row.moment)?, false)),
+            Ok(apdu) => self.hears(alloc, moment, client, &apdu),
+            Err(_) => Ok((self.ticks(alloc, moment)?, false)),
         }
     }
 
-    /// Whether it does what each row says, one after the other; `head` is how many octets of each APDU are compared.
+    /// It does what each row says, one after the other; `head` is how many octets of each APDU are compared.
     fn plays(
         &mut self,
         rt: &impl Abort,
@@ -125,8 +110,8 @@ impl Server {
         for row in rows {
             let (sends, performed) = self.meets(alloc, row)?;
             let told = heads(alloc, &sends, head)?;
-            assert!(rt; told == octets_of(alloc, row.sent)?, "{} {}", row.moment, row.heard);
-            assert!(rt; performed == row.performed, "{} {}", row.moment, row.heard);
+            let wanted = octets_of(alloc, row.3)?;
+            assert!(rt; told == wanted && performed == row.4, "{} {}", row.0, row.2);
         }
         Ok(())
     }

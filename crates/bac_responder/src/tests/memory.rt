@@ -18,29 +18,29 @@ const SECOND: &str = "3800012006 070707070707070707070707070707070707070707 0F";
 /// A read that comes twice, another one, a request in segments that come again and out of order, one that is given up, and a reply in segments that are
 /// sent again until their transfer stops and that is resumed.
 const ROWS: &[Row] = &[
-    row(0, 2, "0005000C 0C00000005 1955", "30000C 0C00000005 1955 3E 444290999A 3F", true),
-    row(0, 2, "0005000C 0C00000005 1955", "30000C 0C00000005 1955 3E 444290999A 3F", false),
-    row(0, 2, "0005000C 0C00800001 1955", "710000", false),
-    row(0, 3, SEGMENT_0, "41000020", false),
-    row(0, 3, SEGMENT_0, "43000020", false),
-    row(0, 3, SEGMENT_1, "41000120 3000070902", true),
-    row(0, 3, SEGMENT_1, "3000070902", false),
-    row(0, 4, SEGMENT_0, "41000020", false),
-    row(8_000, 4, "", "", false),
-    row(8_000, 4, SEGMENT_1, "710000", false),
-    row(8_000, 5, WRITE, "3000070900", true),
-    row(8_000, 6, READ, FIRST, true),
-    row(8_001, 6, "40000020", SECOND, false),
-    row(10_001, 6, "", SECOND, false),
-    row(12_001, 6, "", SECOND, false),
-    row(14_001, 6, "", SECOND, false),
-    row(16_001, 6, "", "", false),
-    row(16_001, 6, READ, SECOND, false),
+    (0, 2, "0005000C 0C00000005 1955", "30000C 0C00000005 1955 3E 444290999A 3F", true),
+    (0, 2, "0005000C 0C00000005 1955", "30000C 0C00000005 1955 3E 444290999A 3F", false),
+    (0, 2, "0005000C 0C00800001 1955", "710000", false),
+    (0, 3, SEGMENT_0, "41000020", false),
+    (0, 3, SEGMENT_0, "43000020", false),
+    (0, 3, SEGMENT_1, "41000120 3000070902", true),
+    (0, 3, SEGMENT_1, "3000070902", false),
+    (0, 4, SEGMENT_0, "41000020", false),
+    (8_000, 4, "", "", false),
+    (8_000, 4, SEGMENT_1, "710000", false),
+    (8_000, 5, WRITE, "3000070900", true),
+    (8_000, 6, READ, FIRST, true),
+    (8_001, 6, "40000020", SECOND, false),
+    (10_001, 6, "", SECOND, false),
+    (12_001, 6, "", SECOND, false),
+    (14_001, 6, "", SECOND, false),
+    (16_001, 6, "", "", false),
+    (16_001, 6, READ, SECOND, false),
 ];
 
 /// A server to which these rows came.
 fn after(alloc: Global, rows: &[Row]) -> Result<Server, NoMemory> {
-    let mut server = Server::new(alloc, 64)?;
+    let mut server = Server::new(alloc, 64, WINDOW)?;
     for row in rows {
         let _ = server.meets(alloc, row)?;
     }
@@ -55,9 +55,9 @@ fn is_same(server: &Server, other: &Server) -> bool {
 #[test]
 fn rows_with_refused_memory(rt: HostRuntime) -> Result<(), Fail> {
     let alloc = rt.alloc();
-    let mut server = match Server::new(alloc, 64) {
+    let mut server = match Server::new(alloc, 64, WINDOW) {
         Ok(server) => server,
-        Err(_) => Server::new(alloc, 64)?,
+        Err(_) => Server::new(alloc, 64, WINDOW)?,
     };
     for (n, row) in ROWS.iter().enumerate() {
         let (sends, performed) = match server.meets(alloc, row) {
@@ -72,11 +72,11 @@ fn rows_with_refused_memory(rt: HostRuntime) -> Result<(), Fail> {
             Ok(told) => told,
             Err(_) => heads(alloc, &sends, 50)?,
         };
-        let wanted = match octets_of(alloc, row.sent) {
+        let wanted = match octets_of(alloc, row.3) {
             Ok(wanted) => wanted,
-            Err(_) => octets_of(alloc, row.sent)?,
+            Err(_) => octets_of(alloc, row.3)?,
         };
-        assert!(rt; told == wanted && performed == row.performed, "{n}");
+        assert!(rt; told == wanted && performed == row.4, "{n}");
     }
     Ok(())
 }
@@ -90,7 +90,7 @@ fn servers_that_are_the_same(rt: HostRuntime) -> Result<(), Fail> {
         let mut server = after(alloc, rows)?;
         assert!(rt; is_same(&server, &after(alloc, rows)?), "{n}");
         if let Some(row) = ROWS.get(n) {
-            if row.performed {
+            if row.4 {
                 let _ = server.meets(alloc, row)?;
                 assert!(rt; !is_same(&server, &after(alloc, rows)?), "{n}");
             }

@@ -52,7 +52,7 @@ fn sends_window(
 ) -> Result<bool, NoMemory> {
     let (sends, performed) = server.meets(alloc, &event)?;
     let told = heads(alloc, &sends, 5)?;
-    Ok(told == window(alloc, from, to)? && performed == event.performed)
+    Ok(told == window(alloc, from, to)? && performed == event.4)
 }
 
 /// A description of 4,000 octets goes in 90 segments. One segment is lost: the window is sent from it on, three times more by ticks; then the transfer
@@ -60,8 +60,8 @@ fn sends_window(
 #[test]
 fn reply_in_90_segments(rt: HostRuntime) -> Result<(), Fail> {
     const REFUSED: &[Row] = &[
-        row(0, 2, "0005000C 0C00000007 191C", "710004", false),
-        row(0, 3, "0215000C 0C00000007 191C", "710001", false),
+        (0, 2, "0005000C 0C00000007 191C", "710004", false),
+        (0, 3, "0215000C 0C00000007 191C", "710001", false),
     ];
     const READ: &str = "0270000C 0C00000007 191C";
     const LATER: &[(u64, &str, u8, u8, bool)] = &[
@@ -78,15 +78,15 @@ fn reply_in_90_segments(rt: HostRuntime) -> Result<(), Fail> {
         (10_000, "", 0, 0, false),
         (10_000, READ, 41, 73, false),
     ];
-    const LAST: &[Row] = &[row(10_001, 4, "40005920", "", false), row(10_002, 4, READ, "", false)];
+    const LAST: &[Row] = &[(10_001, 4, "40005920", "", false), (10_002, 4, READ, "", false)];
     let alloc = rt.alloc();
-    let mut server = Server::with_store(alloc, 64, described(alloc, 4_000)?)?;
+    let mut server = Server::with_store(alloc, 64, WINDOW, described(alloc, 4_000)?)?;
     server.plays(&rt, alloc, REFUSED, 50)?;
     for (moment, heard, from, to, performed) in LATER {
-        let event = row(*moment, 4, *heard, "", *performed);
+        let event = (*moment, 4, *heard, "", *performed);
         assert!(rt; sends_window(alloc, &mut server, event, *from, *to)?, "{moment} {heard}");
     }
-    let (sends, _) = server.meets(alloc, &row(10_000, 4, "40004820", "", false))?;
+    let (sends, _) = server.meets(alloc, &(10_000, 4, "40004820", "", false))?;
     assert!(rt; sends.len() == 17);
     for datagram in sends.iter().skip(16) {
         assert!(rt; datagram.octets().len() == 13 + FRAME);
@@ -107,14 +107,14 @@ fn replies_at_their_limits(rt: HostRuntime) -> Result<(), Fail> {
     ];
     let alloc = rt.alloc();
     for (count, heard, head, len) in READS {
-        let mut server = Server::with_store(alloc, 64, described(alloc, *count)?)?;
-        let (sends, _) = server.meets(alloc, &row(0, 2, *heard, "", true))?;
+        let mut server = Server::with_store(alloc, 64, WINDOW, described(alloc, *count)?)?;
+        let (sends, _) = server.meets(alloc, &(0, 2, *heard, "", true))?;
         let head = octets_of(alloc, *head)?;
         assert!(rt; heads(alloc, &sends, head.len())? == head, "{count} {heard}");
         for datagram in &sends {
             assert!(rt; datagram.octets().len() == *len + FRAME, "{count} {heard}");
         }
-        let (rest, _) = server.meets(alloc, &row(0, 2, "40000020", "", false))?;
+        let (rest, _) = server.meets(alloc, &(0, 2, "40000020", "", false))?;
         let segments = *len == 50 && head.len() == 5;
         assert!(rt; rest.len() == segments as usize, "{count} {heard}");
     }
@@ -125,11 +125,11 @@ fn replies_at_their_limits(rt: HostRuntime) -> Result<(), Fail> {
 #[test]
 fn order_of_a_tick(rt: HostRuntime) -> Result<(), Fail> {
     const ROWS: &[Row] = &[
-        row(0, 3, "0270000C 0C00000007 191C", "3C0000200C", true),
-        row(0, 2, "0270000C 0C00000007 191C", "3C0000200C", true),
+        (0, 3, "0270000C 0C00000007 191C", "3C0000200C", true),
+        (0, 2, "0270000C 0C00000007 191C", "3C0000200C", true),
     ];
     let alloc = rt.alloc();
-    let mut server = Server::with_store(alloc, 4, described(alloc, 4_000)?)?;
+    let mut server = Server::with_store(alloc, 4, WINDOW, described(alloc, 4_000)?)?;
     server.plays(&rt, alloc, ROWS, 5)?;
     assert!(rt; server.ticks(alloc, 1_999)?.is_empty());
     let due = server.ticks(alloc, 2_000)?;

@@ -18,15 +18,15 @@ const DONE: &str = "3000070900";
 #[test]
 fn request_in_three_segments(rt: HostRuntime) -> Result<(), Fail> {
     const ROWS: &[Row] = &[
-        row(0, 2, SEGMENT_0, "41000020", false),
-        row(0, 2, SEGMENT_1, "", false),
-        row(0, 2, SEGMENT_2, LAST, true),
-        row(2_000, 2, SEGMENT_1, DONE, false),
-        row(2_000, 2, SEGMENT_2, DONE, false),
-        row(3_000, 2, SEGMENT_0, DONE, false),
+        (0, 2, SEGMENT_0, "41000020", false),
+        (0, 2, SEGMENT_1, "", false),
+        (0, 2, SEGMENT_2, LAST, true),
+        (2_000, 2, SEGMENT_1, DONE, false),
+        (2_000, 2, SEGMENT_2, DONE, false),
+        (3_000, 2, SEGMENT_0, DONE, false),
     ];
     let alloc = rt.alloc();
-    let mut server = Server::new(alloc, 64)?;
+    let mut server = Server::new(alloc, 64, WINDOW)?;
     server.plays(&rt, alloc, ROWS, 50)?;
     Ok(())
 }
@@ -35,15 +35,15 @@ fn request_in_three_segments(rt: HostRuntime) -> Result<(), Fail> {
 #[test]
 fn segments_out_of_order(rt: HostRuntime) -> Result<(), Fail> {
     const ROWS: &[Row] = &[
-        row(0, 2, SEGMENT_0, "41000020", false),
-        row(0, 2, SEGMENT_2, "43000020", false),
-        row(0, 2, SEGMENT_2, "43000020", false),
-        row(0, 2, SEGMENT_1, "", false),
-        row(0, 2, SEGMENT_1, "43000120", false),
-        row(0, 2, SEGMENT_2, LAST, true),
+        (0, 2, SEGMENT_0, "41000020", false),
+        (0, 2, SEGMENT_2, "43000020", false),
+        (0, 2, SEGMENT_2, "43000020", false),
+        (0, 2, SEGMENT_1, "", false),
+        (0, 2, SEGMENT_1, "43000120", false),
+        (0, 2, SEGMENT_2, LAST, true),
     ];
     let alloc = rt.alloc();
-    let mut server = Server::new(alloc, 64)?;
+    let mut server = Server::new(alloc, 64, WINDOW)?;
     server.plays(&rt, alloc, ROWS, 50)?;
     Ok(())
 }
@@ -52,18 +52,18 @@ fn segments_out_of_order(rt: HostRuntime) -> Result<(), Fail> {
 #[test]
 fn segments_that_come_late(rt: HostRuntime) -> Result<(), Fail> {
     const ROWS: &[Row] = &[
-        row(0, 2, SEGMENT_0, "41000020", false),
-        row(7_999, 2, SEGMENT_1, "", false),
-        row(7_999, 2, SEGMENT_2, LAST, true),
-        row(0, 3, SEGMENT_0, "41000020", false),
-        row(8_000, 3, SEGMENT_1, "710000", false),
-        row(8_000, 3, SEGMENT_2, "710000", false),
-        row(8_000, 4, SEGMENT_0, "41000020", false),
-        row(8_000, 4, "700000", "", false),
-        row(8_000, 4, SEGMENT_1, "710000", false),
+        (0, 2, SEGMENT_0, "41000020", false),
+        (7_999, 2, SEGMENT_1, "", false),
+        (7_999, 2, SEGMENT_2, LAST, true),
+        (0, 3, SEGMENT_0, "41000020", false),
+        (8_000, 3, SEGMENT_1, "710000", false),
+        (8_000, 3, SEGMENT_2, "710000", false),
+        (8_000, 4, SEGMENT_0, "41000020", false),
+        (8_000, 4, "700000", "", false),
+        (8_000, 4, SEGMENT_1, "710000", false),
     ];
     let alloc = rt.alloc();
-    let mut server = Server::new(alloc, 64)?;
+    let mut server = Server::new(alloc, 64, WINDOW)?;
     server.plays(&rt, alloc, ROWS, 50)?;
     Ok(())
 }
@@ -90,7 +90,7 @@ fn writes(alloc: Global, tag: &str, count: usize) -> Result<(Vec<u8>, bool), NoM
     let octets = vec![in alloc; 7u8; count]?;
     service.extend_from_slice(&octets)?;
     service.push(0x0F)?;
-    let mut server = Server::new(alloc, 64)?;
+    let mut server = Server::new(alloc, 64, WINDOW)?;
     let mut rest = service.as_slice();
     let mut last = (Vec::new(alloc), false);
     for number in 0..45 {
@@ -117,7 +117,7 @@ fn longest_requests(rt: HostRuntime) -> Result<(), Fail> {
 #[test]
 fn most_segments(rt: HostRuntime) -> Result<(), Fail> {
     let alloc = rt.alloc();
-    let mut server = Server::new(alloc, 64)?;
+    let mut server = Server::new(alloc, 64, WINDOW)?;
     for number in 0..65_535 {
         let (_, performed) = server.hears(alloc, 0, 2, &segment_of(&[7], number, 0))?;
         assert!(rt; !performed);

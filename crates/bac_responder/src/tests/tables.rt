@@ -16,8 +16,8 @@ const ANSWER_1: &str = "30010C 0C00000005 1955 3E 444290999A 3F";
 #[test]
 fn read_of_one_datagram(rt: HostRuntime) -> Result<(), Fail> {
     let alloc = rt.alloc();
-    let mut server = Server::new(alloc, 64)?;
-    let (sends, performed) = server.meets(alloc, &row(0, 2, READ_1, "", true))?;
+    let mut server = Server::new(alloc, 64, WINDOW)?;
+    let (sends, performed) = server.meets(alloc, &(0, 2, READ_1, "", true))?;
     assert!(rt; performed);
     let frame = octets_of(alloc, "810A0017 0100 30010C 0C00000005 1955 3E 444290999A 3F")?;
     for datagram in &sends {
@@ -32,16 +32,16 @@ fn read_of_one_datagram(rt: HostRuntime) -> Result<(), Fail> {
 #[test]
 fn table_of_one_slot(rt: HostRuntime) -> Result<(), Fail> {
     const ROWS: &[Row] = &[
-        row(0, 2, READ, ANSWER, true),
-        row(0, 3, READ, "710000", false),
-        row(0, 2, READ, ANSWER, false),
-        row(65_000, 3, READ_1, "710100", false),
-        row(65_000, 2, READ, ANSWER, false),
-        row(65_001, 3, "0005020C 0C00000005 1955", "30020C 0C00000005 1955 3E 444290999A 3F", true),
-        row(65_001, 2, READ, "710000", false),
+        (0, 2, READ, ANSWER, true),
+        (0, 3, READ, "710000", false),
+        (0, 2, READ, ANSWER, false),
+        (65_000, 3, READ_1, "710100", false),
+        (65_000, 2, READ, ANSWER, false),
+        (65_001, 3, "0005020C 0C00000005 1955", "30020C 0C00000005 1955 3E 444290999A 3F", true),
+        (65_001, 2, READ, "710000", false),
     ];
     let alloc = rt.alloc();
-    let mut server = Server::new(alloc, 1)?;
+    let mut server = Server::new(alloc, 1, WINDOW)?;
     server.plays(&rt, alloc, ROWS, 50)?;
     Ok(())
 }
@@ -50,13 +50,13 @@ fn table_of_one_slot(rt: HostRuntime) -> Result<(), Fail> {
 #[test]
 fn another_request_with_the_invoke_id(rt: HostRuntime) -> Result<(), Fail> {
     const ROWS: &[Row] = &[
-        row(0, 2, READ_1, ANSWER_1, true),
-        row(1, 2, "0005010C 0C00800001 1955", "710100", false),
-        row(1, 3, READ_1, ANSWER_1, true),
-        row(2, 2, READ_1, ANSWER_1, false),
+        (0, 2, READ_1, ANSWER_1, true),
+        (1, 2, "0005010C 0C00800001 1955", "710100", false),
+        (1, 3, READ_1, ANSWER_1, true),
+        (2, 2, READ_1, ANSWER_1, false),
     ];
     let alloc = rt.alloc();
-    let mut server = Server::new(alloc, 64)?;
+    let mut server = Server::new(alloc, 64, WINDOW)?;
     server.plays(&rt, alloc, ROWS, 50)?;
     Ok(())
 }
@@ -65,7 +65,7 @@ fn another_request_with_the_invoke_id(rt: HostRuntime) -> Result<(), Fail> {
 #[test]
 fn slots_for_1024_clients(rt: HostRuntime) -> Result<(), Fail> {
     let alloc = rt.alloc();
-    let mut server = Server::new(alloc, 1_024)?;
+    let mut server = Server::new(alloc, 1_024, WINDOW)?;
     let octets = octets_of(alloc, READ_1)?;
     let Ok(apdu) = read(&octets) else {
         return Err(Fail::from("no APDU"));
