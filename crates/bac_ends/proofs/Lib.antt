@@ -5,3 +5,8 @@ pub mod Keyed
 pub mod Computed
 pub mod KeyOrder
 pub mod Holding
+pub mod KeyedSlots
+pub mod Entries
+pub mod ClientTables
+pub mod ServerTables
+pub mod TurnedAway

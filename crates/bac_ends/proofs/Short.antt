@@ -1,5 +1,5 @@
 -- What an end sends is short enough for a frame.
-use Rattle.std.proofs.Common.{◌≡◌, ℕ, ◌+◌, ◌≤◌, Bool, true, false, List, ◌∷◌, [], ◌++◌, length, Option, Some, None, arith, length-append, ◌/◌, ◌%◌, nat_lt}
+use Rattle.std.proofs.Common.{ℕ, ◌≤◌, Bool, true, false, List, ◌∷◌, [], length, Some, None, arith, length-append, ◌/◌, ◌%◌, nat_lt}
 use Rattle.std.proofs.Common.{if◌then◌else◌}
 use Rattle.std.specs.Int.{w16, w32, to_be_bytes}
 use Rattle.bac_apdu.specs.Apdu.{Apdu, Segment, Limits, Acknowledgement}

@@ -4,5 +4,6 @@ pub mod Sends
 pub mod Ends
 pub mod Views
 pub mod Segments
+pub mod Tables
 pub mod Meanings
 pub mod Examples

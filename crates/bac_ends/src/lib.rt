@@ -20,7 +20,10 @@ pub use answering::{only, only_abort, only_ack, only_apdu, step_acks};
 pub use context::Context;
 pub use datagram::{Datagram, datagram_of};
 pub use invoke_id::invoke_id_of;
-pub use laws::{keys_in_order, slots_are_held_as_tickets};
+pub use laws::{
+    asks_take_the_least_invoke_id, client_tables_stay_in_order, full_tables_turn_requests_away,
+    keys_in_order, server_tables_stay_in_order, slots_are_held_as_tickets,
+};
 pub use peer_key::PeerKey;
 pub use settings::Settings;
 pub use short_sending::{abort_datagram, ack_datagram};

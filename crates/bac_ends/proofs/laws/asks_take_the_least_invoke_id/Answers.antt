@@ -1,0 +1,9 @@
+-- The least invoke ID is taken, and refusals have their reasons.
+use Rattle.bac_ends.proofs.ClientTables.{takes_least_free, refuses_asks}
+use Rattle.bac_ends.proofs.laws.asks_take_the_least_invoke_id.Goals as goal
+
+pub returns-clause-least : goal.returns-clause-least
+returns-clause-least c = takes_least_free
+
+pub returns-clause-refused : goal.returns-clause-refused
+returns-clause-refused c = refuses_asks

@@ -1,0 +1,140 @@
+-- What each call of an end keeps of its table. Each record here is proved as a law.
+use Rattle.std.specs.Prelude.{◌≡◌, ℕ, ◌<◌, ◌≤◌, ◌⊎◌, ◌↔◌, Bool, true, false, List, [], ◌∷◌, length, Option, Some, None}
+use Rattle.std.specs.Option.{option_map}
+use Rattle.bac_apdu.specs.Apdu.{Apdu, Limits}
+use Rattle.bac_apdu.specs.Apdu.Apdu.{ConfirmedRequest, Abort}
+use Rattle.bac_npdu.specs.Peers.{PeerView}
+use Rattle.bac_slots.specs.declared.slot.Slot.{Slot}
+use Rattle.bac_slots.specs.Slots.{value_at, keep, IsDistinct}
+use Rattle.bac_protocol.specs.Context.{Settings}
+use Rattle.bac_protocol.specs.Own.{invoke_id_of}
+use Rattle.bac_protocol.specs.Sizes.{Way, RequestFault, request_way_of}
+use Rattle.bac_protocol.specs.Sizes.Way.{InOne, InSegments, Refused}
+use Rattle.bac_protocol.specs.Service.{Octets, Readable, OTHER}
+use Rattle.bac_protocol.specs.Server.{Service, Entry, is_live, is_none_live, server_ticks}
+use Rattle.bac_ends.specs.Keys.{PeerKey, same_key}
+use Rattle.bac_ends.specs.Sends.{to_peer}
+use Rattle.bac_ends.specs.Ends.{Client, ClientSlot, ClientEnd, Accepted, AskRefusal, AskOutcome, ServerEnd, ServerTurn}
+use Rattle.bac_ends.specs.Ends.{is_held, is_id_held, has_no_slot, context_of, key_of, held_ticked, entry_or, is_free}
+use Rattle.bac_ends.specs.Ends.{client_hears, clients_tick, client_asks, server_hears, servers_tick}
+
+-- a table in order: no two slots have one key, and there are no more than it can have
+pub record IsOrderly (T : Type 0) (slots : List (Slot PeerKey T)) (capacity : ℕ) : Type 0 where
+  pub distinct : IsDistinct same_key slots
+  pub within : length slots ≤ capacity
+
+-- The client's end (clause 5.4.4).
+
+abbrev pub IsOrderlyClient : ClientEnd → Type 0
+IsOrderlyClient e = IsOrderly Client e.slots e.capacity
+
+-- a client's table stays in order, whatever comes, is due or is asked
+pub record ClientStaysOrderly : Type 0 where
+  pub hears : (c : Settings) (readable : Readable) (now : ℕ) (peer : PeerView) (a : Apdu) (e : ClientEnd) → IsOrderlyClient e
+      → IsOrderlyClient (client_hears c readable now peer a e).end
+  pub ticks : (c : Settings) (now : ℕ) (e : ClientEnd) → IsOrderlyClient e → IsOrderlyClient (clients_tick c now e).end
+  pub asks : (c : Settings) (now : ℕ) (peer : PeerView) (limits : Limits) (choice : ℕ) (octets : Octets) (e : ClientEnd) (x : Accepted)
+      → client_asks c now peer limits choice octets e ≡ AskOutcome.Asked x → IsOrderlyClient e → IsOrderlyClient x.end
+
+-- a slot after a tick, where there is one
+abbrev pub client_ticked_at : Settings → (now : ℕ) → PeerKey → Option Client → Option Client
+client_ticked_at c now q o = option_map (λ (s : Client). held_ticked (context_of c now q) s.number s.held) o
+
+-- an APDU touches the slot of its key alone; on a tick each slot goes on by itself; an ask lets all held slots as they are, and the others go
+pub record ClientOthersStay : Type 0 where
+  pub hears : (c : Settings) (readable : Readable) (now : ℕ) (peer : PeerView) (a : Apdu) (e : ClientEnd) (q : PeerKey)
+      → same_key (key_of peer a) q ≡ false → value_at same_key q (client_hears c readable now peer a e).end.slots ≡ value_at same_key q e.slots
+  pub ticks : (c : Settings) (now : ℕ) (e : ClientEnd) (q : PeerKey)
+      → value_at same_key q (clients_tick c now e).end.slots ≡ client_ticked_at c now q (value_at same_key q e.slots)
+  pub asks : (c : Settings) (now : ℕ) (peer : PeerView) (limits : Limits) (choice : ℕ) (octets : Octets) (e : ClientEnd) (x : Accepted) (q : PeerKey)
+      → client_asks c now peer limits choice octets e ≡ AskOutcome.Asked x → IsDistinct same_key e.slots
+      → same_key (record { peer = peer; invoke_id = x.invoke_id }) q ≡ false
+      → value_at same_key q x.end.slots ≡ keep (λ (s : Client). is_held now s.held) (value_at same_key q e.slots)
+
+-- the least invoke ID that is not held for the peer
+pub record IsLeastFree (now : ℕ) (slots : List ClientSlot) (peer : PeerView) (invoke_id : ℕ) : Type 0 where
+  pub octet : invoke_id < 256
+  pub free : is_id_held now slots peer invoke_id ≡ false
+  pub least : (n : ℕ) → n < invoke_id → is_id_held now slots peer n ≡ true
+
+-- an accepted ask has that one (clause 5.4.1: no two transactions of one pair of peers have one invoke ID at a time)
+abbrev pub TakesLeastFree : Type 0
+TakesLeastFree =
+    (c : Settings) (now : ℕ) (peer : PeerView) (limits : Limits) (choice : ℕ) (octets : Octets) (e : ClientEnd) (x : Accepted)
+    → client_asks c now peer limits choice octets e ≡ AskOutcome.Asked x → IsLeastFree now e.slots peer x.invoke_id
+
+abbrev pub CanGo : Way RequestFault → Type 0
+CanGo InOne = Unit {0}
+CanGo (InSegments pieces) = Unit {0}
+CanGo (Refused why) = ⊥
+
+-- all 256 invoke IDs are held for the peer
+abbrev pub AllHeld : (now : ℕ) → List ClientSlot → PeerView → Type 0
+AllHeld now slots peer = (n : ℕ) → n < 256 → is_id_held now slots peer n ≡ true
+
+-- one of them is not
+abbrev pub OneFree : (now : ℕ) → List ClientSlot → PeerView → Type 0
+OneFree now slots peer = (n : ℕ) × (n < 256) × (is_id_held now slots peer n ≡ false)
+
+-- when an ask is refused, and why: its request can't go; it can, but all invoke IDs of the peer are held; or one is free, but no slot
+pub record RefusesAsks (c : Settings) (now : ℕ) (peer : PeerView) (limits : Limits) (choice : ℕ) (octets : Octets) (e : ClientEnd) : Type 0 where
+  pub cannot_go : (why : RequestFault)
+      → (client_asks c now peer limits choice octets e ≡ AskOutcome.Refused (AskRefusal.CannotGo why)) ↔ (request_way_of c limits octets ≡ Refused why)
+  pub no_invoke_id : (client_asks c now peer limits choice octets e ≡ AskOutcome.Refused AskRefusal.NoInvokeId)
+      ↔ (CanGo (request_way_of c limits octets) × AllHeld now e.slots peer)
+  pub no_slot : (client_asks c now peer limits choice octets e ≡ AskOutcome.Refused AskRefusal.NoSlot)
+      ↔ (CanGo (request_way_of c limits octets) × OneFree now e.slots peer × (has_no_slot now e ≡ true))
+
+-- The server's end (clause 5.4.5).
+
+abbrev pub IsOrderlyServer : ServerEnd → Type 0
+IsOrderlyServer e = IsOrderly Entry e.slots e.capacity
+
+-- a reply table stays in order, whatever comes or is due
+pub record ServerStaysOrderly : Type 0 where
+  pub hears : (c : Settings) (now : ℕ) (service : Service) (peer : PeerView) (a : Apdu) (e : ServerEnd) → IsOrderlyServer e
+      → IsOrderlyServer (server_hears c now service peer a e).end
+  pub ticks : (c : Settings) (now : ℕ) (e : ServerEnd) → IsOrderlyServer e → IsOrderlyServer (servers_tick c now e).end
+
+-- what is there stays, or fails the test and may go
+abbrev pub StaysOrGoes : {T : Type 0} → (T → Bool) → (old new : Option T) → Type 0
+StaysOrGoes test old new = (new ≡ old) ⊎ (new ≡ keep test old)
+
+-- an entry after a tick, where there is one
+abbrev pub server_ticked_at : Settings → (now : ℕ) → PeerKey → Option Entry → Option Entry
+server_ticked_at c now q o = option_map (λ (x : Entry). entry_or x (server_ticks (context_of c now q) (Some x)).entry) o
+
+-- an APDU touches the entry of its key alone, and one that is not live may go; on a tick each entry goes on by itself
+pub record ServerOthersStay : Type 0 where
+  pub hears : (c : Settings) (now : ℕ) (service : Service) (peer : PeerView) (a : Apdu) (e : ServerEnd) (q : PeerKey)
+      → IsDistinct same_key e.slots → same_key (key_of peer a) q ≡ false
+      → StaysOrGoes (is_live now) (value_at same_key q e.slots) (value_at same_key q (server_hears c now service peer a e).end.slots)
+  pub ticks : (c : Settings) (now : ℕ) (e : ServerEnd) (q : PeerKey)
+      → value_at same_key q (servers_tick c now e).end.slots ≡ server_ticked_at c now q (value_at same_key q e.slots)
+
+-- an APDU that begins a request: one without SEG, or its segment 0
+abbrev pub BeginsRequest : Apdu → Type 0
+BeginsRequest (ConfirmedRequest limits invoke_id None choice octets) = Unit {0}
+BeginsRequest (ConfirmedRequest limits invoke_id (Some segment) choice octets) = segment.number ≡ 0
+BeginsRequest _ = ⊥
+
+-- the Abort with reason 'other' is sent, nothing is performed, and the table is as it was
+pub record IsTurnedAway (peer : PeerView) (a : Apdu) (e : ServerEnd) (turn : ServerTurn) : Type 0 where
+  pub end : turn.end ≡ e
+  pub sends : turn.sends ≡ to_peer peer (Abort true (invoke_id_of a) OTHER) ∷ []
+  pub act : turn.act ≡ None
+
+-- a server that can have so many more or fewer entries does the same
+pub record IsWithoutCapacity (one other : ServerTurn) : Type 0 where
+  pub slots : other.end.slots ≡ one.end.slots
+  pub sends : other.sends ≡ one.sends
+  pub act : other.act ≡ one.act
+
+-- a request that finds no live entry of its key is turned away exactly where no slot is free; one that finds a live entry never looks at that
+pub record TurnsAway : Type 0 where
+  pub full : (c : Settings) (now : ℕ) (service : Service) (peer : PeerView) (a : Apdu) (e : ServerEnd) → BeginsRequest a
+      → is_none_live now (value_at same_key (key_of peer a) e.slots) ≡ true
+      → (IsTurnedAway peer a e (server_hears c now service peer a e) ↔ (is_free now e ≡ false))
+  pub live : (c : Settings) (now : ℕ) (service : Service) (peer : PeerView) (a : Apdu) (e : ServerEnd) (capacity : ℕ)
+      → is_none_live now (value_at same_key (key_of peer a) e.slots) ≡ false
+      → IsWithoutCapacity (server_hears c now service peer a e) (server_hears c now service peer a (record e { capacity = capacity }))

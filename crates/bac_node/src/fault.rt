@@ -1,0 +1,68 @@
+//! Why a call of a node is refused.
+ghost use Rattle.std.specs.Prelude.{◌≡◌};
+ghost use Rattle.bac_node.specs.Faults.{fault_number, new_fault_number};
+ghost use Rattle.bac_node.specs.declared.fault.NewNodeFault.TheVariants as new_fault;
+ghost use Rattle.bac_node.specs.declared.fault.NodeFault.TheVariants as fault;
+
+use bac_value::NoMemory;
+
+/// Why a node was not made. They are tested in this order.
+#[derive(Clone, Copy, Debug, PartialEq, Eq)]
+pub enum NewNodeFault {
+    /// A number of slots is not 1 to 1,024.
+    BadSlots,
+    /// The window is not 1 to 64.
+    BadWindow,
+    /// Memory was refused.
+    NoMemory,
+}
+
+impl NewNodeFault {
+    /// The number of the fault (own numbers of this profile): 1 `BadSlots`, 2 `NoMemory`, 3 `BadWindow`.
+    pub fn number(self) -> u8
+        ensures { result ≡ new_fault_number self }
+    {
+        match self {
+            NewNodeFault::BadSlots => 1,
+            NewNodeFault::NoMemory => 2,
+            NewNodeFault::BadWindow => 3,
+        }
+    }
+}
+
+impl From<NoMemory> for NewNodeFault {
+    ghost from_gives = { λ _ e. e ≡ new_fault.NoMemory };
+
+    fn from(_error: NoMemory) -> NewNodeFault {
+        NewNodeFault::NoMemory
+    }
+}
+
+/// Why a call did nothing: the node is as before, its latest moment too.
+#[derive(Clone, Copy, Debug, PartialEq, Eq)]
+pub enum NodeFault {
+    /// The moment is before the latest one that the node was told. Tested first.
+    ClockBack,
+    /// Memory was refused.
+    NoMemory,
+}
+
+impl NodeFault {
+    /// The number of the fault (own numbers of this profile): 1 `ClockBack`, 2 `NoMemory`.
+    pub fn number(self) -> u8
+        ensures { result ≡ fault_number self }
+    {
+        match self {
+            NodeFault::ClockBack => 1,
+            NodeFault::NoMemory => 2,
+        }
+    }
+}
+
+impl From<NoMemory> for NodeFault {
+    ghost from_gives = { λ _ e. e ≡ fault.NoMemory };
+
+    fn from(_error: NoMemory) -> NodeFault {
+        NodeFault::NoMemory
+    }
+}

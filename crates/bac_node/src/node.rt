@@ -1,0 +1,277 @@
+//! A node.
+ghost use Rattle.std.specs.Prelude.{◌≡◌, ◌↔◌, ◌<◌, ◌≤◌, [], true, false, map, IfOk, IsErrOf, IsSome, IfSome, IsTrue, OnErr, MatchOption, vec_capacity};
+ghost use Rattle.bac_apdu.specs.Views.{apdu_view};
+ghost use Rattle.bac_npdu.specs.Views.{peer_view};
+ghost use Rattle.bac_ends.specs.Views.{settings_view};
+ghost use Rattle.bac_requester.specs.Views.{finish_view, finishes_of};
+ghost use Rattle.bac_world.specs.Node.{NodeOn, NodeTick, IsHeardBy, dropped_for};
+ghost use Rattle.bac_node.specs.Calls.{Hears, IsDue, IsNotHeard, ticked};
+ghost use Rattle.bac_node.specs.Fresh.{fresh_node, has_slots, slots_fit, window_fits};
+ghost use Rattle.bac_node.specs.Views.{cause_view, outcome_view, settings_of};
+
+use crate::cause::Cause;
+use crate::config::Config;
+use crate::fault::{NewNodeFault, NodeFault};
+use crate::hearing::{heard, is_from_client};
+use crate::outcome::Outcome;
+use bac_apdu::{Apdu, Window};
+use bac_ends::{PeerKey, Settings};
+use bac_npdu::Peer;
+use bac_requester::{Client, Due, Finish, Requester, Turn};
+use bac_responder::{Responder, Served};
+use bac_server::Entry;
+use bac_slots::IndexSlots;
+use bac_store::Store;
+use bac_value::NoMemory;
+use std::alloc::Global;
+use std::marker::Model;
+
+/// A node: its link, what it is set to, the latest moment that it was told, both its ends and its store.
+#[derive(Drop)]
+pub struct Node {
+    alloc: Global,
+    link: [u8; 6],
+    settings: Settings,
+    latest: u64,
+    clients: Requester<IndexSlots<PeerKey, Client>>,
+    servers: Responder<IndexSlots<PeerKey, Entry>>,
+    store: Store,
+}
+
+impl Model for Node {
+    ghost use Rattle.bac_world.specs.Node as world;
+
+    ghost Value = { world.Node };
+
+    ghost use Rattle.bac_ends.specs.Views.{settings_view};
+    ghost use Rattle.bac_node.specs.Fresh.{AreOneNode, node_of};
+
+    ghost view = { λ n. node_of n.link (settings_view n.settings) n.latest n.clients n.servers n.store };
+
+    ghost invariant = { λ n. AreOneNode n.link (settings_view n.settings) n.clients n.servers };
+}
+
+/// Whether a table may have so many slots.
+fn slots_fit(slots: usize) -> bool
+    ensures { result ≡ slots_fit slots }
+{
+    slots >= 1 && slots <= 1_024
+}
+
+/// What a node is set to; None where its window is not 1 to 64.
+fn settings_of(config: &Config) -> Option<Settings>
+    ensures some { IsSome result ↔ (window_fits config.now.window ≡ true) }
+    ensures same { IfSome result (λ s. settings_view s ≡ settings_of config.now) }
+{
+    if config.window > 64 {
+        return None;
+    }
+    let window = Window::new(config.window)?;
+    Some(Settings {
+        limits: config.limits,
+        window,
+    })
+}
+
+/// Nothing is sent, performed or ended: a datagram is dropped. It takes no memory.
+fn dropped(alloc: Global, cause: Cause) -> Outcome
+    ensures { outcome_view result ≡ dropped_for (cause_view cause) }
+{
+    Outcome {
+        sends: Vec::new(alloc),
+        effect: None,
+        ended: Vec::new(alloc),
+        dropped: Some(cause),
+    }
+}
+
+/// The ticket that has ended, if one has, in a vector with room for it.
+fn with_ended(room: Vec<Finish>, finish: Option<Finish>) -> Vec<Finish>
+    requires empty { room.items ≡ [] }
+    requires room { 1 ≤ vec_capacity room }
+    ensures { map finish_view result.items ≡ finishes_of finish }
+{
+    let mut ended = room;
+    if let Some(finish) = finish {
+        ended.push_reserved(finish);
+    }
+    ended
+}
+
+impl Node {
+    /// A node to which nothing has happened, with that store.
+    pub fn new(alloc: Global, config: Config, store: Store) -> Result<Node, NewNodeFault>
+        ensures fresh { IfOk result (λ n. n ≡ fresh_node config store) }
+        ensures slots { IsErrOf result NewNodeFault.BadSlots ↔ (has_slots config ≡ false) }
+        ensures window { IsErrOf result NewNodeFault.BadWindow ↔ ((has_slots config ≡ true) × (window_fits config.window ≡ false)) }
+    {
+        if !slots_fit(config.client_slots) || !slots_fit(config.reply_slots) {
+            return Err(NewNodeFault::BadSlots);
+        }
+        let Some(settings) = settings_of(&config) else {
+            return Err(NewNodeFault::BadWindow);
+        };
+        let clients = Requester::new(alloc, config.link, settings, config.client_slots)?;
+        let servers = Responder::new(alloc, settings, config.reply_slots)?;
+        Ok(Node {
+            alloc,
+            link: config.link,
+            settings,
+            latest: 0,
+            clients,
+            servers,
+            store,
+        })
+    }
+
+    /// The node's own link: four octets of IPv4 address and two of UDP port (clause J.1.2).
+    pub fn link(&self) -> [u8; 6]
+        ensures { result ≡ self.now.link }
+    {
+        self.link
+    }
+
+    /// The latest moment that it was told, in milliseconds; 0 at first.
+    pub fn latest(&self) -> u64
+        ensures { result ≡ self.now.latest }
+    {
+        self.latest
+    }
+
+    /// What it is set to.
+    pub fn settings(&self) -> Settings
+        ensures { settings_view result ≡ self.now.settings }
+    {
+        self.settings
+    }
+
+    /// Its store.
+    pub fn store(&self) -> &Store
+        ensures { result.now ≡ self.now.store }
+    {
+        &self.store
+    }
+
+    /// Whether a moment is before the latest one.
+    fn is_before(&self, now: u64) -> bool
+        ensures { IsTrue result ↔ (now < self.now.latest) }
+    {
+        now < self.latest
+    }
+
+    /// A datagram comes from a link, at a moment in milliseconds.
+    ///
+    /// One that comes from the node's own link or means no APDU of a peer is dropped: it changes the latest moment alone, and takes no memory.
+    /// `ClockBack` exactly where the moment is before the latest one. After an Err the node is as before.
+    pub fn on(&mut self, now: u64, from: [u8; 6], octets: &[u8]) -> Result<Outcome, NodeFault>
+        ensures went { IfOk result (λ o. NodeOn now from octets.now self.old self.new (outcome_view o)) }
+        ensures early { IsErrOf result NodeFault.ClockBack ↔ (now < self.old.latest) }
+        ensures dropped { IsNotHeard self.old.link from octets.now → IsErrOf result NodeFault.NoMemory → ⊥ }
+        ensures err { OnErr result (self.new ≡ self.old) }
+    {
+        if self.is_before(now) {
+            return Err(NodeFault::ClockBack);
+        }
+        match heard(self.link, from, octets) {
+            Err(cause) => {
+                self.latest = now;
+                Ok(dropped(self.alloc, cause))
+            }
+            Ok((peer, apdu)) => Ok(self.hears(now, &peer, &apdu)?),
+        }
+    }
+
+    /// An APDU of a peer is heard, by the server's end where a client sends such, by the client's end otherwise.
+    fn hears(&mut self, now: u64, peer: &Peer, apdu: &Apdu<'_>) -> Result<Outcome, NoMemory>
+        ensures { Hears now (peer_view peer.now) (apdu_view apdu.now) self.old result self.new }
+    {
+        if is_from_client(apdu) {
+            self.server_hears(now, peer, apdu)
+        } else {
+            self.client_hears(now, peer, apdu)
+        }
+    }
+
+    /// The server's end takes its turn.
+    fn server_hears(&mut self, now: u64, peer: &Peer, apdu: &Apdu<'_>) -> Result<Outcome, NoMemory>
+        ensures heard { IfOk result (λ o. IsHeardBy true (peer_view peer.now) (apdu_view apdu.now) now self.old self.new (outcome_view o)) }
+        ensures err { OnErr result (self.new ≡ self.old) }
+    {
+        let Served { sends, act } = self
+            .servers
+            .on(self.alloc, now, peer, apdu, &mut self.store)?;
+        self.latest = now;
+        Ok(Outcome {
+            sends,
+            effect: act,
+            ended: Vec::new(self.alloc),
+            dropped: None,
+        })
+    }
+
+    /// The client's end takes its turn. The room for an ending is taken first.
+    fn client_hears(&mut self, now: u64, peer: &Peer, apdu: &Apdu<'_>) -> Result<Outcome, NoMemory>
+        ensures heard { IfOk result (λ o. IsHeardBy false (peer_view peer.now) (apdu_view apdu.now) now self.old self.new (outcome_view o)) }
+        ensures err { OnErr result (self.new ≡ self.old) }
+    {
+        let room = Vec::with_capacity(self.alloc, 1)?;
+        let Turn { sends, ended } = self.clients.on(now, peer, apdu)?;
+        self.latest = now;
+        Ok(Outcome {
+            sends,
+            effect: None,
+            ended: with_ended(room, ended),
+            dropped: None,
+        })
+    }
+
+    /// A tick at a moment in milliseconds: all that is due, of the client's end first, and then of the server's, each in ascending order of peer and
+    /// invoke ID, once for each.
+    ///
+    /// `ClockBack` exactly where the moment is before the latest one. After an Err the node is as before.
+    pub fn tick(&mut self, now: u64) -> Result<Outcome, NodeFault>
+        ensures went { IfOk result (λ o. NodeTick now self.old self.new (outcome_view o)) }
+        ensures early { IsErrOf result NodeFault.ClockBack ↔ (now < self.old.latest) }
+        ensures err { OnErr result (self.new ≡ self.old) }
+    {
+        let outcome = self.prepare_tick(now)?;
+        self.commit_tick(now);
+        Ok(outcome)
+    }
+
+    /// What comes of a tick at that moment, which `commit_tick` makes. Nothing changes.
+    pub fn prepare_tick(&self, now: u64) -> Result<Outcome, NodeFault>
+        ensures due { IfOk result (λ o. NodeTick now self.now (ticked now self.now) (outcome_view o)) }
+        ensures early { IsErrOf result NodeFault.ClockBack ↔ (now < self.now.latest) }
+    {
+        if self.is_before(now) {
+            return Err(NodeFault::ClockBack);
+        }
+        let Due { sends, ended } = self.due(now)?;
+        Ok(Outcome {
+            sends,
+            effect: None,
+            ended,
+            dropped: None,
+        })
+    }
+
+    /// What a tick sends and ends: of both ends, joined.
+    fn due(&self, now: u64) -> Result<Due, NoMemory>
+        ensures { IfOk result (IsDue now self.now) }
+    {
+        let Due { mut sends, ended } = self.clients.prepare_tick(now)?;
+        let mut more = self.servers.prepare_tick(self.alloc, now)?;
+        sends.append(&mut more)?;
+        Ok(Due { sends, ended })
+    }
+
+    /// The node after a tick, of which `prepare_tick` says what comes. It takes no memory.
+    pub fn commit_tick(&mut self, now: u64)
+        ensures { self.new ≡ ticked now self.old }
+    {
+        self.clients.commit_tick(now);
+        self.servers.commit_tick(now);
+        self.latest = now;
+    }
+}

@@ -1,0 +1,5 @@
+pub mod Lines
+pub mod Reading
+pub mod Requests
+pub mod Views
+pub mod Words

@@ -1,0 +1,16 @@
+-- From each type in code to its plain value.
+use Rattle.bac_service.specs.Views.{owned_request_view}
+use Rattle.bac_script.specs.Lines as plain
+use Rattle.bac_script.specs.declared.line.Setting.{Setting}
+use Rattle.bac_script.specs.declared.line.Step.{Step}
+use Rattle.bac_script.specs.declared.line.Step.TheVariants as code
+
+abbrev pub setting_view : Setting → plain.Setting
+setting_view s = record { nodes = s.nodes; window = s.window; overtake = s.overtake }
+
+abbrev pub step_view : Step → plain.Step
+step_view (code.Ask a) = plain.Step.Ask a.client a.server (owned_request_view a.request)
+step_view (code.Deliver copy) = plain.Step.Deliver copy
+step_view (code.Noise n) = plain.Step.Noise n.node n.octets.items
+step_view (code.Tick node) = plain.Step.Tick node
+step_view (code.Advance by) = plain.Step.Advance by

@@ -1,0 +1,16 @@
+//! Words: the lines of a script, and the words of a request, as `bac simulate` and `bac ask` take them.
+#![tactic(auto)]
+
+mod form_fault;
+mod line;
+mod line_reading;
+mod request_reading;
+mod words;
+
+pub use form_fault::FormFault;
+pub use line::{Ask, Noise, Setting, Step};
+pub use line_reading::{read_setting, read_step};
+pub use request_reading::read_request_words;
+
+#[cfg(test)]
+mod tests;

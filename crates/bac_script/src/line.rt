@@ -1,0 +1,48 @@
+//! What the lines of a script say.
+use bac_service::OwnedRequest;
+
+/// What the first line of a script sets.
+#[derive(Clone, Copy, Debug, PartialEq, Eq)]
+pub struct Setting {
+    /// How many nodes there are, 1 to 16.
+    pub nodes: u8,
+    /// The greatest window of each node, in segments: 1 to 64 (clause 5.3).
+    pub window: u8,
+    /// How many later copies of its transaction may overtake a copy before it counts as lost. With twice the window it is at most 255.
+    pub overtake: u8,
+}
+
+/// A node is to ask another one.
+#[derive(Debug, Drop)]
+pub struct Ask {
+    /// The number of the node that asks, from 0 on.
+    pub client: u64,
+    /// The number of the node that is asked.
+    pub server: u64,
+    /// What it is asked.
+    pub request: OwnedRequest,
+}
+
+/// Octets come to a node from a link of no node.
+#[derive(Debug, Drop)]
+pub struct Noise {
+    /// The number of the node.
+    pub node: u64,
+    /// The octets.
+    pub octets: Vec<u8>,
+}
+
+/// What a line after the first one says.
+#[derive(Debug, Drop)]
+pub enum Step {
+    /// A node asks another one.
+    Ask(Ask),
+    /// The copy of that number, from 0 on, is delivered.
+    Deliver(u64),
+    /// Octets come to a node.
+    Noise(Noise),
+    /// The node of that number looks at its timers.
+    Tick(u64),
+    /// So many milliseconds pass.
+    Advance(u64),
+}

@@ -1,0 +1,193 @@
+//! Requests in words.
+ghost use Rattle.std.specs.Prelude.{◌≡◌, map};
+ghost use Rattle.std.specs.Option.{option_map};
+ghost use Rattle.bac_value.specs.Views.{object_identifier_view};
+ghost use Rattle.bac_service.specs.Views.{owned_request_view, property_reference_view};
+ghost use Rattle.bac_script.specs.Reading.{Reads};
+ghost use Rattle.bac_script.specs.Words.{object_of};
+ghost use Rattle.bac_script.specs.Requests.{data_in, content_in, reference_of, read_of, write_of, written_at, append_of, put_of, get_of, one_more, two_more, request_of};
+
+use crate::form_fault::FormFault;
+use crate::words::{number_in, number_up_to, object_in, octets_in, position_in};
+use bac_service::{
+    AnyRequest, OwnedRequest, PropertyReference, ReadAccess, ReadFile, WriteAccess, WriteFile,
+    WriteProperty, WriteStream,
+};
+use bac_value::{DataBuf, ObjectIdentifier, OctetString, take_data};
+use std::alloc::Global;
+
+/// A property of an object, not of one element alone.
+#[tactic(auto, unfolding(crate::specs::Requests::reference_of))]
+fn reference_in(object: ObjectIdentifier, word: &[u8]) -> Result<PropertyReference, FormFault>
+    ensures { Reads property_reference_view result (reference_of (object_identifier_view object) word.now) }
+{
+    let Some(number) = number_up_to(u64::from(u32::MAX), word) else {
+        return Err(FormFault::NoForm);
+    };
+    Ok(PropertyReference {
+        object,
+        property: number as u32,
+        index: None,
+    })
+}
+
+/// Octets that spell data as a whole.
+fn data_of(octets: Vec<u8>) -> Result<DataBuf, FormFault>
+    ensures { Reads (λ d. d.octets.items) result (data_in octets.items) }
+{
+    match take_data(octets.as_slice()) {
+        Ok(taken) if taken.1.is_empty() => Ok(DataBuf { octets }),
+        _ => Err(FormFault::NoForm),
+    }
+}
+
+/// Octets for a file.
+fn content_of(octets: Vec<u8>) -> Result<OctetString, FormFault>
+    ensures { Reads (λ s. s.octets.items) result (content_in octets.items) }
+{
+    match OctetString::new(octets) {
+        Some(content) => Ok(content),
+        None => Err(FormFault::NoForm),
+    }
+}
+
+#[tactic(auto, unfolding(crate::specs::Requests::read_of))]
+fn read(object: ObjectIdentifier, property: &[u8]) -> Result<OwnedRequest, FormFault>
+    ensures { Reads owned_request_view result (read_of (object_identifier_view object) property.now) }
+{
+    let reference = reference_in(object, property)?;
+    Ok(AnyRequest::ReadProperty(reference))
+}
+
+#[tactic(auto, unfolding(crate::specs::Requests::write_of))]
+fn write(
+    alloc: Global,
+    object: ObjectIdentifier,
+    property: &[u8],
+    values: &[u8],
+) -> Result<OwnedRequest, FormFault>
+    ensures { Reads owned_request_view result (write_of (object_identifier_view object) property.now values.now) }
+{
+    let reference = reference_in(object, property)?;
+    let octets = octets_in(alloc, values)?;
+    let values = data_of(octets)?;
+    Ok(AnyRequest::WriteProperty(WriteProperty {
+        reference,
+        values,
+        priority: None,
+    }))
+}
+
+/// Octets are written to a file from a position on; position -1 appends.
+#[tactic(auto, unfolding(crate::specs::Requests::written_at))]
+fn write_at(
+    alloc: Global,
+    file: ObjectIdentifier,
+    start: i64,
+    content: &[u8],
+) -> Result<OwnedRequest, FormFault>
+    ensures { Reads owned_request_view result (written_at (object_identifier_view file) start content.now) }
+{
+    let octets = octets_in(alloc, content)?;
+    let content = content_of(octets)?;
+    let access = WriteAccess::Stream(WriteStream { start, content });
+    Ok(AnyRequest::WriteFile(WriteFile { file, access }))
+}
+
+fn append(alloc: Global, file: ObjectIdentifier, content: &[u8]) -> Result<OwnedRequest, FormFault>
+    ensures { Reads owned_request_view result (append_of (object_identifier_view file) content.now) }
+{
+    write_at(alloc, file, -1, content)
+}
+
+fn put(
+    alloc: Global,
+    file: ObjectIdentifier,
+    start: &[u8],
+    content: &[u8],
+) -> Result<OwnedRequest, FormFault>
+    ensures { Reads owned_request_view result (put_of (object_identifier_view file) start.now content.now) }
+{
+    let Some(start) = position_in(start) else {
+        return Err(FormFault::NoForm);
+    };
+    write_at(alloc, file, start, content)
+}
+
+#[tactic(auto, unfolding(crate::specs::Requests::get_of))]
+fn get(file: ObjectIdentifier, start: &[u8], count: &[u8]) -> Result<OwnedRequest, FormFault>
+    ensures { Reads owned_request_view result (get_of (object_identifier_view file) start.now count.now) }
+{
+    let Some(start) = position_in(start) else {
+        return Err(FormFault::NoForm);
+    };
+    let Some(count) = number_in(count) else {
+        return Err(FormFault::NoForm);
+    };
+    let access = ReadAccess::Stream { start, count };
+    Ok(AnyRequest::ReadFile(ReadFile { file, access }))
+}
+
+/// With one word after the object.
+#[tactic(auto, unfolding(crate::specs::Requests::one_more))]
+fn with_one(
+    alloc: Global,
+    verb: &[u8],
+    object: ObjectIdentifier,
+    a: &[u8],
+) -> Result<OwnedRequest, FormFault>
+    ensures { Reads owned_request_view result (one_more verb.now (object_identifier_view object) a.now) }
+{
+    if verb == b"read".as_slice() {
+        read(object, a)
+    } else if verb == b"append".as_slice() {
+        append(alloc, object, a)
+    } else {
+        Err(FormFault::NoForm)
+    }
+}
+
+/// With two words after the object.
+#[tactic(auto, unfolding(crate::specs::Requests::two_more))]
+fn with_two(
+    alloc: Global,
+    verb: &[u8],
+    object: ObjectIdentifier,
+    a: &[u8],
+    b: &[u8],
+) -> Result<OwnedRequest, FormFault>
+    ensures { Reads owned_request_view result (two_more verb.now (object_identifier_view object) a.now b.now) }
+{
+    if verb == b"write".as_slice() {
+        write(alloc, object, a, b)
+    } else if verb == b"put".as_slice() {
+        put(alloc, object, a, b)
+    } else if verb == b"get".as_slice() {
+        get(object, a, b)
+    } else {
+        Err(FormFault::NoForm)
+    }
+}
+
+fn object_or_fault(word: &[u8]) -> Result<ObjectIdentifier, FormFault>
+    ensures { Reads object_identifier_view result (object_of word.now) }
+{
+    match object_in(word) {
+        Some(object) => Ok(object),
+        None => Err(FormFault::NoForm),
+    }
+}
+
+/// The request that some words are: `read T:I P`, `write T:I P HEX`, `append T:I HEX`, `put T:I POSITION HEX` or `get T:I POSITION COUNT`.
+///
+/// `T:I` is an object's type and instance, `P` a property's number, `HEX` octets in hexadecimal (for `write` data, for the others octets of a file).
+/// `NoForm` where they are none of these or a number is outside its range.
+pub fn read_request_words(alloc: Global, words: &[&[u8]]) -> Result<OwnedRequest, FormFault>
+    ensures { Reads owned_request_view result (request_of (map (λ w. w.now) words.now)) }
+{
+    match words {
+        [verb, object, a] => with_one(alloc, *verb, object_or_fault(*object)?, *a),
+        [verb, object, a, b] => with_two(alloc, *verb, object_or_fault(*object)?, *a, *b),
+        _ => Err(FormFault::NoForm),
+    }
+}
