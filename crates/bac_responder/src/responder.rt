@@ -1,10 +1,9 @@
 //! The server's end.
-ghost use Rattle.std.specs.Prelude.{◌≡◌, ◌≤◌, ◌↔◌, [], length, count_by, IfOk, IsTrue};
+ghost use Rattle.std.specs.Prelude.{◌≡◌, ◌≤◌, ◌↔◌, [], count_by, IfOk, IsTrue};
 ghost use Rattle.bac_apdu.specs.Views.{apdu_view};
 ghost use Rattle.bac_npdu.specs.Views.{peer_view};
-ghost use Rattle.bac_slots.specs.Slots.{IsDistinct};
 ghost use Rattle.bac_ends.specs.Ends.{is_slot_live, server_hears, servers_tick};
-ghost use Rattle.bac_ends.specs.Keys.{same_key};
+ghost use Rattle.bac_ends.specs.Tables.{IsOrderlyServer};
 ghost use Rattle.bac_ends.specs.Sends.{Pairwise, IsSent};
 ghost use Rattle.bac_ends.specs.Views.{settings_view};
 ghost use Rattle.bac_server.specs.Services.{service_of};
@@ -55,8 +54,7 @@ impl<S: SlotTable<PeerKey, Entry> + Drop> Responder<S> {
     pub fn live(&self, moment: u64) -> usize
         ensures number { result ≡ count_by (is_slot_live moment) self.now.end.slots }
         ensures within { result ≤ self.now.end.capacity }
-        ensures slots { length self.now.end.slots ≤ self.now.end.capacity }
-        ensures apart { IsDistinct same_key self.now.end.slots }
+        ensures orderly { IsOrderlyServer self.now.end }
     {
         let _len = self.table.len();
         count_passing(&self.table, &LiveAt { moment })

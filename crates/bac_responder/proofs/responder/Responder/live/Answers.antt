@@ -1,6 +1,8 @@
--- The table tells its keys apart.
-use Rattle.bac_responder.proofs.Sweeps.{distinct_viewed}
+-- A table's slots are in order.
+use Rattle.bac_responder.proofs.Sweeps.{orderly_viewed}
 use Rattle.bac_responder.proofs.responder.Responder.live.Goals as goal
 
-pub returns-clause-apart : goal.returns-clause-apart
-returns-clause-apart g c = rw (← c.self.view_is) (distinct_viewed (g.S.SlotTable.slots c.self.inside.table) c.len-len.ensures.distinct)
+pub returns-clause-orderly : goal.returns-clause-orderly
+returns-clause-orderly g c =
+    rw (← c.self.view_is) (orderly_viewed (g.S.SlotTable.slots c.self.inside.table) _ c.len-len.result c.len-len.ensures.distinct c.len-len.ensures.number
+    c.len-len.ensures.within)
