@@ -39,7 +39,11 @@ impl Ticket {
     ) -> Result<Begun, NoMemory>
         ensures { IfOk result (IsBegun context.now (ask_at context.now.moment request)) }
     {
-        let OutgoingRequest { choice, whole, outgoing } = request;
+        let OutgoingRequest {
+            choice,
+            whole,
+            outgoing,
+        } = request;
         let (sends, phase) = if whole {
             let sends = whole_request(alloc, context, choice, outgoing.octets())?;
             (sends, Phase::AwaitConfirmation)

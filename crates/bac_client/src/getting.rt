@@ -72,7 +72,9 @@ impl Ticket {
                 };
                 await_confirmation_gets(alloc, context, ticket, apdu)
             }
-            Phase::SegmentedConf { incoming } => segmented_conf_gets(alloc, context, core, incoming, apdu),
+            Phase::SegmentedConf { incoming } => segmented_conf_gets(
+                alloc, context, core, incoming, apdu,
+            ),
         }
     }
 }

@@ -45,11 +45,7 @@ pub enum RequestWay {
 impl RequestWay {
     /// The way of a request whose service data have so many octets (clause 5.2): in one APDU where they and 4 octets fit it, otherwise in segments.
     /// The sizes are those of a node that is set so, and of a peer that takes so much.
-    pub fn of(
-        settings: &Settings,
-        peer: &Limits,
-        len: usize,
-    ) -> Result<RequestWay, RequestFault>
+    pub fn of(settings: &Settings, peer: &Limits, len: usize) -> Result<RequestWay, RequestFault>
         ensures is { (octets : List ℕ) → length octets ≡ len
             → request_way_of (settings_view settings.now) (limits_view peer.now) octets ≡ way_view octets result }
         ensures fits { IfOk result (λ way. IsWayFor way len) }

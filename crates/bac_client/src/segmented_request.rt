@@ -46,7 +46,10 @@ fn gets_segment_ack(
         (acknowledged context.now.settings.window.size core.outgoing number granted.size)) result }
 {
     let was = core.outgoing.position();
-    match core.outgoing.on_ack(number, granted, context.settings.window) {
+    match core
+        .outgoing
+        .on_ack(number, granted, context.settings.window)
+    {
         Progress::Ignored => {
             let phase = Phase::SegmentedRequest { all_sent };
             Ok(stays(alloc, context, Ticket { core, phase }))

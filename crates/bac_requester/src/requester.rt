@@ -97,7 +97,7 @@ impl<S: SlotTable<PeerKey, Client> + Drop> Requester<S> {
             → SpellsRequest (choice_of (owned_request_view request.now)) (owned_request_view request.now) (request_spelling (owned_request_view request.now)) }
         ensures asks { (peer.now.link ≡ self.old.link → ⊥)
             → Asks (client_asks self.old.settings now (peer_view peer.now) (limits_view limits.now) (choice_of (owned_request_view request.now))
-                (request_spelling (owned_request_view request.now)) self.old.end) self.old result self.new }
+            (request_spelling (owned_request_view request.now)) self.old.end) self.old result self.new }
         ensures same { peer.now.link ≡ self.old.link → self.new ≡ self.old }
     {
         if peer.link == self.link {

@@ -103,9 +103,8 @@ fn octets_of(alloc: Global, text: &str) -> Result<Vec<u8>, NoMemory> {
 fn end_of(how: &Ending) -> End {
     match how {
         Ending::Answered(AnyReply::Simple) => End::Simple,
-        Ending::Answered(AnyReply::Complex(AnyComplex::FileWritten(FileWritten::Stream(start)))) => {
-            End::Written(*start)
-        }
+        Ending::Answered(AnyReply::Complex(AnyComplex::FileWritten(FileWritten::Stream(start)))) =>
+            { End::Written(*start) }
         Ending::Answered(AnyReply::Complex(_)) => End::Complex,
         Ending::Answered(AnyReply::Error { class, code }) => End::Error(*class, *code),
         Ending::Answered(AnyReply::Reject(reason)) => End::Rejected(*reason),

@@ -34,20 +34,11 @@ fn sizes_of_requests(rt: HostRuntime) -> Result<(), Fail> {
         max_segments: 1,
     };
     assert_eq!(rt; fault(&none, 46), None);
-    assert_eq!(rt;
-        fault(&none, 47),
-        Some(RequestFault::NeedsSegments)
-    );
+    assert_eq!(rt; fault(&none, 47), Some(RequestFault::NeedsSegments));
     assert_eq!(rt; fault(&two, 88), None);
-    assert_eq!(rt;
-        fault(&two, 89),
-        Some(RequestFault::NeedsSegments)
-    );
+    assert_eq!(rt; fault(&two, 89), Some(RequestFault::NeedsSegments));
     assert_eq!(rt; fault(&WIDE, 65_535), None);
-    assert_eq!(rt;
-        fault(&WIDE, 65_536),
-        Some(RequestFault::TooLong)
-    );
+    assert_eq!(rt; fault(&WIDE, 65_536), Some(RequestFault::TooLong));
     Ok(())
 }
 
@@ -68,10 +59,10 @@ fn the_longest_request(rt: HostRuntime) -> Result<(), Fail> {
         number: 0,
         window: Window { size: 127 },
     };
-    let Ok(reacted) = begun.ticket.gets(alloc, &context, &ack) else {
+    let Ok(reaction) = begun.ticket.gets(alloc, &context, &ack) else {
         return Err(Fail::new("out of memory"));
     };
-    assert_eq!(rt; reacted.sends.len(), 44);
+    assert_eq!(rt; reaction.sends.len(), 44);
     Ok(())
 }
 
@@ -97,7 +88,7 @@ fn the_longest_reply(rt: HostRuntime) -> Result<(), Fail> {
     else {
         return Err(Fail::new("out of memory"));
     };
-    let Reacted { held, .. } = first;
+    let Reaction { held, .. } = first;
     let Held::Open(ticket) = held else {
         return Err(Fail::new("it has ended"));
     };

@@ -45,7 +45,12 @@ const PUTS: &[(u8, Takes, usize, End)] = &[
     (2, Takes::All, 65_522, End::Open),
     (2, Takes::OneApdu, 36, End::Refused(AskFault::NeedsSegments)),
     (2, Takes::OneApdu, 35, End::Open),
-    (2, Takes::TwoSegments, 100, End::Refused(AskFault::NeedsSegments)),
+    (
+        2,
+        Takes::TwoSegments,
+        100,
+        End::Refused(AskFault::NeedsSegments),
+    ),
     (2, Takes::TwoSegments, 77, End::Open),
     (2, Takes::FourSegments, 100, End::Open),
 ];
@@ -73,12 +78,7 @@ fn puts(rt: HostRuntime) -> Result<(), Fail> {
 }
 
 /// Asks a peer for a property: the ticket and its invoke ID, or the fault.
-fn reads(
-    end: &mut Indexed,
-    now: u64,
-    n: u8,
-    read: &OwnedRequest,
-) -> Result<(u64, u8), AskFault> {
+fn reads(end: &mut Indexed, now: u64, n: u8, read: &OwnedRequest) -> Result<(u64, u8), AskFault> {
     let asked = end.ask(now, &peer(n), &ONE_APDU, read)?;
     Ok((asked.ticket, asked.invoke_id))
 }
@@ -99,7 +99,10 @@ fn all_invoke_ids(rt: HostRuntime) -> Result<(), Fail> {
     for finish in &due.ended {
         assert!(rt; end_of(&finish.how) == End::Expired);
     }
-    assert_eq!(rt; reads(&mut end, 135_000, 2, &read), Err(AskFault::NoInvokeId));
+    assert_eq!(rt;
+        reads(&mut end, 135_000, 2, &read),
+        Err(AskFault::NoInvokeId)
+    );
     assert_eq!(rt; reads(&mut end, 135_001, 2, &read), Ok((256, 0)));
     Ok(())
 }

@@ -7,7 +7,12 @@ const READ: &str = "810A0011 0104 0275000C 0C00000005 1955";
 
 /// An APDU that comes for a ReadProperty, what is sent, and how it ends.
 const ANSWERS: &[Row<'_>] = &[
-    (1, "30000C 0C00000005 1955 3E 444290999A 3F", "", End::Complex),
+    (
+        1,
+        "30000C 0C00000005 1955 3E 444290999A 3F",
+        "",
+        End::Complex,
+    ),
     // service data that can't be read
     (1, "30000CFF", "810A0009 0100 700000", End::Aborted(0)),
     (1, "50000C 9101 911F", "", End::Error(1, 31)),
@@ -29,7 +34,15 @@ fn answers(rt: HostRuntime) -> Result<(), Fail> {
     }
     let write = request(alloc, 15, "0C00800001 1955 3E 4443340000 3F")?;
     let sent = "810A0018 0104 0275000F 0C00800001 1955 3E 4443340000 3F";
-    assert!(rt; plays(alloc, &LARGE, &write, sent, &[(1, "20000F", "", End::Simple)])?);
+    assert!(rt;
+        plays(
+            alloc,
+            &LARGE,
+            &write,
+            sent,
+            &[(1, "20000F", "", End::Simple)]
+        )?
+    );
     Ok(())
 }
 
@@ -69,7 +82,10 @@ fn come(
     let mut how = End::Open;
     for number in from..to {
         let turn = end.on(0, &peer(2), &segment(reply, number))?;
-        let Turn { sends: mut more, ended } = turn;
+        let Turn {
+            sends: mut more,
+            ended,
+        } = turn;
         sends.append(&mut more)?;
         if let Some(finish) = ended {
             how = end_of(&finish.how);

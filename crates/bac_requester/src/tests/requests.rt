@@ -9,8 +9,11 @@ const READ: &str = "810A0011 0104 0275000C 0C00000005 1955";
 
 /// Service data of 111 octets as segments of 44, 44 and 23.
 const SEGMENT_0: &str = "810A0038 0104 0E7000002007 C402800001 0E 3100 6564 ABAB";
+
 const SEGMENT_2: &str = "810A0023 0104 0A7000022007 ABABABABABABABABABABABAB";
-const SEGMENTS_1_AND_2: &str = "810A0038 0104 0E7000012007 ABABABABABABABABABABABAB 810A0023 0104 0A7000022007 ABABABABABABABABABABABAB";
+
+const SEGMENTS_1_AND_2: &str =
+    "810A0038 0104 0E7000012007 ABABABABABABABABABABABAB 810A0023 0104 0A7000022007 ABABABABABABABABABABABAB";
 
 /// The first answer was lost.
 const SENT_AGAIN: &[Row<'_>] = &[
@@ -23,10 +26,7 @@ const SENT_AGAIN: &[Row<'_>] = &[
 
 const LAST_MOMENT: &[Row<'_>] = &[(60_000, "", APPEND, End::Open)];
 
-const TOO_LATE: &[Row<'_>] = &[
-    (60_001, "", "", End::Expired),
-    (63_001, "", "", End::Open),
-];
+const TOO_LATE: &[Row<'_>] = &[(60_001, "", "", End::Expired), (63_001, "", "", End::Open)];
 
 #[test]
 fn an_append(rt: HostRuntime) -> Result<(), Fail> {
@@ -112,7 +112,12 @@ const WHOLE: &str = "810A0038 0104 02700007 C402800001 0E 3100 6523 ABABABAB";
 
 const IN_TWO: &str = "810A0038 0104 0E7000002007 C402800001 0E 3100 6524 ABAB";
 
-const LAST_3: &[Row<'_>] = &[(0, "41000020", "810A000F 0104 0A7000012007 ABAB0F", End::Open)];
+const LAST_3: &[Row<'_>] = &[(
+    0,
+    "41000020",
+    "810A000F 0104 0A7000012007 ABAB0F",
+    End::Open,
+)];
 
 /// 46 octets of service data go in an APDU of 50; 47 go as 44 and 3.
 #[test]

@@ -20,7 +20,7 @@ returns-clause-asks g c =
     let before : Requester = record { link = c.self.inside.link; settings = s; end = e } in
     let octets : Octets = request_spelling (request_view c.args.request) in
     let is = ap (λ w. asks_by_way s c.args.now (peer_view c.args.peer.now) (choice_of (request_view c.args.request)) octets e w)
-        (c.of.ensures.is octets (sym c.request_len.ensures.len))
+    (c.of.ensures.is octets (sym c.request_len.ensures.len))
     ∙ by_way s c.args.now (peer_view c.args.peer.now) (choice_of (request_view c.args.request)) octets e c.of.result
     ∙ ap (λ r. by_result s c.args.now (peer_view c.args.peer.now) (choice_of (request_view c.args.request)) octets e r) c.in-Ok.is in
     rw (← c.self.view_is) (asked_so before
