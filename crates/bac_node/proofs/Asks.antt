@@ -1,5 +1,5 @@
--- An ask of the client's end is one of the node; nodes that are the same.
-use Rattle.std.proofs.Common.{◌≡◌, ◌≢◌, ℕ, refl, ap, sym, subst, ◌∙◌}
+-- An ask of the client's end is one of the node.
+use Rattle.std.proofs.Common.{◌≡◌, ◌≢◌, ℕ, ap, sym, ◌∙◌}
 use Rattle.bac_apdu.specs.Apdu.{Limits}
 use Rattle.bac_npdu.specs.Peers.{PeerView}
 use Rattle.bac_service.specs.Requests.{SpellsRequest}
@@ -76,13 +76,3 @@ one_after link c r r' v (AskOutcome.Asked a) x one h = record {
   client_set = ap (λ (z : Requester). z.settings) h.end ∙ one.client_set;
   server_set = one.server_set;
 }
-
--- Nodes that are the same.
-
-pub same_so : (l l' : Octets) (c c' : Settings) (t t' : ℕ) (r r' : Requester) (v v' : Serving) (s s' : Store) → AreOneNode l c r v → AreOneNode l' c' r' v'
-    → t ≡ t' → r ≡ r' → v ≡ v' → s ≡ s' → node_of l c t r v s ≡ node_of l' c' t' r' v' s'
-same_so l l' c c' t t' r r' v v' s s' one two e f g h =
-    let link : l ≡ l' = sym one.link_is ∙ ap (λ (z : Requester). z.link) f ∙ two.link_is in
-    let set : c ≡ c' = sym one.client_set ∙ ap (λ (z : Requester). z.settings) f ∙ two.client_set in
-    ap (λ z. node_of z c t r v s) link ∙ ap (λ z. node_of l' z t r v s) set ∙ ap (λ z. node_of l' c' z r v s) e
-    ∙ ap (λ (z : Requester). node_of l' c' t' z v s) f ∙ ap (λ (z : Serving). node_of l' c' t' r' z s) g ∙ ap (λ (z : Store). node_of l' c' t' r' v' z) h

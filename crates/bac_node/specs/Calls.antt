@@ -16,7 +16,6 @@ use Rattle.bac_requester.specs.declared.ask_fault.AskFault.{AskFault}
 use Rattle.bac_requester.specs.declared.ask_fault.AskFault.TheVariants as fault
 use Rattle.bac_requester.specs.declared.asking.Asked.{Asked}
 use Rattle.bac_requester.specs.declared.turn.Due.{Due}
-use Rattle.bac_world.specs.Node as world
 use Rattle.bac_world.specs.Node.{Node, Refusal, IsHeardBy, NodeAsks, NodeRefuses}
 use Rattle.bac_world.specs.Laws.{IsMeaningless}
 use Rattle.bac_node.specs.Views.{outcome_view}

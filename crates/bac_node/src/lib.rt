@@ -15,6 +15,3 @@ pub use config::Config;
 pub use fault::{NewNodeFault, NodeFault};
 pub use node::Node;
 pub use outcome::Outcome;
-
-#[cfg(test)]
-mod tests;

@@ -1,5 +1,5 @@
 -- The client's end was asked.
-use Rattle.std.proofs.Common.{◌≡◌, ◌≢◌, ◌∙◌, ap}
+use Rattle.std.proofs.Common.{◌≢◌, ◌∙◌, ap}
 use Rattle.bac_apdu.specs.Views.{limits_view}
 use Rattle.bac_npdu.specs.Views.{peer_view}
 use Rattle.bac_service.specs.Spellings.{request_spelling}
