@@ -10,9 +10,10 @@ use Rattle.bac_protocol.specs.Server as server
 use Rattle.bac_protocol.specs.Server.{Entry, Reaction, State, rests, resumes, segmented_response_gets, server_abort}
 use Rattle.bac_protocol.specs.Server.State.{SegmentedResponse}
 use Rattle.bac_server.specs.Reactions.{Reacts}
-use Rattle.bac_server.specs.Views.{context_view, peer_of, entry_of, transfer_view}
+use Rattle.bac_ends.specs.Views.{context_view, peer_of}
+use Rattle.bac_server.specs.Views.{entry_of, transfer_view}
 use Rattle.bac_server.proofs.Copies.{segmented_response_gets_request}
-use Rattle.bac_server.proofs.segmented_response.responding_gets.Goals as goal
+use Rattle.bac_server.proofs.segmented_response.segmented_response_gets.Goals as goal
 
 pub returns-then-is_repeated : goal.returns-then-is_repeated
 returns-then-is_repeated c = λ s.

@@ -3,7 +3,7 @@ use Rattle.std.proofs.Common.{arith}
 use Rattle.bac_ends.specs.Ends.{server_tick_sends}
 use Rattle.bac_ends.specs.Views.{settings_view}
 use Rattle.bac_responder.proofs.Orders.{sent_more, sent_all}
-use Rattle.bac_responder.proofs.ticking.tick_sends.Goals as goal
+use Rattle.bac_responder.proofs.ticking.prepare_all.Goals as goal
 
 pub loop-n-preserved : goal.loop-n-preserved
 loop-n-preserved g c =

@@ -4,7 +4,7 @@ use Rattle.bac_ends.specs.Ends.{from_each, server_tick_sends}
 use Rattle.bac_ends.specs.Keys.{peer_key_cmp}
 use Rattle.bac_ends.specs.Sends.{Pairwise, IsSent}
 use Rattle.bac_ends.specs.Views.{settings_view, slots_view, code_same_key}
-use Rattle.bac_responder.proofs.ticking.tick_sends.Given as goal
+use Rattle.bac_responder.proofs.ticking.prepare_all.Given as goal
 
 abbrev pub invariant-loop-n : goal.invariant-loop-n
 invariant-loop-n g l =

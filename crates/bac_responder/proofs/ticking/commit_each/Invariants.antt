@@ -2,7 +2,7 @@ use Rattle.std.proofs.Common.{◌≡◌, length}
 use Rattle.bac_slots.specs.Slots.{IsDistinct}
 use Rattle.bac_ends.specs.Views.{settings_view, code_same_key}
 use Rattle.bac_responder.specs.Tables.{ticked, with_first}
-use Rattle.bac_responder.proofs.ticking.commit_all.Given as goal
+use Rattle.bac_responder.proofs.ticking.commit_each.Given as goal
 
 abbrev pub invariant-loop-n : goal.invariant-loop-n
 invariant-loop-n g l =
