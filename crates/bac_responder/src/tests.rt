@@ -1,122 +1,156 @@
-//! A full table, and the order of a tick, over a table with an index.
+//! The server's end over a table with an index, APDU by APDU. Here is what the tests share.
 use crate::Responder;
-use bac_apdu::{Apdu, Limits, Window};
-use bac_ends::{PeerKey, Settings};
+use bac_apdu::{Apdu, Limits, Segment, Window, read};
+use bac_ends::{Datagram, PeerKey, Settings};
 use bac_npdu::Peer;
 use bac_server::Entry;
-use bac_service::{AnyRequest, Content, WriteAccess, WriteFile, WriteStream};
 use bac_slots::IndexSlots;
 use bac_store::{Store, house};
-use bac_value::{NoMemory, ObjectIdentifier};
+use bac_value::NoMemory;
 use std::alloc::Global;
+use std::process::Abort;
 use std::test::Fail;
+
+mod memory;
+mod replies;
+mod requests;
+mod states;
+mod tables;
 
 type Indexed = Responder<IndexSlots<PeerKey, Entry>>;
 
-const SETTINGS: Settings = Settings {
-    limits: Limits {
-        max_apdu: 5,
-        takes_segments: true,
-        max_segments: 0,
-    },
-    window: Window { size: 4 },
+const WINDOW: Window = Window { size: 32 };
+
+/// Takes APDUs of 1,476 octets and any number of segments.
+const LIMITS: Limits = Limits {
+    max_apdu: 5,
+    takes_segments: true,
+    max_segments: 7,
 };
 
-fn link(number: u8) -> [u8; 6] {
-    [10, 0, 0, number, 0xBA, 0xC0]
-}
+/// The octets of BVLL and NPDU before an APDU to a peer of the same network.
+const FRAME: usize = 6;
 
-fn peer(number: u8) -> Peer {
+fn peer(client: u8) -> Peer {
     Peer {
-        link: link(number),
+        link: [10, 0, 0, client, 0xBA, 0xC0],
         route: None,
     }
 }
 
-/// A client that takes segments, and APDUs of 50 octets, sends its request 1: the first octet of the answer, and whether the request was performed.
-/// Once more where memory ran out: then nothing had changed.
-fn asks(
-    alloc: Global,
-    end: &mut Indexed,
-    store: &mut Store,
-    moment: u64,
-    client: u8,
-    choice: u8,
-    service: &[u8],
-) -> Result<(Option<u8>, bool), NoMemory> {
-    let limits = Limits {
-        max_apdu: 0,
-        takes_segments: true,
-        max_segments: 0,
-    };
-    let apdu = Apdu::ConfirmedRequest {
-        limits,
-        invoke_id: 1,
-        segment: None,
-        choice,
-        service,
-    };
-    let served = match end.on(alloc, moment, &peer(client), &apdu, store) {
-        Ok(served) => served,
-        Err(_) => end.on(alloc, moment, &peer(client), &apdu, store)?,
-    };
-    let first = match served.sends.first() {
-        Some(datagram) => datagram.octets().get(6).copied(),
-        None => None,
-    };
-    Ok((first, served.act.is_some()))
+/// A server's end with its store.
+#[derive(Drop)]
+struct Server {
+    end: Indexed,
+    store: Store,
 }
 
-/// A table of one slot: a live entry is never evicted, and one that is not live makes room.
-#[test]
-fn full_table(rt: HostRuntime) -> Result<(), Fail> {
-    let alloc = rt.alloc();
-    let mut end: Indexed = Responder::new(alloc, SETTINGS, 1)?;
-    let mut store = house(alloc)?;
-    let read = b"\x0C\x00\x00\x00\x05\x19\x55".as_slice();
-    let table = [
-        (0, 2, Some(0x30), true),
-        (0, 2, Some(0x30), false),
-        (0, 3, Some(0x71), false),
-        (65_000, 3, Some(0x71), false),
-        (65_001, 3, Some(0x30), true),
-        (65_001, 2, Some(0x71), false),
-    ];
-    for (moment, client, first, performed) in table {
-        let answer = asks(alloc, &mut end, &mut store, moment, client, 12, read)?;
-        assert_eq!(rt; answer, (first, performed));
+/// What comes to a server, and what comes of it: the moment, the client, its APDU (no octets: a tick), the first octets of all APDUs that are sent, and
+/// whether a request is performed.
+type Row = (u64, u8, &'static str, &'static str, bool);
+
+impl Server {
+    fn new(alloc: Global, slots: usize, window: Window) -> Result<Server, NoMemory> {
+        let store = house(alloc)?;
+        Server::with_store(alloc, slots, window, store)
     }
-    Ok(())
-}
 
-/// Replies in segments are sent again in ascending order of peers, whoever asked first.
-#[test]
-fn order_of_a_tick(rt: HostRuntime) -> Result<(), Fail> {
-    let alloc = rt.alloc();
-    let mut end: Indexed = Responder::new(alloc, SETTINGS, 4)?;
-    let mut store = house(alloc)?;
-    let octets = vec![in alloc; 7u8; 100]?;
-    if let Some(content) = Content::new(&octets) {
-        let file = ObjectIdentifier {
-            kind: 10,
-            instance: 1,
+    fn with_store(
+        alloc: Global,
+        slots: usize,
+        window: Window,
+        store: Store,
+    ) -> Result<Server, NoMemory> {
+        let settings = Settings {
+            limits: LIMITS,
+            window,
         };
-        let access = WriteAccess::Stream(WriteStream { start: 0, content });
-        let _ = store.perform(alloc, &AnyRequest::WriteFile(WriteFile { file, access }))?;
+        let end = Responder::new(alloc, settings, slots)?;
+        Ok(Server { end, store })
     }
-    let read = b"\xC4\x02\x80\x00\x01\x0E\x31\x00\x21\x64\x0F".as_slice();
-    for client in [3, 2] {
-        let answer = asks(alloc, &mut end, &mut store, 0, client, 6, read)?;
-        assert_eq!(rt; answer, (Some(0x3C), true));
+
+    /// What an APDU of a client makes it send, and whether a request is performed.
+    fn hears(
+        &mut self,
+        alloc: Global,
+        moment: u64,
+        client: u8,
+        apdu: &Apdu<'_>,
+    ) -> Result<(Vec<Datagram>, bool), NoMemory> {
+        let served = self
+            .end
+            .on(alloc, moment, &peer(client), apdu, &mut self.store)?;
+        Ok((served.sends, served.act.is_some()))
     }
-    assert_eq!(rt; end.prepare_tick(alloc, 1_999)?.len(), 0);
-    let due = end.prepare_tick(alloc, 2_000)?;
-    let mut links = Vec::new(alloc);
-    for datagram in &due {
-        links.push(datagram.to())?;
+
+    fn ticks(&mut self, alloc: Global, moment: u64) -> Result<Vec<Datagram>, NoMemory> {
+        let sends = self.end.prepare_tick(alloc, moment)?;
+        self.end.commit_tick(moment);
+        Ok(sends)
     }
-    assert_eq!(rt; links.as_slice(), [link(2), link(3)].as_slice());
-    end.commit_tick(2_000);
-    assert_eq!(rt; end.prepare_tick(alloc, 3_999)?.len(), 0);
-    Ok(())
+
+    /// What a row's APDU or tick makes it do.
+    fn meets(&mut self, alloc: Global, row: &Row) -> Result<(Vec<Datagram>, bool), NoMemory> {
+        let (moment, client, heard, _, _) = *row;
+        let octets = octets_of(alloc, heard)?;
+        match read(&octets) {
+            Ok(apdu) => self.hears(alloc, moment, client, &apdu),
+            Err(_) => Ok((self.ticks(alloc, moment)?, false)),
+        }
+    }
+
+    /// It does what each row says, one after the other; `head` is how many octets of each APDU are compared.
+    fn plays(
+        &mut self,
+        rt: &impl Abort,
+        alloc: Global,
+        rows: &[Row],
+        head: usize,
+    ) -> Result<(), NoMemory> {
+        for row in rows {
+            let (sends, performed) = self.meets(alloc, row)?;
+            let told = heads(alloc, &sends, head)?;
+            let wanted = octets_of(alloc, row.3)?;
+            assert!(rt; told == wanted && performed == row.4, "{} {}", row.0, row.2);
+        }
+        Ok(())
+    }
+}
+
+/// The first octets of each APDU, one after the other.
+fn heads(alloc: Global, sends: &[Datagram], head: usize) -> Result<Vec<u8>, NoMemory> {
+    let mut octets = Vec::new(alloc);
+    for datagram in sends {
+        for octet in datagram.octets().iter().skip(FRAME).take(head) {
+            octets.push(*octet)?;
+        }
+    }
+    Ok(octets)
+}
+
+fn digit(character: u8) -> Option<u8> {
+    match character {
+        b'0'..=b'9' => Some(character - b'0'),
+        b'A'..=b'F' => Some(character - b'A' + 10),
+        _ => None,
+    }
+}
+
+/// The octets of hexadecimal digits, which spaces may part.
+fn octets_of(alloc: Global, text: &str) -> Result<Vec<u8>, NoMemory> {
+    let mut octets = Vec::new(alloc);
+    let mut high = None;
+    for character in text.as_bytes() {
+        let Some(low) = digit(*character) else {
+            continue;
+        };
+        match high {
+            None => high = Some(low),
+            Some(digit) => {
+                octets.push((digit << 4) | low)?;
+                high = None;
+            }
+        }
+    }
+    Ok(octets)
 }

@@ -1,0 +1,100 @@
+//! Run with each allocation refused in turn, too: `sh tests/memory/refusals.sh`.
+use super::*;
+
+const SEGMENT_0: &str = "0E0500002007 C402800001";
+
+const SEGMENT_1: &str = "0A0500012007 0E 31FF 63AABBCC 0F";
+
+/// 60 octets at position 0 of file 1.
+const WRITE: &str = "02750007 C402800001 0E 3100 653C 070707070707070707070707070707070707070707070707070707070707070707070707070707070707070707070707070707070707070707070707 0F";
+
+/// They are read in two segments.
+const READ: &str = "02700006 C402800001 0E 3100 2164 0F";
+
+const FIRST: &str = "3C00002006 11 0E 3100 653C 070707070707070707070707070707070707070707070707070707070707070707070707070707";
+
+const SECOND: &str = "3800012006 070707070707070707070707070707070707070707 0F";
+
+/// A read that comes twice, another one, a request in segments that come again and out of order, one that is given up, and a reply in segments that are
+/// sent again until their transfer stops and that is resumed.
+const ROWS: &[Row] = &[
+    (0, 2, "0005000C 0C00000005 1955", "30000C 0C00000005 1955 3E 444290999A 3F", true),
+    (0, 2, "0005000C 0C00000005 1955", "30000C 0C00000005 1955 3E 444290999A 3F", false),
+    (0, 2, "0005000C 0C00800001 1955", "710000", false),
+    (0, 3, SEGMENT_0, "41000020", false),
+    (0, 3, SEGMENT_0, "43000020", false),
+    (0, 3, SEGMENT_1, "41000120 3000070902", true),
+    (0, 3, SEGMENT_1, "3000070902", false),
+    (0, 4, SEGMENT_0, "41000020", false),
+    (8_000, 4, "", "", false),
+    (8_000, 4, SEGMENT_1, "710000", false),
+    (8_000, 5, WRITE, "3000070900", true),
+    (8_000, 6, READ, FIRST, true),
+    (8_001, 6, "40000020", SECOND, false),
+    (10_001, 6, "", SECOND, false),
+    (12_001, 6, "", SECOND, false),
+    (14_001, 6, "", SECOND, false),
+    (16_001, 6, "", "", false),
+    (16_001, 6, READ, SECOND, false),
+];
+
+/// A server to which these rows came.
+fn after(alloc: Global, rows: &[Row]) -> Result<Server, NoMemory> {
+    let mut server = Server::new(alloc, 64, WINDOW)?;
+    for row in rows {
+        let _ = server.meets(alloc, row)?;
+    }
+    Ok(server)
+}
+
+fn is_same(server: &Server, other: &Server) -> bool {
+    server.end.same(&other.end) && server.store.same(&other.store)
+}
+
+/// A refused call leaves the server's end and its store as they were, and is done when it comes again.
+#[test]
+fn rows_with_refused_memory(rt: HostRuntime) -> Result<(), Fail> {
+    let alloc = rt.alloc();
+    let mut server = match Server::new(alloc, 64, WINDOW) {
+        Ok(server) => server,
+        Err(_) => Server::new(alloc, 64, WINDOW)?,
+    };
+    for (n, row) in ROWS.iter().enumerate() {
+        let (sends, performed) = match server.meets(alloc, row) {
+            Ok(turn) => turn,
+            Err(_) => {
+                let before = after(alloc, ROWS.get(..n).unwrap_or(&[]))?;
+                assert!(rt; is_same(&server, &before), "{n}");
+                server.meets(alloc, row)?
+            }
+        };
+        let told = match heads(alloc, &sends, 50) {
+            Ok(told) => told,
+            Err(_) => heads(alloc, &sends, 50)?,
+        };
+        let wanted = match octets_of(alloc, row.3) {
+            Ok(wanted) => wanted,
+            Err(_) => octets_of(alloc, row.3)?,
+        };
+        assert!(rt; told == wanted && performed == row.4, "{n}");
+    }
+    Ok(())
+}
+
+/// Servers before and after a request that is performed differ, and those after the same rows don't.
+#[test]
+fn servers_that_are_the_same(rt: HostRuntime) -> Result<(), Fail> {
+    let alloc = rt.alloc();
+    for n in 0..ROWS.len() {
+        let rows = ROWS.get(..n).unwrap_or(ROWS);
+        let mut server = after(alloc, rows)?;
+        assert!(rt; is_same(&server, &after(alloc, rows)?), "{n}");
+        if let Some(row) = ROWS.get(n) {
+            if row.4 {
+                let _ = server.meets(alloc, row)?;
+                assert!(rt; !is_same(&server, &after(alloc, rows)?), "{n}");
+            }
+        }
+    }
+    Ok(())
+}
