@@ -1,3 +1,4 @@
+-- The laws on endings and answers, and the path of single steps that stands under them.
 pub mod Following
 pub mod Asked
 pub mod Endings

@@ -1,3 +1,4 @@
+-- What is said of endings and answers at nodes and in worlds.
 pub mod Runs
 pub mod Ends
 pub mod RoundTrip

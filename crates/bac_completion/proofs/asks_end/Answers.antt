@@ -1,3 +1,4 @@
+-- Each ask ends.
 use Rattle.bac_completion.proofs.Endings.{asks_end}
 use Rattle.bac_completion.proofs.asks_end.Goals as goal
 

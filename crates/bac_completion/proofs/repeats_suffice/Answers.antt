@@ -1,3 +1,4 @@
+-- Repeats suffice.
 use Rattle.bac_completion.proofs.Repeating.{repeats_suffice}
 use Rattle.bac_completion.proofs.repeats_suffice.Goals as goal
 

@@ -1,3 +1,4 @@
+-- One round trip suffices.
 use Rattle.bac_completion.proofs.RoundTrips.{round_trip_suffices}
 use Rattle.bac_completion.proofs.round_trip_suffices.Goals as goal
 

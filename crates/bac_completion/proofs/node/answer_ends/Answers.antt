@@ -1,3 +1,4 @@
+-- An answer that comes late ends its ticket.
 use Rattle.bac_completion.proofs.AtNode.{answer_ends}
 use Rattle.bac_completion.proofs.node.answer_ends.Goals as goal
 

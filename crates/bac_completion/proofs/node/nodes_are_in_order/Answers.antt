@@ -1,3 +1,4 @@
+-- Each node that was reached is in order.
 use Rattle.bac_completion.proofs.AtNode.{nodes_in_order}
 use Rattle.bac_completion.proofs.node.nodes_are_in_order.Goals as goal
 
