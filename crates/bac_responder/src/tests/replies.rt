@@ -7,7 +7,10 @@ use bac_value::{CharacterString, ObjectIdentifier, Value, read_data, write_value
 fn described(alloc: Global, count: usize) -> Result<Store, Fail> {
     let text = vec![in alloc; 0x61u8; count.saturating_sub(1)]?;
     let mut octets = Vec::new(alloc);
-    write_value(&Value::CharacterString(CharacterString { set: 0, text }), &mut octets)?;
+    write_value(
+        &Value::CharacterString(CharacterString { set: 0, text }),
+        &mut octets,
+    )?;
     let Ok((data, _)) = read_data(&octets) else {
         return Err(Fail::from("no data"));
     };
@@ -78,13 +81,19 @@ fn reply_in_90_segments(rt: HostRuntime) -> Result<(), Fail> {
         (10_000, "", 0, 0, false),
         (10_000, READ, 41, 73, false),
     ];
-    const LAST: &[Row] = &[(10_001, 4, "40005920", "", false), (10_002, 4, READ, "", false)];
+    const LAST: &[Row] = &[
+        (10_001, 4, "40005920", "", false),
+        (10_002, 4, READ, "", false),
+    ];
     let alloc = rt.alloc();
     let mut server = Server::with_store(alloc, 64, WINDOW, described(alloc, 4_000)?)?;
     server.plays(&rt, alloc, REFUSED, 50)?;
     for (moment, heard, from, to, performed) in LATER {
         let event = (*moment, 4, *heard, "", *performed);
-        assert!(rt; sends_window(alloc, &mut server, event, *from, *to)?, "{moment} {heard}");
+        assert!(rt;
+            sends_window(alloc, &mut server, event, *from, *to)?,
+            "{moment} {heard}"
+        );
     }
     let (sends, _) = server.meets(alloc, &(10_000, 4, "40004820", "", false))?;
     assert!(rt; sends.len() == 17);
@@ -110,7 +119,10 @@ fn replies_at_their_limits(rt: HostRuntime) -> Result<(), Fail> {
         let mut server = Server::with_store(alloc, 64, WINDOW, described(alloc, *count)?)?;
         let (sends, _) = server.meets(alloc, &(0, 2, *heard, "", true))?;
         let head = octets_of(alloc, *head)?;
-        assert!(rt; heads(alloc, &sends, head.len())? == head, "{count} {heard}");
+        assert!(rt;
+            heads(alloc, &sends, head.len())? == head,
+            "{count} {heard}"
+        );
         for datagram in &sends {
             assert!(rt; datagram.octets().len() == *len + FRAME, "{count} {heard}");
         }

@@ -19,7 +19,10 @@ fn read_of_one_datagram(rt: HostRuntime) -> Result<(), Fail> {
     let mut server = Server::new(alloc, 64, WINDOW)?;
     let (sends, performed) = server.meets(alloc, &(0, 2, READ_1, "", true))?;
     assert!(rt; performed);
-    let frame = octets_of(alloc, "810A0017 0100 30010C 0C00000005 1955 3E 444290999A 3F")?;
+    let frame = octets_of(
+        alloc,
+        "810A0017 0100 30010C 0C00000005 1955 3E 444290999A 3F",
+    )?;
     for datagram in &sends {
         assert!(rt; datagram.octets() == frame.as_slice());
         assert!(rt; datagram.to() == peer(2).link);
@@ -37,7 +40,13 @@ fn table_of_one_slot(rt: HostRuntime) -> Result<(), Fail> {
         (0, 2, READ, ANSWER, false),
         (65_000, 3, READ_1, "710100", false),
         (65_000, 2, READ, ANSWER, false),
-        (65_001, 3, "0005020C 0C00000005 1955", "30020C 0C00000005 1955 3E 444290999A 3F", true),
+        (
+            65_001,
+            3,
+            "0005020C 0C00000005 1955",
+            "30020C 0C00000005 1955 3E 444290999A 3F",
+            true,
+        ),
         (65_001, 2, READ, "710000", false),
     ];
     let alloc = rt.alloc();
