@@ -1,4 +1,5 @@
 //! The reply table: full, and with a slot that becomes free.
+use super::memory::{ROWS, after, is_same};
 use super::*;
 use bac_npdu::Route;
 
@@ -84,6 +85,24 @@ fn slots_for_1024_clients(rt: HostRuntime) -> Result<(), Fail> {
         from.route = Route::new(5, &device.to_be_bytes());
         let served = server.end.on(alloc, 0, &from, &apdu, &mut server.store)?;
         assert!(rt; served.act.is_some() == (device < 1_024), "{device}");
+    }
+    Ok(())
+}
+
+/// Servers before and after a request that is performed differ, and those after the same rows don't.
+#[test]
+fn servers_that_are_the_same(rt: HostRuntime) -> Result<(), Fail> {
+    let alloc = rt.alloc();
+    for n in 0..ROWS.len() {
+        let rows = ROWS.get(..n).unwrap_or(ROWS);
+        let mut server = after(alloc, rows)?;
+        assert!(rt; is_same(&server, &after(alloc, rows)?), "{n}");
+        if let Some(row) = ROWS.get(n) {
+            if row.4 {
+                let _ = server.meets(alloc, row)?;
+                assert!(rt; !is_same(&server, &after(alloc, rows)?), "{n}");
+            }
+        }
     }
     Ok(())
 }
