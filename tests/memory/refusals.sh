@@ -1,43 +1,22 @@
 #!/bin/sh
-# Runs the memory tests of a crate with one allocation after the other refused, from the first on:
-#     sh tests/memory/refusals.sh [bac_store | bac_responder]
+# Runs the memory tests of bac_store with one allocation after the other refused, from the first on:
+#     sh tests/memory/refusals.sh
 # Each test counts its own allocations. It works on a copy of the crate without the other tests, which take memory to be ample,
 # and with one more, which asks for all the memory that any of them does and fails where a part is refused: once it passes, each
 # allocation of the others was refused once.
 set -eu
 top=$(cd "$(dirname "$0")/../.." && pwd)
-crate=${1:-bac_store}
-case $crate in
-    bac_store) below="bac_value bac_service" ;;
-    bac_responder) below="bac_value bac_service bac_apdu bac_npdu bac_slots bac_segment bac_protocol bac_store bac_ends bac_server" ;;
-    *) echo "no memory tests: $crate" >&2; exit 2 ;;
-esac
 work=$(mktemp -d)
 trap 'rm -rf "$work"' EXIT
-for name in $below $crate; do
+for name in bac_value bac_service bac_store; do
     mkdir -p "$work/crates/$name"
     (cd "$top/crates/$name" && tar cf - --exclude=./out .) | tar xf - -C "$work/crates/$name"
-    grep "^$name:" "$top/crates.txt" >> "$work/crates.txt"
 done
-cd "$work/crates/$crate"
-for file in src/tests/*.rt; do
-    name=$(basename "$file" .rt)
-    if [ "$name" != memory ]; then
-        rm "$file"
-        sed -i "/^mod $name;\$/d" src/tests.rt
-    fi
-done
-if [ "$crate" = bac_responder ]; then
-    cat >> src/tests/memory.rt <<'TEST'
-
-#[test]
-fn has_memory(rt: HostRuntime) -> Result<(), Fail> {
-    let _server = after(rt.alloc(), ROWS)?;
-    Ok(())
-}
-TEST
-else
-    cat >> src/tests/memory.rt <<'TEST'
+grep -E '^bac_(value|service|store):' "$top/crates.txt" > "$work/crates.txt"
+cd "$work/crates/bac_store"
+rm src/tests/objects.rt src/tests/requests.rt
+sed -i '/^mod objects;$/d; /^mod requests;$/d' src/tests.rt
+cat >> src/tests/memory.rt <<'TEST'
 
 #[test]
 fn has_memory(rt: HostRuntime) -> Result<(), Fail> {
@@ -57,7 +36,6 @@ fn has_memory(rt: HostRuntime) -> Result<(), Fail> {
     Ok(())
 }
 TEST
-fi
 refused=1
 until rt try --test --fail-alloc "$refused" > log 2>&1; do
     if ! grep -q '^test tests::memory::has_memory .* FAILED' log || ! grep -q ' 1 failed' log; then

@@ -65,6 +65,38 @@ pub(super) fn is_same(server: &Server, other: &Server) -> bool {
     server.end.same(&other.end) && server.store.same(&other.store)
 }
 
+/// Whether a row is met that comes after `n` others; a call that was refused changed nothing, and is made again.
+fn is_met_at_last(
+    alloc: Global,
+    server: &mut Server,
+    row: &Row,
+    n: usize,
+) -> Result<bool, NoMemory> {
+    let mut turn = server.meets(alloc, row);
+    if turn.is_err() {
+        let before = after(alloc, ROWS.get(..n).unwrap_or(ROWS))?;
+        if !is_same(server, &before) {
+            return Ok(false);
+        }
+        turn = server.meets(alloc, row);
+    }
+    let (sends, performed) = turn?;
+    is_told(alloc, &sends, performed, row)
+}
+
+/// Whether that is what a row says, found out twice where memory was refused.
+fn is_told(
+    alloc: Global,
+    sends: &[Datagram],
+    performed: bool,
+    row: &Row,
+) -> Result<bool, NoMemory> {
+    match is_as_said(alloc, sends, performed, row, 50) {
+        Ok(told) => Ok(told),
+        Err(_) => is_as_said(alloc, sends, performed, row, 50),
+    }
+}
+
 /// A refused call leaves the server's end and its store as they were, and is done when it comes again.
 #[test]
 fn rows_with_refused_memory(rt: HostRuntime) -> Result<(), Fail> {
@@ -73,24 +105,15 @@ fn rows_with_refused_memory(rt: HostRuntime) -> Result<(), Fail> {
         Ok(server) => server,
         Err(_) => Server::new(alloc, 64, WINDOW)?,
     };
-    for (n, row) in ROWS.iter().enumerate() {
-        let (sends, performed) = match server.meets(alloc, row) {
-            Ok(turn) => turn,
-            Err(_) => {
-                let before = after(alloc, ROWS.get(..n).unwrap_or(ROWS))?;
-                assert!(rt; is_same(&server, &before), "{n}");
-                server.meets(alloc, row)?
-            }
-        };
-        let told = match heads(alloc, &sends, 50) {
-            Ok(told) => told,
-            Err(_) => heads(alloc, &sends, 50)?,
-        };
-        let wanted = match octets_of(alloc, row.3) {
-            Ok(wanted) => wanted,
-            Err(_) => octets_of(alloc, row.3)?,
-        };
-        assert!(rt; told == wanted && performed == row.4, "{n}");
+    let mut n = 0usize;
+    for row in ROWS {
+        assert!(rt;
+            is_met_at_last(alloc, &mut server, row, n)?,
+            "{} {}",
+            row.0,
+            row.2
+        );
+        n = n.saturating_add(1);
     }
     Ok(())
 }

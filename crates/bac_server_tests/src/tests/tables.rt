@@ -89,20 +89,17 @@ fn slots_for_1024_clients(rt: HostRuntime) -> Result<(), Fail> {
     Ok(())
 }
 
-/// Servers before and after a request that is performed differ, and those after the same rows don't.
+/// Servers before and after a request that is performed differ, and those to which the same came don't.
 #[test]
 fn servers_that_are_the_same(rt: HostRuntime) -> Result<(), Fail> {
     let alloc = rt.alloc();
-    for n in 0..ROWS.len() {
-        let rows = ROWS.get(..n).unwrap_or(ROWS);
-        let mut server = after(alloc, rows)?;
-        assert!(rt; is_same(&server, &after(alloc, rows)?), "{n}");
-        if let Some(row) = ROWS.get(n) {
-            if row.4 {
-                let _ = server.meets(alloc, row)?;
-                assert!(rt; !is_same(&server, &after(alloc, rows)?), "{n}");
-            }
-        }
+    let before = Server::new(alloc, 64, WINDOW)?;
+    let mut server = Server::new(alloc, 64, WINDOW)?;
+    assert!(rt; is_same(&server, &before));
+    for row in ROWS {
+        let _ = server.meets(alloc, row)?;
+        assert!(rt; !is_same(&server, &before), "{} {}", row.0, row.2);
     }
+    assert!(rt; is_same(&server, &after(alloc, ROWS)?));
     Ok(())
 }
