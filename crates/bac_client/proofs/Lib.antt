@@ -1,3 +1,4 @@
+-- Lemmas of the client's transactions.
 pub mod Short
-pub mod Windows
+pub mod Ways
 pub mod Taking

@@ -1,27 +1,25 @@
 -- What the calls answer for one ticket.
-use Rattle.std.specs.Prelude.{◌≡◌, ℕ, ◌-◌, ◌%◌, true, false, List, [], ◌∷◌, Option, Some, None, Result, Ok, Err}
+use Rattle.std.specs.Prelude.{◌≡◌, ℕ, true, false, Option, Some, None, Result, Ok, Err}
 use Rattle.std.specs.Option.{option_map}
 use Rattle.bac_apdu.specs.Apdu.{Apdu}
 use Rattle.bac_service.specs.Replies.{SpellsComplex}
 use Rattle.bac_service.specs.Services.{reads_reply}
 use Rattle.bac_service.specs.Values.{Complex}
 use Rattle.bac_segment.specs.Window.{Incoming}
-use Rattle.bac_segment.specs.declared.incoming.Step.{Step}
-use Rattle.bac_segment.specs.declared.incoming.Step.TheVariants as step
-use Rattle.bac_protocol.specs.Context as plain
 use Rattle.bac_protocol.specs.Service.{Octets, Ending}
-use Rattle.bac_protocol.specs.Client.{Ask, Ticket, Reaction, after, sends_of, ending_of, client_ack, asked_ticket, asks}
+use Rattle.bac_protocol.specs.Client.{Ask, Ticket, Reaction, after, sends_of, ending_of, asked_ticket, asks}
 use Rattle.bac_ends.specs.Ends.{Held, kept}
 use Rattle.bac_ends.specs.Meanings as meanings
 use Rattle.bac_ends.specs.Meanings.{MeansEnding}
 use Rattle.bac_ends.specs.Sends.{Pairwise, IsSent, to_all}
-use Rattle.bac_client.specs.Views.{context_view, peer_of, held_view, ending_view, ticket_view}
-use Rattle.bac_client.specs.declared.context.Context.{Context}
+use Rattle.bac_ends.specs.Views.{context_view, peer_of}
+use Rattle.bac_client.specs.Views.{held_view, ending_view, ticket_view}
+use Rattle.bac_ends.specs.declared.context.Context.{Context}
 use Rattle.bac_client.specs.declared.ticket.Core.{Core}
 use Rattle.bac_client.specs.declared.ticket.Phase.{Phase}
 use Rattle.bac_client.specs.declared.asking.Begun.{Begun}
-use Rattle.bac_client.specs.declared.reacted.Reacted.{Reacted}
-use Rattle.bac_client.specs.declared.reacted.Finish.{Finish}
+use Rattle.bac_client.specs.declared.reaction.Reaction as code
+use Rattle.bac_client.specs.declared.reaction.Finish.{Finish}
 use Rattle.bac_client.specs.declared.ticking.Due.{Due}
 
 -- how a ticket ends, if it does
@@ -37,14 +35,14 @@ pub record IsBegun (c : Context) (ask : Ask) (x : Begun) : Type 0 where
   pub sends : Pairwise IsSent (to_all (peer_of c) (sends_of (asks (context_view c) ask))) x.sends.items
 
 -- it did what the machine says
-pub record IsReacted (c : Context) (t : Ticket) (r : Reaction) (x : Reacted) : Type 0 where
+pub record IsReaction (c : Context) (t : Ticket) (r : Reaction) (x : code.Reaction) : Type 0 where
   pub held : held_view x.held ≡ kept (after c.moment t r)
   pub sends : Pairwise IsSent (to_all (peer_of c) (sends_of r)) x.sends.items
   pub ended : MeansEnd t.ask.choice (ending_of r) (option_map ending_view x.ended)
 
 -- or there was no memory, and the ticket is as it was
-abbrev pub Reacts : Context → Ticket → Reaction → Result Reacted Ticket → Type 0
-Reacts c t r (Ok x) = IsReacted c t r x
+abbrev pub Reacts : Context → Ticket → Reaction → Result code.Reaction Ticket → Type 0
+Reacts c t r (Ok x) = IsReaction c t r x
 Reacts c t r (Err old) = old ≡ t
 
 -- what a tick sends, and how it ends the ticket
@@ -66,13 +64,6 @@ IsRead choice octets (Some x) = SpellsComplex choice x octets × (reads_reply ch
 IsRead choice octets None = reads_reply choice octets ≡ false
 
 -- a segment came for a ticket, whatever state it had; or there was no memory, and all is as it was
-abbrev pub TakesSegment : Context → Reaction → Core → Incoming → Result Reacted (Core × Incoming) → Type 0
-TakesSegment c r core inc (Ok x) = (p : Phase) → IsReacted c (ticket_view core p) r x
-TakesSegment c r core inc (Err old) = (old.0 ≡ core) × (old.1 ≡ inc)
-
--- the SegmentACK of a segment, if any
-abbrev pub acks_of : plain.Context → (number window taken : ℕ) → Step → List Apdu
-acks_of c number window taken (step.Taken false) = []
-acks_of c number window taken (step.Taken true) = client_ack c false number window ∷ []
-acks_of c number window taken step.Whole = client_ack c false number window ∷ []
-acks_of c number window taken step.Nak = client_ack c true ((taken - 1) % 256) window ∷ []
+abbrev pub TakesSegment : Context → Reaction → Core → Incoming → Result code.Reaction (Core × Incoming) → Type 0
+TakesSegment c r core incoming (Ok x) = (p : Phase) → IsReaction c (ticket_view core p) r x
+TakesSegment c r core incoming (Err old) = (old.0 ≡ core) × (old.1 ≡ incoming)

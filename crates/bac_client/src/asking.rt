@@ -5,11 +5,10 @@ ghost use Rattle.bac_client.specs.Fits.{IsShort};
 ghost use Rattle.bac_client.specs.Reacts.{IsBegun};
 ghost use Rattle.bac_client.specs.Requests.{ask_at};
 
-use crate::context::Context;
 use crate::outgoing_request::OutgoingRequest;
 use crate::sending::{whole_request, window};
 use crate::ticket::{Core, Phase, Ticket};
-use bac_ends::Datagram;
+use bac_ends::{Context, Datagram};
 use bac_segment::{Outgoing, RETRIES};
 use bac_value::NoMemory;
 use std::alloc::Global;
@@ -24,10 +23,10 @@ pub struct Begun {
 }
 
 /// Whether the window ends with the last piece.
-pub(crate) fn ends_all(out: &Outgoing) -> bool
-    ensures { result ≡ nat_le (length out.now.pieces) (out.now.first + in_window out.now) }
+pub(crate) fn ends_all(outgoing: &Outgoing) -> bool
+    ensures { result ≡ nat_le (length outgoing.now.pieces) (outgoing.now.first + in_window outgoing.now) }
 {
-    out.count() <= out.window().end
+    outgoing.count() <= outgoing.window().end
 }
 
 impl Ticket {
@@ -40,20 +39,24 @@ impl Ticket {
     ) -> Result<Begun, NoMemory>
         ensures { IfOk result (IsBegun context.now (ask_at context.now.moment request)) }
     {
-        let OutgoingRequest { choice, whole, out } = request;
+        let OutgoingRequest {
+            choice,
+            whole,
+            outgoing,
+        } = request;
         let (sends, phase) = if whole {
-            let sends = whole_request(alloc, context, choice, out.octets())?;
+            let sends = whole_request(alloc, context, choice, outgoing.octets())?;
             (sends, Phase::AwaitConfirmation)
         } else {
-            let all_sent = ends_all(&out);
-            let sends = window(alloc, context, choice, &out)?;
+            let all_sent = ends_all(&outgoing);
+            let sends = window(alloc, context, choice, &outgoing)?;
             (sends, Phase::SegmentedRequest { all_sent })
         };
         let core = Core {
             first: context.moment,
             choice,
             whole,
-            out,
+            outgoing,
             repeats: RETRIES,
             since: context.moment,
         };

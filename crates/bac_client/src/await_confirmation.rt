@@ -4,18 +4,18 @@ ghost use Rattle.bac_apdu.specs.Views.{apdu_view, segment_view};
 ghost use Rattle.bac_service.specs.Choices.{has_complex_ack, has_simple_ack};
 ghost use Rattle.bac_service.specs.Services.{reads_reply};
 ghost use Rattle.bac_protocol.specs.Client.{answered_with, await_confirmation_gets, gets_complex_ack, gets_error, gets_first_segment, gets_simple_ack};
-ghost use Rattle.bac_client.specs.Reacts.{Finishes, IsReacted, Reacts};
-ghost use Rattle.bac_client.specs.Views.{context_view};
+ghost use Rattle.bac_client.specs.Reacts.{Finishes, IsReaction, Reacts};
+ghost use Rattle.bac_ends.specs.Views.{context_view};
 
-use crate::context::Context;
 use crate::ending::Ending;
 use crate::getting::gets_refusal;
-use crate::reacted::{Finish, Reacted, closes, ends, stays};
+use crate::reaction::{Finish, Reaction, closes, ends, stays};
 use crate::reading::read_one;
-use crate::segmented_conf::{OTHER, takes_segment};
-use crate::sending::abort_alone;
+use crate::segmented_conf::takes_segment;
 use crate::ticket::Ticket;
 use bac_apdu::{Apdu, Segment};
+use bac_ends::{Context, only_abort};
+use bac_protocol::reasons::OTHER;
 use bac_segment::Incoming;
 use bac_service::{ATOMIC_READ_FILE, ATOMIC_WRITE_FILE, AnyReply, READ_PROPERTY, WRITE_PROPERTY};
 use bac_value::NoMemory;
@@ -28,8 +28,8 @@ fn has_complex_ack(choice: u8) -> bool
 }
 
 /// A SimpleACK comes.
-fn gets_simple_ack(alloc: Global, context: &Context, ticket: Ticket, choice: u8) -> Reacted
-    ensures { IsReacted context.now ticket (gets_simple_ack ticket.ask choice) result }
+fn gets_simple_ack(alloc: Global, context: &Context, ticket: Ticket, choice: u8) -> Reaction
+    ensures { IsReaction context.now ticket (gets_simple_ack ticket.ask choice) result }
 {
     if choice != ticket.choice() || choice != WRITE_PROPERTY {
         return stays(alloc, context, ticket);
@@ -45,8 +45,8 @@ fn gets_error(
     choice: u8,
     class: u32,
     code: u32,
-) -> Reacted
-    ensures { IsReacted context.now ticket (gets_error ticket.ask choice class code) result }
+) -> Reaction
+    ensures { IsReaction context.now ticket (gets_error ticket.ask choice class code) result }
 {
     if choice != ticket.choice() {
         return stays(alloc, context, ticket);
@@ -68,7 +68,7 @@ fn finish_one(
     ensures { IfOk result (Finishes context.now choice (answered_with (context_view context.now) reads_reply choice [] service.now)) }
 {
     let Some(complex) = read_one(alloc, choice, service)? else {
-        let sends = abort_alone(alloc, context, OTHER)?;
+        let sends = only_abort(alloc, context, false, OTHER)?;
         return Ok(Finish {
             sends,
             how: Ending::Aborted(OTHER),
@@ -87,7 +87,7 @@ fn gets_complex_ack(
     ticket: Ticket,
     choice: u8,
     service: &[u8],
-) -> Result<Reacted, Ticket>
+) -> Result<Reaction, Ticket>
     ensures { Reacts context.now ticket (gets_complex_ack (context_view context.now) reads_reply ticket.ask choice service.now) result }
 {
     if choice != ticket.choice() || !has_complex_ack(choice) {
@@ -117,24 +117,24 @@ fn gets_first_segment(
     segment: Segment,
     choice: u8,
     service: &[u8],
-) -> Result<Reacted, Ticket>
+) -> Result<Reaction, Ticket>
     ensures { Reacts context.now ticket (gets_first_segment (context_view context.now) reads_reply ticket.ask (segment_view segment) choice service.now) result }
 {
     if !is_first_segment(context, ticket.choice(), choice, segment.number) {
         return Ok(stays(alloc, context, ticket));
     }
-    let inc = Incoming::new(alloc, segment.window, context.settings.window);
+    let incoming = Incoming::new(alloc, segment.window, context.settings.window);
     let Ticket { core, phase } = ticket;
     match takes_segment(
         alloc,
         context,
         core,
-        inc,
+        incoming,
         segment.number,
         segment.more,
         service,
     ) {
-        Ok(reacted) => Ok(reacted),
+        Ok(reaction) => Ok(reaction),
         Err((core, _)) => Err(Ticket { core, phase }),
     }
 }
@@ -145,7 +145,7 @@ pub(crate) fn await_confirmation_gets(
     context: &Context,
     ticket: Ticket,
     apdu: &Apdu<'_>,
-) -> Result<Reacted, Ticket>
+) -> Result<Reaction, Ticket>
     ensures { Reacts context.now ticket (await_confirmation_gets (context_view context.now) reads_reply ticket.ask (apdu_view apdu.now)) result }
 {
     match *apdu {

@@ -4,17 +4,17 @@ ghost use Rattle.bac_apdu.specs.Views.{apdu_view};
 ghost use Rattle.bac_service.specs.Services.{reads_reply};
 ghost use Rattle.bac_protocol.specs.Client.{client_gets, gets_refusal};
 ghost use Rattle.bac_protocol.specs.Wire.{is_from_server};
-ghost use Rattle.bac_client.specs.Reacts.{IsReacted, Reacts};
-ghost use Rattle.bac_client.specs.Views.{context_view};
+ghost use Rattle.bac_client.specs.Reacts.{IsReaction, Reacts};
+ghost use Rattle.bac_ends.specs.Views.{context_view};
 
 use crate::await_confirmation::await_confirmation_gets;
-use crate::context::Context;
 use crate::ending::Ending;
-use crate::reacted::{Reacted, ends, stays};
+use crate::reaction::{Reaction, ends, stays};
 use crate::segmented_conf::segmented_conf_gets;
 use crate::segmented_request::segmented_request_gets;
 use crate::ticket::{Phase, Ticket};
 use bac_apdu::Apdu;
+use bac_ends::Context;
 use std::alloc::Global;
 
 /// A Reject or an Abort of the server ends the ticket; nothing else is looked at.
@@ -23,8 +23,8 @@ pub(crate) fn gets_refusal(
     context: &Context,
     ticket: Ticket,
     apdu: &Apdu<'_>,
-) -> Reacted
-    ensures { IsReacted context.now ticket (gets_refusal (apdu_view apdu.now)) result }
+) -> Reaction
+    ensures { IsReaction context.now ticket (gets_refusal (apdu_view apdu.now)) result }
 {
     match *apdu {
         Apdu::Reject { reason, .. } => ends(alloc, ticket, Ending::Rejected(reason)),
@@ -51,7 +51,7 @@ fn is_from_server(apdu: &Apdu<'_>) -> bool
 impl Ticket {
     /// An APDU comes from the ticket's peer, with its invoke ID (clause 5.4.4). What no server sends is ignored. More than 60,000 milliseconds after
     /// the first sending the ticket ends as Expired, whatever came. Where memory is refused, the same ticket comes back.
-    pub fn gets(self, alloc: Global, context: &Context, apdu: &Apdu<'_>) -> Result<Reacted, Ticket>
+    pub fn gets(self, alloc: Global, context: &Context, apdu: &Apdu<'_>) -> Result<Reaction, Ticket>
         ensures { Reacts context.now self (client_gets (context_view context.now) reads_reply self (apdu_view apdu.now)) result }
     {
         if !is_from_server(apdu) {
@@ -72,7 +72,9 @@ impl Ticket {
                 };
                 await_confirmation_gets(alloc, context, ticket, apdu)
             }
-            Phase::SegmentedConf { inc } => segmented_conf_gets(alloc, context, core, inc, apdu),
+            Phase::SegmentedConf { incoming } => segmented_conf_gets(
+                alloc, context, core, incoming, apdu,
+            ),
         }
     }
 }

@@ -5,12 +5,11 @@
 
 mod asking;
 mod await_confirmation;
-mod context;
 mod ending;
 mod getting;
 mod held;
 mod outgoing_request;
-mod reacted;
+mod reaction;
 mod reading;
 mod segmented_conf;
 mod segmented_request;
@@ -19,11 +18,10 @@ mod ticket;
 mod ticking;
 
 pub use asking::Begun;
-pub use context::Context;
 pub use ending::Ending;
 pub use held::Held;
-pub use outgoing_request::{OutgoingRequest, RequestFault};
-pub use reacted::Reacted;
+pub use outgoing_request::{OutgoingRequest, RequestFault, RequestWay};
+pub use reaction::Reaction;
 pub use ticket::Ticket;
 pub use ticking::Due;
 

@@ -29,11 +29,11 @@ pub(crate) fn read_one(
 pub(crate) fn read_parts(
     alloc: Global,
     choice: u8,
-    inc: &Incoming,
+    incoming: &Incoming,
 ) -> Result<Option<OwnedComplex>, NoMemory>
-    ensures { IfOk result (λ found. IsRead choice (join inc.now.parts) (option_map owned_complex_view found)) }
+    ensures { IfOk result (λ found. IsRead choice (join incoming.now.parts) (option_map owned_complex_view found)) }
 {
-    match read_reply_parts(alloc, choice, inc.parts()) {
+    match read_reply_parts(alloc, choice, incoming.parts()) {
         Ok(complex) => Ok(Some(complex)),
         Err(error) => match error {
             ReadError::Refused(_) => Ok(None),

@@ -8,67 +8,40 @@ ghost use Rattle.bac_segment.specs.Window.Taking.{TooLong};
 ghost use Rattle.bac_segment.specs.declared.incoming.Step.TheVariants.{Whole};
 ghost use Rattle.bac_service.specs.Services.{reads_reply};
 ghost use Rattle.bac_protocol.specs.Client.{answered_with, client_ack, conf_segment_taken, gets_next_segment, segmented_conf_gets};
-ghost use Rattle.bac_ends.specs.Sends.{IsSent, Pairwise, to_all};
 ghost use Rattle.bac_client.specs.Fits.{IsShort};
-ghost use Rattle.bac_client.specs.Reacts.{Finishes, Reacts, TakesSegment, acks_of};
-ghost use Rattle.bac_client.specs.Views.{ask_view, context_view, peer_of, ticket_view};
+ghost use Rattle.bac_client.specs.Reacts.{Finishes, Reacts, TakesSegment};
+ghost use Rattle.bac_ends.specs.Views.{context_view};
+ghost use Rattle.bac_client.specs.Views.{ask_view, ticket_view};
 ghost use Rattle.bac_client.specs.declared.ticket.Phase.TheVariants.{SegmentedConf as Conf};
 
-use crate::context::Context;
 use crate::ending::Ending;
 use crate::getting::gets_refusal;
 use crate::held::Held;
-use crate::reacted::{Finish, Reacted, closes, stays};
+use crate::reaction::{Finish, Reaction, closes, stays};
 use crate::reading::read_parts;
-use crate::sending::{abort, abort_alone, ack};
+use crate::sending::abort;
 use crate::ticket::{Core, Phase, Ticket};
-use bac_apdu::{Apdu, Segment, Window};
-use bac_ends::Datagram;
+use bac_apdu::{Apdu, Segment};
+use bac_ends::{Context, only_abort, only_ack, step_acks};
+use bac_protocol::reasons::{BUFFER_OVERFLOW, OTHER};
 use bac_segment::{Incoming, Step};
 use bac_service::AnyReply;
 use bac_value::NoMemory;
 use std::alloc::Global;
-
-/// The reason 'other' of an Abort (clause 18.10).
-pub(crate) const OTHER: u8 = 0;
-
-/// The reason 'buffer-overflow' of an Abort (clause 18.10).
-const BUFFER_OVERFLOW: u8 = 1;
-
-/// What a segment is answered.
-fn step_acks(
-    alloc: Global,
-    context: &Context,
-    number: u8,
-    window: Window,
-    taken: usize,
-    step: Step,
-) -> Result<Vec<Datagram>, NoMemory>
-    ensures { IfOk result (λ v. Pairwise IsSent (to_all (peer_of context.now) (acks_of (context_view context.now) number window.size taken step)) v.items) }
-{
-    match step {
-        Step::Taken { ack: false } => Ok(Vec::new(alloc)),
-        Step::Taken { ack: true } | Step::Whole => ack(alloc, context, false, number, window),
-        Step::Nak => {
-            let last = (taken.saturating_sub(1) % 256) as u8;
-            ack(alloc, context, true, last, window)
-        }
-    }
-}
 
 /// All segments are there.
 fn finish_whole(
     alloc: Global,
     context: &Context,
     choice: u8,
-    inc: &Incoming,
+    incoming: &Incoming,
     number: u8,
 ) -> Result<Finish, NoMemory>
     ensures { IfOk result (Finishes context.now choice (answered_with (context_view context.now) reads_reply choice
-        (client_ack (context_view context.now) false number inc.now.window ∷ []) (join inc.now.parts))) }
+        (client_ack (context_view context.now) false number incoming.now.window ∷ []) (join incoming.now.parts))) }
 {
-    let mut sends = ack(alloc, context, false, number, inc.window())?;
-    let Some(complex) = read_parts(alloc, choice, inc)? else {
+    let mut sends = only_ack(alloc, context, false, false, number, incoming.window())?;
+    let Some(complex) = read_parts(alloc, choice, incoming)? else {
         let abort = abort(alloc, context, OTHER)?;
         sends.push(abort)?;
         return Ok(Finish {
@@ -87,12 +60,12 @@ fn too_long(
     alloc: Global,
     context: &Context,
     core: Core,
-    inc: Incoming,
-) -> Result<Reacted, (Core, Incoming)>
-    ensures { TakesSegment context.now (conf_segment_taken (context_view context.now) reads_reply core.choice 0 0 TooLong) core inc result }
+    incoming: Incoming,
+) -> Result<Reaction, (Core, Incoming)>
+    ensures { TakesSegment context.now (conf_segment_taken (context_view context.now) reads_reply core.choice 0 0 TooLong) core incoming result }
 {
-    let Ok(sends) = abort_alone(alloc, context, BUFFER_OVERFLOW) else {
-        return Err((core, inc));
+    let Ok(sends) = only_abort(alloc, context, false, BUFFER_OVERFLOW) else {
+        return Err((core, incoming));
     };
     let finish = Finish {
         sends,
@@ -106,22 +79,22 @@ fn takes_last(
     alloc: Global,
     context: &Context,
     core: Core,
-    mut inc: Incoming,
+    mut incoming: Incoming,
     number: u8,
     more: bool,
     octets: &[u8],
-) -> Result<Reacted, (Core, Incoming)>
-    requires { answer_of (takes inc number more octets.now) ≡ Ok Whole }
-    ensures { TakesSegment context.now (conf_segment_taken (context_view context.now) reads_reply core.choice number inc.window
-        (takes inc number more octets.now)) core inc result }
+) -> Result<Reaction, (Core, Incoming)>
+    requires { answer_of (takes incoming number more octets.now) ≡ Ok Whole }
+    ensures { TakesSegment context.now (conf_segment_taken (context_view context.now) reads_reply core.choice number incoming.window
+        (takes incoming number more octets.now)) core incoming result }
 {
-    let unacknowledged = inc.unacknowledged();
-    let Ok(_) = inc.on_segment(number, more, octets) else {
-        return Err((core, inc));
+    let unacknowledged = incoming.unacknowledged();
+    let Ok(_) = incoming.on_segment(number, more, octets) else {
+        return Err((core, incoming));
     };
-    let Ok(finish) = finish_whole(alloc, context, core.choice, &inc, number) else {
-        inc.take_back(unacknowledged);
-        return Err((core, inc));
+    let Ok(finish) = finish_whole(alloc, context, core.choice, &incoming, number) else {
+        incoming.take_back(unacknowledged);
+        return Err((core, incoming));
     };
     Ok(closes(core.first, finish))
 }
@@ -131,33 +104,34 @@ pub(crate) fn takes_segment(
     alloc: Global,
     context: &Context,
     mut core: Core,
-    mut inc: Incoming,
+    mut incoming: Incoming,
     number: u8,
     more: bool,
     octets: &[u8],
-) -> Result<Reacted, (Core, Incoming)>
-    requires { IsShort core.whole core.out }
-    ensures { TakesSegment context.now (conf_segment_taken (context_view context.now) reads_reply core.choice number inc.window
-        (takes inc number more octets.now)) core inc result }
+) -> Result<Reaction, (Core, Incoming)>
+    requires { IsShort core.whole core.outgoing }
+    ensures { TakesSegment context.now (conf_segment_taken (context_view context.now) reads_reply core.choice number incoming.window
+        (takes incoming number more octets.now)) core incoming result }
 {
-    let Ok(step) = inc.answer(number, more, octets) else {
-        return too_long(alloc, context, core, inc);
+    let Ok(step) = incoming.answer(number, more, octets) else {
+        return too_long(alloc, context, core, incoming);
     };
     if let Step::Whole = step {
-        return takes_last(alloc, context, core, inc, number, more, octets);
+        return takes_last(alloc, context, core, incoming, number, more, octets);
     }
-    let Ok(sends) = step_acks(alloc, context, number, inc.window(), inc.taken(), step) else {
-        return Err((core, inc));
+    let (window, taken) = (incoming.window(), incoming.taken());
+    let Ok(sends) = step_acks(alloc, context, false, number, window, taken, step) else {
+        return Err((core, incoming));
     };
-    let Ok(_) = inc.on_segment(number, more, octets) else {
-        return Err((core, inc));
+    let Ok(_) = incoming.on_segment(number, more, octets) else {
+        return Err((core, incoming));
     };
     core.since = context.moment;
     let ticket = Ticket {
         core,
-        phase: Phase::SegmentedConf { inc },
+        phase: Phase::SegmentedConf { incoming },
     };
-    Ok(Reacted {
+    Ok(Reaction {
         held: Held::Open(ticket),
         sends,
         ended: None,
@@ -169,19 +143,19 @@ fn gets_next_segment(
     alloc: Global,
     context: &Context,
     core: Core,
-    inc: Incoming,
+    incoming: Incoming,
     segment: Segment,
     choice: u8,
     octets: &[u8],
-) -> Result<Reacted, Ticket>
-    requires { IsShort core.whole core.out }
-    ensures { Reacts context.now (ticket_view core (Conf inc))
-        (gets_next_segment (context_view context.now) reads_reply (ask_view core) inc (segment_view segment) choice octets.now) result }
+) -> Result<Reaction, Ticket>
+    requires { IsShort core.whole core.outgoing }
+    ensures { Reacts context.now (ticket_view core (Conf incoming))
+        (gets_next_segment (context_view context.now) reads_reply (ask_view core) incoming (segment_view segment) choice octets.now) result }
 {
     if choice != core.choice {
         let ticket = Ticket {
             core,
-            phase: Phase::SegmentedConf { inc },
+            phase: Phase::SegmentedConf { incoming },
         };
         return Ok(stays(alloc, context, ticket));
     }
@@ -189,15 +163,15 @@ fn gets_next_segment(
         alloc,
         context,
         core,
-        inc,
+        incoming,
         segment.number,
         segment.more,
         octets,
     ) {
-        Ok(reacted) => Ok(reacted),
-        Err((core, inc)) => Err(Ticket {
+        Ok(reaction) => Ok(reaction),
+        Err((core, incoming)) => Err(Ticket {
             core,
-            phase: Phase::SegmentedConf { inc },
+            phase: Phase::SegmentedConf { incoming },
         }),
     }
 }
@@ -207,12 +181,12 @@ pub(crate) fn segmented_conf_gets(
     alloc: Global,
     context: &Context,
     core: Core,
-    inc: Incoming,
+    incoming: Incoming,
     apdu: &Apdu<'_>,
-) -> Result<Reacted, Ticket>
-    requires { IsShort core.whole core.out }
-    ensures { Reacts context.now (ticket_view core (Conf inc))
-        (segmented_conf_gets (context_view context.now) reads_reply (ask_view core) inc (apdu_view apdu.now)) result }
+) -> Result<Reaction, Ticket>
+    requires { IsShort core.whole core.outgoing }
+    ensures { Reacts context.now (ticket_view core (Conf incoming))
+        (segmented_conf_gets (context_view context.now) reads_reply (ask_view core) incoming (apdu_view apdu.now)) result }
 {
     if let Apdu::ComplexAck {
         segment,
@@ -222,12 +196,12 @@ pub(crate) fn segmented_conf_gets(
     } = *apdu
     {
         if let Some(segment) = segment {
-            return gets_next_segment(alloc, context, core, inc, segment, choice, service);
+            return gets_next_segment(alloc, context, core, incoming, segment, choice, service);
         }
     }
     let ticket = Ticket {
         core,
-        phase: Phase::SegmentedConf { inc },
+        phase: Phase::SegmentedConf { incoming },
     };
     Ok(gets_refusal(alloc, context, ticket, apdu))
 }

@@ -6,24 +6,25 @@ ghost use Rattle.bac_service.specs.Services.{reads_reply};
 ghost use Rattle.bac_protocol.specs.Client.{moves_request_window, segmented_request_gets};
 ghost use Rattle.bac_client.specs.Fits.{IsShort};
 ghost use Rattle.bac_client.specs.Reacts.{Reacts};
-ghost use Rattle.bac_client.specs.Views.{ask_view, context_view, ticket_view};
+ghost use Rattle.bac_ends.specs.Views.{context_view};
+ghost use Rattle.bac_client.specs.Views.{ask_view, ticket_view};
 ghost use Rattle.bac_client.specs.declared.ticket.Phase.TheVariants.{SegmentedRequest};
 
 use crate::asking::ends_all;
 use crate::await_confirmation::await_confirmation_gets;
-use crate::context::Context;
 use crate::getting::gets_refusal;
 use crate::held::Held;
-use crate::reacted::{Reacted, stays};
+use crate::reaction::{Reaction, stays};
 use crate::sending::window;
 use crate::ticket::{Core, Phase, Ticket};
 use bac_apdu::{Apdu, Window};
+use bac_ends::Context;
 use bac_segment::Progress;
 use std::alloc::Global;
 
 /// The ticket in that state, with its timer anew.
 fn goes_on(core: Core, phase: Phase, now: u64) -> Ticket
-    requires { IsShort core.whole core.out }
+    requires { IsShort core.whole core.outgoing }
     ensures { result ≡ record (ticket_view core phase) { since = now } }
 {
     let mut core = core;
@@ -39,34 +40,37 @@ fn gets_segment_ack(
     all_sent: bool,
     number: u8,
     granted: Window,
-) -> Result<Reacted, Ticket>
-    requires { IsShort core.whole core.out }
+) -> Result<Reaction, Ticket>
+    requires { IsShort core.whole core.outgoing }
     ensures { Reacts context.now (ticket_view core (SegmentedRequest all_sent)) (moves_request_window (context_view context.now) core.choice all_sent
-        (acknowledged context.now.settings.window.size core.out number granted.size)) result }
+        (acknowledged context.now.settings.window.size core.outgoing number granted.size)) result }
 {
-    let was = core.out.position();
-    match core.out.on_ack(number, granted, context.settings.window) {
+    let was = core.outgoing.position();
+    match core
+        .outgoing
+        .on_ack(number, granted, context.settings.window)
+    {
         Progress::Ignored => {
             let phase = Phase::SegmentedRequest { all_sent };
             Ok(stays(alloc, context, Ticket { core, phase }))
         }
         Progress::Finished => {
             let ticket = goes_on(core, Phase::AwaitConfirmation, context.moment);
-            Ok(Reacted {
+            Ok(Reaction {
                 held: Held::Open(ticket),
                 sends: Vec::new(alloc),
                 ended: None,
             })
         }
         Progress::Moved => {
-            let Ok(sends) = window(alloc, context, core.choice, &core.out) else {
-                core.out.go_back(was);
+            let Ok(sends) = window(alloc, context, core.choice, &core.outgoing) else {
+                core.outgoing.go_back(was);
                 let phase = Phase::SegmentedRequest { all_sent };
                 return Err(Ticket { core, phase });
             };
-            let all_sent = all_sent || ends_all(&core.out);
+            let all_sent = all_sent || ends_all(&core.outgoing);
             let ticket = goes_on(core, Phase::SegmentedRequest { all_sent }, context.moment);
-            Ok(Reacted {
+            Ok(Reaction {
                 held: Held::Open(ticket),
                 sends,
                 ended: None,
@@ -82,10 +86,10 @@ pub(crate) fn segmented_request_gets(
     core: Core,
     all_sent: bool,
     apdu: &Apdu<'_>,
-) -> Result<Reacted, Ticket>
-    requires { IsShort core.whole core.out }
+) -> Result<Reaction, Ticket>
+    requires { IsShort core.whole core.outgoing }
     ensures { Reacts context.now (ticket_view core (SegmentedRequest all_sent))
-        (segmented_request_gets (context_view context.now) reads_reply (ask_view core) core.out all_sent (apdu_view apdu.now)) result }
+        (segmented_request_gets (context_view context.now) reads_reply (ask_view core) core.outgoing all_sent (apdu_view apdu.now)) result }
 {
     match *apdu {
         Apdu::SegmentAck {

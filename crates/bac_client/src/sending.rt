@@ -3,41 +3,17 @@ ghost use Rattle.std.specs.Prelude.{◌≡◌, ◌+◌, ◌-◌, ◌<◌, ◌≤
 ghost use Rattle.bac_apdu.specs.Apdu.Apdu.{ConfirmedRequest};
 ghost use Rattle.bac_apdu.specs.Views.{apdu_view};
 ghost use Rattle.bac_segment.specs.Window.{in_window};
-ghost use Rattle.bac_protocol.specs.Client.{client_abort, client_ack, request_piece, request_window};
+ghost use Rattle.bac_protocol.specs.Client.{client_abort, request_piece, request_window};
 ghost use Rattle.bac_protocol.specs.Wire.{pieces_from};
 ghost use Rattle.bac_ends.specs.Sends.{IsSent, Pairwise, to_all, to_peer};
-ghost use Rattle.bac_client.specs.Fits.{ArePiecesShort};
-ghost use Rattle.bac_client.specs.Views.{context_view, peer_of};
+ghost use Rattle.bac_ends.specs.Segments.{ArePiecesShort};
+ghost use Rattle.bac_ends.specs.Views.{context_view, peer_of};
 
-use crate::context::Context;
-use bac_apdu::{Apdu, Segment, Window};
-use bac_ends::{Datagram, abort_datagram, ack_datagram, datagram_of};
+use bac_apdu::{Apdu, Segment};
+use bac_ends::{Context, Datagram, abort_datagram, datagram_of, only_apdu};
 use bac_segment::Outgoing;
 use bac_value::NoMemory;
 use std::alloc::Global;
-
-fn only(alloc: Global, datagram: Datagram) -> Result<Vec<Datagram>, NoMemory>
-    ensures { IfOk result (λ v. v.items ≡ datagram ∷ []) }
-{
-    let mut sends = Vec::new(alloc);
-    sends.push(datagram)?;
-    Ok(sends)
-}
-
-/// A SegmentACK.
-pub(crate) fn ack(
-    alloc: Global,
-    context: &Context,
-    nak: bool,
-    number: u8,
-    window: Window,
-) -> Result<Vec<Datagram>, NoMemory>
-    ensures { IfOk result (λ v. Pairwise IsSent (to_all (peer_of context.now) (client_ack (context_view context.now) nak number window.size ∷ [])) v.items) }
-{
-    let key = &context.key;
-    let ack = ack_datagram(alloc, &key.peer, false, key.invoke_id, nak, number, window)?;
-    only(alloc, ack)
-}
 
 /// An Abort.
 pub(crate) fn abort(alloc: Global, context: &Context, reason: u8) -> Result<Datagram, NoMemory>
@@ -45,18 +21,6 @@ pub(crate) fn abort(alloc: Global, context: &Context, reason: u8) -> Result<Data
 {
     let key = &context.key;
     abort_datagram(alloc, &key.peer, false, key.invoke_id, reason)
-}
-
-/// An Abort, alone.
-pub(crate) fn abort_alone(
-    alloc: Global,
-    context: &Context,
-    reason: u8,
-) -> Result<Vec<Datagram>, NoMemory>
-    ensures { IfOk result (λ v. Pairwise IsSent (to_all (peer_of context.now) (client_abort (context_view context.now) reason ∷ [])) v.items) }
-{
-    let abort = abort(alloc, context, reason)?;
-    only(alloc, abort)
 }
 
 /// The whole request, in one APDU.
@@ -78,15 +42,14 @@ pub(crate) fn whole_request(
         choice,
         service,
     };
-    let datagram = datagram_of(alloc, &context.key.peer, &request)?;
-    only(alloc, datagram)
+    only_apdu(alloc, context, &request)
 }
 
-fn piece_apdu<'a>(context: &Context, choice: u8, out: &'a Outgoing, n: usize) -> Apdu<'a>
-    requires { n < length out.now.pieces }
-    ensures { apdu_view result ≡ request_piece (context_view context.now) choice out.now.pieces n }
+fn piece_apdu<'a>(context: &Context, choice: u8, outgoing: &'a Outgoing, n: usize) -> Apdu<'a>
+    requires { n < length outgoing.now.pieces }
+    ensures { apdu_view result ≡ request_piece (context_view context.now) choice outgoing.now.pieces n }
 {
-    let count = out.count();
+    let count = outgoing.count();
     let segment = Segment {
         more: n + 1 < count,
         number: (n % 256) as u8,
@@ -97,7 +60,7 @@ fn piece_apdu<'a>(context: &Context, choice: u8, out: &'a Outgoing, n: usize) ->
         invoke_id: context.key.invoke_id,
         segment: Some(segment),
         choice,
-        service: out.piece(n),
+        service: outgoing.piece(n),
     }
 }
 
@@ -105,14 +68,14 @@ fn piece(
     alloc: Global,
     context: &Context,
     choice: u8,
-    out: &Outgoing,
+    outgoing: &Outgoing,
     n: usize,
 ) -> Result<Datagram, NoMemory>
-    requires within { n < length out.now.pieces }
-    requires short { ArePiecesShort out.now }
-    ensures { IfOk result (IsSent (to_peer (peer_of context.now) (request_piece (context_view context.now) choice out.now.pieces n))) }
+    requires within { n < length outgoing.now.pieces }
+    requires short { ArePiecesShort 1470 outgoing.now }
+    ensures { IfOk result (IsSent (to_peer (peer_of context.now) (request_piece (context_view context.now) choice outgoing.now.pieces n))) }
 {
-    let apdu = piece_apdu(context, choice, out, n);
+    let apdu = piece_apdu(context, choice, outgoing, n);
     datagram_of(alloc, &context.key.peer, &apdu)
 }
 
@@ -121,19 +84,19 @@ pub(crate) fn pieces(
     alloc: Global,
     context: &Context,
     choice: u8,
-    out: &Outgoing,
+    outgoing: &Outgoing,
     start: usize,
     end: usize,
 ) -> Result<Vec<Datagram>, NoMemory>
     requires forward { start ≤ end }
-    requires within { end ≤ length out.now.pieces }
-    requires short { ArePiecesShort out.now }
+    requires within { end ≤ length outgoing.now.pieces }
+    requires short { ArePiecesShort 1470 outgoing.now }
     ensures { IfOk result (λ v. Pairwise IsSent (to_all (peer_of context.now)
-        (pieces_from (request_piece (context_view context.now) choice out.now.pieces) start (end - start))) v.items) }
+        (pieces_from (request_piece (context_view context.now) choice outgoing.now.pieces) start (end - start))) v.items) }
 {
     let mut sends = Vec::new(alloc);
     for n in start..end {
-        let datagram = piece(alloc, context, choice, out, n)?;
+        let datagram = piece(alloc, context, choice, outgoing, n)?;
         sends.push(datagram)?;
     }
     Ok(sends)
@@ -144,11 +107,11 @@ pub(crate) fn window(
     alloc: Global,
     context: &Context,
     choice: u8,
-    out: &Outgoing,
+    outgoing: &Outgoing,
 ) -> Result<Vec<Datagram>, NoMemory>
-    requires { ArePiecesShort out.now }
-    ensures { IfOk result (λ v. Pairwise IsSent (to_all (peer_of context.now) (request_window (context_view context.now) choice out.now)) v.items) }
+    requires { ArePiecesShort 1470 outgoing.now }
+    ensures { IfOk result (λ v. Pairwise IsSent (to_all (peer_of context.now) (request_window (context_view context.now) choice outgoing.now)) v.items) }
 {
-    let window = out.window();
-    pieces(alloc, context, choice, out, window.start, window.end)
+    let window = outgoing.window();
+    pieces(alloc, context, choice, outgoing, window.start, window.end)
 }

@@ -3,7 +3,7 @@ ghost use Rattle.std.specs.Prelude.{◌≤◌};
 
 use super::*;
 use bac_apdu::{Limits, Window, read};
-use bac_ends::{Datagram, PeerKey, Settings};
+use bac_ends::{Context, Datagram, PeerKey, Settings};
 use bac_npdu::Peer;
 use bac_service::AnyReply;
 use bac_value::NoMemory;
@@ -131,13 +131,13 @@ fn hears(alloc: Global, line: &Line<'_>, ticket: Ticket) -> Result<Played, Fail>
     let Ok(apdu) = read(line.apdu) else {
         return Err(Fail::new("no APDU"));
     };
-    let Ok(reacted) = ticket.gets(alloc, &context(line.moment), &apdu) else {
+    let Ok(reaction) = ticket.gets(alloc, &context(line.moment), &apdu) else {
         return Err(Fail::new("out of memory"));
     };
-    let heads = heads(alloc, &reacted.sends)?;
+    let heads = heads(alloc, &reaction.sends)?;
     Ok(Played {
-        held: reacted.held,
-        right: heads.as_slice() == line.sends && end_of(&reacted.ended) == line.end,
+        held: reaction.held,
+        right: heads.as_slice() == line.sends && end_of(&reaction.ended) == line.end,
     })
 }
 
@@ -163,9 +163,10 @@ fn plays(alloc: Global, ticket: Ticket, lines: &[Line<'_>]) -> Result<bool, Fail
 
 /// A request of a service choice was asked, with these service data.
 fn asked(alloc: Global, choice: u8, service: &[u8]) -> Result<Begun, Fail> {
-    let octets = Vec::from_slice(alloc, service)?;
-    let Ok(request) = OutgoingRequest::new(&SETTINGS, &LIMITS, choice, octets) else {
+    let Ok(way) = RequestWay::of(&SETTINGS, &LIMITS, service.len()) else {
         return Err(Fail::new("it can't go"));
     };
+    let octets = Vec::from_slice(alloc, service)?;
+    let request = OutgoingRequest::new(choice, way, octets);
     Ok(Ticket::begin(alloc, &context(FIRST), request)?)
 }

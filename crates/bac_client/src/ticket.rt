@@ -14,7 +14,7 @@ pub(crate) struct Core {
     pub(crate) choice: u8,
     /// Whether the request goes in one APDU.
     pub(crate) whole: bool,
-    pub(crate) out: Outgoing,
+    pub(crate) outgoing: Outgoing,
     /// The repeats of the request that are left.
     pub(crate) repeats: u8,
     /// The moment from which the timer runs.
@@ -27,7 +27,7 @@ pub(crate) enum Phase {
     /// `all_sent` is SentAllSegments.
     SegmentedRequest { all_sent: bool },
     AwaitConfirmation,
-    SegmentedConf { inc: Incoming },
+    SegmentedConf { incoming: Incoming },
 }
 
 /// A transaction of a client that has not ended: its request, its state and its timer.
@@ -47,7 +47,7 @@ impl Model for Ticket {
 
     ghost view = { λ t. ticket_view t.core t.phase };
 
-    ghost invariant = { λ t. IsShort t.core.whole t.core.out };
+    ghost invariant = { λ t. IsShort t.core.whole t.core.outgoing };
 }
 
 impl Ticket {

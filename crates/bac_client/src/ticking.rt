@@ -6,17 +6,17 @@ ghost use Rattle.bac_protocol.specs.Client.{after, client_ticks, repeats, sends_
 ghost use Rattle.bac_ends.specs.Ends.{kept};
 ghost use Rattle.bac_client.specs.Fits.{IsShort};
 ghost use Rattle.bac_client.specs.Reacts.{IsDue};
-ghost use Rattle.bac_client.specs.Views.{context_view, ending_view, held_view, ticket_view};
+ghost use Rattle.bac_ends.specs.Views.{context_view};
+ghost use Rattle.bac_client.specs.Views.{ending_view, held_view, ticket_view};
 ghost use Rattle.bac_client.specs.declared.ticket.Phase.{Phase};
 ghost use Rattle.bac_client.specs.declared.ticket.Phase.TheVariants.{SegmentedRequest};
 
 use crate::asking::ends_all;
-use crate::context::Context;
 use crate::ending::Ending;
 use crate::held::Held;
 use crate::sending::{pieces, whole_request, window};
 use crate::ticket::{Core, Phase, Ticket};
-use bac_ends::Datagram;
+use bac_ends::{Context, Datagram};
 use bac_protocol::times::{T_OUT, T_SEG, WAIT_SEG};
 use bac_segment::Timeout;
 use bac_value::NoMemory;
@@ -53,17 +53,17 @@ fn ended(alloc: Global, how: Ending) -> Due
 
 /// The request is sent again, from its beginning.
 fn repeat_sends(alloc: Global, context: &Context, core: &Core) -> Result<Due, NoMemory>
-    requires { IsShort core.now.whole core.now.out }
+    requires { IsShort core.now.whole core.now.outgoing }
     ensures { (p : Phase) → IfOk result (IsDue context.now (ticket_view core.now p) (repeats (context_view context.now) (ticket_view core.now p))) }
 {
     if core.repeats == 0 {
         return Ok(ended(alloc, Ending::TimedOut));
     }
     let sends = if core.whole {
-        whole_request(alloc, context, core.choice, core.out.octets())?
+        whole_request(alloc, context, core.choice, core.outgoing.octets())?
     } else {
-        let end = core.out.count().min(1);
-        pieces(alloc, context, core.choice, &core.out, 0, end)?
+        let end = core.outgoing.count().min(1);
+        pieces(alloc, context, core.choice, &core.outgoing, 0, end)?
     };
     Ok(Due { sends, ended: None })
 }
@@ -75,20 +75,20 @@ fn window_sends(
     core: &Core,
     all_sent: bool,
 ) -> Result<Due, NoMemory>
-    requires { IsShort core.now.whole core.now.out }
+    requires { IsShort core.now.whole core.now.outgoing }
     ensures { (p : Phase) → IfOk result (IsDue context.now (ticket_view core.now p)
-        (sends_request_again (context_view context.now) core.now.choice all_sent (again core.now.out))) }
+        (sends_request_again (context_view context.now) core.now.choice all_sent (again core.now.outgoing))) }
 {
-    if !core.out.has_retry() {
+    if !core.outgoing.has_retry() {
         return Ok(ended(alloc, Ending::TimedOut));
     }
-    let sends = window(alloc, context, core.choice, &core.out)?;
+    let sends = window(alloc, context, core.choice, &core.outgoing)?;
     Ok(Due { sends, ended: None })
 }
 
 /// The request was sent again.
 fn repeated(context: &Context, mut core: Core, phase: Phase) -> Held
-    requires { IsShort core.whole core.out }
+    requires { IsShort core.whole core.outgoing }
     ensures { held_view result ≡ kept (after context.now.moment (ticket_view core phase) (repeats (context_view context.now) (ticket_view core phase))) }
 {
     if core.repeats == 0 {
@@ -99,21 +99,21 @@ fn repeated(context: &Context, mut core: Core, phase: Phase) -> Held
     if core.whole {
         return Held::Open(Ticket { core, phase });
     }
-    core.out.restart();
+    core.outgoing.restart();
     let phase = Phase::SegmentedRequest { all_sent: true };
     Held::Open(Ticket { core, phase })
 }
 
 /// The window of the request was sent again.
 fn window_repeated(context: &Context, mut core: Core, all_sent: bool) -> Held
-    requires { IsShort core.whole core.out }
+    requires { IsShort core.whole core.outgoing }
     ensures { held_view result ≡ kept (after context.now.moment (ticket_view core (SegmentedRequest all_sent))
-        (sends_request_again (context_view context.now) core.choice all_sent (again core.out))) }
+        (sends_request_again (context_view context.now) core.choice all_sent (again core.outgoing))) }
 {
-    match core.out.on_timeout() {
+    match core.outgoing.on_timeout() {
         Timeout::GivenUp => Held::Closed { first: core.first },
         Timeout::Again => {
-            let all_sent = all_sent || ends_all(&core.out);
+            let all_sent = all_sent || ends_all(&core.outgoing);
             core.since = context.moment;
             let phase = Phase::SegmentedRequest { all_sent };
             Held::Open(Ticket { core, phase })
@@ -167,11 +167,11 @@ impl Ticket {
             Phase::AwaitConfirmation if waited >= T_OUT => {
                 repeated(context, core, Phase::AwaitConfirmation)
             }
-            Phase::SegmentedConf { inc } if waited >= WAIT_SEG => {
+            Phase::SegmentedConf { incoming } if waited >= WAIT_SEG => {
                 if !core.whole {
                     return Held::Closed { first: core.first };
                 }
-                repeated(context, core, Phase::SegmentedConf { inc })
+                repeated(context, core, Phase::SegmentedConf { incoming })
             }
             phase => Held::Open(Ticket { core, phase }),
         }

@@ -210,7 +210,7 @@ module _ (S : Type 0) (shop : Shop S) (x : Rules) (now number : ℕ) (key : Key)
   still_open : (w : World S) (q : Duo S) (first : ℕ) → Shows w q first → is_ended (w.net.tickets key) ≡ is_idle q.ticket.phase
   still_open w q first h = ap is_ended h.ticket
 
-  not_stopped : (w u : World S) (q : Duo S) (first : ℕ) (xs : List Apdu) (a : Apdu) → Shows w q first → q.pending ≡ a ∷ xs → is_idle q.ticket.phase ≡ false
+  pub not_stopped : (w u : World S) (q : Duo S) (first : ℕ) (xs : List Apdu) (a : Apdu) → Shows w q first → q.pending ≡ a ∷ xs → is_idle q.ticket.phase ≡ false
       → w ≡ u → Stops S key (first + 0) u → ⊥
   not_stopped w u q first xs a h is going same (inl e) = let f : is_ended (w.net.tickets key) ≡ true = ap
       (λ (v : World S). is_ended (v.net.tickets key)) same ∙ e in let g = still_open w q first h in cc
@@ -232,7 +232,7 @@ module _ (S : Type 0) (shop : Shop S) (x : Rules) (now number : ℕ) (key : Key)
   stops_at a b u e h = subst (λ (n : ℕ). Stops S key n u) e h
 
   module _ (Step : WorldSteps S) (machine : IsMachine S shop x key Step) where
-    went : (w u : World S) (q : Duo S) (first : ℕ) (xs : List Apdu) (a : Apdu) (free : Bool) → Step w (Deliver first free) u → Shows w q first
+    pub went : (w u : World S) (q : Duo S) (first : ℕ) (xs : List Apdu) (a : Apdu) (free : Bool) → Step w (Deliver first free) u → Shows w q first
         → q.pending ≡ a ∷ xs → length xs ≤ x.overtake → ((free ≡ true) ⊎ (is_none_live now q.entry ≡ false))
         → Shows u (step S shop x now number key q xs a) (suc first)
     went w u q first xs a free goes h is le room = like_shows u (delivers w first free) (step S shop x now number key q xs a) (suc first)

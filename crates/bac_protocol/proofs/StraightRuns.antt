@@ -43,7 +43,7 @@ module _ (S : Type 0) (shop : Shop S) (x : Rules) (w : World S) (key : Key) wher
   number = w.net.asks
 
   -- the world after the ask
-  abbrev asked : Ask → World S
+  abbrev pub asked : Ask → World S
   asked ask = ask_made S x w key ask
 
   abbrev asked_log : Ask → List Fact
@@ -57,7 +57,7 @@ module _ (S : Type 0) (shop : Shop S) (x : Rules) (w : World S) (key : Key) wher
   first_apdu ask true = client.request_apdu c ask
   first_apdu ask false = client.request_piece c ask.choice ask.pieces 0
 
-  abbrev first_duo : Ask → Bool → Duo S
+  abbrev pub first_duo : Ask → Bool → Duo S
   first_duo ask whole = record {
     ticket = record { ask = ask; phase = first_phase ask whole; repeats = RETRIES; since = now };
     entry = w.net.entries key;
@@ -79,7 +79,7 @@ module _ (S : Type 0) (shop : Shop S) (x : Rules) (w : World S) (key : Key) wher
   first_ticket ask true = refl
   first_ticket ask false = refl
 
-  asked_shows : (ask : Ask) → 0 < length ask.pieces → Shows S shop x now number key (asked ask) (first_duo ask ask.whole) (length w.net.posts)
+  pub asked_shows : (ask : Ask) → 0 < length ask.pieces → Shows S shop x now number key (asked ask) (first_duo ask ask.whole) (length w.net.posts)
   asked_shows ask any = record {
     ticket = set_same w.net.tickets key (Some (client.asked_ticket c ask)) ∙ ap (λ (t : Ticket). Some t) (first_ticket ask ask.whole);
     entry = refl;

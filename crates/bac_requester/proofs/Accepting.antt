@@ -12,8 +12,6 @@ use Rattle.bac_protocol.specs.Client.Reaction.{GoesOn}
 use Rattle.bac_protocol.specs.Client.Phase.{AwaitConfirmation}
 use Rattle.bac_segment.specs.Window.{outgoing}
 use Rattle.bac_protocol.specs.Service.{Octets}
-use Rattle.bac_protocol.specs.Sizes.{Way, RequestFault}
-use Rattle.bac_protocol.specs.Sizes.Way.{InOne, InSegments}
 use Rattle.bac_ends.specs.Ends.{Client, ClientEnd, ClientSlot, AskOutcome, AskRefusal, CannotGo, Held, MOST_ASKS, context_of, kept, is_held, is_held_there}
 use Rattle.bac_ends.specs.Ends.{is_id_held, is_slot_held, has_no_slot, least_not, accepts, asks_by_way, asks_for, asks_with_id}
 use Rattle.bac_ends.specs.Ends.Held.{Open}
@@ -21,11 +19,17 @@ use Rattle.bac_ends.specs.Keys as keys
 use Rattle.bac_ends.specs.Views.{code_same_key, peer_key_view, slot_view, slots_view}
 use Rattle.bac_ends.specs.declared.peer_key.PeerKey.{PeerKey}
 use Rattle.bac_ends.proofs.Keyed.{value_viewed, put_viewed, filter_viewed}
-use Rattle.bac_client.specs.Requests.{OutgoingRequest, ask_at, request_by_way}
+use Rattle.bac_service.specs.Spellings.{request_spelling}
+use Rattle.bac_service.specs.Values.{Request, choice_of}
+use Rattle.bac_client.specs.Requests.{ask_at, request_by}
+use Rattle.bac_client.specs.Views.{fault_view, way_view}
+use Rattle.bac_client.specs.declared.outgoing_request.RequestFault.{RequestFault}
+use Rattle.bac_client.specs.declared.outgoing_request.RequestWay.{RequestWay}
+use Rattle.bac_client.specs.declared.outgoing_request.RequestWay.TheVariants as way
 use Rattle.bac_requester.specs.Turns.{Asks, AsksTable, MayBegin}
 use Rattle.bac_requester.specs.Views.{Requester}
 use Rattle.bac_requester.specs.declared.asking.Asked.{Asked}
-use Rattle.bac_requester.specs.declared.asking.AskFault.{AskFault}
+use Rattle.bac_requester.specs.declared.ask_fault.AskFault.{AskFault}
 
 abbrev Slots : Type 0
 Slots = List (Slot PeerKey Client)
@@ -152,15 +156,19 @@ kept_open c ask = go ask.whole
 
 -- The way of a request.
 
-abbrev pub by_request : Settings → (now : ℕ) → PeerView → ClientEnd → Result OutgoingRequest RequestFault → AskOutcome
-by_request c now peer e (Ok r) = asks_for c now peer (ask_at now r) e
-by_request c now peer e (Err why) = AskOutcome.Refused (CannotGo why)
+-- the ask of a request that goes that way
+abbrev pub asked_by : (now : ℕ) → Request → RequestWay → Ask
+asked_by now r w = ask_at now (request_by (choice_of r) (request_spelling r) w)
 
-pub by_way : (c : Settings) (now : ℕ) (peer : PeerView) (choice : ℕ) (octets : Octets) (e : ClientEnd) (way : Way RequestFault)
-    → asks_by_way c now peer choice octets e way ≡ by_request c now peer e (request_by_way choice octets way)
-by_way c now peer choice octets e InOne = refl
-by_way c now peer choice octets e (InSegments pieces) = refl
-by_way c now peer choice octets e (Way.Refused why) = refl
+abbrev pub by_result : Settings → (now : ℕ) → PeerView → (choice : ℕ) → Octets → ClientEnd → Result RequestWay RequestFault → AskOutcome
+by_result c now peer choice octets e (Ok w) = asks_for c now peer (ask_at now (request_by choice octets w)) e
+by_result c now peer choice octets e (Err why) = AskOutcome.Refused (CannotGo (fault_view why))
+
+pub by_way : (c : Settings) (now : ℕ) (peer : PeerView) (choice : ℕ) (octets : Octets) (e : ClientEnd) (r : Result RequestWay RequestFault)
+    → asks_by_way c now peer choice octets e (way_view octets r) ≡ by_result c now peer choice octets e r
+by_way c now peer choice octets e (Ok way.InOne) = refl
+by_way c now peer choice octets e (Ok (way.InSegments size)) = refl
+by_way c now peer choice octets e (Err why) = refl
 
 -- The end after an ask.
 

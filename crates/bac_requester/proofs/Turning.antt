@@ -19,10 +19,11 @@ use Rattle.bac_ends.specs.Sends.{Datagram, IsSent, Pairwise, to_all}
 use Rattle.bac_ends.specs.Views.{code_same_key, peer_key_view, settings_view, slots_view}
 use Rattle.bac_ends.specs.declared.peer_key.PeerKey.{PeerKey}
 use Rattle.bac_ends.proofs.Keyed.{value_viewed, with_value_viewed}
-use Rattle.bac_client.specs.Reacts.{IsReacted, MeansEnd}
-use Rattle.bac_client.specs.Views.{context_view, ending_view, held_view}
-use Rattle.bac_client.specs.declared.context.Context.{Context}
-use Rattle.bac_client.specs.declared.reacted.Reacted.{Reacted}
+use Rattle.bac_client.specs.Reacts.{IsReaction, MeansEnd}
+use Rattle.bac_ends.specs.Views.{context_view}
+use Rattle.bac_client.specs.Views.{ending_view, held_view}
+use Rattle.bac_ends.specs.declared.context.Context.{Context}
+use Rattle.bac_client.specs.declared.reaction.Reaction.{Reaction}
 use Rattle.bac_npdu.specs.Peers.{PeerView}
 use Rattle.bac_value.specs.declared.memory.NoMemory.{NoMemory}
 use Rattle.bac_requester.specs.Turns.{Hears, HearsTable, IsTold, finishes_with, hears_key}
@@ -97,9 +98,9 @@ heard_unchanged key old mid new u v w capacity room asked is out same set kept =
     same_end old new capacity room asked (back key old mid new u v w is out same set) kept
 
 -- its ticket goes on
-pub heard_open : (c : Context) (a : Apdu) (old mid new : Slots) (v w : Client) (capacity room asked number : ℕ) (t : Ticket) (r : Reacted) (x : Turn)
+pub heard_open : (c : Context) (a : Apdu) (old mid new : Slots) (v w : Client) (capacity room asked number : ℕ) (t : Ticket) (r : Reaction) (x : Turn)
     → value_at code_same_key c.key old ≡ Some (record { number = number; held = Open t }) → mid ≡ with_value code_same_key c.key v old
-    → IsReacted c t (client_gets (context_view c) reads_reply t a) r
+    → IsReaction c t (client_gets (context_view c) reads_reply t a) r
     → w ≡ record { number = number; held = held_view r.held } → new ≡ with_value code_same_key c.key w mid → room ≡ capacity
     → x.sends.items ≡ r.sends.items → finishes_of x.ended ≡ finishes_with number (option_map ending_view r.ended)
     → HearsTable (turn_of c a (end_of old capacity asked)) (end_of old capacity asked) (Ok x) (end_of new room asked)

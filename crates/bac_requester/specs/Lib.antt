@@ -1,2 +1,3 @@
 pub mod Views
+pub mod Faults
 pub mod Turns

@@ -18,8 +18,8 @@ use Rattle.bac_requester.specs.Views.{Requester, finish_view, finishes_of}
 use Rattle.bac_requester.specs.declared.turn.Turn.{Turn}
 use Rattle.bac_requester.specs.declared.turn.Due.{Due}
 use Rattle.bac_requester.specs.declared.asking.Asked.{Asked}
-use Rattle.bac_requester.specs.declared.asking.AskFault.{AskFault}
-use Rattle.bac_requester.specs.declared.asking.AskFault.TheVariants as fault
+use Rattle.bac_requester.specs.declared.ask_fault.AskFault.{AskFault}
+use Rattle.bac_requester.specs.declared.ask_fault.AskFault.TheVariants as fault
 use Rattle.bac_protocol.specs.Sizes.{RequestFault}
 use Rattle.bac_ends.specs.Ends.{Accepted, AskOutcome, AskRefusal, CannotGo}
 
@@ -62,6 +62,7 @@ MayBegin (AskOutcome.Refused why) = ⊥
 
 -- the fault says why an ask with that outcome has no ticket; out of memory is told only of one that would be accepted
 abbrev pub Refuses : AskFault → AskOutcome → Type 0
+Refuses fault.ClockBack outcome = ⊥
 Refuses fault.SelfPeer outcome = ⊥
 Refuses fault.TooLong outcome = outcome ≡ AskOutcome.Refused (CannotGo RequestFault.TooLong)
 Refuses fault.NeedsSegments outcome = outcome ≡ AskOutcome.Refused (CannotGo RequestFault.NeedsSegments)

@@ -1,20 +1,28 @@
 //! An ask.
-ghost use Rattle.std.specs.Prelude.{◌≡◌, ℕ, ◌+◌, ◌-◌, ◌<◌, ◌∷◌, [], ◌++◌, ◌||◌, Some, None, false, filter, count_by, length, nat_le, not};
+ghost use Rattle.std.specs.Prelude.{◌≡◌, ℕ, ◌+◌, ◌-◌, ◌<◌, ◌∷◌, [], ◌++◌, ◌||◌, IfOk, Some, None, false, filter, count_by, length, nat_le, not};
 ghost use Rattle.bac_npdu.specs.Views.{peer_view};
 ghost use Rattle.bac_slots.specs.declared.slot.Slot.{Slot};
 ghost use Rattle.bac_slots.specs.Slots.{value_at};
 ghost use Rattle.bac_ends.specs.Ends as ends;
 ghost use Rattle.bac_ends.specs.Ends.{asks_for, has_no_slot, is_held, is_id_held, is_slot_held, least_not};
 ghost use Rattle.bac_ends.specs.Views.{code_same_key, peer_key_view, settings_view, slots_view};
-ghost use Rattle.bac_client.specs.Requests.{ask_at};
+ghost use Rattle.bac_service.specs.Spellings.{request_spelling};
+ghost use Rattle.bac_service.specs.Values.{choice_of};
+ghost use Rattle.bac_service.specs.Views.{request_view};
+ghost use Rattle.bac_client.specs.Fits.{IsWayFor};
+ghost use Rattle.bac_client.specs.Reacts.{IsBegun};
+ghost use Rattle.bac_client.specs.Requests.{ask_at, request_by};
 ghost use Rattle.bac_requester.specs.Turns.{AsksTable};
 ghost use Rattle.bac_requester.specs.Views.{end_of};
 
+use crate::ask_fault::AskFault;
 use crate::client::{Client, HeldAt};
-use bac_client::{Begun, Context, Held, OutgoingRequest, Ticket};
-use bac_ends::{Datagram, PeerKey, Settings};
+use bac_client::{Begun, Held, OutgoingRequest, RequestWay, Ticket};
+use bac_ends::{Context, Datagram, PeerKey, Settings};
 use bac_npdu::Peer;
+use bac_service::{AnyRequest, Request, Service, write_request};
 use bac_slots::{SlotTable, count_passing, sweep, sweeping_slots};
+use bac_value::NoMemory;
 use std::alloc::Global;
 
 /// An accepted ask.
@@ -22,25 +30,10 @@ use std::alloc::Global;
 pub struct Asked {
     /// The ticket's number: how many asks were accepted before.
     pub ticket: u64,
+    /// Its invoke ID: the least that was not held for the peer.
     pub invoke_id: u8,
+    /// The whole request, or its segment 0.
     pub sends: Vec<Datagram>,
-}
-
-/// Why an ask was refused. They are tested in this order.
-#[derive(Clone, Copy, Debug, PartialEq, Eq)]
-pub enum AskFault {
-    /// The peer's link is the node's own.
-    SelfPeer,
-    /// The service data have more than 65,535 octets.
-    TooLong,
-    /// The request does not fit one APDU, and the peer takes no segments or fewer than are needed.
-    NeedsSegments,
-    /// All 256 invoke IDs are held for that peer.
-    NoInvokeId,
-    /// All slots are held, or 2^64 - 1 asks were accepted.
-    NoSlot,
-    /// Memory was refused.
-    NoMemory,
 }
 
 /// Whether a slot that is held has that invoke ID for the peer.
@@ -117,7 +110,37 @@ fn enter<S: SlotTable<PeerKey, Client>>(table: &mut S, context: &Context, client
     put(table, context.key, now, client);
 }
 
-/// A request that can go is asked.
+/// The service choice of a request.
+fn choice_of(request: Request<'_>) -> u8
+    ensures { result ≡ choice_of (request_view request.entry) }
+{
+    let service = match request {
+        AnyRequest::ReadFile(_) => Service::AtomicReadFile,
+        AnyRequest::WriteFile(_) => Service::AtomicWriteFile,
+        AnyRequest::ReadProperty(_) => Service::ReadProperty,
+        AnyRequest::WriteProperty(_) => Service::WriteProperty,
+    };
+    service.choice()
+}
+
+/// The service data of a request are written, and it is sent for the first time.
+fn begin(
+    alloc: Global,
+    context: &Context,
+    way: RequestWay,
+    request: Request<'_>,
+) -> Result<Begun, NoMemory>
+    requires { IsWayFor way (length (request_spelling (request_view request))) }
+    ensures { IfOk result (IsBegun context.now (ask_at context.now.moment
+        (request_by (choice_of (request_view request.entry)) (request_spelling (request_view request.entry)) way))) }
+{
+    let mut service = Vec::new(alloc);
+    write_request(request, &mut service)?;
+    let outgoing = OutgoingRequest::new(choice_of(request), way, service);
+    Ticket::begin(alloc, context, outgoing)
+}
+
+/// A request that can go that way is asked. Memory is taken once an invoke ID and a slot are found.
 pub(crate) fn ask<S: SlotTable<PeerKey, Client>>(
     alloc: Global,
     settings: &Settings,
@@ -125,9 +148,12 @@ pub(crate) fn ask<S: SlotTable<PeerKey, Client>>(
     asked: &mut u64,
     now: u64,
     peer: &Peer,
-    request: OutgoingRequest,
+    way: RequestWay,
+    request: Request<'_>,
 ) -> Result<Asked, AskFault>
-    ensures { AsksTable (asks_for (settings_view settings.now) now (peer_view peer.now) (ask_at now request)
+    requires { IsWayFor way (length (request_spelling (request_view request))) }
+    ensures { AsksTable (asks_for (settings_view settings.now) now (peer_view peer.now)
+        (ask_at now (request_by (choice_of (request_view request.entry)) (request_spelling (request_view request.entry)) way))
         (end_of (S.slots table.old) (S.capacity table.old) asked.old)) (end_of (S.slots table.old) (S.capacity table.old) asked.old) result
         (end_of (S.slots table.new) (S.capacity table.new) asked.new) }
 {
@@ -145,7 +171,7 @@ pub(crate) fn ask<S: SlotTable<PeerKey, Client>>(
         },
         moment: now,
     };
-    let Ok(begun) = Ticket::begin(alloc, &context, request) else {
+    let Ok(begun) = begin(alloc, &context, way, request) else {
         return Err(AskFault::NoMemory);
     };
     let Begun { ticket, sends } = begun;

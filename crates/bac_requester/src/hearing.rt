@@ -11,8 +11,8 @@ ghost use Rattle.bac_requester.specs.Views.{end_of, finishes_of};
 use crate::client::Client;
 use crate::turn::{Finish, Turn};
 use bac_apdu::Apdu;
-use bac_client::{Context, Ending, Held, Reacted};
-use bac_ends::{Datagram, PeerKey};
+use bac_client::{Ending, Held, Reaction};
+use bac_ends::{Context, Datagram, PeerKey};
 use bac_slots::SlotTable;
 use bac_value::NoMemory;
 use std::alloc::Global;
@@ -76,8 +76,8 @@ pub(crate) fn hears<S: SlotTable<PeerKey, Client>>(
             Ok(nothing(alloc))
         }
         Held::Open(ticket) => match ticket.gets(alloc, context, apdu) {
-            Ok(reacted) => {
-                let Reacted { held, sends, ended } = reacted;
+            Ok(reaction) => {
+                let Reaction { held, sends, ended } = reaction;
                 put_back(table, key, Client { number, held });
                 Ok(turn_of(number, sends, ended))
             }

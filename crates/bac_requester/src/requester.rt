@@ -2,7 +2,11 @@
 ghost use Rattle.std.specs.Prelude.{◌≡◌, ◌↔◌, [], IfOk, IsErrOf};
 ghost use Rattle.bac_apdu.specs.Views.{apdu_view, limits_view};
 ghost use Rattle.bac_npdu.specs.Views.{peer_view};
+ghost use Rattle.bac_service.specs.Requests.{SpellsRequest};
 ghost use Rattle.bac_service.specs.Services.{reads_reply};
+ghost use Rattle.bac_service.specs.Spellings.{request_spelling};
+ghost use Rattle.bac_service.specs.Values.{choice_of};
+ghost use Rattle.bac_service.specs.Views.{owned_request_view, request_view};
 ghost use Rattle.bac_ends.specs.Ends.{CannotGo, client_asks, client_hears, clients_tick};
 ghost use Rattle.bac_ends.specs.Ends.AskOutcome.{Refused};
 ghost use Rattle.bac_ends.specs.Views.{settings_view};
@@ -10,15 +14,17 @@ ghost use Rattle.bac_client.specs.Views.{fault_view};
 ghost use Rattle.bac_requester.specs.Turns.{Asks, Hears, IsDue, Refuses};
 ghost use Rattle.bac_requester.specs.Views.{Requester as Requesting};
 
-use crate::asking::{AskFault, Asked, ask};
+use crate::ask_fault::AskFault;
+use crate::asking::{Asked, ask};
 use crate::client::Client;
 use crate::hearing::hears;
 use crate::ticking::{commit, prepare};
 use crate::turn::{Due, Turn};
 use bac_apdu::{Apdu, Limits};
-use bac_client::{Context, OutgoingRequest, RequestFault};
-use bac_ends::{PeerKey, Settings, invoke_id_of};
+use bac_client::{RequestFault, RequestWay};
+use bac_ends::{Context, PeerKey, Settings, invoke_id_of};
 use bac_npdu::Peer;
+use bac_service::{OwnedRequest, Request, request_len};
 use bac_slots::SlotTable;
 use bac_value::NoMemory;
 use std::alloc::Global;
@@ -77,25 +83,27 @@ impl<S: SlotTable<PeerKey, Client> + Drop> Requester<S> {
         })
     }
 
-    /// Asks a peer that takes so much, with the service data of a request of a service choice. It takes the least invoke ID that is not held for the
-    /// peer, and a slot that is not held. After a fault nothing has changed.
+    /// Asks a peer that takes so much for a request. It takes the least invoke ID that is not held for the peer, and a slot that is not held. After a
+    /// fault nothing has changed; `ClockBack` is never answered, and memory is taken only where no other fault holds.
     pub fn ask(
         &mut self,
         now: u64,
         peer: &Peer,
         limits: &Limits,
-        choice: u8,
-        service: Vec<u8>,
+        request: &OwnedRequest,
     ) -> Result<Asked, AskFault>
         ensures own { IsErrOf result AskFault.SelfPeer ↔ (peer.now.link ≡ self.old.link) }
+        ensures spelled { (peer.now.link ≡ self.old.link → ⊥)
+            → SpellsRequest (choice_of (owned_request_view request.now)) (owned_request_view request.now) (request_spelling (owned_request_view request.now)) }
         ensures asks { (peer.now.link ≡ self.old.link → ⊥)
-            → Asks (client_asks self.old.settings now (peer_view peer.now) (limits_view limits.now) choice service.items self.old.end) self.old result self.new }
+            → Asks (client_asks self.old.settings now (peer_view peer.now) (limits_view limits.now) (choice_of (owned_request_view request.now))
+            (request_spelling (owned_request_view request.now)) self.old.end) self.old result self.new }
         ensures same { peer.now.link ≡ self.old.link → self.new ≡ self.old }
     {
         if peer.link == self.link {
             return Err(AskFault::SelfPeer);
         }
-        self.ask_other(now, peer, limits, choice, service)
+        self.ask_other(now, peer, limits, request.as_request())
     }
 
     /// Asks a peer of another link.
@@ -104,13 +112,14 @@ impl<S: SlotTable<PeerKey, Client> + Drop> Requester<S> {
         now: u64,
         peer: &Peer,
         limits: &Limits,
-        choice: u8,
-        service: Vec<u8>,
+        request: Request<'_>,
     ) -> Result<Asked, AskFault>
-        ensures { Asks (client_asks self.old.settings now (peer_view peer.now) (limits_view limits.now) choice service.items self.old.end) self.old result self.new }
+        ensures spelled { SpellsRequest (choice_of (request_view request.entry)) (request_view request.entry) (request_spelling (request_view request.entry)) }
+        ensures asks { Asks (client_asks self.old.settings now (peer_view peer.now) (limits_view limits.now) (choice_of (request_view request.entry))
+            (request_spelling (request_view request.entry)) self.old.end) self.old result self.new }
     {
-        let request = match OutgoingRequest::new(&self.settings, limits, choice, service) {
-            Ok(request) => request,
+        let way = match RequestWay::of(&self.settings, limits, request_len(request)) {
+            Ok(way) => way,
             Err(fault) => return Err(fault_of(fault)),
         };
         ask(
@@ -120,6 +129,7 @@ impl<S: SlotTable<PeerKey, Client> + Drop> Requester<S> {
             &mut self.asked,
             now,
             peer,
+            way,
             request,
         )
     }

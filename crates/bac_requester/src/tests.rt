@@ -1,155 +1,248 @@
-//! A requester over a table with an index: its calls on their happy paths, and each fault of an ask.
+//! A requester over a table with an index, in octets: what comes, what is sent, and how tickets end.
+ghost use Rattle.std.specs.Prelude.{◌<◌};
+
 use super::*;
-use bac_apdu::{Apdu, Limits, Window};
+use bac_apdu::{Limits, Window, read};
 use bac_client::Ending;
-use bac_ends::{PeerKey, Settings};
+use bac_ends::{Datagram, PeerKey, Settings};
 use bac_npdu::Peer;
+use bac_service::{
+    AnyComplex, AnyReply, AnyRequest, FileWritten, OwnedRequest, WriteAccess, WriteFile,
+    WriteStream, read_request,
+};
 use bac_slots::IndexSlots;
-use bac_value::NoMemory;
+use bac_value::{NoMemory, ObjectIdentifier, OctetString};
 use std::alloc::Global;
 use std::test::Fail;
 
+mod asks;
+mod replies;
+mod requests;
+
 type Indexed = Requester<IndexSlots<PeerKey, Client>>;
 
-const LIMITS: Limits = Limits {
-    max_apdu: 0,
-    takes_segments: false,
-    max_segments: 0,
-};
-
-const SETTINGS: Settings = Settings {
-    limits: LIMITS,
-    window: Window { size: 4 },
-};
-
-fn link(n: u8) -> [u8; 6] {
-    [10, 0, 0, n, 0xBA, 0xC0]
+/// How a call ends a ticket, or refuses an ask.
+#[derive(Clone, Copy, Debug, PartialEq, Eq)]
+enum End {
+    Open,
+    Simple,
+    Complex,
+    Written(i64),
+    Error(u32, u32),
+    Rejected(u8),
+    Aborted(u8),
+    TimedOut,
+    Expired,
+    Refused(AskFault),
 }
+
+/// The moment, the APDU that comes (none: a tick), the first octets of the datagrams that are sent, and the end.
+type Row<'a> = (u64, &'a str, &'a str, End);
+
+/// A node that takes APDUs of 1,476 octets, and segments of any number.
+const LARGE: Settings = Settings {
+    limits: Limits {
+        max_apdu: 5,
+        takes_segments: true,
+        max_segments: 7,
+    },
+    window: Window { size: 32 },
+};
+
+/// A node that takes APDUs of 50 octets, and segments of any number.
+const SMALL: Settings = Settings {
+    limits: Limits {
+        max_apdu: 0,
+        takes_segments: true,
+        max_segments: 7,
+    },
+    window: Window { size: 32 },
+};
 
 fn peer(n: u8) -> Peer {
     Peer {
-        link: link(n),
+        link: [10, 0, 0, n, 0xBA, 0xC0],
         route: None,
     }
 }
 
 /// A requester of link 1 with so many slots.
-fn requester(alloc: Global, slots: usize) -> Result<Indexed, NoMemory> {
-    Requester::new(alloc, link(1), SETTINGS, slots)
+fn requester(alloc: Global, settings: &Settings, slots: usize) -> Result<Indexed, NoMemory> {
+    Requester::new(alloc, peer(1).link, *settings, slots)
 }
 
-/// Asks a peer with so many octets of service data: the ticket, its invoke ID and how many datagrams are sent, or the fault.
-fn asks(
-    requester: &mut Indexed,
+fn digit(character: u8) -> u8
+    ensures { result < 16 }
+{
+    match character {
+        b'0'..=b'9' => character - b'0',
+        b'A'..=b'F' => character - b'A' + 10,
+        _ => 0,
+    }
+}
+
+/// The octets of hexadecimal text with spaces between.
+fn octets_of(alloc: Global, text: &str) -> Result<Vec<u8>, NoMemory> {
+    let mut octets = Vec::new(alloc);
+    let mut high = None;
+    for &character in text.as_bytes() {
+        if character == b' ' {
+            continue;
+        }
+        high = match high {
+            None => Some(digit(character)),
+            Some(high) => {
+                octets.push(16 * high + digit(character))?;
+                None
+            }
+        };
+    }
+    Ok(octets)
+}
+
+fn end_of(how: &Ending) -> End {
+    match how {
+        Ending::Answered(AnyReply::Simple) => End::Simple,
+        Ending::Answered(AnyReply::Complex(AnyComplex::FileWritten(FileWritten::Stream(start)))) =>
+            { End::Written(*start) }
+        Ending::Answered(AnyReply::Complex(_)) => End::Complex,
+        Ending::Answered(AnyReply::Error { class, code }) => End::Error(*class, *code),
+        Ending::Answered(AnyReply::Reject(reason)) => End::Rejected(*reason),
+        Ending::Rejected(reason) => End::Rejected(*reason),
+        Ending::Aborted(reason) => End::Aborted(*reason),
+        Ending::TimedOut => End::TimedOut,
+        Ending::Expired => End::Expired,
+    }
+}
+
+/// The datagrams joined, each cut after 24 octets; its length stands in the third and the fourth.
+fn joined(alloc: Global, sends: &[Datagram]) -> Result<Vec<u8>, NoMemory> {
+    let mut joined = Vec::new(alloc);
+    for datagram in sends {
+        let octets = datagram.octets();
+        joined.extend_from_slice(&octets[..octets.len().min(24)])?;
+    }
+    Ok(joined)
+}
+
+/// What a call sent, and how it ended a ticket.
+#[derive(Drop)]
+struct Told {
+    sends: Vec<u8>,
+    end: End,
+}
+
+/// The request that service data spell.
+fn request(alloc: Global, choice: u8, service: &str) -> Result<OwnedRequest, Fail> {
+    let service = octets_of(alloc, service)?;
+    let Ok(request) = read_request(choice, &service) else {
+        return Err(Fail::new("no request"));
+    };
+    Ok(request.to_owned(alloc)?)
+}
+
+/// A ReadProperty of the present-value of analog-input 5.
+fn reading(alloc: Global) -> Result<OwnedRequest, Fail> {
+    request(alloc, 12, "0C00000005 1955")
+}
+
+/// A write of so many octets at position 0 of file 1; from 5 to 253 octets have 11 octets of service data beside them.
+fn put(alloc: Global, len: usize) -> Result<OwnedRequest, Fail> {
+    let octets = vec![in alloc; 0xABu8; len]?;
+    let Some(file) = ObjectIdentifier::new(10, 1) else {
+        return Err(Fail::new("no file"));
+    };
+    let Some(content) = OctetString::new(octets) else {
+        return Err(Fail::new("too long"));
+    };
+    let access = WriteAccess::Stream(WriteStream { start: 0, content });
+    Ok(AnyRequest::WriteFile(WriteFile { file, access }))
+}
+
+/// Asks peer n, which takes so much: what is sent, or why it is refused.
+fn ask(
+    end: &mut Indexed,
     alloc: Global,
     now: u64,
     n: u8,
-    len: usize,
-) -> Result<Result<(u64, u8, usize), AskFault>, NoMemory> {
-    let service = vec![in alloc; 0xABu8; len]?;
-    match requester.ask(now, &peer(n), &LIMITS, 12, service) {
-        Ok(asked) => Ok(Ok((asked.ticket, asked.invoke_id, asked.sends.len()))),
-        Err(fault) => Ok(Err(fault)),
+    limits: &Limits,
+    request: &OwnedRequest,
+) -> Result<Told, NoMemory> {
+    match end.ask(now, &peer(n), limits, request) {
+        Ok(asked) => Ok(Told {
+            sends: joined(alloc, &asked.sends)?,
+            end: End::Open,
+        }),
+        Err(fault) => Ok(Told {
+            sends: Vec::new(alloc),
+            end: End::Refused(fault),
+        }),
     }
 }
 
-/// A Reject comes from a peer: the number of the ticket that it ends.
-fn rejects(
-    requester: &mut Indexed,
-    now: u64,
-    n: u8,
-    invoke_id: u8,
-) -> Result<Option<u64>, NoMemory> {
-    let reject = Apdu::Reject {
-        invoke_id,
-        reason: 9,
+/// An APDU comes from peer 2.
+fn hears(end: &mut Indexed, alloc: Global, now: u64, octets: &[u8]) -> Result<Told, Fail> {
+    let Ok(apdu) = read(octets) else {
+        return Err(Fail::new("no APDU"));
     };
-    let Turn { ended, .. } = requester.on(now, &peer(n), &reject)?;
+    let Turn { sends, ended } = end.on(now, &peer(2), &apdu)?;
+    let sends = joined(alloc, &sends)?;
     match ended {
-        Some(finish) => Ok(Some(finish.ticket)),
-        None => Ok(None),
+        Some(finish) => Ok(Told {
+            sends,
+            end: end_of(&finish.how),
+        }),
+        None => Ok(Told {
+            sends,
+            end: End::Open,
+        }),
     }
 }
 
-#[test]
-fn faults_in_their_order(rt: HostRuntime) -> Result<(), Fail> {
-    let alloc = rt.alloc();
-    let mut none = requester(alloc, 0)?;
-    assert_eq!(rt;
-        asks(&mut none, alloc, 0, 1, 65_536)?,
-        Err(AskFault::SelfPeer)
-    );
-    assert_eq!(rt;
-        asks(&mut none, alloc, 0, 2, 65_536)?,
-        Err(AskFault::TooLong)
-    );
-    assert_eq!(rt;
-        asks(&mut none, alloc, 0, 2, 47)?,
-        Err(AskFault::NeedsSegments)
-    );
-    assert_eq!(rt; asks(&mut none, alloc, 0, 2, 46)?, Err(AskFault::NoSlot));
-    Ok(())
-}
-
-#[test]
-fn all_invoke_ids(rt: HostRuntime) -> Result<(), Fail> {
-    let alloc = rt.alloc();
-    let mut client = requester(alloc, 256)?;
-    for n in 0..256u64 {
-        assert_eq!(rt; asks(&mut client, alloc, 0, 2, 7)?, Ok((n, n as u8, 1)));
+/// A tick, which ends one ticket at most.
+fn ticks(end: &mut Indexed, alloc: Global, now: u64) -> Result<Told, Fail> {
+    let due = end.prepare_tick(now)?;
+    end.commit_tick(now);
+    let sends = joined(alloc, &due.sends)?;
+    match due.ended.first() {
+        Some(finish) => Ok(Told {
+            sends,
+            end: end_of(&finish.how),
+        }),
+        None => Ok(Told {
+            sends,
+            end: End::Open,
+        }),
     }
-    assert_eq!(rt;
-        asks(&mut client, alloc, 0, 2, 7)?,
-        Err(AskFault::NoInvokeId)
-    );
-    assert_eq!(rt; asks(&mut client, alloc, 0, 3, 7)?, Err(AskFault::NoSlot));
-    Ok(())
 }
 
-// an invoke ID and its slot are held for 135,000 ms after the first sending
-#[test]
-fn least_invoke_id(rt: HostRuntime) -> Result<(), Fail> {
-    let alloc = rt.alloc();
-    let mut client = requester(alloc, 3)?;
-    assert_eq!(rt; asks(&mut client, alloc, 1_000, 2, 7)?, Ok((0, 0, 1)));
-    assert_eq!(rt; asks(&mut client, alloc, 2_000, 2, 7)?, Ok((1, 1, 1)));
-    assert_eq!(rt; asks(&mut client, alloc, 2_000, 3, 7)?, Ok((2, 0, 1)));
-    assert_eq!(rt; rejects(&mut client, 3_000, 2, 0)?, Some(0));
-    // it has ended; a key without a slot
-    assert_eq!(rt; rejects(&mut client, 3_000, 2, 0)?, None);
-    assert_eq!(rt; rejects(&mut client, 3_000, 2, 7)?, None);
-    assert_eq!(rt;
-        asks(&mut client, alloc, 136_000, 2, 7)?,
-        Err(AskFault::NoSlot)
-    );
-    assert_eq!(rt; asks(&mut client, alloc, 136_001, 2, 7)?, Ok((3, 0, 1)));
-    Ok(())
+/// Whether a row goes as it says.
+fn goes(end: &mut Indexed, alloc: Global, row: Row<'_>) -> Result<bool, Fail> {
+    let (now, heard, sent, how) = row;
+    let octets = octets_of(alloc, heard)?;
+    let told = if octets.is_empty() {
+        ticks(end, alloc, now)?
+    } else {
+        hears(end, alloc, now, &octets)?
+    };
+    let wanted = octets_of(alloc, sent)?;
+    Ok(told.sends == wanted && told.end == how)
 }
 
-// peer 3 was asked before peer 2
-#[test]
-fn a_tick_goes_by_keys(rt: HostRuntime) -> Result<(), Fail> {
-    let alloc = rt.alloc();
-    let mut client = requester(alloc, 4)?;
-    assert_eq!(rt; asks(&mut client, alloc, 1_000, 3, 7)?, Ok((0, 0, 1)));
-    assert_eq!(rt; asks(&mut client, alloc, 1_000, 2, 7)?, Ok((1, 0, 1)));
-    let due = client.prepare_tick(3_999)?;
-    assert_eq!(rt; due.sends.len(), 0);
-    let due = client.prepare_tick(4_000)?;
-    let mut links = due.sends.iter().map(|datagram| datagram.to());
-    assert_eq!(rt; links.next(), Some(link(2)));
-    assert_eq!(rt; links.next(), Some(link(3)));
-    assert_eq!(rt; links.next(), None);
-    client.commit_tick(4_000);
-    let due = client.prepare_tick(4_000)?;
-    assert_eq!(rt; due.sends.len(), 0);
-    let due = client.prepare_tick(61_001)?;
-    assert_eq!(rt; due.ended.len(), 2);
-    for finish in &due.ended {
-        assert!(rt; matches!(finish.how, Ending::Expired));
+/// Whether an ask of peer 2 at moment 0 sends that, and all rows go as they say after it, between nodes that are set so.
+fn plays(
+    alloc: Global,
+    settings: &Settings,
+    request: &OwnedRequest,
+    sent: &str,
+    rows: &[Row<'_>],
+) -> Result<bool, Fail> {
+    let mut end: Indexed = requester(alloc, settings, 64)?;
+    let told = ask(&mut end, alloc, 0, 2, &settings.limits, request)?;
+    let wanted = octets_of(alloc, sent)?;
+    let mut right = told.sends == wanted && told.end == End::Open;
+    for row in rows {
+        right = goes(&mut end, alloc, *row)? && right;
     }
-    client.commit_tick(61_001);
-    let due = client.prepare_tick(61_001)?;
-    assert_eq!(rt; due.ended.len(), 0);
-    Ok(())
+    Ok(right)
 }

@@ -3,16 +3,16 @@ ghost use Rattle.std.specs.Prelude.{◌≡◌, ℕ, ◌++◌, Some, None, IfOk, 
 ghost use Rattle.bac_slots.specs.declared.slot.Slot.{Slot};
 ghost use Rattle.bac_ends.specs.Ends as ends;
 ghost use Rattle.bac_ends.specs.Ends.{clients_tick, held_ticked};
-ghost use Rattle.bac_ends.specs.Views.{peer_key_view, settings_view};
-ghost use Rattle.bac_client.specs.Views.{context_view, held_view};
+ghost use Rattle.bac_ends.specs.Views.{context_view, peer_key_view, settings_view};
+ghost use Rattle.bac_client.specs.Views.{held_view};
 ghost use Rattle.bac_requester.specs.Turns.{IsDue, IsSlotTold, changed, ticked_at, value_ticked};
 ghost use Rattle.bac_requester.specs.Views.{end_of, finish_view, finishes_of};
 
 use crate::client::Client;
 use crate::hearing::{nothing, put_back, turn_of};
 use crate::turn::{Due, Turn};
-use bac_client::{Context, Held};
-use bac_ends::{PeerKey, Settings};
+use bac_client::Held;
+use bac_ends::{Context, PeerKey, Settings};
 use bac_slots::{SlotTable, slots_in_order};
 use bac_value::NoMemory;
 use std::alloc::Global;

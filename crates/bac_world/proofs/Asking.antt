@@ -113,7 +113,7 @@ fits_kept now notes i number (Some s) (Some t) h = go (is_held now s.held) refl
     go false is = sym (held_is now t) ∙ sym (ap (is_held now) h.held) ∙ is
 
 -- where an invoke ID is not held for the peer, the ticket is not held
-free_ticket : (now : ℕ) (notes : List Note) (i number : ℕ) (o : Option Client) (t : Option Ticket) → TicketFits now notes i number o t
+pub free_ticket : (now : ℕ) (notes : List Note) (i number : ℕ) (o : Option Client) (t : Option Ticket) → TicketFits now notes i number o t
     → is_held_there now o ≡ false → is_key_held now t ≡ false
 free_ticket now notes i number None t h free = h
 free_ticket now notes i number (Some s) None h free = absurd h

@@ -60,7 +60,7 @@ module _ (links : ℕ → Option Octets) (apart : (i j : ℕ) (l : Octets) → l
     heard_by : (up : Bool) → is_from_client p.copy.apdu ≡ up → IsBetween up p.key c.from c.to → IsHeardBy up (peer_at l) p.copy.apdu w.now a b o
         → Next links apart W x w w'
     heard_by true up between turn =
-        (_, serves links apart W x bound w w' n h number p c at copied young few up between.0 between.1 a b o node l link (service_of a.store) turn acts)
+        (_, (serves links apart W x bound w w' n h number p c at copied young few up between.0 between.1 a b o node l link (service_of a.store) turn acts).0)
     heard_by false down between turn =
         (_, hears links apart W x bound readable w w' n h number p c at copied young few down between.0 between.1 a b o node l link turn acts)
 
@@ -192,7 +192,7 @@ rules_bounded W overtake w b = record { some = b.some; windows = λ i. go (slice
     go None h = omega arith
     go (Some a) h = h a refl
 
-fresh_over : (W overtake : ℕ) (w : World) → (h : IsFresh w) → (b : IsBounded W overtake w)
+pub fresh_over : (W overtake : ℕ) (w : World) → (h : IsFresh w) → (b : IsBounded W overtake w)
     → Over (link_at w.nodes) h.apart W (rules_of overtake w) w net_start
 fresh_over W overtake w h b = record {
   now = sym h.now;

@@ -255,6 +255,14 @@ repeat_gets_kept_reply = record {
       (live_reaction now old new o key (service_of old.store) e entry (is_free now old.servers) a (Done reply) state
       ∙ ap (λ b. rests (Some e) ((if b then reply else server_abort c OTHER) ∷ [])) (other_kept e choice service held kept ne))
       (heard_as now key.peer a old new o gets));
+  other_in_segments = λ now old new o key choice limits service gets e held entry kept ne out transfer since state.
+      let c : Context = context_of old.settings now key in
+      let a : Apdu = ConfirmedRequest limits key.invoke_id None choice service in
+      answers_only now old new o key (service_of old.store) e entry (server_abort c OTHER)
+      (subst (λ (v : server.Reaction). Turned now old new o key v)
+      (live_reaction now old new o key (service_of old.store) e entry (is_free now old.servers) a (SegmentedResponse out transfer since) state
+      ∙ ap (λ b. if b then resumes c e out transfer else rests (Some e) (server_abort c OTHER ∷ [])) (other_kept e choice service held kept ne))
+      (heard_as now key.peer a old new o gets));
 }
 
 -- A stopped transfer.

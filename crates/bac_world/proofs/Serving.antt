@@ -208,8 +208,9 @@ module _ (links : ℕ → Option Octets) (apart : (i j : ℕ) (l : Octets) → l
         → IsServerTurn (hears_as a.settings w.now service l (invoke_id_of p.copy.apdu) p.copy.apdu a.servers) w.now a b o
         → Acts w c.to b o w'
         → Goes links apart W x w w' (server_acts n p.key (served_so n p service a.servers))
+        × ArePerformed a.store (act_at (slot_key l p.key.invoke_id) (served_so n p service a.servers).effect) o.performed
     serves w w' n h number p c at copied young few up from_is to_is a b o node l link service turn acts =
-        record { bridge = over; once = logged.once }
+        (record { bridge = over; once = logged.once }, done)
       where
         key : Key
         key = p.key

@@ -15,7 +15,7 @@ use Rattle.bac_protocol.specs.Sizes.{reply_way_of}
 use Rattle.bac_protocol.specs.Sizes.Way.{InOne}
 use Rattle.bac_protocol.specs.Service.{Octets, Reply, OTHER}
 use Rattle.bac_protocol.specs.Service.Outcome.{Replies}
-use Rattle.bac_protocol.specs.Server.{Entry, is_live, live_entry, server_abort, reply_apdu, reply_window}
+use Rattle.bac_protocol.specs.Server.{Entry, Transfer, is_live, live_entry, server_abort, reply_apdu, reply_window}
 use Rattle.bac_protocol.specs.Server.State.{Done, SegmentedResponse}
 use Rattle.bac_protocol.specs.Server.Transfer.{Running, Stopped}
 use Rattle.bac_slots.specs.Slots.{value_at, IsDistinct}
@@ -100,7 +100,7 @@ pub record IsAnsweredOnly (now : ℕ) (old new : Node) (o : Outcome) (peer : Pee
   pub node : new ≡ record old { latest = now }
 
 -- a Confirmed-Request without SEG that comes for a live entry of one whose reply of one APDU is kept: the same request gets that reply, and another one
--- Abort 0
+-- Abort 0, also where a reply in segments is kept
 pub record RepeatGetsKeptReply : Type 0 where
   pub same : (now : ℕ) (old new : Node) (o : Outcome) (key : PeerKey) (choice : ℕ) (limits : Limits) (service : Octets)
       → Gets now key.peer (ConfirmedRequest limits key.invoke_id None choice service) old new o
@@ -110,6 +110,11 @@ pub record RepeatGetsKeptReply : Type 0 where
       → Gets now key.peer (ConfirmedRequest limits key.invoke_id None choice service) old new o
       → (e : Entry) (kept : Octets) → IsEntry now old key e → e.request ≡ Some kept → (choice ≢ e.choice) ⊎ (service ≢ kept)
       → (reply : Apdu) → e.state ≡ Done reply
+      → IsAnsweredOnly now old new o key.peer (server_abort (context_of old.settings now key) OTHER)
+  pub other_in_segments : (now : ℕ) (old new : Node) (o : Outcome) (key : PeerKey) (choice : ℕ) (limits : Limits) (service : Octets)
+      → Gets now key.peer (ConfirmedRequest limits key.invoke_id None choice service) old new o
+      → (e : Entry) (kept : Octets) → IsEntry now old key e → e.request ≡ Some kept → (choice ≢ e.choice) ⊎ (service ≢ kept)
+      → (out : Outgoing) (transfer : Transfer) (since : ℕ) → e.state ≡ SegmentedResponse out transfer since
       → IsAnsweredOnly now old new o key.peer (server_abort (context_of old.settings now key) OTHER)
 
 -- the window of a reply goes out from the first unacknowledged piece on, and its transfer runs again; nothing is performed

@@ -20,8 +20,9 @@ pub fn stores_reply()
     ensures { StoresReply }
 {}
 
-/// A Confirmed-Request without SEG that comes for a live entry of such a request, which keeps a reply of one APDU: with the same choice and data that reply
-/// alone goes out; with another choice or other data Abort 0 alone. Nothing is performed, and nothing changes but the latest moment.
+/// A Confirmed-Request without SEG that comes for a live entry of such a request, which keeps a reply: with the same choice and data a kept reply of one
+/// APDU alone goes out; with another choice or other data Abort 0 alone, also where the kept reply is one in segments. Nothing is performed, and nothing
+/// changes but the latest moment.
 #[tactic(auto, using(crate::proofs::NodeLaws::repeat_gets_kept_reply))]
 pub fn repeated_request_gets_kept_reply()
     ensures { RepeatGetsKeptReply }

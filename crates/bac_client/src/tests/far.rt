@@ -13,21 +13,11 @@ const MOST: Settings = Settings {
     window: Window { size: 127 },
 };
 
-/// A request of so many octets, or why it can't go.
-fn request(
-    alloc: Global,
-    peer: &Limits,
-    len: usize,
-) -> Result<Result<OutgoingRequest, RequestFault>, NoMemory> {
-    let octets = vec![in alloc; 0xABu8; len]?;
-    Ok(OutgoingRequest::new(&MOST, peer, 7, octets))
-}
-
-/// Whether a request of so many octets can go to a peer; None where memory is refused.
-fn fault(alloc: Global, peer: &Limits, len: usize) -> Result<Option<RequestFault>, NoMemory> {
-    match request(alloc, peer, len)? {
-        Ok(_) => Ok(None),
-        Err(fault) => Ok(Some(fault)),
+/// Why a request of so many octets can't go to a peer.
+fn fault(peer: &Limits, len: usize) -> Option<RequestFault> {
+    match RequestWay::of(&MOST, peer, len) {
+        Ok(_) => None,
+        Err(fault) => Some(fault),
     }
 }
 
@@ -43,21 +33,12 @@ fn sizes_of_requests(rt: HostRuntime) -> Result<(), Fail> {
         takes_segments: true,
         max_segments: 1,
     };
-    assert_eq!(rt; fault(rt.alloc(), &none, 46)?, None);
-    assert_eq!(rt;
-        fault(rt.alloc(), &none, 47)?,
-        Some(RequestFault::NeedsSegments)
-    );
-    assert_eq!(rt; fault(rt.alloc(), &two, 88)?, None);
-    assert_eq!(rt;
-        fault(rt.alloc(), &two, 89)?,
-        Some(RequestFault::NeedsSegments)
-    );
-    assert_eq!(rt; fault(rt.alloc(), &WIDE, 65_535)?, None);
-    assert_eq!(rt;
-        fault(rt.alloc(), &WIDE, 65_536)?,
-        Some(RequestFault::TooLong)
-    );
+    assert_eq!(rt; fault(&none, 46), None);
+    assert_eq!(rt; fault(&none, 47), Some(RequestFault::NeedsSegments));
+    assert_eq!(rt; fault(&two, 88), None);
+    assert_eq!(rt; fault(&two, 89), Some(RequestFault::NeedsSegments));
+    assert_eq!(rt; fault(&WIDE, 65_535), None);
+    assert_eq!(rt; fault(&WIDE, 65_536), Some(RequestFault::TooLong));
     Ok(())
 }
 
@@ -65,9 +46,8 @@ fn sizes_of_requests(rt: HostRuntime) -> Result<(), Fail> {
 #[test]
 fn the_longest_request(rt: HostRuntime) -> Result<(), Fail> {
     let alloc = rt.alloc();
-    let Ok(request) = request(alloc, &WIDE, 65_535)? else {
-        return Err(Fail::new("it can't go"));
-    };
+    let octets = vec![in alloc; 0xABu8; 65_535]?;
+    let request = OutgoingRequest::new(7, RequestWay::InSegments { size: 1_470 }, octets);
     let mut context = context(FIRST);
     context.settings = MOST;
     let begun = Ticket::begin(alloc, &context, request)?;
@@ -79,10 +59,10 @@ fn the_longest_request(rt: HostRuntime) -> Result<(), Fail> {
         number: 0,
         window: Window { size: 127 },
     };
-    let Ok(reacted) = begun.ticket.gets(alloc, &context, &ack) else {
+    let Ok(reaction) = begun.ticket.gets(alloc, &context, &ack) else {
         return Err(Fail::new("out of memory"));
     };
-    assert_eq!(rt; reacted.sends.len(), 44);
+    assert_eq!(rt; reaction.sends.len(), 44);
     Ok(())
 }
 
@@ -108,7 +88,7 @@ fn the_longest_reply(rt: HostRuntime) -> Result<(), Fail> {
     else {
         return Err(Fail::new("out of memory"));
     };
-    let Reacted { held, .. } = first;
+    let Reaction { held, .. } = first;
     let Held::Open(ticket) = held else {
         return Err(Fail::new("it has ended"));
     };

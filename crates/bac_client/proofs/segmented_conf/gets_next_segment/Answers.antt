@@ -7,4 +7,4 @@ use Rattle.bac_client.proofs.segmented_conf.gets_next_segment.Goals as goal
 pub returns-in-Ok : goal.returns-in-Ok
 returns-in-Ok c =
     let same : nat_eq c.args.choice c.args.core.choice ≡ true = grind (arith, nat_tests, c.if-choice-core.false) in
-    rw same (c.in-Ok.ensures (SegmentedConf c.args.inc))
+    rw same (c.in-Ok.ensures (SegmentedConf c.args.incoming))

@@ -1,10 +1,10 @@
 -- A piece is short enough for a frame.
 use Rattle.std.proofs.Common.{sym, subst}
 use Rattle.bac_protocol.specs.Short as apdus
-use Rattle.bac_client.specs.Views.{context_view}
+use Rattle.bac_ends.specs.Views.{context_view}
 use Rattle.bac_client.proofs.Short.{piece_is_short}
 use Rattle.bac_client.proofs.sending.piece.Goals as goal
 
 pub datagram_of-requires : goal.datagram_of-requires
 datagram_of-requires c =
-    subst apdus.IsShort (sym c.piece_apdu-apdu.ensures) (piece_is_short (context_view c.args.context.now) c.args.choice c.args.n c.args.out.now c.requires.short)
+    subst apdus.IsShort (sym c.piece_apdu-apdu.ensures) (piece_is_short (context_view c.args.context.now) c.args.choice c.args.n c.args.outgoing.now c.requires.short)

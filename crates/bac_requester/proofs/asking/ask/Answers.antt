@@ -5,16 +5,16 @@ use Rattle.bac_protocol.specs.Client.{Ask}
 use Rattle.bac_ends.specs.Ends.{AskOutcome, ClientEnd, is_id_held}
 use Rattle.bac_ends.specs.Keys.{PeerKey}
 use Rattle.bac_ends.specs.Views.{settings_view, slots_view}
-use Rattle.bac_client.specs.Requests.{ask_at}
+use Rattle.bac_service.specs.Views.{request_view}
 use Rattle.bac_requester.specs.Turns.{AcceptsTable}
 use Rattle.bac_requester.specs.Views.{end_of}
-use Rattle.bac_requester.proofs.Accepting.{no_id, no_slot, may_begin, least_free, has_room, has_number, accepted, entered_end}
+use Rattle.bac_requester.proofs.Accepting.{asked_by, no_id, no_slot, may_begin, least_free, has_room, has_number, accepted, entered_end}
 use Rattle.bac_requester.proofs.asking.ask.Goals as goal
 
 pub returns-in_default : goal.returns-in_default
 returns-in_default g c =
     let e : ClientEnd = end_of (g.S.SlotTable.slots c.args.table.now) (g.S.SlotTable.capacity c.args.table.now) c.args.asked.now in (
-      no_id (settings_view c.args.settings.now) c.args.now (peer_view c.args.peer.now) (ask_at c.args.now c.args.request) e c.least_id.result
+      no_id (settings_view c.args.settings.now) c.args.now (peer_view c.args.peer.now) (asked_by c.args.now (request_view c.args.request) c.args.way) e c.least_id.result
           c.least_id.ensures c.in_default.is,
       refl,
     )
@@ -22,7 +22,7 @@ returns-in_default g c =
 pub returns-then-has_no_slot : goal.returns-then-has_no_slot
 returns-then-has_no_slot g c =
     let e : ClientEnd = end_of (g.S.SlotTable.slots c.args.table.now) (g.S.SlotTable.capacity c.args.table.now) c.args.asked.now in (
-      no_slot (settings_view c.args.settings.now) c.args.now (peer_view c.args.peer.now) (ask_at c.args.now c.args.request) e c.least_id.result
+      no_slot (settings_view c.args.settings.now) c.args.now (peer_view c.args.peer.now) (asked_by c.args.now (request_view c.args.request) c.args.way) e c.least_id.result
           c.in-Some.invoke_id c.least_id.ensures c.in-Some.is (sym c.has_no_slot.ensures ∙ c.if-has_no_slot.true),
       refl,
     )
@@ -30,7 +30,7 @@ returns-then-has_no_slot g c =
 pub returns-in_default-begin : goal.returns-in_default-begin
 returns-in_default-begin g c =
     let e : ClientEnd = end_of (g.S.SlotTable.slots c.args.table.now) (g.S.SlotTable.capacity c.args.table.now) c.args.asked.now in (
-      may_begin (settings_view c.args.settings.now) c.args.now (peer_view c.args.peer.now) (ask_at c.args.now c.args.request) e c.least_id.result
+      may_begin (settings_view c.args.settings.now) c.args.now (peer_view c.args.peer.now) (asked_by c.args.now (request_view c.args.request) c.args.way) e c.least_id.result
           c.in-Some.invoke_id c.least_id.ensures c.in-Some.is (sym c.has_no_slot.ensures ∙ c.if-has_no_slot.false),
       refl,
     )
@@ -55,7 +55,7 @@ overflow_add-asked g c =
 pub returns : goal.returns
 returns g c =
     let e : ClientEnd = end_of (g.S.SlotTable.slots c.args.table.now) (g.S.SlotTable.capacity c.args.table.now) c.args.asked.now in
-    let ask : Ask = ask_at c.args.now c.args.request in
+    let ask : Ask = asked_by c.args.now (request_view c.args.request) c.args.way in
     let key : PeerKey = record { peer = peer_view c.args.peer.now; invoke_id = c.in-Some.invoke_id } in
     let is = accepted (settings_view c.args.settings.now) c.args.now (peer_view c.args.peer.now) ask e c.least_id.result c.in-Some.invoke_id c.least_id.ensures
     c.in-Some.is (sym c.has_no_slot.ensures ∙ c.if-has_no_slot.false) in

@@ -24,7 +24,7 @@ pub returns-in-Ok : goal.returns-in-Ok
 returns-in-Ok g c = λ asked.
     let client : Client = record { number = c.client.inside.number; held = Open c.in-Open.ticket } in
     let is : client ≡ c.in-Some.client = ap (λ h. record { number = c.client.inside.number; held = held_view h }) (sym c.in-Open.is) ∙ c.client.view_is in
-    heard_open c.args.context.now (apdu_view c.args.apdu.now) _ _ _ c.stand_in.result _ _ _ asked c.client.inside.number c.in-Open.ticket c.in-Ok.reacted
+    heard_open c.args.context.now (apdu_view c.args.apdu.now) _ _ _ c.stand_in.result _ _ _ asked c.client.inside.number c.in-Open.ticket c.in-Ok.reaction
     c.turn_of.result (sym c.set.ensures.value ∙ c.in-Some.is ∙ ap (λ (x : Client). Some x) (sym is)) c.set.ensures.slots c.in-Ok.ensures refl
     c.put_back-in-Ok.ensures.slots (c.put_back-in-Ok.ensures.same ∙ c.set.ensures.same) c.turn_of.ensures.sends c.turn_of.ensures.ended
 

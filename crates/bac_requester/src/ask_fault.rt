@@ -1,0 +1,31 @@
+//! Why an ask was refused.
+ghost use Rattle.std.specs.Prelude.{◌≡◌};
+ghost use Rattle.bac_requester.specs.Faults.{ask_fault_number};
+
+/// Why an ask was refused: the first of these that holds. `number` is the number by which it is printed.
+#[derive(Clone, Copy, Debug, PartialEq, Eq)]
+pub enum AskFault {
+    /// The moment is less than the latest that the node was told. It is a node that answers this, never `Requester::ask`.
+    ClockBack = 6,
+    /// The peer's link is the node's own.
+    SelfPeer = 5,
+    /// The service data have more than 65,535 octets.
+    TooLong = 4,
+    /// The request does not fit one APDU, and the peer takes no segments or fewer than are needed (clause 5.2).
+    NeedsSegments = 3,
+    /// All 256 invoke IDs are held for that peer.
+    NoInvokeId = 2,
+    /// All slots are held, or 2^64 - 1 asks were accepted.
+    NoSlot = 1,
+    /// Memory was refused.
+    NoMemory = 7,
+}
+
+impl AskFault {
+    /// The number of the fault, 1 to 7 (own numbers of this profile).
+    pub fn number(self) -> u8
+        ensures { result ≡ ask_fault_number self }
+    {
+        self as u8
+    }
+}

@@ -1,0 +1,5 @@
+pub mod Straight
+pub mod Answers
+pub mod Free
+pub mod Room
+pub mod Examples
