@@ -16,6 +16,7 @@ use std::alloc::Global;
 use std::test::Fail;
 
 mod asks;
+mod memory;
 mod replies;
 mod requests;
 
@@ -180,39 +181,23 @@ fn ask(
     }
 }
 
-/// An APDU comes from peer 2.
-fn hears(end: &mut Indexed, alloc: Global, now: u64, octets: &[u8]) -> Result<Told, Fail> {
+/// An APDU comes from peer 2, or a tick where there is none: what is sent, and how the first ticket ended that did.
+fn meets(end: &mut Indexed, now: u64, octets: &[u8]) -> Result<(Vec<Datagram>, End), Fail> {
+    if octets.is_empty() {
+        let Due { sends, ended } = end.prepare_tick(now)?;
+        end.commit_tick(now);
+        return match ended.first() {
+            Some(finish) => Ok((sends, end_of(&finish.how))),
+            None => Ok((sends, End::Open)),
+        };
+    }
     let Ok(apdu) = read(octets) else {
         return Err(Fail::new("no APDU"));
     };
     let Turn { sends, ended } = end.on(now, &peer(2), &apdu)?;
-    let sends = joined(alloc, &sends)?;
     match ended {
-        Some(finish) => Ok(Told {
-            sends,
-            end: end_of(&finish.how),
-        }),
-        None => Ok(Told {
-            sends,
-            end: End::Open,
-        }),
-    }
-}
-
-/// A tick, which ends one ticket at most.
-fn ticks(end: &mut Indexed, alloc: Global, now: u64) -> Result<Told, Fail> {
-    let due = end.prepare_tick(now)?;
-    end.commit_tick(now);
-    let sends = joined(alloc, &due.sends)?;
-    match due.ended.first() {
-        Some(finish) => Ok(Told {
-            sends,
-            end: end_of(&finish.how),
-        }),
-        None => Ok(Told {
-            sends,
-            end: End::Open,
-        }),
+        Some(finish) => Ok((sends, end_of(&finish.how))),
+        None => Ok((sends, End::Open)),
     }
 }
 
@@ -220,13 +205,10 @@ fn ticks(end: &mut Indexed, alloc: Global, now: u64) -> Result<Told, Fail> {
 fn goes(end: &mut Indexed, alloc: Global, row: Row<'_>) -> Result<bool, Fail> {
     let (now, heard, sent, how) = row;
     let octets = octets_of(alloc, heard)?;
-    let told = if octets.is_empty() {
-        ticks(end, alloc, now)?
-    } else {
-        hears(end, alloc, now, &octets)?
-    };
+    let (sends, ended) = meets(end, now, &octets)?;
+    let told = joined(alloc, &sends)?;
     let wanted = octets_of(alloc, sent)?;
-    Ok(told.sends == wanted && told.end == how)
+    Ok(told == wanted && ended == how)
 }
 
 /// Whether an ask of peer 2 at moment 0 sends that, and all rows go as they say after it, between nodes that are set so.
