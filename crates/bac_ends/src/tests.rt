@@ -2,14 +2,15 @@
 ghost use Rattle.std.specs.Prelude.{◌≤◌, length};
 
 use crate::{
-    Datagram, PeerKey, Settings, abort_datagram, ack_datagram, allows_segments, apdu_size,
-    datagram_of, invoke_id_of, transfer_size,
+    Context, Datagram, PeerKey, Settings, allows_segments, apdu_size, datagram_of, invoke_id_of,
+    only_abort, only_apdu, step_acks, transfer_size,
 };
 use bac_apdu::{Apdu, Limits, Window};
 use bac_npdu::{Peer, Route};
+use bac_segment::Step;
+use bac_slots::Same;
 use bac_value::NoMemory;
 use std::alloc::Global;
-use std::cmp::Ordering;
 use std::test::Fail;
 
 const LINK: [u8; 6] = [10, 0, 0, 2, 0xBA, 0xC0];
@@ -72,18 +73,60 @@ fn an_ack_to_a_far_peer(rt: HostRuntime) -> Result<(), Fail> {
     Ok(())
 }
 
+fn context() -> Context {
+    Context {
+        settings: Settings {
+            limits: LIMITS,
+            window: WINDOW,
+        },
+        key: PeerKey {
+            peer: near(),
+            invoke_id: 7,
+        },
+        moment: 0,
+    }
+}
+
+// the octets of a datagram that is alone
+fn octets_of(sends: &[Datagram]) -> &[u8] {
+    let Some(first) = sends.first() else {
+        return &[];
+    };
+    if sends.len() > 1 { &[] } else { first.octets() }
+}
+
+const ABORT: &[u8] = b"\x81\x0A\x00\x09\x01\x00\x70\x07\x04";
+
+const NAK: &[u8] = b"\x81\x0A\x00\x0A\x01\x00\x43\x07\x02\x04";
+
+const ACK: &[u8] = b"\x81\x0A\x00\x0A\x01\x00\x40\x07\x09\x04";
+
 #[test]
+#[tactic(auto, using(crate::proofs::Short::short_abort))]
 fn short_datagrams(rt: HostRuntime) -> Result<(), Fail> {
-    let abort = abort_datagram(rt.alloc(), &near(), false, 7, 4)?;
-    assert_eq!(rt;
-        abort.octets(),
-        b"\x81\x0A\x00\x09\x01\x00\x70\x07\x04".as_slice()
-    );
-    let ack = ack_datagram(rt.alloc(), &near(), true, 7, true, 2, WINDOW)?;
-    assert_eq!(rt;
-        ack.octets(),
-        b"\x81\x0A\x00\x0A\x01\x00\x43\x07\x02\x04".as_slice()
-    );
+    let alloc = rt.alloc();
+    let abort = only_abort(alloc, &context(), false, 4)?;
+    assert_eq!(rt; octets_of(&abort), ABORT);
+    let apdu = Apdu::Abort {
+        server: false,
+        invoke_id: 7,
+        reason: 4,
+    };
+    let same = only_apdu(alloc, &context(), &apdu)?;
+    assert_eq!(rt; octets_of(&same), ABORT);
+    Ok(())
+}
+
+#[test]
+fn answers_to_segments(rt: HostRuntime) -> Result<(), Fail> {
+    let alloc = rt.alloc();
+    let nak = step_acks(alloc, &context(), true, 9, WINDOW, 3, Step::Nak)?;
+    assert_eq!(rt; octets_of(&nak), NAK);
+    let last = step_acks(alloc, &context(), false, 9, WINDOW, 9, Step::Whole)?;
+    assert_eq!(rt; octets_of(&last), ACK);
+    let quiet = Step::Taken { ack: false };
+    let none = step_acks(alloc, &context(), true, 9, WINDOW, 9, quiet)?;
+    assert_eq!(rt; none.len(), 0);
     Ok(())
 }
 
@@ -109,53 +152,54 @@ fn longest_datagram(rt: HostRuntime) -> Result<(), Fail> {
     Ok(())
 }
 
+// Codes of max APDU, and the octets that they stand for (clause 20.1.2.5).
+const SIZES: &[(u8, usize)] = &[
+    (0, 50),
+    (1, 128),
+    (2, 206),
+    (3, 480),
+    (4, 1_024),
+    (5, 1_476),
+];
+
+// Codes of max segments, counts, and whether so many may be sent (clause 20.1.2.4).
+const SEGMENTS: &[(u8, usize, bool)] = &[
+    (0, 65_535, true),
+    (1, 2, true),
+    (1, 3, false),
+    (5, 32, true),
+    (6, 64, true),
+    (6, 65, false),
+    (7, 65_535, true),
+];
+
 #[test]
 fn sizes(rt: HostRuntime) {
-    let table: [(u8, usize); 6] = [
-        (0, 50),
-        (1, 128),
-        (2, 206),
-        (3, 480),
-        (4, 1_024),
-        (5, 1_476),
-    ];
-    for (max_apdu, size) in table {
+    for (max_apdu, size) in SIZES {
         let limits = Limits {
-            max_apdu,
+            max_apdu: *max_apdu,
             takes_segments: true,
             max_segments: 0,
         };
-        assert_eq!(rt; apdu_size(max_apdu), size);
-        assert_eq!(rt; transfer_size(&limits, &LIMITS), size);
-        assert_eq!(rt; transfer_size(&LIMITS, &limits), size);
+        assert_eq!(rt; apdu_size(*max_apdu), *size);
+        assert_eq!(rt; transfer_size(&limits, &LIMITS), *size);
+        assert_eq!(rt; transfer_size(&LIMITS, &limits), *size);
     }
-    let table: [(u8, usize, bool); 7] = [
-        (0, 65_535, true),
-        (1, 2, true),
-        (1, 3, false),
-        (5, 32, true),
-        (6, 64, true),
-        (6, 65, false),
-        (7, 65_535, true),
-    ];
-    for (code, count, allowed) in table {
-        assert_eq!(rt; allows_segments(code, count), allowed, "{code} {count}");
+    for (code, count, allowed) in SEGMENTS {
+        assert_eq!(rt; allows_segments(*code, *count), *allowed, "{code} {count}");
     }
+}
+
+fn key(peer: Peer, invoke_id: u8) -> PeerKey {
+    PeerKey { peer, invoke_id }
 }
 
 #[test]
 fn keys(rt: HostRuntime) {
-    let key = |peer, invoke_id| PeerKey { peer, invoke_id };
-    let table: [(PeerKey, PeerKey, Ordering); 4] = [
-        (key(near(), 3), key(near(), 3), Ordering::Equal),
-        (key(near(), 3), key(near(), 4), Ordering::Less),
-        (key(near(), 9), key(far(), 1), Ordering::Less),
-        (key(far(), 1), key(near(), 9), Ordering::Greater),
-    ];
-    for (one, other, order) in table {
-        assert_eq!(rt; one.cmp(&other), order);
-        assert_eq!(rt; one == other, order == Ordering::Equal);
-    }
+    let one = key(near(), 3);
+    assert!(rt; one == key(near(), 3) && one.same(&key(near(), 3)));
+    assert!(rt; one < key(near(), 4) && !one.same(&key(near(), 4)));
+    assert!(rt; key(near(), 9) < key(far(), 1) && key(far(), 1) > key(near(), 9));
 }
 
 #[test]
@@ -175,14 +219,10 @@ fn invoke_ids(rt: HostRuntime) {
 
 #[test]
 fn settings_compare(rt: HostRuntime) {
-    let one = Settings {
-        limits: LIMITS,
-        window: WINDOW,
-    };
+    let one = context().settings;
     let other = Settings {
         limits: LIMITS,
         window: Window { size: 5 },
     };
-    assert_eq!(rt; one == one, true);
-    assert_eq!(rt; one == other, false);
+    assert!(rt; one == one && one != other);
 }

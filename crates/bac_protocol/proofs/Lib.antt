@@ -1,3 +1,4 @@
+-- Lemmas on the machines, on runs of them and on what is sent.
 pub mod Alone
 pub mod Sound
 pub mod Readings

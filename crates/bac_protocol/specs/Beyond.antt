@@ -9,6 +9,7 @@ use Rattle.bac_protocol.specs.World.{Event, run, start}
 use Rattle.bac_protocol.specs.World.Event.{MakeAsk, Deliver}
 use Rattle.bac_protocol.specs.Examples.{key, shop, rules, pieces, in_order}
 
+-- windows of 64, and 300 later copies may overtake one
 abbrev pub wide : Rules
 wide = record (rules 64) { overtake = 300 }
 

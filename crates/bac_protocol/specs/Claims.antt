@@ -46,6 +46,7 @@ pub record IsPieceAt (pieces : List Octets) (p : ℕ) (segment : Segment) (octet
   pub more_is : segment.more ≡ nat_lt (p + 1) (length pieces)
   pub octets_is : octets ≡ piece_at pieces p
 
+-- a segment is one of the pieces
 abbrev pub IsPieceOf : List Octets → Segment → Octets → Type 0
 IsPieceOf pieces segment octets = (p : ℕ) × IsPieceAt pieces p segment octets
 
@@ -75,6 +76,7 @@ IsOfAsk number ask log _ = Unit {0}
 abbrev pub sent_until : Ask → Apdu → ℕ
 sent_until ask apdu = if is_from_client apdu then ask.first + DEADLINE else ask.first + DEADLINE + LIFE + KEEP
 
+-- a copy is of that ask, and was sent since it was made and while its ends send for it
 pub record IsCopyOf (number : ℕ) (ask : Ask) (log : List Fact) (c : Copy) : Type 0 where
   pub after : ask.first ≤ c.moment
   pub before : c.moment ≤ sent_until ask c.apdu
@@ -86,6 +88,7 @@ pub record IsEntryOf (ask : Ask) (e : Entry) : Type 0 where
   pub before : e.begin ≤ ask.first + DEADLINE + LIFE
   pub choice : e.choice ≡ ask.choice
 
+-- an entry that is live was begun for that ask
 abbrev pub LiveIsOf : ℕ → Ask → Option Entry → Type 0
 LiveIsOf now ask None = Unit {0}
 LiveIsOf now ask (Some e) = is_live now e ≡ true → IsEntryOf ask e
@@ -101,6 +104,7 @@ pub record IsUnasked (n : Net) (key : Key) : Type 0 where
   pub copies : copies_of key n.posts ≡ []
   pub entry : n.entries key ≡ None
 
+-- what is known of a transaction, with a ticket or without one
 abbrev pub IsOfTicket : Rules → Net → Key → Option Ticket → Type 0
 IsOfTicket x n key None = IsUnasked n key
 IsOfTicket x n key (Some t) = IsOfNewest x n key t
@@ -224,13 +228,16 @@ IsOfNoPass (ComplexAck invoke_id (Some segment) choice service) = ⊥
 IsOfNoPass (SegmentAck false invoke_id ack) = ⊥
 IsOfNoPass _ = Unit {0}
 
+-- no segment of a reply may arrive
 abbrev pub IsUnsent : Rules → Net → Key → Type 0
 IsUnsent x n key = EachCopy (λ k c. MayArrive x.overtake n.now k c → IsOfNoPass c.apdu) (copies_of key n.posts)
 
+-- in SEGMENTED_RESPONSE the one pass of the reply goes on; otherwise it has not begun
 abbrev pub StateHasReplyPass : (W : ℕ) → Rules → Net → Key → Ticket → State → Type 0
 StateHasReplyPass W x n key t (SegmentedResponse out transfer since) = IsReplyPass W x n key t out
 StateHasReplyPass W x n key t _ = IsUnsent x n key
 
+-- the same of an entry, which may be of an earlier ask
 abbrev pub ServerHasReplyPass : (W : ℕ) → Rules → Net → Key → Ticket → Option Entry → Type 0
 ServerHasReplyPass W x n key t None = IsUnsent x n key
 ServerHasReplyPass W x n key t (Some e) =
@@ -261,6 +268,7 @@ abbrev pub IsLiveWithReply : ℕ → Ask → Option Entry → Type 0
 IsLiveWithReply now ask None = ⊥
 IsLiveWithReply now ask (Some e) = (ask.first ≤ e.begin) × (is_live now e ≡ true) × HasReply e.state
 
+-- a segment of a request
 abbrev pub IsSegmentOfRequest : Apdu → Type 0
 IsSegmentOfRequest (ConfirmedRequest limits invoke_id (Some segment) choice service) = Unit {0}
 IsSegmentOfRequest _ = ⊥

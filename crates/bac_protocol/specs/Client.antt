@@ -138,10 +138,12 @@ gets_refusal _ = Stays
 abbrev pub gets_simple_ack : Ask → (choice : ℕ) → Reaction
 gets_simple_ack ask choice = if nat_eq choice ask.choice && has_simple_ack ask.choice then Ends [] (Answered reply.Simple) else Stays
 
+-- a ComplexACK without SEG (clause 5.4.4.3): an answer, where its choice is the one asked, and is answered so
 abbrev pub gets_complex_ack : Context → Readable → Ask → (choice : ℕ) → Octets → Reaction
 gets_complex_ack c readable ask choice service =
     if nat_eq choice ask.choice && has_complex_ack ask.choice then answered_with c readable ask.choice [] service else Stays
 
+-- an Error (clause 5.4.4.3): an answer, where its choice is the one asked
 abbrev pub gets_error : Ask → (choice class code : ℕ) → Reaction
 gets_error ask choice class code = if nat_eq choice ask.choice then Ends [] (Answered (reply.Error class code)) else Stays
 
@@ -187,6 +189,7 @@ abbrev pub segmented_conf_gets : Context → Readable → Ask → Incoming → A
 segmented_conf_gets c readable ask inc (ComplexAck invoke_id (Some segment) choice service) = gets_next_segment c readable ask inc segment choice service
 segmented_conf_gets c readable ask inc apdu = gets_refusal apdu
 
+-- an APDU comes in that phase (clause 5.4.4); in IDLE it changes nothing
 abbrev pub open_gets : Context → Readable → Ask → Phase → Apdu → Reaction
 open_gets c readable ask (SegmentedRequest out all_sent) apdu = segmented_request_gets c readable ask out all_sent apdu
 open_gets c readable ask AwaitConfirmation apdu = await_confirmation_gets c readable ask apdu
@@ -214,6 +217,7 @@ repeats_pieces c t =
     then Ends [] TimedOut
     else Repeats (SegmentedRequest (outgoing t.ask.pieces) true) (request_window c t.ask.choice (outgoing t.ask.pieces))
 
+-- the request is sent again (clause 5.4.4.3)
 abbrev pub repeats : Context → Ticket → Reaction
 repeats c t = if t.ask.whole then repeats_whole c t else repeats_pieces c t
 
@@ -238,6 +242,7 @@ segmented_conf_ticks c t =
     then (if t.ask.whole then repeats_whole c t else Ends [] TimedOut)
     else Stays
 
+-- a tick in that phase (clause 5.4.4); IDLE has no timer
 abbrev pub open_ticks : Context → Ticket → Phase → Reaction
 open_ticks c t (SegmentedRequest out all_sent) = segmented_request_ticks c t out all_sent
 open_ticks c t AwaitConfirmation = await_confirmation_ticks c t

@@ -1,3 +1,4 @@
+-- The machines, the world that they run in, and what is claimed of each run.
 pub mod Times
 pub mod Context
 pub mod Sizes

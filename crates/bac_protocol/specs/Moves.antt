@@ -19,14 +19,17 @@ pub data Move : Type 0 where
   TicksEntry : (key : Key) → Move
   Passes : (by : ℕ) → Move
 
+-- a copy reaches its client (clause 5.4.4); without a ticket it is dropped
 abbrev pub taken_by_client : Rules → Net → Post → Option Ticket → Net
 taken_by_client x n p None = n
 taken_by_client x n p (Some t) = client_acts n p.key t (client_gets (client_context x p.key n.now) x.readable t p.copy.apdu)
 
+-- a copy reaches its server, whose service says so (clause 5.4.5)
 abbrev pub taken_by_server : Rules → Net → Post → (free : Bool) → Service → Net
 taken_by_server x n p free service =
     server_acts n p.key (server_gets (server_context x p.key n.now) service (n.entries p.key) free p.copy.apdu)
 
+-- the copy of that number arrives, if it is deliverable
 abbrev pub arrived : Rules → Net → (number : ℕ) → (free : Bool) → Service → Option Post → Net
 arrived x n number free service None = n
 arrived x n number free service (Some p) =
@@ -34,6 +37,7 @@ arrived x n number free service (Some p) =
     then (if is_from_client p.copy.apdu then taken_by_server x n p free service else taken_by_client x n p (n.tickets p.key))
     else n
 
+-- a tick of one ticket
 abbrev pub ticket_ticked : Rules → Net → Key → Option Ticket → Net
 ticket_ticked x n key None = n
 ticket_ticked x n key (Some t) = client_acts n key t (client_ticks (client_context x key n.now) t)

@@ -52,22 +52,26 @@ abbrev pub TransferGoesOn : Outgoing → State → Type 0
 TransferGoesOn out (SegmentedResponse next transfer since) = (next.pieces ≡ out.pieces) × (out.first ≤ next.first)
 TransferGoesOn out _ = ⊥
 
+-- a kept reply stays, a transfer goes on with the same pieces, and Dropped stays so
 abbrev pub StateStays : (old new : State) → Type 0
 StateStays (State.SegmentedRequest inc since) new = Unit {0}
 StateStays (Done kept) new = new ≡ Done kept
 StateStays (SegmentedResponse out transfer since) new = TransferGoesOn out new
 StateStays Dropped new = new ≡ Dropped
 
+-- an entry with the same beginning and the same request
 pub record IsSameEntry (e d : Entry) : Type 0 where
   pub begin : d.begin ≡ e.begin
   pub choice : d.choice ≡ e.choice
   pub limits : d.limits ≡ e.limits
   pub request : d.request ≡ e.request
 
+-- the entry is still there, and is that one
 abbrev pub StaysIn : Entry → Option Entry → Type 0
 StaysIn e None = ⊥
 StaysIn e (Some d) = IsSameEntry e d × StateStays e.state d.state
 
+-- a live entry stays through each step (own rule of this profile)
 pub record LiveStays : Type 0 where
   pub gets : (c : Context) (service : Service) (e : Entry) (free : Bool) (a : Apdu) → is_live c.now e ≡ true
       → StaysIn e (server_gets c service (Some e) free a).entry
@@ -75,10 +79,12 @@ pub record LiveStays : Type 0 where
 
 -- A request is performed only where no entry was live, or one was in SEGMENTED_REQUEST, and then an entry for that request keeps that reply.
 
+-- SEGMENTED_REQUEST (clause 5.4.5.2)
 abbrev pub IsSegmentedRequest : State → Type 0
 IsSegmentedRequest (State.SegmentedRequest inc since) = Unit {0}
 IsSegmentedRequest _ = ⊥
 
+-- no entry is live, or its request is still coming
 abbrev pub MayPerform : ℕ → Option Entry → Type 0
 MayPerform now None = Unit {0}
 MayPerform now (Some e) = (is_live now e ≡ false) ⊎ IsSegmentedRequest e.state
@@ -90,6 +96,7 @@ held_by (Done kept) = []
 held_by (SegmentedResponse out transfer since) = []
 held_by Dropped = []
 
+-- the pieces that a live entry holds
 abbrev pub held_in : ℕ → Option Entry → List Octets
 held_in now None = []
 held_in now (Some e) = if is_live now e then held_by e.state else []
@@ -130,6 +137,7 @@ KeepsReply c choice reply (Done kept) = kept ≡ reply_apdu c choice reply
 KeepsReply c choice reply (SegmentedResponse out transfer since) = reply ≡ Complex (join out.pieces)
 KeepsReply c choice reply Dropped = ⊥
 
+-- a performance: where it may be, of the whole request, as the service says, with its reply kept in an entry for it
 pub record IsEffect (c : Context) (service : Service) (old : Option Entry) (a : Apdu) (x : Effect) (new : Option Entry) : Type 0 where
   pub before : MayPerform c.now old
   pub whole : IsWholeWith (held_in c.now old) a x.request.service
@@ -140,6 +148,7 @@ pub record IsEffect (c : Context) (service : Service) (old : Option Entry) (a : 
   pub choice : x.request.choice ≡ entry.choice
   pub kept : KeepsReply c entry.choice x.reply entry.state
 
+-- each performance is such a one, and a tick performs nothing
 pub record EffectsAreKept : Type 0 where
   pub gets : (c : Context) (service : Service) (entry : Option Entry) (free : Bool) (a : Apdu) (x : Effect)
       → (server_gets c service entry free a).effect ≡ Some x → IsEffect c service entry a x (server_gets c service entry free a).entry
@@ -160,6 +169,7 @@ pub record Ignores (step : Service → Reaction) : Type 0 where
   pub goes : Reaction
   pub is : (service : Service) → step service ≡ goes
 
+-- what a server does on an APDU rests on what its service says of at most one request
 abbrev pub ServiceIsAskedOnce : Type 0
 ServiceIsAskedOnce =
     (c : Context) (entry : Option Entry) (free : Bool) (a : Apdu)

@@ -38,6 +38,7 @@ like_machine S shop x key w e v = IsLike S key v (happens S shop x w e)
 
 -- The run.
 
+-- no ticket, or one that is over
 abbrev pub is_ended : Option Ticket → Bool
 is_ended None = true
 is_ended (Some t) = is_idle t.phase
@@ -64,6 +65,7 @@ Stops S key number w = (is_ended (w.net.tickets key) ≡ true) ⊎ (length w.net
 abbrev pub FitsData : List Octets → Type 0
 FitsData pieces = (length pieces ≤ DATA) × (length (join pieces) ≤ DATA)
 
+-- a request in segments is no longer than its receiver takes
 abbrev pub RequestFits : (whole : Bool) → List Octets → Type 0
 RequestFits true pieces = Unit {0}
 RequestFits false pieces = FitsData pieces
@@ -89,6 +91,7 @@ abbrev pub request_count : (whole : Bool) → List Octets → ℕ
 request_count true pieces = 1
 request_count false pieces = length pieces
 
+-- in how many APDUs a reply goes
 abbrev pub way_count : Way ℕ → ℕ
 way_count InOne = 1
 way_count (InSegments pieces) = length pieces

@@ -1,3 +1,4 @@
+-- Lemmas on lists of slots, and on the index of a table.
 pub mod Slots
 pub mod KeyOrder
 pub mod Indexes

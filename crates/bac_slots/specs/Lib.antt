@@ -1,2 +1,3 @@
+-- Tables as lists of slots, and the index of a table.
 pub mod Slots
 pub mod Indexes

@@ -1,4 +1,4 @@
-//! Tables of both kinds: call by call, against each other, at their limits, and what a search compares.
+//! Tables of both kinds: worked calls, against each other, at their limits, and what a search compares.
 ghost use Rattle.std.specs.Prelude.{nat_le, ℕ};
 ghost use Rattle.std.proofs.Common.{rules};
 ghost use Rattle.std.specs.Ordering.{nat_cmp, on, eq_by_cmp, as_partial_cmp};
@@ -13,90 +13,172 @@ use std::cmp::Ordering;
 use std::process::Abort;
 use std::test::Fail;
 
-// A key that is there already is handed back, as it is where the table is full.
-fn put_absent<K: Ord + Copy + Drop, S: SlotTable<K, u8>>(
-    table: &mut S,
-    key: K,
-    begin: u64,
-    value: u8,
-) -> Result<(), (K, u8)> {
-    if table.get(&key).is_some() {
-        return Err((key, value));
-    }
-    table.put(key, begin, value)
+// One call of a table, or one field of a slot that it gives by its place in order of keys or of putting.
+#[derive(Clone, Copy)]
+enum Call {
+    Len,
+    Find,
+    KeyAt,
+    BeginAt,
+    ValueAt,
+    KeyByAge,
+    BeginByAge,
+    ValueByAge,
+    Get,
+    Set,
+    Remove,
+    Put,
 }
 
-fn call_by_call<S: SlotTable<u32, u8>>(rt: &impl Abort, table: &mut S) {
-    let mut count = Count { comparisons: 0 };
-    assert_eq!(rt; table.find(&7, &mut count), None);
-    for (key, begin, value) in [(7, 1, 70), (3, 2, 30), (5, 2, 50)] {
-        assert_eq!(rt; put_absent(table, key, begin, value), Ok(()));
+fn call_of(number: u64) -> Call {
+    match number {
+        0 => Call::Len,
+        1 => Call::Find,
+        2 => Call::KeyAt,
+        3 => Call::BeginAt,
+        4 => Call::ValueAt,
+        5 => Call::KeyByAge,
+        6 => Call::BeginByAge,
+        7 => Call::ValueByAge,
+        8 => Call::Get,
+        9 => Call::Set,
+        10 => Call::Remove,
+        _ => Call::Put,
     }
-    assert_eq!(rt; put_absent(table, 9, 3, 90), Err((9, 90)));
-    assert_eq!(rt; (table.len(), table.room()), (3, 3));
-    assert_eq!(rt; table.find(&7, &mut count), Some(2));
-    assert_eq!(rt; table.find(&3, &mut count), Some(0));
-    assert_eq!(rt; table.find(&4, &mut count), None);
-    assert_eq!(rt; table.at(1), Some((5, 2, &50)));
-    assert_eq!(rt; table.by_age(1), Some((3, 2, &30)));
-    assert_eq!(rt; table.at(3), None);
-    assert_eq!(rt; table.set(&3, 31), Some(30));
-    assert_eq!(rt; table.set(&4, 40), None);
-    assert_eq!(rt; table.remove(&7), Some(70));
-    assert_eq!(rt; table.remove(&7), None);
-    assert_eq!(rt; table.by_age(0), Some((3, 2, &31)));
-    assert_eq!(rt; put_absent(table, 9, 3, 90), Ok(()));
-    assert_eq!(rt; table.at(2), Some((9, 3, &90)));
-    assert_eq!(rt; table.get(&5), Some(&50));
-    assert_eq!(rt; table.get(&7), None);
+}
+
+fn key_in(slot: Option<(u32, u64, &u8)>) -> Option<u64> {
+    let slot = slot?;
+    Some(u64::from(slot.0))
+}
+
+fn begin_in(slot: Option<(u32, u64, &u8)>) -> Option<u64> {
+    let slot = slot?;
+    Some(slot.1)
+}
+
+fn value_in(slot: Option<(u32, u64, &u8)>) -> Option<u64> {
+    let slot = slot?;
+    Some(u64::from(*slot.2))
+}
+
+fn number_of(value: Option<u8>) -> Option<u64> {
+    let value = value?;
+    Some(u64::from(value))
+}
+
+fn place<S: SlotTable<u32, u8>>(table: &S, key: u32) -> Option<u64> {
+    let place = table.find(&key, &mut Count { comparisons: 0 })?;
+    Some(place as u64)
+}
+
+// The value, where it is handed back; a key that is there already is not put.
+fn put<S: SlotTable<u32, u8>>(table: &mut S, key: u32, value: u8) -> Option<u64> {
+    if table.get(&key).is_some() {
+        return Some(u64::from(value));
+    }
+    let Err(refused) = table.put(key, u64::from(value), value) else {
+        return None;
+    };
+    Some(u64::from(refused.1))
+}
+
+// What a call answers, as a number: a place or `n` is the key.
+fn called<S: SlotTable<u32, u8>>(table: &mut S, call: Call, key: u32, value: u8) -> Option<u64> {
+    let n = key as usize;
+    match call {
+        Call::Len => Some(table.len() as u64),
+        Call::Find => place(table, key),
+        Call::KeyAt => key_in(table.at(n)),
+        Call::BeginAt => begin_in(table.at(n)),
+        Call::ValueAt => value_in(table.at(n)),
+        Call::KeyByAge => key_in(table.by_age(n)),
+        Call::BeginByAge => begin_in(table.by_age(n)),
+        Call::ValueByAge => value_in(table.by_age(n)),
+        Call::Get => number_of(table.get(&key).copied()),
+        Call::Set => number_of(table.set(&key, value)),
+        Call::Remove => number_of(table.remove(&key)),
+        Call::Put => put(table, key, value),
+    }
+}
+
+// A call, its key or place, its value, and what it answers.
+struct Row(Call, u32, u8, Option<u64>);
+
+const THREE: &[Row] = &[
+    Row(Call::Find, 7, 0, None),
+    Row(Call::Put, 7, 70, None),
+    Row(Call::Put, 3, 30, None),
+    Row(Call::Put, 5, 50, None),
+    Row(Call::Put, 9, 90, Some(90)),
+    Row(Call::Len, 0, 0, Some(3)),
+    Row(Call::Find, 7, 0, Some(2)),
+    Row(Call::Find, 3, 0, Some(0)),
+    Row(Call::Find, 4, 0, None),
+    Row(Call::KeyAt, 1, 0, Some(5)),
+    Row(Call::BeginAt, 1, 0, Some(50)),
+    Row(Call::ValueAt, 1, 0, Some(50)),
+    Row(Call::KeyByAge, 1, 0, Some(3)),
+    Row(Call::BeginByAge, 1, 0, Some(30)),
+    Row(Call::KeyAt, 3, 0, None),
+    Row(Call::Set, 3, 31, Some(30)),
+    Row(Call::Set, 4, 40, None),
+    Row(Call::Remove, 7, 0, Some(70)),
+    Row(Call::Remove, 7, 0, None),
+    Row(Call::KeyByAge, 0, 0, Some(3)),
+    Row(Call::BeginByAge, 0, 0, Some(30)),
+    Row(Call::ValueByAge, 0, 0, Some(31)),
+    Row(Call::Put, 9, 90, None),
+    Row(Call::KeyAt, 2, 0, Some(9)),
+    Row(Call::Get, 5, 0, Some(50)),
+    Row(Call::Get, 7, 0, None),
+];
+
+const NONE: &[Row] = &[
+    Row(Call::Put, 5, 50, Some(50)),
+    Row(Call::Len, 0, 0, Some(0)),
+    Row(Call::Remove, 5, 0, None),
+];
+
+const ONE: &[Row] = &[
+    Row(Call::Put, 5, 50, None),
+    Row(Call::Put, 6, 60, Some(60)),
+    Row(Call::Remove, 5, 0, Some(50)),
+    Row(Call::Put, 6, 60, None),
+    Row(Call::KeyAt, 0, 0, Some(6)),
+];
+
+fn runs<S: SlotTable<u32, u8>>(rt: &impl Abort, table: &mut S, rows: &[Row]) {
+    for row in rows {
+        assert_eq!(rt; called(table, row.0, row.1, row.2), row.3);
+    }
 }
 
 #[test]
 fn each_call(rt: HostRuntime) -> Result<(), Fail> {
-    call_by_call(&rt, &mut PlainSlots::<u32, u8>::new(rt.alloc(), 3)?);
-    call_by_call(&rt, &mut IndexSlots::<u32, u8>::new(rt.alloc(), 3)?);
+    let alloc = rt.alloc();
+    for (room, rows) in [(0, NONE), (1, ONE), (3, THREE)] {
+        let mut plain = PlainSlots::<u32, u8>::new(alloc, room)?;
+        runs(&rt, &mut plain, rows);
+        let mut index = IndexSlots::<u32, u8>::new(alloc, room)?;
+        runs(&rt, &mut index, rows);
+        assert_eq!(rt; plain.room(), room);
+        assert_eq!(rt; index.room(), room);
+    }
     Ok(())
 }
 
+// Each key is compared with all, and one that is there once more for its place.
 #[test]
 fn comparisons_of_a_plain_table(rt: HostRuntime) -> Result<(), Fail> {
     let mut table = PlainSlots::<u32, u8>::new(rt.alloc(), 3)?;
-    for key in [7, 3, 5] {
-        assert_eq!(rt; put_absent(&mut table, key, 0, 0), Ok(()));
-    }
+    runs(&rt, &mut table, &THREE[1..4]);
     let mut count = Count { comparisons: 0 };
     for (key, comparisons) in [(7, 6), (3, 12), (4, 15)] {
         table.find(&key, &mut count);
         assert_eq!(rt; count.comparisons, comparisons);
     }
     Ok(())
-}
-
-// What one call answers.
-#[derive(Debug, PartialEq, Drop)]
-enum Answer {
-    Number(usize),
-    Place(Option<usize>),
-    Slot(Option<(u32, u64, u8)>),
-    Value(Option<u8>),
-    Put(Result<(), (u32, u8)>),
-}
-
-fn copied(slot: Option<(u32, u64, &u8)>) -> Answer {
-    Answer::Slot(slot.map(|(key, begin, value)| (key, begin, *value)))
-}
-
-fn called<S: SlotTable<u32, u8>>(table: &mut S, call: u64, key: u32, value: u8) -> Answer {
-    match call {
-        0 => Answer::Number(table.len()),
-        1 => Answer::Place(table.find(&key, &mut Count { comparisons: 0 })),
-        2 => copied(table.at(key as usize)),
-        3 => copied(table.by_age(key as usize)),
-        4 => Answer::Value(table.get(&key).copied()),
-        5 => Answer::Value(table.set(&key, value)),
-        6 => Answer::Value(table.remove(&key)),
-        _ => Answer::Put(put_absent(table, key, u64::from(value), value)),
-    }
 }
 
 fn next(state: u64) -> u64 {
@@ -113,24 +195,16 @@ fn both_kinds_answer_alike(rt: HostRuntime) -> Result<(), Fail> {
     let mut was_full = false;
     for step in 0..10_000u32 {
         state = next(state);
-        let call = (state >> 33) % 11;
+        let call = call_of((state >> 33) % 16);
         state = next(state);
         let key = ((state >> 33) % 48) as u32;
         let value = (state >> 56) as u8;
         let answer = called(&mut plain, call, key, value);
-        assert_eq!(rt;
-            called(&mut index, call, key, value),
-            answer,
-            "{step}: {call} {key}"
-        );
+        assert_eq!(rt; called(&mut index, call, key, value), answer, "{step}");
         was_full = was_full || plain.len() == 32;
     }
     // the calls went to full tables too
     assert!(rt; was_full);
-    for n in 0..=32 {
-        let answer = copied(plain.by_age(n));
-        assert_eq!(rt; copied(index.by_age(n)), answer, "{n}");
-    }
     Ok(())
 }
 
@@ -188,6 +262,10 @@ impl Eq for CountedKey<'_> {
     ghost laws = { Prim.search (nat_cmp_total, comparing, rules) };
 }
 
+fn is_put<K: Ord + Copy + Drop, S: SlotTable<K, u8>>(table: &mut S, key: K) -> bool {
+    table.get(&key).is_none() && table.put(key, 0, 0).is_ok()
+}
+
 // All keys below 1,024 are put in a scattered order, and each is found with no more comparisons than are counted.
 #[test]
 fn an_index_counts_every_comparison(rt: HostRuntime) -> Result<(), Fail> {
@@ -195,14 +273,14 @@ fn an_index_counts_every_comparison(rt: HostRuntime) -> Result<(), Fail> {
     let mut table = IndexSlots::<CountedKey, u8>::new(rt.alloc(), 1_024)?;
     for n in 0..1_024u32 {
         let key = counted(n * 389 % 1_024, &comparisons);
-        assert!(rt; put_absent(&mut table, key, 0, 0).is_ok(), "{n}");
+        assert!(rt; is_put(&mut table, key));
     }
     for number in 0..1_024u32 {
         let key = counted(number, &comparisons);
         let mut count = Count { comparisons: 0 };
         comparisons.set(0);
         assert_eq!(rt; table.find(&key, &mut count), Some(number as usize));
-        assert!(rt; comparisons.get() <= count.comparisons, "{number}");
+        assert!(rt; comparisons.get() <= count.comparisons && count.comparisons <= 11);
     }
     Ok(())
 }
@@ -213,62 +291,15 @@ fn a_plain_table_counts_every_comparison(rt: HostRuntime) -> Result<(), Fail> {
     let mut table = PlainSlots::<CountedKey, u8>::new(rt.alloc(), 64)?;
     for n in 0..64u32 {
         let key = counted(n * 37 % 64, &comparisons);
-        assert!(rt; put_absent(&mut table, key, 0, 0).is_ok(), "{n}");
+        assert!(rt; is_put(&mut table, key));
     }
     for number in 0..64u32 {
         let key = counted(number, &comparisons);
         let mut count = Count { comparisons: 0 };
         comparisons.set(0);
         assert_eq!(rt; table.find(&key, &mut count), Some(number as usize));
-        assert!(rt; comparisons.get() <= count.comparisons, "{number}");
+        assert!(rt; comparisons.get() <= count.comparisons);
     }
-    Ok(())
-}
-
-#[test]
-fn a_full_index(rt: HostRuntime) -> Result<(), Fail> {
-    let mut table = IndexSlots::<u32, u8>::new(rt.alloc(), 1_024)?;
-    for n in 0..1_024u32 {
-        let key = n * 389 % 1_024;
-        assert_eq!(rt;
-            put_absent(&mut table, key, u64::from(n), (n % 256) as u8),
-            Ok(())
-        );
-    }
-    assert_eq!(rt; put_absent(&mut table, 1_024, 0, 9), Err((1_024, 9)));
-    for n in 0..1_024u32 {
-        let mut count = Count { comparisons: 0 };
-        assert_eq!(rt; table.find(&n, &mut count), Some(n as usize));
-        assert!(rt; count.comparisons <= 11, "{n}");
-        let key = table.at(n as usize).map(|(key, _, _)| key);
-        assert_eq!(rt; key, Some(n));
-    }
-    for n in 0..1_024u32 {
-        let value = table.remove(&(n * 389 % 1_024));
-        assert_eq!(rt; value, Some((n % 256) as u8));
-    }
-    assert_eq!(rt; table.len(), 0);
-    Ok(())
-}
-
-fn at_most_one<S: SlotTable<u32, u8>>(rt: &impl Abort, none: &mut S, one: &mut S) {
-    assert_eq!(rt; put_absent(none, 5, 0, 50), Err((5, 50)));
-    assert_eq!(rt; (none.len(), none.remove(&5)), (0, None));
-    assert_eq!(rt; put_absent(one, 5, 0, 50), Ok(()));
-    assert_eq!(rt; put_absent(one, 6, 0, 60), Err((6, 60)));
-    assert_eq!(rt; one.remove(&5), Some(50));
-    assert_eq!(rt; put_absent(one, 6, 0, 60), Ok(()));
-    assert_eq!(rt; one.at(0), Some((6, 0, &60)));
-}
-
-#[test]
-fn room_for_none_and_for_one(rt: HostRuntime) -> Result<(), Fail> {
-    let mut none = PlainSlots::<u32, u8>::new(rt.alloc(), 0)?;
-    let mut one = PlainSlots::<u32, u8>::new(rt.alloc(), 1)?;
-    at_most_one(&rt, &mut none, &mut one);
-    let mut none = IndexSlots::<u32, u8>::new(rt.alloc(), 0)?;
-    let mut one = IndexSlots::<u32, u8>::new(rt.alloc(), 1)?;
-    at_most_one(&rt, &mut none, &mut one);
     Ok(())
 }
 
@@ -303,6 +334,15 @@ impl Same for u8 {
     }
 }
 
+const FOUR: &[Row] = &[
+    Row(Call::Put, 4, 40, None),
+    Row(Call::Put, 2, 20, None),
+    Row(Call::Put, 9, 90, None),
+    Row(Call::Put, 1, 10, None),
+];
+
+const TWO: &[Row] = &[Row(Call::Put, 4, 40, None), Row(Call::Put, 9, 90, None)];
+
 #[test]
 fn swept_and_compared(rt: HostRuntime) -> Result<(), Fail> {
     let mut one = IndexSlots::<u32, u8>::new(rt.alloc(), 8)?;
@@ -310,12 +350,8 @@ fn swept_and_compared(rt: HostRuntime) -> Result<(), Fail> {
     let wider = IndexSlots::<u32, u8>::new(rt.alloc(), 9)?;
     assert!(rt; same_tables(&one, &other));
     assert!(rt; !same_tables(&one, &wider));
-    for (key, value) in [(4, 40), (2, 20), (9, 90), (1, 10)] {
-        assert_eq!(rt; put_absent(&mut one, key, 0, value), Ok(()));
-    }
-    for (key, value) in [(4, 40), (9, 90)] {
-        assert_eq!(rt; put_absent(&mut other, key, 0, value), Ok(()));
-    }
+    runs(&rt, &mut one, FOUR);
+    runs(&rt, &mut other, TWO);
     assert!(rt; !same_tables(&one, &other));
     assert_eq!(rt; count_passing(&one, &AtLeast(30)), 2);
     sweep(&mut one, &AtLeast(30));

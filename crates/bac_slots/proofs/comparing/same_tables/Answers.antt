@@ -17,9 +17,8 @@ returns g c =
     )
 
 pub returns-then-not-same_at : goal.returns-then-not-same_at
-returns-then-not-same_at g c =
-    (
-      λ e. absurd cc,
-      λ same. let yes = c.same_at.ensures.1 (seen_same (slot_seen g.K.Same.seen g.T.Same.seen) (g.S.SlotTable.slots c.args.one.now)
-          (g.S.SlotTable.slots c.args.other.now) c.loop-n.n same.0) in let no = c.if-not-same_at.true in let is = c.if-not-same_at.ensures in cc,
-    )
+returns-then-not-same_at g c = (
+  λ e. absurd cc,
+  λ same. let yes = c.same_at.ensures.1 (seen_same (slot_seen g.K.Same.seen g.T.Same.seen) (g.S.SlotTable.slots c.args.one.now)
+      (g.S.SlotTable.slots c.args.other.now) c.loop-n.n same.0) in let no = c.if-not-same_at.true in let is = c.if-not-same_at.ensures in cc,
+)

@@ -1,3 +1,4 @@
+-- Setting twice, and setting what is there.
 use Rattle.bac_slots.proofs.Values.{set_twice, set_back}
 use Rattle.bac_slots.proofs.laws.setting_again.Goals as goal
 

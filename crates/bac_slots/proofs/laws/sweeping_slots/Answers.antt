@@ -1,3 +1,4 @@
+-- What a sweep leaves.
 use Rattle.std.proofs.lemmas.List.Sums.{length-filter}
 use Rattle.bac_slots.proofs.Values.{distinct_kept, value_kept}
 use Rattle.bac_slots.proofs.laws.sweeping_slots.Goals as goal

@@ -1,3 +1,4 @@
+-- The first slot with a key, by a scan.
 use Rattle.bac_slots.proofs.Slots.{place_of}
 use Rattle.bac_slots.proofs.plain_slots.place.Goals as goal
 

@@ -1,3 +1,4 @@
+-- The value at the place that a search found.
 use Rattle.std.proofs.Common.{◌∙◌, ap, sym, Some}
 use Rattle.bac_slots.proofs.Slots.{value_at-IsAt}
 use Rattle.bac_slots.proofs.index_slots.IndexSlotsSlotTable.get.Goals as goal

@@ -1,3 +1,4 @@
+-- How many keys are lesser is the place in the order of keys.
 use Rattle.bac_slots.proofs.Slots.{value_at-some}
 use Rattle.bac_slots.proofs.plain_slots.PlainSlotsSlotTable.find.Goals as goal
 

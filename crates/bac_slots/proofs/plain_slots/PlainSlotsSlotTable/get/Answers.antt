@@ -1,3 +1,4 @@
+-- The value at the place that a scan found.
 use Rattle.std.proofs.Common.{◌∙◌, ap, sym, Some}
 use Rattle.bac_slots.proofs.Slots.{value_at-IsAt}
 use Rattle.bac_slots.proofs.plain_slots.PlainSlotsSlotTable.get.Goals as goal

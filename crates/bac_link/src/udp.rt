@@ -1,0 +1,97 @@
+//! A link over UDP (clause J.1).
+ghost use Rattle.std.specs.Prelude.{◌≡◌, ℕ, None};
+ghost use Rattle.bac_link.specs.Calls.{one_more};
+
+use crate::link::{Link, LinkFault};
+use std::io;
+use std::io::ErrorKind;
+use std::net::{Ipv4Addr, Net, SocketAddr, UdpSocket};
+use std::time::Duration;
+
+/// How long `receive` waits for a datagram, in milliseconds.
+const WAIT: u64 = 100;
+
+/// A UDP socket on 127.0.0.1. A call of `receive` waits for 100 milliseconds at most.
+#[derive(Drop)]
+pub struct UdpLink {
+    socket: UdpSocket,
+    failures: u64,
+}
+
+/// The address of a link.
+fn link_of(address: SocketAddr) -> Option<[u8; 6]> {
+    let SocketAddr::V4(address) = address else {
+        return None;
+    };
+    let [a, b, c, d] = address.ip().octets();
+    let [high, low] = address.port().to_be_bytes();
+    Some([a, b, c, d, high, low])
+}
+
+/// The socket address of a link.
+fn address_of(link: [u8; 6]) -> SocketAddr {
+    let [a, b, c, d, high, low] = link;
+    let port = u16::from_be_bytes([high, low]);
+    SocketAddr::from((Ipv4Addr::new(a, b, c, d), port))
+}
+
+impl UdpLink {
+    /// A link at that port of 127.0.0.1; port 0 is any free one. An Err where the system refuses it.
+    pub fn bind<R: Net>(net: &R, port: u16) -> io::Result<UdpLink> {
+        let socket = UdpSocket::bind(net, SocketAddr::from((Ipv4Addr::LOCALHOST, port)))?;
+        socket.set_read_timeout(Some(Duration::from_millis(WAIT)))?;
+        Ok(UdpLink {
+            socket,
+            failures: 0,
+        })
+    }
+
+    /// The address of this link; None where the system doesn't tell.
+    pub fn link(&self) -> Option<[u8; 6]> {
+        let address = self.socket.local_addr().ok()?;
+        link_of(address)
+    }
+
+    fn failed(&mut self) -> LinkFault
+        ensures { self.new.failures ≡ one_more self.old.failures }
+    {
+        self.failures = self.failures.saturating_add(1);
+        LinkFault
+    }
+}
+
+/// Whether no datagram came in time, or a signal came first.
+fn is_empty_wait(error: &io::Error) -> bool {
+    matches!(
+        error.kind(),
+        ErrorKind::WouldBlock | ErrorKind::TimedOut | ErrorKind::Interrupted
+    )
+}
+
+impl Link for UdpLink {
+    ghost failures = { λ l. l.failures };
+
+    ghost calls = { λ _. None };
+
+    fn failures(&self) -> u64 {
+        self.failures
+    }
+
+    fn send(&mut self, to: [u8; 6], octets: &[u8]) -> Result<(), LinkFault> {
+        match self.socket.send_to(octets, address_of(to)) {
+            Ok(len) if len == octets.len() => Ok(()),
+            _ => Err(self.failed()),
+        }
+    }
+
+    fn receive(&mut self, buffer: &mut [u8]) -> Result<Option<([u8; 6], usize)>, LinkFault> {
+        match self.socket.recv_from(buffer) {
+            Ok((len, from)) => match link_of(from) {
+                Some(from) => Ok(Some((from, len))),
+                None => Ok(None),
+            },
+            Err(error) if is_empty_wait(&error) => Ok(None),
+            Err(_) => Err(self.failed()),
+        }
+    }
+}
