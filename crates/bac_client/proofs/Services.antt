@@ -1,7 +1,8 @@
 -- Which replies the services have, by their choices.
 use Rattle.std.proofs.Common.{◌≡◌, ℕ, ◌==◌, ◌||◌, Bool, true, false, Option, Some, None, if◌then◌else◌, refl}
 use Rattle.bac_service.specs.declared.service.Service.{Service}
-use Rattle.bac_service.specs.Choices.{ATOMIC_READ_FILE, ATOMIC_WRITE_FILE, READ_PROPERTY, WRITE_PROPERTY, has_complex_ack, has_simple_ack}
+use Rattle.bac_service.specs.declared.service.TheConstants.{ATOMIC_READ_FILE, ATOMIC_WRITE_FILE, READ_PROPERTY, WRITE_PROPERTY}
+use Rattle.bac_service.specs.Choices.{has_complex_ack, has_simple_ack}
 use Rattle.bac_service.specs.Services.{service_at}
 
 module _ (r w p q : Service) where

@@ -9,14 +9,39 @@ pub(super) const ROWS: &[Row<'_>] = &[
         "810A0038 0104 0E7000012007 ABABABABABABABABABABABAB 810A0023 0104 0A7000022007 ABABABABABABABABABABABAB",
         End::Open,
     ),
-    (0, "43000120", "810A0023 0104 0A7000022007 ABABABABABABABABABABABAB", End::Open),
-    (2_000, "", "810A0023 0104 0A7000022007 ABABABABABABABABABABABAB", End::Open),
+    (
+        0,
+        "43000120",
+        "810A0023 0104 0A7000022007 ABABABABABABABABABABABAB",
+        End::Open,
+    ),
+    (
+        2_000,
+        "",
+        "810A0023 0104 0A7000022007 ABABABABABABABABABABABAB",
+        End::Open,
+    ),
     (2_000, "3000070900", "", End::Written(0)),
-    (3_000, "", "810A0011 0104 0270010C 0C00000005 1955", End::Open),
-    (3_000, "3C0100200C 0C00000005", "810A000A 0100 40010020", End::Open),
+    (
+        3_000,
+        "",
+        "810A0011 0104 0270010C 0C00000005 1955",
+        End::Open,
+    ),
+    (
+        3_000,
+        "3C0100200C 0C00000005",
+        "810A000A 0100 40010020",
+        End::Open,
+    ),
     (3_000, "380102200C 3F", "810A000A 0100 42010020", End::Open),
     (3_000, "3C0101200C 1955", "", End::Open),
-    (3_000, "380102200C 3E 444290999A 3F", "810A000A 0100 40010220", End::Complex),
+    (
+        3_000,
+        "380102200C 3E 444290999A 3F",
+        "810A000A 0100 40010220",
+        End::Complex,
+    ),
 ];
 
 /// A client's end that has asked for both.
