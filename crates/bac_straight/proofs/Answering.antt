@@ -1,5 +1,5 @@
 -- A straight run answers its ask.
-use Rattle.std.proofs.Common.{◌≡◌, ◌+◌, ◌≤◌, ◌<◌, ◌⊎◌, ℕ, suc, true, false, List, [], ◌∷◌, ◌++◌, length, Option, Some, slice_get, if◌then◌else◌}
+use Rattle.std.proofs.Common.{◌≡◌, ◌+◌, ◌≤◌, ◌<◌, ◌⊎◌, ℕ, suc, Bool, true, false, List, [], ◌∷◌, ◌++◌, length, Option, Some, slice_get, if◌then◌else◌}
 use Rattle.std.proofs.Common.{nat_eq, Ok, refl, sym, ap, subst, inl, inr, ◌∙◌, arith, append_assoc}
 use Rattle.std.proofs.lemmas.Bool.Decides.{nat_tests}
 use Rattle.std.specs.Option.{option_map}
@@ -42,13 +42,14 @@ use Rattle.bac_server.specs.Services.{outcome_of, outcome_by}
 use Rattle.bac_world.specs.Node.{Node}
 use Rattle.bac_world.specs.Once.{Fact, Stores, IsOnce}
 use Rattle.bac_world.specs.World.{World, stores_of, peer_at}
+use Rattle.bac_world.proofs.Pairs.{pairwise_get}
 use Rattle.bac_world.proofs.Logs.{FactMeans, performed_as}
-use Rattle.bac_world.proofs.Bridge.{key_of, slot_key}
+use Rattle.bac_world.proofs.Bridge.{IsCopyOf, key_of, slot_key}
 use Rattle.bac_world.proofs.Steps.{Over, Goes, stores_same}
 use Rattle.bac_world.proofs.Asking.{IsAccepted, accepted_is, asks_with, free_ticket}
-use Rattle.bac_straight.specs.Straight.{is_open, DeliverEach, ending_in, IsStraight, key_of_ask}
+use Rattle.bac_straight.specs.Straight.{is_open, DeliverEach, ending_in, IsStraight, key_of_ask, AreOf}
 use Rattle.bac_straight.specs.Answers.{datagrams, way_between, CanAnswer, IsAnswered}
-use Rattle.bac_straight.proofs.Posts.{AreOwn, own_none, own_more}
+use Rattle.bac_straight.proofs.Posts.{AreOwn, own_none, own_more, own_at}
 use Rattle.bac_straight.proofs.Shops.{Machines, shop, outcome_at, after_read}
 use Rattle.bac_straight.proofs.Delivering.{Fit}
 use Rattle.bac_straight.proofs.Following.{Followed, follows}
@@ -152,13 +153,24 @@ module _ (links : ℕ → Option Octets) (apart : (i j : ℕ) (l : Octets) → l
   key_is : key_of_ask w i s limits r run.asked run.asks ≡ slot_key run.asks.link key.invoke_id
   key_is = λ d. slot_key run.asks.link ((parts.is d).invoke_id)
 
-  followed : is_free w.now b.servers ≡ true → Followed links apart W x bound readable opening run.asked new v1 key true count (length n.posts)
-  followed slot = follows links apart W x bound readable opening n.posts key two run.asks.link server_at count (length n.posts) run.asked new v1 fit own
-      (omega arith)
+  followed : (has_slot : Bool) → (has_slot ≡ true → is_free w.now b.servers ≡ true)
+      → Followed links apart W x bound readable opening run.asked new v1 n.posts key has_slot count (length n.posts)
+  followed has_slot slot = follows links apart W x bound readable opening n.posts key two run.asks.link server_at count (length n.posts) run.asked new
+      v1 fit own (omega arith)
       (subst (λ (k : ℕ). DeliverEach x.overtake i (slot_key run.asks.link key.invoke_id) count k run.asked new) (sym counted)
       (subst (λ (q : PeerKey). DeliverEach x.overtake i q count (length w.copies) run.asked new) key_is run.delivers))
-      true
-      (λ e. (b, run.asks.nodes.others s (λ same. two (sym same)) ∙ there, ap (λ (k : ℕ). is_free k b.servers) run.asks.now ∙ slot))
+      has_slot
+      (λ e. (b, run.asks.nodes.others s (λ same. two (sym same)) ∙ there, ap (λ (k : ℕ). is_free k b.servers) run.asks.now ∙ slot e))
+
+  -- what arises is the ask's
+  pub copies_own : AreOf (key_of i s run.asks.accepted.invoke_id) (length w.copies) new.copies
+  copies_own number c le at =
+      let f = followed false (λ e. absurd cc) in
+      let q = pairwise_get (IsCopyOf links apart) f.end.net.posts new.copies number c f.fit.over.posts at in
+      let k = counted in
+      q.goes.key
+      ∙ own_at n.posts key f.end.net.posts f.own number q.other (omega arith) q.there
+      ∙ sym (ap (λ (y : Accepted). key_of i s y.invoke_id) parts.is)
 
   -- it stops where the run does
   stops : (end : Machines) → Fit links apart W x bound readable opening new end → Stops (Option Store) key (length n.posts + count) end
@@ -202,8 +214,8 @@ module _ (links : ℕ → Option Octets) (apart : (i j : ℕ) (l : Octets) → l
       room = subst (λ (y : Settings). y.window ≤ x.overtake) client_set can.room;
     }
 
-    f : Followed links apart W x bound readable opening run.asked new v1 key true count (length n.posts)
-    f = followed can.slot
+    f : Followed links apart W x bound readable opening run.asked new v1 n.posts key true count (length n.posts)
+    f = followed true (λ e. can.slot)
 
     abbrev end : Machines
     end = f.end

@@ -26,10 +26,11 @@ module _ (links : ℕ → Option Octets) (apart : (i j : ℕ) (l : Octets) → l
   like_self : (key : Key) (v : Machines) → IsLike (Option Store) key v v
   like_self key v = record { moment = refl; asks = refl; number = refl; ticket = refl; entry = refl; posts = refl; stores = refl; log = refl }
 
-  pub record Followed (w new : World) (v : Machines) (key : Key) (has_slot : Bool) (count number : ℕ) : Type 0 where
+  pub record Followed (w new : World) (v : Machines) (old : List Post) (key : Key) (has_slot : Bool) (count number : ℕ) : Type 0 where
     pub end : Machines
     pub run : Straight (Option Store) (like_machine (Option Store) shop x key) key has_slot count number v end
     pub fit : Fit links apart W x bound readable opening new end
+    pub own : AreOwn old key end.net.posts
     pub now : new.now ≡ w.now
     pub grows : Grows w.log new.log
 
@@ -40,11 +41,12 @@ module _ (links : ℕ → Option Octets) (apart : (i j : ℕ) (l : Octets) → l
 
     pub follows : (count number : ℕ) (w new : World) (v : Machines) → Fit links apart W x bound readable opening w v → AreOwn old key v.net.posts
         → length old ≤ number → DeliverEach x.overtake key.client (slot_key l key.invoke_id) count number w new
-        → (has_slot : Bool) → (has_slot ≡ true → HasSlot w) → Followed w new v key has_slot count number
+        → (has_slot : Bool) → (has_slot ≡ true → HasSlot w) → Followed w new v old key has_slot count number
     follows zero number w new v f own le run has_slot slot = record {
       end = v;
       run = refl;
       fit = subst (λ (y : World). Fit links apart W x bound readable opening y v) (sym run) f;
+      own = own;
       now = ap (λ (y : World). y.now) run;
       grows = grows_not w.log new.log (ap (λ (y : World). y.log) run);
     }
@@ -66,6 +68,7 @@ module _ (links : ℕ → Option Octets) (apart : (i j : ℕ) (l : Octets) → l
             again.run,
           );
           fit = again.fit;
+          own = again.own;
           now = again.now ∙ d.now;
           grows = grows_then w.log u.log new.log d.grows again.grows;
         }

@@ -42,7 +42,8 @@ SERVICE_DATA = FRONT ++ BACK
 
 spelled : SpellsRequest 7 WRITE SERVICE_DATA
 unfolding tag_spelling unsigned_octets signed_octets
-spelled = subst (SpellsRequest 7 WRITE) refl (request_spelled WRITE (record { kind_fits = omega arith; instance_fits = omega arith }, (omega arith, omega arith)))
+spelled = subst (SpellsRequest 7 WRITE) refl
+    (request_spelled WRITE (record { kind_fits = omega arith; instance_fits = omega arith }, (omega arith, omega arith)))
 
 abbrev FIRST : Apdu
 FIRST = ConfirmedRequest LIMITS 0 (Some (record { more = true; number = 0; window = 1 })) 7 FRONT

@@ -1,5 +1,6 @@
 -- The laws of worlds that a run of a fresh one led to.
-use Rattle.std.proofs.Common.{◌≡◌, ℕ, Bool, true, false, List, Option, Some, None, slice_get, refl, sym, ap, subst, ◌∙◌, if◌then◌else◌}
+use Rattle.std.proofs.Common.{◌≡◌, ℕ, Bool, true, false, List, length, Option, Some, None, slice_get, refl, sym, ap, subst, ◌∙◌}
+use Rattle.std.proofs.Common.{if◌then◌else◌}
 use Rattle.std.specs.Option.{option_map}
 use Rattle.bac_apdu.specs.Apdu.{Limits}
 use Rattle.bac_service.specs.Values.{Request, choice_of}
@@ -20,8 +21,10 @@ use Rattle.bac_world.proofs.Bridge.{key_of, slot_key}
 use Rattle.bac_world.proofs.Steps.{Over}
 use Rattle.bac_world.proofs.Asking.{accepted_is, free_ticket}
 use Rattle.bac_world.proofs.Headline.{rules_of, rules_bounded, fresh_over, run_over}
+use Rattle.bac_straight.specs.Straight.{AreOf, CopiesAreItsOwn}
 use Rattle.bac_straight.specs.Answers.{StraightAnswers}
 use Rattle.bac_straight.specs.Free.{HasNoneLive, FreeIdsAreUnused}
+use Rattle.bac_straight.proofs.Answering as answering
 use Rattle.bac_straight.proofs.Answering.{answered}
 
 module _ (W overtake : ℕ) (first old : World) (fresh : IsFresh first) (bound : IsBounded W overtake first) (events : List Event)
@@ -45,6 +48,19 @@ module _ (W overtake : ℕ) (first old : World) (fresh : IsFresh first) (bound :
       let reply = stores_reply b.store r in
       answered links fresh.apart W x bounded refl (stores_of first.nodes) old o.0 o.1 o.2 client server limits r ending count new straight b at can
       reply.0 reply.1
+
+  pub copies_own : CopiesAreItsOwn overtake old
+  copies_own client server limits r ending count new straight = go (slice_get old.nodes server) refl
+    where
+      go : (o : Option Node) → slice_get old.nodes server ≡ o
+          → AreOf (record { client = client; server = server; invoke_id = straight.asks.accepted.invoke_id }) (length old.copies) new.copies
+      go None at =
+          let e : None ≡ Some straight.asks.link = sym (ap (λ (o : Option Node). option_map (λ (m : Node). m.link) o) at) ∙ straight.asks.peer in
+          absurd cc
+      go (Some b) at =
+          let o = reached in
+          answering.copies_own links fresh.apart W x bounded refl (stores_of first.nodes) old o.0 o.1 o.2 client server limits r ending count new straight
+          b at
 
   -- Free invoke IDs.
 

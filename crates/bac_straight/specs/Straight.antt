@@ -3,6 +3,7 @@ use Rattle.std.specs.Prelude.{◌≡◌, ◌⊎◌, ℕ, zero, suc, ◌+◌, ◌
 use Rattle.std.specs.Prelude.{if◌then◌else◌, nat_eq}
 use Rattle.bac_apdu.specs.Apdu.{Limits}
 use Rattle.bac_service.specs.Values.{Request}
+use Rattle.bac_protocol.specs.Transaction.{Key}
 use Rattle.bac_slots.specs.Slots.{value_at}
 use Rattle.bac_ends.specs.Keys.{PeerKey, same_key}
 use Rattle.bac_ends.specs.Meanings.{Ending}
@@ -11,7 +12,7 @@ use Rattle.bac_ends.specs.Ends.Held.{Open, Closed}
 use Rattle.bac_world.specs.Node.{Node}
 use Rattle.bac_world.specs.Once.{Fact}
 use Rattle.bac_world.specs.Once.Fact.{Asked, Performed, Ended}
-use Rattle.bac_world.specs.World.{World, Event, WorldStep, WorldRun, IsAsked, peer_at}
+use Rattle.bac_world.specs.World.{World, Copy, Event, WorldStep, WorldRun, IsAsked, peer_at}
 use Rattle.bac_world.specs.World.Event.{Ask, Deliver}
 
 -- Whether a ticket is open.
@@ -60,6 +61,19 @@ pub record IsStraight (overtake : ℕ) (old : World) (client server : ℕ) (limi
   pub delivers : DeliverEach overtake client (key_of_ask old client server limits r asked asks) count (length old.copies) asked new
   pub stops : (is_open new client (key_of_ask old client server limits r asked asks) ≡ false) ⊎ (length new.copies ≤ length old.copies + count)
   pub ending_is : ending ≡ ending_in (length old.notes) new.log
+
+-- Whose copies arise.
+
+-- each copy from that number on is of that transaction
+abbrev pub AreOf : Key → (first : ℕ) → List Copy → Type 0
+AreOf key first copies = (number : ℕ) (c : Copy) → first ≤ number → slice_get copies number ≡ Some c → c.key ≡ key
+
+-- the ask's, in each straight run of that world
+abbrev pub CopiesAreItsOwn : (overtake : ℕ) → World → Type 0
+CopiesAreItsOwn overtake old =
+    (client server : ℕ) (limits : Limits) (r : Request) (ending : Option Ending) (count : ℕ) (new : World)
+    → (run : IsStraight overtake old client server limits r ending count new)
+    → AreOf (record { client = client; server = server; invoke_id = run.asks.accepted.invoke_id }) (length old.copies) new.copies
 
 -- It is a run.
 

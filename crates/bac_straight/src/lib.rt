@@ -7,7 +7,7 @@ pub mod examples;
 
 ghost use Rattle.std.specs.Prelude.{ℕ, List};
 ghost use Rattle.bac_world.specs.World.{World, Event, WorldRun, IsFresh, IsBounded};
-ghost use Rattle.bac_straight.specs.Straight.{DeliveriesGoOn, IsRunOfDeliveries};
+ghost use Rattle.bac_straight.specs.Straight.{CopiesAreItsOwn, DeliveriesGoOn, IsRunOfDeliveries};
 ghost use Rattle.bac_straight.specs.Answers.{StraightAnswers};
 ghost use Rattle.bac_straight.specs.Free.{FreeIdsAreUnused};
 ghost use Rattle.bac_straight.specs.Room.{HaveRoom};
@@ -25,6 +25,12 @@ pub fn straight_run_answers()
 /// A straight run is a run: of its ask, and then of as many deliveries of the copies that arose from it, each once, in order of sending.
 pub fn straight_run_is_run()
     ensures { (overtake : ℕ) (old : World) → IsRunOfDeliveries overtake old }
+{}
+
+/// In every world that a run of a fresh one led to, each copy that arises in a straight run is of its ask's transaction.
+pub fn straight_copies_are_its_own()
+    ensures { (W overtake : ℕ) (first old : World) → IsFresh first → IsBounded W overtake first → (events : List Event) → WorldRun overtake first events old
+        → CopiesAreItsOwn overtake old }
 {}
 
 /// A straight run goes on by one more delivery, as a loop over the numbers of copies makes them.
