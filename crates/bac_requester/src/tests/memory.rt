@@ -45,7 +45,7 @@ pub(super) const ROWS: &[Row<'_>] = &[
 ];
 
 /// A client's end that has asked for both.
-pub(super) fn begun(alloc: Global) -> Result<Indexed, Fail> {
+pub(super) fn begun(alloc: Global) -> Result<Indexed, NoMemory> {
     let mut end: Indexed = requester(alloc, &SMALL, 64)?;
     let write = put(alloc, 100)?;
     let _ = ask(&mut end, alloc, 0, 2, &SMALL.limits, &write)?;
@@ -55,7 +55,7 @@ pub(super) fn begun(alloc: Global) -> Result<Indexed, Fail> {
 }
 
 /// The end after these rows.
-pub(super) fn after(alloc: Global, rows: &[Row<'_>]) -> Result<Indexed, Fail> {
+pub(super) fn after(alloc: Global, rows: &[Row<'_>]) -> Result<Indexed, NoMemory> {
     let mut end = begun(alloc)?;
     for row in rows {
         let _ = goes(&mut end, alloc, *row)?;
