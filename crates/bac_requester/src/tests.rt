@@ -93,7 +93,7 @@ fn octets_of(alloc: Global, text: &str) -> Result<Vec<u8>, NoMemory> {
         high = match high {
             None => Some(digit(character)),
             Some(high) => {
-                octets.push(16 * high + digit(character))?;
+                octets.push(high.wrapping_mul(16).wrapping_add(digit(character)))?;
                 None
             }
         };
