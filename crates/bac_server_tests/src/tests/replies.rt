@@ -1,16 +1,13 @@
 //! Replies in segments.
 use super::*;
 use bac_store::{Object, Property};
-use bac_value::{CharacterString, ObjectIdentifier, Value, read_data, write_value};
+use bac_value::{ObjectIdentifier, read_data};
 
-/// A store with analog-input 7 alone, whose description has that many octets, the character set among them.
-fn described(alloc: Global, count: usize) -> Result<Store, Fail> {
-    let text = vec![in alloc; 0x61u8; count.saturating_sub(1)]?;
-    let mut octets = Vec::new(alloc);
-    write_value(
-        &Value::CharacterString(CharacterString { set: 0, text }),
-        &mut octets,
-    )?;
+/// A store with analog-input 7 alone, whose description has that tag and so many octets, the character set 0 among them.
+fn described(alloc: Global, tag: &str, count: usize) -> Result<Store, Fail> {
+    let mut octets = octets_of(alloc, tag)?;
+    let text = vec![in alloc; 0u8; count]?;
+    octets.extend_from_slice(&text)?;
     let Ok((data, _)) = read_data(&octets) else {
         return Err(Fail::from("no data"));
     };
@@ -79,7 +76,7 @@ fn reply_in_90_segments(rt: HostRuntime) -> Result<(), Fail> {
         (10_002, 4, READ, "", false),
     ];
     let alloc = rt.alloc();
-    let mut server = Server::with_store(alloc, 64, WINDOW, described(alloc, 4_000)?)?;
+    let mut server = Server::with_store(alloc, 64, WINDOW, described(alloc, "75FE0FA0", 4_000)?)?;
     server.plays(&rt, alloc, REFUSED, 5)?;
     for (moment, heard, from, to) in LATER {
         let (sends, performed) = server.meets(alloc, &(*moment, 4, *heard, "", false))?;
@@ -92,11 +89,18 @@ fn reply_in_90_segments(rt: HostRuntime) -> Result<(), Fail> {
     Ok(())
 }
 
-/// What a client reads of a description of that many octets: the first APDU's head, all its octets, and how many segments come after it.
-type Read = (usize, &'static str, &'static str, usize, usize);
+/// What a client reads of a description of that tag and length: its request, the first APDU's head, all its octets, and how many segments come after it.
+type Read = (
+    &'static str,
+    usize,
+    &'static str,
+    &'static str,
+    usize,
+    usize,
+);
 
 fn is_read(alloc: Global, store: Store, read: &Read) -> Result<bool, NoMemory> {
-    let (_, heard, head, len, segments) = *read;
+    let (_, _, heard, head, len, segments) = *read;
     let mut server = Server::with_store(alloc, 64, WINDOW, store)?;
     let (sends, _) = server.meets(alloc, &(0, 2, heard, "", false))?;
     let told = heads(alloc, &sends, 1_476)?;
@@ -110,16 +114,16 @@ fn is_read(alloc: Global, store: Store, read: &Read) -> Result<bool, NoMemory> {
 #[test]
 fn replies_at_their_limits(rt: HostRuntime) -> Result<(), Fail> {
     const READS: &[Read] = &[
-        (36, "0000000C 0C00000007 191C", "30000C", 50, 0),
-        (37, "0000000C 0C00000007 191C", "710004", 3, 0),
-        (37, READ, "3C0000200C", 50, 1),
-        (79, "0210000C 0C00000007 191C", "3C0000200C", 50, 1),
-        (80, "0210000C 0C00000007 191C", "710001", 3, 0),
+        ("7524", 36, "0000000C 0C00000007 191C", "30000C", 50, 0),
+        ("7525", 37, "0000000C 0C00000007 191C", "710004", 3, 0),
+        ("7525", 37, READ, "3C0000200C", 50, 1),
+        ("754F", 79, "0210000C 0C00000007 191C", "3C0000200C", 50, 1),
+        ("7550", 80, "0210000C 0C00000007 191C", "710001", 3, 0),
     ];
     let alloc = rt.alloc();
     for read in READS {
-        let store = described(alloc, read.0)?;
-        assert!(rt; is_read(alloc, store, read)?, "{} {}", read.0, read.1);
+        let store = described(alloc, read.0, read.1)?;
+        assert!(rt; is_read(alloc, store, read)?, "{} {}", read.0, read.2);
     }
     Ok(())
 }
@@ -133,13 +137,15 @@ fn order_of_a_tick(rt: HostRuntime) -> Result<(), Fail> {
         (1_999, 0, "", "", false),
     ];
     let alloc = rt.alloc();
-    let mut server = Server::with_store(alloc, 4, WINDOW, described(alloc, 4_000)?)?;
+    let mut server = Server::with_store(alloc, 4, WINDOW, described(alloc, "75FE0FA0", 4_000)?)?;
     server.plays(&rt, alloc, ROWS, 5)?;
     let due = server.ticks(alloc, 2_000)?;
-    match due.as_slice() {
-        [one, other] => assert!(rt; one.to()[3] == 2 && other.to()[3] == 3),
-        _ => return Err(Fail::from("not two")),
+    let mut client = 2u8;
+    for datagram in &due {
+        assert!(rt; datagram.to()[3] == client);
+        client = client.saturating_add(1);
     }
+    assert!(rt; due.len() == 2);
     assert!(rt; server.ticks(alloc, 3_999)?.is_empty());
     Ok(())
 }
