@@ -13,7 +13,6 @@ use std::test::Fail;
 
 mod entries;
 mod memory;
-mod replies;
 mod requests;
 mod states;
 mod tables;

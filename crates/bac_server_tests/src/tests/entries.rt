@@ -40,12 +40,10 @@ fn context(moment: u64) -> Context {
 
 /// Whether one datagram is sent, with these octets.
 fn is_alone(sends: &[Datagram], octets: &[u8]) -> bool {
-    for datagram in sends {
-        if datagram.octets() != octets {
-            return false;
-        }
+    match sends {
+        [datagram] => datagram.octets() == octets,
+        _ => false,
     }
-    sends.len() == 1
 }
 
 #[test]
