@@ -1,0 +1,9 @@
+pub mod Following
+pub mod Asked
+pub mod Endings
+pub mod AtNode
+pub mod Values
+pub mod Performing
+pub mod RoundTrips
+pub mod Repeating
+pub mod Computed
