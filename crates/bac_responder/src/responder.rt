@@ -10,8 +10,8 @@ ghost use Rattle.bac_server.specs.Services.{service_of};
 ghost use Rattle.bac_responder.specs.Views.{end_of, Serves};
 
 use crate::hearing::hears;
-use crate::served::Served;
 use crate::live_at::LiveAt;
+use crate::served::Served;
 use crate::ticking::{commit_all, prepare_all};
 use bac_apdu::Apdu;
 use bac_ends::{Context, Datagram, PeerKey, Settings, invoke_id_of};

@@ -26,6 +26,3 @@ pub use entry::Entry;
 pub use idle::idle_gets;
 pub use live::live_gets;
 pub use reaction::{IdleReaction, Reaction};
-
-#[cfg(test)]
-mod tests;

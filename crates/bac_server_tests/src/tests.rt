@@ -1,8 +1,8 @@
 //! The server's end over a table with an index, APDU by APDU. Here is what the tests share.
-use crate::Responder;
 use bac_apdu::{Apdu, Limits, Segment, Window, read};
 use bac_ends::{Datagram, PeerKey, Settings};
 use bac_npdu::Peer;
+use bac_responder::Responder;
 use bac_server::Entry;
 use bac_slots::IndexSlots;
 use bac_store::{Store, house};
@@ -11,8 +11,8 @@ use std::alloc::Global;
 use std::process::Abort;
 use std::test::Fail;
 
+mod entries;
 mod memory;
-mod replies;
 mod requests;
 mod states;
 mod tables;
@@ -109,21 +109,32 @@ impl Server {
     ) -> Result<(), NoMemory> {
         for row in rows {
             let (sends, performed) = self.meets(alloc, row)?;
-            let told = heads(alloc, &sends, head)?;
-            let wanted = octets_of(alloc, row.3)?;
-            assert!(rt; told == wanted && performed == row.4, "{} {}", row.0, row.2);
+            let right = is_as_said(alloc, &sends, performed, row, head)?;
+            assert!(rt; right, "{} {}", row.0, row.2);
         }
         Ok(())
     }
+}
+
+/// Whether the first octets of all APDUs, and whether a request is performed, are as a row says.
+fn is_as_said(
+    alloc: Global,
+    sends: &[Datagram],
+    performed: bool,
+    row: &Row,
+    head: usize,
+) -> Result<bool, NoMemory> {
+    let told = heads(alloc, sends, head)?;
+    let wanted = octets_of(alloc, row.3)?;
+    Ok(told == wanted && performed == row.4)
 }
 
 /// The first octets of each APDU, one after the other.
 fn heads(alloc: Global, sends: &[Datagram], head: usize) -> Result<Vec<u8>, NoMemory> {
     let mut octets = Vec::new(alloc);
     for datagram in sends {
-        for octet in datagram.octets().iter().skip(FRAME).take(head) {
-            octets.push(*octet)?;
-        }
+        let apdu = datagram.octets().get(FRAME..).unwrap_or(&[]);
+        octets.extend_from_slice(apdu.get(..head).unwrap_or(apdu))?;
     }
     Ok(octets)
 }

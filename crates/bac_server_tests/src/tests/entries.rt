@@ -1,8 +1,8 @@
-//! Each call once, on a read of one datagram.
-use crate::{Entry, IdleReaction, Reaction, idle_gets, live_gets};
+//! Each call of one entry once, on a read of one datagram.
 use bac_apdu::{Limits, Window, read};
 use bac_ends::{Context, Datagram, PeerKey, Settings};
 use bac_npdu::Peer;
+use bac_server::{Entry, IdleReaction, Reaction, idle_gets, live_gets};
 use bac_slots::Same;
 use bac_store::house;
 use std::test::Fail;
@@ -57,8 +57,7 @@ fn each_call_once(rt: HostRuntime) -> Result<(), Fail> {
         IdleReaction::Stays(sends) => assert!(rt; is_alone(&sends, FULL)),
         IdleReaction::Begins(_) => return Err(Fail::from("no slot is free")),
     }
-    let IdleReaction::Begins(begun) = idle_gets(alloc, &context(5), true, &apdu, &mut store)?
-    else {
+    let IdleReaction::Begins(begun) = idle_gets(alloc, &context(5), true, &apdu, &mut store)? else {
         return Err(Fail::from("a slot is free"));
     };
     assert!(rt; is_alone(&begun.sends, ANSWER) && begun.effect.is_some());

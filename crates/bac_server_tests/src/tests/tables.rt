@@ -1,4 +1,5 @@
 //! The reply table: full, and with a slot that becomes free.
+use super::memory::{ROWS, after, is_same};
 use super::*;
 use bac_npdu::Route;
 
@@ -19,7 +20,10 @@ fn read_of_one_datagram(rt: HostRuntime) -> Result<(), Fail> {
     let mut server = Server::new(alloc, 64, WINDOW)?;
     let (sends, performed) = server.meets(alloc, &(0, 2, READ_1, "", true))?;
     assert!(rt; performed);
-    let frame = octets_of(alloc, "810A0017 0100 30010C 0C00000005 1955 3E 444290999A 3F")?;
+    let frame = octets_of(
+        alloc,
+        "810A0017 0100 30010C 0C00000005 1955 3E 444290999A 3F",
+    )?;
     for datagram in &sends {
         assert!(rt; datagram.octets() == frame.as_slice());
         assert!(rt; datagram.to() == peer(2).link);
@@ -37,7 +41,13 @@ fn table_of_one_slot(rt: HostRuntime) -> Result<(), Fail> {
         (0, 2, READ, ANSWER, false),
         (65_000, 3, READ_1, "710100", false),
         (65_000, 2, READ, ANSWER, false),
-        (65_001, 3, "0005020C 0C00000005 1955", "30020C 0C00000005 1955 3E 444290999A 3F", true),
+        (
+            65_001,
+            3,
+            "0005020C 0C00000005 1955",
+            "30020C 0C00000005 1955 3E 444290999A 3F",
+            true,
+        ),
         (65_001, 2, READ, "710000", false),
     ];
     let alloc = rt.alloc();
@@ -76,5 +86,20 @@ fn slots_for_1024_clients(rt: HostRuntime) -> Result<(), Fail> {
         let served = server.end.on(alloc, 0, &from, &apdu, &mut server.store)?;
         assert!(rt; served.act.is_some() == (device < 1_024), "{device}");
     }
+    Ok(())
+}
+
+/// Servers before and after a request that is performed differ, and those to which the same came don't.
+#[test]
+fn servers_that_are_the_same(rt: HostRuntime) -> Result<(), Fail> {
+    let alloc = rt.alloc();
+    let before = Server::new(alloc, 64, WINDOW)?;
+    let mut server = Server::new(alloc, 64, WINDOW)?;
+    assert!(rt; is_same(&server, &before));
+    for row in ROWS {
+        let _ = server.meets(alloc, row)?;
+        assert!(rt; !is_same(&server, &before), "{} {}", row.0, row.2);
+    }
+    assert!(rt; is_same(&server, &after(alloc, ROWS)?));
     Ok(())
 }
