@@ -14,9 +14,12 @@ for name in bac_value bac_service bac_apdu bac_npdu bac_slots bac_segment bac_pr
     grep "^$name:" "$top/crates.txt" >> "$work/crates.txt"
 done
 cd "$work/crates/bac_server_tests"
-for name in entries replies requests states tables; do
-    rm "src/tests/$name.rt"
-    sed -i "/^mod $name;\$/d" src/tests.rt
+for file in src/tests/*.rt; do
+    name=$(basename "$file" .rt)
+    if [ "$name" != memory ]; then
+        rm "$file"
+        sed -i "/^mod $name;\$/d" src/tests.rt
+    fi
 done
 cat >> src/tests/memory.rt <<'TEST'
 
