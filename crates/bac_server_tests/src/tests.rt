@@ -13,6 +13,7 @@ use std::test::Fail;
 
 mod entries;
 mod memory;
+mod replies;
 mod requests;
 mod states;
 mod tables;

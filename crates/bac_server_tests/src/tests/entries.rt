@@ -40,10 +40,12 @@ fn context(moment: u64) -> Context {
 
 /// Whether one datagram is sent, with these octets.
 fn is_alone(sends: &[Datagram], octets: &[u8]) -> bool {
-    match sends {
-        [datagram] => datagram.octets() == octets,
-        _ => false,
+    for datagram in sends {
+        if datagram.octets() != octets {
+            return false;
+        }
     }
+    sends.len() == 1
 }
 
 #[test]
