@@ -71,7 +71,7 @@ def compare_refused_by_bac(case, report):
     title, fault = 'refused by bac alone', case.reading.fault
     reason, sign = fault_kind(fault)
     if after_long_address(case):
-        return report.explain(title, 'behind an address of more than six octets', f'no sign is looked for: {MEMBER_KINDS[0][2]}')
+        return report.explain(title, 'after an address of more than six octets', f'no sign is looked for: {MEMBER_KINDS[0][2]}')
     if not sign(case):
         return report.unexplain(title, case, f'fault {fault}, of which tshark shows no sign')
     report.explain(title, f'fault {fault}', reason)

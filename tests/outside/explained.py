@@ -182,8 +182,8 @@ def bad_service(case):
     return production(case.row, case.apdu) is None or any(sign(case) for sign in signs)
 
 
-def octets_behind(case):
-    """Octets behind the last member: tshark leaves them out, or shows tags that follow no production."""
+def octets_after(case):
+    """Octets after the last member: tshark leaves them out, or shows tags that follow no production."""
     return octets_left(case) or production(case.row, case.apdu) is None
 
 
@@ -268,7 +268,7 @@ FAULTS = {
     'apdu 3': ('a reserved size of APDU', reserved_size),
     'apdu 4': ('a window outside 1 to 127, which tshark reads', bad_window),
     'apdu 5': ('a type above 7, of which tshark shows nothing', bad_type),
-    'apdu 6': ('octets behind the last member, which tshark reads over', trailing),
+    'apdu 6': ('octets after the last member, which tshark reads over', trailing),
     'apdu 7': ('more segments follow, in no segment', more_without_segment),
     'apdu 8': ('class and code that are no two application Enumerated', bad_error),
 }
@@ -276,7 +276,7 @@ SERVICE_FAULT = ('service data outside the production or in a spelling that is n
 SERVICE_FAULTS = {
     'reject 2': ('a count that is not that of the records, which tshark reads', bad_count),
     'reject 6': ('a priority outside 1 to 16, which tshark reads', bad_priority),
-    'reject 7': ('octets behind the last member, which tshark reads over', octets_behind),
+    'reject 7': ('octets after the last member, which tshark reads over', octets_after),
 }
 
 

@@ -46,7 +46,7 @@ def of_segment(name):
 
 
 def service_data(front):
-    """The octets behind the service choice, which ends the front of an APDU; a segment's front has two octets more."""
+    """The octets after the service choice, which ends the front of an APDU; a segment's front has two octets more."""
     def get(row, line):
         return row.apdu_octets()[front + (2 if row.number('bacapp.segmented_request') == '1' else 0):].hex().upper()
     return {'data': get}
@@ -58,7 +58,7 @@ def identifier(row, line):
 
 
 def labelled(start):
-    """The number behind a label such as `Priority: (Unsigned) 8`."""
+    """The number after a label such as `Priority: (Unsigned) 8`."""
     def get(row, line):
         rest = row.label(start)
         found = rest and re.fullmatch(r' ?\((?:Uns|S)igned\) (-?\d+)', rest)
@@ -67,7 +67,7 @@ def labelled(start):
 
 
 def octets(start):
-    """The octets behind a label such as `File Data:  aabbcc`; several are joined by commas."""
+    """The octets after a label such as `File Data:  aabbcc`; several are joined by commas."""
     def get(row, line):
         rests = row.labels(start)
         return ','.join(rest.strip().upper() for rest in rests) if rests else None

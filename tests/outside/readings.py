@@ -65,7 +65,7 @@ class Row(dict):
         return layer in self.first('frame.protocols').split(':')
 
     def apdu_octets(self):
-        """The octets behind the NPDU, by the parts and lengths of addresses that tshark shows."""
+        """The octets after the NPDU, by the parts and lengths of addresses that tshark shows."""
         to = 4 + int(self.number('bacnet.dlen')) if self.number('bacnet.control_dest') == '1' else 0
         source = 3 + int(self.number('bacnet.slen')) if self.number('bacnet.control_src') == '1' else 0
         return bytes.fromhex(self.first('udp.payload').replace(':', ''))[6 + to + source:]

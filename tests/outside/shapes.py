@@ -65,13 +65,13 @@ def opens_data(row):
 
 
 def enclosed(row, data):
-    """The octets between the tags [3], by the tags that tshark shows before and behind them; None where it does not show both."""
+    """The octets between the tags [3], by the tags that tshark shows before and after them; None where it does not show both."""
     shown = tags(row)
     if 'o3' not in shown or 'x3' not in shown:
         return None
     first, last = shown.index('o3') + 1, len(shown) - 1 - shown[::-1].index('x3')
-    before, behind = sum(map(tag_octets, shown[:first])), sum(map(tag_octets, shown[last:]))
-    return data[before:len(data) - behind]
+    before, after = sum(map(tag_octets, shown[:first])), sum(map(tag_octets, shown[last:]))
+    return data[before:len(data) - after]
 
 
 def has_service(line):

@@ -35,55 +35,57 @@ fn answers(rt: &impl Abort, alloc: Global, text: &str, line: &str) -> Result<(),
     Ok(())
 }
 
+/// Datagrams with requests, and their answers.
+const REQUESTS: &[(&str, &str)] = &[
+    // the three present-values
+    (
+        "810A001101040005010C0C000000051955",
+        "810A0017010030010C0C0000000519553E444290999A3F",
+    ),
+    (
+        "810A001101040005020C0C008000011955",
+        "810A0017010030020C0C0080000119553E44000000003F",
+    ),
+    (
+        "810A001101040005050C0C014000011955",
+        "810A0014010030050C0C0140000119553E91003F",
+    ),
+    // lower-case hexadecimal, and any priority
+    (
+        "810a001101050005010c0c000000051955",
+        "810A0017010030010C0C0000000519553E444290999A3F",
+    ),
+    // no such object, no such property, no array
+    (
+        "810A001101040005030C0C000000091955",
+        "810A000D010050030C9101911F",
+    ),
+    (
+        "810A001101040005030C0C00000005191C",
+        "810A000D010050030C91029120",
+    ),
+    (
+        "810A0013010400050A0C0C0000000519552900",
+        "810A000D0100500A0C91029132",
+    ),
+    // an object without its property, and another service
+    ("810A000F01040005040C0C00000005", "810A00090100600405"),
+    ("810A001101040005040E0C000000051955", "810A00090100600409"),
+    // priority 1 of the network layer
+    (
+        "810A001101050005010C0C000000051955",
+        "810A0017010030010C0C0000000519553E444290999A3F",
+    ),
+    // behind a router
+    (
+        "810A0015010C0005012A0005010C0C000000051955",
+        "810A001C01200005012AFF30010C0C0000000519553E444290999A3F",
+    ),
+];
+
 #[test]
 fn answers_requests(rt: HostRuntime) -> Result<(), Fail> {
-    let table = [
-        // the three present-values
-        (
-            "810A001101040005010C0C000000051955",
-            "810A0017010030010C0C0000000519553E444290999A3F",
-        ),
-        (
-            "810A001101040005020C0C008000011955",
-            "810A0017010030020C0C0080000119553E44000000003F",
-        ),
-        (
-            "810A001101040005050C0C014000011955",
-            "810A0014010030050C0C0140000119553E91003F",
-        ),
-        // lower-case hexadecimal, and any priority
-        (
-            "810a001101050005010c0c000000051955",
-            "810A0017010030010C0C0000000519553E444290999A3F",
-        ),
-        // no such object, no such property, no array
-        (
-            "810A001101040005030C0C000000091955",
-            "810A000D010050030C9101911F",
-        ),
-        (
-            "810A001101040005030C0C00000005191C",
-            "810A000D010050030C91029120",
-        ),
-        (
-            "810A0013010400050A0C0C0000000519552900",
-            "810A000D0100500A0C91029132",
-        ),
-        // an object without its property, and another service
-        ("810A000F01040005040C0C00000005", "810A00090100600405"),
-        ("810A001101040005040E0C000000051955", "810A00090100600409"),
-        // priority 1 of the network layer
-        (
-            "810A001101050005010C0C000000051955",
-            "810A0017010030010C0C0000000519553E444290999A3F",
-        ),
-        // behind a router
-        (
-            "810A0015010C0005012A0005010C0C000000051955",
-            "810A001C01200005012AFF30010C0C0000000519553E444290999A3F",
-        ),
-    ];
-    for (datagram, answer) in table {
+    for (datagram, answer) in REQUESTS {
         answers(&rt, rt.alloc(), datagram, answer)?;
     }
     Ok(())
@@ -96,61 +98,65 @@ fn answers_apdu(rt: &impl Abort, alloc: Global, apdu: &str, answer: &str) -> Res
     answers(rt, alloc, &datagram, &frame)
 }
 
+/// APDUs that read and write properties, and their answers.
+const PROPERTIES: &[(&str, &str)] = &[
+    // computed properties, and an empty text
+    (
+        "0005060C0C02000001194D",
+        "30060C0C02000001194D3E750600686F7573653F",
+    ),
+    ("0005070C0C02800001192A", "30070C0C02800001192A3E21023F"),
+    // the longest value
+    (
+        "0005080C0C00800001194D",
+        "30080C0C00800001194D3E750900736574706F696E743F",
+    ),
+    ("0005070C0C00800001191C", "30070C0C00800001191C3E71003F"),
+    // written, whatever the priority
+    ("0004590F0C0080000119553E44433400003F", "20590F"),
+    ("0004590F0C0080000119553E44433400003F4910", "20590F"),
+    // a state that there is not, another kind, not writable
+    ("0005080F0C0140000119553E91023F", "50080F91029125"),
+    ("0005090F0C0140000119553E21013F", "50090F91029109"),
+    ("0005020F0C0000000519553E44000000003F", "50020F91029128"),
+    // an index, no such object
+    ("00050A0C0C0000000519552900", "500A0C91029132"),
+    ("0005030C0C000000091955", "50030C9101911F"),
+    // refused requests
+    ("0005040C0C00000005", "600405"),
+    ("0005060F0C0080000119553E44433400003F4911", "600606"),
+    ("0005070E", "600709"),
+];
+
 #[test]
 fn answers_properties(rt: HostRuntime) -> Result<(), Fail> {
-    let table = [
-        // computed properties, and an empty text
-        (
-            "0005060C0C02000001194D",
-            "30060C0C02000001194D3E750600686F7573653F",
-        ),
-        ("0005070C0C02800001192A", "30070C0C02800001192A3E21023F"),
-        // the longest value
-        (
-            "0005080C0C00800001194D",
-            "30080C0C00800001194D3E750900736574706F696E743F",
-        ),
-        ("0005070C0C00800001191C", "30070C0C00800001191C3E71003F"),
-        // written, whatever the priority
-        ("0004590F0C0080000119553E44433400003F", "20590F"),
-        ("0004590F0C0080000119553E44433400003F4910", "20590F"),
-        // a state that there is not, another kind, not writable
-        ("0005080F0C0140000119553E91023F", "50080F91029125"),
-        ("0005090F0C0140000119553E21013F", "50090F91029109"),
-        ("0005020F0C0000000519553E44000000003F", "50020F91029128"),
-        // an index, no such object
-        ("00050A0C0C0000000519552900", "500A0C91029132"),
-        ("0005030C0C000000091955", "50030C9101911F"),
-        // refused requests
-        ("0005040C0C00000005", "600405"),
-        ("0005060F0C0080000119553E44433400003F4911", "600606"),
-        ("0005070E", "600709"),
-    ];
-    for (apdu, answer) in table {
+    for (apdu, answer) in PROPERTIES {
         answers_apdu(&rt, rt.alloc(), apdu, answer)?;
     }
     Ok(())
 }
 
+/// APDUs that read and write files, and their answers.
+const FILES: &[(&str, &str)] = &[
+    // reads: all of it, its first octet, after its last, too far, records
+    ("00050D06C4028000010E3100210A0F", "300D06110E3100624F4B0F"),
+    ("00050E06C4028000010E310021010F", "300E06100E3100614F0F"),
+    ("00050F06C4028000010E310221010F", "300F06110E3102600F"),
+    ("00051006C4028000010E310321010F", "5010069105910B"),
+    ("00051106C4028000011E310021011F", "5011069105910A"),
+    // writes: records, too far, at the end, over octets, to what is no file
+    ("00050B07C4028000011E3100210162ABCD1F", "500B079105910A"),
+    ("00050C07C4028000010E310361AA0F", "500C079105910B"),
+    ("00050D07C4028000010E31FF600F", "300D070902"),
+    ("00050E07C4028000010E310162AABB0F", "300E070901"),
+    ("00050F07C4000000050E310061AA0F", "500F079101911F"),
+    // no member of the request
+    ("00050506", "600505"),
+];
+
 #[test]
 fn answers_files(rt: HostRuntime) -> Result<(), Fail> {
-    let table = [
-        // reads: all of it, its first octet, after its last, too far, records
-        ("00050D06C4028000010E3100210A0F", "300D06110E3100624F4B0F"),
-        ("00050E06C4028000010E310021010F", "300E06100E3100614F0F"),
-        ("00050F06C4028000010E310221010F", "300F06110E3102600F"),
-        ("00051006C4028000010E310321010F", "5010069105910B"),
-        ("00051106C4028000011E310021011F", "5011069105910A"),
-        // writes: records, too far, at the end, over octets, to what is no file
-        ("00050B07C4028000011E3100210162ABCD1F", "500B079105910A"),
-        ("00050C07C4028000010E310361AA0F", "500C079105910B"),
-        ("00050D07C4028000010E31FF600F", "300D070902"),
-        ("00050E07C4028000010E310162AABB0F", "300E070901"),
-        ("00050F07C4000000050E310061AA0F", "500F079101911F"),
-        // no member of the request
-        ("00050506", "600505"),
-    ];
-    for (apdu, answer) in table {
+    for (apdu, answer) in FILES {
         answers_apdu(&rt, rt.alloc(), apdu, answer)?;
     }
     Ok(())
@@ -166,27 +172,29 @@ fn performed(alloc: Global, store: &mut Store, choice: u8, service: &str) -> Res
     Ok(text)
 }
 
+/// Service choices and data for one store after the other, and the APDUs that answer them.
+const WRITES: &[(u8, &str, &str)] = &[
+    // present-value of analog-value 1
+    (15, "0C0080000119553E44433400003F", "20000F"),
+    (12, "0C008000011955", "30000C0C0080000119553E44433400003F"),
+    // a Reject and an Error change nothing
+    (15, "0C0080000119553E44433400003F4900", "600006"),
+    (15, "0C0080000119553E21013F", "50000F91029109"),
+    (12, "0C008000011955", "30000C0C0080000119553E44433400003F"),
+    // file 1: nothing appended, two octets from the second on
+    (7, "C4028000010E31FF600F", "3000070902"),
+    (6, "C4028000010E3100210A0F", "300006110E3100624F4B0F"),
+    (7, "C4028000010E310162AABB0F", "3000070901"),
+    (6, "C4028000010E3100210A0F", "300006110E3100634FAABB0F"),
+    (12, "0C02800001192A", "30000C0C02800001192A3E21033F"),
+];
+
 #[test]
 fn a_store_keeps_what_is_written(rt: HostRuntime) -> Result<(), Fail> {
     let mut store = house(rt.alloc())?;
-    let table = [
-        // present-value of analog-value 1
-        (15, "0C0080000119553E44433400003F", "20000F"),
-        (12, "0C008000011955", "30000C0C0080000119553E44433400003F"),
-        // a Reject and an Error change nothing
-        (15, "0C0080000119553E44433400003F4900", "600006"),
-        (15, "0C0080000119553E21013F", "50000F91029109"),
-        (12, "0C008000011955", "30000C0C0080000119553E44433400003F"),
-        // file 1: nothing appended, two octets from the second on
-        (7, "C4028000010E31FF600F", "3000070902"),
-        (6, "C4028000010E3100210A0F", "300006110E3100624F4B0F"),
-        (7, "C4028000010E310162AABB0F", "3000070901"),
-        (6, "C4028000010E3100210A0F", "300006110E3100634FAABB0F"),
-        (12, "0C02800001192A", "30000C0C02800001192A3E21033F"),
-    ];
-    for (choice, service, answer) in table {
-        let apdu = performed(rt.alloc(), &mut store, choice, service)?;
-        assert_eq!(rt; apdu.as_str(), answer, "{service}");
+    for (choice, service, answer) in WRITES {
+        let apdu = performed(rt.alloc(), &mut store, *choice, service)?;
+        assert_eq!(rt; apdu.as_str(), *answer, "{service}");
     }
     Ok(())
 }
@@ -207,50 +215,54 @@ fn each_datagram_has_its_own_house(rt: HostRuntime) -> Result<(), Fail> {
     )
 }
 
+/// Datagrams that are not answered.
+const NONE: &[&str] = &[
+    // fronts of a BVLL
+    "",
+    "81",
+    "810A",
+    "810A00",
+    // a SimpleACK, an unconfirmed request, a segment
+    "810A0009010020010F",
+    "810A000801001008",
+    "810A0013010408050100010C0C000000051955",
+    // a length that is not the datagram's, a destination, a network message
+    "810A000D01040005010C0C000000051955",
+    "810A001601240005012AFF0005010C0C000000051955",
+    "810A000701800000",
+];
+
 #[test]
 fn answers_nothing_else(rt: HostRuntime) -> Result<(), Fail> {
-    let table = [
-        // fronts of a BVLL
-        "",
-        "81",
-        "810A",
-        "810A00",
-        // a SimpleACK, an unconfirmed request, a segment
-        "810A0009010020010F",
-        "810A000801001008",
-        "810A0013010408050100010C0C000000051955",
-        // a length that is not the datagram's, a destination, a network message
-        "810A000D01040005010C0C000000051955",
-        "810A001601240005012AFF0005010C0C000000051955",
-        "810A000701800000",
-    ];
-    for datagram in table {
+    for datagram in NONE {
         answers(&rt, rt.alloc(), datagram, "none")?;
     }
     Ok(())
 }
+
+/// The octets of a request after its BVLL, each with the answer to the front that ends with it.
+const FRONTS: &[(&str, &str)] = &[
+    ("", "none"),
+    ("01", "none"),
+    ("04", "none"),
+    ("00", "none"),
+    ("05", "none"),
+    ("01", "none"),
+    ("0C", "810A00090100600105"),
+    ("0C", "810A00090100600105"),
+    ("00", "810A00090100600105"),
+    ("00", "810A00090100600105"),
+    ("00", "810A00090100600105"),
+    ("05", "810A00090100600105"),
+    ("19", "810A00090100600105"),
+];
 
 /// Each front of a request, as it is, and with its own length in the BVLL. From 10 octets on that is a request of
 /// ReadProperty without its members: its Reject has reason 5 (missing required parameter).
 #[test]
 fn answers_fronts_by_their_length(rt: HostRuntime) -> Result<(), Fail> {
     let mut rest = String::new(rt.alloc());
-    let table = [
-        ("", "none"),
-        ("01", "none"),
-        ("04", "none"),
-        ("00", "none"),
-        ("05", "none"),
-        ("01", "none"),
-        ("0C", "810A00090100600105"),
-        ("0C", "810A00090100600105"),
-        ("00", "810A00090100600105"),
-        ("00", "810A00090100600105"),
-        ("00", "810A00090100600105"),
-        ("05", "810A00090100600105"),
-        ("19", "810A00090100600105"),
-    ];
-    for (octet, answer) in table {
+    for (octet, answer) in FRONTS {
         rest.push_str(octet)?;
         let front = format!(in rt.alloc(); "810A0011{rest}")?;
         answers(&rt, rt.alloc(), front.as_str(), "none")?;
@@ -313,68 +325,73 @@ fn runs(alloc: Global, line: &str, files: OneFile) -> Result<Printed, Fail> {
     Ok(Printed { status, out, err })
 }
 
-/// Each command, with good and with bad words: what it prints, what it complains of, and its exit status.
+/// A capture without a bad line, and one without a good one.
+const GOOD: &[u8] = b"1 7F000001BAC1 7F000001BAC0 810A000801001013\n";
+
+const BAD: &[u8] = b"x\n";
+
+/// The text of the file, words, what is printed, what is complained of, and the exit status.
+const COMMANDS: &[(&[u8], &str, &str, &str, u8)] = &[
+    (
+        GOOD,
+        "answer 810A001101040005010C0C000000051955",
+        "810A0017010030010C0C0000000519553E444290999A3F\n",
+        "",
+        0,
+    ),
+    (GOOD, "answer 810A000801001013", "none\n", "", 0),
+    (GOOD, "answer 8G", "", "bad hex\n", 2),
+    (
+        GOOD,
+        "decode 810A000801001013",
+        "bvll len=8\nnpdu expecting=0 priority=0\nunconfirmed-request choice=19 data=\n",
+        "",
+        0,
+    ),
+    (GOOD, "decode 810B0004", "fault bvll 6\n", "", 1),
+    (GOOD, "decode 8G", "", "bad hex\n", 2),
+    (GOOD, "check capture", "lines=1 good=1 bad=0\n", "", 0),
+    (
+        BAD,
+        "check capture",
+        "line 1: not a capture line\nlines=1 good=0 bad=1\n",
+        "",
+        1,
+    ),
+    (GOOD, "check missing", "", "cannot read\n", 2),
+    (GOOD, "check starved", "", "no memory\n", 4),
+];
+
+/// Each command, with good and with bad words.
 #[test]
 fn runs_commands(rt: HostRuntime) -> Result<(), Fail> {
-    let good = OneFile {
-        text: b"1 7F000001BAC1 7F000001BAC0 810A000801001013\n",
-    };
-    let bad = OneFile { text: b"x\n" };
-    let table = [
-        (
-            good,
-            "answer 810A001101040005010C0C000000051955",
-            "810A0017010030010C0C0000000519553E444290999A3F\n",
-            "",
-            0,
-        ),
-        (good, "answer 810A000801001013", "none\n", "", 0),
-        (good, "answer 8G", "", "bad hex\n", 2),
-        (
-            good,
-            "decode 810A000801001013",
-            "bvll len=8\nnpdu expecting=0 priority=0\nunconfirmed-request choice=19 data=\n",
-            "",
-            0,
-        ),
-        (good, "decode 810B0004", "fault bvll 6\n", "", 1),
-        (good, "decode 8G", "", "bad hex\n", 2),
-        (good, "check capture", "lines=1 good=1 bad=0\n", "", 0),
-        (
-            bad,
-            "check capture",
-            "line 1: not a capture line\nlines=1 good=0 bad=1\n",
-            "",
-            1,
-        ),
-        (good, "check missing", "", "cannot read\n", 2),
-        (good, "check starved", "", "no memory\n", 4),
-    ];
-    for (files, line, lines, complaint, status) in table {
-        let ended = runs(rt.alloc(), line, files)?;
-        assert_eq!(rt; ended.status.code(), status, "{line}");
+    for (text, line, lines, complaint, status) in COMMANDS {
+        let ended = runs(rt.alloc(), line, OneFile { text })?;
+        assert_eq!(rt; ended.status.code(), *status, "{line}");
         assert_eq!(rt; ended.out.as_slice(), lines.as_bytes(), "{line}");
         assert_eq!(rt; ended.err.as_slice(), complaint.as_bytes(), "{line}");
     }
     Ok(())
 }
 
+/// Words, and a part of what is told of them.
+const WORDS: &[(&str, &str)] = &[
+    ("", "Usage: bac <COMMAND>"),
+    ("other", "other"),
+    ("answer", "<HEX>"),
+    ("decode", "<HEX>"),
+    ("check", "<FILE>"),
+    ("answer 00 00", "00"),
+    ("--help", "BACnet confirmed services, proved"),
+    ("answer --help", "Usage: bac answer <HEX>"),
+    ("decode --help", "Usage: bac decode <HEX>"),
+    ("check --help", "Usage: bac check <FILE>"),
+];
+
 /// Words of no form, and words that ask for help, are told with a text on standard error, and the output stays empty.
 #[test]
 fn tells_of_words_and_help(rt: HostRuntime) -> Result<(), Fail> {
-    let table = [
-        ("", "Usage: bac <COMMAND>"),
-        ("other", "other"),
-        ("answer", "<HEX>"),
-        ("decode", "<HEX>"),
-        ("check", "<FILE>"),
-        ("answer 00 00", "00"),
-        ("--help", "BACnet confirmed services, proved"),
-        ("answer --help", "Usage: bac answer <HEX>"),
-        ("decode --help", "Usage: bac decode <HEX>"),
-        ("check --help", "Usage: bac check <FILE>"),
-    ];
-    for (line, text) in table {
+    for (line, text) in WORDS {
         let ended = runs(rt.alloc(), line, OneFile { text: b"" })?;
         assert_eq!(rt; ended.status.code(), 2, "{line}");
         assert_eq!(rt; ended.out.len(), 0, "{line}");
@@ -391,36 +408,38 @@ fn zeros(alloc: Global, octets: usize) -> Result<String, Fail> {
     Ok(hex::encode(alloc, all)?)
 }
 
+/// A datagram's octets, the first of its service, how many zeros follow, the last, and the answer.
+const LONG: &[(usize, &str, usize, &str, &str)] = &[
+    (65_535, "0E", 65_525, "", "810A00090100600709"),
+    (
+        65_535,
+        "07C4028000010E310265FEFFE8",
+        65_512,
+        "0F",
+        "810A000D010050070791039114",
+    ),
+    (
+        65_535,
+        "0F0C00800001191C3E75FEFFE8",
+        65_512,
+        "3F",
+        "810A000D010050070F91039114",
+    ),
+    (
+        60_021,
+        "07C4028000010E31FF65FEEA5E",
+        59_998,
+        "0F",
+        "810A000B01003007070902",
+    ),
+];
+
 /// Long datagrams: three of the greatest length (an unrecognized service, a file that grows too long, a value that is too long), and
 /// one that makes a file as long as it may be.
 #[test]
 fn answers_long_datagrams(rt: HostRuntime) -> Result<(), Fail> {
-    let table = [
-        (65_535, "0E", 65_525, "", "810A00090100600709"),
-        (
-            65_535,
-            "07C4028000010E310265FEFFE8",
-            65_512,
-            "0F",
-            "810A000D010050070791039114",
-        ),
-        (
-            65_535,
-            "0F0C00800001191C3E75FEFFE8",
-            65_512,
-            "3F",
-            "810A000D010050070F91039114",
-        ),
-        (
-            60_021,
-            "07C4028000010E31FF65FEEA5E",
-            59_998,
-            "0F",
-            "810A000B01003007070902",
-        ),
-    ];
-    for (len, front, count, back, answer) in table {
-        let zeros = zeros(rt.alloc(), count)?;
+    for (len, front, count, back, answer) in LONG {
+        let zeros = zeros(rt.alloc(), *count)?;
         let datagram = format!(in rt.alloc(); "810A{len:04X}0104000507{front}{zeros}{back}")?;
         answers(&rt, rt.alloc(), datagram.as_str(), answer)?;
     }

@@ -18,8 +18,3 @@ pub use laws::{error_members_are_values, one_apdu_spelling};
 pub use limits::{Limits, Segment, Window};
 pub use reading::read;
 pub use writing::write;
-
-#[cfg(test)]
-mod examples;
-#[cfg(test)]
-mod tests;

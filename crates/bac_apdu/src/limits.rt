@@ -6,6 +6,7 @@ ghost use Rattle.bac_apdu.specs.Spelling.{window_fits, codes_fit};
 /// A number of segments, 1 to 127, that are sent before a SegmentACK is waited for (clauses 20.1.2.8 and 20.1.6.5).
 #[derive(Clone, Copy, Debug, PartialEq, Eq)]
 pub struct Window {
+    /// How many segments, 1 to 127.
     pub size: u8,
     pub ghost fits: { IsTrue (window_fits size) },
 }

@@ -2,3 +2,4 @@
 pub mod Short
 pub mod Ways
 pub mod Taking
+pub mod Services

@@ -1,5 +1,5 @@
 -- What the calls answer for one ticket.
-use Rattle.std.specs.Prelude.{◌≡◌, ℕ, true, false, Option, Some, None, Result, Ok, Err}
+use Rattle.std.specs.Prelude.{◌≡◌, ℕ, true, false, List, [], Option, Some, None, Result, Ok, Err}
 use Rattle.std.specs.Option.{option_map}
 use Rattle.bac_apdu.specs.Apdu.{Apdu}
 use Rattle.bac_service.specs.Replies.{SpellsComplex}
@@ -7,7 +7,7 @@ use Rattle.bac_service.specs.Services.{reads_reply}
 use Rattle.bac_service.specs.Values.{Complex}
 use Rattle.bac_segment.specs.Window.{Incoming}
 use Rattle.bac_protocol.specs.Service.{Octets, Ending}
-use Rattle.bac_protocol.specs.Client.{Ask, Ticket, Reaction, after, sends_of, ending_of, asked_ticket, asks}
+use Rattle.bac_protocol.specs.Client.{Ask, Ticket, Phase, Reaction, after, sends_of, ending_of, asked_ticket, asks}
 use Rattle.bac_ends.specs.Ends.{Held, kept}
 use Rattle.bac_ends.specs.Meanings as meanings
 use Rattle.bac_ends.specs.Meanings.{MeansEnding}
@@ -16,11 +16,18 @@ use Rattle.bac_ends.specs.Views.{context_view, peer_of}
 use Rattle.bac_client.specs.Views.{held_view, ending_view, ticket_view}
 use Rattle.bac_ends.specs.declared.context.Context.{Context}
 use Rattle.bac_client.specs.declared.ticket.Core.{Core}
-use Rattle.bac_client.specs.declared.ticket.Phase.{Phase}
+use Rattle.bac_client.specs.declared.ticket.Phase as states
 use Rattle.bac_client.specs.declared.asking.Begun.{Begun}
 use Rattle.bac_client.specs.declared.reaction.Reaction as code
-use Rattle.bac_client.specs.declared.reaction.Finish.{Finish}
+use Rattle.bac_client.specs.declared.reaction.Closing.{Closing}
 use Rattle.bac_client.specs.declared.ticking.Due.{Due}
+
+-- the segments of a reply that a ticket keeps
+abbrev pub parts_taken : Phase → List Octets
+parts_taken (Phase.SegmentedRequest sender all_sent) = []
+parts_taken Phase.AwaitConfirmation = []
+parts_taken (Phase.SegmentedConf incoming) = incoming.parts
+parts_taken Phase.Idle = []
 
 -- how a ticket ends, if it does
 abbrev pub MeansEnd : (choice : ℕ) → Option Ending → Option meanings.Ending → Type 0
@@ -53,7 +60,7 @@ pub record IsDue (c : Context) (t : Ticket) (r : Reaction) (x : Due) : Type 0 wh
 -- Steps.
 
 -- the ticket ends so
-pub record Finishes (c : Context) (choice : ℕ) (r : Reaction) (x : Finish) : Type 0 where
+pub record IsClosing (c : Context) (choice : ℕ) (r : Reaction) (x : Closing) : Type 0 where
   pub held : (t : Ticket) → kept (after c.moment t r) ≡ Held.Closed t.ask.first
   pub sends : Pairwise IsSent (to_all (peer_of c) (sends_of r)) x.sends.items
   pub ended : MeansEnd choice (ending_of r) (Some (ending_view x.how))
@@ -65,5 +72,5 @@ IsRead choice octets None = reads_reply choice octets ≡ false
 
 -- a segment came for a ticket, whatever state it had; or there was no memory, and all is as it was
 abbrev pub TakesSegment : Context → Reaction → Core → Incoming → Result code.Reaction (Core × Incoming) → Type 0
-TakesSegment c r core incoming (Ok x) = (p : Phase) → IsReaction c (ticket_view core p) r x
+TakesSegment c r core incoming (Ok x) = (p : states.Phase) → IsReaction c (ticket_view core p) r x
 TakesSegment c r core incoming (Err old) = (old.0 ≡ core) × (old.1 ≡ incoming)

@@ -4,12 +4,12 @@ ghost use Rattle.bac_apdu.specs.Views.{apdu_view, segment_view};
 ghost use Rattle.bac_service.specs.Choices.{has_complex_ack, has_simple_ack};
 ghost use Rattle.bac_service.specs.Services.{reads_reply};
 ghost use Rattle.bac_protocol.specs.Client.{answered_with, await_confirmation_gets, gets_complex_ack, gets_error, gets_first_segment, gets_simple_ack};
-ghost use Rattle.bac_client.specs.Reacts.{Finishes, IsReaction, Reacts};
+ghost use Rattle.bac_client.specs.Reacts.{IsClosing, IsReaction, Reacts};
 ghost use Rattle.bac_ends.specs.Views.{context_view};
 
 use crate::ending::Ending;
 use crate::getting::gets_refusal;
-use crate::reaction::{Finish, Reaction, closes, ends, stays};
+use crate::reaction::{Closing, Reaction, closes, ends, stays};
 use crate::reading::read_one;
 use crate::segmented_conf::takes_segment;
 use crate::ticket::Ticket;
@@ -17,21 +17,35 @@ use bac_apdu::{Apdu, Segment};
 use bac_ends::{Context, only_abort};
 use bac_protocol::reasons::OTHER;
 use bac_segment::Incoming;
-use bac_service::{ATOMIC_READ_FILE, ATOMIC_WRITE_FILE, AnyReply, READ_PROPERTY, WRITE_PROPERTY};
+use bac_service::{AnyReply, Service};
 use bac_value::NoMemory;
 use std::alloc::Global;
 
+/// Whether a request of that service choice is answered by a ComplexACK.
 fn has_complex_ack(choice: u8) -> bool
     ensures { result ≡ has_complex_ack choice }
 {
-    choice == ATOMIC_READ_FILE || choice == ATOMIC_WRITE_FILE || choice == READ_PROPERTY
+    match Service::of(choice) {
+        Some(service) => service.has_complex_ack(),
+        None => false,
+    }
+}
+
+/// Whether a request of that service choice is answered by a SimpleACK.
+fn has_simple_ack(choice: u8) -> bool
+    ensures { result ≡ has_simple_ack choice }
+{
+    match Service::of(choice) {
+        Some(service) => service.has_simple_ack(),
+        None => false,
+    }
 }
 
 /// A SimpleACK comes.
 fn gets_simple_ack(alloc: Global, context: &Context, ticket: Ticket, choice: u8) -> Reaction
     ensures { IsReaction context.now ticket (gets_simple_ack ticket.ask choice) result }
 {
-    if choice != ticket.choice() || choice != WRITE_PROPERTY {
+    if choice != ticket.choice() || !has_simple_ack(choice) {
         return stays(alloc, context, ticket);
     }
     ends(alloc, ticket, Ending::Answered(AnyReply::Simple))
@@ -59,22 +73,22 @@ fn gets_error(
 }
 
 /// The service data of a ComplexACK in one APDU.
-fn finish_one(
+fn close_with_one(
     alloc: Global,
     context: &Context,
     choice: u8,
     service: &[u8],
-) -> Result<Finish, NoMemory>
-    ensures { IfOk result (Finishes context.now choice (answered_with (context_view context.now) reads_reply choice [] service.now)) }
+) -> Result<Closing, NoMemory>
+    ensures { IfOk result (IsClosing context.now choice (answered_with (context_view context.now) reads_reply choice [] service.now)) }
 {
     let Some(complex) = read_one(alloc, choice, service)? else {
         let sends = only_abort(alloc, context, false, OTHER)?;
-        return Ok(Finish {
+        return Ok(Closing {
             sends,
             how: Ending::Aborted(OTHER),
         });
     };
-    Ok(Finish {
+    Ok(Closing {
         sends: Vec::new(alloc),
         how: Ending::Answered(AnyReply::Complex(complex)),
     })
@@ -93,8 +107,8 @@ fn gets_complex_ack(
     if choice != ticket.choice() || !has_complex_ack(choice) {
         return Ok(stays(alloc, context, ticket));
     }
-    match finish_one(alloc, context, choice, service) {
-        Ok(finish) => Ok(closes(ticket.first(), finish)),
+    match close_with_one(alloc, context, choice, service) {
+        Ok(closing) => Ok(closes(ticket.first(), closing)),
         Err(_) => Err(ticket),
     }
 }
@@ -118,7 +132,8 @@ fn gets_first_segment(
     choice: u8,
     service: &[u8],
 ) -> Result<Reaction, Ticket>
-    ensures { Reacts context.now ticket (gets_first_segment (context_view context.now) reads_reply ticket.ask (segment_view segment) choice service.now) result }
+    ensures { Reacts context.now ticket
+        (gets_first_segment (context_view context.now) reads_reply ticket.ask (segment_view segment) choice service.now) result }
 {
     if !is_first_segment(context, ticket.choice(), choice, segment.number) {
         return Ok(stays(alloc, context, ticket));

@@ -9,8 +9,13 @@ use bac_protocol::times::HOLD;
 /// What is kept of a ticket: all of an open one; of one that has ended, the moment of its first sending in milliseconds.
 #[derive(Drop)]
 pub enum Held {
+    /// A ticket that has not ended.
     Open(Ticket),
-    Closed { first: u64 },
+    /// One that has: its machine is in IDLE (clause 5.4.4.1).
+    Closed {
+        /// The moment of the first sending, in milliseconds.
+        first: u64,
+    },
 }
 
 impl Held {

@@ -5,6 +5,7 @@
 
 mod asking;
 mod await_confirmation;
+mod comparing;
 mod ending;
 mod getting;
 mod held;

@@ -25,7 +25,7 @@ pub struct Reaction {
 
 /// The end of a ticket: what it sends last, and how it ends.
 #[derive(Drop)]
-pub(crate) struct Finish {
+pub(crate) struct Closing {
     pub(crate) sends: Vec<Datagram>,
     pub(crate) how: Ending,
 }
@@ -57,14 +57,14 @@ pub(crate) fn ends(alloc: Global, ticket: Ticket, how: Ending) -> Reaction
 }
 
 /// The ticket ends.
-pub(crate) fn closes(first: u64, finish: Finish) -> Reaction
+pub(crate) fn closes(first: u64, closing: Closing) -> Reaction
     ensures held { held_view result.held ≡ Closed first }
-    ensures sends { result.sends.items ≡ finish.sends.items }
-    ensures ended { option_map ending_view result.ended ≡ Some (ending_view finish.how) }
+    ensures sends { result.sends.items ≡ closing.sends.items }
+    ensures ended { option_map ending_view result.ended ≡ Some (ending_view closing.how) }
 {
     Reaction {
         held: Held::Closed { first },
-        sends: finish.sends,
-        ended: Some(finish.how),
+        sends: closing.sends,
+        ended: Some(closing.how),
     }
 }

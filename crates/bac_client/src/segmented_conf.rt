@@ -9,7 +9,7 @@ ghost use Rattle.bac_segment.specs.declared.incoming.Step.TheVariants.{Whole};
 ghost use Rattle.bac_service.specs.Services.{reads_reply};
 ghost use Rattle.bac_protocol.specs.Client.{answered_with, client_ack, conf_segment_taken, gets_next_segment, segmented_conf_gets};
 ghost use Rattle.bac_client.specs.Fits.{IsShort};
-ghost use Rattle.bac_client.specs.Reacts.{Finishes, Reacts, TakesSegment};
+ghost use Rattle.bac_client.specs.Reacts.{IsClosing, Reacts, TakesSegment};
 ghost use Rattle.bac_ends.specs.Views.{context_view};
 ghost use Rattle.bac_client.specs.Views.{ask_view, ticket_view};
 ghost use Rattle.bac_client.specs.declared.ticket.Phase.TheVariants.{SegmentedConf as Conf};
@@ -17,7 +17,7 @@ ghost use Rattle.bac_client.specs.declared.ticket.Phase.TheVariants.{SegmentedCo
 use crate::ending::Ending;
 use crate::getting::gets_refusal;
 use crate::held::Held;
-use crate::reaction::{Finish, Reaction, closes, stays};
+use crate::reaction::{Closing, Reaction, closes, stays};
 use crate::reading::read_parts;
 use crate::sending::abort;
 use crate::ticket::{Core, Phase, Ticket};
@@ -30,26 +30,26 @@ use bac_value::NoMemory;
 use std::alloc::Global;
 
 /// All segments are there.
-fn finish_whole(
+fn close_with_segments(
     alloc: Global,
     context: &Context,
     choice: u8,
     incoming: &Incoming,
     number: u8,
-) -> Result<Finish, NoMemory>
-    ensures { IfOk result (Finishes context.now choice (answered_with (context_view context.now) reads_reply choice
+) -> Result<Closing, NoMemory>
+    ensures { IfOk result (IsClosing context.now choice (answered_with (context_view context.now) reads_reply choice
         (client_ack (context_view context.now) false number incoming.now.window ∷ []) (join incoming.now.parts))) }
 {
     let mut sends = only_ack(alloc, context, false, false, number, incoming.window())?;
     let Some(complex) = read_parts(alloc, choice, incoming)? else {
         let abort = abort(alloc, context, OTHER)?;
         sends.push(abort)?;
-        return Ok(Finish {
+        return Ok(Closing {
             sends,
             how: Ending::Aborted(OTHER),
         });
     };
-    Ok(Finish {
+    Ok(Closing {
         sends,
         how: Ending::Answered(AnyReply::Complex(complex)),
     })
@@ -67,11 +67,11 @@ fn too_long(
     let Ok(sends) = only_abort(alloc, context, false, BUFFER_OVERFLOW) else {
         return Err((core, incoming));
     };
-    let finish = Finish {
+    let closing = Closing {
         sends,
         how: Ending::Aborted(BUFFER_OVERFLOW),
     };
-    Ok(closes(core.first, finish))
+    Ok(closes(core.first, closing))
 }
 
 /// The last segment comes.
@@ -92,11 +92,11 @@ fn takes_last(
     let Ok(_) = incoming.on_segment(number, more, octets) else {
         return Err((core, incoming));
     };
-    let Ok(finish) = finish_whole(alloc, context, core.choice, &incoming, number) else {
+    let Ok(closing) = close_with_segments(alloc, context, core.choice, &incoming, number) else {
         incoming.take_back(unacknowledged);
         return Err((core, incoming));
     };
-    Ok(closes(core.first, finish))
+    Ok(closes(core.first, closing))
 }
 
 /// A segment comes, of the reply that is awaited.

@@ -1,5 +1,8 @@
 //! An open ticket.
-ghost use Rattle.std.specs.Prelude.{◌≡◌, ◌-◌, ◌<◌, false, nat_lt};
+ghost use Rattle.std.specs.Prelude.{◌≡◌, ◌-◌, ◌<◌, ◌≤◌, false, length, nat_lt};
+ghost use Rattle.bac_segment.specs.Pieces.{join};
+ghost use Rattle.bac_segment.specs.Limits.{DATA};
+ghost use Rattle.bac_client.specs.Reacts.{parts_taken};
 ghost use Rattle.bac_protocol.specs.Client as client;
 
 use bac_protocol::times::DEADLINE;
@@ -11,9 +14,11 @@ use std::marker::Model;
 pub(crate) struct Core {
     /// The moment of the first sending.
     pub(crate) first: u64,
+    /// The service choice of the request.
     pub(crate) choice: u8,
     /// Whether the request goes in one APDU.
     pub(crate) whole: bool,
+    /// The request's service data, as their sender.
     pub(crate) outgoing: Outgoing,
     /// The repeats of the request that are left.
     pub(crate) repeats: u8,
@@ -24,9 +29,11 @@ pub(crate) struct Core {
 /// The states of an open ticket (clauses 5.4.4.2 to 5.4.4.4).
 #[derive(Drop)]
 pub(crate) enum Phase {
-    /// `all_sent` is SentAllSegments.
+    /// SEGMENTED_REQUEST; `all_sent` is SentAllSegments.
     SegmentedRequest { all_sent: bool },
+    /// AWAIT_CONFIRMATION.
     AwaitConfirmation,
+    /// SEGMENTED_CONF, with the segments that were taken.
     SegmentedConf { incoming: Incoming },
 }
 
@@ -63,6 +70,23 @@ impl Ticket {
         ensures { result ≡ self.now.ask.choice }
     {
         self.core.choice
+    }
+
+    /// How many octets of a reply in segments it keeps (SEGMENTED_CONF, clause 5.4.4.4): at most 65,535, in at most 65,535 segments; 0 in other states.
+    pub fn reassembled(&self) -> usize
+        ensures number { result ≡ length (join (parts_taken self.now.phase)) }
+        ensures short { result ≤ DATA }
+        ensures few { length (parts_taken self.now.phase) ≤ DATA }
+    {
+        match &self.phase {
+            Phase::SegmentedRequest { .. } => 0,
+            Phase::AwaitConfirmation => 0,
+            Phase::SegmentedConf { incoming } => {
+                // that the segments are few
+                let _segments = incoming.taken();
+                incoming.len()
+            }
+        }
     }
 
     /// Whether more than 60,000 milliseconds have passed since the first sending: nothing is sent from then on (own rule of this profile).

@@ -29,8 +29,8 @@ fn a_clock_goes_on(rt: HostRuntime) -> Result<(), Fail> {
     let mut clock = MonotonicClock::new(&rt)?;
     let before = clock.now();
     assert_eq!(&rt; link.receive(&mut [0u8; 2]), Ok(None));
-    let after = clock.now();
-    assert!(&rt; after >= before + 90);
-    assert!(&rt; after < before + 10_000);
+    let passed = clock.now().saturating_sub(before);
+    assert!(&rt; passed >= 90);
+    assert!(&rt; passed < 10_000);
     Ok(())
 }

@@ -1,17 +1,22 @@
 -- What a call makes of a node.
-use Rattle.std.specs.Prelude.{◌≡◌, ◌⊎◌, ◌++◌, ℕ, map, Result, Ok, Err}
+use Rattle.std.specs.Prelude.{◌≡◌, ◌≢◌, ◌⊎◌, ◌<◌, ◌++◌, ℕ, map, Result, Ok, Err}
 use Rattle.bac_npdu.specs.Peers.{PeerView}
-use Rattle.bac_apdu.specs.Apdu.{Apdu}
+use Rattle.bac_apdu.specs.Apdu.{Apdu, Limits}
+use Rattle.bac_service.specs.Requests.{SpellsRequest}
+use Rattle.bac_service.specs.Values.{Request, choice_of}
 use Rattle.bac_protocol.specs.Service.{Octets}
+use Rattle.bac_protocol.specs.Sizes.{RequestFault}
 use Rattle.bac_protocol.specs.Wire.{is_from_client}
 use Rattle.bac_value.specs.declared.memory.NoMemory.{NoMemory}
-use Rattle.bac_ends.specs.Ends.{clients_tick, servers_tick}
+use Rattle.bac_ends.specs.Ends.{Accepted, AskOutcome, AskRefusal, CannotGo, client_asks, clients_tick, servers_tick}
 use Rattle.bac_ends.specs.Meanings.{IsFinish}
 use Rattle.bac_ends.specs.Sends.{IsSent, Pairwise}
 use Rattle.bac_requester.specs.Views.{finish_view}
+use Rattle.bac_requester.specs.declared.ask_fault.AskFault.{AskFault}
+use Rattle.bac_requester.specs.declared.ask_fault.AskFault.TheVariants as fault
+use Rattle.bac_requester.specs.declared.asking.Asked.{Asked}
 use Rattle.bac_requester.specs.declared.turn.Due.{Due}
-use Rattle.bac_world.specs.Node as world
-use Rattle.bac_world.specs.Node.{Node, IsHeardBy}
+use Rattle.bac_world.specs.Node.{Node, Refusal, IsHeardBy, NodeAsks, NodeRefuses}
 use Rattle.bac_world.specs.Laws.{IsMeaningless}
 use Rattle.bac_node.specs.Views.{outcome_view}
 use Rattle.bac_node.specs.declared.outcome.Outcome.{Outcome}
@@ -38,3 +43,30 @@ ticked now n =
 pub record IsDue (now : ℕ) (n : Node) (x : Due) : Type 0 where
   pub sends : Pairwise IsSent ((clients_tick n.settings now n.clients).sends ++ (servers_tick n.settings now n.servers).sends) x.sends.items
   pub ended : Pairwise IsFinish (clients_tick n.settings now n.clients).ended (map finish_view x.ended.items)
+
+-- An ask.
+
+-- it was accepted: its ticket and its invoke ID are told
+pub record IsAsked (now : ℕ) (peer : PeerView) (limits : Limits) (r : Request) (old new : Node) (x : Asked) : Type 0 where
+  pub accepted : Accepted
+  pub asks : NodeAsks now peer limits r old new accepted x.sends.items
+  pub ticket : x.ticket ≡ accepted.ticket
+  pub invoke_id : x.invoke_id ≡ accepted.invoke_id
+
+-- it would be, were there memory
+pub record WouldAsk (now : ℕ) (peer : PeerView) (limits : Limits) (r : Request) (n : Node) : Type 0 where
+  pub octets : Octets
+  pub spelled : SpellsRequest (choice_of r) r octets
+  pub foreign : peer.link ≢ n.link
+  pub accepted : Accepted
+  pub asks : client_asks n.settings now peer limits (choice_of r) octets n.clients ≡ AskOutcome.Asked accepted
+
+-- the fault says why it was refused
+abbrev pub Refuses : AskFault → (now : ℕ) → PeerView → Limits → Request → Node → Type 0
+Refuses fault.ClockBack now peer limits r n = now < n.latest
+Refuses fault.SelfPeer now peer limits r n = NodeRefuses now peer limits r n Refusal.SelfPeer
+Refuses fault.TooLong now peer limits r n = NodeRefuses now peer limits r n (Refusal.CannotAsk (CannotGo RequestFault.TooLong))
+Refuses fault.NeedsSegments now peer limits r n = NodeRefuses now peer limits r n (Refusal.CannotAsk (CannotGo RequestFault.NeedsSegments))
+Refuses fault.NoInvokeId now peer limits r n = NodeRefuses now peer limits r n (Refusal.CannotAsk AskRefusal.NoInvokeId)
+Refuses fault.NoSlot now peer limits r n = NodeRefuses now peer limits r n (Refusal.CannotAsk AskRefusal.NoSlot)
+Refuses fault.NoMemory now peer limits r n = WouldAsk now peer limits r n

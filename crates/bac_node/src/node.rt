@@ -1,11 +1,12 @@
 //! A node.
-ghost use Rattle.std.specs.Prelude.{◌≡◌, ◌↔◌, ◌<◌, ◌≤◌, [], true, false, map, IfOk, IsErrOf, IsSome, IfSome, IsTrue, OnErr, MatchOption, vec_capacity};
-ghost use Rattle.bac_apdu.specs.Views.{apdu_view};
+ghost use Rattle.std.specs.Prelude.{◌≡◌, ◌≢◌, ◌↔◌, ◌<◌, ◌≤◌, [], true, false, map, IfErr, IfOk, IsErrOf, IsSome, IfSome, IsTrue, OnErr, MatchOption, vec_capacity};
+ghost use Rattle.bac_apdu.specs.Views.{apdu_view, limits_view};
 ghost use Rattle.bac_npdu.specs.Views.{peer_view};
+ghost use Rattle.bac_service.specs.Views.{owned_request_view};
 ghost use Rattle.bac_ends.specs.Views.{settings_view};
 ghost use Rattle.bac_requester.specs.Views.{finish_view, finishes_of};
 ghost use Rattle.bac_world.specs.Node.{NodeOn, NodeTick, IsHeardBy, dropped_for};
-ghost use Rattle.bac_node.specs.Calls.{Hears, IsDue, IsNotHeard, ticked};
+ghost use Rattle.bac_node.specs.Calls.{Hears, IsAsked, IsDue, IsNotHeard, Refuses, ticked};
 ghost use Rattle.bac_node.specs.Fresh.{fresh_node, has_slots, slots_fit, window_fits};
 ghost use Rattle.bac_node.specs.Views.{cause_view, outcome_view, settings_of};
 
@@ -14,12 +15,13 @@ use crate::config::Config;
 use crate::fault::{NewNodeFault, NodeFault};
 use crate::hearing::{heard, is_from_client};
 use crate::outcome::Outcome;
-use bac_apdu::{Apdu, Window};
+use bac_apdu::{Apdu, Limits, Window};
 use bac_ends::{PeerKey, Settings};
 use bac_npdu::Peer;
-use bac_requester::{Client, Due, Finish, Requester, Turn};
+use bac_requester::{AskFault, Asked, Client, Due, Finish, Requester, Turn};
 use bac_responder::{Responder, Served};
 use bac_server::Entry;
+use bac_service::OwnedRequest;
 use bac_slots::IndexSlots;
 use bac_store::Store;
 use bac_value::NoMemory;
@@ -273,5 +275,54 @@ impl Node {
         self.clients.commit_tick(now);
         self.servers.commit_tick(now);
         self.latest = now;
+    }
+
+    /// Asks a peer, which takes so much, for a request, at a moment in milliseconds. It takes the least invoke ID that is not held for the peer, and a slot
+    /// that is not held.
+    ///
+    /// It is refused for the first of these that holds: `ClockBack`, the moment is before the latest one; `SelfPeer`, the peer is at the node's own link;
+    /// `TooLong`, `NeedsSegments`, `NoInvokeId` and `NoSlot` as of `Requester::ask`; `NoMemory` comes last. After an Err the node is as before.
+    pub fn ask(
+        &mut self,
+        now: u64,
+        peer: &Peer,
+        limits: &Limits,
+        request: &OwnedRequest,
+    ) -> Result<Asked, AskFault>
+        ensures asked { IfOk result (IsAsked now (peer_view peer.now) (limits_view limits.now) (owned_request_view request.now) self.old self.new) }
+        ensures refused { IfErr result (λ e. Refuses e now (peer_view peer.now) (limits_view limits.now) (owned_request_view request.now) self.old) }
+        ensures early { IsErrOf result AskFault.ClockBack ↔ (now < self.old.latest) }
+        ensures err { OnErr result (self.new ≡ self.old) }
+    {
+        if self.is_before(now) {
+            return Err(AskFault::ClockBack);
+        }
+        if peer.link == self.link {
+            return Err(AskFault::SelfPeer);
+        }
+        self.ask_other(now, peer, limits, request)
+    }
+
+    /// Asks a peer of another link.
+    fn ask_other(
+        &mut self,
+        now: u64,
+        peer: &Peer,
+        limits: &Limits,
+        request: &OwnedRequest,
+    ) -> Result<Asked, AskFault>
+        requires { peer.now.link ≢ self.old.link }
+        ensures asked { IfOk result (IsAsked now (peer_view peer.now) (limits_view limits.now) (owned_request_view request.now) self.old self.new) }
+        ensures refused { IfErr result (λ e. Refuses e now (peer_view peer.now) (limits_view limits.now) (owned_request_view request.now) self.old) }
+        ensures early { IsErrOf result AskFault.ClockBack → ⊥ }
+        ensures err { OnErr result (self.new ≡ self.old) }
+    {
+        match self.clients.ask(now, peer, limits, request) {
+            Ok(asked) => {
+                self.latest = now;
+                Ok(asked)
+            }
+            Err(fault) => Err(fault),
+        }
     }
 }

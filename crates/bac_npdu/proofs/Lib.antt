@@ -3,3 +3,4 @@ pub mod Frames
 pub mod Datagrams
 pub mod PeerOrder
 pub mod Writing
+pub mod Examples

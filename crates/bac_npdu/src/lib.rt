@@ -28,8 +28,3 @@ pub use npdu::{Destination, Message, Npdu};
 pub use npdu_reading::read_npdu;
 pub use peer::Peer;
 pub use route::Route;
-
-#[cfg(test)]
-mod examples;
-#[cfg(test)]
-mod tests;

@@ -27,6 +27,7 @@ pub struct Destination {
 /// The type of a network message, with the vendor's identifier from type 128 on (clause 6.2.4).
 #[derive(Clone, Copy, Debug)]
 pub struct Message {
+    /// The type: 0 to 127 of the standard, 128 to 255 of vendors.
     pub kind: u8,
     /// None below type 128 alone.
     pub vendor: Option<u16>,
@@ -36,7 +37,9 @@ pub struct Message {
 /// A message of the network layer (clause 6.2).
 #[derive(Clone, Copy, Debug)]
 pub struct Npdu<'a> {
+    /// Where it is to be routed to; None where it stays on the network.
     pub destination: Option<Destination>,
+    /// Where it was routed from; None where it comes from the network.
     pub source: Option<Route>,
     /// Whether the sender expects a reply.
     pub expecting: bool,

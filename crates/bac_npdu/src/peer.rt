@@ -17,7 +17,9 @@ use std::cmp::Ordering;
 /// first.
 #[derive(Clone, Copy, Debug)]
 pub struct Peer {
+    /// The BACnet/IP address: four octets of IPv4, then two of the UDP port.
     pub link: [u8; 6],
+    /// The way on from a router; None for a peer at the address itself.
     pub route: Option<Route>,
 }
 

@@ -17,7 +17,9 @@ pub(crate) const ALL_NETWORKS: u16 = 0xFFFF;
 /// the own limit of this profile). Routes are ordered by network number, then by the octets of the address, a front first.
 #[derive(Clone, Copy, Debug)]
 pub struct Route {
+    /// The network's number, 1 to 65,534.
     pub network: u16,
+    /// The device's address on that network, 1 to 8 octets.
     pub address: Address,
     pub ghost fits: { IsTrue (route_fits (record { network = network; address = address_view address })) },
 }

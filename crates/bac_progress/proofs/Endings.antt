@@ -114,7 +114,7 @@ answer_now S shop x w key a number free down m =
 
 module _ (x : Rules) (key : Key) (number : ℕ) (ask : Ask) where
   -- its ticket is there, or it has ended
-  abbrev Tracked : Net → Type 0
+  abbrev pub Tracked : Net → Type 0
   Tracked n = IsThere x Any key number ask n ⊎ HasEnded number n.log
 
   tracked_step : (n m : Net) → Step x Any n m → IdleIsLogged n → Tracked n → Tracked m
@@ -126,7 +126,7 @@ module _ (x : Rules) (key : Key) (number : ℕ) (ask : Ask) where
       go (inr free) = inr (ended_grows number n.log m.log (step_log x Any n m s) (subst (λ (k : ℕ). HasEnded k n.log) h.number_is
           (logged key h.ticket h.at (ended_is_silent.unheld n.now h.ticket (sym (ap (is_key_held n.now) h.at) ∙ free)))))
 
-  tracked_path : (n m : Net) → Path x Any n m → IdleIsLogged n → Tracked n → Tracked m
+  pub tracked_path : (n m : Net) → Path x Any n m → IdleIsLogged n → Tracked n → Tracked m
   tracked_path n _ Here logged h = h
   tracked_path n _ (Then l m p s) logged h = tracked_step l m s (logged_path x Any n l p logged) (tracked_path n l p logged h)
 

@@ -16,14 +16,14 @@ use Rattle.bac_protocol.specs.Server.{Entry, is_live, is_none_live}
 use Rattle.bac_protocol.specs.Log.{Fact, Has, Shop}
 use Rattle.bac_protocol.specs.Log.Fact.{Asked, Performed, Ended}
 use Rattle.bac_protocol.specs.Transaction.{Key, Rules, client_context}
-use Rattle.bac_protocol.specs.World.{World, Post, Event, is_deliverable, is_key_held, asked_at, ask_made}
+use Rattle.bac_protocol.specs.World.{Net, World, Post, Event, is_deliverable, is_key_held, asked_at, ask_made}
 use Rattle.bac_protocol.specs.World.{happens, run, start, post_of, later, copies_of, service_of}
 use Rattle.bac_protocol.specs.World.Event.{MakeAsk, Deliver, Tick, Noise, Advance}
 use Rattle.bac_protocol.specs.Claims.{IsBounded}
 use Rattle.bac_protocol.proofs.Alone.{one}
 use Rattle.bac_protocol.proofs.Asks.{IsSpent}
 use Rattle.bac_protocol.proofs.Facts.{Grows}
-use Rattle.bac_protocol.proofs.Nets.{spent_at}
+use Rattle.bac_protocol.proofs.Nets.{NetSound, spent_at}
 use Rattle.bac_protocol.proofs.Headline.{Kept, run_kept, event_kept, start_kept}
 use Rattle.bac_protocol.proofs.Keys.{copy_at, set_same}
 use Rattle.bac_progress.specs.Runs.{Throughout, IsOnItsWay}
@@ -204,55 +204,55 @@ module _ (S : Type 0) (shop : Shop S) (x : Rules) (key : Key) (ask : Ask) (numbe
     }
 
 -- An ask is made.
+pub asked_on : (W : ℕ) (x : Rules) (n : Net) → NetSound W n → (key : Key) (choice : ℕ) (front : Octets) (rest : List Octets)
+    → is_key_held n.now (n.tickets key) ≡ false
+    → Waits x key (ask_of n.now choice true front rest) n.asks (asked_at x n key (ask_of n.now choice true front rest))
+asked_on W x n s key choice front rest free = record {
+  clock = omega arith;
+  entry = inl (none_live (n.entries key) (λ e at. spent.dead e at));
+  posts = λ i q at is young. posts i q at is young (got n.posts (post_of key n.now (request_to x key ask) ∷ []) i q at);
+  ticket = record {
+    ticket = client.asked_ticket (client_context x key n.now) ask;
+    at = set_same n.tickets key (Some (client.asked_ticket (client_context x key n.now) ask));
+    is = refl;
+    state = inl (record { waits = refl; few = omega arith; since = omega arith; passed = omega arith });
+  };
+  number_is = set_same n.numbers key n.asks;
+}
+  where
+    ask : Ask
+    ask = ask_of n.now choice true front rest
+
+    spent : IsSpent (one n key)
+    spent = spent_at W n key (n.tickets key) refl (s.each key) free
+
+    none_live : (o : Option Entry) → ((e : Entry) → o ≡ Some e → e.begin + KEEP < n.now) → is_none_live n.now o ≡ true
+    none_live None d = refl
+    none_live (Some e) d =
+        let lt = d e refl in let dead : is_live n.now e ≡ false = grind (arith, nat_tests) in ap (λ b. if b then false else true) dead
+
+    old : (i : ℕ) (q : Post) → slice_get n.posts i ≡ Some q → q.key ≡ key → n.now - q.copy.moment ≤ LIFE → ⊥
+    old i q at is young = spent.old (later q.key i n.posts) q.copy
+        (subst (λ (k : Key). slice_get (copies_of k n.posts) (later q.key i n.posts) ≡ Some q.copy) is (copy_at i n.posts q at)) young
+
+    asked_log : List Fact
+    asked_log = Asked n.asks key.client key.server (request_of ask) ∷ n.log
+
+    posts : (i : ℕ) (q : Post) → slice_get (n.posts ++ post_of key n.now (request_to x key ask) ∷ []) i ≡ Some q → q.key ≡ key
+        → n.now - q.copy.moment ≤ LIFE
+        → (slice_get n.posts i ≡ Some q) ⊎ ((j : ℕ) × (slice_get (post_of key n.now (request_to x key ask) ∷ []) j ≡ Some q))
+        → IsFine x key ask n.asks asked_log q.copy.apdu
+    posts i q at is young (inl was) = absurd (old i q was is young)
+    posts i q at is young (inr new) =
+        of_map (IsFine x key ask n.asks asked_log) key n.now (request_to x key ask ∷ []) (inl refl, tt) new.0 q new.1
+
 module _ (S : Type 0) (shop : Shop S) (opening : ℕ → S) (W : ℕ) (x : Rules) (bound : IsBounded W x) where
-  asked_on : (w : World S) → Kept S shop opening W x bound w → (key : Key) (choice : ℕ) (front : Octets) (rest : List Octets)
-      → is_key_held w.net.now (w.net.tickets key) ≡ false
-      → Waits x key (ask_of w.net.now choice true front rest) w.net.asks (asked_at x w.net key (ask_of w.net.now choice true front rest))
-  asked_on w s key choice front rest free = record {
-    clock = omega arith;
-    entry = inl (none_live (w.net.entries key) (λ e at. spent.dead e at));
-    posts = λ i q at is young. posts i q at is young (got w.net.posts (post_of key w.net.now (request_to x key ask) ∷ []) i q at);
-    ticket = record {
-      ticket = client.asked_ticket (client_context x key w.net.now) ask;
-      at = set_same w.net.tickets key (Some (client.asked_ticket (client_context x key w.net.now) ask));
-      is = refl;
-      state = inl (record { waits = refl; few = omega arith; since = omega arith; passed = omega arith });
-    };
-    number_is = set_same w.net.numbers key w.net.asks;
-  }
-    where
-      ask : Ask
-      ask = ask_of w.net.now choice true front rest
-
-      spent : IsSpent (one w.net key)
-      spent = spent_at W w.net key (w.net.tickets key) refl (s.net.each key) free
-
-      none_live : (o : Option Entry) → ((e : Entry) → o ≡ Some e → e.begin + KEEP < w.net.now) → is_none_live w.net.now o ≡ true
-      none_live None d = refl
-      none_live (Some e) d =
-          let lt = d e refl in let dead : is_live w.net.now e ≡ false = grind (arith, nat_tests) in ap (λ b. if b then false else true) dead
-
-      old : (i : ℕ) (q : Post) → slice_get w.net.posts i ≡ Some q → q.key ≡ key → w.net.now - q.copy.moment ≤ LIFE → ⊥
-      old i q at is young = spent.old (later q.key i w.net.posts) q.copy
-          (subst (λ (k : Key). slice_get (copies_of k w.net.posts) (later q.key i w.net.posts) ≡ Some q.copy) is (copy_at i w.net.posts q at)) young
-
-      asked_log : List Fact
-      asked_log = Asked w.net.asks key.client key.server (request_of ask) ∷ w.net.log
-
-      posts : (i : ℕ) (q : Post) → slice_get (w.net.posts ++ post_of key w.net.now (request_to x key ask) ∷ []) i ≡ Some q → q.key ≡ key
-          → w.net.now - q.copy.moment ≤ LIFE
-          → (slice_get w.net.posts i ≡ Some q) ⊎ ((j : ℕ) × (slice_get (post_of key w.net.now (request_to x key ask) ∷ []) j ≡ Some q))
-          → IsFine x key ask w.net.asks asked_log q.copy.apdu
-      posts i q at is young (inl was) = absurd (old i q was is young)
-      posts i q at is young (inr new) =
-          of_map (IsFine x key ask w.net.asks asked_log) key w.net.now (request_to x key ask ∷ []) (inl refl, tt) new.0 q new.1
-
   repeats_suffice : (w : World S) → Kept S shop opening W x bound w → RepeatsSuffice S shop x w
   repeats_suffice w s key choice front rest free =
       subst (λ (u : World S). IsRobust S shop x key ask w.net.asks u) (sym path)
       (robust S shop x key ask w.net.asks refl opening W bound (ask_made S x w key ask)
       (subst (λ (u : World S). Kept S shop opening W x bound u) path (event_kept S shop opening W x bound w s (MakeAsk key choice true front rest)))
-      (asked_on w s key choice front rest free))
+      (asked_on W x w.net s.net key choice front rest free))
     where
       ask : Ask
       ask = ask_of w.net.now choice true front rest

@@ -19,14 +19,14 @@ use Rattle.bac_protocol.specs.Server.State.{Done}
 use Rattle.bac_protocol.specs.Log.{Fact, Has, Shop}
 use Rattle.bac_protocol.specs.Log.Fact.{Performed, Ended}
 use Rattle.bac_protocol.specs.Transaction.{Key, Rules, client_context, server_context, performed}
-use Rattle.bac_protocol.specs.World.{World, Event, takes_at_client, takes_at_server, reacts, serves, service_of, happens, run, start}
+use Rattle.bac_protocol.specs.World.{Net, World, Event, takes_at_client, takes_at_server, reacts, serves, service_of, happens, run, start}
 use Rattle.bac_protocol.specs.World.Event.{Deliver}
 use Rattle.bac_protocol.specs.Claims.{IsBounded, WasPerformed}
 use Rattle.bac_protocol.specs.Straight.{is_ended}
 use Rattle.bac_protocol.proofs.Alone.{one}
 use Rattle.bac_protocol.proofs.Sound.{Up, Down, ClientFits, StateFits, ServerFits, IsBegunFor, IsKeptFor, Sound}
 use Rattle.bac_protocol.proofs.Sound.Down.{Unsent, Sent}
-use Rattle.bac_protocol.proofs.Nets.{sound_at}
+use Rattle.bac_protocol.proofs.Nets.{NetSound, sound_at}
 use Rattle.bac_protocol.proofs.Headline.{Kept, run_kept, event_kept, start_kept}
 use Rattle.bac_protocol.proofs.Keys.{set_same}
 use Rattle.bac_progress.specs.Runs.{IsOnItsWay}
@@ -39,7 +39,7 @@ use Rattle.bac_progress.proofs.Serving.{answers_again, serves_new, serves_again,
 use Rattle.bac_progress.proofs.Kept.{IsKept, kept_path}
 
 -- a ticket takes an answer of one APDU: it waits for it, or has sent all segments
-abbrev TakesAnswer : Phase → Type 0
+abbrev pub TakesAnswer : Phase → Type 0
 TakesAnswer phase = (phase ≡ AwaitConfirmation) ⊎ ((out : Outgoing) × (phase ≡ SegmentedRequest out true))
 
 -- where an entry is done for an ask, its ticket takes the answer, or is over
@@ -69,25 +69,72 @@ kept_was : (W number : ℕ) (ask : Ask) (kept : Apdu) (up : Up) (down : Down) (l
 kept_was W number ask kept up Unsent log s = s.1
 kept_was W number ask kept up (Sent ps t n) log s = absurd s
 
+-- what is known of a ticket in a net that was reached
+abbrev pub SoundIn : ℕ → Net → Key → Ticket → Up → Down → Type 0
+SoundIn W n key t up down = Sound W key n.now n.asks (n.numbers key) t (n.entries key) (one n key).copies n.log up down
+
+-- an entry that is live, or was begun since the ask was made, was begun for it
+begun_in : (W : ℕ) (n : Net) (key : Key) (t : Ticket) (up : Up) (down : Down) → SoundIn W n key t up down → (e : Entry) → n.entries key ≡ Some e
+    → ((server.is_live n.now e ≡ true) ⊎ (t.ask.first ≤ e.begin)) → IsBegunFor W (n.numbers key) t.ask e up down n.log
+begun_in W n key t up down s e at when = go (subst (λ (o : Option Entry). ServerFits W (n.numbers key) t.ask o up down n.log) at s.server) when
+  where
+    go : ServerFits W (n.numbers key) t.ask (Some e) up down n.log → ((server.is_live n.now e ≡ true) ⊎ (t.ask.first ≤ e.begin))
+        → IsBegunFor W (n.numbers key) t.ask e up down n.log
+    go (inr begun) y = begun
+    go (inl past) (inl live) = let d = past.dead in let k = s.clock in absurd (grind (arith, nat_tests))
+    go (inl past) (inr since) = let d = past.dead in absurd (omega arith)
+
+-- an answer ends a ticket that takes it
+pub takes_ends : (x : Rules) (now : ℕ) (key : Key) (t : Ticket) (p : Reply) → TakesAnswer t.phase → now - t.ask.first ≤ DEADLINE → FitsInOne x key t.ask p
+    → client.client_gets (client_context x key now) x.readable t (answer_to x key t.ask p) ≡ Ends [] (Answered p)
+takes_ends x now key t p phase young fits = go phase
+  where
+    in_time : is_expired now t.ask ≡ false
+    in_time = grind (arith, nat_tests)
+
+    go : TakesAnswer t.phase → client.client_gets (client_context x key now) x.readable t (answer_to x key t.ask p) ≡ Ends [] (Answered p)
+    go (inl a) = answer_ends (client_context x key now) (server_context x key t.ask.first) x.readable t p a in_time fits.kind
+    go (inr o) = answer_ends_sending (client_context x key now) (server_context x key t.ask.first) x.readable t p o.0 o.1 in_time fits.kind
+
+-- in a net in which an entry is done for an ask, whose ticket is there, the ticket takes the answer, once it has sent all
+pub there_takes : (W : ℕ) (x : Rules) (key : Key) (ask : Ask) (number begin : ℕ) (p : Reply) (since : ask.first ≤ begin) (n : Net) → NetSound W n
+    → (h : IsKept x Any key number ask begin (answer_to x key ask p) since n) → is_idle h.there.ticket.phase ≡ false
+    → (ask.whole ≡ true) ⊎ HasSentAll h.there.ticket.phase → TakesAnswer h.there.ticket.phase
+there_takes W x key ask number begin p since n s h going ready = go ready
+  where
+    t : Ticket
+    t = h.there.ticket
+
+    known : (up : Up) × (down : Down) × SoundIn W n key h.there.ticket up down
+    known = sound_at W n key (Some h.there.ticket) h.there.at s
+
+    begun : IsBegunFor W (n.numbers key) h.there.ticket.ask h.entry known.0 known.1 n.log
+    begun = begun_in W n key h.there.ticket known.0 known.1 known.2 h.entry h.at
+        (inr (let e : h.there.ticket.ask.first ≡ ask.first = ap (λ (a : Ask). a.first) h.there.is in let b = h.begun in omega arith))
+
+    done : StateFits W (n.numbers key) h.there.ticket.ask (Done (answer_to x key ask p)) known.0 known.1 n.log
+    done = subst (λ (st : State). StateFits W (n.numbers key) h.there.ticket.ask st known.0 known.1 n.log) h.state begun.state
+
+    by : HasSentAll h.there.ticket.phase → TakesAnswer h.there.ticket.phase
+    by all = takes W (n.numbers key) h.there.ticket.ask (answer_to x key ask p) h.there.ticket.phase known.0 known.1 n.log going all (known.2).client done
+
+    go : (ask.whole ≡ true) ⊎ HasSentAll h.there.ticket.phase → TakesAnswer h.there.ticket.phase
+    go (inl whole) = by (whole_sends_all W h.there.ticket.ask h.there.ticket.phase known.0 known.1 (ap (λ (a : Ask). a.whole) h.there.is ∙ whole)
+        (known.2).client)
+    go (inr all) = by all
+
 module _ (S : Type 0) (shop : Shop S) (opening : ℕ → S) (W : ℕ) (x : Rules) (bound : IsBounded W x) where
   -- what is known of a ticket in a world that was reached
   abbrev pub SoundWith : World S → Key → Ticket → Up → Down → Type 0
-  SoundWith w key t up down = Sound W key w.net.now w.net.asks (w.net.numbers key) t (w.net.entries key) (one w.net key).copies w.net.log up down
+  SoundWith w key t up down = SoundIn W w.net key t up down
 
   pub sound : (w : World S) → Kept S shop opening W x bound w → (key : Key) (t : Ticket) → w.net.tickets key ≡ Some t
       → (up : Up) × (down : Down) × SoundWith w key t up down
   sound w s key t at = sound_at W w.net key (Some t) at s.net
 
-  -- an entry that is live, or was begun since the ask was made, was begun for it
   pub begun_for : (w : World S) (key : Key) (t : Ticket) (up : Up) (down : Down) → SoundWith w key t up down → (e : Entry) → w.net.entries key ≡ Some e
       → ((server.is_live w.net.now e ≡ true) ⊎ (t.ask.first ≤ e.begin)) → IsBegunFor W (w.net.numbers key) t.ask e up down w.net.log
-  begun_for w key t up down s e at when = go (subst (λ (o : Option Entry). ServerFits W (w.net.numbers key) t.ask o up down w.net.log) at s.server) when
-    where
-      go : ServerFits W (w.net.numbers key) t.ask (Some e) up down w.net.log → ((server.is_live w.net.now e ≡ true) ⊎ (t.ask.first ≤ e.begin))
-          → IsBegunFor W (w.net.numbers key) t.ask e up down w.net.log
-      go (inr begun) y = begun
-      go (inl past) (inl live) = let d = past.dead in let k = s.clock in absurd (grind (arith, nat_tests))
-      go (inl past) (inr since) = let d = past.dead in absurd (omega arith)
+  begun_for w key t up down s e at when = begun_in W w.net key t up down s e at when
 
   -- an answer on its way ends a ticket that takes it
   ends : (v : World S) (key : Key) (t : Ticket) (p : Reply) (number : ℕ) (free : Bool) → IsOnItsWay x v.net key (answer_to x key t.ask p) number
@@ -96,47 +143,12 @@ module _ (S : Type 0) (shop : Shop S) (opening : ℕ → S) (W : ℕ) (x : Rules
   ends v key t p number free m at phase young fits =
       answer_now S shop x v key (answer_to x key t.ask p) number free (answer_not_from_client (server_context x key t.ask.first) t.ask.choice p) m
       ∙ ap (takes_at_client S x v key (answer_to x key t.ask p)) at
-      ∙ ap (reacts S v key t) (go phase)
-    where
-      in_time : is_expired v.net.now t.ask ≡ false
-      in_time = grind (arith, nat_tests)
-
-      go : TakesAnswer t.phase
-          → client.client_gets (client_context x key v.net.now) x.readable t (answer_to x key t.ask p) ≡ Ends [] (Answered p)
-      go (inl a) = answer_ends (client_context x key v.net.now) (server_context x key t.ask.first) x.readable t p a in_time fits.kind
-      go (inr o) = answer_ends_sending (client_context x key v.net.now) (server_context x key t.ask.first) x.readable t p o.0 o.1 in_time fits.kind
+      ∙ ap (reacts S v key t) (takes_ends x v.net.now key t p phase young fits)
 
   -- from a world in which an entry is done for an ask, whose ticket is there
   module _ (key : Key) (ask : Ask) (number begin : ℕ) (p : Reply) (since : ask.first ≤ begin) (fits : FitsInOne x key ask p) where
     abbrev KeptIn : World S → Type 0
     KeptIn u = IsKept x Any key number ask begin (answer_to x key ask p) since u.net
-
-    -- the ticket takes the answer, once it has sent all
-    there_takes : (v : World S) → Kept S shop opening W x bound v → (h : KeptIn v) → is_idle h.there.ticket.phase ≡ false
-        → (ask.whole ≡ true) ⊎ HasSentAll h.there.ticket.phase → TakesAnswer h.there.ticket.phase
-    there_takes v s h going ready = go ready
-      where
-        t : Ticket
-        t = h.there.ticket
-
-        known : (up : Up) × (down : Down) × SoundWith v key h.there.ticket up down
-        known = sound v s key h.there.ticket h.there.at
-
-        begun : IsBegunFor W (v.net.numbers key) h.there.ticket.ask h.entry known.0 known.1 v.net.log
-        begun = begun_for v key h.there.ticket known.0 known.1 known.2 h.entry h.at
-            (inr (let e : h.there.ticket.ask.first ≡ ask.first = ap (λ (a : Ask). a.first) h.there.is in let b = h.begun in omega arith))
-
-        done : StateFits W (v.net.numbers key) h.there.ticket.ask (Done (answer_to x key ask p)) known.0 known.1 v.net.log
-        done = subst (λ (st : State). StateFits W (v.net.numbers key) h.there.ticket.ask st known.0 known.1 v.net.log) h.state begun.state
-
-        by : HasSentAll h.there.ticket.phase → TakesAnswer h.there.ticket.phase
-        by all = takes W (v.net.numbers key) h.there.ticket.ask (answer_to x key ask p) h.there.ticket.phase known.0 known.1 v.net.log going all
-            (known.2).client done
-
-        go : (ask.whole ≡ true) ⊎ HasSentAll h.there.ticket.phase → TakesAnswer h.there.ticket.phase
-        go (inl whole) = by (whole_sends_all W h.there.ticket.ask h.there.ticket.phase known.0 known.1
-            (ap (λ (a : Ask). a.whole) h.there.is ∙ whole) (known.2).client)
-        go (inr all) = by all
 
     answered : (u : World S) → Kept S shop opening W x bound u → KeptIn u → (events : List Event)
         → (let v = run S shop x events u in (o : IsOpenInTime v.net key ask) → ((ask.whole ≡ true) ⊎ HasSentAll o.ticket.phase)
@@ -163,7 +175,7 @@ module _ (S : Type 0) (shop : Shop S) (opening : ℕ → S) (W : ℕ) (x : Rules
         path : happens S shop x v (Deliver k free) ≡ reacts S v key there.there.ticket (Ends [] (Answered p))
         path = ends v key there.there.ticket p k free
             (subst (λ (a : Ask). IsOnItsWay x v.net key (answer_to x key a p) k) (sym there.there.is) m) there.there.at
-            (there_takes v (run_kept S shop opening W x bound events u s) there (subst (λ (t : Ticket). is_idle t.phase ≡ false) same o.going) is_ready)
+            (there_takes W x key ask number begin p since v.net (run_kept S shop opening W x bound events u s).net there (subst (λ (t : Ticket). is_idle t.phase ≡ false) same o.going) is_ready)
             (subst (λ (a : Ask). v.net.now - a.first ≤ DEADLINE) (sym there.there.is) o.in_time)
             (subst (λ (a : Ask). FitsInOne x key a p) (sym there.there.is) fits)
 

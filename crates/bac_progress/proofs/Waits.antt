@@ -217,7 +217,7 @@ module _ (x : Rules) (key : Key) (ask : Ask) (number : ℕ) where
   idle_stays n t is idle answered = (record { ticket = t; at = refl; is = is; state = inr (idle, answered) }, tt)
 
   -- what is known of the ticket, by its name
-  known : (n : Net) (t : Ticket) → n.tickets key ≡ Some t → Waits n → (t.ask ≡ ask) × PatientOrAnswered n.now t n.log
+  pub known : (n : Net) (t : Ticket) → n.tickets key ≡ Some t → Waits n → (t.ask ≡ ask) × PatientOrAnswered n.now t n.log
   known n t at h =
       let same : h.ticket.ticket ≡ t = some_is h.ticket.ticket t (sym h.ticket.at ∙ at) in
       (subst (λ (y : Ticket). y.ask ≡ ask) same h.ticket.is, subst (λ (y : Ticket). PatientOrAnswered n.now y n.log) same h.ticket.state)
@@ -233,6 +233,24 @@ module _ (x : Rules) (key : Key) (ask : Ask) (number : ℕ) where
       (answer_ends c (server_context x key t.ask.first) x.readable t p w.waits (grind (arith, nat_tests))
       (subst (λ (a : Ask). FitsInOne x key a p) (sym is) given.0).kind)))
       (record { ticket = record t { phase = Idle }; at = refl; is = is; state = inr (refl, (p, inr given.1, inl refl)) }, tt)
+
+  -- an answer that comes to it leaves the ask answered
+  pub told_answered : (n : Net) → Waits n → InPatience n → (t : Ticket) → n.tickets key ≡ Some t → (p : Reply) → WasGiven p n.log
+      → IsAnswered number ask (ended number (ending_of (client.client_gets (client_context x key n.now) x.readable t (answer_to x key ask p))) n.log)
+  told_answered n h young t at p given = go (known n t at h).0 (known n t at h).1
+    where
+      go : t.ask ≡ ask → PatientOrAnswered n.now t n.log
+          → IsAnswered number ask (ended number (ending_of (client.client_gets (client_context x key n.now) x.readable t (answer_to x key ask p))) n.log)
+      go is (inr o) = answered_grows n.log (ended number (ending_of (client.client_gets (client_context x key n.now) x.readable t (answer_to x key ask p))) n.log)
+          (grows_ended number (ending_of (client.client_gets (client_context x key n.now) x.readable t (answer_to x key ask p))) n.log) o.1
+      go is (inl w) =
+          let c = client_context x key n.now in
+          let first : t.ask.first ≡ ask.first = ap (λ (a : Ask). a.first) is in
+          subst (λ (r : client.Reaction). IsAnswered number ask (ended number (ending_of r) n.log))
+          (sym (subst (λ (a : Ask). client.client_gets c x.readable t (answer_to x key a p) ≡ Ends [] (Answered p)) is
+          (answer_ends c (server_context x key t.ask.first) x.readable t p w.waits (grind (arith, nat_tests))
+          (subst (λ (a : Ask). FitsInOne x key a p) (sym is) given.0).kind)))
+          (p, inr given.1, inl refl)
 
   -- a tick's tests
   pub ticks_by : (now : ℕ) (t : Ticket) → t.ask ≡ ask → Patient now t → now < ask.first + PATIENCE → client.client_ticks (client_context x key now) t
@@ -351,6 +369,28 @@ module _ (x : Rules) (key : Key) (ask : Ask) (number : ℕ) where
       (done_live n young d) d.state d.choice d.request))
       (kept_goal n (n.entries key) d (answer_to x key ask d.reply ∷ []) (inr (d.reply, refl, d.given), tt))
 
+  -- it brings one answer
+  pub brings_answer : (n : Net) → Waits n → InPatience n → (service : Service) (free : Bool)
+      → (is_none_live n.now (n.entries key) ≡ true → (p : Reply) × (free ≡ true) × (service ask.choice (join ask.pieces) ≡ Replies p) × FitsInOne x key ask p)
+      → (p : Reply) × ((server.server_gets (server_context x key n.now) service (n.entries key) free (request_to x key ask)).sends ≡ answer_to x key ask p ∷ [])
+  brings_answer n h young service free finds = go h.entry
+    where
+      go : EntryFits n.now (n.entries key) n.log → (p : Reply) × ((gets_request n service (n.entries key) free).sends ≡ answer_to x key ask p ∷ [])
+      go (inl none) =
+          let cl = client_context x key ask.first in
+          let y = finds none in (
+            y.0,
+            ap (λ (v : server.Reaction). v.sends) (ap (gets_request n service (n.entries key)) y.1
+                ∙ serves_new (server_context x key n.now) cl service (n.entries key) ask y.0 none y.2 (y.3).way)
+                ∙ ap (λ (a : Apdu). a ∷ []) (answer_any_time x key n.now ask.first ask.choice y.0),
+          )
+      go (inr d) = (
+        d.reply,
+        ap (λ (v : server.Reaction). v.sends) (ap (λ (o : Option Entry). gets_request n service o free) d.at
+            ∙ serves_again (server_context x key n.now) (client_context x key ask.first) service d.entry free ask (answer_to x key ask d.reply)
+            (done_live n young d) d.state d.choice d.request),
+      )
+
   ticks_entry : (n : Net) → InPatience n → EntryFits n.now (n.entries key) n.log
       → ServerGoal n (server.server_ticks (server_context x key n.now) (n.entries key))
   ticks_entry n young (inl none) = go (n.entries key) none
@@ -372,7 +412,7 @@ module _ (x : Rules) (key : Key) (ask : Ask) (number : ℕ) where
 
   -- Each step.
 
-  fine_comes : (n : Net) → Waits n → (i : ℕ) (q : Post) → Comes x n i q → q.key ≡ key → IsFine n.log q.copy.apdu
+  pub fine_comes : (n : Net) → Waits n → (i : ℕ) (q : Post) → Comes x n i q → q.key ≡ key → IsFine n.log q.copy.apdu
   fine_comes n h i q comes is = h.posts i q comes.at is
       (young (nat_le (n.now - q.copy.moment) LIFE) (nat_le (later q.key i n.posts) x.overtake) refl comes.arrives)
     where
@@ -380,12 +420,12 @@ module _ (x : Rules) (key : Key) (ask : Ask) (number : ℕ) where
       young true b e f = grind (arith, nat_tests)
       young false b e f = absurd cc
 
-  fine_up : (log : List Fact) (a : Apdu) → is_from_client a ≡ true → IsFine log a → a ≡ request_to x key ask
+  pub fine_up : (log : List Fact) (a : Apdu) → is_from_client a ≡ true → IsFine log a → a ≡ request_to x key ask
   fine_up log a up (inl is) = is
   fine_up log a up (inr r) =
       let down = ap is_from_client r.1 ∙ answer_not_from_client (server_context x key ask.first) ask.choice r.0 in absurd (let z = sym up ∙ down in cc)
 
-  fine_down : (log : List Fact) (a : Apdu) → is_from_client a ≡ false → IsFine log a → (p : Reply) × (a ≡ answer_to x key ask p) × WasGiven p log
+  pub fine_down : (log : List Fact) (a : Apdu) → is_from_client a ≡ false → IsFine log a → (p : Reply) × (a ≡ answer_to x key ask p) × WasGiven p log
   fine_down log a down (inl is) = absurd (let z = sym (ap is_from_client is) ∙ down in cc)
   fine_down log a down (inr r) = r
 

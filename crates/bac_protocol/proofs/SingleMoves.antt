@@ -139,6 +139,9 @@ module _ (W : ℕ) (x : Rules) (bound : IsBounded W x) where
   reached_sound _ Still = record { net = net_starts W; own = λ key. tt }
   reached_sound _ (Moved n m h) = move_sound n (reached_sound n h) m
 
+  pub reached_net : (n : Net) → IsReached x net_start n → NetSound W n
+  reached_net n h = (reached_sound n h).net
+
   pub in_order : (n : Net) → IsReached x net_start n → IsInOrder n
   in_order n h =
       let s = reached_sound n h in

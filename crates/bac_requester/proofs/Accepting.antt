@@ -149,8 +149,10 @@ pub kept_open : (c : Context) (ask : Ask) → kept (asked_ticket c ask) ≡ Open
 kept_open c ask = go ask.whole
   where
     go : (b : Bool)
-        → kept (after c.now (new_ticket c.now ask) (if b then GoesOn AwaitConfirmation (request_apdu c ask ∷ []) else sends_request_window c ask.choice (outgoing ask.pieces) false))
-        ≡ Open (after c.now (new_ticket c.now ask) (if b then GoesOn AwaitConfirmation (request_apdu c ask ∷ []) else sends_request_window c ask.choice (outgoing ask.pieces) false))
+        → kept (after c.now (new_ticket c.now ask) (if b then GoesOn AwaitConfirmation
+        (request_apdu c ask ∷ []) else sends_request_window c ask.choice (outgoing ask.pieces) false))
+        ≡ Open (after c.now (new_ticket c.now ask) (if b then GoesOn AwaitConfirmation
+        (request_apdu c ask ∷ []) else sends_request_window c ask.choice (outgoing ask.pieces) false))
     go true = refl
     go false = refl
 
@@ -179,7 +181,8 @@ pub entered_end : (c : Settings) (now : ℕ) (key : keys.PeerKey) (ask : Ask) (s
     ≡ (accepts c now key ask (record { slots = slots; capacity = capacity; asked = number })).end
 entered_end c now key ask slots new capacity room number t is put same =
     let with_slots : List ClientSlot → ℕ → ClientEnd = λ l k. record { slots = l; capacity = k; asked = number + 1 } in
-    let with_held : Held → List ClientSlot = λ h. filter (is_slot_held now) slots ++ record { key = key; begin = now; value = record { number = number; held = h } } ∷ [] in
+    let with_held : Held → List ClientSlot = λ h. filter (is_slot_held now) slots
+    ++ record { key = key; begin = now; value = record { number = number; held = h } } ∷ [] in
     ap (λ l. with_slots l room) put ∙ ap (λ k. with_slots (with_held (Open t)) k) same
     ∙ ap (λ h. with_slots (with_held h) capacity) (ap (λ u. Open u) is ∙ sym (kept_open (context_of c now key) ask))
 

@@ -1,3 +1,4 @@
+-- Lemmas of the client's end.
 pub mod Tables
 pub mod Turning
 pub mod Ticks

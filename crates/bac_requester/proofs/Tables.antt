@@ -1,13 +1,17 @@
 -- Lists of slots, changed from the first on.
-use Rattle.std.proofs.Common.{◌≡◌, ℕ, zero, suc, ◌+◌, Bool, true, false, List, [], ◌∷◌, ◌++◌, map, length, take, Some, None, slice_get, refl, ap, sym, ◌∙◌}
+use Rattle.std.proofs.Common.{◌≡◌, ℕ, zero, suc, ◌+◌, ◌≤◌, Bool, true, false, List, [], ◌∷◌, ◌++◌, map, length, take, Some, None, slice_get, refl, ap, sym, ◌∙◌}
 use Rattle.std.proofs.Common.{rules, arith}
 use Rattle.std.specs.Cmp.{IsEquivalence}
 use Rattle.std.specs.Cmp.Rules.{comparing}
 use Rattle.bac_slots.specs.declared.slot.Slot.{Slot}
 use Rattle.bac_slots.specs.Slots.{value_at, with_value, IsApart, IsDistinct}
-use Rattle.bac_ends.specs.Keys.{peer_key_cmp_total}
-use Rattle.bac_ends.specs.Views.{code_same_key}
+use Rattle.bac_ends.specs.Ends.{Client}
+use Rattle.bac_ends.specs.Keys.{peer_key_cmp_total, same_key}
+use Rattle.bac_ends.specs.Tables.{IsOrderlyClient}
+use Rattle.bac_ends.specs.Views.{code_same_key, peer_key_view, slots_view}
+use Rattle.bac_ends.specs.declared.peer_key.PeerKey.{PeerKey}
 use Rattle.bac_requester.specs.Turns.{changed}
+use Rattle.bac_requester.specs.Views.{end_of}
 
 pub key_equal : IsEquivalence code_same_key
 key_equal = search (peer_key_cmp_total, comparing, rules)
@@ -80,3 +84,22 @@ take_past n xs e = let next : n + 1 ≡ suc n = omega arith in ap (λ k. take k 
     go (suc n) [] e = refl
     go zero (y ∷ xs) e = absurd cc
     go (suc n) (y ∷ xs) e = ap (λ l. y ∷ l) (go n xs e)
+
+-- Keys that differ in code differ in the end.
+
+apart_viewed : (key : PeerKey) (slots : List (Slot PeerKey Client)) → IsApart code_same_key key slots → IsApart same_key (peer_key_view key) (slots_view slots)
+apart_viewed key [] apart = tt
+apart_viewed key (s ∷ slots) apart = (apart.0, apart_viewed key slots apart.1)
+
+distinct_viewed : (slots : List (Slot PeerKey Client)) → IsDistinct code_same_key slots → IsDistinct same_key (slots_view slots)
+distinct_viewed [] distinct = tt
+distinct_viewed (s ∷ slots) distinct = (apart_viewed s.key slots distinct.0, distinct_viewed slots distinct.1)
+
+length_viewed : (slots : List (Slot PeerKey Client)) → length (slots_view slots) ≡ length slots
+length_viewed [] = refl
+length_viewed (s ∷ slots) = ap suc (length_viewed slots)
+
+pub orderly_viewed : (slots : List (Slot PeerKey Client)) (capacity asked len : ℕ) → IsDistinct code_same_key slots → len ≡ length slots → len ≤ capacity
+    → IsOrderlyClient (end_of slots capacity asked)
+orderly_viewed slots capacity asked len distinct count within =
+    record { distinct = distinct_viewed slots distinct; within = omega (arith, length_viewed slots, count, within) }

@@ -1,3 +1,4 @@
+-- The client's end: what its calls answer, and what contracts see of the types in code.
 pub mod Views
 pub mod Faults
 pub mod Turns

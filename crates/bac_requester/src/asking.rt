@@ -69,7 +69,7 @@ fn least_id<S: SlotTable<PeerKey, Client>>(table: &S, peer: &Peer, now: u64) -> 
 }
 
 /// How many slots are held.
-fn held_count<S: SlotTable<PeerKey, Client>>(table: &S, now: u64) -> usize
+pub(crate) fn held_count<S: SlotTable<PeerKey, Client>>(table: &S, now: u64) -> usize
     ensures { result ≡ count_by (is_slot_held now) (slots_view (S.slots table.now)) }
 {
     count_passing(table, &HeldAt { moment: now })

@@ -3,7 +3,7 @@ ghost use Rattle.std.specs.Prelude.{◌≡◌};
 ghost use Rattle.bac_ends.specs.Ends.{is_held};
 
 use bac_client::Held;
-use bac_slots::Test;
+use bac_slots::{Same, Test};
 use std::marker::Model;
 
 /// The value of a slot: a ticket's number, and what is kept of the ticket.
@@ -51,5 +51,17 @@ impl Test<Client> for HeldAt {
 
     fn passes(&self, client: &Client) -> bool {
         client.is_held(self.moment)
+    }
+}
+
+impl Same for Client {
+    ghost use Rattle.bac_ends.specs.Ends as ends;
+
+    ghost Seen = { ends.Client };
+
+    ghost seen = { λ c. c };
+
+    fn same(&self, other: &Client) -> bool {
+        self.number == other.number && self.held.same(&other.held)
     }
 }

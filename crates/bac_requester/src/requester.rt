@@ -1,5 +1,5 @@
 //! The client's end.
-ghost use Rattle.std.specs.Prelude.{◌≡◌, ◌↔◌, [], IfOk, IsErrOf};
+ghost use Rattle.std.specs.Prelude.{◌≡◌, ◌≤◌, ◌↔◌, [], IfOk, IsErrOf, IsTrue, count_by};
 ghost use Rattle.bac_apdu.specs.Views.{apdu_view, limits_view};
 ghost use Rattle.bac_npdu.specs.Views.{peer_view};
 ghost use Rattle.bac_service.specs.Requests.{SpellsRequest};
@@ -7,7 +7,8 @@ ghost use Rattle.bac_service.specs.Services.{reads_reply};
 ghost use Rattle.bac_service.specs.Spellings.{request_spelling};
 ghost use Rattle.bac_service.specs.Values.{choice_of};
 ghost use Rattle.bac_service.specs.Views.{owned_request_view, request_view};
-ghost use Rattle.bac_ends.specs.Ends.{CannotGo, client_asks, client_hears, clients_tick};
+ghost use Rattle.bac_ends.specs.Ends.{CannotGo, client_asks, client_hears, clients_tick, is_slot_held};
+ghost use Rattle.bac_ends.specs.Tables.{IsOrderlyClient};
 ghost use Rattle.bac_ends.specs.Ends.AskOutcome.{Refused};
 ghost use Rattle.bac_ends.specs.Views.{settings_view};
 ghost use Rattle.bac_client.specs.Views.{fault_view};
@@ -15,7 +16,7 @@ ghost use Rattle.bac_requester.specs.Turns.{Asks, Hears, IsDue, Refuses};
 ghost use Rattle.bac_requester.specs.Views.{Requester as Requesting};
 
 use crate::ask_fault::AskFault;
-use crate::asking::{Asked, ask};
+use crate::asking::{Asked, ask, held_count};
 use crate::client::Client;
 use crate::hearing::hears;
 use crate::ticking::{commit, prepare};
@@ -25,7 +26,7 @@ use bac_client::{RequestFault, RequestWay};
 use bac_ends::{Context, PeerKey, Settings, invoke_id_of};
 use bac_npdu::Peer;
 use bac_service::{OwnedRequest, Request, request_len};
-use bac_slots::SlotTable;
+use bac_slots::{SlotTable, same_tables};
 use bac_value::NoMemory;
 use std::alloc::Global;
 use std::marker::Model;
@@ -162,5 +163,32 @@ impl<S: SlotTable<PeerKey, Client> + Drop> Requester<S> {
         ensures { self.new ≡ record self.old { end = (clients_tick self.old.settings now self.old.end).end } }
     {
         commit(&self.settings, &mut self.table, now);
+    }
+
+    /// How many slots are held at a moment, in milliseconds: their tickets are open, or no more than 135,000 milliseconds have passed since the first
+    /// sending (own rule of this profile). No two slots have one key, and there are no more of them than the capacity, whether they are held or not.
+    pub fn held(&self, now: u64) -> usize
+        ensures number { result ≡ count_by (is_slot_held now) self.now.end.slots }
+        ensures within { result ≤ self.now.end.capacity }
+        ensures orderly { IsOrderlyClient self.now.end }
+    {
+        let _len = self.table.len();
+        held_count(&self.table, now)
+    }
+
+    /// Whether contracts see no difference between two requesters: the same link and settings, the same slots in the same order, as many asks.
+    pub fn same(&self, other: &Requester<S>) -> bool
+        ensures { IsTrue result ↔ (self.now ≡ other.now) }
+    {
+        if self.link != other.link {
+            return false;
+        }
+        if self.settings != other.settings {
+            return false;
+        }
+        if self.asked != other.asked {
+            return false;
+        }
+        same_tables(&self.table, &other.table)
     }
 }

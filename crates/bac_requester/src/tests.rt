@@ -16,6 +16,7 @@ use std::alloc::Global;
 use std::test::Fail;
 
 mod asks;
+mod memory;
 mod replies;
 mod requests;
 
@@ -92,7 +93,7 @@ fn octets_of(alloc: Global, text: &str) -> Result<Vec<u8>, NoMemory> {
         high = match high {
             None => Some(digit(character)),
             Some(high) => {
-                octets.push(16 * high + digit(character))?;
+                octets.push(high.wrapping_mul(16).wrapping_add(digit(character)))?;
                 None
             }
         };
@@ -132,28 +133,28 @@ struct Told {
     end: End,
 }
 
-/// The request that service data spell.
-fn request(alloc: Global, choice: u8, service: &str) -> Result<OwnedRequest, Fail> {
+/// The request that service data spell; what spells none counts as out of memory.
+fn request(alloc: Global, choice: u8, service: &str) -> Result<OwnedRequest, NoMemory> {
     let service = octets_of(alloc, service)?;
     let Ok(request) = read_request(choice, &service) else {
-        return Err(Fail::new("no request"));
+        return Err(NoMemory);
     };
-    Ok(request.to_owned(alloc)?)
+    request.to_owned(alloc)
 }
 
 /// A ReadProperty of the present-value of analog-input 5.
-fn reading(alloc: Global) -> Result<OwnedRequest, Fail> {
+fn reading(alloc: Global) -> Result<OwnedRequest, NoMemory> {
     request(alloc, 12, "0C00000005 1955")
 }
 
 /// A write of so many octets at position 0 of file 1; from 5 to 253 octets have 11 octets of service data beside them.
-fn put(alloc: Global, len: usize) -> Result<OwnedRequest, Fail> {
+fn put(alloc: Global, len: usize) -> Result<OwnedRequest, NoMemory> {
     let octets = vec![in alloc; 0xABu8; len]?;
     let Some(file) = ObjectIdentifier::new(10, 1) else {
-        return Err(Fail::new("no file"));
+        return Err(NoMemory);
     };
     let Some(content) = OctetString::new(octets) else {
-        return Err(Fail::new("too long"));
+        return Err(NoMemory);
     };
     let access = WriteAccess::Stream(WriteStream { start: 0, content });
     Ok(AnyRequest::WriteFile(WriteFile { file, access }))
@@ -180,53 +181,35 @@ fn ask(
     }
 }
 
-/// An APDU comes from peer 2.
-fn hears(end: &mut Indexed, alloc: Global, now: u64, octets: &[u8]) -> Result<Told, Fail> {
+/// An APDU comes from peer 2, or a tick where there is none: what is sent, and how the first ticket ended that did. What is no APDU counts as out
+/// of memory.
+fn meets(end: &mut Indexed, now: u64, octets: &[u8]) -> Result<(Vec<Datagram>, End), NoMemory> {
+    if octets.is_empty() {
+        let Due { sends, ended } = end.prepare_tick(now)?;
+        end.commit_tick(now);
+        return match ended.first() {
+            Some(finish) => Ok((sends, end_of(&finish.how))),
+            None => Ok((sends, End::Open)),
+        };
+    }
     let Ok(apdu) = read(octets) else {
-        return Err(Fail::new("no APDU"));
+        return Err(NoMemory);
     };
     let Turn { sends, ended } = end.on(now, &peer(2), &apdu)?;
-    let sends = joined(alloc, &sends)?;
     match ended {
-        Some(finish) => Ok(Told {
-            sends,
-            end: end_of(&finish.how),
-        }),
-        None => Ok(Told {
-            sends,
-            end: End::Open,
-        }),
-    }
-}
-
-/// A tick, which ends one ticket at most.
-fn ticks(end: &mut Indexed, alloc: Global, now: u64) -> Result<Told, Fail> {
-    let due = end.prepare_tick(now)?;
-    end.commit_tick(now);
-    let sends = joined(alloc, &due.sends)?;
-    match due.ended.first() {
-        Some(finish) => Ok(Told {
-            sends,
-            end: end_of(&finish.how),
-        }),
-        None => Ok(Told {
-            sends,
-            end: End::Open,
-        }),
+        Some(finish) => Ok((sends, end_of(&finish.how))),
+        None => Ok((sends, End::Open)),
     }
 }
 
 /// Whether a row goes as it says.
-fn goes(end: &mut Indexed, alloc: Global, row: Row<'_>) -> Result<bool, Fail> {
+fn goes(end: &mut Indexed, alloc: Global, row: Row<'_>) -> Result<bool, NoMemory> {
     let (now, heard, sent, how) = row;
     let octets = octets_of(alloc, heard)?;
-    let told = if octets.is_empty() {
-        ticks(end, alloc, now)?
-    } else {
-        hears(end, alloc, now, &octets)?
-    };
+    let (sends, ended) = meets(end, now, &octets)?;
+    let told = joined(alloc, &sends)?;
     let wanted = octets_of(alloc, sent)?;
-    Ok(told.sends == wanted && told.end == how)
+    Ok(told == wanted && ended == how)
 }
 
 /// Whether an ask of peer 2 at moment 0 sends that, and all rows go as they say after it, between nodes that are set so.
@@ -236,7 +219,7 @@ fn plays(
     request: &OwnedRequest,
     sent: &str,
     rows: &[Row<'_>],
-) -> Result<bool, Fail> {
+) -> Result<bool, NoMemory> {
     let mut end: Indexed = requester(alloc, settings, 64)?;
     let told = ask(&mut end, alloc, 0, 2, &settings.limits, request)?;
     let wanted = octets_of(alloc, sent)?;

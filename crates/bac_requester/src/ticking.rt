@@ -78,8 +78,8 @@ fn slot_due(
     key: &PeerKey,
     client: &Client,
 ) -> Result<Turn, NoMemory>
-    ensures { (begin : ℕ) → IfOk result (λ x. IsSlotTold (settings_view settings.now) now (record { key = peer_key_view key.now; begin = begin; value = client.now })
-        x.sends.items (finishes_of x.ended)) }
+    ensures { (begin : ℕ) → IfOk result (λ x. IsSlotTold (settings_view settings.now) now
+        (record { key = peer_key_view key.now; begin = begin; value = client.now }) x.sends.items (finishes_of x.ended)) }
 {
     let Held::Open(ticket) = &client.held else {
         return Ok(nothing(alloc));

@@ -1,5 +1,4 @@
 pub mod Turned
 pub mod Firsts
 pub mod Sweeps
-pub mod Begun
 pub mod Orders

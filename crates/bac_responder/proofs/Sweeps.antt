@@ -1,11 +1,13 @@
 -- Counting live entries, and sweeping the others out.
-use Rattle.std.proofs.Common.{◌≡◌, ℕ, ◌+◌, ◌<◌, arith, Bool, true, false, not, List, [], ◌∷◌}
+use Rattle.std.proofs.Common.{◌≡◌, ℕ, suc, ◌+◌, ◌<◌, ◌≤◌, arith, Bool, true, false, not, List, [], ◌∷◌}
 use Rattle.std.proofs.Common.{◌++◌, length, filter, count_by, cond, Option, Some, None, if◌then◌else◌, refl, ap, sym, ◌∙◌}
 use Rattle.std.proofs.lemmas.List.Sums.{sum_by-cons, length-filter}
 use Rattle.std.proofs.lemmas.Bool.Decides.{nat_tests}
-use Rattle.bac_slots.specs.Slots.{value_at, with_value, keep, IsDistinct}
+use Rattle.bac_slots.specs.Slots.{value_at, with_value, keep, IsApart, IsDistinct}
+use Rattle.bac_ends.specs.Keys.{same_key}
 use Rattle.bac_slots.proofs.Values.{value_kept}
 use Rattle.bac_protocol.specs.Server.{Entry, is_live, is_none_live}
+use Rattle.bac_ends.specs.Tables.{IsOrderlyServer}
 use Rattle.bac_ends.specs.Ends.{ServerSlot, is_slot_live, is_free, set_or_put}
 use Rattle.bac_ends.specs.Views.{peer_key_view, slot_view, slots_view, code_same_key}
 use Rattle.bac_ends.specs.declared.peer_key.PeerKey.{PeerKey as CodeKey}
@@ -62,3 +64,22 @@ room_after now capacity slots swept room is =
     let lt : count_by (is_slot_live now) (slots_view slots) < capacity = grind (arith, nat_tests) in
     let swept_length : length swept ≡ count_by (is_live_in now) slots = ap length is ∙ length-filter (is_live_in now) slots in
     omega (arith, lt, swept_length, count_viewed now slots)
+
+-- keys that differ in code differ in the end
+
+apart_viewed : (key : CodeKey) (slots : List TableSlot) → IsApart code_same_key key slots → IsApart same_key (peer_key_view key) (slots_view slots)
+apart_viewed key [] apart = tt
+apart_viewed key (s ∷ slots) apart = (apart.0, apart_viewed key slots apart.1)
+
+distinct_viewed : (slots : List TableSlot) → IsDistinct code_same_key slots → IsDistinct same_key (slots_view slots)
+distinct_viewed [] distinct = tt
+distinct_viewed (s ∷ slots) distinct = (apart_viewed s.key slots distinct.0, distinct_viewed slots distinct.1)
+
+length_viewed : (slots : List TableSlot) → length (slots_view slots) ≡ length slots
+length_viewed [] = refl
+length_viewed (s ∷ slots) = ap suc (length_viewed slots)
+
+pub orderly_viewed : (slots : List TableSlot) (capacity len : ℕ) → IsDistinct code_same_key slots → len ≡ length slots → len ≤ capacity
+    → IsOrderlyServer (end_of slots capacity)
+orderly_viewed slots capacity len distinct count within =
+    record { distinct = distinct_viewed slots distinct; within = omega (arith, length_viewed slots, count, within) }

@@ -11,8 +11,8 @@ ghost use Rattle.bac_responder.specs.Views.{acted_view, end_of, turn_of, Serves}
 use crate::served::{Act, Served};
 use crate::table::{enter, has_live, is_free, put_back};
 use bac_apdu::Apdu;
-use bac_ends::{Datagram, PeerKey};
-use bac_server::{Context, Effect, Entry, IdleReaction, Reaction, idle_gets, live_gets};
+use bac_ends::{Context, Datagram, PeerKey};
+use bac_server::{Effect, Entry, IdleReaction, Reaction, idle_gets, live_gets};
 use bac_slots::SlotTable;
 use bac_store::Store;
 use bac_value::NoMemory;

@@ -12,6 +12,3 @@ mod ticking;
 
 pub use responder::Responder;
 pub use served::{Act, Served};
-
-#[cfg(test)]
-mod tests;

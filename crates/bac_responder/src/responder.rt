@@ -1,21 +1,23 @@
 //! The server's end.
-ghost use Rattle.std.specs.Prelude.{◌≡◌, [], IfOk};
+ghost use Rattle.std.specs.Prelude.{◌≡◌, ◌≤◌, ◌↔◌, [], count_by, IfOk, IsTrue};
 ghost use Rattle.bac_apdu.specs.Views.{apdu_view};
 ghost use Rattle.bac_npdu.specs.Views.{peer_view};
-ghost use Rattle.bac_ends.specs.Ends.{server_hears, servers_tick};
+ghost use Rattle.bac_ends.specs.Ends.{is_slot_live, server_hears, servers_tick};
+ghost use Rattle.bac_ends.specs.Tables.{IsOrderlyServer};
 ghost use Rattle.bac_ends.specs.Sends.{Pairwise, IsSent};
 ghost use Rattle.bac_ends.specs.Views.{settings_view};
 ghost use Rattle.bac_server.specs.Services.{service_of};
 ghost use Rattle.bac_responder.specs.Views.{end_of, Serves};
 
 use crate::hearing::hears;
+use crate::live_at::LiveAt;
 use crate::served::Served;
-use crate::ticking::{tick, tick_sends};
+use crate::ticking::{commit_all, prepare_all};
 use bac_apdu::Apdu;
-use bac_ends::{Datagram, PeerKey, Settings, invoke_id_of};
+use bac_ends::{Context, Datagram, PeerKey, Settings, invoke_id_of};
 use bac_npdu::Peer;
-use bac_server::{Context, Entry};
-use bac_slots::SlotTable;
+use bac_server::Entry;
+use bac_slots::{SlotTable, count_passing, same_tables};
 use bac_store::Store;
 use bac_value::NoMemory;
 use std::alloc::Global;
@@ -46,6 +48,23 @@ impl<S: SlotTable<PeerKey, Entry> + Drop> Responder<S> {
     {
         let table = S::new(alloc, slots)?;
         Ok(Responder { settings, table })
+    }
+
+    /// How many entries are live. No two entries have one key, and there are no more of them than slots, whether they are live or not.
+    pub fn live(&self, moment: u64) -> usize
+        ensures number { result ≡ count_by (is_slot_live moment) self.now.end.slots }
+        ensures within { result ≤ self.now.end.capacity }
+        ensures orderly { IsOrderlyServer self.now.end }
+    {
+        let _len = self.table.len();
+        count_passing(&self.table, &LiveAt { moment })
+    }
+
+    /// Whether both have the same settings and as many slots, with the same entries in the same order of putting.
+    pub fn same(&self, other: &Responder<S>) -> bool
+        ensures { IsTrue result ↔ (self.now ≡ other.now) }
+    {
+        self.settings == other.settings && same_tables(&self.table, &other.table)
     }
 
     /// An APDU comes from a peer, at that moment in milliseconds.
@@ -81,7 +100,7 @@ impl<S: SlotTable<PeerKey, Entry> + Drop> Responder<S> {
     pub fn prepare_tick(&self, alloc: Global, moment: u64) -> Result<Vec<Datagram>, NoMemory>
         ensures { IfOk result (λ v. Pairwise IsSent (servers_tick self.now.settings moment self.now.end).sends v.items) }
     {
-        tick_sends(alloc, &self.settings, &self.table, moment)
+        prepare_all(alloc, &self.settings, &self.table, moment)
     }
 
     /// The entries after a tick. It takes no memory.
@@ -89,6 +108,6 @@ impl<S: SlotTable<PeerKey, Entry> + Drop> Responder<S> {
         ensures { self.new ≡ record self.old { end = (servers_tick self.old.settings moment self.old.end).end } }
     {
         let settings = self.settings;
-        tick(&settings, &mut self.table, moment);
+        commit_all(&settings, &mut self.table, moment);
     }
 }

@@ -5,13 +5,17 @@ use bac_server::Effect;
 /// A request was performed, for that transaction.
 #[derive(Drop)]
 pub struct Act {
+    /// Its client, and the invoke ID.
     pub key: PeerKey,
+    /// The request, and what it is answered.
     pub effect: Effect,
 }
 
 /// What an APDU made of the server's end: what is sent, in order of sending, and what was performed.
 #[derive(Drop)]
 pub struct Served {
+    /// One datagram for each APDU that is sent, in order of sending.
     pub sends: Vec<Datagram>,
+    /// The request that was performed, if any.
     pub act: Option<Act>,
 }

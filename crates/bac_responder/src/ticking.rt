@@ -8,8 +8,8 @@ ghost use Rattle.bac_responder.specs.Tables.{TableSlot, given, ticked};
 ghost use Rattle.bac_responder.specs.Views.{end_of};
 
 use crate::table::put_back;
-use bac_ends::{Datagram, PeerKey, Settings};
-use bac_server::{Context, Entry};
+use bac_ends::{Context, Datagram, PeerKey, Settings};
+use bac_server::Entry;
 use bac_slots::SlotTable;
 use bac_value::NoMemory;
 use std::alloc::Global;
@@ -25,8 +25,8 @@ fn key_at<S: SlotTable<PeerKey, Entry>>(table: &S, n: usize) -> Option<PeerKey>
     }
 }
 
-/// All entries go on. It takes no memory.
-fn commit_all<S: SlotTable<PeerKey, Entry>>(settings: &Settings, table: &mut S, moment: u64)
+/// Each entry goes on. It takes no memory.
+fn commit_each<S: SlotTable<PeerKey, Entry>>(settings: &Settings, table: &mut S, moment: u64)
     ensures slots { S.slots table.new ≡ map (given (ticked (settings_view settings.now) moment)) (S.slots table.old) }
     ensures same { S.capacity table.new ≡ S.capacity table.old }
 {
@@ -42,20 +42,24 @@ fn commit_all<S: SlotTable<PeerKey, Entry>>(settings: &Settings, table: &mut S, 
             key,
             moment,
         };
-        put_back(table, &key, entry.ticked(&context));
+        put_back(table, &key, entry.commit_tick(&context));
     }
 }
 
 /// The table after a tick. It takes no memory.
-pub(crate) fn tick<S: SlotTable<PeerKey, Entry>>(settings: &Settings, table: &mut S, moment: u64)
+pub(crate) fn commit_all<S: SlotTable<PeerKey, Entry>>(
+    settings: &Settings,
+    table: &mut S,
+    moment: u64,
+)
     ensures { end_of (S.slots table.new) (S.capacity table.new)
         ≡ (servers_tick (settings_view settings.now) moment (end_of (S.slots table.old) (S.capacity table.old))).end }
 {
-    commit_all(settings, table, moment);
+    commit_each(settings, table, moment);
 }
 
 /// What the n-th entry sends at a tick, in ascending order of keys.
-fn nth_sends<S: SlotTable<PeerKey, Entry>>(
+fn prepare_nth<S: SlotTable<PeerKey, Entry>>(
     alloc: Global,
     settings: &Settings,
     table: &S,
@@ -73,11 +77,11 @@ fn nth_sends<S: SlotTable<PeerKey, Entry>>(
         key,
         moment,
     };
-    entry.tick_sends(alloc, &context)
+    entry.prepare_tick(alloc, &context)
 }
 
 /// What all entries send at a tick, in ascending order of their keys.
-pub(crate) fn tick_sends<S: SlotTable<PeerKey, Entry>>(
+pub(crate) fn prepare_all<S: SlotTable<PeerKey, Entry>>(
     alloc: Global,
     settings: &Settings,
     table: &S,
@@ -88,7 +92,7 @@ pub(crate) fn tick_sends<S: SlotTable<PeerKey, Entry>>(
 {
     let mut sends = Vec::new(alloc);
     for n in 0..table.len() {
-        let mut more = nth_sends(alloc, settings, table, n, moment)?;
+        let mut more = prepare_nth(alloc, settings, table, n, moment)?;
         sends.append(&mut more)?;
     }
     Ok(sends)

@@ -1,5 +1,6 @@
-pub mod Pieces
-pub mod Sent
+-- Lemmas on performances, on requests that come again, and on what entries say.
 pub mod Performances
 pub mod Takings
 pub mod Copies
+pub mod Same
+pub mod Begun

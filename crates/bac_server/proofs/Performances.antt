@@ -29,7 +29,7 @@ use Rattle.bac_server.specs.Preparing.{sent_by, state_by, is_performed, Waits, I
 use Rattle.bac_server.specs.Preparing.{IsNoReject, IsSpelledReply}
 use Rattle.bac_server.specs.declared.preparing.Pending.{Pending}
 use Rattle.bac_server.specs.declared.preparing.Prepared.{Prepared}
-use Rattle.bac_server.proofs.Sent.{one_more_sent}
+use Rattle.bac_ends.proofs.Pieces.{one_more_sent}
 
 sends_reply_is : (c : Context) (e : Entry) (before : List Apdu) (octets : Octets) (reply : Reply) (way : Way ℕ) → sends_reply c e before octets reply way
     ≡ record {

@@ -55,7 +55,7 @@ pub record IsPlaced (c : Context) (peer : PeerView) (choice : ℕ) (reply : Repl
   pub performed : x.performed ≡ is_performed way
 
 -- an APDU that is kept
-pub record IsKept (peer : PeerView) (choice : ℕ) (a : Apdu) (performs : Bool) (x : Placed) : Type 0 where
+pub record IsInOneApdu (peer : PeerView) (choice : ℕ) (a : Apdu) (performs : Bool) (x : Placed) : Type 0 where
   pub placed : IsPlacedAt peer choice a (State.Done a) x.state x.last
   pub performed : x.performed ≡ performs
 

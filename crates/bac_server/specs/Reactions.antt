@@ -1,5 +1,5 @@
 -- What the calls on an entry answer, and what they leave.
-use Rattle.std.specs.Prelude.{◌≡◌, Bool, true, List, Option, Some, None, Result, Ok, Err}
+use Rattle.std.specs.Prelude.{◌≡◌, ℕ, Bool, true, List, Option, Some, None, Result, Ok, Err}
 use Rattle.bac_npdu.specs.Peers.{PeerView}
 use Rattle.bac_value.specs.declared.memory.NoMemory.{NoMemory}
 use Rattle.bac_store.specs.Stores.{Store}
@@ -46,3 +46,9 @@ abbrev pub BeginsWhereFree : Bool → Result idle.IdleReaction NoMemory → Type
 BeginsWhereFree free (Ok (Stays sends)) = Unit {0}
 BeginsWhereFree free (Ok (Begins x)) = free ≡ true
 BeginsWhereFree free (Err e) = Unit {0}
+
+-- an entry that begins, begins at that moment
+abbrev pub BeginsAt : (moment : ℕ) → Result idle.IdleReaction NoMemory → Type 0
+BeginsAt moment (Ok (Stays sends)) = Unit {0}
+BeginsAt moment (Ok (Begins x)) = x.entry.begin ≡ moment
+BeginsAt moment (Err e) = Unit {0}

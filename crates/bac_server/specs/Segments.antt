@@ -27,13 +27,6 @@ abbrev pub TakesSegment : (State → server.Reaction) → PeerView → Origin �
 TakesSegment r peer origin inc s (Ok x) t = (z : State) → IsReacted (r z) peer s x t
 TakesSegment r peer origin inc s (Err old) t = (old.0 ≡ origin) × (old.1 ≡ inc) × (t ≡ s)
 
--- the SegmentACK of a segment that is not the last
-abbrev pub acks_of : Context → (number window taken : ℕ) → Step → List Apdu
-acks_of c number window taken (step.Taken false) = []
-acks_of c number window taken (step.Taken true) = server_ack c false number window ∷ []
-acks_of c number window taken step.Whole = server_ack c false number window ∷ []
-acks_of c number window taken step.Nak = server_ack c true ((taken - 1) % 256) window ∷ []
-
 -- all of a performance but its commit, after the SegmentACK of the last segment
 pub record IsWhole (c : Context) (peer : PeerView) (choice : ℕ) (limits : Limits) (s : Store) (number window : ℕ) (octets : Octets)
     (state : code.State) (sent : List Datagram) (pending : Option Pending) : Type 0 where

@@ -2,7 +2,7 @@
 ghost use Rattle.std.specs.Prelude.{◌≡◌};
 ghost use Rattle.bac_protocol.specs.Server.{is_live};
 
-use crate::kept::Kept;
+use crate::kept_reply::KeptReply;
 use bac_apdu::Limits;
 use bac_protocol::times::KEEP;
 use bac_segment::{Incoming, Outgoing};
@@ -42,7 +42,7 @@ pub(crate) enum State {
     /// A reply of one APDU is kept, with its invoke ID.
     Done {
         invoke_id: u8,
-        kept: Kept,
+        kept: KeptReply,
     },
     /// A reply in segments is kept; `since` is the moment from which its timer runs.
     SegmentedResponse {
@@ -74,8 +74,12 @@ impl Model for Entry {
 }
 
 impl Entry {
+    ghost use Rattle.bac_server.specs.Views.{no_entry};
+
     /// An entry of no request, without memory: it holds the place of one that is taken out of its slot.
-    pub fn placeholder() -> Entry {
+    pub fn placeholder() -> Entry
+        ensures { result ≡ no_entry }
+    {
         let limits = Limits {
             max_apdu: 0,
             takes_segments: false,

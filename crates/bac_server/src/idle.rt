@@ -1,20 +1,20 @@
 //! IDLE (clause 5.4.5.1): an APDU where no entry of its key is live.
 ghost use Rattle.std.specs.Prelude.{◌≡◌};
 ghost use Rattle.bac_apdu.specs.Views.{apdu_view, limits_view, segment_view};
-ghost use Rattle.bac_protocol.specs.Server.{idle_gets as gets, idle_gets_request, idle_gets_segment};
-ghost use Rattle.bac_server.specs.Reactions.{IdleReacts, BeginsWhereFree};
+ghost use Rattle.bac_protocol.specs.Server as machine;
+ghost use Rattle.bac_server.specs.Reactions.{IdleReacts, BeginsAt, BeginsWhereFree};
 ghost use Rattle.bac_server.specs.Services.{service_of};
-ghost use Rattle.bac_server.specs.Views.{context_view, peer_of};
+ghost use Rattle.bac_ends.specs.Views.{context_view, peer_of};
 
-use crate::context::Context;
 use crate::entry::{Entry, Origin, Terms};
 use crate::performing::commit;
 use crate::preparing::{Prepared, prepare};
 use crate::reaction::{IdleReaction, Reaction};
 use crate::reading::read_whole;
 use crate::segmented_request::take_segment;
-use crate::sending::{OTHER, abort};
 use bac_apdu::{Apdu, Segment};
+use bac_ends::{Context, only_abort};
+use bac_protocol::reasons::OTHER;
 use bac_segment::Incoming;
 use bac_store::Store;
 use bac_value::NoMemory;
@@ -29,12 +29,12 @@ fn request_comes(
     octets: &[u8],
     store: &mut Store,
 ) -> Result<IdleReaction, NoMemory>
-    ensures does { IdleReacts (λ dead. idle_gets_request (context_view context.now) (service_of store.old) dead free terms.choice (limits_view terms.limits)
+    ensures does { IdleReacts (λ dead. machine.idle_gets_request (context_view context.now) (service_of store.old) dead free terms.choice (limits_view terms.limits)
         octets.now) (peer_of context.now) store.old result store.new }
     ensures free { BeginsWhereFree free result }
 {
     if !free {
-        let sends = abort(alloc, context, OTHER)?;
+        let sends = only_abort(alloc, context, true, OTHER)?;
         return Ok(IdleReaction::Stays(sends));
     }
     let found = read_whole(alloc, terms.choice, octets)?;
@@ -69,7 +69,7 @@ fn segment_comes(
     octets: &[u8],
     store: &mut Store,
 ) -> Result<IdleReaction, NoMemory>
-    ensures does { IdleReacts (λ dead. idle_gets_segment (context_view context.now) (service_of store.old) dead free terms.choice (limits_view terms.limits)
+    ensures does { IdleReacts (λ dead. machine.idle_gets_segment (context_view context.now) (service_of store.old) dead free terms.choice (limits_view terms.limits)
         (segment_view segment) octets.now) (peer_of context.now) store.old result store.new }
     ensures free { BeginsWhereFree free result }
 {
@@ -77,7 +77,7 @@ fn segment_comes(
         return Ok(IdleReaction::Stays(Vec::new(alloc)));
     }
     if !free {
-        let sends = abort(alloc, context, OTHER)?;
+        let sends = only_abort(alloc, context, true, OTHER)?;
         return Ok(IdleReaction::Stays(sends));
     }
     let origin = Origin {
@@ -103,9 +103,10 @@ pub fn idle_gets(
     apdu: &Apdu<'_>,
     store: &mut Store,
 ) -> Result<IdleReaction, NoMemory>
-    ensures does { IdleReacts (λ dead. gets (context_view context.now) (service_of store.old) dead free (apdu_view apdu.now)) (peer_of context.now)
+    ensures does { IdleReacts (λ dead. machine.idle_gets (context_view context.now) (service_of store.old) dead free (apdu_view apdu.now)) (peer_of context.now)
         store.old result store.new }
     ensures free { BeginsWhereFree free result }
+    ensures begin { BeginsAt context.now.moment result }
 {
     let Apdu::ConfirmedRequest {
         limits,

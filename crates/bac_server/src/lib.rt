@@ -5,11 +5,11 @@
 //! store are as before.
 #![tactic(auto)]
 
-mod context;
+mod comparing;
 mod effect;
 mod entry;
 mod idle;
-mod kept;
+mod kept_reply;
 mod live;
 mod performing;
 mod placing;
@@ -19,15 +19,10 @@ mod reading;
 mod repeats;
 mod segmented_request;
 mod segmented_response;
-mod sending;
 mod tick;
 
-pub use context::Context;
 pub use effect::Effect;
 pub use entry::Entry;
 pub use idle::idle_gets;
 pub use live::live_gets;
 pub use reaction::{IdleReaction, Reaction};
-
-#[cfg(test)]
-mod tests;

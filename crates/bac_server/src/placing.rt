@@ -8,15 +8,16 @@ ghost use Rattle.bac_protocol.specs.Service.Reply.{Complex};
 ghost use Rattle.bac_protocol.specs.Sizes.{reply_way_of, reply_way_in_segments};
 ghost use Rattle.bac_protocol.specs.Sizes.Way.{InSegments};
 ghost use Rattle.bac_protocol.specs.Short.{IsShort};
-ghost use Rattle.bac_server.specs.Preparing.{IsPlaced, IsKept};
-ghost use Rattle.bac_server.specs.Views.{context_view, peer_of, spelled_view, kept_view, ArePiecesShort};
+ghost use Rattle.bac_server.specs.Preparing.{IsPlaced, IsInOneApdu};
+ghost use Rattle.bac_ends.specs.Views.{context_view, peer_of};
+ghost use Rattle.bac_ends.specs.Segments.{ArePiecesShort};
+ghost use Rattle.bac_server.specs.Views.{LONGEST_PIECE, spelled_view, kept_reply_view};
 
-use crate::context::Context;
 use crate::entry::{State, Terms, Transfer};
-use crate::kept::{Kept, SpelledReply};
-use crate::sending::{BUFFER_OVERFLOW, SEGMENTATION_NOT_SUPPORTED};
+use crate::kept_reply::{KeptReply, SpelledReply};
 use bac_apdu::{Apdu, Segment};
-use bac_ends::{Datagram, allows_segments, datagram_of, transfer_size};
+use bac_ends::{Context, Datagram, allows_segments, datagram_of, transfer_size};
+use bac_protocol::reasons::{BUFFER_OVERFLOW, SEGMENTATION_NOT_SUPPORTED};
 use bac_segment::Outgoing;
 use bac_value::NoMemory;
 use std::alloc::Global;
@@ -59,15 +60,15 @@ pub(crate) fn piece_apdu<'a>(
 }
 
 /// A reply of one APDU is kept.
-pub(crate) fn keeps(
+pub(crate) fn in_one_apdu(
     alloc: Global,
     context: &Context,
     choice: u8,
-    kept: Kept,
+    kept: KeptReply,
     performed: bool,
 ) -> Result<Placed, NoMemory>
-    requires { IsShort (kept_view context.now.key.invoke_id choice kept) }
-    ensures { IfOk result (IsKept (peer_of context.now) choice (kept_view context.now.key.invoke_id choice kept) performed) }
+    requires { IsShort (kept_reply_view context.now.key.invoke_id choice kept) }
+    ensures { IfOk result (IsInOneApdu (peer_of context.now) choice (kept_reply_view context.now.key.invoke_id choice kept) performed) }
 {
     let invoke_id = context.key.invoke_id;
     let last = datagram_of(alloc, &context.key.peer, &kept.as_apdu(invoke_id, choice))?;
@@ -88,7 +89,7 @@ fn transfers(
 ) -> Result<Placed, NoMemory>
     requires some { 0 < length outgoing.pieces }
     requires start { outgoing ≡ outgoing_at outgoing.pieces }
-    requires short { ArePiecesShort outgoing }
+    requires short { ArePiecesShort LONGEST_PIECE outgoing }
     ensures { IfOk result (IsPlaced (context_view context.now) (peer_of context.now) choice (Complex []) (InSegments outgoing.pieces)) }
 {
     let first = piece_apdu(context, choice, &outgoing, 0);
@@ -105,7 +106,7 @@ fn transfers(
 }
 
 /// How service data that do not fit one APDU of that size go.
-#[tactic(auto, using(bac_ends::proofs::Short::short_abort, crate::proofs::Pieces::pieces_short, crate::proofs::Pieces::some_piece))]
+#[tactic(auto, using(bac_ends::proofs::Short::short_abort, bac_ends::proofs::Pieces::pieces_short, bac_ends::proofs::Pieces::some_piece))]
 fn in_segments(
     alloc: Global,
     context: &Context,
@@ -121,14 +122,20 @@ fn in_segments(
 {
     let choice = terms.choice;
     if !terms.limits.takes_segments {
-        let refusal = Kept::Abort(SEGMENTATION_NOT_SUPPORTED);
-        return keeps(alloc, context, choice, refusal, false);
+        let refusal = KeptReply::Abort(SEGMENTATION_NOT_SUPPORTED);
+        return in_one_apdu(alloc, context, choice, refusal, false);
     }
     let outgoing = Outgoing::new(octets, size - SEGMENT_HEAD);
     if allows_segments(terms.limits.max_segments, outgoing.count()) {
         transfers(alloc, context, choice, outgoing)
     } else {
-        keeps(alloc, context, choice, Kept::Abort(BUFFER_OVERFLOW), false)
+        in_one_apdu(
+            alloc,
+            context,
+            choice,
+            KeptReply::Abort(BUFFER_OVERFLOW),
+            false,
+        )
     }
 }
 
@@ -149,9 +156,9 @@ pub(crate) fn by_way(
             if octets.len() > size - WHOLE_HEAD {
                 return in_segments(alloc, context, terms, octets, size);
             }
-            let kept = Kept::Reply(SpelledReply::Complex(octets));
-            keeps(alloc, context, terms.choice, kept, true)
+            let kept = KeptReply::Reply(SpelledReply::Complex(octets));
+            in_one_apdu(alloc, context, terms.choice, kept, true)
         }
-        reply => keeps(alloc, context, terms.choice, Kept::Reply(reply), true),
+        reply => in_one_apdu(alloc, context, terms.choice, KeptReply::Reply(reply), true),
     }
 }

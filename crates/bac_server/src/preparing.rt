@@ -7,13 +7,13 @@ ghost use Rattle.bac_protocol.specs.Service.Outcome.{Replies};
 ghost use Rattle.bac_server.specs.Preparing.{IsPrepared, IsReady, IsRejected, IsNoReject, IsSpelledReply};
 ghost use Rattle.bac_server.specs.Reading.{HasChoice, found_view};
 ghost use Rattle.bac_server.specs.Services.{outcome_of};
-ghost use Rattle.bac_server.specs.Views.{context_view, peer_of, spelled_view};
+ghost use Rattle.bac_ends.specs.Views.{context_view, peer_of};
+ghost use Rattle.bac_server.specs.Views.{spelled_view};
 
-use crate::context::Context;
 use crate::entry::{State, Terms};
-use crate::kept::{Kept, SpelledReply};
-use crate::placing::{Placed, by_way, keeps};
-use bac_ends::Datagram;
+use crate::kept_reply::{KeptReply, SpelledReply};
+use crate::placing::{Placed, by_way, in_one_apdu};
+use bac_ends::{Context, Datagram};
 use bac_service::{AnyReply, OwnedRequest, Reply, write_reply};
 use bac_store::{Planned, Store};
 use bac_value::NoMemory;
@@ -99,7 +99,13 @@ fn prepare_reject(
         state,
         last,
         performed: _,
-    } = keeps(alloc, context, terms.choice, Kept::Reject(reason), false)?;
+    } = in_one_apdu(
+        alloc,
+        context,
+        terms.choice,
+        KeptReply::Reject(reason),
+        false,
+    )?;
     Ok(Prepared {
         state,
         last,

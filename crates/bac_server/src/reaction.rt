@@ -11,8 +11,11 @@ use std::alloc::Global;
 /// What an APDU made of an entry: the entry after it, what is sent, in order of sending, and what was performed.
 #[derive(Drop)]
 pub struct Reaction {
+    /// The entry after it.
     pub entry: Entry,
+    /// One datagram for each APDU that is sent, in order of sending.
     pub sends: Vec<Datagram>,
+    /// The request that was performed, if any.
     pub effect: Option<Effect>,
 }
 

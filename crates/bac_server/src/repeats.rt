@@ -21,7 +21,7 @@ pub(crate) fn is_repeated(
     match segment {
         None => match &origin.request {
             None => false,
-            Some(kept) => choice == origin.terms.choice && octets == kept.as_slice(),
+            Some(first) => choice == origin.terms.choice && octets == first.as_slice(),
         },
         Some(_) => origin.request.is_none(),
     }

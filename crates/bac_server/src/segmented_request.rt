@@ -6,22 +6,22 @@ ghost use Rattle.bac_segment.specs.Pieces.{join};
 ghost use Rattle.bac_segment.specs.Window.{takes};
 ghost use Rattle.bac_segment.specs.declared.incoming.Step.TheVariants as step;
 ghost use Rattle.bac_protocol.specs.Server.State.{SegmentedRequest, Dropped};
-ghost use Rattle.bac_protocol.specs.Server.{request_segment_taken, segmented_request_gets, segmented_request_gets_segment};
+ghost use Rattle.bac_protocol.specs.Server as machine;
 ghost use Rattle.bac_ends.specs.Sends.{Pairwise, IsSent, to_all};
 ghost use Rattle.bac_server.specs.Reactions.{Reacts};
-ghost use Rattle.bac_server.specs.Segments.{TakesSegment, IsWhole, IsGiven, Gives, acks_of};
+ghost use Rattle.bac_server.specs.Segments.{TakesSegment, IsWhole, IsGiven, Gives};
 ghost use Rattle.bac_server.specs.Services.{service_of};
-ghost use Rattle.bac_server.specs.Views.{context_view, peer_of, entry_of};
+ghost use Rattle.bac_ends.specs.Views.{context_view, peer_of};
+ghost use Rattle.bac_server.specs.Views.{entry_of};
 
-use crate::context::Context;
 use crate::entry::{Entry, Origin, State, Terms};
 use crate::performing::commit;
 use crate::preparing::{Pending, Prepared, prepare};
 use crate::reaction::Reaction;
 use crate::reading::read_segments;
-use crate::sending::{BUFFER_OVERFLOW, OTHER, abort, acknowledge};
-use bac_apdu::{Apdu, Segment, Window};
-use bac_ends::Datagram;
+use bac_apdu::{Apdu, Segment};
+use bac_ends::{Context, Datagram, only_abort, only_ack, step_acks};
+use bac_protocol::reasons::{BUFFER_OVERFLOW, OTHER};
 use bac_protocol::times::WAIT_SEG;
 use bac_segment::{Incoming, Step};
 use bac_store::Store;
@@ -48,7 +48,7 @@ fn prepare_whole(
     ensures { IfOk result (λ w. IsWhole (context_view context.now) (peer_of context.now) terms.choice (limits_view terms.limits) store.now number
         incoming.now.window (join incoming.now.parts) w.state w.sends.items w.pending) }
 {
-    let mut sends = acknowledge(alloc, context, false, number, incoming.window())?;
+    let mut sends = only_ack(alloc, context, true, false, number, incoming.window())?;
     let found = read_segments(alloc, terms.choice, incoming)?;
     let Prepared {
         state,
@@ -63,30 +63,6 @@ fn prepare_whole(
     })
 }
 
-/// What a segment that is not the last is answered.
-fn step_sends(
-    alloc: Global,
-    context: &Context,
-    number: u8,
-    incoming: &Incoming,
-    step: Step,
-) -> Result<Vec<Datagram>, NoMemory>
-    ensures { IfOk result (λ v. Pairwise IsSent (to_all (peer_of context.now) (acks_of (context_view context.now) number incoming.now.window
-        (length incoming.now.parts) step)) v.items) }
-{
-    let window = incoming.window();
-    match step {
-        Step::Taken { ack: false } => Ok(Vec::new(alloc)),
-        Step::Taken { ack: true } | Step::Whole => acknowledge(
-            alloc, context, false, number, window,
-        ),
-        Step::Nak => {
-            let number = (incoming.taken().saturating_sub(1) % 256) as u8;
-            acknowledge(alloc, context, true, number, window)
-        }
-    }
-}
-
 /// The last segment comes: the request is performed. Where memory runs out, the segment is taken back.
 fn last_segment(
     alloc: Global,
@@ -98,7 +74,7 @@ fn last_segment(
     store: &mut Store,
 ) -> Result<Reaction, (Origin, Incoming)>
     requires { Ok step.Whole ≡ answer_of (takes incoming segment.number segment.more octets.now) }
-    ensures { TakesSegment (λ z. request_segment_taken (context_view context.now) (service_of store.old) (entry_of origin z) segment.number incoming.window
+    ensures { TakesSegment (λ z. machine.request_segment_taken (context_view context.now) (service_of store.old) (entry_of origin z) segment.number incoming.window
         (takes incoming segment.number segment.more octets.now)) (peer_of context.now) origin incoming store.old result store.new }
 {
     let unacknowledged = incoming.unacknowledged();
@@ -147,13 +123,13 @@ pub(crate) fn take_segment(
     octets: &[u8],
     store: &mut Store,
 ) -> Result<Reaction, (Origin, Incoming)>
-    ensures { TakesSegment (λ z. request_segment_taken (context_view context.now) (service_of store.old) (entry_of origin z) segment.number incoming.window
+    ensures { TakesSegment (λ z. machine.request_segment_taken (context_view context.now) (service_of store.old) (entry_of origin z) segment.number incoming.window
         (takes incoming segment.number segment.more octets.now)) (peer_of context.now) origin incoming store.old result store.new }
 {
     let step = match incoming.answer(segment.number, segment.more, octets) {
         Ok(step) => step,
         Err(_) => {
-            let Ok(sends) = abort(alloc, context, BUFFER_OVERFLOW) else {
+            let Ok(sends) = only_abort(alloc, context, true, BUFFER_OVERFLOW) else {
                 return Err((origin, incoming));
             };
             return Ok(dropped(origin, sends));
@@ -162,7 +138,8 @@ pub(crate) fn take_segment(
     if let Step::Whole = step {
         return last_segment(alloc, context, origin, incoming, segment, octets, store);
     }
-    let Ok(sends) = step_sends(alloc, context, segment.number, &incoming, step) else {
+    let (window, taken) = (incoming.window(), incoming.taken());
+    let Ok(sends) = step_acks(alloc, context, true, segment.number, window, taken, step) else {
         return Err((origin, incoming));
     };
     let Ok(_) = incoming.on_segment(segment.number, segment.more, octets) else {
@@ -179,8 +156,8 @@ pub(crate) fn take_segment(
     })
 }
 
-/// The reassembly stays, with these sends.
-fn stays(origin: Origin, incoming: Incoming, since: u64) -> Entry
+/// An entry whose request is received in segments.
+fn with_reassembly(origin: Origin, incoming: Incoming, since: u64) -> Entry
     ensures { result ≡ entry_of origin (SegmentedRequest incoming since) }
 {
     Entry {
@@ -200,23 +177,23 @@ fn segment_comes(
     octets: &[u8],
     store: &mut Store,
 ) -> Result<Reaction, Entry>
-    ensures { Reacts (segmented_request_gets_segment (context_view context.now) (service_of store.old) (entry_of origin (SegmentedRequest incoming since))
+    ensures { Reacts (machine.segmented_request_gets_segment (context_view context.now) (service_of store.old) (entry_of origin (SegmentedRequest incoming since))
         incoming since (segment_view segment) octets.now) (peer_of context.now) (entry_of origin (SegmentedRequest incoming since)) store.old result store.new }
 {
     if context.moment.saturating_sub(since) >= WAIT_SEG {
-        let Ok(sends) = abort(alloc, context, OTHER) else {
-            return Err(stays(origin, incoming, since));
+        let Ok(sends) = only_abort(alloc, context, true, OTHER) else {
+            return Err(with_reassembly(origin, incoming, since));
         };
         return Ok(dropped(origin, sends));
     }
     match take_segment(alloc, context, origin, incoming, segment, octets, store) {
         Ok(reaction) => Ok(reaction),
-        Err((origin, incoming)) => Err(stays(origin, incoming, since)),
+        Err((origin, incoming)) => Err(with_reassembly(origin, incoming, since)),
     }
 }
 
 /// An APDU comes while a request is received in segments.
-pub(crate) fn receiving_gets(
+pub(crate) fn segmented_request_gets(
     alloc: Global,
     context: &Context,
     origin: Origin,
@@ -225,7 +202,7 @@ pub(crate) fn receiving_gets(
     apdu: &Apdu<'_>,
     store: &mut Store,
 ) -> Result<Reaction, Entry>
-    ensures { Reacts (segmented_request_gets (context_view context.now) (service_of store.old) (entry_of origin (SegmentedRequest incoming since))
+    ensures { Reacts (machine.segmented_request_gets (context_view context.now) (service_of store.old) (entry_of origin (SegmentedRequest incoming since))
         incoming since (apdu_view apdu.now)) (peer_of context.now) (entry_of origin (SegmentedRequest incoming since)) store.old result store.new }
 {
     match *apdu {
@@ -235,7 +212,7 @@ pub(crate) fn receiving_gets(
             ..
         } => {
             let Some(segment) = segment else {
-                let entry = stays(origin, incoming, since);
+                let entry = with_reassembly(origin, incoming, since);
                 return Ok(Reaction::silent(alloc, entry));
             };
             segment_comes(
@@ -244,7 +221,7 @@ pub(crate) fn receiving_gets(
         }
         Apdu::Abort { server: false, .. } => Ok(dropped(origin, Vec::new(alloc))),
         _ => {
-            let entry = stays(origin, incoming, since);
+            let entry = with_reassembly(origin, incoming, since);
             Ok(Reaction::silent(alloc, entry))
         }
     }

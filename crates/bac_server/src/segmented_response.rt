@@ -1,22 +1,23 @@
 //! SEGMENTED_RESPONSE (clause 5.4.5.4): a reply that goes in segments.
 ghost use Rattle.std.specs.Prelude.{◌≡◌, IfOk};
 ghost use Rattle.bac_apdu.specs.Views.{apdu_view};
-ghost use Rattle.bac_protocol.specs.Server.{reply_window, segmented_response_gets, segmented_response_gets_ack, resumes, sends_reply_window};
+ghost use Rattle.bac_protocol.specs.Server as machine;
 ghost use Rattle.bac_protocol.specs.Server.State.{SegmentedResponse};
 ghost use Rattle.bac_store.specs.Stores.{Store as Objects};
 ghost use Rattle.bac_ends.specs.Sends.{Pairwise, IsSent, to_all};
 ghost use Rattle.bac_server.specs.Reactions.{Reacts};
 ghost use Rattle.bac_server.specs.Segments.{SendsWindow};
-ghost use Rattle.bac_server.specs.Views.{context_view, peer_of, entry_of, transfer_view, ArePiecesShort};
+ghost use Rattle.bac_ends.specs.Views.{context_view, peer_of};
+ghost use Rattle.bac_ends.specs.Segments.{ArePiecesShort};
+ghost use Rattle.bac_server.specs.Views.{LONGEST_PIECE, entry_of, transfer_view};
 
-use crate::context::Context;
 use crate::entry::{Entry, Origin, State, Transfer};
 use crate::placing::piece_apdu;
 use crate::reaction::Reaction;
 use crate::repeats::is_repeated;
-use crate::sending::{OTHER, abort};
 use bac_apdu::{Apdu, Window};
-use bac_ends::{Datagram, datagram_of};
+use bac_ends::{Context, Datagram, datagram_of, only_abort};
+use bac_protocol::reasons::OTHER;
 use bac_segment::{Outgoing, Progress};
 use bac_value::NoMemory;
 use std::alloc::Global;
@@ -29,8 +30,8 @@ pub(crate) fn window_sends(
     choice: u8,
     outgoing: &Outgoing,
 ) -> Result<Vec<Datagram>, NoMemory>
-    requires { ArePiecesShort outgoing.now }
-    ensures { IfOk result (λ v. Pairwise IsSent (to_all (peer_of context.now) (reply_window (context_view context.now) choice outgoing.now)) v.items) }
+    requires { ArePiecesShort LONGEST_PIECE outgoing.now }
+    ensures { IfOk result (λ v. Pairwise IsSent (to_all (peer_of context.now) (machine.reply_window (context_view context.now) choice outgoing.now)) v.items) }
 {
     let mut sends = Vec::new(alloc);
     let window = outgoing.window();
@@ -49,8 +50,8 @@ fn runs(
     origin: Origin,
     outgoing: Outgoing,
 ) -> Result<Reaction, (Origin, Outgoing)>
-    requires { ArePiecesShort outgoing }
-    ensures { SendsWindow (λ z. sends_reply_window (context_view context.now) (entry_of origin z) outgoing) (peer_of context.now) origin outgoing result }
+    requires { ArePiecesShort LONGEST_PIECE outgoing }
+    ensures { SendsWindow (λ z. machine.sends_reply_window (context_view context.now) (entry_of origin z) outgoing) (peer_of context.now) origin outgoing result }
 {
     let Ok(sends) = window_sends(alloc, context, origin.terms.choice, &outgoing) else {
         return Err((origin, outgoing));
@@ -68,8 +69,13 @@ fn runs(
 }
 
 /// An entry with a reply in segments.
-pub(crate) fn kept(origin: Origin, outgoing: Outgoing, transfer: Transfer, since: u64) -> Entry
-    requires { ArePiecesShort outgoing }
+pub(crate) fn with_transfer(
+    origin: Origin,
+    outgoing: Outgoing,
+    transfer: Transfer,
+    since: u64,
+) -> Entry
+    requires { ArePiecesShort LONGEST_PIECE outgoing }
     ensures { result ≡ entry_of origin (SegmentedResponse outgoing (transfer_view transfer) since) }
 {
     Entry {
@@ -91,12 +97,12 @@ fn resume(
     transfer: Transfer,
     since: u64,
 ) -> Result<Reaction, Entry>
-    requires { ArePiecesShort outgoing }
-    ensures { (s : Objects) → Reacts (resumes (context_view context.now) (entry_of origin (SegmentedResponse outgoing (transfer_view transfer) since)) outgoing
+    requires { ArePiecesShort LONGEST_PIECE outgoing }
+    ensures { (s : Objects) → Reacts (machine.resumes (context_view context.now) (entry_of origin (SegmentedResponse outgoing (transfer_view transfer) since)) outgoing
         (transfer_view transfer)) (peer_of context.now) (entry_of origin (SegmentedResponse outgoing (transfer_view transfer) since)) s result s }
 {
     let Transfer::Stopped = transfer else {
-        let entry = kept(origin, outgoing, transfer, since);
+        let entry = with_transfer(origin, outgoing, transfer, since);
         return Ok(Reaction::silent(alloc, entry));
     };
     let was = outgoing.position();
@@ -105,7 +111,7 @@ fn resume(
         Ok(reaction) => Ok(reaction),
         Err((origin, mut outgoing)) => {
             outgoing.go_back(was);
-            Err(kept(origin, outgoing, transfer, since))
+            Err(with_transfer(origin, outgoing, transfer, since))
         }
     }
 }
@@ -121,34 +127,37 @@ fn ack_comes(
     number: u8,
     window: Window,
 ) -> Result<Reaction, Entry>
-    requires { ArePiecesShort outgoing }
-    ensures { (s : Objects) → Reacts (segmented_response_gets_ack (context_view context.now)
+    requires { ArePiecesShort LONGEST_PIECE outgoing }
+    ensures { (s : Objects) → Reacts (machine.segmented_response_gets_ack (context_view context.now)
         (entry_of origin (SegmentedResponse outgoing (transfer_view transfer) since)) outgoing (transfer_view transfer) number window.size)
         (peer_of context.now) (entry_of origin (SegmentedResponse outgoing (transfer_view transfer) since)) s result s }
 {
     let Transfer::Running = transfer else {
-        let entry = kept(origin, outgoing, transfer, since);
+        let entry = with_transfer(origin, outgoing, transfer, since);
         return Ok(Reaction::silent(alloc, entry));
     };
     let was = outgoing.position();
     match outgoing.on_ack(number, window, context.settings.window) {
-        Progress::Ignored => Ok(Reaction::silent(alloc, kept(origin, outgoing, transfer, since))),
+        Progress::Ignored => Ok(Reaction::silent(
+            alloc,
+            with_transfer(origin, outgoing, transfer, since),
+        )),
         Progress::Finished => {
-            let entry = kept(origin, outgoing, Transfer::Finished, context.moment);
+            let entry = with_transfer(origin, outgoing, Transfer::Finished, context.moment);
             Ok(Reaction::silent(alloc, entry))
         }
         Progress::Moved => match runs(alloc, context, origin, outgoing) {
             Ok(reaction) => Ok(reaction),
             Err((origin, mut outgoing)) => {
                 outgoing.go_back(was);
-                Err(kept(origin, outgoing, transfer, since))
+                Err(with_transfer(origin, outgoing, transfer, since))
             }
         },
     }
 }
 
 /// An APDU comes for an entry whose reply goes in segments.
-pub(crate) fn responding_gets(
+pub(crate) fn segmented_response_gets(
     alloc: Global,
     context: &Context,
     origin: Origin,
@@ -157,8 +166,8 @@ pub(crate) fn responding_gets(
     since: u64,
     apdu: &Apdu<'_>,
 ) -> Result<Reaction, Entry>
-    requires { ArePiecesShort outgoing }
-    ensures { (s : Objects) → Reacts (segmented_response_gets (context_view context.now)
+    requires { ArePiecesShort LONGEST_PIECE outgoing }
+    ensures { (s : Objects) → Reacts (machine.segmented_response_gets (context_view context.now)
         (entry_of origin (SegmentedResponse outgoing (transfer_view transfer) since)) outgoing (transfer_view transfer) since (apdu_view apdu.now))
         (peer_of context.now) (entry_of origin (SegmentedResponse outgoing (transfer_view transfer) since)) s result s }
 {
@@ -172,8 +181,8 @@ pub(crate) fn responding_gets(
             if is_repeated(&origin, segment, choice, service) {
                 return resume(alloc, context, origin, outgoing, transfer, since);
             }
-            let entry = kept(origin, outgoing, transfer, since);
-            Reaction::with_sends(entry, abort(alloc, context, OTHER))
+            let entry = with_transfer(origin, outgoing, transfer, since);
+            Reaction::with_sends(entry, only_abort(alloc, context, true, OTHER))
         }
         Apdu::SegmentAck {
             server,
@@ -182,7 +191,7 @@ pub(crate) fn responding_gets(
             ..
         } => {
             if server {
-                let entry = kept(origin, outgoing, transfer, since);
+                let entry = with_transfer(origin, outgoing, transfer, since);
                 return Ok(Reaction::silent(alloc, entry));
             }
             ack_comes(
@@ -190,11 +199,11 @@ pub(crate) fn responding_gets(
             )
         }
         Apdu::Abort { server: false, .. } => {
-            let entry = kept(origin, outgoing, Transfer::Finished, since);
+            let entry = with_transfer(origin, outgoing, Transfer::Finished, since);
             Ok(Reaction::silent(alloc, entry))
         }
         _ => {
-            let entry = kept(origin, outgoing, transfer, since);
+            let entry = with_transfer(origin, outgoing, transfer, since);
             Ok(Reaction::silent(alloc, entry))
         }
     }

@@ -45,6 +45,3 @@ pub use request_reading::read_request;
 pub use request_writing::write_request;
 pub use service::{ATOMIC_READ_FILE, ATOMIC_WRITE_FILE, READ_PROPERTY, Service, WRITE_PROPERTY};
 pub use value::{Content, Priority, PropertyReference, Records};
-
-#[cfg(test)]
-mod tests;

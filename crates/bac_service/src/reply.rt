@@ -5,8 +5,11 @@ use bac_value::Data;
 /// What was read of a file (clause 14.1): octets from a position on, and whether they reach the file's end.
 #[derive(Clone, Copy, Debug, Drop)]
 pub struct FileRead<C> {
+    /// Whether the file ends with these octets.
     pub end_of_file: bool,
+    /// The position of the first octet.
     pub start: i64,
+    /// The octets.
     pub content: C,
 }
 
@@ -20,7 +23,9 @@ pub enum FileWritten {
 /// What a property is (clause 15.5).
 #[derive(Clone, Copy, Debug, Drop)]
 pub struct PropertyRead<D> {
+    /// The property that was read.
     pub reference: PropertyReference,
+    /// Its values.
     pub values: D,
 }
 

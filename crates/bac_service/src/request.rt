@@ -12,21 +12,27 @@ pub enum ReadAccess {
 /// Which file is read, and where (clause 14.1).
 #[derive(Clone, Copy, Debug, PartialEq, Eq)]
 pub struct ReadFile {
+    /// The file.
     pub file: ObjectIdentifier,
+    /// Where, and how much.
     pub access: ReadAccess,
 }
 
 /// Octets of a file from a position on; position -1 appends.
 #[derive(Clone, Copy, Debug, Drop)]
 pub struct WriteStream<C> {
+    /// The position of the first octet, or -1 for the file's end.
     pub start: i64,
+    /// The octets.
     pub content: C,
 }
 
 /// Records of a file from a record on; record -1 appends.
 #[derive(Clone, Copy, Debug, Drop)]
 pub struct WriteRecords<R> {
+    /// The number of the first record, or -1 for the file's end.
     pub start: i64,
+    /// The records.
     pub records: R,
 }
 
@@ -40,15 +46,20 @@ pub enum WriteAccess<C, R> {
 /// Which file is written, where, and what (clause 14.2).
 #[derive(Clone, Copy, Debug, Drop)]
 pub struct WriteFile<C, R> {
+    /// The file.
     pub file: ObjectIdentifier,
+    /// Where, and what.
     pub access: WriteAccess<C, R>,
 }
 
 /// What a property is to be (clause 15.9). The priority is for commandable properties.
 #[derive(Clone, Copy, Debug, Drop)]
 pub struct WriteProperty<D> {
+    /// The property.
     pub reference: PropertyReference,
+    /// What it is to be.
     pub values: D,
+    /// The priority, where one is given.
     pub priority: Option<Priority>,
 }
 

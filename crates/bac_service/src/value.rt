@@ -10,14 +10,18 @@ use bac_value::ObjectIdentifier;
 /// array has (clause 15.5).
 #[derive(Clone, Copy, Debug, PartialEq, Eq)]
 pub struct PropertyReference {
+    /// The object.
     pub object: ObjectIdentifier,
+    /// The property's number (BACnetPropertyIdentifier).
     pub property: u32,
+    /// Which element of an array; None for the whole property.
     pub index: Option<u32>,
 }
 
 /// A priority for writing, 1 (highest) to 16 (clause 19.2).
 #[derive(Clone, Copy, Debug, PartialEq, Eq)]
 pub struct Priority {
+    /// 1 (highest) to 16 (lowest).
     pub number: u8,
     pub ghost least: { 0 < number },
     pub ghost most: { number ≤ 16 },
@@ -40,6 +44,7 @@ impl Priority {
 /// What a file is to hold: at most `2^32 - 1` octets.
 #[derive(Clone, Copy, Debug)]
 pub struct Content<'a> {
+    /// The octets.
     pub octets: &'a [u8],
     pub ghost fits: { length octets.now < 2 ^ 32 },
 }
@@ -61,7 +66,9 @@ impl<'a> Content<'a> {
 /// Records of a file: so many octet strings, each spelled with its application tag, one after the other.
 #[derive(Clone, Copy, Debug)]
 pub struct Records<'a> {
+    /// The octet strings, each with its tag, one after the other.
     pub run: &'a [u8],
+    /// How many there are.
     pub count: u64,
     pub ghost counted: { ∥ AreStrings count run.now ∥₁ },
 }

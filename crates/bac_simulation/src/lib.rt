@@ -23,3 +23,6 @@ pub use transaction::Transaction;
 pub fn runs_can_go_on()
     ensures { RunsCanGoOn }
 {}
+
+#[cfg(test)]
+mod tests;

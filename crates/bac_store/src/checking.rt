@@ -12,12 +12,12 @@ ghost use Rattle.bac_store.specs.Views.{property_view, file_view};
 
 use crate::kind::{is_of_kind, is_state};
 use crate::limits::{
-    ANALOG_INPUT, ANALOG_VALUE, ANY_INSTANCE, BINARY_VALUE, CHARACTERS, DESCRIPTION, DEVICE, FILE,
-    FILE_LIMIT, FIRST_VENDOR_PROPERTY, FIRST_VENDOR_TYPE, LAST_VENDOR_PROPERTY, LAST_VENDOR_TYPE,
-    PRESENT_VALUE, REAL, VALUE_LIMIT,
+    ANALOG_INPUT, ANALOG_VALUE, ANY_INSTANCE, BINARY_VALUE, DESCRIPTION, DEVICE, FILE, FILE_LIMIT,
+    FIRST_VENDOR_PROPERTY, FIRST_VENDOR_TYPE, LAST_VENDOR_PROPERTY, LAST_VENDOR_TYPE,
+    PRESENT_VALUE, VALUE_LIMIT,
 };
 use crate::object::{File, Property};
-use bac_value::ObjectIdentifier;
+use bac_value::{ObjectIdentifier, kinds};
 
 /// The octets of a name's spelling beside the text: a tag, a long length and the character set.
 const NAME_OVERHEAD: usize = 5;
@@ -46,8 +46,8 @@ fn are_right_values(kind: u16, number: u32, values: &[u8]) -> bool
     ensures { result ≡ values_in kind number values.now }
 {
     match (number, kind) {
-        (DESCRIPTION, _) => is_of_kind(Some(CHARACTERS), values),
-        (PRESENT_VALUE, ANALOG_INPUT | ANALOG_VALUE) => is_of_kind(Some(REAL), values),
+        (DESCRIPTION, _) => is_of_kind(Some(kinds::CHARACTER_STRING), values),
+        (PRESENT_VALUE, ANALOG_INPUT | ANALOG_VALUE) => is_of_kind(Some(kinds::REAL), values),
         (PRESENT_VALUE, BINARY_VALUE) => is_state(values),
         _ => true,
     }

@@ -36,6 +36,3 @@ pub use object::{File, Object, Property};
 pub use planned::Planned;
 pub use store::Store;
 pub use store_fault::StoreFault;
-
-#[cfg(test)]
-mod tests;

@@ -55,11 +55,5 @@ pub(crate) const PRESENT_VALUE: u32 = 85;
 /// Stream access, the access method of every file (BACnetFileAccessMethod).
 pub(crate) const STREAM_ACCESS: u32 = 1;
 
-// application tags (clause 20.2.1.4)
-
-pub(crate) const REAL: u8 = 4;
-
-pub(crate) const CHARACTERS: u8 = 7;
-
 /// The octet of a tag for an Enumerated of one octet of contents.
 pub(crate) const STATE_TAG: u8 = 0x91;

@@ -1,9 +1,11 @@
 -- What a loop over the copies of a straight run needs; and that it is a run.
-use Rattle.std.proofs.Common.{◌≡◌, ◌+◌, ◌-◌, ◌≤◌, ℕ, zero, suc, true, length, refl, subst, inl, arith}
+use Rattle.std.proofs.Common.{◌≡◌, ◌+◌, ◌-◌, ◌≤◌, ℕ, zero, suc, true, length, refl, subst, inl, arith, ◌⊎◌, false, inr}
 use Rattle.bac_ends.specs.Keys.{PeerKey}
-use Rattle.bac_world.specs.World.{World, WorldStep, WorldRun}
+use Rattle.bac_apdu.specs.Apdu.{Limits}
+use Rattle.bac_service.specs.Values.{Request}
+use Rattle.bac_world.specs.World.{World, WorldStep, WorldRun, IsAsked}
 use Rattle.bac_world.specs.World.Event.{Deliver}
-use Rattle.bac_straight.specs.Straight.{is_open, DeliverEach, deliveries, IsRunOfDeliveries, DeliveriesGoOn}
+use Rattle.bac_straight.specs.Straight.{is_open, DeliverEach, deliveries, IsRunOfDeliveries, DeliveriesGoOn, IsStraight, key_of_ask, ending_in}
 
 module _ (overtake client : ℕ) (key : PeerKey) where
   goes_on : (count number : ℕ) (w u v : World) → DeliverEach overtake client key count number w u → is_open u client key ≡ true
@@ -37,7 +39,21 @@ module _ (overtake client : ℕ) (key : PeerKey) where
   run_of (suc count) number w v h = (h.1, h.2, run_of count (suc number) h.1 v h.3)
 
 pub deliveries_go_on : DeliveriesGoOn
-deliveries_go_on = record { first = none; next = next }
+deliveries_go_on = record { first = none; next = next; ends = ends }
+  where
+    ends : (overtake : ℕ) (old : World) (client server : ℕ) (limits : Limits) (r : Request) (asked : World)
+        → (asks : IsAsked old client server limits r asked) (number : ℕ) (new : World) → length old.copies ≤ number
+        → DeliverEach overtake client (key_of_ask old client server limits r asked asks) (number - length old.copies) (length old.copies) asked new
+        → (is_open new client (key_of_ask old client server limits r asked asks) ≡ false) ⊎ (length new.copies ≤ number)
+        → IsStraight overtake old client server limits r (ending_in (length old.notes) new.log) (number - length old.copies) new
+    ends overtake old client server limits r asked asks number new le delivers stops =
+        record { asked = asked; asks = asks; delivers = delivers; stops = go stops; ending_is = refl }
+      where
+        go : ((is_open new client (key_of_ask old client server limits r asked asks) ≡ false) ⊎ (length new.copies ≤ number))
+            → (is_open new client (key_of_ask old client server limits r asked asks) ≡ false)
+            ⊎ (length new.copies ≤ length old.copies + (number - length old.copies))
+        go (inl closed) = inl closed
+        go (inr none) = inr (omega arith)
 
 pub is_run : (overtake : ℕ) (old : World) → IsRunOfDeliveries overtake old
 is_run overtake old client server limits r ending count new run =

@@ -89,9 +89,15 @@ IsRunOfDeliveries overtake old =
     → IsStraight overtake old client server limits r ending count new
     → WorldRun overtake old (Ask client server limits r ∷ deliveries count (length old.copies)) new
 
--- what a loop over the copies needs, where `number` is that of the next one
+-- what a loop over the copies needs, where `number` is that of the next one: it has delivered none, it delivers one more, and where it stops it was a
+-- straight run, with the ending that the log has
 pub record DeliveriesGoOn : Type 0 where
   pub first : (overtake client : ℕ) (key : PeerKey) (first : ℕ) (w : World) → DeliverEach overtake client key (first - first) first w w
   pub next : (overtake client : ℕ) (key : PeerKey) (first number : ℕ) (w u v : World) → first ≤ number
       → DeliverEach overtake client key (number - first) first w u → is_open u client key ≡ true → WorldStep overtake u (Deliver number) v
       → DeliverEach overtake client key (number + 1 - first) first w v
+  pub ends : (overtake : ℕ) (old : World) (client server : ℕ) (limits : Limits) (r : Request) (asked : World)
+      → (asks : IsAsked old client server limits r asked) (number : ℕ) (new : World) → length old.copies ≤ number
+      → DeliverEach overtake client (key_of_ask old client server limits r asked asks) (number - length old.copies) (length old.copies) asked new
+      → (is_open new client (key_of_ask old client server limits r asked asks) ≡ false) ⊎ (length new.copies ≤ number)
+      → IsStraight overtake old client server limits r (ending_in (length old.notes) new.log) (number - length old.copies) new

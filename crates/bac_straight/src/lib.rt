@@ -33,7 +33,8 @@ pub fn straight_copies_are_its_own()
         → CopiesAreItsOwn overtake old }
 {}
 
-/// A straight run goes on by one more delivery, as a loop over the numbers of copies makes them.
+/// A straight run goes on by one more delivery, as a loop over the numbers of copies makes them; where the loop stops, since the ticket has ended or no copy is
+/// left, it was a straight run, with the ending that the log has.
 #[tactic(auto, using(crate::proofs::Loops::deliveries_go_on))]
 pub fn deliveries_go_on()
     ensures { DeliveriesGoOn }

@@ -12,10 +12,7 @@ ghost use Rattle.bac_text.specs.Layers.{IsRequestIn, IsComplexIn, HasNoRequest, 
 use crate::fault::LayerFault;
 use bac_apdu::{Apdu, ApduFault};
 use bac_npdu::{Npdu, read_bvll, read_npdu};
-use bac_service::{
-    ATOMIC_READ_FILE, ATOMIC_WRITE_FILE, Complex, READ_PROPERTY, Reject, Request, WRITE_PROPERTY,
-    read_reply, read_request,
-};
+use bac_service::{Complex, Reject, Request, Service, read_reply, read_request};
 use bac_value::FaultKind;
 
 /// The NPDU in a datagram.
@@ -33,18 +30,21 @@ pub(crate) fn npdu_in(octets: &[u8]) -> Result<Npdu<'_>, LayerFault>
     }
 }
 
-/// Whether a service choice is AtomicReadFile's, AtomicWriteFile's, ReadProperty's or WriteProperty's (clause 21).
+/// Whether a service choice is one of the four services'.
 fn is_service(choice: u8) -> bool
     ensures { result ≡ is_served choice }
 {
-    choice == WRITE_PROPERTY || has_complex_ack(choice)
+    Service::of(choice).is_some()
 }
 
-/// Whether requests of a service choice are answered by a ComplexACK: of all four services but WriteProperty.
+/// Whether requests of a service choice are answered by a ComplexACK.
 fn has_complex_ack(choice: u8) -> bool
     ensures { result ≡ has_complex_ack choice }
 {
-    choice == ATOMIC_READ_FILE || choice == ATOMIC_WRITE_FILE || choice == READ_PROPERTY
+    match Service::of(choice) {
+        Some(service) => service.has_complex_ack(),
+        None => false,
+    }
 }
 
 /// The choice and the service data of a request of one of the four services that is no segment.

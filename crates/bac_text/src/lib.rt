@@ -23,6 +23,3 @@ pub use fault::LayerFault;
 pub use laws::fine_or_at_fault;
 pub use layers::check_datagram;
 pub use status::{Status, complain, no_memory, output_failed};
-
-#[cfg(test)]
-mod tests;

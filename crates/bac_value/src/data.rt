@@ -10,6 +10,7 @@ use std::alloc::Global;
 /// Octets that are data: whole elements, each opened tag closed by its own number, at most 8 open at once. May be empty.
 #[derive(Clone, Copy, Debug)]
 pub struct Data<'a> {
+    /// The spellings of the elements, one after the other.
     pub octets: &'a [u8],
     pub ghost whole: { ∥ IsData octets.now ∥₁ },
 }
@@ -17,6 +18,7 @@ pub struct Data<'a> {
 /// Octets that are data, with their memory.
 #[derive(Debug, Drop)]
 pub struct DataBuf {
+    /// The spellings of the elements, one after the other.
     pub octets: Vec<u8>,
     pub ghost whole: { ∥ IsData octets.items ∥₁ },
 }

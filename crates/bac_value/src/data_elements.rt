@@ -10,6 +10,7 @@ use crate::octets::slice_len;
 /// The elements of data that are left, one after the other; opening and closing tags are elements.
 #[derive(Clone, Copy, Debug)]
 pub struct DataElements<'a> {
+    /// The spellings of the elements that are left, one after the other.
     pub octets: &'a [u8],
     pub ghost whole: { ∥ SomeElements octets.now ∥₁ },
 }

@@ -7,6 +7,8 @@ use crate::tag::Tag;
 /// Booleans have none.
 #[derive(Clone, Copy, Debug)]
 pub struct Element<O> {
+    /// The tag in front.
     pub tag: Tag,
+    /// The octets after the tag, as many as it says.
     pub contents: O,
 }

@@ -46,6 +46,8 @@ impl FaultKind {
 #[derive(Clone, Copy, Debug, PartialEq, Eq, Error)]
 #[error("{kind} at octet {at}")]
 pub struct Fault {
+    /// Why the octets are not read.
     pub kind: FaultKind,
+    /// The place of the fault: how many octets of the input stand before it.
     pub at: usize,
 }

@@ -52,6 +52,3 @@ pub use value_writing::{
     one_value_spelling, put_boolean, put_object_identifier, put_primitive, put_signed,
     put_unsigned, put_value, write_value,
 };
-
-#[cfg(test)]
-mod tests;

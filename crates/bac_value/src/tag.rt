@@ -7,7 +7,9 @@ use crate::kinds;
 /// The class of a tag (clause 20.2.1.1).
 #[derive(Clone, Copy, Debug, PartialEq, Eq)]
 pub enum Class {
+    /// The number is a kind of application value.
     Application,
+    /// The number is the place of a member in what is spelled.
     Context,
 }
 
@@ -27,8 +29,11 @@ pub enum Form {
 /// A tag that has a spelling: application tags have numbers 0 to 12, of which 1 is the Boolean; context tags 0 to 254.
 #[derive(Clone, Copy, Debug, PartialEq, Eq)]
 pub struct Tag {
+    /// Of an application tag the kind of value, 0 to 12; of a context tag 0 to 254.
     pub number: u8,
+    /// Whether the number is a kind of value, or has the meaning that the service gives it.
     pub class: Class,
+    /// How many octets of contents follow, or that there are none.
     pub form: Form,
     pub ghost fits: { IsTrue (tag_fits number class form) },
 }

@@ -7,6 +7,7 @@ use crate::contents::are_bits_fit;
 /// At most `2^32 - 1` octets (clause 20.2.8).
 #[derive(Debug, Drop)]
 pub struct OctetString {
+    /// The octets of the string.
     pub octets: Vec<u8>,
     pub ghost fits: { length octets.items < 2 ^ 32 },
 }
@@ -14,7 +15,9 @@ pub struct OctetString {
 /// The octet of a character set (0 is UTF-8) and a text of at most `2^32 - 2` octets, which are not looked at (clause 20.2.9).
 #[derive(Debug, Drop)]
 pub struct CharacterString {
+    /// The number of the character set.
     pub set: u8,
+    /// The octets of the text.
     pub text: Vec<u8>,
     pub ghost fits: { length text.items + 1 < 2 ^ 32 },
 }
@@ -24,7 +27,9 @@ pub struct CharacterString {
 /// The unused bits are the lowest of the last octet. There are 0 to 7, all 0, and none where there are no octets.
 #[derive(Debug, Drop)]
 pub struct BitString {
+    /// How many bits of the last octet are no part of the string, 0 to 7.
     pub unused: u8,
+    /// The bits, eight in an octet.
     pub octets: Vec<u8>,
     pub ghost fits: { length octets.items + 1 < 2 ^ 32 },
     pub ghost unused_fits: { IsTrue (bits_fit unused octets.items) },
@@ -33,7 +38,9 @@ pub struct BitString {
 /// An object's type, 0 to 1,023, and its instance, 0 to 4,194,303 (clause 20.2.14).
 #[derive(Clone, Copy, Debug, PartialEq, Eq)]
 pub struct ObjectIdentifier {
+    /// The object's type, 0 to 1,023 (BACnetObjectType).
     pub kind: u16,
+    /// The object's number among those of its type, 0 to 4,194,303.
     pub instance: u32,
     pub ghost kind_fits: { kind < 1024 },
     pub ghost instance_fits: { instance < 2 ^ 22 },

@@ -30,21 +30,21 @@ use Rattle.bac_world.specs.World.{World, Copy, Note, Hears, IsAsked, IsDelivered
 use Rattle.bac_world.specs.Examples.{REQUEST, REPLY, STORE, ASKED}
 use Rattle.bac_world.specs.AnsweredRun.{LIMITS, SETTINGS, link, node, OPENING, LOG, AnsweredRun}
 
-abbrev SERVICE_DATA : Octets
+abbrev pub SERVICE_DATA : Octets
 SERVICE_DATA = 12 ∷ 0 ∷ 0 ∷ 0 ∷ 5 ∷ 25 ∷ 85 ∷ []
 
-spelled : SpellsRequest 12 REQUEST SERVICE_DATA
+pub spelled : SpellsRequest 12 REQUEST SERVICE_DATA
 unfolding tag_spelling unsigned_octets
 spelled = subst (SpellsRequest 12 REQUEST) refl
     (request_spelled REQUEST (record { kind_fits = omega arith; instance_fits = omega arith; property_fits = omega arith; index_fits = tt }))
 
-abbrev ASK : Apdu
+abbrev pub ASK : Apdu
 ASK = ConfirmedRequest LIMITS 0 None 12 SERVICE_DATA
 
-abbrev ANSWER : Apdu
+abbrev pub ANSWER : Apdu
 ANSWER = Error 0 12 1 31
 
-ask_fits : IsTrue (apdu_fits ASK)
+pub ask_fits : IsTrue (apdu_fits ASK)
 unfolding apdu_fits
 ask_fits = refl
 
@@ -52,7 +52,7 @@ answer_fits : IsTrue (apdu_fits ANSWER)
 unfolding apdu_fits
 answer_fits = refl
 
-ask_short : IsShort ASK
+pub ask_short : IsShort ASK
 unfolding apdu_spelling
 ask_short = omega arith
 
@@ -62,20 +62,20 @@ answer_short = omega arith
 
 -- What goes out, and what it means.
 
-abbrev datagram : Octets → Apdu → Datagram
+abbrev pub datagram : Octets → Apdu → Datagram
 datagram to a = record { to = to; octets = frame (peer_at to) (is_confirmed_request a) (apdu_spelling a) }
 
 framed : (to : Octets) (a : Apdu) → IsTrue (apdu_fits a) → IsFrameTo SpellsApdu is_confirmed_request (peer_at to) a (datagram to a).octets
 framed to a fits = record { apdu_octets = apdu_spelling a; spelled = record { fits = fits; is = refl }; is = refl }
 
-sent : (to : Octets) (a : Apdu) → IsTrue (apdu_fits a) → IsShort a → IsSent (to_peer (peer_at to) a) (datagram to a)
+pub sent : (to : Octets) (a : Apdu) → IsTrue (apdu_fits a) → IsShort a → IsSent (to_peer (peer_at to) a) (datagram to a)
 sent to a fits short = record { link = refl; frame = framed to a fits; short = short }
 
-means : (from to : Octets) (a : Apdu) → IsTrue (apdu_fits a) → IsShort a → Means SpellsApdu from (datagram to a).octets (peer_at from) a
+pub means : (from to : Octets) (a : Apdu) → IsTrue (apdu_fits a) → IsShort a → Means SpellsApdu from (datagram to a).octets (peer_at from) a
 means from to a fits short = frame_means SpellsApdu is_confirmed_request from to (datagram to a).octets a
     (λ text s. subst (λ (l : Octets). length l ≤ 1476) (sym s.is) short) (framed to a fits)
 
-apart : link 0 ≢ link 1
+pub apart : link 0 ≢ link 1
 apart e = cc
 
 -- The ask.
@@ -83,24 +83,24 @@ apart e = cc
 abbrev key : ℕ → PeerKey
 key n = record { peer = peer_at (link n); invoke_id = 0 }
 
-abbrev ACCEPTED : Accepted
+abbrev pub ACCEPTED : Accepted
 ACCEPTED = accepts SETTINGS 0 (key 1) (record { first = 0; choice = 12; whole = true; pieces = SERVICE_DATA ∷ [] })
     (record { slots = []; capacity = 1; asked = 0 })
 
-abbrev ASKED_NODE : Node
+abbrev pub ASKED_NODE : Node
 ASKED_NODE = record (node 0) { clients = ACCEPTED.end }
 
-abbrev copy : (from to : ℕ) → Apdu → Copy
+abbrev pub copy : (from to : ℕ) → Apdu → Copy
 copy from to a =
     record { moment = 0; from = from; to = to; key = record { client = 0; server = 1; invoke_id = 0 }; octets = (datagram (link to) a).octets }
 
-abbrev NOTES : List Note
+abbrev pub NOTES : List Note
 NOTES = record { key = record { client = 0; server = 1; invoke_id = 0 }; ticket = 0 } ∷ []
 
-abbrev SECOND : World
+abbrev pub SECOND : World
 SECOND = record { nodes = ASKED_NODE ∷ node 1 ∷ []; now = 0; copies = copy 0 1 ASK ∷ []; log = ASKED; notes = NOTES }
 
-ask_copied : IsCopied OPENING.nodes 0 0 (datagram (link 1) ASK) (copy 0 1 ASK)
+pub ask_copied : IsCopied OPENING.nodes 0 0 (datagram (link 1) ASK) (copy 0 1 ASK)
 ask_copied = record {
   moment = refl;
   from = refl;
@@ -116,7 +116,7 @@ ask_copied = record {
   };
 }
 
-others_first : {A : Type 0} (a b c : A) (j : ℕ) → j ≢ 0 → slice_get (a ∷ c ∷ []) j ≡ slice_get (b ∷ c ∷ []) j
+pub others_first : {A : Type 0} (a b c : A) (j : ℕ) → j ≢ 0 → slice_get (a ∷ c ∷ []) j ≡ slice_get (b ∷ c ∷ []) j
 others_first a b c zero ne = absurd (ne refl)
 others_first a b c (suc j) ne = refl
 
@@ -125,7 +125,7 @@ others_second a b c zero ne = refl
 others_second a b c (suc zero) ne = absurd (ne refl)
 others_second a b c (suc (suc j)) ne = refl
 
-asks : NodeAsks 0 (peer_at (link 1)) LIMITS REQUEST (node 0) ASKED_NODE ACCEPTED (datagram (link 1) ASK ∷ [])
+abbrev pub asks : NodeAsks 0 (peer_at (link 1)) LIMITS REQUEST (node 0) ASKED_NODE ACCEPTED (datagram (link 1) ASK ∷ [])
 asks = record {
   octets = SERVICE_DATA;
   spelled = spelled;
@@ -135,7 +135,7 @@ asks = record {
   sent = (sent (link 1) ASK ask_fits ask_short, tt);
 }
 
-asked : IsAsked OPENING 0 1 LIMITS REQUEST SECOND
+abbrev pub asked : IsAsked OPENING 0 1 LIMITS REQUEST SECOND
 asked = record {
   before = node 0;
   at = refl;
@@ -189,7 +189,7 @@ turn = record {
   dropped = refl;
 }
 
-abbrev THIRD : World
+abbrev pub THIRD : World
 THIRD =
     record {
       nodes = ASKED_NODE ∷ SERVED_NODE ∷ [];
@@ -241,7 +241,7 @@ served = record {
   };
 }
 
-request_delivered : IsDelivered 253 SECOND 0 THIRD
+pub request_delivered : IsDelivered 253 SECOND 0 THIRD
 request_delivered = record { copy = copy 0 1 ASK; there = refl; goes = record { link = link 0; sender = refl; hears = served } }
 
 -- The answer is delivered.
@@ -252,7 +252,7 @@ ENDED_NODE = record (node 0) { clients = (client_hears SETTINGS reads_reply 0 (p
 abbrev ENDED : Outcome
 ENDED = record { sends = []; performed = None; ended = record { ticket = 0; how = Answered REPLY } ∷ []; dropped = None }
 
-abbrev LAST : World
+abbrev pub LAST : World
 LAST = record { nodes = ENDED_NODE ∷ SERVED_NODE ∷ []; now = 0; copies = THIRD.copies; log = LOG; notes = NOTES }
 
 heard : Hears THIRD 0 (link 1) (copy 1 0 ANSWER).octets LAST
@@ -281,7 +281,7 @@ heard = record {
   };
 }
 
-answer_delivered : IsDelivered 253 THIRD 1 LAST
+pub answer_delivered : IsDelivered 253 THIRD 1 LAST
 answer_delivered = record { copy = copy 1 0 ANSWER; there = refl; goes = record { link = link 1; sender = refl; hears = heard } }
 
 -- The world at its beginning.

@@ -59,35 +59,40 @@ module _ (c : Settings) (now : ℕ) (peer : PeerView) (choice : ℕ) (octets : O
     pub is : a ≡ accepts c now (record { peer = peer; invoke_id = id }) (record { first = now; choice = choice; whole = whole; pieces = front ∷ rest }) e
 
   with_id : (whole : Bool) (front : Octets) (rest : List Octets) → join (front ∷ rest) ≡ octets
-      → asks_for c now peer (record { first = now; choice = choice; whole = whole; pieces = front ∷ rest }) e ≡ Asked a → IsAccepted
+      → asks_for c now peer (record { first = now; choice = choice; whole = whole; pieces = front ∷ rest }) e ≡ Asked a
+      → (p : IsAccepted) × (p.whole ≡ whole)
   with_id whole front rest joined is = go (least_not (is_id_held now e.slots peer) 256 0) refl is
     where
       ask : Ask
       ask = record { first = now; choice = choice; whole = whole; pieces = front ∷ rest }
 
-      go : (o : Option ℕ) → least_not (is_id_held now e.slots peer) 256 0 ≡ o → asks_with_id c now peer ask e o ≡ Asked a → IsAccepted
+      go : (o : Option ℕ) → least_not (is_id_held now e.slots peer) 256 0 ≡ o → asks_with_id c now peer ask e o ≡ Asked a
+          → (p : IsAccepted) × (p.whole ≡ whole)
       go None least is = absurd cc
       go (Some id) least is = slots (has_no_slot now e) is
         where
           slots : (b : Bool)
               → (if b then AskOutcome.Refused AskRefusal.NoSlot else Asked (accepts c now (record { peer = peer; invoke_id = id }) ask e)) ≡ Asked a
-              → IsAccepted
+              → (p : IsAccepted) × (p.whole ≡ whole)
           slots true is = absurd cc
-          slots false is = record {
-            id = id;
-            whole = whole;
-            front = front;
-            rest = rest;
-            joined = joined;
-            free = least_is (is_id_held now e.slots peer) 256 0 id least;
-            is = let same : accepts c now (record { peer = peer; invoke_id = id }) ask e ≡ a = cc in sym same;
-          }
+          slots false is = (
+            record {
+              id = id;
+              whole = whole;
+              front = front;
+              rest = rest;
+              joined = joined;
+              free = least_is (is_id_held now e.slots peer) 256 0 id least;
+              is = let same : accepts c now (record { peer = peer; invoke_id = id }) ask e ≡ a = cc in sym same;
+            },
+            refl,
+          )
 
   by_way : (way : Way RequestFault) → ((pieces : List Octets) → way ≡ InSegments pieces → (join pieces ≡ octets) × (0 < length pieces))
       → asks_by_way c now peer choice octets e way ≡ Asked a → IsAccepted
-  by_way InOne joins is = with_id true octets [] (append_none octets) is
+  by_way InOne joins is = (with_id true octets [] (append_none octets) is).0
   by_way (InSegments []) joins is = let j = joins [] refl in absurd (omega (arith, j.1))
-  by_way (InSegments (front ∷ rest)) joins is = with_id false front rest (joins (front ∷ rest) refl).0 is
+  by_way (InSegments (front ∷ rest)) joins is = (with_id false front rest (joins (front ∷ rest) refl).0 is).0
   by_way (Way.Refused why) joins is = absurd cc
 
   pub accepted_is : (limits : Limits) → client_asks c now peer limits choice octets e ≡ Asked a → IsAccepted
@@ -95,6 +100,12 @@ module _ (c : Settings) (now : ℕ) (peer : PeerView) (choice : ℕ) (octets : O
       let context : Context = record { settings = c; invoke_id = 0; now = now } in
       by_way (request_way_of c limits octets)
       (λ pieces way. let cut = requests_are_short.cut context limits octets pieces way in (cut.are.joined, cut.some)) is
+
+  -- one that goes in one APDU is whole
+  pub accepted_whole : (limits : Limits) → client_asks c now peer limits choice octets e ≡ Asked a → request_way_of c limits octets ≡ InOne
+      → (p : IsAccepted) × (p.whole ≡ true)
+  accepted_whole limits is in_one = with_id true octets [] (append_none octets)
+      (subst (λ (way : Way RequestFault). asks_by_way c now peer choice octets e way ≡ Asked a) in_one is)
 
 -- Slots and notes.
 

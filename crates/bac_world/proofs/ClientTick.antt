@@ -18,6 +18,8 @@ use Rattle.bac_world.specs.Once.{Fact}
 use Rattle.bac_world.specs.World.{World, Note, Copy, AreEnded, peer_at, IsCopied}
 use Rattle.bac_world.proofs.Slots.{EachSlot, slot}
 use Rattle.bac_world.proofs.Changes.{look, Change, look_first, look_next, look_here, look_same, change_rest}
+use Rattle.bac_world.proofs.Leads.{Leads}
+use Rattle.bac_world.proofs.Leads.Leads.{TicksTicket}
 use Rattle.bac_world.proofs.Machines.{Sound, ticks_at_client}
 use Rattle.bac_world.proofs.Pairs.{pairwise_split, pairwise_none, append_none}
 use Rattle.bac_world.proofs.Bridge.{IsKnown, key_of, slot_key}
@@ -94,8 +96,9 @@ module _ (links : ℕ → Option Octets) (apart : (i j : ℕ) (l : Octets) → l
         let g = ended_split w.notes i f.front f.rest log log' (subst (λ (z : List Finish). AreEnded w.notes i z log log') f.is logged) in
         let next = reacts links apart W x bound w n key l li from at (look Client tick all (slot Client p begin v ∷ os)) (look Client tick all os)
         copies log m r h.linked k t (look_first Client tick all p begin v os) did
-        (λ is. subst (λ (z : ℕ). Sound x (client_acts m key t (client_ticks (client_context x key z) t))) r.now
-        (ticks_at_client W x bound m r.sound key t is))
+        (λ is. subst (λ (z : ℕ). Sound x (client_acts m key t (client_ticks (client_context x key z) t))
+        × Leads x n (client_acts m key t (client_ticks (client_context x key z) t))) r.now
+        (ticks_at_client W x bound m r.sound key t is, TicksTicket m key t r.leads is))
         (client_sends_own.ticks (client_context x key n.now) t)
         (look_here Client tick all p begin v os distinct.0 change)
         (λ q ne. look_next Client tick all p begin v os q ne)

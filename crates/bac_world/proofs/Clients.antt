@@ -30,7 +30,8 @@ use Rattle.bac_world.specs.Node.{Node, Outcome, IsClientTurn}
 use Rattle.bac_world.specs.Once.{Fact, IsOnce}
 use Rattle.bac_world.specs.World.{World, Copy, stores_of, Acts, AreLogged, AreEnded, IsCopied}
 use Rattle.bac_world.proofs.Slots.{EachSlot, with_same, with_other, with_distinct, each_with, each_at}
-use Rattle.bac_world.proofs.Machines.{gets_at_client}
+use Rattle.bac_world.proofs.Leads.Leads.{Here, Hears}
+use Rattle.bac_world.proofs.Machines.{gets_at_client, may_arrive}
 use Rattle.bac_world.proofs.Pairs.{pairwise_none, append_none}
 use Rattle.bac_world.proofs.Logs.{FactMeans}
 use Rattle.bac_world.proofs.Bridge.{IsKnown, IsCopyOf, TicketFits, key_of, slot_key}
@@ -175,7 +176,10 @@ module _ (links : ℕ → Option Octets) (apart : (i j : ℕ) (l : Octets) → l
           (reacts links apart W x bound w n key l a.link fits.link server_at (λ y. value_at same_key y a.clients.slots)
           (λ y. value_at same_key y made.slots) w.copies w.log n
           (reached_none links apart W x w n h key.client a fits) h.linked k t found r
-          (λ is. gets_at_client W x bound n h.sound number p at young few down (λ choice octets. machine.Outcome.Rejects 0) t is)
+          (λ is. (
+            gets_at_client W x bound n h.sound number p at young few down (λ choice octets. machine.Outcome.Rejects 0) t is,
+            Hears n number p t Here at (may_arrive W x bound n number p young few) down is,
+          ))
           (client_sends_own.gets context x.readable t apdu)
           (with_same Client q (client_after n.now k t r) (record { number = k; held = Open t }) a.clients.slots found)
           (λ y ne. with_other Client q y (client_after n.now k t r) a.clients.slots ne)

@@ -123,38 +123,36 @@ module _ (links : ℕ → Option Octets) (apart : (i j : ℕ) (l : Octets) → l
       let le : now ≤ now + by = omega arith in
       sym (dead_is_none.later now (now + by) a le) ∙ ap (live_entry (now + by)) h ∙ dead_is_none.later now (now + by) b le
 
-  advanced : (w : World) (n : Net) → Over links apart W x w n → (by : ℕ) → Next links apart W x w (record w { now = w.now + by })
-  advanced w n h by = (
-    record n { now = n.now + by },
-    record {
-      bridge = record {
-        now = ap (λ (t : ℕ). t + by) h.now;
-        asks = h.asks;
-        linked = h.linked;
-        nodes = λ i a at. let f = h.nodes i a at in record {
-          settings = f.settings;
-          link = f.link;
-          clients = record {
-            distinct = f.clients.distinct;
-            known = f.clients.known;
-            found = λ s l id at'. ticket_later n.now by w.notes i (n.numbers (key_of i s id)) (value_at same_key (slot_key l id) a.clients.slots)
-                (n.tickets (key_of i s id)) (f.clients.found s l id at');
-          };
-          servers = record {
-            distinct = f.servers.distinct;
-            known = f.servers.known;
-            found = λ c l id at'. entry_later n.now by (value_at same_key (slot_key l id) a.servers.slots) (n.entries (key_of c i id))
-                (f.servers.found c l id at');
-          };
-        };
-        noted = h.noted;
-        posts = h.posts;
-        log = h.log;
-        sound = passed W x bound n by h.sound;
+  pub advanced_over : (w : World) (n : Net) → Over links apart W x w n → (by : ℕ)
+      → Over links apart W x (record w { now = w.now + by }) (record n { now = n.now + by })
+  advanced_over w n h by = record {
+    now = ap (λ (t : ℕ). t + by) h.now;
+    asks = h.asks;
+    linked = h.linked;
+    nodes = λ i a at. let f = h.nodes i a at in record {
+      settings = f.settings;
+      link = f.link;
+      clients = record {
+        distinct = f.clients.distinct;
+        known = f.clients.known;
+        found = λ s l id at'. ticket_later n.now by w.notes i (n.numbers (key_of i s id)) (value_at same_key (slot_key l id) a.clients.slots)
+            (n.tickets (key_of i s id)) (f.clients.found s l id at');
       };
-      once = λ opening once. once;
-    },
-  )
+      servers = record {
+        distinct = f.servers.distinct;
+        known = f.servers.known;
+        found = λ c l id at'. entry_later n.now by (value_at same_key (slot_key l id) a.servers.slots) (n.entries (key_of c i id))
+            (f.servers.found c l id at');
+      };
+    };
+    noted = h.noted;
+    posts = h.posts;
+    log = h.log;
+    sound = passed W x bound n by h.sound;
+  }
+
+  advanced : (w : World) (n : Net) → Over links apart W x w n → (by : ℕ) → Next links apart W x w (record w { now = w.now + by })
+  advanced w n h by = (record n { now = n.now + by }, record { bridge = advanced_over w n h by; once = λ opening once. once })
 
   -- Runs.
 

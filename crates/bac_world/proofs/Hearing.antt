@@ -22,6 +22,8 @@ use Rattle.bac_ends.specs.Ends.Held.{Open, Closed}
 use Rattle.bac_world.specs.Node.{Node}
 use Rattle.bac_world.specs.Once.{Fact, Stores, IsOnce, MayEnd}
 use Rattle.bac_world.specs.World.{World, Note, Copy, link_at, AreEnded, ask_of, newest, peer_at, IsCopied}
+use Rattle.bac_world.proofs.Leads.{Leads}
+use Rattle.bac_world.proofs.Leads.Leads.{Here}
 use Rattle.bac_world.proofs.Machines.{Sound, orderly, asked_of}
 use Rattle.bac_world.proofs.Pairs.{pairwise_join}
 use Rattle.bac_world.proofs.Logs.{FactMeans, may_end, unended}
@@ -71,6 +73,7 @@ module _ (links : ℕ → Option Octets) (apart : (i j : ℕ) (l : Octets) → l
     pub log : Pairwise FactMeans m.log facts
     pub once : (opening stores : Stores) → IsOnce opening w.log stores → IsOnce opening facts stores
     pub sound : Sound x m
+    pub leads : Leads x n m
 
   pub reached_none : (w : World) (n : Net) → Over links apart W x w n → (i : ℕ) (a : Node) → NodeFits links apart x n.now w.notes n i a
       → Reached w i n (λ p. value_at same_key p a.clients.slots) w.copies w.log n
@@ -85,6 +88,7 @@ module _ (links : ℕ → Option Octets) (apart : (i j : ℕ) (l : Octets) → l
     log = h.log;
     once = λ opening stores once. once;
     sound = h.sound;
+    leads = Here;
   }
 
   -- the same with what is found alike
@@ -102,6 +106,7 @@ module _ (links : ℕ → Option Octets) (apart : (i j : ℕ) (l : Octets) → l
     log = h.log;
     once = h.once;
     sound = h.sound;
+    leads = h.leads;
   }
 
   -- One open ticket goes on.
@@ -110,7 +115,7 @@ module _ (links : ℕ → Option Octets) (apart : (i j : ℕ) (l : Octets) → l
       (look look' : PeerKey → Option Client) (copies : List Copy) (log : List Fact) (m : Net) (h : Reached w key.client n look copies log m)
       (linked : (k : ℕ) → link_at w.nodes k ≡ links k) (number : ℕ) (t : Ticket)
       (there : look (slot_key l key.invoke_id) ≡ Some (record { number = number; held = Open t })) (r : client.Reaction)
-      (goes : m.tickets key ≡ Some t → Sound x (client_acts m key t r)) (own : Each (IsOfClient key.invoke_id) (client.sends_of r))
+      (goes : m.tickets key ≡ Some t → Sound x (client_acts m key t r) × Leads x n (client_acts m key t r)) (own : Each (IsOfClient key.invoke_id) (client.sends_of r))
       (here : look' (slot_key l key.invoke_id) ≡ Some (client_after n.now number t r))
       (away : (q : PeerKey) → (slot_key l key.invoke_id ≡ q → ⊥) → look' q ≡ look q) where
     abbrev q : PeerKey
@@ -125,7 +130,7 @@ module _ (links : ℕ → Option Octets) (apart : (i j : ℕ) (l : Octets) → l
         (h.found key.server l key.invoke_id to_at))
 
     sound : Sound x (client_acts m key t r)
-    sound = goes is.0
+    sound = (goes is.0).0
 
     noted : (k : Key) (u : Ticket) → set_at m.tickets key made k ≡ Some u → ((key ≡ k) ⊎ (key ≡ k → ⊥)) → newest k w.notes ≡ Some (m.numbers k)
     noted k u at (inl e) = subst (λ (y : Key). newest y w.notes ≡ Some (m.numbers y)) e (h.noted key t is.0)
@@ -220,4 +225,5 @@ module _ (links : ℕ → Option Octets) (apart : (i j : ℕ) (l : Octets) → l
           log = end.means;
           once = end.once;
           sound = sound;
+          leads = (goes is.0).1;
         }

@@ -1,4 +1,5 @@
 pub mod Slots
+pub mod Leads
 pub mod Machines
 pub mod Pairs
 pub mod Logs

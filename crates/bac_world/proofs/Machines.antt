@@ -48,7 +48,7 @@ module _ (W : ℕ) (x : Rules) (bound : IsBounded W x) where
       → Has (Asked (n.numbers key) key.client key.server (request_of t.ask)) n.log
   asked_of n s key t is = (known n s).asked key t is
 
-  may_arrive : (n : Net) (number : ℕ) (p : Post) → n.now - p.copy.moment ≤ LIFE → later p.key number n.posts ≤ x.overtake
+  pub may_arrive : (n : Net) (number : ℕ) (p : Post) → n.now - p.copy.moment ≤ LIFE → later p.key number n.posts ≤ x.overtake
       → is_deliverable x n.now number n.posts p ≡ true
   may_arrive n number p young few = go (nat_le (n.now - p.copy.moment) LIFE) (nat_le (later p.key number n.posts) x.overtake) refl refl
     where

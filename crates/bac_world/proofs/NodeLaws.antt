@@ -65,7 +65,7 @@ drops_exactly = record { own = own; meaningless = meaningless; only = λ now fro
 
 -- What means an APDU is heard as that.
 
-heard_as : (now : ℕ) (peer : PeerView) (a : Apdu) (old new : Node) (o : Outcome) → Gets now peer a old new o
+pub heard_as : (now : ℕ) (peer : PeerView) (a : Apdu) (old new : Node) (o : Outcome) → Gets now peer a old new o
     → IsHeardBy (is_from_client a) peer a now old new o
 heard_as now peer a old new o g = go g.on
   where

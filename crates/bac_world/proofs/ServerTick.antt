@@ -22,6 +22,8 @@ use Rattle.bac_world.specs.Node.{Node}
 use Rattle.bac_world.specs.World.{World, Copy, link_at, peer_at, IsCopied}
 use Rattle.bac_world.proofs.Slots.{EachSlot, slot}
 use Rattle.bac_world.proofs.Changes.{look, Change, look_first, look_next, look_here, look_same, change_rest}
+use Rattle.bac_world.proofs.Leads.{Leads}
+use Rattle.bac_world.proofs.Leads.Leads.{TicksEntry}
 use Rattle.bac_world.proofs.Machines.{Sound, own_of, ticks_at_server}
 use Rattle.bac_world.proofs.Pairs.{pairwise_join, pairwise_split, pairwise_none, append_none}
 use Rattle.bac_world.proofs.Bridge.{NodeFits, IsKnown, IsCopyOf, EntryFits, key_of, slot_key, copies_of}
@@ -47,6 +49,7 @@ module _ (links : ℕ → Option Octets) (apart : (i j : ℕ) (l : Octets) → l
     pub others : (j : ℕ) (a : Node) → (j ≡ i → ⊥) → NodeFits links apart x n.now w.notes k j a → NodeFits links apart x n.now w.notes m j a
     pub posts : Pairwise (IsCopyOf links apart) m.posts every
     pub sound : Sound x m
+    pub leads : Leads x n m
 
   module _ (all : List ServerSlot) where
     abbrev c : Settings
@@ -134,6 +137,7 @@ module _ (links : ℕ → Option Octets) (apart : (i j : ℕ) (l : Octets) → l
               (subst (λ (y : List Apdu). Pairwise IsSent (to_all (peer_at l) y) ds) same.sends sent)
               (subst (λ (t : ℕ). Pairwise (IsCopied w.nodes t i) ds cs) (sym r.now) copied));
           sound = ticks_at_server W x bound m r.sound key;
+          leads = TicksEntry m key r.leads;
         }
 
       one_live : Folds os → is_live n.now d ≡ true → Folds (slot Entry (slot_key l id) begin d ∷ os)
@@ -172,6 +176,7 @@ module _ (links : ℕ → Option Octets) (apart : (i j : ℕ) (l : Octets) → l
             others = r.others;
             posts = r.posts;
             sound = r.sound;
+            leads = r.leads;
           }
 
       one_entry : Folds os → (b : Bool) → is_live n.now d ≡ b → Folds (slot Entry (slot_key l id) begin d ∷ os)

@@ -23,6 +23,7 @@ use Rattle.bac_world.proofs.Pairs.{IsSplit, pairwise_split}
 use Rattle.bac_world.proofs.Logs.{FactMeans}
 use Rattle.bac_world.proofs.Bridge.{IsKnown, IsCopyOf, TicketFits, key_of, slot_key}
 use Rattle.bac_world.proofs.Steps.{Over, Fits, Next, acts_over, once_same, stores_same}
+use Rattle.bac_world.proofs.Leads.{Leads}
 use Rattle.bac_world.proofs.Hearing.{Reached, reached_none, reached_alike}
 use Rattle.bac_world.proofs.ClientTick.{client_tick, folds}
 use Rattle.bac_world.proofs.ServerTick.{Served, entry_tick, serves}
@@ -115,6 +116,7 @@ module _ (links : ℕ → Option Octets) (apart : (i j : ℕ) (l : Octets) → l
     others = λ j d ne y. y;
     posts = r.1.posts;
     sound = r.1.sound;
+    leads = r.1.leads;
   }
 
   -- then the entries
@@ -178,3 +180,8 @@ module _ (links : ℕ → Option Octets) (apart : (i j : ℕ) (l : Octets) → l
           (stores_same w.nodes w'.nodes i a b step.acts.nodes step.at (ap (λ (d : Node). d.store) node_is)) (r.1.once opening (stores_of w.nodes) once));
     },
   )
+
+  -- the net after it comes of ticks alone
+  pub tick_leads : Leads x n tick_over.0
+  unfolding tick_over s
+  tick_leads = s.1.leads

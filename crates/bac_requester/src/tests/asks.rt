@@ -116,8 +116,9 @@ fn slots_are_held(rt: HostRuntime) -> Result<(), Fail> {
     assert_eq!(rt; reads(&mut end, 1_000, 2, &read), Ok((0, 0)));
     assert_eq!(rt; reads(&mut end, 2_000, 2, &read), Ok((1, 1)));
     assert_eq!(rt; reads(&mut end, 2_000, 3, &read), Ok((2, 0)));
-    let told = hears(&mut end, alloc, 3_000, b"\x60\x00\x09")?;
-    assert!(rt; told.end == End::Rejected(9));
+    let (_, ended) = meets(&mut end, 3_000, b"\x60\x00\x09")?;
+    assert!(rt; ended == End::Rejected(9));
+    assert_eq!(rt; (end.held(3_000), end.held(136_001)), (3, 2));
     assert_eq!(rt; reads(&mut end, 136_000, 2, &read), Err(AskFault::NoSlot));
     assert_eq!(rt; reads(&mut end, 136_001, 2, &read), Ok((3, 0)));
     Ok(())

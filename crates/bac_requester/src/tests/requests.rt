@@ -129,3 +129,16 @@ fn where_segments_begin(rt: HostRuntime) -> Result<(), Fail> {
     assert!(rt; plays(alloc, &SMALL, &longer, IN_TWO, LAST_3)?);
     Ok(())
 }
+
+/// With ample memory each row goes as it says, and both ends are the same.
+#[test]
+fn rows_with_memory(rt: HostRuntime) -> Result<(), Fail> {
+    let alloc = rt.alloc();
+    let mut end = memory::begun(alloc)?;
+    for row in memory::ROWS {
+        assert!(rt; goes(&mut end, alloc, *row)?, "{}", row.1);
+    }
+    let other = memory::after(alloc, memory::ROWS)?;
+    assert!(rt; end.same(&other));
+    Ok(())
+}

@@ -7,4 +7,5 @@ use Rattle.bac_client.proofs.sending.piece.Goals as goal
 
 pub datagram_of-requires : goal.datagram_of-requires
 datagram_of-requires c =
-    subst apdus.IsShort (sym c.piece_apdu-apdu.ensures) (piece_is_short (context_view c.args.context.now) c.args.choice c.args.n c.args.outgoing.now c.requires.short)
+    subst apdus.IsShort (sym c.piece_apdu-apdu.ensures) (piece_is_short
+    (context_view c.args.context.now) c.args.choice c.args.n c.args.outgoing.now c.requires.short)

@@ -9,6 +9,7 @@ use Rattle.bac_client.proofs.sending.pieces.Given as goal
 abbrev pub invariant-loop-n : goal.invariant-loop-n
 invariant-loop-n l =
     record {
-      sent : Pairwise IsSent (to_all (peer_of l.context) (pieces_from (request_piece (context_view l.context) l.choice l.outgoing.pieces) l.start (l.n - l.start))) l.sends.items;
+      sent : Pairwise IsSent (to_all (peer_of l.context) (pieces_from (request_piece (context_view l.context) l.choice l.outgoing.pieces) l.start
+          (l.n - l.start))) l.sends.items;
       begun : l.start ≤ l.n;
     }

@@ -14,7 +14,8 @@ use Rattle.bac_requester.proofs.asking.ask.Goals as goal
 pub returns-in_default : goal.returns-in_default
 returns-in_default g c =
     let e : ClientEnd = end_of (g.S.SlotTable.slots c.args.table.now) (g.S.SlotTable.capacity c.args.table.now) c.args.asked.now in (
-      no_id (settings_view c.args.settings.now) c.args.now (peer_view c.args.peer.now) (asked_by c.args.now (request_view c.args.request) c.args.way) e c.least_id.result
+      no_id (settings_view c.args.settings.now) c.args.now (peer_view c.args.peer.now) (asked_by c.args.now
+          (request_view c.args.request) c.args.way) e c.least_id.result
           c.least_id.ensures c.in_default.is,
       refl,
     )
@@ -22,7 +23,8 @@ returns-in_default g c =
 pub returns-then-has_no_slot : goal.returns-then-has_no_slot
 returns-then-has_no_slot g c =
     let e : ClientEnd = end_of (g.S.SlotTable.slots c.args.table.now) (g.S.SlotTable.capacity c.args.table.now) c.args.asked.now in (
-      no_slot (settings_view c.args.settings.now) c.args.now (peer_view c.args.peer.now) (asked_by c.args.now (request_view c.args.request) c.args.way) e c.least_id.result
+      no_slot (settings_view c.args.settings.now) c.args.now (peer_view c.args.peer.now) (asked_by c.args.now
+          (request_view c.args.request) c.args.way) e c.least_id.result
           c.in-Some.invoke_id c.least_id.ensures c.in-Some.is (sym c.has_no_slot.ensures ∙ c.if-has_no_slot.true),
       refl,
     )
@@ -30,7 +32,8 @@ returns-then-has_no_slot g c =
 pub returns-in_default-begin : goal.returns-in_default-begin
 returns-in_default-begin g c =
     let e : ClientEnd = end_of (g.S.SlotTable.slots c.args.table.now) (g.S.SlotTable.capacity c.args.table.now) c.args.asked.now in (
-      may_begin (settings_view c.args.settings.now) c.args.now (peer_view c.args.peer.now) (asked_by c.args.now (request_view c.args.request) c.args.way) e c.least_id.result
+      may_begin (settings_view c.args.settings.now) c.args.now (peer_view c.args.peer.now) (asked_by c.args.now
+          (request_view c.args.request) c.args.way) e c.least_id.result
           c.in-Some.invoke_id c.least_id.ensures c.in-Some.is (sym c.has_no_slot.ensures ∙ c.if-has_no_slot.false),
       refl,
     )

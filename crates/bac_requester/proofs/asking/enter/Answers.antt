@@ -5,7 +5,8 @@ use Rattle.bac_requester.proofs.asking.enter.Goals as goal
 pub put-requires-clause-absent : goal.put-requires-clause-absent
 put-requires-clause-absent g c =
     absent_after c.args.context.now.moment c.args.context.now.key (g.S.SlotTable.slots c.args.table.now) _ c.sweep.ensures.slots
-    (c.sweeping_slots.ensures.values (g.S.SlotTable.slots c.args.table.now) (test c.args.context.now.moment) c.args.context.now.key c.len-slots.ensures.distinct)
+    (c.sweeping_slots.ensures.values (g.S.SlotTable.slots c.args.table.now)
+    (test c.args.context.now.moment) c.args.context.now.key c.len-slots.ensures.distinct)
     c.requires.free
 
 pub put-requires-clause-room : goal.put-requires-clause-room

@@ -39,6 +39,8 @@ returns g c =
     let n : c.loop-n.n ≡ length (g.S.SlotTable.slots c.args.table.now) = omega (arith, c.loop-n.invariant.ends) in
     let all = take_ordered (g.S.SlotTable.slots c.args.table.now) c.loop-n.n (c.slots_in_order.ensures.length (g.S.SlotTable.slots c.args.table.now)) n in
     record {
-      sends = subst (λ (l : List ClientSlot). Pairwise IsSent (from_each (client_tick_sends (settings_view c.args.settings.now) c.args.now) l) c.loop-n.due.sends.items) all c.loop-n.invariant.sends;
-      finishes = subst (λ (l : List ClientSlot). Pairwise IsFinish (from_each (client_tick_ends (settings_view c.args.settings.now) c.args.now) l) (map finish_view c.loop-n.due.ended.items)) all c.loop-n.invariant.ended;
+      sends = subst (λ (l : List ClientSlot). Pairwise IsSent (from_each (client_tick_sends
+          (settings_view c.args.settings.now) c.args.now) l) c.loop-n.due.sends.items) all c.loop-n.invariant.sends;
+      finishes = subst (λ (l : List ClientSlot). Pairwise IsFinish (from_each (client_tick_ends (settings_view c.args.settings.now) c.args.now) l)
+          (map finish_view c.loop-n.due.ended.items)) all c.loop-n.invariant.ended;
     }

@@ -12,7 +12,8 @@ use Rattle.bac_requester.proofs.ticking.prepare.Given as goal
 abbrev pub invariant-loop-n : goal.invariant-loop-n
 invariant-loop-n g l =
     record {
-      sends : Pairwise IsSent (from_each (client_tick_sends (settings_view l.settings) l.now) (take l.n (ordered (g.S.SlotTable.slots l.table)))) l.due.sends.items;
+      sends : Pairwise IsSent (from_each (client_tick_sends (settings_view l.settings) l.now) (take l.n (ordered
+          (g.S.SlotTable.slots l.table)))) l.due.sends.items;
       ended : Pairwise IsFinish (from_each (client_tick_ends (settings_view l.settings) l.now) (take l.n (ordered (g.S.SlotTable.slots l.table))))
           (map finish_view l.due.ended.items);
       ends : l.n-end ≡ length (g.S.SlotTable.slots l.table);

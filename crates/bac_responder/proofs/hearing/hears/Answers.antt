@@ -10,11 +10,10 @@ use Rattle.bac_ends.specs.Views.{peer_key_view}
 use Rattle.bac_ends.specs.declared.peer_key.PeerKey.{PeerKey as CodeKey}
 use Rattle.bac_ends.proofs.Keyed.{value_viewed}
 use Rattle.bac_server.specs.Services.{service_of}
-use Rattle.bac_server.specs.Views.{context_view}
+use Rattle.bac_ends.specs.Views.{context_view}
 use Rattle.bac_responder.specs.Tables.{TableSlot}
 use Rattle.bac_responder.specs.Views.{end_of}
 use Rattle.bac_responder.proofs.Turned.{served_so, served_still, served_with, idle_is, begun_live}
-use Rattle.bac_responder.proofs.Begun.{begins_now}
 use Rattle.bac_responder.proofs.Sweeps.{entered}
 use Rattle.bac_responder.proofs.hearing.hears.Goals as goal
 
@@ -51,7 +50,7 @@ returns-in-Begins g c =
     idle_is set (service_of c.args.store.now) o (is_free now e) (apdu_view c.args.apdu.now) dead
     ∙ ap (λ (b : Bool). idle_gets set (service_of c.args.store.now) o b (apdu_view c.args.apdu.now)) (sym c.is_free-free.ensures) in
     let did = rw c.in-Begins.is at c.in_ok-sends.ensures.does in
-    let begin = begins_now set (service_of c.args.store.now) c.is_free-free.result (apdu_view c.args.apdu.now) x (did None).entry_is in
+    let begin = rw c.in-Begins.is at c.in_ok-sends.ensures.begin in
     let r = served_so now e k _ _ c.args.store.now _ x true _ _ _ same (did o) (begun_live now x begin) dead
     (entered now key x slots _ c.enter.ensures.slots) in
     served_with _ c.args.store.now _ _ _ _ _ _ _ r c.served.ensures.sends c.served.ensures.act

@@ -11,7 +11,7 @@ use Rattle.bac_ends.specs.Views.{peer_key_view, code_same_key}
 use Rattle.bac_ends.specs.declared.peer_key.PeerKey.{PeerKey as CodeKey}
 use Rattle.bac_ends.proofs.Keyed.{value_viewed}
 use Rattle.bac_server.specs.Services.{service_of}
-use Rattle.bac_server.specs.Views.{context_view}
+use Rattle.bac_ends.specs.Views.{context_view}
 use Rattle.bac_responder.specs.Tables.{TableSlot}
 use Rattle.bac_responder.specs.Views.{end_of}
 use Rattle.bac_responder.proofs.Turned.{served_so, served_with, live_is, live_one, stays_live}

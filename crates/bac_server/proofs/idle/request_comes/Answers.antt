@@ -5,7 +5,8 @@ use Rattle.bac_protocol.specs.Context.{Context}
 use Rattle.bac_protocol.specs.Server.{begins}
 use Rattle.bac_ends.specs.Sends.{Datagram}
 use Rattle.bac_server.specs.Reading.{found_view}
-use Rattle.bac_server.specs.Views.{context_view, peer_of, state_view}
+use Rattle.bac_ends.specs.Views.{context_view, peer_of}
+use Rattle.bac_server.specs.Views.{state_view}
 use Rattle.bac_server.proofs.Performances.{prepared_commits, performed}
 use Rattle.bac_server.proofs.idle.request_comes.Goals as goal
 

@@ -12,7 +12,8 @@ use Rattle.bac_protocol.specs.Service.Outcome.{Replies}
 use Rattle.bac_protocol.specs.Sizes.{reply_way_of}
 use Rattle.bac_server.specs.Services.{outcome_of}
 use Rattle.bac_server.specs.Preparing.{is_performed, IsNoReject, IsSpelledReply}
-use Rattle.bac_server.specs.Views.{context_view, spelled_view}
+use Rattle.bac_ends.specs.Views.{context_view}
+use Rattle.bac_server.specs.Views.{spelled_view}
 use Rattle.bac_server.proofs.Performances.{store_no_reject, store_means}
 use Rattle.bac_server.proofs.preparing.prepare_request.Goals as goal
 

@@ -7,7 +7,8 @@ use Rattle.bac_segment.specs.Window.{takes}
 use Rattle.bac_protocol.specs.Context.{Context}
 use Rattle.bac_protocol.specs.Server.{server_ack}
 use Rattle.bac_ends.specs.Sends.{Pairwise, IsSent, to_all}
-use Rattle.bac_server.specs.Views.{context_view, peer_of, entry_of}
+use Rattle.bac_ends.specs.Views.{context_view, peer_of}
+use Rattle.bac_server.specs.Views.{entry_of}
 use Rattle.bac_server.proofs.Performances.{prepared_commits, performed}
 use Rattle.bac_server.proofs.Takings.{takes_whole}
 use Rattle.bac_server.proofs.segmented_request.last_segment.Goals as goal

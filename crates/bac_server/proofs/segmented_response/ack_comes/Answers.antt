@@ -6,7 +6,8 @@ use Rattle.bac_protocol.specs.Server.{Entry, Reaction, becomes, moves_reply_wind
 use Rattle.bac_protocol.specs.Server.State.{SegmentedResponse}
 use Rattle.bac_protocol.specs.Server.Transfer.{Running, Finished}
 use Rattle.bac_server.specs.Reactions.{IsReaction}
-use Rattle.bac_server.specs.Views.{context_view, peer_of, entry_of, transfer_view, performed_view}
+use Rattle.bac_ends.specs.Views.{context_view, peer_of}
+use Rattle.bac_server.specs.Views.{entry_of, transfer_view, performed_view}
 use Rattle.bac_server.proofs.segmented_response.ack_comes.Goals as goal
 
 moved : (c : Context) (e : Entry) (out next : Outgoing) (number window : ℕ) → acknowledged c.settings.window out number window ≡ Some next

@@ -2,8 +2,8 @@
 use Rattle.std.proofs.Common.{arith}
 use Rattle.bac_apdu.specs.Views.{apdu_view}
 use Rattle.bac_protocol.specs.Server.{reply_piece}
-use Rattle.bac_server.specs.Views.{context_view, peer_of}
-use Rattle.bac_server.proofs.Sent.{one_more_piece}
+use Rattle.bac_ends.specs.Views.{context_view, peer_of}
+use Rattle.bac_ends.proofs.Pieces.{one_more_piece}
 use Rattle.bac_server.proofs.segmented_response.window_sends.Goals as goal
 
 pub loop-n-preserved : goal.loop-n-preserved

@@ -2,7 +2,7 @@ use Rattle.std.proofs.Common.{◌≤◌, ◌-◌}
 use Rattle.bac_protocol.specs.Wire.{pieces_from}
 use Rattle.bac_protocol.specs.Server.{reply_piece}
 use Rattle.bac_ends.specs.Sends.{Pairwise, IsSent, to_all}
-use Rattle.bac_server.specs.Views.{context_view, peer_of}
+use Rattle.bac_ends.specs.Views.{context_view, peer_of}
 use Rattle.bac_server.proofs.segmented_response.window_sends.Given as goal
 
 abbrev pub invariant-loop-n : goal.invariant-loop-n

@@ -1,6 +1,5 @@
 -- All slots are the same.
-use Rattle.std.proofs.Common.{◌≡◌, ℕ, List, map, slice_get, ◌∙◌, refl, ap, sym, arith}
-use Rattle.std.specs.Option.{option_map}
+use Rattle.std.proofs.Common.{◌∙◌, refl, sym, arith}
 use Rattle.bac_slots.specs.Slots.{slot_seen}
 use Rattle.bac_slots.proofs.Swept.{same_lists, seen_same}
 use Rattle.bac_slots.proofs.comparing.same_tables.Goals as goal

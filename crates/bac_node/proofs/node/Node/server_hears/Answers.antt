@@ -4,7 +4,6 @@ use Rattle.bac_apdu.specs.Views.{apdu_view}
 use Rattle.bac_npdu.specs.Views.{peer_view}
 use Rattle.bac_ends.specs.Views.{settings_view}
 use Rattle.bac_requester.specs.Views.{finish_view}
-use Rattle.bac_node.specs.Views.{outcome_view}
 use Rattle.bac_node.proofs.Turns.{server_turned}
 use Rattle.bac_node.proofs.node.Node.server_hears.Goals as goal
 

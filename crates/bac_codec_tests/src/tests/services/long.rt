@@ -1,0 +1,133 @@
+//! Service data in pieces, and the longest: 65,535 octets, 2,000 records, and the longest values of a store, with ample memory.
+use super::*;
+
+/// Whether pieces are read as a request that is written as these octets.
+fn is_request_in(
+    alloc: Global,
+    choice: u8,
+    pieces: &[Vec<u8>],
+    octets: &[u8],
+) -> Result<bool, NoMemory> {
+    let Some(parts) = Parts::try_new(pieces) else {
+        return Ok(false);
+    };
+    match read_request_parts(alloc, choice, parts) {
+        Ok(owned) => is_request_of(alloc, owned.as_request(), octets),
+        Err(_) => Ok(false),
+    }
+}
+
+/// AtomicWriteFile of 100 octets at position 0 of file 1: 111 octets.
+#[test]
+fn pieces_of_every_size_are_one_request(rt: HostRuntime) -> Result<(), Fail> {
+    let alloc = rt.alloc();
+    let octets = octets_in(&(7, "C4028000010E31006564", 100, 0x0F), alloc)?;
+    for size in 1..=111 {
+        let pieces = pieces_of(alloc, &octets, size)?;
+        assert!(rt; is_request_in(alloc, 7, &pieces, &octets)?, "by {size}");
+    }
+    Ok(())
+}
+
+/// Service data: a service choice, their first octets, how many octets of contents follow, and the closing tag at their end.
+type Long<'a> = (u8, &'a str, usize, u8);
+
+/// Their octets; the contents count up from 0.
+fn octets_in((_, head, count, tail): &Long<'_>, alloc: Global) -> Result<Vec<u8>, NoMemory> {
+    let mut octets = octets_of(alloc, head)?;
+    for place in 0..*count {
+        octets.push((place % 251) as u8)?;
+    }
+    octets.push(*tail)?;
+    Ok(octets)
+}
+
+/// AtomicWriteFile of 2,000 records of two octets each: 6,012 octets.
+fn many_records(alloc: Global) -> Result<Vec<u8>, NoMemory> {
+    let mut octets = octets_of(alloc, "C4028000011E31002207D0")?;
+    for _ in 0..2_000 {
+        octets.extend_from_slice(&[0x62, 0xAB, 0xCD])?;
+    }
+    octets.push(0x1F)?;
+    Ok(octets)
+}
+
+/// Whether octets, whole and in pieces of 1,024, are read as a request that is copied and written as they are.
+fn is_request(alloc: Global, choice: u8, octets: &[u8]) -> Result<bool, NoMemory> {
+    let pieces = pieces_of(alloc, octets, 1_024)?;
+    match read_request(choice, octets) {
+        Ok(request) => Ok(
+            is_request_of(alloc, request, octets)?
+                && is_request_in(alloc, choice, &pieces, octets)?,
+        ),
+        Err(_) => Ok(false),
+    }
+}
+
+/// AtomicWriteFile of a stream, and WriteProperty of an OctetString.
+const REQUESTS: &[Long<'_>] = &[
+    (7, "C4028000010E310065FEFFF2", 65_522, 0x0F),
+    (15, "0C0080000119553E65FEFFF2", 65_522, 0x3F),
+];
+
+#[test]
+fn reads_and_writes_the_longest_requests(rt: HostRuntime) -> Result<(), Fail> {
+    for row in REQUESTS {
+        let octets = octets_in(row, rt.alloc())?;
+        assert_eq!(rt; octets.len(), 65_535);
+        assert!(rt; is_request(rt.alloc(), row.0, &octets)?);
+    }
+    let octets = many_records(rt.alloc())?;
+    assert_eq!(rt; octets.len(), 6_012);
+    assert!(rt; is_request(rt.alloc(), 7, &octets)?);
+    Ok(())
+}
+
+/// Whether pieces are read as service data of a ComplexACK that are copied and written as these octets.
+fn is_complex_in(
+    alloc: Global,
+    choice: u8,
+    pieces: &[Vec<u8>],
+    octets: &[u8],
+) -> Result<bool, NoMemory> {
+    let Some(parts) = Parts::try_new(pieces) else {
+        return Ok(false);
+    };
+    if !reads_reply_parts(choice, parts) {
+        return Ok(false);
+    }
+    match read_reply_parts(alloc, choice, parts) {
+        Ok(owned) => is_complex_of(alloc, owned.as_complex(), octets),
+        Err(_) => Ok(false),
+    }
+}
+
+/// Whether octets, whole and in pieces of 1,024, are read as service data of a ComplexACK that are copied and written as they are.
+fn is_complex(alloc: Global, choice: u8, octets: &[u8]) -> Result<bool, NoMemory> {
+    let pieces = pieces_of(alloc, octets, 1_024)?;
+    match read_reply(choice, octets) {
+        Ok(complex) => Ok(
+            is_complex_of(alloc, complex, octets)?
+                && is_complex_in(alloc, choice, &pieces, octets)?,
+        ),
+        Err(_) => Ok(false),
+    }
+}
+
+/// AtomicReadFile and ReadProperty of 65,535 octets; a property's value of 4,096 octets, and a name of 4,091.
+const COMPLEXES: &[(Long<'_>, usize)] = &[
+    ((6, "110E310065FEFFF6", 65_526, 0x0F), 65_535),
+    ((12, "0C0000000519553E65FEFFF2", 65_522, 0x3F), 65_535),
+    ((12, "0C0000000519553E65FE0FFC", 4_092, 0x3F), 4_105),
+    ((12, "0C02000001194D3E75FE0FFC00", 4_091, 0x3F), 4_105),
+];
+
+#[test]
+fn reads_and_writes_the_longest_replies(rt: HostRuntime) -> Result<(), Fail> {
+    for (row, len) in COMPLEXES {
+        let octets = octets_in(row, rt.alloc())?;
+        assert_eq!(rt; octets.len(), *len);
+        assert!(rt; is_complex(rt.alloc(), row.0, &octets)?);
+    }
+    Ok(())
+}
