@@ -10,4 +10,15 @@ pub mod Ticking
 pub mod Robust
 pub mod Resuming
 pub mod Turning
+pub mod Deliveries
+pub mod Windows
+pub mod Acks
+pub mod Rounds
+pub mod Gets
+pub mod Uploads
+pub mod Downloads
+pub mod Begins
+pub mod Resends
+pub mod Turned
+pub mod Answering
 pub mod Computed
