@@ -1,9 +1,9 @@
 -- The runs are computed.
-use Rattle.std.proofs.Common.{refl, arith}
+use Rattle.std.proofs.Common.{refl, inl, arith}
 use Rattle.bac_protocol.specs.World.{post_of}
 use Rattle.bac_protocol.specs.Examples.{key, rules, append_apdu, position, position_apdu}
 use Rattle.bac_progress.specs.Examples.{whole_ask, LateTick, LateAnswer, OneRoundTrip, SecondRoundTrip}
-use Rattle.bac_progress.specs.Examples.{RoundTripOfSegment, FourthSending, LateTurn, StoppedReply}
+use Rattle.bac_progress.specs.Examples.{RoundTripOfSegment, FourthSending, LateTurn, StoppedReply, HalfWindow}
 use Rattle.bac_progress.specs.RoundTrip.{FitsInOne}
 use Rattle.bac_progress.specs.Failures.{WindowUsedUp, ReplyUsedUp, TooOld, OutOfPatience, OldAbort}
 
@@ -82,6 +82,17 @@ stopped_reply = record {
   out = _;
   stopped = record { entry = _; at = refl; live = refl; request_is = refl; since = _; state = refl };
   request = record { post = post_of key 8000 append_apdu; at = refl; key_is = refl; apdu_is = refl; arrives = refl };
+  ends = refl;
+}
+
+pub half_window : HalfWindow
+half_window = record {
+  ticket = _;
+  is = refl;
+  straight = record { client = omega arith; server = omega arith; small = omega arith; room = omega arith };
+  can = record { going = refl; in_time = omega arith; request = (omega arith, omega arith); way = tt; kind = (refl, refl); gives = refl };
+  turn = inl ((omega arith, omega arith), omega arith, refl, refl);
+  not_yet = refl;
   ends = refl;
 }
 

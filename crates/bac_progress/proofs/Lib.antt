@@ -21,4 +21,10 @@ pub mod Begins
 pub mod Resends
 pub mod Turned
 pub mod Answering
+pub mod Flow
+pub mod ClientFlows
+pub mod ServerFlows
+pub mod InRun
+pub mod Lifted
+pub mod Standing
 pub mod Computed

@@ -11,7 +11,7 @@ ghost use Rattle.bac_protocol.specs.Log.{Shop};
 ghost use Rattle.bac_protocol.specs.Transaction.{Rules};
 ghost use Rattle.bac_protocol.specs.World.{Event, run, start};
 ghost use Rattle.bac_protocol.specs.Claims.{IsBounded};
-ghost use Rattle.bac_progress.specs.AfterPast.{InStepIsAnswered};
+ghost use Rattle.bac_progress.specs.AfterPast.{AfterAnyPast, InStepIsAnswered};
 ghost use Rattle.bac_progress.specs.Ends.{EndingsAreLogged, EndsInTime};
 ghost use Rattle.bac_progress.specs.Repeats.{RepeatsSuffice};
 ghost use Rattle.bac_progress.specs.RoundTrip.{RoundTripSuffices, RoundTripSufficesInSegments};
@@ -76,4 +76,11 @@ pub fn stopped_reply_goes_on<S>()
 pub fn in_step_is_answered<S>()
     ensures { (shop : Shop S) (opening : ℕ → S) (W : ℕ) (rules : Rules) → IsBounded W rules → (events : List Event)
         → InStepIsAnswered S shop rules (run S shop rules events (start S opening)) }
+{}
+
+/// After any past, the same, since after every run the two ends of each transaction that is in time are in step: so after any losses one timer that is due,
+/// and each copy from then on, answer the ask.
+pub fn after_any_past<S>()
+    ensures { (shop : Shop S) (opening : ℕ → S) (W : ℕ) (rules : Rules) → IsBounded W rules → (events : List Event)
+        → AfterAnyPast S shop rules (run S shop rules events (start S opening)) }
 {}
