@@ -5,7 +5,7 @@ ghost use Rattle.std.specs.Ordering.{nat_cmp, on, eq_by_cmp, as_partial_cmp};
 ghost use Rattle.std.specs.Cmp.{nat_cmp_total, partial_order_from_own_ties};
 ghost use Rattle.std.specs.Cmp.Rules.{comparing};
 
-use crate::{
+use bac_slots::{
     Count, IndexSlots, PlainSlots, Same, SlotTable, Test, count_passing, same_tables, sweep,
 };
 use std::cell::Cell;
@@ -262,8 +262,12 @@ impl Eq for CountedKey<'_> {
     ghost laws = { Prim.search (nat_cmp_total, comparing, rules) };
 }
 
-fn is_put<K: Ord + Copy + Drop, S: SlotTable<K, u8>>(table: &mut S, key: K) -> bool {
-    table.get(&key).is_none() && table.put(key, 0, 0).is_ok()
+fn is_put<K: Ord + Copy + Drop, T: Drop, S: SlotTable<K, T>>(
+    table: &mut S,
+    key: K,
+    value: T,
+) -> bool {
+    table.get(&key).is_none() && table.put(key, 0, value).is_ok()
 }
 
 // All keys below 1,024 are put in a scattered order, and each is found with no more comparisons than are counted.
@@ -273,7 +277,7 @@ fn an_index_counts_every_comparison(rt: HostRuntime) -> Result<(), Fail> {
     let mut table = IndexSlots::<CountedKey, u8>::new(rt.alloc(), 1_024)?;
     for n in 0..1_024u32 {
         let key = counted(n * 389 % 1_024, &comparisons);
-        assert!(rt; is_put(&mut table, key));
+        assert!(rt; is_put(&mut table, key, 0u8));
     }
     for number in 0..1_024u32 {
         let key = counted(number, &comparisons);
@@ -291,7 +295,7 @@ fn a_plain_table_counts_every_comparison(rt: HostRuntime) -> Result<(), Fail> {
     let mut table = PlainSlots::<CountedKey, u8>::new(rt.alloc(), 64)?;
     for n in 0..64u32 {
         let key = counted(n * 37 % 64, &comparisons);
-        assert!(rt; is_put(&mut table, key));
+        assert!(rt; is_put(&mut table, key, 0u8));
     }
     for number in 0..64u32 {
         let key = counted(number, &comparisons);
@@ -303,55 +307,48 @@ fn a_plain_table_counts_every_comparison(rt: HostRuntime) -> Result<(), Fail> {
     Ok(())
 }
 
+// A key or a value of a table that is compared with another.
+#[derive(Clone, Copy, Debug, PartialEq, Eq, PartialOrd, Ord)]
+struct Number(u32);
+
+impl Same for Number {
+    ghost Seen = { ℕ };
+
+    ghost seen = { λ n. n.0 };
+
+    fn same(&self, other: &Number) -> bool {
+        self.0 == other.0
+    }
+}
+
 // Values from that number on pass.
-struct AtLeast(u8);
+struct AtLeast(u32);
 
-impl Test<u8> for AtLeast {
-    ghost passes = { λ t v. nat_le t.0 v };
+impl Test<Number> for AtLeast {
+    ghost passes = { λ t v. nat_le t.0 v.0 };
 
-    fn passes(&self, value: &u8) -> bool {
-        self.0 <= *value
+    fn passes(&self, value: &Number) -> bool {
+        self.0 <= value.0
     }
 }
 
-impl Same for u32 {
-    ghost Seen = { ℕ };
-
-    ghost seen = { λ n. n };
-
-    fn same(&self, other: &u32) -> bool {
-        self == other
+// Puts keys with ten times as much as value.
+fn put_all(rt: &impl Abort, table: &mut IndexSlots<Number, Number>, keys: &[u32]) {
+    for key in keys {
+        let value = Number(key.wrapping_mul(10));
+        assert!(rt; is_put(table, Number(*key), value));
     }
 }
-
-impl Same for u8 {
-    ghost Seen = { ℕ };
-
-    ghost seen = { λ n. n };
-
-    fn same(&self, other: &u8) -> bool {
-        self == other
-    }
-}
-
-const FOUR: &[Row] = &[
-    Row(Call::Put, 4, 40, None),
-    Row(Call::Put, 2, 20, None),
-    Row(Call::Put, 9, 90, None),
-    Row(Call::Put, 1, 10, None),
-];
-
-const TWO: &[Row] = &[Row(Call::Put, 4, 40, None), Row(Call::Put, 9, 90, None)];
 
 #[test]
 fn swept_and_compared(rt: HostRuntime) -> Result<(), Fail> {
-    let mut one = IndexSlots::<u32, u8>::new(rt.alloc(), 8)?;
-    let mut other = IndexSlots::<u32, u8>::new(rt.alloc(), 8)?;
-    let wider = IndexSlots::<u32, u8>::new(rt.alloc(), 9)?;
+    let mut one = IndexSlots::<Number, Number>::new(rt.alloc(), 8)?;
+    let mut other = IndexSlots::<Number, Number>::new(rt.alloc(), 8)?;
+    let wider = IndexSlots::<Number, Number>::new(rt.alloc(), 9)?;
     assert!(rt; same_tables(&one, &other));
     assert!(rt; !same_tables(&one, &wider));
-    runs(&rt, &mut one, FOUR);
-    runs(&rt, &mut other, TWO);
+    put_all(&rt, &mut one, &[4, 2, 9, 1]);
+    put_all(&rt, &mut other, &[4, 9]);
     assert!(rt; !same_tables(&one, &other));
     assert_eq!(rt; count_passing(&one, &AtLeast(30)), 2);
     sweep(&mut one, &AtLeast(30));
