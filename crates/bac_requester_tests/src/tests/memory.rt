@@ -1,4 +1,4 @@
-//! Run with each allocation refused in turn, too: `sh tests/memory/client.sh`.
+//! Run with each allocation refused in turn, too: `sh tests/memory/refused.sh`.
 use super::*;
 
 /// A write in three segments and a ReadProperty were asked for; segments come out of order, a window is sent again, and both are answered.

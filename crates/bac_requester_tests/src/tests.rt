@@ -1,11 +1,11 @@
-//! A requester over a table with an index, in octets: what comes, what is sent, and how tickets end.
+//! A requester over a table with an index, in octets: what comes, what is sent, and how tickets end. Here is what the tests share.
 ghost use Rattle.std.specs.Prelude.{◌<◌};
 
-use super::*;
 use bac_apdu::{Limits, Window, read};
-use bac_client::Ending;
+use bac_client::{Ending, Held};
 use bac_ends::{Datagram, PeerKey, Settings};
 use bac_npdu::Peer;
+use bac_requester::{AskFault, Client, Due, Requester, Turn};
 use bac_service::{
     AnyComplex, AnyReply, AnyRequest, FileWritten, OwnedRequest, WriteAccess, WriteFile,
     WriteStream, read_request,
@@ -19,6 +19,7 @@ mod asks;
 mod memory;
 mod replies;
 mod requests;
+mod tickets;
 
 type Indexed = Requester<IndexSlots<PeerKey, Client>>;
 

@@ -1,6 +1,7 @@
 //! At the far end of the limits, with ample memory.
 use super::*;
 use bac_apdu::{Apdu, Segment};
+use bac_client::{Reaction, RequestFault};
 
 const WIDE: Limits = Limits {
     max_apdu: 5,
@@ -66,13 +67,8 @@ fn the_longest_request(rt: HostRuntime) -> Result<(), Fail> {
     Ok(())
 }
 
-// a reply of more than 65,535 octets
-#[test]
-fn the_longest_reply(rt: HostRuntime) -> Result<(), Fail> {
-    let alloc = rt.alloc();
-    let begun = asked(alloc, 7, READ)?;
-    let octets = vec![in alloc; 0xABu8; 65_535]?;
-    let segment = |number, service| Apdu::ComplexAck {
+fn segment(number: u8, service: &[u8]) -> Apdu<'_> {
+    Apdu::ComplexAck {
         invoke_id: 1,
         segment: Some(Segment {
             more: true,
@@ -81,7 +77,15 @@ fn the_longest_reply(rt: HostRuntime) -> Result<(), Fail> {
         }),
         choice: 7,
         service,
-    };
+    }
+}
+
+// a reply of more than 65,535 octets
+#[test]
+fn the_longest_reply(rt: HostRuntime) -> Result<(), Fail> {
+    let alloc = rt.alloc();
+    let begun = begun(alloc, 7, octets_of(alloc, SHORT)?)?;
+    let octets = vec![in alloc; 0xABu8; 65_535]?;
     let Ok(first) = begun
         .ticket
         .gets(alloc, &context(2_000), &segment(0, octets.as_slice()))
@@ -95,8 +99,7 @@ fn the_longest_reply(rt: HostRuntime) -> Result<(), Fail> {
     let Ok(second) = ticket.gets(alloc, &context(2_000), &segment(1, b"x")) else {
         return Err(Fail::new("out of memory"));
     };
-    assert_eq!(rt; end_of(&second.ended), End::Aborted(1));
-    let heads = heads(alloc, &second.sends)?;
-    assert_eq!(rt; heads.as_slice(), b"\x03\x70\x01\x01".as_slice());
+    let row = (2_000, "", "810A0009 0100 700101", End::Aborted(1));
+    assert!(rt; is_as_said(alloc, &second.sends, &second.ended, row)?);
     Ok(())
 }
