@@ -18,6 +18,3 @@ pub use plain_slots::PlainSlots;
 pub use slot::Slot;
 pub use slot_table::{Count, SlotTable};
 pub use sweeping::{Test, count_passing, sweep};
-
-#[cfg(test)]
-mod tests;
