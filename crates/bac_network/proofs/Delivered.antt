@@ -135,11 +135,13 @@ arrives_so n n' number to o h entered moment notes = record {
 }
 
 pub arrives : (n n' : Network) (number to : ℕ) (o : Outcome) (nodes : List Node) → nodes ≡ n.nodes.items
-    → IsHeardCopy nodes n.journal.moment n.journal.copies number to o n'.nodes.items
+    → (after : List Node) → n'.nodes.items ≡ after → IsHeardCopy nodes n.journal.moment n.journal.copies number to o after
     → IsEntered n.nodes.items to o n.journal n'.journal (log_view n.log.items) (log_view n'.log.items) → n'.journal.moment ≡ n.journal.moment
     → n'.journal.notes ≡ n.journal.notes → Arrives (world_of n) number (world_of n')
-arrives n n' number to o nodes are h entered moment notes =
-    arrives_so n n' number to o (subst (λ l. IsHeardCopy l n.journal.moment n.journal.copies number to o n'.nodes.items) are h) entered moment notes
+arrives n n' number to o nodes are after fits h entered moment notes =
+    arrives_so n n' number to o
+    (subst (λ l. IsHeardCopy n.nodes.items n.journal.moment n.journal.copies number to o l) (sym fits)
+    (subst (λ l. IsHeardCopy l n.journal.moment n.journal.copies number to o after) are h)) entered moment notes
 
 -- the copy that arrived is the one that is deliverable
 pub delivered : (overtake : ℕ) (old new : World) (number : ℕ) → TakesMemory overtake old (Deliver number) → Arrives old number new
@@ -181,13 +183,14 @@ tick_enters W overtake n r node o d = record {
 
 pub ticks : (n n' : Network) (node : ℕ) (o : Outcome) → IsDue n.nodes.items n.journal.moment node o
     → (nodes : List Node) → nodes ≡ n.nodes.items → (now : ℕ) → now ≡ n.journal.moment
-    → Goes nodes node (λ a b. b ≡ ticked now a) n'.nodes.items
+    → (new : List Node) → n'.nodes.items ≡ new → Goes nodes node (λ a b. b ≡ ticked now a) new
     → IsEntered n.nodes.items node o n.journal n'.journal (log_view n.log.items) (log_view n'.log.items) → n'.journal.moment ≡ n.journal.moment
     → n'.journal.notes ≡ n.journal.notes → Ticks (world_of n) node (world_of n')
-ticks n n' node o d nodes are now is went entered moment notes =
+ticks n n' node o d nodes are now is new fits went entered moment notes =
     let g : Goes n.nodes.items node (λ a b. b ≡ ticked n.journal.moment a) n'.nodes.items =
-    subst (λ l. Goes l node (λ a b. b ≡ ticked n.journal.moment a) n'.nodes.items) are
-    (subst (λ (t : ℕ). Goes nodes node (λ a b. b ≡ ticked t a) n'.nodes.items) is went) in
+    subst (λ l. Goes n.nodes.items node (λ a b. b ≡ ticked n.journal.moment a) l) (sym fits)
+    (subst (λ l. Goes l node (λ a b. b ≡ ticked n.journal.moment a) new) are
+    (subst (λ (t : ℕ). Goes nodes node (λ a b. b ≡ ticked t a) new) is went)) in
     let same : d.before ≡ g.before = let e : Some d.before ≡ Some g.before = sym d.at ∙ g.at in cc in
     let tick_is : g.after ≡ ticked n.journal.moment d.before = g.goes ∙ ap (ticked n.journal.moment) (sym same) in
     record {
@@ -215,12 +218,13 @@ dropped_is now from octets a b o none (inr h) = absurd (none h.peer h.apdu h.mea
 
 pub noise_heard : (n n' : Network) (node : ℕ) (from octets : Octets) (o : Outcome) → IsNoise n.nodes.items from octets
     → (nodes : List Node) → nodes ≡ n.nodes.items → (now : ℕ) → now ≡ n.journal.moment
-    → Goes nodes node (λ a b. NodeOn now from octets a b o) n'.nodes.items → n'.journal ≡ n.journal → n'.log ≡ n.log
+    → (new : List Node) → n'.nodes.items ≡ new → Goes nodes node (λ a b. NodeOn now from octets a b o) new → n'.journal ≡ n.journal → n'.log ≡ n.log
     → HearsNoise (world_of n) node from octets (world_of n')
-noise_heard n n' node from octets o noise nodes are now is went journal log =
+noise_heard n n' node from octets o noise nodes are now is new fits went journal log =
     let g : Goes n.nodes.items node (λ a b. NodeOn n.journal.moment from octets a b o) n'.nodes.items =
-    subst (λ l. Goes l node (λ a b. NodeOn n.journal.moment from octets a b o) n'.nodes.items) are
-    (subst (λ (t : ℕ). Goes nodes node (λ a b. NodeOn t from octets a b o) n'.nodes.items) is went) in
+    subst (λ l. Goes n.nodes.items node (λ a b. NodeOn n.journal.moment from octets a b o) l) (sym fits)
+    (subst (λ l. Goes l node (λ a b. NodeOn n.journal.moment from octets a b o) new) are
+    (subst (λ (t : ℕ). Goes nodes node (λ a b. NodeOn t from octets a b o) new) is went)) in
     let d = dropped_is n.journal.moment from octets g.before g.after o noise.meaningless g.goes in
     record {
       noise = noise;

@@ -138,6 +138,10 @@ module _ (overtake : ℕ) (old new : World) where
 
 -- Want of memory.
 
+pub on_err : {T E P : Type 0} (r : Result T E) → P → OnErr r P
+on_err (Ok x) h = tt
+on_err (Err e) h = h
+
 pub no_memory : {A : Type 0} (overtake : ℕ) (old new : World) (e : Event) (q : Result A WorldFault) → q ≡ Err fault.NoMemory → TakesMemory overtake old e
     → (NamesNoNode old e → ⊥) → new ≡ old → Happens overtake old e q new
 no_memory {A} overtake old new e q is memory node same =

@@ -183,7 +183,7 @@ taken_more makers i link m at ne none h = go (decide_number h.before i)
     go (inl is) =
         let same : h.maker ≡ m = let e : Some h.maker ≡ Some m = sym h.at ∙ ap (slice_get makers) is ∙ at in cc in
         ne (sym (ap (λ (x : Maker). (x.0).link) same) ∙ h.same)
-    go (inr no) = none (record { before = h.before; maker = h.maker; below = (let lt : h.before < i + 1 = h.below in omega (arith, no, lt)); at = h.at; same = h.same })
+    go (inr ne') = none (record { before = h.before; maker = h.maker; below = (let lt : h.before < i + 1 = h.below in omega (arith, ne', lt)); at = h.at; same = h.same })
 
 pub same_link_more : (makers : List Maker) (i : ℕ) (m : Maker) → slice_get makers i ≡ Some m → (IsTaken makers i (m.0).link → ⊥)
     → ((h : HaveSameLink makers) → h.second < i → ⊥) → (h : HaveSameLink makers) → h.second < i + 1 → ⊥
@@ -199,7 +199,7 @@ same_link_more makers i m at free none h lt = go (decide_number h.second i)
           at = h.at_first;
           same = h.same ∙ ap (λ (x : Maker). (x.0).link) same;
         })
-    go (inr no) = none h (omega (arith, no, lt))
+    go (inr ne') = none h (omega (arith, ne', lt))
 
 pub slots_more : (makers : List Maker) (i : ℕ) (m : Maker) → slice_get makers i ≡ Some m → has_slots m.0 ≡ true
     → ((h : HasBadSlots makers) → h.place < i → ⊥) → (h : HasBadSlots makers) → h.place < i + 1 → ⊥
@@ -209,7 +209,7 @@ slots_more makers i m at good none h lt = go (decide_number h.place i)
     go (inl is) =
         let same : h.maker ≡ m = let e : Some h.maker ≡ Some m = sym h.at ∙ ap (slice_get makers) is ∙ at in cc in
         let clash : true ≡ false = sym good ∙ sym (ap (λ (x : Maker). has_slots x.0) same) ∙ h.bad in cc
-    go (inr no) = none h (omega (arith, no, lt))
+    go (inr ne') = none h (omega (arith, ne', lt))
 
 pub windows_more : (makers : List Maker) (i : ℕ) (m : Maker) → slice_get makers i ≡ Some m → window_fits (m.0).window ≡ true
     → ((h : HasBadWindow makers) → h.place < i → ⊥) → (h : HasBadWindow makers) → h.place < i + 1 → ⊥
@@ -219,7 +219,7 @@ windows_more makers i m at good none h lt = go (decide_number h.place i)
     go (inl is) =
         let same : h.maker ≡ m = let e : Some h.maker ≡ Some m = sym h.at ∙ ap (slice_get makers) is ∙ at in cc in
         let clash : true ≡ false = sym good ∙ sym (ap (λ (x : Maker). window_fits (x.0).window) same) ∙ h.bad in cc
-    go (inr no) = none h (omega (arith, no, lt))
+    go (inr ne') = none h (omega (arith, ne', lt))
 
 pub place_within : (makers : List Maker) (i : ℕ) (m : Maker) → slice_get makers i ≡ Some m → i < length makers
 place_within makers i m at = slice_get_within makers i m at

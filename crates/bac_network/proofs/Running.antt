@@ -56,6 +56,9 @@ all_done old new events place all done =
 
 -- A fault.
 
+clash : (r : Result (Option AskFault) WorldFault) → r ≡ Err fault.NoMemory → r ≡ Err fault.NoSuchNode → ⊥
+clash r a b = cc
+
 pub fault_is : (f : WorldFault) (overtake : ℕ) (w : World) (e : world.Event) (r : Result (Option AskFault) WorldFault) → r ≡ Err f
     → (IsErrOf r fault.NoSuchNode ↔ NamesNoNode w e) → (IsErrOf r fault.NoSuchDatagram ↔ NamesNoCopy w e) → (IsErrOf r fault.ClockEnd ↔ PassesClock w e)
     → (IsErrOf r fault.NoMemory → TakesMemory overtake w e) → IsFault f overtake w e
@@ -64,7 +67,7 @@ fault_is fault.NoSuchDatagram overtake w e r is node copy clock memory = copy.0 
 fault_is fault.ClockEnd overtake w e r is node copy clock memory = clock.0 is
 fault_is fault.NoMemory overtake w e r is node copy clock memory = (
   memory is,
-  λ n. (let clash : Err {T = Option AskFault} fault.NoMemory ≡ Err fault.NoSuchNode = sym is ∙ node.1 n in cc),
+  λ n. clash r is (node.1 n),
 )
 
 pub stops : (f : WorldFault) (old mid new : WorldView) (events : List Event) (place : ℕ) (event : Event) → slice_get events place ≡ Some event

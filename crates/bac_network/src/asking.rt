@@ -88,7 +88,14 @@ impl Network {
         let now = self.journal.now();
         match ask(&mut self.nodes, client, now, &peer, limits, request) {
             Ok(asked) => {
-                note(&mut self.journal, &mut self.log, client, server, copied, asked);
+                note(
+                    &mut self.journal,
+                    &mut self.log,
+                    client,
+                    server,
+                    copied,
+                    asked,
+                );
                 Ok(None)
             }
             Err(fault) => told(fault),
@@ -139,6 +146,9 @@ fn note(
         server,
         invoke_id,
     };
-    journal.note(Note { transaction, ticket });
+    journal.note(Note {
+        transaction,
+        ticket,
+    });
     journal.send(client, sends);
 }

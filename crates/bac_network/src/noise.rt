@@ -34,12 +34,7 @@ impl Network {
     }
 
     /// A node drops what means nothing.
-    fn drop_noise(
-        &mut self,
-        node: usize,
-        from: [u8; 6],
-        octets: &[u8],
-    )
+    fn drop_noise(&mut self, node: usize, from: [u8; 6], octets: &[u8])
         requires punctual { ArePunctual self.old.nodes.items self.old.journal.moment }
         requires there { node < length self.old.nodes.items }
         requires noise { IsNoise self.old.nodes.items from octets.now }

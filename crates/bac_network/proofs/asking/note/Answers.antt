@@ -16,4 +16,4 @@ returns c = λ nodes linked.
     c.args.journal.now c.note.new.self c.send.new.self (log_view c.args.log.now.items) (log_view c.push_reserved.new.self.items) _
     c.note.ensures c.send.ensures.same linked (c.send.ensures.copies nodes) _
     (ap log_view c.push_reserved.ensures.items ∙ log_push c.args.log.now.items _)
-    (c.len-number.ensures ∙ notes_many c.notes-number.result.now ∙ ap length c.notes-number.ensures)
+    (notes_many c.notes-number.result.now ∙ ap length c.notes-number.ensures)

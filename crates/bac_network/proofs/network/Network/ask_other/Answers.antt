@@ -1,6 +1,7 @@
 -- The ask is noted, or its fault is told.
 use Rattle.std.proofs.Common.{◌≡◌, ◌+◌, ◌<◌, ◌≤◌, ℕ, Some, length, slice_get, refl, sym, ap, subst, inl, ◌∙◌, arith}
 use Rattle.std.proofs.lemmas.Option.{slice_get_read}
+use Rattle.std.proofs.lemmas.List.{with_items_is}
 use Rattle.std.specs.Vec.{with_items}
 use Rattle.bac_apdu.specs.Views.{limits_view}
 use Rattle.bac_service.specs.Values.{Request}
@@ -38,7 +39,8 @@ returns-in-Ok-clause-happens c = λ overtake.
     c.requires.copied (c.note.ensures c.args.self.now.nodes.items c.requires.can.ready.linked) in
     let k = is_asked c.args.self.now c.args.client c.args.server c.requires.can c.index.result.now there (limits_view c.args.limits.now)
     (owned_request_view c.args.request.now) c.ask.new.nodes c.in-Ok.asked c.deref_mut.result.now c.deref_mut.ensures.value c.link.result c.link.ensures
-    c.now-now.result c.now-now.ensures c.in-Ok.ensures.asked new refl noted in
+    c.now-now.result c.now-now.ensures c.in-Ok.ensures.asked new
+    (with_items_is c.args.self.now.nodes c.ask.new.nodes (omega arith)) noted in
     (inl k, k, λ x. x)
 
 pub returns-in-Ok-clause-links : goal.returns-in-Ok-clause-links
@@ -50,6 +52,7 @@ returns-in-Err-clause-happens c = λ overtake.
     let new : Network = record (c.args.self.now) { nodes = with_items c.args.self.now.nodes c.ask.new.nodes } in
     told_so overtake c.args.self.now new c.args.client c.args.server c.requires.can c.index.result.now there (limits_view c.args.limits.now)
     (owned_request_view c.args.request.now)
-    (ap (λ l. world_with l c.args.self.now.journal (log_view c.args.self.now.log.items)) (c.in-Err.ensures.err ∙ c.deref_mut.ensures.value))
+    (ap (λ l. world_with l c.args.self.now.journal (log_view c.args.self.now.log.items))
+    (with_items_is c.args.self.now.nodes c.ask.new.nodes (omega arith) ∙ c.in-Err.ensures.err ∙ c.deref_mut.ensures.value))
     c.deref_mut.result.now c.ask.new.nodes c.deref_mut.ensures.value c.link.result c.link.ensures c.now-now.result c.now-now.ensures c.in-Err.fault
     c.in-Err.ensures.refused c.told.result c.told.ensures

@@ -6,10 +6,12 @@ use Rattle.bac_network.specs.Goings.{Arrives}
 use Rattle.bac_network.specs.Networks.{world_of, HasRoom}
 use Rattle.bac_network.specs.Steps.{TakesMemory}
 use Rattle.bac_network.proofs.Delivered.{ready_alike, world_alike}
+use Rattle.bac_network.proofs.Happening.{on_err}
 use Rattle.bac_network.proofs.network.Network.deliver_now.Goals as goal
 
 pub returns-in_err-make_room-clause-err : goal.returns-in_err-make_room-clause-err
-returns-in_err-make_room-clause-err c = world_alike c.args.self.now c.make_room.new.self c.in_err-make_room.ensures.same
+returns-in_err-make_room-clause-err c =
+    on_err c.from_residual.result (world_alike c.args.self.now c.make_room.new.self c.in_err-make_room.ensures.same)
 
 pub hand_over-requires-clause-ready : goal.hand_over-requires-clause-ready
 hand_over-requires-clause-ready c =

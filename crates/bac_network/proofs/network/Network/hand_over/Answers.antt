@@ -1,5 +1,6 @@
 -- What comes of it enters the world.
 use Rattle.std.proofs.Common.{◌≡◌, ℕ, ◌+◌, ◌≤◌, length, refl, sym, ap, subst, ◌∙◌, arith}
+use Rattle.std.proofs.lemmas.List.{with_items_is}
 use Rattle.std.specs.Vec.{with_items}
 use Rattle.bac_node.specs.Views.{outcome_view}
 use Rattle.bac_world.specs.Node.{Outcome}
@@ -37,6 +38,7 @@ pub returns-clause-went : goal.returns-clause-went
 returns-clause-went c =
     let new : Network =
     record { nodes = with_items c.args.self.now.nodes c.hear_copy.new.nodes; journal = c.enter.new.journal; log = c.enter.new.log } in
-    arrives c.args.self.now new c.args.number _ _ c.deref_mut.result.now c.deref_mut.ensures.value c.in_ok-to.ensures.heard
+    arrives c.args.self.now new c.args.number _ _ c.deref_mut.result.now c.deref_mut.ensures.value c.hear_copy.new.nodes
+    (with_items_is c.args.self.now.nodes c.hear_copy.new.nodes (omega arith)) c.in_ok-to.ensures.heard
     (c.enter.ensures.entered c.args.self.now.nodes.items (c.requires.ready.1).linked)
     (ap (λ (j : JournalView). j.moment) c.enter.ensures.same) (ap (λ (j : JournalView). j.notes) c.enter.ensures.same)

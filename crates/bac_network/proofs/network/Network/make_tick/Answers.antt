@@ -1,5 +1,6 @@
 -- What comes of it enters the world.
 use Rattle.std.proofs.Common.{◌≡◌, ℕ, ◌+◌, ◌≤◌, length, refl, sym, ap, subst, ◌∙◌, arith}
+use Rattle.std.proofs.lemmas.List.{with_items_is}
 use Rattle.std.specs.Vec.{with_items}
 use Rattle.bac_node.specs.Views.{outcome_view}
 use Rattle.bac_simulation.specs.Journals.{JournalView}
@@ -27,5 +28,6 @@ returns-clause-ticked c =
     let new : Network =
     record { nodes = with_items c.args.self.now.nodes c.commit.new.nodes; journal = c.enter.new.journal; log = c.enter.new.log } in
     ticks c.args.self.now new c.args.node (outcome_view c.args.outcome) c.requires.due c.deref_mut.result.now c.deref_mut.ensures.value c.now.result
-    c.now.ensures c.commit.ensures (c.enter.ensures.entered c.args.self.now.nodes.items (c.requires.ready.2).linked)
+    c.now.ensures c.commit.new.nodes (with_items_is c.args.self.now.nodes c.commit.new.nodes (omega arith)) c.commit.ensures
+    (c.enter.ensures.entered c.args.self.now.nodes.items (c.requires.ready.2).linked)
     (ap (λ (j : JournalView). j.moment) c.enter.ensures.same) (ap (λ (j : JournalView). j.notes) c.enter.ensures.same)

@@ -7,10 +7,12 @@ use Rattle.bac_requester.specs.Views.{finish_view}
 use Rattle.bac_world.specs.World.{World, Ticks}
 use Rattle.bac_network.specs.Networks.{world_of}
 use Rattle.bac_network.proofs.Delivered.{due_alike, ready_alike, world_alike}
+use Rattle.bac_network.proofs.Happening.{on_err}
 use Rattle.bac_network.proofs.network.Network.tick_now.Goals as goal
 
 pub returns-in_err-make_room-clause-err : goal.returns-in_err-make_room-clause-err
-returns-in_err-make_room-clause-err c = world_alike c.args.self.now c.make_room.new.self c.in_err-make_room.ensures.same
+returns-in_err-make_room-clause-err c =
+    on_err c.from_residual-in_err-make_room.result (world_alike c.args.self.now c.make_room.new.self c.in_err-make_room.ensures.same)
 
 pub make_tick-requires-clause-ready : goal.make_tick-requires-clause-ready
 make_tick-requires-clause-ready c = (
