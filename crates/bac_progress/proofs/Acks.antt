@@ -1,6 +1,6 @@
 -- What a sender does with SegmentACKs of one piece.
-use Rattle.std.proofs.Common.{◌≡◌, ℕ, zero, suc, ◌+◌, ◌-◌, ◌*◌, ◌%◌, ◌<◌, ◌≤◌, ◌⊎◌, min, Bool, true, false, List, [], ◌∷◌, ◌++◌, length, get_or, take}
-use Rattle.std.proofs.Common.{Option, Some, None, if◌then◌else◌, nat_lt, refl, sym, ap, subst, inl, inr, ◌∙◌, arith, append_assoc, append-nil, length-append}
+use Rattle.std.proofs.Common.{◌≡◌, ℕ, zero, suc, ◌+◌, ◌-◌, ◌*◌, ◌%◌, ◌<◌, ◌≤◌, ◌⊎◌, min, Bool, true, false, List, [], ◌∷◌, ◌++◌, length}
+use Rattle.std.proofs.Common.{Some, None, if◌then◌else◌, nat_lt, refl, sym, ap, subst, ◌∙◌, arith, append_assoc, length-append}
 use Rattle.std.proofs.lemmas.Bool.Decides.{nat_tests}
 use Rattle.bac_apdu.specs.Apdu.{Apdu}
 use Rattle.bac_segment.specs.Limits.{RETRIES}
@@ -10,13 +10,12 @@ use Rattle.bac_protocol.specs.Service.{Octets}
 use Rattle.bac_protocol.specs.Wire.{pieces_from}
 use Rattle.bac_protocol.specs.Log.{Shop}
 use Rattle.bac_protocol.specs.Transaction.{Key, Rules}
-use Rattle.bac_protocol.proofs.Facts.{pieces_length}
 use Rattle.bac_protocol.proofs.Queue.{Duo}
 use Rattle.bac_protocol.proofs.Readings.{ahead_is}
 use Rattle.bac_protocol.proofs.Windows.{next_window, not_finished}
 use Rattle.bac_protocol.proofs.Carries.{Sender, moved, Fitting}
 use Rattle.bac_progress.proofs.Deliveries.{Within, within_then, no_step}
-use Rattle.bac_progress.proofs.Windows.{repeated, length_repeated, quiet, takes_old, Channel, Moving, Acked, naks_on, took_at, quiet_on, fresh_on}
+use Rattle.bac_progress.proofs.Windows.{repeated, length_repeated, Channel, Moving}
 
 -- a SegmentACK of a piece of the window
 pub acknowledged_some : (actual own : ℕ) (out : Outgoing) (q : ℕ) → in_window out ≤ 256 → out.first ≤ q → q < out.first + in_window out

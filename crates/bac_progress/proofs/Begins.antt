@@ -10,7 +10,7 @@ use Rattle.bac_protocol.specs.Context.{Context}
 use Rattle.bac_protocol.specs.Sizes.{reply_way_of}
 use Rattle.bac_protocol.specs.Service.{Reply}
 use Rattle.bac_protocol.specs.Service.Outcome.{Replies}
-use Rattle.bac_protocol.specs.Wire.{is_from_client, pieces_from}
+use Rattle.bac_protocol.specs.Wire.{pieces_from}
 use Rattle.bac_protocol.specs.Client as client
 use Rattle.bac_protocol.specs.Client.{Ask, Phase, Ticket}
 use Rattle.bac_protocol.specs.Client.Phase.{AwaitConfirmation, SegmentedRequest}

@@ -1,8 +1,8 @@
 -- Each step of a client keeps its transaction in step.
-use Rattle.std.proofs.Common.{◌≡◌, ℕ, ◌+◌, ◌-◌, ◌*◌, ◌%◌, ◌<◌, ◌≤◌, ◌≢◌, ◌⊎◌, min, Bool, true, false, ◌&&◌, ◌||◌, not, List, [], ◌∷◌, ◌++◌, length}
-use Rattle.std.proofs.Common.{Option, Some, None, if◌then◌else◌, nat_lt, nat_le, nat_eq, refl, sym, ap, subst, inl, inr, ◌∙◌, arith}
+use Rattle.std.proofs.Common.{◌≡◌, ℕ, ◌+◌, ◌-◌, ◌*◌, ◌%◌, ◌<◌, ◌≤◌, ◌≢◌, ◌⊎◌, Bool, true, false, ◌&&◌, ◌||◌, not, List, [], ◌∷◌, ◌++◌, length}
+use Rattle.std.proofs.Common.{Option, Some, None, if◌then◌else◌, nat_le, nat_eq, refl, sym, ap, subst, inl, inr, ◌∙◌, arith}
 use Rattle.std.proofs.lemmas.Bool.Decides.{nat_tests}
-use Rattle.bac_apdu.specs.Apdu.{Apdu, Segment}
+use Rattle.bac_apdu.specs.Apdu.{Apdu}
 use Rattle.bac_apdu.specs.Apdu.Apdu.{ConfirmedRequest, UnconfirmedRequest, SimpleAck, ComplexAck, SegmentAck, Error, Reject, Abort}
 use Rattle.bac_segment.specs.Limits.{RETRIES}
 use Rattle.bac_segment.specs.Numbers.{ahead}
@@ -23,9 +23,9 @@ use Rattle.bac_protocol.specs.Server.{Entry}
 use Rattle.bac_protocol.specs.Own.{lesser_window}
 use Rattle.bac_protocol.specs.Transaction.{Key, Rules, Copy, client_context}
 use Rattle.bac_protocol.proofs.Facts.{pieces_length}
-use Rattle.bac_protocol.proofs.Transfer.{moved, acknowledged_cases, with_piece, takes_cases}
+use Rattle.bac_protocol.proofs.Transfer.{moved, acknowledged_cases}
 use Rattle.bac_progress.specs.InStep.{IsAtStart, IsUnderway, IsSending}
-use Rattle.bac_progress.proofs.Flow.{reach, NearUp, request_window_near, PhaseFlows, Collects, SendsOn, After}
+use Rattle.bac_progress.proofs.Flow.{reach, NearUp, request_window_near, PhaseFlows, Collects, After}
 
 -- Windows.
 

@@ -1,5 +1,5 @@
 -- A reply in segments reaches its client whole, wherever its two ends stood, and ends its ticket; so does one of one APDU.
-use Rattle.std.proofs.Common.{◌≡◌, ℕ, zero, suc, ◌+◌, ◌-◌, ◌*◌, ◌%◌, ◌<◌, ◌≤◌, min, Bool, true, false, ◌||◌, ◌&&◌, not, List, [], ◌∷◌, ◌++◌, length, get_or, take}
+use Rattle.std.proofs.Common.{◌≡◌, ℕ, zero, suc, ◌+◌, ◌-◌, ◌*◌, ◌%◌, ◌<◌, ◌≤◌, min, Bool, true, false, ◌||◌, ◌&&◌, List, [], ◌∷◌, ◌++◌, length, get_or}
 use Rattle.std.proofs.Common.{Option, Some, None, is_some, if◌then◌else◌, nat_lt, nat_le, nat_eq, append-nil, refl, sym, ap, subst, inl, ◌∙◌, arith}
 use Rattle.std.proofs.lemmas.Bool.Decides.{nat_tests}
 use Rattle.bac_apdu.specs.Apdu.{Apdu}
@@ -38,7 +38,7 @@ use Rattle.bac_protocol.proofs.Carries.{Sender, moved, Fitting}
 use Rattle.bac_progress.proofs.Deliveries.{Within, within_then, within_more, one_step, idle_step, no_step}
 use Rattle.bac_progress.proofs.Windows.{repeated, length_repeated, quiet, Channel}
 use Rattle.bac_progress.proofs.Acks.{acks_read, moving}
-use Rattle.bac_progress.proofs.Rounds.{IsRound, LastLeft, all_rounds}
+use Rattle.bac_progress.proofs.Rounds.{IsRound, all_rounds}
 use Rattle.bac_progress.proofs.Serving.{answer_not_from_client}
 use Rattle.bac_progress.proofs.Gets.{client_opens, server_lives, lives}
 

@@ -1,7 +1,6 @@
 -- What a run keeps of the two ends of a transaction: that they stay in step. The first piece that a sender has not sent is known from where it stands.
-use Rattle.std.proofs.Common.{◌≡◌, ℕ, ◌+◌, ◌-◌, ◌*◌, ◌<◌, ◌≤◌, ◌⊎◌, min, Bool, true, false, ◌||◌, List, [], ◌∷◌, length, Option, Some, None}
-use Rattle.std.proofs.Common.{if◌then◌else◌, slice_get, nat_lt, refl, sym, ap, subst, inl, inr, ◌∙◌, arith}
-use Rattle.std.proofs.lemmas.Bool.Decides.{nat_tests}
+use Rattle.std.proofs.Common.{◌≡◌, ℕ, ◌+◌, ◌-◌, ◌*◌, ◌<◌, ◌≤◌, ◌⊎◌, Bool, true, ◌||◌, List, [], ◌∷◌, length, Option, Some, None}
+use Rattle.std.proofs.Common.{if◌then◌else◌, subst, ◌∙◌, arith}
 use Rattle.bac_apdu.specs.Apdu.{Apdu, Limits, Segment}
 use Rattle.bac_apdu.specs.Apdu.Apdu.{ConfirmedRequest, UnconfirmedRequest, SimpleAck, ComplexAck, SegmentAck, Error, Reject, Abort}
 use Rattle.bac_segment.specs.Limits.{RETRIES}
@@ -10,7 +9,7 @@ use Rattle.bac_segment.specs.Window.{Outgoing, in_window, Incoming}
 use Rattle.bac_protocol.specs.declared.times.TheConstants.{LIFE}
 use Rattle.bac_protocol.specs.Context.{Context}
 use Rattle.bac_protocol.specs.Service.{Octets}
-use Rattle.bac_protocol.specs.Wire.{is_from_client, is_from_server, segment_of, pieces_from, Each}
+use Rattle.bac_protocol.specs.Wire.{is_from_client, is_from_server, segment_of, Each}
 use Rattle.bac_protocol.specs.Client as client
 use Rattle.bac_protocol.specs.Client.{Ask, Phase}
 use Rattle.bac_protocol.specs.Client.Phase.{SegmentedRequest, AwaitConfirmation, SegmentedConf, Idle}
@@ -19,7 +18,7 @@ use Rattle.bac_protocol.specs.Server.{State, Entry}
 use Rattle.bac_protocol.specs.Server.State.{Done, SegmentedResponse, Dropped}
 use Rattle.bac_protocol.specs.Own.{lesser_window}
 use Rattle.bac_protocol.specs.Transaction.{Key, Rules, Copy}
-use Rattle.bac_protocol.specs.Claims.{EachCopy, IsPieceAt, IsPiece}
+use Rattle.bac_protocol.specs.Claims.{EachCopy, IsPiece}
 use Rattle.bac_protocol.proofs.Alone.{sent}
 use Rattle.bac_protocol.proofs.Facts.{each_sent, all_map, pieces_all}
 use Rattle.bac_protocol.proofs.Transfer.{piece_at_is}

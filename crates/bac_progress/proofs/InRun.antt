@@ -1,16 +1,14 @@
 -- In every run the two ends of each transaction stay in step.
-use Rattle.std.proofs.Common.{◌≡◌, ℕ, suc, ◌+◌, ◌-◌, ◌*◌, ◌%◌, ◌<◌, ◌≤◌, ◌⊎◌, min, Bool, true, false, ◌&&◌, ◌||◌, List, [], ◌∷◌, ◌++◌, map, length, take}
-use Rattle.std.proofs.Common.{Option, Some, None, slice_get, if◌then◌else◌, nat_lt, nat_le, refl, sym, ap, subst, inl, inr, ◌∙◌, arith}
+use Rattle.std.proofs.Common.{◌≡◌, ℕ, ◌+◌, ◌-◌, ◌*◌, ◌%◌, ◌<◌, ◌≤◌, ◌⊎◌, Bool, true, false, ◌&&◌, ◌||◌, List, [], ◌∷◌, ◌++◌, length}
+use Rattle.std.proofs.Common.{Option, Some, None, slice_get, if◌then◌else◌, refl, sym, ap, subst, inl, inr, ◌∙◌, arith}
 use Rattle.std.proofs.lemmas.Bool.Decides.{nat_tests}
-use Rattle.bac_apdu.specs.Apdu.{Apdu, Limits, Segment}
+use Rattle.bac_apdu.specs.Apdu.{Apdu, Segment}
 use Rattle.bac_apdu.specs.Apdu.Apdu.{ConfirmedRequest, UnconfirmedRequest, SimpleAck, ComplexAck, SegmentAck, Error, Reject, Abort}
-use Rattle.bac_segment.specs.Limits.{RETRIES}
-use Rattle.bac_segment.specs.Pieces.{join}
-use Rattle.bac_segment.specs.Window.{Outgoing, outgoing, in_window, Incoming, incoming, Taking, takes}
-use Rattle.bac_protocol.specs.declared.times.TheConstants.{LIFE, DEADLINE, KEEP}
+use Rattle.bac_segment.specs.Window.{Outgoing, Incoming, incoming, Taking, takes}
+use Rattle.bac_protocol.specs.declared.times.TheConstants.{LIFE}
 use Rattle.bac_protocol.specs.Context.{Context}
 use Rattle.bac_protocol.specs.Service.{Octets, Readable}
-use Rattle.bac_protocol.specs.Wire.{is_from_client, is_from_server, Each}
+use Rattle.bac_protocol.specs.Wire.{is_from_client, Each}
 use Rattle.bac_protocol.specs.Client as client
 use Rattle.bac_protocol.specs.Client.{Ask, Phase, Ticket, Reaction}
 use Rattle.bac_protocol.specs.Client.Phase.{SegmentedRequest, AwaitConfirmation, SegmentedConf, Idle}
@@ -18,21 +16,19 @@ use Rattle.bac_protocol.specs.Client.Reaction.{Stays, GoesOn, Repeats, Ends}
 use Rattle.bac_protocol.specs.Server as server
 use Rattle.bac_protocol.specs.Server.{State, Entry, Service, is_live}
 use Rattle.bac_protocol.specs.Server.State.{Done, SegmentedResponse, Dropped}
-use Rattle.bac_protocol.specs.Log.{Fact, Shop}
-use Rattle.bac_protocol.specs.Own.{PhaseHas, lesser_window, IsSentByClient, IsSentByServer, IsOwnPost, AreOwn, IsOfClient}
+use Rattle.bac_protocol.specs.Log.{Fact}
+use Rattle.bac_protocol.specs.Own.{PhaseHas, lesser_window, IsSentByClient, IsSentByServer, IsOfClient}
 use Rattle.bac_protocol.specs.Transaction.{Key, Rules, Copy, client_context, server_context}
 use Rattle.bac_protocol.specs.Claims.{IsBounded, EachCopy, IsPiece}
-use Rattle.bac_protocol.proofs.Alone.{one, sent}
-use Rattle.bac_protocol.proofs.Asks.{IsSpent}
-use Rattle.bac_protocol.proofs.Sound.{IsUnderway, IsFront, Up, Down, IsPieceDown, client_until, Says, SendsUp, ClientFits, CollectsDown, IsKeptFor, IsUnbegun}
+use Rattle.bac_protocol.proofs.Alone.{sent}
+use Rattle.bac_protocol.proofs.Sound.{IsUnderway, Up, Down, client_until, Says, ClientFits, CollectsDown, IsKeptFor, IsUnbegun}
 use Rattle.bac_protocol.proofs.Sound.{SendsDown, StateFits, ServerFits, Sound}
 use Rattle.bac_protocol.proofs.Sound.Up.{Reading, Repeated}
 use Rattle.bac_protocol.proofs.Sound.Down.{Unsent, Sent}
 use Rattle.bac_protocol.proofs.Own.{ClientSends, BeginsAnswer, own_sends, gets_own, ticks_own, client_sends_own}
 use Rattle.bac_protocol.proofs.Transfer.{takes_cases, takes_below}
-use Rattle.bac_progress.specs.InStep.{IsSending}
-use Rattle.bac_progress.proofs.Flow.{reach, NearDown, SaysLimits, AllUp, AllDown, all_up, all_limits, request_window_near, PhaseFlows, IsMade, IsReplySender}
-use Rattle.bac_progress.proofs.Flow.{StateMade, Flow, flow_later, Collects, After, client_flows, server_flows}
+use Rattle.bac_progress.proofs.Flow.{reach, NearDown, SaysLimits, PhaseFlows}
+use Rattle.bac_progress.proofs.Flow.{StateMade, Flow, client_flows, server_flows}
 use Rattle.bac_progress.proofs.ClientFlows.{window_bound}
 use Rattle.bac_progress.proofs.ClientFlows as of_client
 use Rattle.bac_progress.proofs.ServerFlows as of_server

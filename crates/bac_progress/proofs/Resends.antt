@@ -1,18 +1,15 @@
 -- A request that comes again where it was performed: its reply is sent again, or goes on where it had stopped.
-use Rattle.std.proofs.Common.{◌≡◌, ℕ, zero, suc, ◌+◌, ◌-◌, ◌*◌, ◌<◌, ◌≤◌, min, Bool, true, false, List, [], ◌∷◌, ◌++◌, length}
-use Rattle.std.proofs.Common.{Option, Some, None, nat_le, append-nil, refl, sym, ap, subst, ◌∙◌, arith, length-append}
+use Rattle.std.proofs.Common.{◌≡◌, ℕ, zero, suc, ◌+◌, ◌-◌, ◌*◌, ◌<◌, ◌≤◌, min, true, false, List, [], ◌∷◌, ◌++◌, length}
+use Rattle.std.proofs.Common.{Option, Some, None, nat_le, append-nil, refl, ap, subst, ◌∙◌, arith, length-append}
 use Rattle.bac_apdu.specs.Apdu.{Apdu}
 use Rattle.bac_segment.specs.Pieces.{join}
-use Rattle.bac_segment.specs.Window.{Outgoing, in_window, resume, Incoming}
-use Rattle.bac_service.specs.Choices.{has_complex_ack}
+use Rattle.bac_segment.specs.Window.{Outgoing, resume}
 use Rattle.bac_protocol.specs.declared.times.TheConstants.{KEEP}
 use Rattle.bac_protocol.specs.Context.{Context}
 use Rattle.bac_protocol.specs.Service.{Octets, Reply}
-use Rattle.bac_protocol.specs.Service.Reply.{Complex}
 use Rattle.bac_protocol.specs.Wire.{pieces_from}
 use Rattle.bac_protocol.specs.Client as client
 use Rattle.bac_protocol.specs.Client.{Ask, Phase, Ticket, is_idle}
-use Rattle.bac_protocol.specs.Client.Phase.{SegmentedConf}
 use Rattle.bac_protocol.specs.Server as server
 use Rattle.bac_protocol.specs.Server.{State, Entry, Service}
 use Rattle.bac_protocol.specs.Server.Transfer.{Stopped}
@@ -22,11 +19,9 @@ use Rattle.bac_protocol.specs.Straight.{KindFits}
 use Rattle.bac_protocol.specs.Transaction.{Key, Rules, client_context, server_context}
 use Rattle.bac_protocol.proofs.Facts.{pieces_length}
 use Rattle.bac_protocol.proofs.Queue.{Duo, served}
-use Rattle.bac_protocol.proofs.Carries.{Sender, Fitting}
 use Rattle.bac_progress.proofs.Deliveries.{Within, within_then, one_step, no_step}
 use Rattle.bac_progress.proofs.Windows.{repeated, one_more, length_repeated}
-use Rattle.bac_progress.proofs.Rounds.{IsRound}
-use Rattle.bac_progress.proofs.Serving.{serves_again, serves_segment, serves_stopped, serves_stopped_segment, goes_on, answers_again}
+use Rattle.bac_progress.proofs.Serving.{serves_again, serves_segment, serves_stopped, serves_stopped_segment}
 use Rattle.bac_progress.proofs.Gets.{lives}
 use Rattle.bac_progress.proofs.Downloads.{Waits, sending_waits}
 use Rattle.bac_progress.proofs.Downloads as down

@@ -1,23 +1,20 @@
 -- Windows are sent again until a transfer's last piece alone is left, wherever its two ends stood.
-use Rattle.std.proofs.Common.{◌≡◌, ℕ, zero, suc, ◌+◌, ◌-◌, ◌*◌, ◌%◌, ◌<◌, ◌≤◌, ◌⊎◌, min, Bool, true, false, List, [], ◌∷◌, ◌++◌, length, get_or, take}
-use Rattle.std.proofs.Common.{Option, Some, None, if◌then◌else◌, nat_lt, refl, sym, ap, subst, inl, inr, ◌∙◌, arith, append_assoc, append-nil, length-append}
+use Rattle.std.proofs.Common.{◌≡◌, ℕ, zero, suc, ◌+◌, ◌-◌, ◌*◌, ◌%◌, ◌<◌, ◌≤◌, ◌⊎◌, Bool, true, false, List, [], ◌∷◌, ◌++◌, length, get_or, take}
+use Rattle.std.proofs.Common.{if◌then◌else◌, nat_lt, refl, ap, subst, inl, inr, ◌∙◌, arith, append-nil}
 use Rattle.std.proofs.lemmas.Bool.Decides.{nat_tests}
 use Rattle.bac_apdu.specs.Apdu.{Apdu}
-use Rattle.bac_segment.specs.Limits.{RETRIES}
-use Rattle.bac_segment.specs.Numbers.{ahead}
-use Rattle.bac_segment.specs.Window.{Outgoing, in_window, acknowledged, Incoming}
+use Rattle.bac_segment.specs.Window.{in_window, Incoming}
 use Rattle.bac_protocol.specs.Service.{Octets}
 use Rattle.bac_protocol.specs.Wire.{pieces_from}
 use Rattle.bac_protocol.specs.Log.{Shop}
 use Rattle.bac_protocol.specs.Transaction.{Key, Rules}
 use Rattle.bac_protocol.proofs.Facts.{pieces_length}
 use Rattle.bac_protocol.proofs.Queue.{Duo}
-use Rattle.bac_protocol.proofs.Readings.{ahead_is}
-use Rattle.bac_protocol.proofs.Windows.{next_window, not_finished}
+use Rattle.bac_protocol.proofs.Windows.{next_window}
 use Rattle.bac_protocol.proofs.Carries.{Sender, moved, Fitting}
 use Rattle.bac_progress.proofs.Deliveries.{Within, within_then}
 use Rattle.bac_progress.proofs.Acks.{acks_read, moving}
-use Rattle.bac_progress.proofs.Windows.{repeated, length_repeated, quiet, takes_old, Channel, Moving, Acked, naks_on, took_at, quiet_on, fresh_on}
+use Rattle.bac_progress.proofs.Windows.{repeated, length_repeated, quiet, takes_old, Channel, Acked, naks_on, took_at, quiet_on, fresh_on}
 
 module _ (S : Type 0) (shop : Shop S) (x : Rules) (now number : ℕ) (key : Key) (actual own : ℕ) (ps : List Octets)
     (sizes : Fitting x.overtake actual own ps) (near : actual < 256) (c : Channel S shop x now number key actual own ps) where

@@ -1,10 +1,10 @@
 -- A request in segments reaches its server whole, wherever its two ends stood, and is performed.
-use Rattle.std.proofs.Common.{◌≡◌, ℕ, zero, suc, ◌+◌, ◌-◌, ◌*◌, ◌%◌, ◌<◌, ◌≤◌, min, Bool, true, false, ◌||◌, List, [], ◌∷◌, ◌++◌, length, get_or, take}
-use Rattle.std.proofs.Common.{Option, Some, None, if◌then◌else◌, nat_lt, nat_le, append-nil, refl, sym, ap, subst, inl, ◌∙◌, arith}
+use Rattle.std.proofs.Common.{◌≡◌, ℕ, zero, suc, ◌+◌, ◌-◌, ◌*◌, ◌%◌, ◌<◌, ◌≤◌, min, Bool, true, false, ◌||◌, List, [], ◌∷◌, ◌++◌, length, get_or}
+use Rattle.std.proofs.Common.{Option, Some, None, if◌then◌else◌, nat_lt, nat_le, append-nil, refl, ap, subst, ◌∙◌, arith}
 use Rattle.std.proofs.lemmas.Bool.Decides.{nat_tests}
 use Rattle.bac_apdu.specs.Apdu.{Apdu}
 use Rattle.bac_segment.specs.Pieces.{join}
-use Rattle.bac_segment.specs.Window.{Outgoing, in_window, is_finished, acknowledged, Incoming, incoming, Taking, takes}
+use Rattle.bac_segment.specs.Window.{Outgoing, in_window, is_finished, acknowledged, Incoming, Taking, takes}
 use Rattle.bac_segment.specs.Window.Taking.{Taken, Whole, Nak}
 use Rattle.bac_protocol.specs.declared.times.TheConstants.{KEEP, WAIT_SEG}
 use Rattle.bac_protocol.specs.Context.{Context}
@@ -26,14 +26,14 @@ use Rattle.bac_protocol.specs.World.{stored}
 use Rattle.bac_protocol.specs.Straight.{WayFits}
 use Rattle.bac_protocol.proofs.Facts.{pieces_length}
 use Rattle.bac_protocol.proofs.Queue.{Duo, step, served, reacted}
-use Rattle.bac_protocol.proofs.Windows.{takes_one, takes_last, after_piece, taken_next, parts_next, next_window, finished}
+use Rattle.bac_protocol.proofs.Windows.{takes_last, next_window, finished}
 use Rattle.bac_protocol.proofs.Carries.{Sender, moved, Fitting}
-use Rattle.bac_protocol.proofs.Requested.{kept_state, first_sent, gives_as, server_new}
-use Rattle.bac_progress.proofs.Deliveries.{Within, within_then, one_step, idle_step, Starts, starts_then, first_step}
+use Rattle.bac_protocol.proofs.Requested.{kept_state, first_sent}
+use Rattle.bac_progress.proofs.Deliveries.{Within, within_then, one_step, idle_step}
 use Rattle.bac_progress.proofs.Windows.{repeated, length_repeated, quiet, Channel, Moving}
-use Rattle.bac_progress.proofs.Acks.{acknowledged_some, after_ack, acks_read, moving}
-use Rattle.bac_progress.proofs.Rounds.{IsRound, sent, LastLeft, all_rounds}
-use Rattle.bac_progress.proofs.Gets.{client_opens, server_lives, lives, alive_now, performs_is}
+use Rattle.bac_progress.proofs.Acks.{acknowledged_some, acks_read}
+use Rattle.bac_progress.proofs.Rounds.{IsRound, LastLeft, all_rounds}
+use Rattle.bac_progress.proofs.Gets.{client_opens, server_lives, lives, performs_is}
 
 module _ (S : Type 0) (shop : Shop S) (x : Rules) (now number : ℕ) (key : Key) (ask : Ask) (young : client.is_expired now ask ≡ false)
     (repeats begin : ℕ) (alive : nat_le (now - begin) KEEP ≡ true) (stores : ℕ → S) (log : List Fact) where
