@@ -1,11 +1,11 @@
 -- Wherever the two ends of a transaction are in step, one turn answers its ask.
-use Rattle.std.proofs.Common.{◌≡◌, ℕ, zero, suc, ◌+◌, ◌-◌, ◌*◌, ◌<◌, ◌≤◌, ◌⊎◌, min, Bool, true, false, ◌||◌, List, [], ◌∷◌, length}
+use Rattle.std.proofs.Common.{◌≡◌, ℕ, zero, suc, ◌+◌, ◌-◌, ◌*◌, ◌<◌, ◌≤◌, min, Bool, true, false, ◌||◌, List, [], ◌∷◌, length}
 use Rattle.std.proofs.Common.{Option, Some, None, if◌then◌else◌, nat_le, refl, sym, ap, subst, inl, ◌∙◌, arith}
 use Rattle.std.proofs.lemmas.Bool.Decides.{nat_tests}
 use Rattle.bac_apdu.specs.Apdu.{Apdu}
 use Rattle.bac_segment.specs.Limits.{RETRIES}
 use Rattle.bac_segment.specs.Pieces.{join}
-use Rattle.bac_segment.specs.Window.{Outgoing, outgoing, in_window, again, resume, Incoming}
+use Rattle.bac_segment.specs.Window.{Outgoing, outgoing, in_window, resume, Incoming}
 use Rattle.bac_protocol.specs.declared.times.TheConstants.{KEEP, T_OUT, T_SEG, WAIT_SEG}
 use Rattle.bac_protocol.specs.Context.{Context}
 use Rattle.bac_protocol.specs.Sizes.{Way, reply_way_of}
@@ -25,7 +25,7 @@ use Rattle.bac_protocol.specs.Server.Transfer.{Running, Stopped, Finished}
 use Rattle.bac_protocol.specs.Log.{Fact, Has, Shop}
 use Rattle.bac_protocol.specs.Log.Fact.{Performed}
 use Rattle.bac_protocol.specs.Transaction.{Key, Rules, client_context, server_context}
-use Rattle.bac_protocol.specs.World.{World, happens, run, start}
+use Rattle.bac_protocol.specs.World.{World, happens, start}
 use Rattle.bac_protocol.specs.World.Event.{Tick}
 use Rattle.bac_protocol.specs.Claims.{IsBounded}
 use Rattle.bac_protocol.specs.Straight.{AreStraight, FitsData, WayFits, KindFits, way_count, way_to, request_count}
@@ -474,7 +474,8 @@ module _ (S : Type 0) (shop : Shop S) (opening : ℕ → S) (W : ℕ) (x : Rules
               (SegmentedResponse (resume reply_out) Running now) (server.reply_window d ask.choice (resume reply_out)) in
               let y = again_.segments_resume S shop x now number key ask young t.repeats e.begin found.live None w.stores log t' reply_out since k out.first
               refl refl (omega arith) in
-              let z = from_start reply_out same cut t.repeats e.begin found.live None RETRIES (SegmentedRequest out' true) now (sending_waits out') refl start in
+              let z = from_start reply_out same cut t.repeats e.begin found.live None RETRIES (SegmentedRequest out' true) now (sending_waits out') refl
+              start in
               let count = count_is whole in
               record {
                 q = q;
@@ -631,10 +632,10 @@ module _ (S : Type 0) (shop : Shop S) (opening : ℕ → S) (W : ℕ) (x : Rules
               (pieces_from (client.request_piece c ask.choice ask.pieces) 0 1) in
               let mid = again_.with_state S shop x now number key ask young (t.repeats - 1) e.begin there_is.live None w.stores log ticket
               (SegmentedResponse (resume reply_out) Running now) (server.reply_window d ask.choice (resume reply_out)) in
-              let y = again_.segments_resume S shop x now number key ask young (t.repeats - 1) e.begin there_is.live None w.stores log ticket reply_out since 0 0
-              refl refl (omega arith) in
-              let z = from_start reply_out same cut (t.repeats - 1) e.begin there_is.live None RETRIES (SegmentedRequest anew true) now (sending_waits anew) refl
-              start in
+              let y = again_.segments_resume S shop x now number key ask young (t.repeats - 1) e.begin there_is.live None w.stores log ticket reply_out since
+              0 0 refl refl (omega arith) in
+              let z = from_start reply_out same cut (t.repeats - 1) e.begin there_is.live None RETRIES (SegmentedRequest anew true) now (sending_waits anew)
+              refl start in
               let count = count_is whole in
               record {
                 q = q;
@@ -661,7 +662,8 @@ module _ (S : Type 0) (shop : Shop S) (opening : ℕ → S) (W : ℕ) (x : Rules
       (client.request_apdu c ask ∷ []) in
       let mid = again_.with_state S shop x now number key ask young (t.repeats - 1) e.begin found.live request w.stores log ticket
       (SegmentedResponse (resume reply_out) Running now) (server.reply_window d ask.choice (resume reply_out)) in
-      let y = again_.request_resumes S shop x now number key ask young (t.repeats - 1) e.begin found.live request w.stores log ticket reply_out since refl refl in
+      let y = again_.request_resumes S shop x now number key ask young (t.repeats - 1) e.begin found.live request w.stores log ticket reply_out since refl
+      refl in
       let z = from_middle reply_out same cut (t.repeats - 1) e.begin found.live request RETRIES inc now together in
       let done = reply_performed S shop opening W x bound w kept_in key t at e found.at found.live reply_out Stopped since state p same in
       let count = whole_count whole in
@@ -726,7 +728,8 @@ module _ (S : Type 0) (shop : Shop S) (opening : ℕ → S) (W : ℕ) (x : Rules
         server_ready AwaitConfirmation is refl
         (from_start reply_out same cut t.repeats e.begin served_is.live e.request r AwaitConfirmation t.since await_waits refl start)
     server_turn (SegmentedConf inc) is going h =
-        let together : StandsCollecting actual inc (SegmentedResponse reply_out Running since) = subst (λ (st : State). StandsCollecting actual inc st) state h in
+        let together : StandsCollecting actual inc (SegmentedResponse reply_out Running since) =
+        subst (λ (st : State). StandsCollecting actual inc st) state h in
         server_ready (SegmentedConf inc) is refl (from_middle reply_out same cut t.repeats e.begin served_is.live e.request r inc t.since together)
     server_turn (SegmentedRequest out all_sent) is going h =
         let start : StandsSending actual ask.pieces out all_sent (SegmentedResponse reply_out Running since) =

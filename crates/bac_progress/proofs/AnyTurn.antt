@@ -1,6 +1,6 @@
 -- A turn of either end, and the run after it.
-use Rattle.std.proofs.Common.{◌≡◌, ℕ, ◌+◌, ◌-◌, ◌*◌, ◌<◌, ◌≤◌, ◌⊎◌, true, ◌||◌, List, [], ◌∷◌, length}
-use Rattle.std.proofs.Common.{Option, Some, None, if◌then◌else◌, refl, subst, inl, inr, ◌∙◌}
+use Rattle.std.proofs.Common.{◌≡◌, ℕ, ◌+◌, true, List, [], ◌∷◌, length}
+use Rattle.std.proofs.Common.{Option, Some, None, refl, subst, inl, inr}
 use Rattle.bac_segment.specs.Pieces.{join}
 use Rattle.bac_protocol.specs.Service.{Reply as reply}
 use Rattle.bac_protocol.specs.Service.Outcome.{Replies}

@@ -1,5 +1,5 @@
 -- In every run the two ends of each transaction stay in step.
-use Rattle.std.proofs.Common.{◌≡◌, ℕ, ◌+◌, ◌-◌, ◌*◌, ◌%◌, ◌<◌, ◌≤◌, ◌⊎◌, Bool, true, false, ◌&&◌, ◌||◌, List, [], ◌∷◌, ◌++◌, length}
+use Rattle.std.proofs.Common.{◌≡◌, ℕ, ◌+◌, ◌-◌, ◌*◌, ◌<◌, ◌≤◌, ◌⊎◌, Bool, true, false, List, [], ◌∷◌, ◌++◌, length}
 use Rattle.std.proofs.Common.{Option, Some, None, slice_get, if◌then◌else◌, refl, sym, ap, subst, inl, inr, ◌∙◌, arith}
 use Rattle.std.proofs.lemmas.Bool.Decides.{nat_tests}
 use Rattle.bac_apdu.specs.Apdu.{Apdu, Segment}
@@ -168,7 +168,8 @@ module _ (W : ℕ) (x : Rules) (bound : IsBounded W x) (key : Key) (some : 0 < l
         let c = client_context x key now in
         let r = client.client_ticks c t in
         reaction_flows r
-        (of_client.ticks_fine W x key now t.ask t.repeats t.phase o copies some L_small L_client flow.some t refl refl refl flow.client flow.taken_down flow.few)
+        (of_client.ticks_fine W x key now t.ask t.repeats t.phase o copies some L_small L_client flow.some t refl refl refl flow.client flow.taken_down
+        flow.few)
         (tick_limits now readable t) (up_of key.invoke_id (client.sends_of r) (client_sends_own.ticks c t))
 
     -- a segment of the reply comes, with k later copies
@@ -271,7 +272,8 @@ module _ (W : ℕ) (x : Rules) (bound : IsBounded W x) (key : Key) (some : 0 < l
 
       -- no entry is live, while a copy of the client's may arrive
       none_begun : (m : ℕ) → m ≤ client_until t.ask → now - m ≤ LIFE → (y : Option Entry) → o ≡ y → server.is_none_live now y ≡ true → down ≡ Unsent
-      none_begun m sent_by young None at dead = unbegun_down number up down log (subst (λ (y : Option Entry). ServerFits W number t.ask y up down log) at s.server)
+      none_begun m sent_by young None at dead =
+          unbegun_down number up down log (subst (λ (y : Option Entry). ServerFits W number t.ask y up down log) at s.server)
       none_begun m sent_by young (Some e) at dead =
           by_fit (subst (λ (y : Option Entry). ServerFits W number t.ask y up down log) at s.server)
         where
@@ -301,7 +303,8 @@ module _ (W : ℕ) (x : Rules) (bound : IsBounded W x) (key : Key) (some : 0 < l
       known service k late e at begun st fits = go st up down refl refl fits
         where
           go : (y : State) (u : Up) (v : Down) → up ≡ u → down ≡ v → StateFits W number t.ask y u v log
-              → of_server.IsKnown x.overtake W x key now t.ask t.repeats t.phase o copies flow some L_small L_server bound.room service k late apart e at begun y
+              → of_server.IsKnown x.overtake W x key now t.ask t.repeats t.phase o copies flow some L_small L_server bound.room service k late apart e at
+              begun y
           go (State.SegmentedRequest inc since) (Reading a b) Unsent is none f = (
             unsent none,
             λ out all ph full.
@@ -349,7 +352,8 @@ module _ (W : ℕ) (x : Rules) (bound : IsBounded W x) (key : Key) (some : 0 < l
       comes_up k m (Reject id r) at young comes own = tt
       comes_up k m (Abort b id r) at young comes own = tt
 
-      pub served_by : (service : Service) (free : Bool) (k m : ℕ) (late : k ≤ x.overtake) (a : Apdu) → slice_get copies k ≡ Some (record { moment = m; apdu = a })
+      pub served_by : (service : Service) (free : Bool) (k m : ℕ) (late : k ≤ x.overtake) (a : Apdu)
+          → slice_get copies k ≡ Some (record { moment = m; apdu = a })
           → now - m ≤ LIFE → is_from_client a ≡ true → IsSentByClient x key a ⊎ IsSentByServer x key a
           → (y : Option Entry) → o ≡ y → FineAt (server.server_gets (server_context x key now) service y free a)
       served_by service free k m late a at young comes own None is =

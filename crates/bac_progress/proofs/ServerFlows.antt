@@ -1,5 +1,5 @@
 -- Each step of a server keeps its transaction in step.
-use Rattle.std.proofs.Common.{◌≡◌, ℕ, ◌+◌, ◌-◌, ◌*◌, ◌%◌, ◌<◌, ◌≤◌, ◌≢◌, ◌⊎◌, Bool, true, false, ◌&&◌, not, is_some, List, [], ◌∷◌, ◌++◌, length}
+use Rattle.std.proofs.Common.{◌≡◌, ℕ, ◌+◌, ◌-◌, ◌*◌, ◌%◌, ◌<◌, ◌≤◌, Bool, true, false, not, is_some, List, [], ◌∷◌, ◌++◌, length}
 use Rattle.std.proofs.Common.{Option, Some, None, if◌then◌else◌, nat_lt, nat_le, nat_eq, refl, sym, ap, subst, inl, inr, ◌∙◌, arith}
 use Rattle.std.proofs.lemmas.Bool.Decides.{nat_tests}
 use Rattle.bac_apdu.specs.Apdu.{Apdu, Limits, Segment}
@@ -462,11 +462,13 @@ module _ (V W : ℕ) (x : Rules) (key : Key) (now : ℕ) (ask : Ask) (repeats : 
       receiving_fine inc since is u behind (Error id choice class code) h = rests_fine (Some e) at [] tt tt
       receiving_fine inc since is u behind (Reject id r) h = rests_fine (Some e) at [] tt tt
 
-      answers_fine : (b : Bool) (kept : Apdu) → IsDown kept → IsQuiet kept → Fine (server.rests (Some e) ((if b then kept else server.server_abort d OTHER) ∷ []))
+      answers_fine : (b : Bool) (kept : Apdu) → IsDown kept → IsQuiet kept
+          → Fine (server.rests (Some e) ((if b then kept else server.server_abort d OTHER) ∷ []))
       answers_fine true kept down quiet = rests_fine (Some e) at (kept ∷ []) (down, tt) (quiet, tt)
       answers_fine false kept down quiet = rests_fine (Some e) at (server.server_abort d OTHER ∷ []) (refl, tt) (tt, tt)
 
-      refuses_fine : (b : Bool) (kept : Apdu) → IsDown kept → IsQuiet kept → Fine (server.rests (Some e) ((if b then server.server_abort d OTHER else kept) ∷ []))
+      refuses_fine : (b : Bool) (kept : Apdu) → IsDown kept → IsQuiet kept
+          → Fine (server.rests (Some e) ((if b then server.server_abort d OTHER else kept) ∷ []))
       refuses_fine true kept down quiet = rests_fine (Some e) at (server.server_abort d OTHER ∷ []) (refl, tt) (tt, tt)
       refuses_fine false kept down quiet = rests_fine (Some e) at (kept ∷ []) (down, tt) (quiet, tt)
 

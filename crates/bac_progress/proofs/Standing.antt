@@ -1,5 +1,5 @@
 -- After every run the two ends of an open transaction that is in time are in step, so one turn answers its ask.
-use Rattle.std.proofs.Common.{◌≡◌, ℕ, ◌+◌, ◌-◌, ◌<◌, ◌≤◌, ◌⊎◌, Bool, true, false, List, length, take, Option, Some, None, if◌then◌else◌}
+use Rattle.std.proofs.Common.{◌≡◌, ℕ, ◌-◌, ◌<◌, ◌≤◌, ◌⊎◌, Bool, true, false, List, length, take, Option, Some, None, if◌then◌else◌}
 use Rattle.std.proofs.Common.{refl, sym, ap, subst, inl, inr, ◌∙◌, arith}
 use Rattle.std.proofs.lemmas.Bool.Decides.{nat_tests}
 use Rattle.bac_segment.specs.Limits.{RETRIES}
@@ -15,7 +15,6 @@ use Rattle.bac_protocol.specs.Own.{lesser_window, StateHas, EntryHas, PhaseHas, 
 use Rattle.bac_protocol.specs.Transaction.{Key, Rules, Copy}
 use Rattle.bac_protocol.specs.World.{Event, run, start, copies_of}
 use Rattle.bac_protocol.specs.Claims.{IsBounded}
-use Rattle.bac_protocol.proofs.Alone.{one}
 use Rattle.bac_protocol.proofs.Headline.{run_kept, start_kept}
 use Rattle.bac_protocol.proofs.Nets.{sound_at}
 use Rattle.bac_protocol.proofs.Owned.{own_in_run}
