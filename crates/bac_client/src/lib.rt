@@ -25,6 +25,3 @@ pub use outgoing_request::{OutgoingRequest, RequestFault, RequestWay};
 pub use reaction::Reaction;
 pub use ticket::Ticket;
 pub use ticking::Due;
-
-#[cfg(test)]
-mod tests;

@@ -16,6 +16,3 @@ pub use asking::Asked;
 pub use client::Client;
 pub use requester::Requester;
 pub use turn::{Due, Finish, Turn};
-
-#[cfg(test)]
-mod tests;

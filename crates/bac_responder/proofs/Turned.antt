@@ -1,10 +1,11 @@
 -- A turn of the table is a turn of the server's end.
-use Rattle.std.proofs.Common.{◌≡◌, ℕ, ◌-◌, Bool, true, false, List, nat_le, Option, Some, None, if◌then◌else◌}
+use Rattle.std.proofs.Common.{◌≡◌, ℕ, ◌-◌, Bool, true, false, List, nat_le, Option, Some, None, Result, if◌then◌else◌}
 use Rattle.std.proofs.Common.{refl, ap, sym, subst, ◌∙◌, arith}
 use Rattle.std.proofs.lemmas.Bool.Decides.{nat_tests}
 use Rattle.bac_apdu.specs.Apdu.{Apdu}
 use Rattle.bac_slots.specs.Slots.{value_at}
 use Rattle.bac_store.specs.Stores.{Store}
+use Rattle.bac_protocol.specs.declared.times.TheConstants.{KEEP}
 use Rattle.bac_protocol.specs.Context.{Context}
 use Rattle.bac_protocol.specs.Server.{Entry, Effect, Reaction, Service, is_live, is_none_live, live_gets, idle_gets, server_gets}
 use Rattle.bac_protocol.specs.Steps.{StaysIn}
@@ -15,6 +16,10 @@ use Rattle.bac_ends.specs.Sends.{Datagram, Pairwise, IsSent}
 use Rattle.bac_server.specs.Services.{Performed, ArePerformed, store_after}
 use Rattle.bac_server.specs.Reactions.{IsReaction, IsStill}
 use Rattle.bac_responder.specs.Turns.{Acted, AreActed, IsServed, acted_of, performed_by}
+use Rattle.bac_responder.specs.Views.{turn_of, Serves}
+use Rattle.bac_responder.specs.declared.served.Served.{Served}
+use Rattle.bac_value.specs.declared.memory.NoMemory.{NoMemory}
+use Rattle.bac_ends.specs.declared.context.Context as code
 
 pub acted : (s : Store) (key : PeerKey) (x : Option Effect) (q : Option Performed) → ArePerformed s x q → AreActed s (act_at key x) (acted_of key q)
 acted s key None None h = tt
@@ -75,7 +80,7 @@ pub stays_live : (c : Context) (service : Service) (e d : Entry) (a : Apdu) → 
 stays_live c service e d a live is =
     let gets = ap (λ (b : Bool). (if b then live_gets c service e e.state a else idle_gets c service (Some e) true a).entry) live ∙ is in
     let begin = same_begin e _ d (live_stays_law.gets c service e true a live) gets in
-    ap (λ k. nat_le (c.now - k) 65000) begin ∙ live
+    ap (λ k. nat_le (c.now - k) KEEP) begin ∙ live
 
 -- The turn after a reaction.
 
@@ -105,8 +110,8 @@ served_still now e key v w s t o sent same r dead =
 
 pub begun_live : (now : ℕ) (d : Entry) → d.begin ≡ now → is_live now d ≡ true
 begun_live now d is =
-    let zero_age : nat_le (now - now) 65000 ≡ true = grind (arith, nat_tests) in
-    ap (λ k. nat_le (now - k) 65000) is ∙ zero_age
+    let zero_age : nat_le (now - now) KEEP ≡ true = grind (arith, nat_tests) in
+    ap (λ k. nat_le (now - k) KEEP) is ∙ zero_age
 
 pub live_one : (now : ℕ) (o : Option Entry) (d : Entry) → o ≡ Some d → is_none_live now o ≡ false → is_live now d ≡ true
 live_one now o d is live = live_of (is_live now d) (ap (is_none_live now) (sym is) ∙ live)
@@ -120,3 +125,8 @@ served_with turn s t sent sent' x x' e e' r a b f =
       act = subst (λ (y : Option Acted). AreActed s turn.act y) (sym b) r.act;
       store = r.store ∙ ap (λ (y : Option Acted). store_after s (performed_by y)) (sym b);
     }
+
+-- an end that is the same is served as well
+pub serves_as : (c : code.Context) (s : Store) (a : Apdu) (e old : ServerEnd) (x : Result Served NoMemory) (new : ServerEnd) (t : Store) → e ≡ old
+    → Serves (turn_of c s a e) e s x new t → Serves (turn_of c s a old) old s x new t
+serves_as c s a e old x new t same h = subst (λ (d : ServerEnd). Serves (turn_of c s a d) d s x new t) same h

@@ -1,5 +1,5 @@
 //! An APDU comes for one transaction.
-ghost use Rattle.std.specs.Prelude.{◌≡◌, true, false};
+ghost use Rattle.std.specs.Prelude.{◌≡◌, true};
 ghost use Rattle.bac_apdu.specs.Views.{apdu_view};
 ghost use Rattle.bac_slots.specs.Slots.{value_at};
 ghost use Rattle.bac_protocol.specs.Server.{is_none_live};
@@ -9,7 +9,7 @@ ghost use Rattle.bac_responder.specs.Turns.{acted_of};
 ghost use Rattle.bac_responder.specs.Views.{acted_view, end_of, turn_of, Serves};
 
 use crate::served::{Act, Served};
-use crate::table::{enter, has_live, is_free, put_back};
+use crate::table::{enter, is_free, put_back, take_live};
 use bac_apdu::Apdu;
 use bac_ends::{Context, Datagram, PeerKey};
 use bac_server::{Effect, Entry, IdleReaction, Reaction, idle_gets, live_gets};
@@ -32,20 +32,46 @@ fn served(key: PeerKey, sends: Vec<Datagram>, effect: Option<Effect>) -> Served
     }
 }
 
-/// The entry is live: it is taken out of its slot, goes on, and is put back.
-fn live_hears<S: SlotTable<PeerKey, Entry>>(
+/// No entry of the context's key is live.
+fn idle_hears<S: SlotTable<PeerKey, Entry>>(
     alloc: Global,
     context: &Context,
     table: &mut S,
     apdu: &Apdu<'_>,
     store: &mut Store,
 ) -> Result<Served, NoMemory>
-    requires { is_none_live context.now.moment (value_at code_same_key context.now.key (S.slots table.old)) ≡ false }
+    requires { is_none_live context.now.moment (value_at code_same_key context.now.key (S.slots table.old)) ≡ true }
     ensures { Serves (turn_of context.now store.old (apdu_view apdu.now) (end_of (S.slots table.old) (S.capacity table.old)))
         (end_of (S.slots table.old) (S.capacity table.old)) store.old result (end_of (S.slots table.new) (S.capacity table.new)) store.new }
 {
-    let Some(entry) = table.set(&context.key, Entry::placeholder()) else {
-        unreachable!();
+    let free = is_free(table, context.moment);
+    match idle_gets(alloc, context, free, apdu, store)? {
+        IdleReaction::Stays(sends) => Ok(Served { sends, act: None }),
+        IdleReaction::Begins(reaction) => {
+            let Reaction {
+                entry,
+                sends,
+                effect,
+            } = reaction;
+            enter(table, context.moment, context.key, entry);
+            Ok(served(context.key, sends, effect))
+        }
+    }
+}
+
+/// An APDU comes for the context's transaction. A live entry is out of its slot while it goes on.
+pub(crate) fn hears<S: SlotTable<PeerKey, Entry>>(
+    alloc: Global,
+    context: &Context,
+    table: &mut S,
+    apdu: &Apdu<'_>,
+    store: &mut Store,
+) -> Result<Served, NoMemory>
+    ensures { Serves (turn_of context.now store.old (apdu_view apdu.now) (end_of (S.slots table.old) (S.capacity table.old)))
+        (end_of (S.slots table.old) (S.capacity table.old)) store.old result (end_of (S.slots table.new) (S.capacity table.new)) store.new }
+{
+    let Some(entry) = take_live(table, context.moment, &context.key) else {
+        return idle_hears(alloc, context, table, apdu, store);
     };
     match live_gets(alloc, context, entry, apdu, store) {
         Ok(reaction) => {
@@ -60,35 +86,6 @@ fn live_hears<S: SlotTable<PeerKey, Entry>>(
         Err(entry) => {
             put_back(table, &context.key, entry);
             Err(NoMemory)
-        }
-    }
-}
-
-/// An APDU comes for the context's transaction.
-pub(crate) fn hears<S: SlotTable<PeerKey, Entry>>(
-    alloc: Global,
-    context: &Context,
-    table: &mut S,
-    apdu: &Apdu<'_>,
-    store: &mut Store,
-) -> Result<Served, NoMemory>
-    ensures { Serves (turn_of context.now store.old (apdu_view apdu.now) (end_of (S.slots table.old) (S.capacity table.old)))
-        (end_of (S.slots table.old) (S.capacity table.old)) store.old result (end_of (S.slots table.new) (S.capacity table.new)) store.new }
-{
-    if has_live(table, context.moment, &context.key) {
-        return live_hears(alloc, context, table, apdu, store);
-    }
-    let free = is_free(table, context.moment);
-    match idle_gets(alloc, context, free, apdu, store)? {
-        IdleReaction::Stays(sends) => Ok(Served { sends, act: None }),
-        IdleReaction::Begins(reaction) => {
-            let Reaction {
-                entry,
-                sends,
-                effect,
-            } = reaction;
-            enter(table, context.moment, context.key, entry);
-            Ok(served(context.key, sends, effect))
         }
     }
 }

@@ -1,10 +1,10 @@
 //! What is done with the table of entries.
-ghost use Rattle.std.specs.Prelude.{◌≡◌, ◌<◌, [], ◌∷◌, ◌++◌, Bool, not, true, filter, count_by};
+ghost use Rattle.std.specs.Prelude.{◌≡◌, ◌<◌, [], ◌∷◌, ◌++◌, true, false, filter, count_by, MatchOption, Some};
 ghost use Rattle.bac_slots.specs.Slots.{value_at, with_value};
 ghost use Rattle.bac_protocol.specs.Server.{is_none_live};
 ghost use Rattle.bac_ends.specs.Ends.{is_free as is_free_in};
 ghost use Rattle.bac_ends.specs.Views.{code_same_key};
-ghost use Rattle.bac_responder.specs.Tables.{is_live_in};
+ghost use Rattle.bac_responder.specs.Tables.{is_live_in, taken_out};
 ghost use Rattle.bac_responder.specs.Views.{end_of};
 
 use crate::live_at::LiveAt;
@@ -12,14 +12,26 @@ use bac_ends::PeerKey;
 use bac_server::Entry;
 use bac_slots::{SlotTable, count_passing, sweep};
 
-/// Whether the entry of a key is live.
-pub(crate) fn has_live<S: SlotTable<PeerKey, Entry>>(table: &S, moment: u64, key: &PeerKey) -> bool
-    ensures { is_none_live moment (value_at code_same_key key.now (S.slots table.now)) ≡ not result }
+/// Takes the entry of a key out of its slot where it is live, and leaves a placeholder there; None, with nothing changed, where it is not.
+pub(crate) fn take_live<S: SlotTable<PeerKey, Entry>>(
+    table: &mut S,
+    moment: u64,
+    key: &PeerKey,
+) -> Option<Entry>
+    ensures live { MatchOption result (is_none_live moment (value_at code_same_key key.now (S.slots table.old)) ≡ true)
+        (λ e. (is_none_live moment (value_at code_same_key key.now (S.slots table.old)) ≡ false)
+        × (value_at code_same_key key.now (S.slots table.old) ≡ Some e)) }
+    ensures slots { S.slots table.new ≡ taken_out key.now result (S.slots table.old) }
+    ensures same { S.capacity table.new ≡ S.capacity table.old }
 {
-    match table.get(key) {
-        None => false,
-        Some(entry) => entry.is_live(moment),
+    let Some(entry) = table.set(key, Entry::placeholder()) else {
+        return None;
+    };
+    if entry.is_live(moment) {
+        return Some(entry);
     }
+    put_back(table, key, entry);
+    None
 }
 
 /// Whether a slot has no live entry.

@@ -1,4 +1,4 @@
-//! Run with each allocation refused in turn, too: `sh tests/memory/server.sh`.
+//! Run with each allocation refused in turn, too: `sh tests/memory/refused.sh`.
 use super::*;
 
 const SEGMENT_0: &str = "0E0500002007 C402800001";

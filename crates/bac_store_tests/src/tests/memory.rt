@@ -1,4 +1,4 @@
-//! Run with each allocation refused in turn, too: `sh tests/memory/refusals.sh`.
+//! Run with each allocation refused in turn, too: `sh tests/memory/refused.sh`.
 use super::*;
 
 /// A refused copy leaves the store, which can be copied then.

@@ -1,0 +1,123 @@
+//! One ticket by itself, line by line of the state tables: what comes for it, what it sends, and how it ends.
+use super::*;
+use bac_client::{Begun, OutgoingRequest, RequestWay, Ticket};
+use bac_ends::Context;
+
+mod answers;
+mod far;
+mod segments;
+mod times;
+
+const LIMITS: Limits = Limits {
+    max_apdu: 0,
+    takes_segments: true,
+    max_segments: 0,
+};
+
+const WINDOW: Window = Window { size: 4 };
+
+const SETTINGS: Settings = Settings {
+    limits: LIMITS,
+    window: WINDOW,
+};
+
+/// Service data that fit one APDU.
+const SHORT: &str = "0C00000005 1955";
+
+/// The datagram of a request with choice 7 and these.
+const REQUEST: &str = "810A0011 0104 02000107 0C00000005 1955";
+
+/// The moment of each ask.
+const FIRST: u64 = 1_000;
+
+/// Invoke ID 1 of peer 2.
+fn context(moment: u64) -> Context {
+    let key = PeerKey {
+        peer: peer(2),
+        invoke_id: 1,
+    };
+    Context {
+        settings: SETTINGS,
+        key,
+        moment,
+    }
+}
+
+/// What a row made of a ticket, and whether it is what the row says.
+#[derive(Drop)]
+struct Played {
+    held: Held,
+    right: bool,
+}
+
+/// Whether these were sent and this ended a ticket, as a row says.
+fn is_as_said(
+    alloc: Global,
+    sends: &[Datagram],
+    ended: &Option<Ending>,
+    row: Row<'_>,
+) -> Result<bool, NoMemory> {
+    let told = joined(alloc, sends)?;
+    let wanted = octets_of(alloc, row.2)?;
+    let how = match ended {
+        Some(how) => end_of(how),
+        None => End::Open,
+    };
+    Ok(told == wanted && how == row.3)
+}
+
+fn ticks(alloc: Global, row: Row<'_>, ticket: Ticket) -> Result<Played, Fail> {
+    let context = context(row.0);
+    let due = ticket.prepare_tick(alloc, &context)?;
+    let right = is_as_said(alloc, &due.sends, &due.ended, row)?;
+    let held = ticket.commit_tick(&context);
+    Ok(Played { held, right })
+}
+
+fn hears(alloc: Global, row: Row<'_>, octets: &[u8], ticket: Ticket) -> Result<Played, Fail> {
+    let Ok(apdu) = read(octets) else {
+        return Err(Fail::new("no APDU"));
+    };
+    let Ok(reaction) = ticket.gets(alloc, &context(row.0), &apdu) else {
+        return Err(Fail::new("out of memory"));
+    };
+    let right = is_as_said(alloc, &reaction.sends, &reaction.ended, row)?;
+    let held = reaction.held;
+    Ok(Played { held, right })
+}
+
+/// Whether all rows go as they say.
+fn follows(alloc: Global, ticket: Ticket, rows: &[Row<'_>]) -> Result<bool, Fail> {
+    let mut held = Held::Open(ticket);
+    for row in rows {
+        let Held::Open(ticket) = held else {
+            return Ok(false);
+        };
+        let octets = octets_of(alloc, row.1)?;
+        let played = if octets.is_empty() {
+            ticks(alloc, *row, ticket)?
+        } else {
+            hears(alloc, *row, &octets, ticket)?
+        };
+        if !played.right {
+            return Ok(false);
+        }
+        held = played.held;
+    }
+    Ok(true)
+}
+
+/// A request of a service choice was asked, with these service data.
+fn begun(alloc: Global, choice: u8, service: Vec<u8>) -> Result<Begun, Fail> {
+    let Ok(way) = RequestWay::of(&SETTINGS, &LIMITS, service.len()) else {
+        return Err(Fail::new("it can't go"));
+    };
+    let request = OutgoingRequest::new(choice, way, service);
+    Ok(Ticket::begin(alloc, &context(FIRST), request)?)
+}
+
+/// Whether all rows go as they say for a new ticket of a request in one APDU.
+fn receives(alloc: Global, choice: u8, rows: &[Row<'_>]) -> Result<bool, Fail> {
+    let begun = begun(alloc, choice, octets_of(alloc, SHORT)?)?;
+    follows(alloc, begun.ticket, rows)
+}

@@ -1,0 +1,98 @@
+//! Requests and replies in segments (clauses 5.4.4.2 and 5.4.4.4).
+use super::*;
+
+/// A reply of window 2: each second segment after the first is acknowledged.
+const RECEIVED: &[Row<'_>] = &[
+    (2_000, "3C01000207 09", "810A000A 0100 40010002", End::Open),
+    (3_000, "3C01010207", "", End::Open),
+    (3_000, "3C01020207", "810A000A 0100 40010202", End::Open),
+    // a segment is missing, and one comes again
+    (4_000, "3801040207 05", "810A000A 0100 42010202", End::Open),
+    (4_000, "3C01020207", "810A000A 0100 42010202", End::Open),
+    // of another service choice; in one APDU
+    (5_000, "3801030206 05", "", End::Open),
+    (5_000, "300107 0905", "", End::Open),
+    (
+        5_000,
+        "3801030207 05",
+        "810A000A 0100 40010302",
+        End::Written(5),
+    ),
+];
+
+const LESSER_WINDOW: &[Row<'_>] = &[
+    (2_000, "3C01007F07 09", "810A000A 0100 40010004", End::Open),
+    (2_000, "600109", "", End::Rejected(9)),
+];
+
+/// Segments that can't be read.
+const UNREADABLE: &[Row<'_>] = &[
+    (2_000, "3C01000207 09", "810A000A 0100 40010002", End::Open),
+    (
+        2_000,
+        "3801010207",
+        "810A000A 0100 40010102 810A0009 0100 700100",
+        End::Aborted(0),
+    ),
+];
+
+const ABORTED: &[Row<'_>] = &[
+    (2_000, "3C01000207 09", "810A000A 0100 40010002", End::Open),
+    (2_000, "710105", "", End::Aborted(5)),
+];
+
+#[test]
+fn replies_in_segments(rt: HostRuntime) -> Result<(), Fail> {
+    for rows in [RECEIVED, LESSER_WINDOW, UNREADABLE, ABORTED] {
+        assert!(rt; receives(rt.alloc(), 7, rows)?);
+    }
+    Ok(())
+}
+
+/// A request in segments of 44, 44 and 23 octets.
+const SEGMENT_0: &str = "810A0038 0104 0E0001000407 ABABABABABABABABABABABAB";
+
+const SEGMENTS_1_AND_2: &str =
+    "810A0038 0104 0E0001010407 ABABABABABABABABABABABAB 810A0023 0104 0A0001020407 ABABABABABABABABABABABAB";
+
+const SENT: &[Row<'_>] = &[
+    // an answer before the last segment was sent is ignored
+    (2_000, "300107 0905", "", End::Open),
+    (2_000, "41010702", "", End::Open),
+    (2_000, "41010002", SEGMENTS_1_AND_2, End::Open),
+    (3_999, "", "", End::Open),
+    (4_000, "", SEGMENTS_1_AND_2, End::Open),
+    (5_000, "41010202", "", End::Open),
+    (7_999, "", "", End::Open),
+    // the request is sent again, from segment 0 on
+    (8_000, "", SEGMENT_0, End::Open),
+    (9_000, "300107 0905", "", End::Written(5)),
+];
+
+/// A window is sent four times.
+const SENT_FOUR_TIMES: &[Row<'_>] = &[
+    (3_000, "", SEGMENT_0, End::Open),
+    (5_000, "", SEGMENT_0, End::Open),
+    (7_000, "", SEGMENT_0, End::Open),
+    (8_999, "", "", End::Open),
+    (9_000, "", "", End::TimedOut),
+];
+
+/// A request in segments is not sent again once a segment of its reply came.
+const NOT_SENT_AGAIN: &[Row<'_>] = &[
+    (2_000, "41010002", SEGMENTS_1_AND_2, End::Open),
+    (2_000, "3C01000207 09", "810A000A 0100 40010002", End::Open),
+    (9_999, "", "", End::Open),
+    (10_000, "", "", End::TimedOut),
+];
+
+#[test]
+fn requests_in_segments(rt: HostRuntime) -> Result<(), Fail> {
+    let alloc = rt.alloc();
+    for rows in [SENT, SENT_FOUR_TIMES, NOT_SENT_AGAIN] {
+        let begun = begun(alloc, 7, vec![in alloc; 0xABu8; 111]?)?;
+        assert!(rt; joined(alloc, &begun.sends)? == octets_of(alloc, SEGMENT_0)?);
+        assert!(rt; follows(alloc, begun.ticket, rows)?);
+    }
+    Ok(())
+}

@@ -1,0 +1,57 @@
+-- No entry is live.
+use Rattle.std.proofs.Common.{◌≡◌, ◌∙◌, sym, ap, ℕ, List, Option, Bool, true}
+use Rattle.bac_apdu.specs.Views.{apdu_view}
+use Rattle.bac_slots.specs.Slots.{value_at}
+use Rattle.bac_protocol.specs.Context.{Context}
+use Rattle.bac_protocol.specs.Server.{Entry, is_none_live, idle_gets}
+use Rattle.bac_ends.specs.Ends.{ServerEnd, is_free}
+use Rattle.bac_ends.specs.Keys.{PeerKey, same_key}
+use Rattle.bac_ends.specs.Views.{peer_key_view}
+use Rattle.bac_ends.specs.declared.peer_key.PeerKey.{PeerKey as CodeKey}
+use Rattle.bac_ends.proofs.Keyed.{value_viewed}
+use Rattle.bac_server.specs.Services.{service_of}
+use Rattle.bac_ends.specs.Views.{context_view}
+use Rattle.bac_responder.specs.Tables.{TableSlot}
+use Rattle.bac_responder.specs.Views.{end_of}
+use Rattle.bac_responder.proofs.Turned.{served_so, served_still, served_with, idle_is, begun_live}
+use Rattle.bac_responder.proofs.Sweeps.{entered}
+use Rattle.bac_responder.proofs.hearing.idle_hears.Goals as goal
+
+pub returns-in-Stays : goal.returns-in-Stays
+returns-in-Stays g c =
+    let key : CodeKey = c.args.context.now.key in
+    let now : ℕ = c.args.context.now.moment in
+    let slots : List TableSlot = g.S.SlotTable.slots c.args.table.now in
+    let e : ServerEnd = end_of slots (g.S.SlotTable.capacity c.args.table.now) in
+    let k : PeerKey = peer_key_view key in
+    let set : Context = context_view c.args.context.now in
+    let o : Option Entry = value_at same_key k e.slots in
+    let dead : is_none_live now o ≡ true =
+    ap (is_none_live now) (sym (value_viewed Entry key slots)) ∙ c.requires in
+    let same =
+    idle_is set (service_of c.args.store.now) o (is_free now e) (apdu_view c.args.apdu.now) dead
+    ∙ ap (λ (b : Bool). idle_gets set (service_of c.args.store.now) o b (apdu_view c.args.apdu.now)) (sym c.is_free-free.ensures) in
+    let did = rw c.in-Stays.is at c.in_ok-sends.ensures.does in
+    served_still now e k _ _ c.args.store.now _ o _ same (did o) dead
+
+pub returns-in-Begins : goal.returns-in-Begins
+returns-in-Begins g c =
+    let key : CodeKey = c.args.context.now.key in
+    let now : ℕ = c.args.context.now.moment in
+    let slots : List TableSlot = g.S.SlotTable.slots c.args.table.now in
+    let e : ServerEnd = end_of slots (g.S.SlotTable.capacity c.args.table.now) in
+    let k : PeerKey = peer_key_view key in
+    let set : Context = context_view c.args.context.now in
+    let o : Option Entry = value_at same_key k e.slots in
+    let x : Entry = c.in-Begins.reaction.entry in
+    let dead : is_none_live now o ≡ true =
+    ap (is_none_live now) (sym (value_viewed Entry key slots)) ∙ c.requires in
+    let same =
+    idle_is set (service_of c.args.store.now) o (is_free now e) (apdu_view c.args.apdu.now) dead
+    ∙ ap (λ (b : Bool). idle_gets set (service_of c.args.store.now) o b (apdu_view c.args.apdu.now)) (sym c.is_free-free.ensures) in
+    let did = rw c.in-Begins.is at c.in_ok-sends.ensures.does in
+    let begin = rw c.in-Begins.is at c.in_ok-sends.ensures.begin in
+    let r = served_so now e k _ _ c.args.store.now _ x true _ _ _ same (did o) (begun_live now x begin) dead
+    (entered now key x slots _ c.enter.ensures.slots) in
+    served_with _ c.args.store.now _ _ _ _ _ _ _ r c.served.ensures.sends c.served.ensures.act
+    (ap (λ (n : ℕ). end_of (g.S.SlotTable.slots c.enter.new.table) n) c.enter.ensures.same)
