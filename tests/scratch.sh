@@ -3,6 +3,7 @@
 #     sh tests/scratch.sh bench/reading rt run
 #     sh tests/scratch.sh tests/memory/growths sh count.sh
 # A program's files end in .rt.in and are copied as src/NAME.rt, since the gate wants each .rt file in a crate of crates.txt.
+# Its file stands_on names the crates that it stands on, where these are more than bac_value and bac_service.
 # What was proved of the crates below is taken from their out/ folders, where these are there.
 set -eu
 top=$(cd "$(dirname "$0")/.." && pwd)
@@ -11,15 +12,20 @@ name=$(basename "$folder")
 shift
 work=$(mktemp -d)
 trap 'rm -rf "$work"' EXIT
+trap 'exit 1' HUP INT TERM
 mkdir -p "$work/crates/$name/src"
-cp -a "$top/crates/bac_value" "$top/crates/bac_service" "$work/crates"
+needs="bac_value bac_service"
+if [ -f "$top/$folder/stands_on" ]; then needs=$(cat "$top/$folder/stands_on"); fi
+for need in $needs; do
+    cp -a "$top/crates/$need" "$work/crates"
+    grep "^$need:" "$top/crates.txt" >> "$work/crates.txt"
+done
 for file in "$top/$folder"/*; do
     case "$file" in
         *.rt.in) cp "$file" "$work/crates/$name/src/$(basename "$file" .in)" ;;
         *) cp "$file" "$work/crates/$name" ;;
     esac
 done
-grep -E '^bac_(value|service):' "$top/crates.txt" > "$work/crates.txt"
-echo "$name: bac_value bac_service" >> "$work/crates.txt"
+echo "$name: $needs" >> "$work/crates.txt"
 cd "$work/crates/$name"
 "$@"

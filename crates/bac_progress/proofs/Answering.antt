@@ -1,114 +1,53 @@
 -- Wherever the two ends of a transaction are in step, one turn answers its ask.
-use Rattle.std.proofs.Common.{◌≡◌, ℕ, zero, suc, ◌+◌, ◌-◌, ◌*◌, ◌<◌, ◌≤◌, ◌⊎◌, min, Bool, true, false, ◌||◌, List, [], ◌∷◌, length, take}
-use Rattle.std.proofs.Common.{Option, Some, None, if◌then◌else◌, nat_lt, nat_le, nat_eq, refl, sym, ap, subst, inl, inr, ◌∙◌, arith}
+use Rattle.std.proofs.Common.{◌≡◌, ℕ, zero, suc, ◌+◌, ◌-◌, ◌*◌, ◌<◌, ◌≤◌, min, Bool, true, false, ◌||◌, List, [], ◌∷◌, length}
+use Rattle.std.proofs.Common.{Option, Some, None, if◌then◌else◌, nat_le, refl, sym, ap, subst, inl, ◌∙◌, arith}
 use Rattle.std.proofs.lemmas.Bool.Decides.{nat_tests}
 use Rattle.bac_apdu.specs.Apdu.{Apdu}
-use Rattle.bac_segment.specs.Limits.{DATA, RETRIES}
+use Rattle.bac_segment.specs.Limits.{RETRIES}
 use Rattle.bac_segment.specs.Pieces.{join}
-use Rattle.bac_segment.specs.Window.{Outgoing, outgoing, in_window, again, resume, Incoming}
-use Rattle.bac_service.specs.Choices.{has_complex_ack}
-use Rattle.bac_protocol.specs.declared.times.TheConstants.{DEADLINE, KEEP, T_OUT, T_SEG, WAIT_SEG}
+use Rattle.bac_segment.specs.Window.{Outgoing, outgoing, in_window, resume, Incoming}
+use Rattle.bac_protocol.specs.declared.times.TheConstants.{KEEP, T_OUT, T_SEG, WAIT_SEG}
 use Rattle.bac_protocol.specs.Context.{Context}
 use Rattle.bac_protocol.specs.Sizes.{Way, reply_way_of}
-use Rattle.bac_protocol.specs.Sizes.Way.{InOne, InSegments}
-use Rattle.bac_protocol.specs.Service.{Octets, Reply as reply, Ending}
+use Rattle.bac_protocol.specs.Sizes.Way.{InSegments}
+use Rattle.bac_protocol.specs.Service.{Octets, Reply as reply}
 use Rattle.bac_protocol.specs.Service.Reply.{Complex}
 use Rattle.bac_protocol.specs.Service.Outcome.{Replies}
-use Rattle.bac_protocol.specs.Service.Ending.{Answered, TimedOut, Expired}
 use Rattle.bac_protocol.specs.Wire.{pieces_from}
 use Rattle.bac_protocol.specs.Client as client
 use Rattle.bac_protocol.specs.Client.{Ask, Phase, Ticket, is_idle, is_expired, request_of}
 use Rattle.bac_protocol.specs.Client.Phase.{SegmentedRequest, AwaitConfirmation, SegmentedConf, Idle}
-use Rattle.bac_protocol.specs.Client.Reaction.{Stays, Repeats, Ends}
+use Rattle.bac_protocol.specs.Client.Reaction.{Repeats}
 use Rattle.bac_protocol.specs.Server as server
-use Rattle.bac_protocol.specs.Server.{State, Entry, live_entry, is_live, is_none_live}
+use Rattle.bac_protocol.specs.Server.{State, Entry, live_entry}
 use Rattle.bac_protocol.specs.Server.State.{Done, SegmentedResponse, Dropped}
 use Rattle.bac_protocol.specs.Server.Transfer.{Running, Stopped, Finished}
 use Rattle.bac_protocol.specs.Log.{Fact, Has, Shop}
 use Rattle.bac_protocol.specs.Log.Fact.{Performed}
 use Rattle.bac_protocol.specs.Transaction.{Key, Rules, client_context, server_context}
-use Rattle.bac_protocol.specs.World.{World, Event, happens, run, start}
+use Rattle.bac_protocol.specs.World.{World, happens, start}
 use Rattle.bac_protocol.specs.World.Event.{Tick}
 use Rattle.bac_protocol.specs.Claims.{IsBounded}
-use Rattle.bac_protocol.specs.Straight.{AreStraight, Straight, Stops, FitsData, RequestFits, WayFits, KindFits, way_count, way_to, request_count}
-use Rattle.bac_protocol.proofs.Headline.{Kept, run_kept, start_kept}
+use Rattle.bac_protocol.specs.Straight.{AreStraight, FitsData, WayFits, KindFits, way_count, way_to, request_count}
+use Rattle.bac_protocol.proofs.Headline.{Kept}
 use Rattle.bac_protocol.proofs.Ways.{way_cut}
 use Rattle.bac_protocol.proofs.Replied.{way_taken}
 use Rattle.bac_protocol.proofs.Queue.{Duo}
 use Rattle.bac_protocol.proofs.Follow.{Shows}
 use Rattle.bac_protocol.proofs.Carries.{Sender, Fitting}
-use Rattle.bac_progress.specs.AfterPast.{ClientIsDue, HearsRequest, TakesRequest, TransferIsDue, ServerIsDue, Keeps, Gives, CanStill, IsTurn}
-use Rattle.bac_progress.specs.AfterPast.{IsAnsweredIn, InStepIsAnswered}
-use Rattle.bac_progress.specs.InStep.{IsAtStart, IsUnderway, IsSending, AreTogether, StandsSending, StandsWaiting, StandsCollecting, Stands, IsCutFor}
+use Rattle.bac_progress.specs.AfterPast.{ClientIsDue, HearsRequest, TakesRequest, Keeps, Gives, CanStill}
+use Rattle.bac_progress.specs.InStep.{IsAtStart, IsSending, AreTogether, StandsSending, StandsWaiting, StandsCollecting, Stands, IsCutFor}
 use Rattle.bac_progress.specs.InStep.{IsOfAsk, AreInStep}
 use Rattle.bac_progress.proofs.Deliveries.{Within, within_then, Starts, starts_then, starts_of}
-use Rattle.bac_progress.proofs.Windows.{Channel}
-use Rattle.bac_progress.proofs.Rounds.{IsRound}
 use Rattle.bac_progress.proofs.Gets.{alive_now}
 use Rattle.bac_progress.proofs.Downloads.{Waits, await_waits, sending_waits}
+use Rattle.bac_progress.proofs.Retried.{window_most, window_some, together_again, round_of, none_live, fits_data}
+use Rattle.bac_progress.proofs.Retried.{sending_ticks, awaiting_ticks, collecting_ticks}
 use Rattle.bac_progress.proofs.Uploads as up
 use Rattle.bac_progress.proofs.Downloads as down
 use Rattle.bac_progress.proofs.Begins as begins
 use Rattle.bac_progress.proofs.Resends as again_
-use Rattle.bac_progress.proofs.Turned.{IsThere, there, live_self, done_performed, reply_performed, ticked, server_ticked, Finishes, finish}
-
--- Transfers whose window is sent again.
-
-window_most : (actual : ℕ) (out : Outgoing) → 0 < actual → (IsAtStart out ⊎ IsUnderway actual out) → out.window ≤ actual
-window_most actual out some (inl h) = let w = h.1 in omega arith
-window_most actual out some (inr h) = let w = h.1 in omega arith
-
-window_some : (actual : ℕ) (out : Outgoing) → 0 < actual → (IsAtStart out ⊎ IsUnderway actual out) → 0 < out.window
-window_some actual out some (inl h) = let w = h.1 in omega arith
-window_some actual out some (inr h) = let w = h.1 in omega arith
-
-window_shape : (actual : ℕ) (out : Outgoing) → (IsAtStart out ⊎ IsUnderway actual out) → ((out.window ≡ actual) ⊎ ((out.first ≡ 0) × (out.window ≡ 1)))
-window_shape actual out (inl h) = inr h
-window_shape actual out (inr h) = inl h.1
-
--- with other retries
-sending_again : (actual r : ℕ) (ps : List Octets) (out : Outgoing) → IsSending actual ps out → IsSending actual ps (record out { retries = r })
-sending_again actual r ps out h = record { pieces_are = h.pieces_are; left = h.left; window = h.window }
-
-together_again : (actual r : ℕ) (ps : List Octets) (out : Outgoing) (inc : Incoming) → AreTogether actual ps out inc
-    → AreTogether actual ps (record out { retries = r }) inc
-together_again actual r ps out inc h = record {
-  sender = sending_again actual r ps out h.sender;
-  window = h.window;
-  parts = h.parts;
-  acknowledged = h.acknowledged;
-  sent = h.sent;
-  left = h.left;
-}
-
-module _ (S : Type 0) (shop : Shop S) (x : Rules) (now number : ℕ) (key : Key) (actual own : ℕ) (ps : List Octets)
-    (sizes : Fitting x.overtake actual own ps) (near : actual < 256) (c : Channel S shop x now number key actual own ps) where
-  round_of : (s : Sender) (inc : Incoming) → AreTogether actual ps s.out inc
-      → IsRound S shop x now number key actual own ps sizes near c s inc (length inc.parts)
-  round_of s inc h = record {
-    pieces = (h.sender).pieces_are;
-    shape = window_shape actual s.out (h.sender).window;
-    most = window_most actual s.out sizes.some (h.sender).window;
-    some = window_some actual s.out sizes.some (h.sender).window;
-    actual_is = h.window;
-    taken = refl;
-    parts = h.parts;
-    behind = h.acknowledged;
-    within = h.sent;
-    left = h.left;
-  }
-
-none_live : (now : ℕ) (o : Option Entry) → live_entry now o ≡ None → is_none_live now o ≡ true
-none_live now None e = refl
-none_live now (Some d) e = go (is_live now d) e
-  where
-    go : (b : Bool) → (if b then Some d else None) ≡ None → (if b then false else true) ≡ true
-    go true h = absurd cc
-    go false h = refl
-
-fits_data : (b : Bool) (ps : List Octets) → b ≡ false → RequestFits b ps → FitsData ps
-fits_data true ps e h = absurd cc
-fits_data false ps e h = h
+use Rattle.bac_progress.proofs.Turned.{IsThere, there, live_self, done_performed, reply_performed, ticked, server_ticked, Finishes}
 
 module _ (S : Type 0) (shop : Shop S) (opening : ℕ → S) (W : ℕ) (x : Rules) (bound : IsBounded W x) (w : World S)
     (kept_in : Kept S shop opening W x bound w) (key : Key) (t : Ticket) (at : w.net.tickets key ≡ Some t) (good : AreStraight x key) (p : reply)
@@ -274,44 +213,6 @@ module _ (S : Type 0) (shop : Shop S) (opening : ℕ → S) (W : ℕ) (x : Rules
   abbrev sent_now : Outgoing → Bool → Bool
   sent_now out all_sent = all_sent || nat_le (length out.pieces) (out.first + in_window out)
 
-  opens : (phase : Phase) → t.phase ≡ phase → is_idle phase ≡ false → client.client_ticks c t ≡ client.open_ticks c t phase
-  opens phase is going =
-      ap (λ (ph : Phase). if is_idle ph then Stays else if is_expired now ask then Ends [] Expired else client.open_ticks c t ph) is
-      ∙ ap (λ b. if b then Stays else if is_expired now ask then Ends [] Expired else client.open_ticks c t phase) going
-      ∙ ap (λ b. if b then Ends [] Expired else client.open_ticks c t phase) young
-
-  sending_ticks : (out : Outgoing) (all_sent : Bool) → t.phase ≡ SegmentedRequest out all_sent → T_SEG ≤ now - t.since → 0 < out.retries
-      → client.client_ticks c t ≡ client.sends_request_window c ask.choice (retried out) all_sent
-  sending_ticks out all_sent is due left =
-      let late : nat_le T_SEG (now - t.since) ≡ true = grind (arith, nat_tests) in
-      let some : nat_eq out.retries 0 ≡ false = grind (arith, nat_tests) in
-      opens (SegmentedRequest out all_sent) is refl
-      ∙ ap (λ b. if b then client.sends_request_again c ask.choice all_sent (again out) else Stays) late
-      ∙ ap (λ b. client.sends_request_again c ask.choice all_sent (if b then None else Some (retried out))) some
-
-  awaiting_ticks : t.phase ≡ AwaitConfirmation → T_OUT ≤ now - t.since → 0 < t.repeats → (b : Bool) → ask.whole ≡ b
-      → client.client_ticks c t ≡ (if b then Repeats t.phase (client.request_apdu c ask ∷ [])
-      else Repeats (SegmentedRequest (outgoing ask.pieces) true) (client.request_window c ask.choice (outgoing ask.pieces)))
-  awaiting_ticks is due left b whole =
-      let late : nat_le T_OUT (now - t.since) ≡ true = grind (arith, nat_tests) in
-      let some : nat_eq t.repeats 0 ≡ false = grind (arith, nat_tests) in
-      opens AwaitConfirmation is refl
-      ∙ ap (λ e. if e then client.repeats c t else Stays) late
-      ∙ ap (λ e. if e then client.repeats_whole c t else client.repeats_pieces c t) whole
-      ∙ ap (λ e. if b then (if e then Ends [] TimedOut else Repeats t.phase (client.request_apdu c ask ∷ []))
-      else (if e then Ends [] TimedOut
-      else Repeats (SegmentedRequest (outgoing ask.pieces) true) (client.request_window c ask.choice (outgoing ask.pieces)))) some
-
-  collecting_ticks : (inc : Incoming) → t.phase ≡ SegmentedConf inc → WAIT_SEG ≤ now - t.since → 0 < t.repeats → ask.whole ≡ true
-      → client.client_ticks c t ≡ Repeats t.phase (client.request_apdu c ask ∷ [])
-  collecting_ticks inc is due left whole =
-      let late : nat_le WAIT_SEG (now - t.since) ≡ true = grind (arith, nat_tests) in
-      let some : nat_eq t.repeats 0 ≡ false = grind (arith, nat_tests) in
-      opens (SegmentedConf inc) is refl
-      ∙ ap (λ e. if e then (if ask.whole then client.repeats_whole c t else Ends [] TimedOut) else Stays) late
-      ∙ ap (λ e. if e then client.repeats_whole c t else Ends [] TimedOut) whole
-      ∙ ap (λ e. if e then Ends [] TimedOut else Repeats t.phase (client.request_apdu c ask ∷ [])) some
-
   -- The entry.
 
   abbrev entry_with : (begin : ℕ) → Option Octets → State → Entry
@@ -474,7 +375,7 @@ module _ (S : Type 0) (shop : Shop S) (opening : ℕ → S) (W : ℕ) (x : Rules
         → live_entry now (w.net.entries key) ≡ live_entry now q.entry → Shows S shop x now number key after_tick q (length w.net.posts)
     sending_shows q ticket_is pending stores log_is entry =
         ticked S shop opening W x bound w kept_in key t at (client.sends_request_window c ask.choice out' all_sent) q
-        (sending_ticks out all_sent is due left) ticket_is (sent_window ∙ pending) refl stores log_is entry
+        (sending_ticks c t young out all_sent is due left) ticket_is (sent_window ∙ pending) refl stores log_is entry
 
     -- its server has not heard of it
     sending_new : live_entry now (w.net.entries key) ≡ None → IsAtStart out
@@ -573,7 +474,8 @@ module _ (S : Type 0) (shop : Shop S) (opening : ℕ → S) (W : ℕ) (x : Rules
               (SegmentedResponse (resume reply_out) Running now) (server.reply_window d ask.choice (resume reply_out)) in
               let y = again_.segments_resume S shop x now number key ask young t.repeats e.begin found.live None w.stores log t' reply_out since k out.first
               refl refl (omega arith) in
-              let z = from_start reply_out same cut t.repeats e.begin found.live None RETRIES (SegmentedRequest out' true) now (sending_waits out') refl start in
+              let z = from_start reply_out same cut t.repeats e.begin found.live None RETRIES (SegmentedRequest out' true) now (sending_waits out') refl
+              start in
               let count = count_is whole in
               record {
                 q = q;
@@ -618,7 +520,7 @@ module _ (S : Type 0) (shop : Shop S) (opening : ℕ → S) (W : ℕ) (x : Rules
         let count = whole_count whole in
         record {
           q = q;
-          shows = whole_shows AwaitConfirmation (awaiting_ticks is due left true whole) is q refl refl refl refl refl;
+          shows = whole_shows AwaitConfirmation (awaiting_ticks c t young is due left true whole) is q refl refl refl refl refl;
           most = 1 + 3 * wc;
           cheap = omega arith;
           fin = read_finishes (t.repeats - 1) now (alive_now now) outcome 1 1 0 0 (Some (join ask.pieces)) q (omega arith) (λ h. absurd (omega arith))
@@ -636,7 +538,7 @@ module _ (S : Type 0) (shop : Shop S) (opening : ℕ → S) (W : ℕ) (x : Rules
         → live_entry now (w.net.entries key) ≡ live_entry now q.entry → Shows S shop x now number key after_tick q (length w.net.posts)
     pieces_shows whole q ticket pending stores log_is entry =
         ticked S shop opening W x bound w kept_in key t at (Repeats (SegmentedRequest anew true) (client.request_window c ask.choice anew)) q
-        (awaiting_ticks is due left false whole) ticket
+        (awaiting_ticks c t young is due left false whole) ticket
         (ap (λ (k : ℕ). pieces_from (client.request_piece c ask.choice ask.pieces) 0 k) anew_one ∙ pending) refl stores log_is entry
 
     module _ (e : Entry) (entry : live_entry now (w.net.entries key) ≡ Some e) (of : IsOfAsk x key ask e) where
@@ -663,7 +565,7 @@ module _ (S : Type 0) (shop : Shop S) (opening : ℕ → S) (W : ℕ) (x : Rules
               let count = whole_count whole in
               record {
                 q = q;
-                shows = whole_shows AwaitConfirmation (awaiting_ticks is due left true whole) is q refl refl refl refl
+                shows = whole_shows AwaitConfirmation (awaiting_ticks c t young is due left true whole) is q refl refl refl refl
                     (entry_shows e entry of request (request_kept e of true whole) st (state ∙ ap Done same));
                 most = 2;
                 cheap = omega arith;
@@ -714,7 +616,7 @@ module _ (S : Type 0) (shop : Shop S) (opening : ℕ → S) (W : ℕ) (x : Rules
               let count = whole_count whole in
               record {
                 q = q;
-                shows = whole_shows AwaitConfirmation (awaiting_ticks is due left true whole) is q refl refl refl refl
+                shows = whole_shows AwaitConfirmation (awaiting_ticks c t young is due left true whole) is q refl refl refl refl
                     (entry_shows e entry of request (request_kept e of true whole) st state);
                 most = 1 + 3 * wc;
                 cheap = omega arith;
@@ -730,10 +632,10 @@ module _ (S : Type 0) (shop : Shop S) (opening : ℕ → S) (W : ℕ) (x : Rules
               (pieces_from (client.request_piece c ask.choice ask.pieces) 0 1) in
               let mid = again_.with_state S shop x now number key ask young (t.repeats - 1) e.begin there_is.live None w.stores log ticket
               (SegmentedResponse (resume reply_out) Running now) (server.reply_window d ask.choice (resume reply_out)) in
-              let y = again_.segments_resume S shop x now number key ask young (t.repeats - 1) e.begin there_is.live None w.stores log ticket reply_out since 0 0
-              refl refl (omega arith) in
-              let z = from_start reply_out same cut (t.repeats - 1) e.begin there_is.live None RETRIES (SegmentedRequest anew true) now (sending_waits anew) refl
-              start in
+              let y = again_.segments_resume S shop x now number key ask young (t.repeats - 1) e.begin there_is.live None w.stores log ticket reply_out since
+              0 0 refl refl (omega arith) in
+              let z = from_start reply_out same cut (t.repeats - 1) e.begin there_is.live None RETRIES (SegmentedRequest anew true) now (sending_waits anew)
+              refl start in
               let count = count_is whole in
               record {
                 q = q;
@@ -760,13 +662,14 @@ module _ (S : Type 0) (shop : Shop S) (opening : ℕ → S) (W : ℕ) (x : Rules
       (client.request_apdu c ask ∷ []) in
       let mid = again_.with_state S shop x now number key ask young (t.repeats - 1) e.begin found.live request w.stores log ticket
       (SegmentedResponse (resume reply_out) Running now) (server.reply_window d ask.choice (resume reply_out)) in
-      let y = again_.request_resumes S shop x now number key ask young (t.repeats - 1) e.begin found.live request w.stores log ticket reply_out since refl refl in
+      let y = again_.request_resumes S shop x now number key ask young (t.repeats - 1) e.begin found.live request w.stores log ticket reply_out since refl
+      refl in
       let z = from_middle reply_out same cut (t.repeats - 1) e.begin found.live request RETRIES inc now together in
       let done = reply_performed S shop opening W x bound w kept_in key t at e found.at found.live reply_out Stopped since state p same in
       let count = whole_count whole in
       record {
         q = q;
-        shows = whole_shows (SegmentedConf inc) (collecting_ticks inc is due left whole) is q refl refl refl refl
+        shows = whole_shows (SegmentedConf inc) (collecting_ticks c t young inc is due left whole) is q refl refl refl refl
             (entry_shows e entry of request (request_kept e of true whole) st state);
         most = 1 + 3 * wc;
         cheap = omega arith;
@@ -817,7 +720,7 @@ module _ (S : Type 0) (shop : Shop S) (opening : ℕ → S) (W : ℕ) (x : Rules
           (reply_performed S shop opening W x bound w kept_in key t at e served_is.at served_is.live reply_out Running since state p same) z;
     }
 
-    server_turn : (phase : Phase) → t.phase ≡ phase → is_idle phase ≡ false → Stands actual ask phase (Some e)
+    pub server_turn : (phase : Phase) → t.phase ≡ phase → is_idle phase ≡ false → Stands actual ask phase (Some e)
         → Ready (happens S shop x w (Tick [] (key ∷ [])))
     server_turn Idle is going h = absurd cc
     server_turn AwaitConfirmation is going h =
@@ -825,7 +728,8 @@ module _ (S : Type 0) (shop : Shop S) (opening : ℕ → S) (W : ℕ) (x : Rules
         server_ready AwaitConfirmation is refl
         (from_start reply_out same cut t.repeats e.begin served_is.live e.request r AwaitConfirmation t.since await_waits refl start)
     server_turn (SegmentedConf inc) is going h =
-        let together : StandsCollecting actual inc (SegmentedResponse reply_out Running since) = subst (λ (st : State). StandsCollecting actual inc st) state h in
+        let together : StandsCollecting actual inc (SegmentedResponse reply_out Running since) =
+        subst (λ (st : State). StandsCollecting actual inc st) state h in
         server_ready (SegmentedConf inc) is refl (from_middle reply_out same cut t.repeats e.begin served_is.live e.request r inc t.since together)
     server_turn (SegmentedRequest out all_sent) is going h =
         let start : StandsSending actual ask.pieces out all_sent (SegmentedResponse reply_out Running since) =
@@ -889,50 +793,3 @@ module _ (S : Type 0) (shop : Shop S) (opening : ℕ → S) (W : ℕ) (x : Rules
   client_turn (SegmentedConf inc) is due None entry takes step gives = absurd step.stand
   client_turn (SegmentedConf inc) is due (Some e) entry takes step gives =
       collecting_turn e entry step.entry step.some inc is due e.state refl takes step.stand gives (step.entry).cut
-
-  -- The run after it.
-
-  abbrev exact : World S → Event → World S → Type 0
-  exact u e y = y ≡ happens S shop x u e
-
-  ready_answers : (u : World S) → Ready u → (count : ℕ) (v : World S) → Straight S exact key true count (length w.net.posts) u v
-      → Stops S key (length w.net.posts + count) v → IsAnsweredIn S x key t number p count v
-  ready_answers u z count v run stops =
-      finish S shop opening W x bound w kept_in key t at p z.most u v z.q count z.shows z.fin z.cheap run stops
-
-  abbrev after : List Key → List Key → World S
-  after as_client as_server = happens S shop x w (Tick as_client as_server)
-
-  server_ready_in : (o : Option Entry) → live_entry now (w.net.entries key) ≡ o → AreInStep x key ask t.phase o → ServerIsDue now o → Gives S shop x w key t p o
-      → Ready (after [] (key ∷ []))
-  server_ready_in None entry step due gives = absurd due
-  server_ready_in (Some e) entry step due gives = by_state e.state refl due gives (step.entry).cut
-    where
-      by_state : (st : State) → e.state ≡ st → TransferIsDue now st → Keeps x key now t p st Outcome → IsCutFor x key st → Ready (after [] (key ∷ []))
-      by_state (SegmentedResponse reply_out Running since) state due keeps cut =
-          server_turn e entry step.entry reply_out since state due.0 due.1 keeps cut t.phase refl can.going step.stand
-      by_state (SegmentedResponse reply_out Stopped since) state due keeps cut = absurd due
-      by_state (SegmentedResponse reply_out Finished since) state due keeps cut = absurd due
-      by_state (State.SegmentedRequest inc since) state due keeps cut = absurd due
-      by_state (Done kept) state due keeps cut = absurd due
-      by_state Dropped state due keeps cut = absurd due
-
-  pub in_step_answers : AreInStep x key ask t.phase (live_entry now (w.net.entries key)) → (as_client as_server : List Key)
-      → IsTurn S w key t as_client as_server → (count : ℕ) (v : World S)
-      → Straight S exact key true count (length w.net.posts) (after as_client as_server) v → Stops S key (length w.net.posts + count) v
-      → IsAnsweredIn S x key t number p count v
-  in_step_answers step as_client as_server (inl turn) count v run stops =
-      let same : after as_client as_server ≡ after (key ∷ []) [] = λ i. after (turn.2 i) (turn.3 i) in
-      ready_answers (after (key ∷ []) []) (client_turn t.phase refl turn.0 (live_entry now (w.net.entries key)) refl turn.1 step can.gives) count v
-      (subst (λ (u : World S). Straight S exact key true count (length w.net.posts) u v) same run) stops
-  in_step_answers step as_client as_server (inr turn) count v run stops =
-      let same : after as_client as_server ≡ after [] (key ∷ []) = λ i. after (turn.1 i) (turn.2 i) in
-      ready_answers (after [] (key ∷ [])) (server_ready_in (live_entry now (w.net.entries key)) refl step turn.0 can.gives) count v
-      (subst (λ (u : World S). Straight S exact key true count (length w.net.posts) u v) same run) stops
-
-pub in_step_is_answered : (S : Type 0) (shop : Shop S) (opening : ℕ → S) (W : ℕ) (x : Rules) → IsBounded W x → (events : List Event)
-    → InStepIsAnswered S shop x (run S shop x events (start S opening))
-in_step_is_answered S shop opening W x bound events key t at step good p can as_client as_server turn count v straight stops =
-    in_step_answers S shop opening W x bound (run S shop x events (start S opening))
-    (run_kept S shop opening W x bound events (start S opening) (start_kept S shop opening W x bound)) key t at good p can step as_client as_server turn count
-    v straight stops

@@ -5,7 +5,7 @@ use Rattle.bac_protocol.specs.Examples.{key, rules, append_apdu, position, posit
 use Rattle.bac_progress.specs.Examples.{whole_ask, LateTick, LateAnswer, OneRoundTrip, SecondRoundTrip}
 use Rattle.bac_progress.specs.Examples.{RoundTripOfSegment, FourthSending, LateTurn, StoppedReply, HalfWindow}
 use Rattle.bac_progress.specs.RoundTrip.{FitsInOne}
-use Rattle.bac_progress.specs.Failures.{WindowUsedUp, ReplyUsedUp, TooOld, OutOfPatience, OldAbort}
+use Rattle.bac_progress.specs.Failures.{WindowUsedUp, ReplyUsedUp, TooOld, OutOfPatience, RepeatWasted, OldAbort}
 
 pub late_tick : LateTick
 late_tick = record {
@@ -107,6 +107,9 @@ too_old = record { ends = refl }
 
 pub out_of_patience : OutOfPatience
 out_of_patience = record { in_time = refl; late = refl }
+
+pub repeat_wasted : RepeatWasted
+repeat_wasted = record { before = refl; sent = refl; after = refl; silent = refl }
 
 pub old_abort : OldAbort
 old_abort = record { ends = refl }

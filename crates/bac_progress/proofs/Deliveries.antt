@@ -1,5 +1,5 @@
 -- Copies that are delivered once, in order of sending, where one that too many later ones have overtaken is lost.
-use Rattle.std.proofs.Common.{◌≡◌, ℕ, zero, suc, ◌+◌, ◌-◌, ◌≤◌, ◌⊎◌, Bool, true, false, ◌&&◌, List, [], ◌∷◌, ◌++◌, map, length, Option, Some, slice_get}
+use Rattle.std.proofs.Common.{◌≡◌, ℕ, zero, suc, ◌+◌, ◌-◌, ◌≤◌, ◌⊎◌, Bool, true, false, ◌&&◌, List, [], ◌∷◌, ◌++◌, length, Some, slice_get}
 use Rattle.std.proofs.Common.{if◌then◌else◌, nat_le, refl, sym, ap, subst, inl, inr, ◌∙◌, arith, zero-add, suc-add, append_assoc, length-append}
 use Rattle.std.proofs.lemmas.Bool.Decides.{nat_tests}
 use Rattle.bac_apdu.specs.Apdu.{Apdu}
@@ -9,7 +9,7 @@ use Rattle.bac_protocol.specs.Client.{is_idle}
 use Rattle.bac_protocol.specs.Server.{is_none_live}
 use Rattle.bac_protocol.specs.Log.{Shop}
 use Rattle.bac_protocol.specs.Transaction.{Key, Rules}
-use Rattle.bac_protocol.specs.World.{World, Post, Event, count_of, later, post_of, takes_at_client, takes_at_server, delivered, happens}
+use Rattle.bac_protocol.specs.World.{World, Post, count_of, later, post_of, takes_at_client, takes_at_server, delivered, happens}
 use Rattle.bac_protocol.specs.World.Event.{Deliver}
 use Rattle.bac_protocol.specs.Straight.{IsLike, WorldSteps, is_ended, Straight, Stops}
 use Rattle.bac_protocol.proofs.Keys.{same_key_self}

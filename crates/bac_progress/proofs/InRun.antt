@@ -1,16 +1,14 @@
 -- In every run the two ends of each transaction stay in step.
-use Rattle.std.proofs.Common.{◌≡◌, ℕ, suc, ◌+◌, ◌-◌, ◌*◌, ◌%◌, ◌<◌, ◌≤◌, ◌⊎◌, min, Bool, true, false, ◌&&◌, ◌||◌, List, [], ◌∷◌, ◌++◌, map, length, take}
-use Rattle.std.proofs.Common.{Option, Some, None, slice_get, if◌then◌else◌, nat_lt, nat_le, refl, sym, ap, subst, inl, inr, ◌∙◌, arith}
+use Rattle.std.proofs.Common.{◌≡◌, ℕ, ◌+◌, ◌-◌, ◌*◌, ◌<◌, ◌≤◌, ◌⊎◌, Bool, true, false, List, [], ◌∷◌, ◌++◌, length}
+use Rattle.std.proofs.Common.{Option, Some, None, slice_get, if◌then◌else◌, refl, sym, ap, subst, inl, inr, ◌∙◌, arith}
 use Rattle.std.proofs.lemmas.Bool.Decides.{nat_tests}
-use Rattle.bac_apdu.specs.Apdu.{Apdu, Limits, Segment}
+use Rattle.bac_apdu.specs.Apdu.{Apdu, Segment}
 use Rattle.bac_apdu.specs.Apdu.Apdu.{ConfirmedRequest, UnconfirmedRequest, SimpleAck, ComplexAck, SegmentAck, Error, Reject, Abort}
-use Rattle.bac_segment.specs.Limits.{RETRIES}
-use Rattle.bac_segment.specs.Pieces.{join}
-use Rattle.bac_segment.specs.Window.{Outgoing, outgoing, in_window, Incoming, incoming, Taking, takes}
-use Rattle.bac_protocol.specs.declared.times.TheConstants.{LIFE, DEADLINE, KEEP}
+use Rattle.bac_segment.specs.Window.{Outgoing, Incoming, incoming, Taking, takes}
+use Rattle.bac_protocol.specs.declared.times.TheConstants.{LIFE}
 use Rattle.bac_protocol.specs.Context.{Context}
 use Rattle.bac_protocol.specs.Service.{Octets, Readable}
-use Rattle.bac_protocol.specs.Wire.{is_from_client, is_from_server, Each}
+use Rattle.bac_protocol.specs.Wire.{is_from_client, Each}
 use Rattle.bac_protocol.specs.Client as client
 use Rattle.bac_protocol.specs.Client.{Ask, Phase, Ticket, Reaction}
 use Rattle.bac_protocol.specs.Client.Phase.{SegmentedRequest, AwaitConfirmation, SegmentedConf, Idle}
@@ -18,21 +16,19 @@ use Rattle.bac_protocol.specs.Client.Reaction.{Stays, GoesOn, Repeats, Ends}
 use Rattle.bac_protocol.specs.Server as server
 use Rattle.bac_protocol.specs.Server.{State, Entry, Service, is_live}
 use Rattle.bac_protocol.specs.Server.State.{Done, SegmentedResponse, Dropped}
-use Rattle.bac_protocol.specs.Log.{Fact, Shop}
-use Rattle.bac_protocol.specs.Own.{PhaseHas, lesser_window, IsSentByClient, IsSentByServer, IsOwnPost, AreOwn, IsOfClient}
+use Rattle.bac_protocol.specs.Log.{Fact}
+use Rattle.bac_protocol.specs.Own.{PhaseHas, lesser_window, IsSentByClient, IsSentByServer, IsOfClient}
 use Rattle.bac_protocol.specs.Transaction.{Key, Rules, Copy, client_context, server_context}
 use Rattle.bac_protocol.specs.Claims.{IsBounded, EachCopy, IsPiece}
-use Rattle.bac_protocol.proofs.Alone.{one, sent}
-use Rattle.bac_protocol.proofs.Asks.{IsSpent}
-use Rattle.bac_protocol.proofs.Sound.{IsUnderway, IsFront, Up, Down, IsPieceDown, client_until, Says, SendsUp, ClientFits, CollectsDown, IsKeptFor, IsUnbegun}
+use Rattle.bac_protocol.proofs.Alone.{sent}
+use Rattle.bac_protocol.proofs.Sound.{IsUnderway, Up, Down, client_until, Says, ClientFits, CollectsDown, IsKeptFor, IsUnbegun}
 use Rattle.bac_protocol.proofs.Sound.{SendsDown, StateFits, ServerFits, Sound}
 use Rattle.bac_protocol.proofs.Sound.Up.{Reading, Repeated}
 use Rattle.bac_protocol.proofs.Sound.Down.{Unsent, Sent}
 use Rattle.bac_protocol.proofs.Own.{ClientSends, BeginsAnswer, own_sends, gets_own, ticks_own, client_sends_own}
 use Rattle.bac_protocol.proofs.Transfer.{takes_cases, takes_below}
-use Rattle.bac_progress.specs.InStep.{IsSending}
-use Rattle.bac_progress.proofs.Flow.{reach, NearDown, SaysLimits, AllUp, AllDown, all_up, all_limits, request_window_near, PhaseFlows, IsMade, IsReplySender}
-use Rattle.bac_progress.proofs.Flow.{StateMade, Flow, flow_later, Collects, After, client_flows, server_flows}
+use Rattle.bac_progress.proofs.Flow.{reach, NearDown, SaysLimits, PhaseFlows}
+use Rattle.bac_progress.proofs.Flow.{StateMade, Flow, client_flows, server_flows}
 use Rattle.bac_progress.proofs.ClientFlows.{window_bound}
 use Rattle.bac_progress.proofs.ClientFlows as of_client
 use Rattle.bac_progress.proofs.ServerFlows as of_server
@@ -172,7 +168,8 @@ module _ (W : ℕ) (x : Rules) (bound : IsBounded W x) (key : Key) (some : 0 < l
         let c = client_context x key now in
         let r = client.client_ticks c t in
         reaction_flows r
-        (of_client.ticks_fine W x key now t.ask t.repeats t.phase o copies some L_small L_client flow.some t refl refl refl flow.client flow.taken_down flow.few)
+        (of_client.ticks_fine W x key now t.ask t.repeats t.phase o copies some L_small L_client flow.some t refl refl refl flow.client flow.taken_down
+        flow.few)
         (tick_limits now readable t) (up_of key.invoke_id (client.sends_of r) (client_sends_own.ticks c t))
 
     -- a segment of the reply comes, with k later copies
@@ -275,7 +272,8 @@ module _ (W : ℕ) (x : Rules) (bound : IsBounded W x) (key : Key) (some : 0 < l
 
       -- no entry is live, while a copy of the client's may arrive
       none_begun : (m : ℕ) → m ≤ client_until t.ask → now - m ≤ LIFE → (y : Option Entry) → o ≡ y → server.is_none_live now y ≡ true → down ≡ Unsent
-      none_begun m sent_by young None at dead = unbegun_down number up down log (subst (λ (y : Option Entry). ServerFits W number t.ask y up down log) at s.server)
+      none_begun m sent_by young None at dead =
+          unbegun_down number up down log (subst (λ (y : Option Entry). ServerFits W number t.ask y up down log) at s.server)
       none_begun m sent_by young (Some e) at dead =
           by_fit (subst (λ (y : Option Entry). ServerFits W number t.ask y up down log) at s.server)
         where
@@ -305,7 +303,8 @@ module _ (W : ℕ) (x : Rules) (bound : IsBounded W x) (key : Key) (some : 0 < l
       known service k late e at begun st fits = go st up down refl refl fits
         where
           go : (y : State) (u : Up) (v : Down) → up ≡ u → down ≡ v → StateFits W number t.ask y u v log
-              → of_server.IsKnown x.overtake W x key now t.ask t.repeats t.phase o copies flow some L_small L_server bound.room service k late apart e at begun y
+              → of_server.IsKnown x.overtake W x key now t.ask t.repeats t.phase o copies flow some L_small L_server bound.room service k late apart e at
+              begun y
           go (State.SegmentedRequest inc since) (Reading a b) Unsent is none f = (
             unsent none,
             λ out all ph full.
@@ -353,7 +352,8 @@ module _ (W : ℕ) (x : Rules) (bound : IsBounded W x) (key : Key) (some : 0 < l
       comes_up k m (Reject id r) at young comes own = tt
       comes_up k m (Abort b id r) at young comes own = tt
 
-      pub served_by : (service : Service) (free : Bool) (k m : ℕ) (late : k ≤ x.overtake) (a : Apdu) → slice_get copies k ≡ Some (record { moment = m; apdu = a })
+      pub served_by : (service : Service) (free : Bool) (k m : ℕ) (late : k ≤ x.overtake) (a : Apdu)
+          → slice_get copies k ≡ Some (record { moment = m; apdu = a })
           → now - m ≤ LIFE → is_from_client a ≡ true → IsSentByClient x key a ⊎ IsSentByServer x key a
           → (y : Option Entry) → o ≡ y → FineAt (server.server_gets (server_context x key now) service y free a)
       served_by service free k m late a at young comes own None is =

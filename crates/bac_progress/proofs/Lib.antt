@@ -20,7 +20,9 @@ pub mod Downloads
 pub mod Begins
 pub mod Resends
 pub mod Turned
+pub mod Retried
 pub mod Answering
+pub mod AnyTurn
 pub mod Flow
 pub mod ClientFlows
 pub mod ServerFlows

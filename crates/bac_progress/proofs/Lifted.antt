@@ -1,24 +1,23 @@
 -- Each event of a run keeps a transaction in step.
-use Rattle.std.proofs.Common.{◌≡◌, ℕ, suc, ◌+◌, ◌-◌, ◌<◌, ◌≤◌, ◌⊎◌, Bool, true, false, ◌&&◌, ◌||◌, List, [], ◌∷◌, ◌++◌, map, length, Option, Some, None}
-use Rattle.std.proofs.Common.{slice_get, if◌then◌else◌, nat_lt, nat_le, refl, sym, ap, subst, inl, inr, ◌∙◌, arith, append_assoc, append-nil}
+use Rattle.std.proofs.Common.{◌≡◌, ℕ, ◌+◌, ◌-◌, ◌<◌, ◌≤◌, ◌⊎◌, Bool, true, false, ◌||◌, List, [], ◌∷◌, ◌++◌, map, length, Option, Some, None}
+use Rattle.std.proofs.Common.{slice_get, if◌then◌else◌, nat_le, refl, sym, subst, inl, inr, ◌∙◌, arith, append_assoc, append-nil}
 use Rattle.std.proofs.lemmas.Bool.Decides.{nat_tests}
 use Rattle.bac_apdu.specs.Apdu.{Apdu}
 use Rattle.bac_segment.specs.Limits.{RETRIES}
-use Rattle.bac_segment.specs.Window.{Outgoing, outgoing, in_window, Incoming}
-use Rattle.bac_protocol.specs.declared.times.TheConstants.{LIFE, KEEP}
+use Rattle.bac_segment.specs.Window.{outgoing, in_window, Incoming}
+use Rattle.bac_protocol.specs.declared.times.TheConstants.{LIFE}
 use Rattle.bac_protocol.specs.Context.{Context}
 use Rattle.bac_protocol.specs.Service.{Octets}
-use Rattle.bac_protocol.specs.Wire.{is_from_client, pieces_from, Each}
+use Rattle.bac_protocol.specs.Wire.{is_from_client, Each}
 use Rattle.bac_protocol.specs.Client as client
 use Rattle.bac_protocol.specs.Client.{Ask, Phase, Ticket}
-use Rattle.bac_protocol.specs.Client.Phase.{SegmentedRequest, AwaitConfirmation, SegmentedConf}
+use Rattle.bac_protocol.specs.Client.Phase.{SegmentedRequest, SegmentedConf}
 use Rattle.bac_protocol.specs.Server as server
 use Rattle.bac_protocol.specs.Server.{Entry}
-use Rattle.bac_protocol.specs.Server.State.{SegmentedResponse}
 use Rattle.bac_protocol.specs.Log.{Shop}
 use Rattle.bac_protocol.specs.Own.{lesser_window, IsOwnPost, AreOwn}
 use Rattle.bac_protocol.specs.Transaction.{Key, Rules, Copy, client_context, server_context}
-use Rattle.bac_protocol.specs.World.{Net, World, Post, Event, later, is_deliverable, copies_of, is_key_held, asked_at, ask_made, client_acts, server_acts, set_at}
+use Rattle.bac_protocol.specs.World.{Net, World, Post, Event, later, is_deliverable, copies_of, is_key_held, asked_at, ask_made, client_acts, server_acts}
 use Rattle.bac_protocol.specs.World.{delivered, arrives, takes_at_client, takes_at_server, ticks_ticket, ticks_as_client, ticks_as_server, serves, service_of}
 use Rattle.bac_protocol.specs.World.{happens, run, start, post_of}
 use Rattle.bac_protocol.specs.World.Event.{MakeAsk, Deliver, Tick, Noise, Advance}
@@ -30,7 +29,6 @@ use Rattle.bac_protocol.proofs.Facts.{pieces_all, pieces_length}
 use Rattle.bac_protocol.proofs.Headline.{Kept, run_kept, start_kept}
 use Rattle.bac_protocol.proofs.Keys.{decide_key, set_same, set_other, copies_posted, copies_other, copy_at}
 use Rattle.bac_protocol.proofs.Nets.{NetSound, sound_at, spent_at}
-use Rattle.bac_protocol.proofs.Sound.{IsSoundAt}
 use Rattle.bac_protocol.proofs.Owned.{own_in_run}
 use Rattle.bac_progress.proofs.Paths.{some_is}
 use Rattle.bac_progress.proofs.Flow.{reach, SaysLimits, AllUp, all_up, all_limits, request_window_near, PhaseFlows, Flow, flow_later}

@@ -1,5 +1,5 @@
 -- Each step of a server keeps its transaction in step.
-use Rattle.std.proofs.Common.{◌≡◌, ℕ, ◌+◌, ◌-◌, ◌*◌, ◌%◌, ◌<◌, ◌≤◌, ◌≢◌, ◌⊎◌, min, Bool, true, false, ◌&&◌, not, is_some, List, [], ◌∷◌, ◌++◌, length}
+use Rattle.std.proofs.Common.{◌≡◌, ℕ, ◌+◌, ◌-◌, ◌*◌, ◌%◌, ◌<◌, ◌≤◌, Bool, true, false, not, is_some, List, [], ◌∷◌, ◌++◌, length}
 use Rattle.std.proofs.Common.{Option, Some, None, if◌then◌else◌, nat_lt, nat_le, nat_eq, refl, sym, ap, subst, inl, inr, ◌∙◌, arith}
 use Rattle.std.proofs.lemmas.Bool.Decides.{nat_tests}
 use Rattle.bac_apdu.specs.Apdu.{Apdu, Limits, Segment}
@@ -7,7 +7,7 @@ use Rattle.bac_apdu.specs.Apdu.Apdu.{ConfirmedRequest, UnconfirmedRequest, Simpl
 use Rattle.bac_segment.specs.Limits.{RETRIES}
 use Rattle.bac_segment.specs.Numbers.{ahead}
 use Rattle.bac_segment.specs.Pieces.{join}
-use Rattle.bac_segment.specs.Window.{Outgoing, outgoing, in_window, is_finished, acknowledged, again, resume, Incoming, incoming, Taking, takes}
+use Rattle.bac_segment.specs.Window.{Outgoing, outgoing, in_window, is_finished, acknowledged, again, Incoming, incoming, Taking, takes}
 use Rattle.bac_segment.specs.Window.Taking.{Taken, Whole, Nak, TooLong}
 use Rattle.bac_protocol.specs.declared.times.TheConstants.{T_SEG, WAIT_SEG}
 use Rattle.bac_protocol.specs.Context.{Context}
@@ -30,8 +30,7 @@ use Rattle.bac_protocol.proofs.Facts.{all_map, pieces_all, pieces_length}
 use Rattle.bac_protocol.proofs.Sound.{IsUnderway}
 use Rattle.bac_protocol.proofs.Transfer.{moved, acknowledged_cases, piece_at_is, takes_cases, takes_below}
 use Rattle.bac_protocol.proofs.Ways.{way_cut}
-use Rattle.bac_progress.specs.InStep.{IsAtStart, IsUnderway as IsPast}
-use Rattle.bac_progress.proofs.Flow.{reach, NearDown, AllDown, all_down, reply_window_near, PhaseFlows, TakenUp, IsReplySender, StateMade, IsMade, Flow}
+use Rattle.bac_progress.proofs.Flow.{reach, NearDown, AllDown, all_down, reply_window_near, TakenUp, IsReplySender, StateMade, Flow}
 use Rattle.bac_progress.proofs.Flow.{EntryFlows}
 use Rattle.bac_progress.proofs.ClientFlows.{window_bound, reach_moved}
 
@@ -463,11 +462,13 @@ module _ (V W : ℕ) (x : Rules) (key : Key) (now : ℕ) (ask : Ask) (repeats : 
       receiving_fine inc since is u behind (Error id choice class code) h = rests_fine (Some e) at [] tt tt
       receiving_fine inc since is u behind (Reject id r) h = rests_fine (Some e) at [] tt tt
 
-      answers_fine : (b : Bool) (kept : Apdu) → IsDown kept → IsQuiet kept → Fine (server.rests (Some e) ((if b then kept else server.server_abort d OTHER) ∷ []))
+      answers_fine : (b : Bool) (kept : Apdu) → IsDown kept → IsQuiet kept
+          → Fine (server.rests (Some e) ((if b then kept else server.server_abort d OTHER) ∷ []))
       answers_fine true kept down quiet = rests_fine (Some e) at (kept ∷ []) (down, tt) (quiet, tt)
       answers_fine false kept down quiet = rests_fine (Some e) at (server.server_abort d OTHER ∷ []) (refl, tt) (tt, tt)
 
-      refuses_fine : (b : Bool) (kept : Apdu) → IsDown kept → IsQuiet kept → Fine (server.rests (Some e) ((if b then server.server_abort d OTHER else kept) ∷ []))
+      refuses_fine : (b : Bool) (kept : Apdu) → IsDown kept → IsQuiet kept
+          → Fine (server.rests (Some e) ((if b then server.server_abort d OTHER else kept) ∷ []))
       refuses_fine true kept down quiet = rests_fine (Some e) at (server.server_abort d OTHER ∷ []) (refl, tt) (tt, tt)
       refuses_fine false kept down quiet = rests_fine (Some e) at (kept ∷ []) (down, tt) (quiet, tt)
 

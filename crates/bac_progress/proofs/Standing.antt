@@ -1,10 +1,10 @@
 -- After every run the two ends of an open transaction that is in time are in step, so one turn answers its ask.
-use Rattle.std.proofs.Common.{◌≡◌, ℕ, ◌+◌, ◌-◌, ◌<◌, ◌≤◌, ◌⊎◌, Bool, true, false, List, length, take, Option, Some, None, if◌then◌else◌, nat_le}
+use Rattle.std.proofs.Common.{◌≡◌, ℕ, ◌-◌, ◌<◌, ◌≤◌, ◌⊎◌, Bool, true, false, List, length, take, Option, Some, None, if◌then◌else◌}
 use Rattle.std.proofs.Common.{refl, sym, ap, subst, inl, inr, ◌∙◌, arith}
 use Rattle.std.proofs.lemmas.Bool.Decides.{nat_tests}
 use Rattle.bac_segment.specs.Limits.{RETRIES}
-use Rattle.bac_segment.specs.Window.{Outgoing, in_window, Incoming}
-use Rattle.bac_protocol.specs.declared.times.TheConstants.{DEADLINE, KEEP}
+use Rattle.bac_segment.specs.Window.{Outgoing, Incoming}
+use Rattle.bac_protocol.specs.declared.times.TheConstants.{DEADLINE}
 use Rattle.bac_protocol.specs.Client.{Ask, Phase, Ticket}
 use Rattle.bac_protocol.specs.Client.Phase.{SegmentedRequest, AwaitConfirmation, SegmentedConf, Idle}
 use Rattle.bac_protocol.specs.Server as server
@@ -13,23 +13,22 @@ use Rattle.bac_protocol.specs.Server.State.{Done, SegmentedResponse, Dropped}
 use Rattle.bac_protocol.specs.Log.{Fact, Shop}
 use Rattle.bac_protocol.specs.Own.{lesser_window, StateHas, EntryHas, PhaseHas, TicketHas, IsSentByServer, IsLesser}
 use Rattle.bac_protocol.specs.Transaction.{Key, Rules, Copy}
-use Rattle.bac_protocol.specs.World.{Event, World, run, start, copies_of}
+use Rattle.bac_protocol.specs.World.{Event, run, start, copies_of}
 use Rattle.bac_protocol.specs.Claims.{IsBounded}
-use Rattle.bac_protocol.proofs.Alone.{one}
-use Rattle.bac_protocol.proofs.Headline.{Kept, run_kept, start_kept}
+use Rattle.bac_protocol.proofs.Headline.{run_kept, start_kept}
 use Rattle.bac_protocol.proofs.Nets.{sound_at}
 use Rattle.bac_protocol.proofs.Owned.{own_in_run}
-use Rattle.bac_protocol.proofs.Sound.{Up, Down, SendsUp, IsUntaken, ClientFits, IsRead, PassFits, CollectsDown, IsUnbegun, SendsDown, StateFits, ServerFits}
+use Rattle.bac_protocol.proofs.Sound.{Up, Down, IsUntaken, ClientFits, IsRead, PassFits, CollectsDown, IsUnbegun, SendsDown, StateFits, ServerFits}
 use Rattle.bac_protocol.proofs.Sound.{IsBegunFor, Sound}
 use Rattle.bac_protocol.proofs.Sound.Up.{Reading, Repeated}
 use Rattle.bac_protocol.proofs.Sound.Down.{Unsent, Sent}
-use Rattle.bac_progress.specs.InStep.{IsAtStart, IsUnderway, IsSending, AreTogether, StandsSending, StandsWaiting, StandsCollecting, Stands, AreInStep, IsCutFor}
+use Rattle.bac_progress.specs.InStep.{IsAtStart, IsUnderway, AreTogether, StandsSending, StandsWaiting, StandsCollecting, Stands, AreInStep, IsCutFor}
 use Rattle.bac_progress.specs.AfterPast.{AfterAnyPast}
 use Rattle.bac_progress.proofs.Flow.{reach, PhaseFlows, TakenUp, StateMade, Flow}
 use Rattle.bac_progress.proofs.InRun.{sending_whole, sending_behind}
 use Rattle.bac_progress.proofs.Lifted.{flows_in_run}
-use Rattle.bac_progress.proofs.Turned.{IsThere, there}
-use Rattle.bac_progress.proofs.Answering.{in_step_is_answered}
+use Rattle.bac_progress.proofs.Turned.{there}
+use Rattle.bac_progress.proofs.AnyTurn.{in_step_is_answered}
 
 at_start : (actual : ℕ) (out : Outgoing) → out.first ≤ 0 → (IsAtStart out ⊎ IsUnderway actual out) → IsAtStart out
 at_start actual out none (inl h) = h

@@ -1,20 +1,17 @@
 -- What a tick that is due makes of a transaction, and what a run in which each copy is delivered once makes of that.
-use Rattle.std.proofs.Common.{◌≡◌, ℕ, suc, ◌+◌, ◌-◌, ◌*◌, ◌<◌, ◌≤◌, ◌⊎◌, min, Bool, true, false, ◌||◌, List, [], ◌∷◌, ◌++◌, map, length, Option, Some, None}
-use Rattle.std.proofs.Common.{if◌then◌else◌, nat_lt, nat_le, nat_eq, refl, sym, ap, subst, inl, inr, ◌∙◌, arith}
+use Rattle.std.proofs.Common.{◌≡◌, ℕ, ◌+◌, ◌-◌, ◌*◌, ◌<◌, ◌≤◌, Bool, true, false, List, [], ◌∷◌, ◌++◌, map, length, Option, Some, None}
+use Rattle.std.proofs.Common.{if◌then◌else◌, nat_le, nat_eq, refl, sym, ap, subst, inl, inr, ◌∙◌, arith}
 use Rattle.std.proofs.lemmas.Bool.Decides.{nat_tests}
 use Rattle.bac_apdu.specs.Apdu.{Apdu}
-use Rattle.bac_apdu.specs.Apdu.Apdu.{SimpleAck, ComplexAck, Error}
 use Rattle.bac_segment.specs.Pieces.{join}
-use Rattle.bac_segment.specs.Window.{Outgoing, outgoing, in_window, again}
-use Rattle.bac_protocol.specs.declared.times.TheConstants.{DEADLINE, T_OUT, T_SEG, WAIT_SEG}
+use Rattle.bac_segment.specs.Window.{Outgoing, again}
+use Rattle.bac_protocol.specs.declared.times.TheConstants.{T_SEG}
 use Rattle.bac_protocol.specs.Context.{Context}
-use Rattle.bac_protocol.specs.Service.{Reply as reply, Ending, Octets}
+use Rattle.bac_protocol.specs.Service.{Reply as reply, Ending}
 use Rattle.bac_protocol.specs.Service.Reply.{Simple, Complex}
-use Rattle.bac_protocol.specs.Service.Ending.{Answered, TimedOut, Expired}
+use Rattle.bac_protocol.specs.Service.Ending.{Answered}
 use Rattle.bac_protocol.specs.Client as client
-use Rattle.bac_protocol.specs.Client.{Ask, Phase, Ticket, is_idle, is_expired, request_of}
-use Rattle.bac_protocol.specs.Client.Phase.{SegmentedRequest, AwaitConfirmation, SegmentedConf, Idle}
-use Rattle.bac_protocol.specs.Client.Reaction.{Stays, GoesOn, Repeats, Ends}
+use Rattle.bac_protocol.specs.Client.{Ask, Ticket, is_idle, request_of}
 use Rattle.bac_protocol.specs.Server as server
 use Rattle.bac_protocol.specs.Server.{State, Entry, live_entry, is_live}
 use Rattle.bac_protocol.specs.Server.State.{Done, SegmentedResponse}
@@ -22,7 +19,7 @@ use Rattle.bac_protocol.specs.Server.Transfer.{Running}
 use Rattle.bac_protocol.specs.Log.{Fact, Has, Shop}
 use Rattle.bac_protocol.specs.Log.Fact.{Performed, Ended}
 use Rattle.bac_protocol.specs.Transaction.{Key, Rules, client_context, server_context, ended}
-use Rattle.bac_protocol.specs.World.{World, Event, happens, post_of, reacts, serves, ticks_ticket}
+use Rattle.bac_protocol.specs.World.{World, happens, post_of, reacts, serves, ticks_ticket}
 use Rattle.bac_protocol.specs.World.Event.{Tick}
 use Rattle.bac_protocol.specs.Claims.{IsBounded}
 use Rattle.bac_protocol.specs.Straight.{Straight, Stops, way_count, way_to, request_count}
