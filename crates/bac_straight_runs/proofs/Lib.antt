@@ -6,3 +6,5 @@ pub mod Grown
 pub mod Deliveries
 pub mod Results
 pub mod Tells
+pub mod Logs
+pub mod Going

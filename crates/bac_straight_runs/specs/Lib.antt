@@ -2,3 +2,4 @@ pub mod Open
 pub mod Logs
 pub mod Runs
 pub mod Tells
+pub mod Going

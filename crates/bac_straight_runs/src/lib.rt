@@ -1,10 +1,15 @@
 //! The straight run of a world, in code.
 #![tactic(auto)]
 
+mod ended;
+mod running;
+
 ghost use Rattle.std.specs.Prelude.{ℕ, List};
 ghost use Rattle.bac_world.specs.World.{World, Event, WorldRun, IsFresh, IsBounded};
 ghost use Rattle.bac_straight_runs.specs.Open.{OpenUntilEnded};
 ghost use Rattle.bac_straight_runs.specs.Tells.{LogTells, LoopGoesOn};
+
+pub use running::{StraightRun, straight};
 
 /// In every world that a run of a fresh one led to: while copies are delivered after an ask, its ticket is open exactly as long as the log has no ending of it.
 pub fn open_until_ended()

@@ -1,0 +1,38 @@
+-- What arises from the ask is delivered.
+use Rattle.std.proofs.Common.{ap, inl, subst}
+use Rattle.std.specs.Option.{option_map}
+use Rattle.bac_apdu.specs.Views.{limits_view}
+use Rattle.bac_service.specs.Views.{owned_request_view}
+use Rattle.bac_client.specs.Views.{ending_view}
+use Rattle.bac_straight_runs.specs.Runs.{AsksIf}
+use Rattle.bac_straight_runs.proofs.Going.{asked_since, copies_many, facts_many, gone_went, notes_many, stopped_goes, told_as, told_on}
+use Rattle.bac_straight_runs.proofs.running.ask_and_deliver.Goals as goal
+
+pub returns-in_err-ask-clause-goes : goal.returns-in_err-ask-clause-goes
+returns-in_err-ask-clause-goes c = told_on _ _ c.from_residual.result c.from_residual.ensures.1 (inl (ap (λ w. w.world) c.in_err-ask.ensures.err))
+
+pub deliver_all-requires : goal.deliver_all-requires
+deliver_all-requires c =
+    let w = c.args.world.now in
+    let limits = limits_view c.args.limits in
+    let r = owned_request_view c.args.request in
+    asked_since w c.ask.new.world c.requires c.args.client c.args.server limits r
+    (subst (λ b. AsksIf b w.world c.args.client c.args.server limits r c.ask.new.world.world) c.if-branch.true c.in_ok-ask.ensures.asked)
+    _ _ (facts_many c.log-since.result.now w.world.log c.log-since.ensures)
+    (notes_many c.asks-number.result.now w.world.notes c.asks-number.ensures)
+
+pub returns-then-branch-clause-goes : goal.returns-then-branch-clause-goes
+returns-then-branch-clause-goes c =
+    let w = c.args.world.now in
+    let asked = c.ask.new.world in
+    let new = c.deliver_all.new.world in
+    let limits = limits_view c.args.limits in
+    let r = owned_request_view c.args.request in
+    let asks = subst (λ b. AsksIf b w.world c.args.client c.args.server limits r asked.world) c.if-branch.true c.in_ok-ask.ensures.asked in
+    let number = notes_many c.asks-number.result.now w.world.notes c.asks-number.ensures in
+    let first = copies_many c.copies-first.result.now w.world.copies c.copies-first.ensures in
+    told_as c.deliver_all.result
+    (λ s h. stopped_goes w asked new c.requires c.args.client c.args.server limits r asks c.ask.ensures.overtake _ _ _ number first s.deliveries
+    (option_map ending_view s.ending) h.0 h.1)
+    (λ h. gone_went w asked new c.requires c.args.client c.args.server limits r asks c.ask.ensures.overtake _ _ _ number first h.0 h.1)
+    c.deliver_all.ensures

@@ -1,0 +1,11 @@
+-- The copies before the next one were delivered, each while the ask had not ended.
+use Rattle.std.proofs.Common.{◌-◌, ◌≤◌}
+use Rattle.bac_straight_runs.specs.Going.{HasGone}
+use Rattle.bac_straight_runs.proofs.running.deliver_each.Given as goal
+
+abbrev pub invariant-loop-number : goal.invariant-loop-number
+invariant-loop-number l =
+    record {
+      from : l.first ≤ l.number;
+      gone : HasGone l.ask l.since l.first l.fn.world l.world (l.number - l.first);
+    }

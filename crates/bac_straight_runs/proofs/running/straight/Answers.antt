@@ -1,0 +1,30 @@
+-- The server takes what it takes, and the run goes as far as it goes.
+use Rattle.std.specs.Option.{option_map}
+use Rattle.bac_apdu.specs.Views.{limits_view}
+use Rattle.bac_service.specs.Views.{owned_request_view}
+use Rattle.bac_client.specs.Views.{ending_view}
+use Rattle.bac_straight_runs.proofs.Going.{either_way, goes_at, goes_went, tells, went_at, when_ok}
+use Rattle.bac_straight_runs.proofs.running.straight.Goals as goal
+
+pub returns-clause-run : goal.returns-clause-run
+returns-clause-run c =
+    let w = c.args.world.now in
+    let new = c.ask_and_deliver-run.new.world.world in
+    let r = owned_request_view c.args.request in
+    let limits = limits_view c.in-Some.limits in
+    went_at w.overtake w.world c.args.client c.args.server limits r new (c.in-Some.ensures).0 (c.in-Some.ensures).1 (c.in-Some.ensures).2
+    (either_way c.ask_and_deliver-run.result
+    (λ s g. goes_went w.overtake w.world c.args.client c.args.server limits r new (option_map ending_view s.ending) s.deliveries g)
+    c.ask_and_deliver-run.ensures.goes)
+
+pub returns-clause-answered : goal.returns-clause-answered
+returns-clause-answered c = λ a b can.
+    let w = c.args.world.now in
+    let new = c.ask_and_deliver-run.new.world.world in
+    let r = owned_request_view c.args.request in
+    let limits = limits_view c.in-Some.limits in
+    when_ok _ c.ask_and_deliver-run.result
+    (λ s g. (tells w c.is_once.ensures.history).answers c.args.client c.args.server r (option_map ending_view s.ending) s.deliveries new
+    (goes_at w.overtake w.world c.args.client c.args.server limits r new (c.in-Some.ensures).0 (c.in-Some.ensures).1 (c.in-Some.ensures).2
+    (option_map ending_view s.ending) s.deliveries g) a b can)
+    c.ask_and_deliver-run.ensures.goes

@@ -1,0 +1,205 @@
+//! The straight run.
+ghost use Rattle.std.specs.Prelude.{◌≡◌, ℕ, IfOk, OnErr, OnOk, MatchBool, MatchOption, MatchResult, None, Some, slice_get};
+ghost use Rattle.std.specs.Option.{option_map};
+ghost use Rattle.bac_apdu.specs.Views.{limits_view};
+ghost use Rattle.bac_service.specs.Views.{owned_request_view};
+ghost use Rattle.bac_client.specs.Views.{ending_view};
+ghost use Rattle.bac_world.specs.Node.{Node};
+ghost use Rattle.bac_world.specs.World.{WorldStep};
+ghost use Rattle.bac_world.specs.World.Event.{Deliver};
+ghost use Rattle.bac_network.specs.Histories.{HasHistory, IsOnceNow};
+ghost use Rattle.bac_straight.specs.Straight.{ending_in};
+ghost use Rattle.bac_straight_runs.specs.Going.{HasGone, HasStopped};
+ghost use Rattle.bac_straight_runs.specs.Logs.{IsSince, Stops};
+ghost use Rattle.bac_straight_runs.specs.Runs.{AsksIf, CanBeAnswered, Goes, GoesAt, IsAnsweredSoon, WentBy, WentSoFar};
+
+use crate::ended::{copied, ending_of};
+use bac_apdu::Limits;
+use bac_client::Ending;
+use bac_network::{Event, World, WorldFault};
+use bac_service::OwnedRequest;
+use bac_value::NoMemory;
+use std::alloc::Global;
+
+/// How a straight run went.
+#[derive(Drop)]
+pub struct StraightRun {
+    /// How the ask ended; None where it was refused, or has not ended.
+    pub ending: Option<Ending>,
+    /// How many copies were delivered.
+    pub deliveries: usize,
+}
+
+/// What a node takes of APDUs; None where there is no such node.
+fn limits_of(world: &World, node: usize) -> Option<Limits>
+    ensures { MatchOption result (slice_get world.now.world.nodes node ≡ None)
+        (λ l. (n : Node) × (slice_get world.now.world.nodes node ≡ Some n) × (limits_view l ≡ n.settings.limits)) }
+{
+    match world.nodes().get(node) {
+        Some(node) => Some(node.settings().limits),
+        None => None,
+    }
+}
+
+/// Asks, and tells whether the ask was accepted. After an Err the world is as before.
+fn ask(
+    world: &mut World,
+    client: usize,
+    server: usize,
+    limits: Limits,
+    request: OwnedRequest,
+) -> Result<bool, WorldFault>
+    ensures asked { IfOk result (λ accepted. AsksIf accepted world.old.world client server (limits_view limits) (owned_request_view request) world.new.world) }
+    ensures err { OnErr result (world.new ≡ world.old) }
+    ensures overtake { world.new.overtake ≡ world.old.overtake }
+    ensures opening { world.new.opening ≡ world.old.opening }
+{
+    let event = Event::Ask {
+        client,
+        server,
+        limits,
+        request,
+    };
+    match world.step(&event)? {
+        None => Ok(true),
+        Some(_fault) => Ok(false),
+    }
+}
+
+/// Whether the ask has ended, or no copy is left from that number on.
+fn is_over(world: &World, ask: usize, since: usize, number: usize) -> bool
+    requires { IsSince since ask world.now.world.log }
+    ensures { MatchBool result (Stops ask number world.now.world) (ending_in ask world.now.world.log ≡ None) }
+{
+    if number >= world.copies().len() {
+        return true;
+    }
+    match ending_of(world.log(), since, ask) {
+        Some(_ending) => true,
+        None => false,
+    }
+}
+
+/// Delivers a copy. After an Err the world is as before.
+fn deliver(world: &mut World, number: usize) -> Result<(), WorldFault>
+    ensures went { OnOk result (WorldStep world.old.overtake world.old.world (Deliver number) world.new.world) }
+    ensures err { OnErr result (world.new ≡ world.old) }
+    ensures overtake { world.new.overtake ≡ world.old.overtake }
+    ensures opening { world.new.opening ≡ world.old.opening }
+{
+    world.step(&Event::Deliver { number })?;
+    Ok(())
+}
+
+/// Delivers the copies from that number on, each once, until the ask has ended or none is left, and tells how many it delivered.
+fn deliver_each(
+    world: &mut World,
+    ask: usize,
+    since: usize,
+    first: usize,
+) -> Result<usize, WorldFault>
+    requires { IsSince since ask world.old.world.log }
+    ensures { MatchResult result (λ count. HasStopped ask since first world.old world.new count) (λ _. (count : ℕ) × HasGone ask since first world.old world.new count) }
+{
+    for number in first..usize::MAX {
+        if is_over(world, ask, since, number) {
+            return Ok(number - first);
+        }
+        deliver(world, number)?;
+    }
+    // As many copies as numbers: no memory holds them.
+    Err(WorldFault::NoMemory)
+}
+
+/// How the ask has ended, if it has.
+fn ending_now(
+    alloc: Global,
+    world: &World,
+    ask: usize,
+    since: usize,
+) -> Result<Option<Ending>, NoMemory>
+    requires { IsSince since ask world.now.world.log }
+    ensures { IfOk result (λ ending. option_map ending_view ending ≡ ending_in ask world.now.world.log) }
+{
+    match ending_of(world.log(), since, ask) {
+        Some(ending) => Ok(Some(copied(alloc, ending)?)),
+        None => Ok(None),
+    }
+}
+
+/// Delivers what arises from an accepted ask, and tells how that went.
+fn deliver_all(
+    alloc: Global,
+    world: &mut World,
+    ask: usize,
+    since: usize,
+    first: usize,
+) -> Result<StraightRun, WorldFault>
+    requires { IsSince since ask world.old.world.log }
+    ensures { MatchResult result (λ s. HasStopped ask since first world.old world.new s.deliveries × (option_map ending_view s.ending ≡ ending_in ask world.new.world.log))
+        (λ _. (count : ℕ) × HasGone ask since first world.old world.new count) }
+{
+    let deliveries = deliver_each(world, ask, since, first)?;
+    let ending = ending_now(alloc, world, ask, since)?;
+    Ok(StraightRun { ending, deliveries })
+}
+
+/// Asks, where the server is said to take that of APDUs, and delivers what arises from it.
+fn ask_and_deliver(
+    alloc: Global,
+    world: &mut World,
+    client: usize,
+    server: usize,
+    limits: Limits,
+    request: OwnedRequest,
+) -> Result<StraightRun, WorldFault>
+    requires { HasHistory world.old }
+    ensures goes { MatchResult result (λ s. Goes world.old.overtake world.old.world client server (limits_view limits) (owned_request_view request)
+        (option_map ending_view s.ending) s.deliveries world.new.world)
+        (λ _. WentBy world.old.overtake world.old.world client server (limits_view limits) (owned_request_view request) world.new.world) }
+    ensures overtake { world.new.overtake ≡ world.old.overtake }
+    ensures opening { world.new.opening ≡ world.old.opening }
+{
+    let number = world.asks().len();
+    let since = world.log().len();
+    let first = world.copies().len();
+    if ask(world, client, server, limits, request)? {
+        deliver_all(alloc, world, number, since, first)
+    } else {
+        Ok(StraightRun {
+            ending: None,
+            deliveries: 0,
+        })
+    }
+}
+
+/// A straight run: asks with what the server takes of APDUs, and delivers each copy that arises from it once, in order of sending, at one moment, until the
+/// ask has ended or no copy is left. A refused ask changes nothing.
+///
+/// It stops at the first fault of an event, and tells it; what was done before stands. `NoSuchNode` where either node is not there; `NoMemory` also where there
+/// is none for the ending, after all was done.
+pub fn straight(
+    alloc: Global,
+    world: &mut World,
+    client: usize,
+    server: usize,
+    request: OwnedRequest,
+) -> Result<StraightRun, WorldFault>
+    ensures run { WentSoFar world.old.overtake world.old.world client server (owned_request_view request) world.new.world }
+    ensures goes { IfOk result (λ s. GoesAt world.old.overtake world.old.world client server (owned_request_view request)
+        (option_map ending_view s.ending) s.deliveries world.new.world) }
+    ensures answered { (a b : Node) → CanBeAnswered world.old.overtake world.old.world client server a b (owned_request_view request)
+        → IfOk result (λ s. IsAnsweredSoon world.old.world client server a b (owned_request_view request)
+        (option_map ending_view s.ending) s.deliveries world.new.world) }
+    ensures overtake { world.new.overtake ≡ world.old.overtake }
+    ensures opening { world.new.opening ≡ world.old.opening }
+    ensures once { IsOnceNow world.new }
+{
+    world.is_once();
+    let Some(limits) = limits_of(world, server) else {
+        return Err(WorldFault::NoSuchNode);
+    };
+    let run = ask_and_deliver(alloc, world, client, server, limits, request);
+    world.is_once();
+    run
+}
