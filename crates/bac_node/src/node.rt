@@ -325,4 +325,20 @@ impl Node {
             Err(fault) => Err(fault),
         }
     }
+
+    /// Whether contracts see no difference between two nodes: the same link, settings, latest moment, slots, entries and store.
+    pub fn same(&self, other: &Node) -> bool
+        ensures { IsTrue result ↔ (self.now ≡ other.now) }
+    {
+        if self.latest != other.latest {
+            return false;
+        }
+        if !self.clients.same(&other.clients) {
+            return false;
+        }
+        if !self.servers.same(&other.servers) {
+            return false;
+        }
+        self.store.same(&other.store)
+    }
 }

@@ -1,11 +1,11 @@
 -- The runs are computed.
-use Rattle.std.proofs.Common.{refl, arith}
+use Rattle.std.proofs.Common.{refl, inl, arith}
 use Rattle.bac_protocol.specs.World.{post_of}
 use Rattle.bac_protocol.specs.Examples.{key, rules, append_apdu, position, position_apdu}
 use Rattle.bac_progress.specs.Examples.{whole_ask, LateTick, LateAnswer, OneRoundTrip, SecondRoundTrip}
-use Rattle.bac_progress.specs.Examples.{RoundTripOfSegment, FourthSending, LateTurn, StoppedReply}
+use Rattle.bac_progress.specs.Examples.{RoundTripOfSegment, FourthSending, LateTurn, StoppedReply, HalfWindow}
 use Rattle.bac_progress.specs.RoundTrip.{FitsInOne}
-use Rattle.bac_progress.specs.Failures.{WindowUsedUp, ReplyUsedUp, TooOld, OutOfPatience, OldAbort}
+use Rattle.bac_progress.specs.Failures.{WindowUsedUp, ReplyUsedUp, TooOld, OutOfPatience, RepeatWasted, OldAbort}
 
 pub late_tick : LateTick
 late_tick = record {
@@ -85,6 +85,17 @@ stopped_reply = record {
   ends = refl;
 }
 
+pub half_window : HalfWindow
+half_window = record {
+  ticket = _;
+  is = refl;
+  straight = record { client = omega arith; server = omega arith; small = omega arith; room = omega arith };
+  can = record { going = refl; in_time = omega arith; request = (omega arith, omega arith); way = tt; kind = (refl, refl); gives = refl };
+  turn = inl ((omega arith, omega arith), omega arith, refl, refl);
+  not_yet = refl;
+  ends = refl;
+}
+
 pub window_used_up : WindowUsedUp
 window_used_up = record { before = refl; after = refl; silent = refl }
 
@@ -96,6 +107,9 @@ too_old = record { ends = refl }
 
 pub out_of_patience : OutOfPatience
 out_of_patience = record { in_time = refl; late = refl }
+
+pub repeat_wasted : RepeatWasted
+repeat_wasted = record { before = refl; sent = refl; after = refl; silent = refl }
 
 pub old_abort : OldAbort
 old_abort = record { ends = refl }

@@ -1,5 +1,5 @@
 -- For each law a run that meets its premises, computed, with what the log says after it. Windows are 3, and all APDUs have 50 octets.
-use Rattle.std.specs.Prelude.{◌≡◌, ℕ, ◌+◌, ◌-◌, ◌<◌, ◌≤◌, true, false, List, [], ◌∷◌, ◌++◌, Some, None}
+use Rattle.std.specs.Prelude.{◌≡◌, ℕ, zero, suc, ◌+◌, ◌-◌, ◌<◌, ◌≤◌, true, false, List, [], ◌∷◌, ◌++◌, Some, None}
 use Rattle.std.specs.List.{Contains}
 use Rattle.bac_segment.specs.Pieces.{join}
 use Rattle.bac_segment.specs.Window.{Outgoing}
@@ -14,12 +14,14 @@ use Rattle.bac_protocol.specs.Transaction.{client_context}
 use Rattle.bac_protocol.specs.World.{World, Event, is_key_held, run, start}
 use Rattle.bac_protocol.specs.World.Event.{MakeAsk, Deliver, Tick, Noise, Advance}
 use Rattle.bac_protocol.specs.Claims.{IsBounded}
+use Rattle.bac_protocol.specs.Straight.{AreStraight}
 use Rattle.bac_protocol.specs.Examples.{key, shop, rules, tick, ask_append, append, position, position_apdu, zeros}
 use Rattle.bac_progress.specs.Runs.{Throughout, IsOnItsWay}
 use Rattle.bac_progress.specs.RoundTrip.{FitsInOne, CanPerform, HasPerformed, IsOpenInTime, HasSentAll, request_to, segment_to}
 use Rattle.bac_progress.specs.Repeats.{PATIENCE, FindsServer}
 use Rattle.bac_progress.specs.Turns.{IsDue}
 use Rattle.bac_progress.specs.Stopped.{HasStopped}
+use Rattle.bac_progress.specs.AfterPast.{CanStill, IsTurn}
 
 -- the world after these events, where node 1 answers each request of node 0 so
 abbrev pub world : Reply → List Event → World ℕ
@@ -164,3 +166,32 @@ pub record StoppedReply : Type 0 where
   pub request : IsOnItsWay (rules 3) (world long stopped_reply).net key (request_to (rules 3) key whole_ask) 5
   pub ends : (world long (stopped_reply ++ Deliver 5 true ∷ Deliver 6 true ∷ Deliver 7 true ∷ Deliver 8 true ∷ [])).net.log
       ≡ Ended 0 (Answered long) ∷ was_performed append long ∷ was_asked append ∷ []
+
+-- After any past.
+
+-- a request of ten segments
+abbrev pub ten : Octets
+ten = 0 ∷ 1 ∷ 2 ∷ 3 ∷ 4 ∷ 5 ∷ 6 ∷ 7 ∷ 8 ∷ 9 ∷ []
+
+abbrev pub ask_ten : Event
+ask_ten = MakeAsk key 7 false (0 ∷ []) ((1 ∷ []) ∷ (2 ∷ []) ∷ (3 ∷ []) ∷ (4 ∷ []) ∷ (5 ∷ []) ∷ (6 ∷ []) ∷ (7 ∷ []) ∷ (8 ∷ []) ∷ (9 ∷ []) ∷ [])
+
+-- segments 0 and 1 arrive, segments 2 and 3 are lost, and the client's timer is due
+abbrev pub half_window : List Event
+half_window = ask_ten ∷ Deliver 0 true ∷ Deliver 1 true ∷ Deliver 2 true ∷ Advance 2000 ∷ []
+
+-- so many copies are delivered, each once, in order of sending
+abbrev pub deliveries : (number count : ℕ) → List Event
+deliveries number zero = []
+deliveries number (suc count) = Deliver number true ∷ deliveries (suc number) count
+
+-- its tick sends segments 1 to 3 again; segment 1 gets a negative SegmentACK, so that 24 deliveries are needed, where a run without losses takes 22
+pub record HalfWindow : Type 0 where
+  pub ticket : Ticket
+  pub is : (world position half_window).net.tickets key ≡ Some ticket
+  pub straight : AreStraight (rules 3) key
+  pub can : CanStill ℕ (shop position) (rules 3) (world position half_window) key ticket position
+  pub turn : IsTurn ℕ (world position half_window) key ticket (key ∷ []) []
+  pub not_yet : (world position (half_window ++ Tick (key ∷ []) [] ∷ deliveries 5 23)).net.log ≡ was_performed ten position ∷ was_asked ten ∷ []
+  pub ends : (world position (half_window ++ Tick (key ∷ []) [] ∷ deliveries 5 24)).net.log
+      ≡ Ended 0 (Answered position) ∷ was_performed ten position ∷ was_asked ten ∷ []

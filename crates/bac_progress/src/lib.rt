@@ -11,6 +11,7 @@ ghost use Rattle.bac_protocol.specs.Log.{Shop};
 ghost use Rattle.bac_protocol.specs.Transaction.{Rules};
 ghost use Rattle.bac_protocol.specs.World.{Event, run, start};
 ghost use Rattle.bac_protocol.specs.Claims.{IsBounded};
+ghost use Rattle.bac_progress.specs.AfterPast.{AfterAnyPast, InStepIsAnswered};
 ghost use Rattle.bac_progress.specs.Ends.{EndingsAreLogged, EndsInTime};
 ghost use Rattle.bac_progress.specs.Repeats.{RepeatsSuffice};
 ghost use Rattle.bac_progress.specs.RoundTrip.{RoundTripSuffices, RoundTripSufficesInSegments};
@@ -67,4 +68,19 @@ pub fn one_turn_suffices<S>()
 pub fn stopped_reply_goes_on<S>()
     ensures { (shop : Shop S) (opening : ℕ → S) (W : ℕ) (rules : Rules) → IsBounded W rules → (events : List Event)
         → StoppedGoesOn S shop rules (run S shop rules events (start S opening)) }
+{}
+
+/// In step, one turn answers: after any run, whatever was lost, where the two ends of a transaction are in step, one timer that is due, and then each copy
+/// that is sent from then on, delivered once, in order of sending, end the ask with the reply with which it was performed, after at most 3n + 3m deliveries,
+/// for a request in n segments and a reply in m.
+pub fn in_step_is_answered<S>()
+    ensures { (shop : Shop S) (opening : ℕ → S) (W : ℕ) (rules : Rules) → IsBounded W rules → (events : List Event)
+        → InStepIsAnswered S shop rules (run S shop rules events (start S opening)) }
+{}
+
+/// After any past, the same, since after every run the two ends of each transaction that is in time are in step: so after any losses one timer that is due,
+/// and each copy from then on, answer the ask.
+pub fn after_any_past<S>()
+    ensures { (shop : Shop S) (opening : ℕ → S) (W : ℕ) (rules : Rules) → IsBounded W rules → (events : List Event)
+        → AfterAnyPast S shop rules (run S shop rules events (start S opening)) }
 {}

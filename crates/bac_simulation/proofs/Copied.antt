@@ -1,5 +1,5 @@
 -- What a machine sends can become copies, and what ends has an ask's number.
-use Rattle.std.proofs.Common.{◌≡◌, ℕ, suc, ◌+◌, ◌≤◌, Bool, true, false, List, [], ◌∷◌, ◌++◌, length, Option, Some, None, slice_get, if◌then◌else◌}
+use Rattle.std.proofs.Common.{◌≡◌, ℕ, suc, ◌≤◌, Bool, true, false, List, [], ◌∷◌, ◌++◌, length, Option, Some, None, if◌then◌else◌}
 use Rattle.std.proofs.Common.{refl, sym, ap, subst, ◌∙◌, arith}
 use Rattle.bac_apdu.specs.Apdu.{Apdu}
 use Rattle.bac_apdu.specs.Spelling.{SpellsApdu, is_confirmed_request}
@@ -12,11 +12,10 @@ use Rattle.bac_protocol.specs.Transaction.{Key}
 use Rattle.bac_slots.specs.declared.slot.Slot.{Slot}
 use Rattle.bac_slots.specs.Slots.{value_at, IsApart, IsDistinct}
 use Rattle.bac_ends.specs.Keys.{PeerKey, same_key}
-use Rattle.bac_ends.specs.Sends.{Send, Datagram, Pairwise, IsSent, to_peer, to_all}
+use Rattle.bac_ends.specs.Sends.{Datagram, Pairwise, IsSent, to_peer, to_all}
 use Rattle.bac_ends.specs.Meanings.{Finish, IsFinish}
-use Rattle.bac_ends.specs.Ends.{Ended, ended_with}
-use Rattle.bac_world.specs.Node.{Node}
-use Rattle.bac_world.specs.World.{World, Copy, link_at, peer_at, transaction_of, ask_of, IsCopied}
+use Rattle.bac_ends.specs.Ends.{ended_with}
+use Rattle.bac_world.specs.World.{World, link_at, peer_at, transaction_of, ask_of}
 use Rattle.bac_world.proofs.Slots.{EachSlot, found_first}
 use Rattle.bac_world.proofs.Bridge.{key_of, IsBetween, IsWay}
 use Rattle.bac_simulation.specs.Entering.{Every, CanBeCopied, IsNoted}

@@ -1,7 +1,6 @@
 -- How many APDUs one event makes an end send: no more than its greatest window and one.
 use Rattle.std.proofs.Common.{◌≡◌, ℕ, ◌+◌, ◌-◌, ◌≤◌, ◌⊎◌, length, Bool, true, false, ◌&&◌, ◌||◌, not, List, [], ◌∷◌, ◌++◌, Option, Some, None, min}
-use Rattle.std.proofs.Common.{if◌then◌else◌, nat_le, nat_eq, nat_lt, refl, sym, ap, subst, inl, inr, slice_get, arith}
-use Rattle.std.proofs.lemmas.Bool.Decides.{nat_tests}
+use Rattle.std.proofs.Common.{if◌then◌else◌, nat_le, nat_eq, nat_lt, sym, subst, inl, inr, slice_get, arith}
 use Rattle.std.specs.Prelude.{is_some}
 use Rattle.bac_apdu.specs.Apdu.{Apdu, Limits, Segment}
 use Rattle.bac_service.specs.Choices.{has_simple_ack, has_complex_ack}
@@ -15,7 +14,7 @@ use Rattle.bac_protocol.specs.declared.times.TheConstants.{T_SEG, WAIT_SEG}
 use Rattle.bac_protocol.specs.Context.{Context}
 use Rattle.bac_protocol.specs.Service.{Octets, Readable, OTHER, Reply as reply, Outcome}
 use Rattle.bac_protocol.specs.Service.Outcome.{Replies, Rejects}
-use Rattle.bac_protocol.specs.Service.Ending.{Answered, Aborted, TimedOut, Expired}
+use Rattle.bac_protocol.specs.Service.Ending.{Answered, Aborted, Expired}
 use Rattle.bac_protocol.specs.Wire.{is_from_server, is_from_client, pieces_from}
 use Rattle.bac_protocol.specs.Client as client
 use Rattle.bac_protocol.specs.Client.{Ask, Phase, Ticket}

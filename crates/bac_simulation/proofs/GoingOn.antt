@@ -1,13 +1,12 @@
 -- What is known of each world that a run of a fresh one leads to.
-use Rattle.std.proofs.Common.{◌≡◌, ℕ, suc, ◌+◌, ◌-◌, ◌≤◌, ◌⊎◌, Bool, true, false, ◌&&◌, List, [], ◌∷◌, length, Option, Some, None, slice_get, if◌then◌else◌}
-use Rattle.std.proofs.Common.{nat_eq, nat_le, refl, sym, ap, subst, inl, inr, ◌∙◌, arith}
+use Rattle.std.proofs.Common.{◌≡◌, ℕ, suc, ◌+◌, ◌≤◌, ◌⊎◌, Bool, true, false, List, [], ◌∷◌, Option, Some, None, slice_get, if◌then◌else◌}
+use Rattle.std.proofs.Common.{nat_eq, refl, sym, ap, subst, inl, inr, ◌∙◌, arith}
 use Rattle.std.proofs.lemmas.Bool.Decides.{nat_tests}
 use Rattle.std.specs.Option.{option_map}
 use Rattle.bac_apdu.specs.Apdu.{Apdu, Limits}
 use Rattle.bac_npdu.specs.Peers.{PeerView}
 use Rattle.bac_service.specs.Values.{Request, choice_of}
 use Rattle.bac_service.specs.Services.{reads_reply}
-use Rattle.bac_protocol.specs.declared.times.TheConstants.{LIFE}
 use Rattle.bac_protocol.specs.Context.{Settings}
 use Rattle.bac_protocol.specs.Service.{Octets, Readable}
 use Rattle.bac_protocol.specs.Wire.{is_from_client}
@@ -18,19 +17,18 @@ use Rattle.bac_slots.specs.Slots.{value_at}
 use Rattle.bac_ends.specs.Keys.{PeerKey, same_key}
 use Rattle.bac_ends.specs.Ends.{Client, ClientEnd, Held, Accepted, client_hears_at, client_hears_held, key_of}
 use Rattle.bac_ends.specs.Ends.Held.{Open, Closed}
-use Rattle.bac_ends.specs.Ends as ends
 use Rattle.bac_server.specs.Services.{service_of}
-use Rattle.bac_world.specs.Node.{Node, Outcome, IsDropped, IsHeard, IsHeardBy, NodeOn, NodeTick, NodeAsks}
+use Rattle.bac_world.specs.Node.{Node, Outcome, IsHeardBy, NodeOn, NodeTick, NodeAsks}
 use Rattle.bac_world.specs.Once.{IsOnce}
-use Rattle.bac_world.specs.World.{World, Event, Copy, Note, link_at, stores_of, later, peer_at, is_deliverable, IsWithNode, Acts, Hears, IsAsked}
-use Rattle.bac_world.specs.World.{Delivers, DeliversIf, WorldStep, WorldRun, IsFresh, IsBounded}
+use Rattle.bac_world.specs.World.{World, Event, Copy, link_at, stores_of, peer_at, is_deliverable, IsWithNode, Acts, Hears, IsAsked}
+use Rattle.bac_world.specs.World.{DeliversIf, WorldStep, WorldRun, IsFresh, IsBounded}
 use Rattle.bac_world.specs.World.Event.{Ask, Deliver, Noise, Tick, Advance}
 use Rattle.bac_world.proofs.Pairs.{IsPaired, pairwise_get}
 use Rattle.bac_world.proofs.Bridge.{IsCopyOf, IsBetween, framed_means}
 use Rattle.bac_world.proofs.Steps.{Over, decide_number}
 use Rattle.bac_world.proofs.Asking.{accepted_is}
 use Rattle.bac_world.proofs.Headline.{run_over, rules_of, rules_bounded, fresh_over}
-use Rattle.bac_simulation.specs.Entering.{Every, CanBeCopied, CanEnter, CanGoOn, asks_by}
+use Rattle.bac_simulation.specs.Entering.{CanGoOn, asks_by}
 use Rattle.bac_simulation.proofs.Heard.{Enters, nothing_enters, server_enters, client_enters}
 use Rattle.bac_simulation.proofs.Ticked.{tick_enters, ask_enters}
 

@@ -1,10 +1,9 @@
 -- What comes of a copy that a node hears can enter the world.
-use Rattle.std.proofs.Common.{◌≡◌, ℕ, ◌+◌, ◌≤◌, Bool, true, false, List, [], ◌∷◌, length, Option, Some, None, slice_get}
+use Rattle.std.proofs.Common.{◌≡◌, ℕ, ◌+◌, ◌≤◌, Bool, true, false, List, [], length, Option, Some, None, slice_get}
 use Rattle.std.proofs.Common.{refl, sym, ap, subst, ◌∙◌, arith}
 use Rattle.bac_apdu.specs.Apdu.{Apdu}
 use Rattle.bac_service.specs.Services.{reads_reply}
 use Rattle.bac_protocol.specs.Context.{Settings, Context}
-use Rattle.bac_protocol.specs.Service as machine
 use Rattle.bac_protocol.specs.Service.{Octets}
 use Rattle.bac_protocol.specs.Wire.{is_from_client, Each}
 use Rattle.bac_protocol.specs.Own.{invoke_id_of}
@@ -12,7 +11,7 @@ use Rattle.bac_protocol.specs.Client as client
 use Rattle.bac_protocol.specs.Client.{Ticket, client_gets}
 use Rattle.bac_protocol.specs.Server as server
 use Rattle.bac_protocol.specs.Server.{Entry, Effect, Service, server_gets}
-use Rattle.bac_protocol.specs.Transaction.{Key, Rules, client_context, server_context}
+use Rattle.bac_protocol.specs.Transaction.{Key, Rules, server_context}
 use Rattle.bac_protocol.specs.World.{Net, Post}
 use Rattle.bac_protocol.specs.Claims.{IsBounded}
 use Rattle.bac_protocol.specs.Steps.{IsSameReaction}
@@ -22,19 +21,19 @@ use Rattle.bac_slots.specs.Slots.{value_at}
 use Rattle.bac_ends.specs.Keys.{PeerKey, same_key}
 use Rattle.bac_ends.specs.Sends.{Datagram, Pairwise, IsSent, to_all}
 use Rattle.bac_ends.specs.Meanings.{Finish, IsFinish}
-use Rattle.bac_ends.specs.Ends.{Client, ClientEnd, ClientTurn, Held, act_at, is_free, context_of, client_goes, client_hears, client_hears_at, client_hears_held}
-use Rattle.bac_ends.specs.Ends.{ServerEnd, ServerTurn, server_hears, stays}
+use Rattle.bac_ends.specs.Ends.{Client, ClientTurn, Held, act_at, is_free, context_of, client_goes, client_hears, client_hears_at, client_hears_held}
+use Rattle.bac_ends.specs.Ends.{ServerTurn, server_hears, stays}
 use Rattle.bac_ends.specs.Ends.Held.{Open, Closed}
 use Rattle.bac_world.specs.Services.{Performed, ArePerformed}
 use Rattle.bac_world.specs.Node.{Node, Outcome, IsServerTurn, IsClientTurn}
-use Rattle.bac_world.specs.World.{World, Copy, newest, peer_at}
+use Rattle.bac_world.specs.World.{World, newest, peer_at}
 use Rattle.bac_world.proofs.Machines.{own_of, ticket_of}
 use Rattle.bac_world.proofs.Pairs.{pairwise_none}
-use Rattle.bac_world.proofs.Bridge.{IsCopyOf, IsWay, TicketFits, key_of, slot_key}
+use Rattle.bac_world.proofs.Bridge.{IsWay, TicketFits, key_of, slot_key}
 use Rattle.bac_world.proofs.Steps.{Over, Fits}
 use Rattle.bac_world.proofs.Serving.{each_of_server}
 use Rattle.bac_world.proofs.Hearing.{ticket_at}
-use Rattle.bac_simulation.specs.Entering.{Every, CanBeCopied, IsNoted, IsOfClient, AreOfClient, CanEnter}
+use Rattle.bac_simulation.specs.Entering.{Every, CanBeCopied, IsNoted, AreOfClient, CanEnter}
 use Rattle.bac_simulation.proofs.Few.{client_gets_few, server_gets_few, entries_few}
 use Rattle.bac_simulation.proofs.Copied.{paired_length, sent_length, can_all, can_end}
 

@@ -1,14 +1,13 @@
 -- What is kept, after a cell or a number was set.
-use Rattle.std.proofs.Common.{◌≡◌, ℕ, zero, suc, ◌+◌, ◌-◌, ◌*◌, ◌<◌, ◌≤◌, ◌⊎◌, Bool, true, false, List, [], ◌∷◌, ◌++◌, map, length, take, Option, Some, None, slice_get, slice_set}
-use Rattle.std.proofs.Common.{if◌then◌else◌, refl, sym, ap, subst, inl, inr, ◌∙◌, arith, nat_eq}
-use Rattle.std.proofs.lemmas.Bool.Decides.{nat_tests}
+use Rattle.std.proofs.Common.{◌≡◌, ℕ, zero, suc, ◌+◌, ◌-◌, ◌*◌, ◌<◌, ◌≤◌, ◌⊎◌, Bool, true, false, List, [], ◌∷◌, ◌++◌, map, length, take, Option, Some, None, slice_get}
+use Rattle.std.proofs.Common.{if◌then◌else◌, refl, sym, ap, subst, inl, inr, ◌∙◌, arith}
 use Rattle.std.specs.Prelude.{option_and_then}
 use Rattle.std.proofs.lemmas.List.{take-append-le, length-set, length-map, map-append}
 use Rattle.std.proofs.Math.Seq.{take-append_seam}
 use Rattle.std.proofs.lemmas.Option.{slice_get_within, slice_get-map}
 use Rattle.std.specs.Option.{option_map}
 use Rattle.bac_protocol.specs.Transaction.{Key}
-use Rattle.bac_protocol.specs.World.{same_key, set_at}
+use Rattle.bac_protocol.specs.World.{same_key}
 use Rattle.bac_protocol.proofs.Keys.{decide_key, same_key_self, set_other}
 use Rattle.bac_world.specs.World as world
 use Rattle.bac_world.specs.World.{Note, newest, ask_of, count_of}
@@ -18,7 +17,7 @@ use Rattle.bac_simulation.specs.declared.asks.Row.{Row}
 use Rattle.bac_simulation.specs.declared.copies.Copy.{Copy}
 use Rattle.bac_simulation.specs.Entering.{asks_by}
 use Rattle.bac_simulation.specs.Views.{key_view, copy_view}
-use Rattle.bac_simulation.specs.Index.{place_of, cell_at, number_at, newest_at, IsWithRow, IsWithCell, IsWithNumber}
+use Rattle.bac_simulation.specs.Index.{place_of, cell_at, number_at, newest_at, IsWithRow, IsWithCell}
 use Rattle.bac_simulation.specs.Records.{IsKept}
 use Rattle.bac_simulation.proofs.Lists.{get_set, get_set_other, get_push, get_push_other, count_push, count_split}
 

@@ -1,6 +1,7 @@
 pub mod Lists
 pub mod Index
 pub mod Noted
+pub mod Rooms
 pub mod Fresh
 pub mod Sends
 pub mod Grown

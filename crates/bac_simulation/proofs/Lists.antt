@@ -1,6 +1,6 @@
 -- Members of lists.
-use Rattle.std.proofs.Common.{◌≡◌, ◌≢◌, ℕ, zero, suc, ◌+◌, ◌-◌, ◌<◌, ◌≤◌, Bool, true, false, List, [], ◌∷◌, ◌++◌, length, take, Option, Some, None, slice_get}
-use Rattle.std.proofs.Common.{slice_set, if◌then◌else◌, refl, sym, ap, subst, ◌∙◌, arith}
+use Rattle.std.proofs.Common.{◌≡◌, ℕ, zero, suc, ◌+◌, ◌<◌, Bool, true, false, List, [], ◌∷◌, ◌++◌, length, take, Some, slice_get}
+use Rattle.std.proofs.Common.{slice_set, if◌then◌else◌, refl, ap, ◌∙◌, arith}
 use Rattle.bac_protocol.specs.Transaction.{Key}
 use Rattle.bac_protocol.specs.World.{same_key}
 use Rattle.bac_world.specs.World.{Copy, count_of, later}

@@ -1,8 +1,8 @@
 -- What is kept, after an ask was noted.
-use Rattle.std.proofs.Common.{◌≡◌, ℕ, suc, ◌+◌, ◌*◌, ◌<◌, ◌≤◌, ◌⊎◌, Bool, true, false, ◌&&◌, List, [], ◌∷◌, ◌++◌, map, length, Option, Some, None, slice_get}
+use Rattle.std.proofs.Common.{◌≡◌, ℕ, suc, ◌+◌, ◌*◌, ◌<◌, ◌≤◌, ◌⊎◌, Bool, true, false, ◌&&◌, List, [], ◌∷◌, ◌++◌, map, length, Option, Some, slice_get}
 use Rattle.std.proofs.Common.{if◌then◌else◌, refl, sym, ap, subst, inl, inr, ◌∙◌, arith, nat_eq}
 use Rattle.std.proofs.lemmas.Bool.Decides.{nat_tests}
-use Rattle.std.proofs.lemmas.List.{length-append, length-map, length-reverse, map-append, reverse-append}
+use Rattle.std.proofs.lemmas.List.{length-append, length-map, length-reverse, map-append, reverse-append, reverse-reverse}
 use Rattle.std.specs.Prelude.{option_and_then, reverse, vec_capacity}
 use Rattle.bac_protocol.specs.Transaction.{Key}
 use Rattle.bac_protocol.specs.World.{same_key}
@@ -16,7 +16,7 @@ use Rattle.bac_simulation.specs.declared.noting.Note as code
 use Rattle.bac_simulation.specs.Entering.{asks_by}
 use Rattle.bac_simulation.specs.Notes.{note_view, notes_view}
 use Rattle.bac_simulation.specs.Views.{key_view, copy_view}
-use Rattle.bac_simulation.specs.Index.{place_of, cell_at, number_at, newest_at, IsWithRow, IsWithCell, IsWithNumber}
+use Rattle.bac_simulation.specs.Index.{place_of, cell_at, number_at, newest_at, IsSameRow, IsWithRow, IsWithCell, IsWithNumber}
 use Rattle.bac_simulation.specs.Records.{IsKept}
 use Rattle.bac_simulation.proofs.Lists.{get_push, get_push_other}
 use Rattle.bac_simulation.proofs.Index.{key_other, cell_here, cell_there, numbers_same, still_placed, cells_many, numbers_many}
@@ -165,3 +165,52 @@ notes_push notes n = ap reverse (map-append note_view notes (n ∷ [])) ∙ reve
 
 pub notes_many : (notes : List code.Note) → length notes ≡ length (notes_view notes)
 notes_many notes = sym (length-reverse (map note_view notes) ∙ length-map notes note_view)
+
+-- A row that says the same, with more room.
+
+module _ (old new : List Row) (client : ℕ) (h : IsWithRow old client IsSameRow new) where
+  cells_alike : (k : Key) → cell_at new k ≡ cell_at old k
+  cells_alike k = go (decide_number k.client client)
+    where
+      look : Option Row → Option Cell
+      look o = option_and_then (λ (r : Row). slice_get r.cells.items (place_of k.server k.invoke_id)) o
+
+      go : ((k.client ≡ client) ⊎ (k.client ≡ client → ⊥)) → cell_at new k ≡ cell_at old k
+      go (inl is) = ap (λ d. look (slice_get new d)) is ∙ ap look h.here ∙ ap (λ l. slice_get l (place_of k.server k.invoke_id)) h.goes.cells
+          ∙ sym (ap look h.was) ∙ sym (ap (λ d. look (slice_get old d)) is)
+      go (inr ne) = ap look (h.others k.client ne)
+
+  numbers_alike : (c t : ℕ) → number_at new c t ≡ number_at old c t
+  numbers_alike c t = go (decide_number c client)
+    where
+      look : Option Row → Option ℕ
+      look o = option_and_then (λ (r : Row). slice_get r.numbers.items t) o
+
+      go : ((c ≡ client) ⊎ (c ≡ client → ⊥)) → number_at new c t ≡ number_at old c t
+      go (inl is) = ap (λ d. look (slice_get new d)) is ∙ ap look h.here ∙ ap (λ l. slice_get l t) h.goes.numbers
+          ∙ sym (ap look h.was) ∙ sym (ap (λ d. look (slice_get old d)) is)
+      go (inr ne) = ap look (h.others c ne)
+
+  row_before : (c : ℕ) (r : Row) → slice_get new c ≡ Some r → (q : Row) × (slice_get old c ≡ Some q) × IsSameRow q r
+  row_before c r at = go (decide_number c client)
+    where
+      go : ((c ≡ client) ⊎ (c ≡ client → ⊥)) → (q : Row) × (slice_get old c ≡ Some q) × IsSameRow q r
+      go (inl is) =
+          let same : h.after ≡ r = let e : Some h.after ≡ Some r = sym h.here ∙ ap (slice_get new) (sym is) ∙ at in cc in
+          (h.before, ap (slice_get old) is ∙ h.was, subst (IsSameRow h.before) same h.goes)
+      go (inr ne) = (r, sym (h.others c ne) ∙ at, record { cells = refl; numbers = refl })
+
+  pub kept_alike : (copies : List Copy) (notes : List Note) → IsKept old copies notes → IsKept new copies notes
+  kept_alike copies notes k = record {
+    newest_is = λ q lq. ap (λ (o : Option Cell). option_and_then (λ (c : Cell). c.newest) o) (cells_alike q) ∙ k.newest_is q lq;
+    number_is = λ c t. numbers_alike c t ∙ k.number_is c t;
+    counted = λ c r at. let q = row_before c r at in ap (λ l. length l) (q.2).numbers ∙ k.counted c q.0 q.1;
+    places = λ c r at. let q = row_before c r at in ap (λ l. length l) (q.2).cells ∙ k.places c q.0 q.1 ∙ ap (λ n. n * 256) (sym h.many);
+    sent = λ q c lq at. k.sent q c lq (sym (cells_alike q) ∙ at);
+    before = k.before;
+    placed = λ n c at. let p = k.placed n c at in (p.0, cells_alike (key_view c.transaction) ∙ p.1);
+  }
+
+-- the notes in their order
+pub notes_mapped : (xs ys : List code.Note) → notes_view xs ≡ notes_view ys → map note_view xs ≡ map note_view ys
+notes_mapped xs ys e = sym (reverse-reverse (map note_view xs)) ∙ ap reverse e ∙ reverse-reverse (map note_view ys)

@@ -16,13 +16,13 @@ use Rattle.bac_protocol.specs.Claims.{IsBounded}
 use Rattle.bac_protocol.proofs.Own.{client_sends_own, server_sends_own}
 use Rattle.bac_slots.specs.Slots.{value_at, in_order}
 use Rattle.bac_ends.specs.Keys.{PeerKey, peer_key_cmp, same_key}
-use Rattle.bac_ends.specs.Sends.{Send, Datagram, Pairwise, IsSent, to_all}
+use Rattle.bac_ends.specs.Sends.{Datagram, Pairwise, IsSent, to_all}
 use Rattle.bac_ends.specs.Meanings.{Finish, IsFinish}
-use Rattle.bac_ends.specs.Ends.{ClientSlot, ServerSlot, Client, Held, Accepted, context_of, from_each, accepts}
+use Rattle.bac_ends.specs.Ends.{ClientSlot, ServerSlot, Client, Held, Accepted, context_of, from_each}
 use Rattle.bac_ends.specs.Ends.{client_tick_sends, client_tick_ends, held_tick_sends, held_tick_ends, server_tick_sends}
 use Rattle.bac_ends.specs.Ends.Held.{Open, Closed}
 use Rattle.bac_world.specs.Node.{Node, Outcome, NodeTick, NodeAsks}
-use Rattle.bac_world.specs.World.{World, Note, link_at, peer_at}
+use Rattle.bac_world.specs.World.{World, link_at, peer_at}
 use Rattle.bac_world.proofs.Slots.{EachSlot, each_so, each_in_order}
 use Rattle.bac_world.proofs.Machines.{own_of}
 use Rattle.bac_world.proofs.Pairs.{pairwise_split}

@@ -1,12 +1,8 @@
 -- What is kept of transactions and tickets beside the lists, so that nothing is looked for in them.
-use Rattle.std.specs.Prelude.{◌≡◌, ℕ, ◌+◌, ◌*◌, ◌≤◌, List, [], ◌∷◌, ◌++◌, map, length, take, Option, Some, None, option_and_then, slice_get, slice_set, vec_capacity}
+use Rattle.std.specs.Prelude.{◌≡◌, ℕ, ◌+◌, ◌*◌, ◌≤◌, List, [], ◌∷◌, ◌++◌, length, Option, Some, option_and_then, slice_get, slice_set, vec_capacity}
 use Rattle.bac_protocol.specs.Transaction.{Key}
-use Rattle.bac_world.specs.World.{Note, newest, ask_of, count_of}
 use Rattle.bac_simulation.specs.declared.asks.Cell.{Cell}
 use Rattle.bac_simulation.specs.declared.asks.Row.{Row}
-use Rattle.bac_simulation.specs.declared.copies.Copy.{Copy}
-use Rattle.bac_simulation.specs.Entering.{asks_by}
-use Rattle.bac_simulation.specs.Views.{key_view, copy_view}
 
 -- the place of a transaction among those of its client: an invoke ID is less than 256 (clause 20.1.2.6)
 abbrev pub place_of : (server invoke_id : ℕ) → ℕ

@@ -1,6 +1,7 @@
 //! Which copies may arrive.
-ghost use Rattle.std.specs.Prelude.{◌≡◌, ◌-◌, ◌&&◌, nat_le, map, length, slice_get, List, Some};
+ghost use Rattle.std.specs.Prelude.{◌≡◌, ◌-◌, ◌&&◌, nat_le, map, length, slice_get, List, None, Some};
 ghost use Rattle.bac_protocol.specs.declared.times.TheConstants.{LIFE};
+ghost use Rattle.bac_world.specs.World as world;
 ghost use Rattle.bac_world.specs.World.{Note, is_deliverable};
 ghost use Rattle.bac_simulation.specs.declared.copies.Copy.{Copy};
 ghost use Rattle.bac_simulation.specs.Records.{IsKept};
@@ -28,5 +29,23 @@ pub(crate) fn may_arrive(overtake: u8, now: u64, copies: &[Copy], rows: &[Row], 
     match known(rows, &copy.transaction) {
         Some(cell) => is_young_and_early(overtake, now, copy, cell.sent),
         None => false,
+    }
+}
+
+/// Whether the copy of that number may arrive; None where there is none.
+pub(crate) fn deliverable(
+    overtake: u8,
+    now: u64,
+    copies: &[Copy],
+    rows: &[Row],
+    number: usize,
+) -> Option<bool>
+    ensures none { slice_get (map copy_view copies.now) number ≡ None → result ≡ None }
+    ensures is { (notes : List Note) → IsKept rows.now copies.now notes → (c : world.Copy) → slice_get (map copy_view copies.now) number ≡ Some c
+        → result ≡ Some (is_deliverable overtake now number (map copy_view copies.now) c) }
+{
+    match copies.get(number) {
+        Some(copy) => Some(may_arrive(overtake, now, copies, rows, copy)),
+        None => None,
     }
 }

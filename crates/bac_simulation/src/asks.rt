@@ -1,9 +1,13 @@
 //! What is kept of transactions and tickets, so that none is looked for in a list.
-ghost use Rattle.std.specs.Prelude.{◌≡◌, ◌+◌, ◌*◌, ◌<◌, ◌≤◌, length, slice_get, vec_capacity, Some};
-ghost use Rattle.bac_simulation.specs.Index.{cell_at, number_at, place_of, IsWithRow, IsWithCell, IsWithNumber};
+ghost use Rattle.std.specs.Prelude.{◌≡◌, ◌+◌, ◌*◌, ◌<◌, ◌≤◌, IsOk, List, length, slice_get, vec_capacity, Some};
+ghost use Rattle.bac_world.specs.World.{Note};
+ghost use Rattle.bac_simulation.specs.declared.copies.Copy.{Copy};
+ghost use Rattle.bac_simulation.specs.Index.{cell_at, number_at, place_of, HasTicketRoom, IsSameRow, IsWithRow, IsWithCell, IsWithNumber};
+ghost use Rattle.bac_simulation.specs.Records.{IsKept};
 ghost use Rattle.bac_simulation.specs.Views.{key_view};
 
 use crate::transaction::Transaction;
+use bac_value::NoMemory;
 
 /// What is kept of a transaction: its newest ask, and how many of the copies are its.
 #[derive(Clone, Copy, Debug, PartialEq, Eq)]
@@ -56,4 +60,23 @@ pub(crate) fn add_number(rows: &mut [Row], client: usize, number: usize)
 {
     let row = &mut rows[client];
     row.numbers.push_reserved(number);
+}
+
+/// Makes room for the ask of a client's next ticket; nothing else changes.
+fn reserve_in(row: &mut Row) -> Result<(), NoMemory>
+    ensures ok { IsOk result → length row.new.numbers.items + 1 ≤ vec_capacity row.new.numbers }
+    ensures same { IsSameRow row.old row.new }
+{
+    row.numbers.reserve(1)?;
+    Ok(())
+}
+
+/// Makes room for the ask of a client's next ticket; nothing else changes.
+pub(crate) fn reserve_number(rows: &mut [Row], client: usize) -> Result<(), NoMemory>
+    requires { client < length rows.old }
+    ensures ok { IsOk result → HasTicketRoom rows.new client }
+    ensures kept { (copies : List Copy) (notes : List Note) → IsKept rows.old copies notes → IsKept rows.new copies notes }
+    ensures many { length rows.new ≡ length rows.old }
+{
+    reserve_in(&mut rows[client])
 }

@@ -3,6 +3,7 @@
 
 mod arriving;
 mod asks;
+mod comparing;
 mod copies;
 mod journal;
 mod meaning;
@@ -23,6 +24,3 @@ pub use transaction::Transaction;
 pub fn runs_can_go_on()
     ensures { RunsCanGoOn }
 {}
-
-#[cfg(test)]
-mod tests;

@@ -5,6 +5,7 @@ ghost use Rattle.bac_world.specs.World.{Note};
 ghost use Rattle.bac_simulation.specs.Growing.{BecomeCopies, CanGo};
 ghost use Rattle.bac_simulation.specs.declared.asks.Cell.{Cell};
 ghost use Rattle.bac_simulation.specs.Index.{cell_at};
+ghost use Rattle.bac_simulation.specs.Journals.{ticket_room};
 ghost use Rattle.bac_simulation.specs.Records.{IsKept};
 ghost use Rattle.bac_simulation.specs.Views.{key_view, copy_view, AreLinks};
 
@@ -20,6 +21,7 @@ pub(crate) fn add_copy(copies: &mut Vec<Copy>, rows: &mut [Row], copy: Copy)
     ensures room { vec_capacity copies.new ≡ vec_capacity copies.old }
     ensures kept { (notes : List Note) → IsKept rows.old copies.old.items notes → IsKept rows.new copies.new.items notes }
     ensures many { length rows.new ≡ length rows.old }
+    ensures tickets { map ticket_room rows.new ≡ map ticket_room rows.old }
 {
     let transaction = copy.transaction;
     transaction.fits();
@@ -60,6 +62,7 @@ fn send_one(
     ensures nodes { length rows.new ≡ length rows.old }
     ensures many { length copies.new.items ≡ length copies.old.items + 1 }
     ensures room { vec_capacity copies.new ≡ vec_capacity copies.old }
+    ensures tickets { map ticket_room rows.new ≡ map ticket_room rows.old }
 {
     let Some(copy) = copy_of(links, now, sender, datagram) else {
         unreachable!()
@@ -86,6 +89,7 @@ pub(crate) fn send_all(
     ensures nodes { length rows.new ≡ length rows.old }
     ensures many { length copies.new.items ≡ length copies.old.items + length sends.items }
     ensures room { vec_capacity copies.new ≡ vec_capacity copies.old }
+    ensures tickets { map ticket_room rows.new ≡ map ticket_room rows.old }
 {
     for datagram in sends {
         send_one(links, now, sender, copies, rows, datagram);

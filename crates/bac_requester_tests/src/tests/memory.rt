@@ -44,13 +44,21 @@ pub(super) const ROWS: &[Row<'_>] = &[
     ),
 ];
 
+/// An ask of peer 2 at moment 0 that is accepted where its memory is not refused.
+fn accepts(end: &mut Indexed, alloc: Global, request: &OwnedRequest) -> Result<(), NoMemory> {
+    match ask(end, alloc, 0, 2, &SMALL.limits, request)?.end {
+        End::Open => Ok(()),
+        _ => Err(NoMemory),
+    }
+}
+
 /// A client's end that has asked for both.
 pub(super) fn begun(alloc: Global) -> Result<Indexed, NoMemory> {
     let mut end: Indexed = requester(alloc, &SMALL, 64)?;
     let write = put(alloc, 100)?;
-    let _ = ask(&mut end, alloc, 0, 2, &SMALL.limits, &write)?;
+    accepts(&mut end, alloc, &write)?;
     let read = reading(alloc)?;
-    let _ = ask(&mut end, alloc, 0, 2, &SMALL.limits, &read)?;
+    accepts(&mut end, alloc, &read)?;
     Ok(end)
 }
 

@@ -1,5 +1,5 @@
 -- The link of that node.
-use Rattle.std.proofs.Common.{◌≡◌, Bool, true, false, length, Some, slice_get, refl, sym, ap, ◌∙◌, arith}
+use Rattle.std.proofs.Common.{◌≡◌, true, false, length, Some, refl, sym, ap, ◌∙◌, arith}
 use Rattle.std.proofs.lemmas.Option.{slice_get_read, slice_get_within}
 use Rattle.bac_simulation.proofs.copies.is_at.Goals as goal
 

@@ -1,5 +1,5 @@
 -- One node after the other is looked at.
-use Rattle.std.proofs.Common.{◌≡◌, ◌≢◌, ◌+◌, ◌<◌, ◌⊎◌, ℕ, Some, length, slice_get, refl, subst, true, false, inl, inr, arith}
+use Rattle.std.proofs.Common.{◌≡◌, ◌+◌, ◌<◌, ◌⊎◌, ℕ, Some, slice_get, refl, subst, true, false, inl, inr, arith}
 use Rattle.std.proofs.lemmas.Option.{slice_get_within}
 use Rattle.bac_world.proofs.Steps.{decide_number}
 use Rattle.bac_simulation.proofs.copies.node_at.Goals as goal

@@ -1,5 +1,5 @@
 -- Octets that can't be read mean nothing.
-use Rattle.std.proofs.Common.{sym, subst}
+use Rattle.std.proofs.Common.{subst}
 use Rattle.bac_apdu.specs.Spelling.{SpellsApdu}
 use Rattle.bac_npdu.specs.Views.{peer_view}
 use Rattle.bac_npdu.proofs.Datagrams.{carries_one}

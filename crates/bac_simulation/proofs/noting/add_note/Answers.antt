@@ -1,9 +1,8 @@
 -- One ask more is noted.
-use Rattle.std.proofs.Common.{◌≡◌, ◌+◌, ◌≤◌, length, Some, slice_get, vec_capacity, refl, sym, ap, subst, ◌∙◌, arith}
-use Rattle.bac_simulation.specs.declared.asks.Row.{Row}
+use Rattle.std.proofs.Common.{refl, sym, ap, subst, ◌∙◌}
 use Rattle.bac_simulation.specs.Records.{IsKept}
 use Rattle.bac_simulation.specs.Views.{key_view}
-use Rattle.bac_simulation.specs.Notes.{note_view, notes_view}
+use Rattle.bac_simulation.specs.Notes.{notes_view}
 use Rattle.bac_simulation.proofs.Index.{in_row, within_of}
 use Rattle.bac_simulation.proofs.Noted.{kept_note, numbers_kept, notes_push, notes_many}
 use Rattle.bac_simulation.proofs.noting.add_note.Goals as goal

@@ -1,8 +1,9 @@
 -- A copy more is counted.
-use Rattle.std.proofs.Common.{◌≡◌, ◌+◌, ◌<◌, ℕ, List, length, Some, sym, ap, subst, refl, arith, ◌≤◌}
+use Rattle.std.proofs.Common.{◌≡◌, ◌+◌, ◌<◌, length, sym, subst, refl, arith, ◌≤◌}
 use Rattle.bac_simulation.specs.Records.{IsKept}
 use Rattle.bac_simulation.specs.Views.{key_view}
 use Rattle.bac_simulation.proofs.Index.{in_row, within_of, sent_few, kept_copy}
+use Rattle.bac_simulation.proofs.Rooms.{cell_leaves_room}
 use Rattle.bac_simulation.proofs.sending.add_copy.Goals as goal
 
 pub set_known-requires : goal.set_known-requires
@@ -22,3 +23,6 @@ returns-clause-kept c = λ notes h.
     (kept_copy c.args.rows.now c.set_known.new.rows key _ c.set_known.ensures
     (within_of c.args.rows.now key c.in-Some.found c.set_known.ensures.before there c.set_known.ensures.was)
     c.args.copies.now.items _ refl c.in-Some.found there refl one refl c.fits.ensures notes h)
+
+pub returns-clause-tickets : goal.returns-clause-tickets
+returns-clause-tickets c = cell_leaves_room c.args.rows.now c.set_known.new.rows c.args.copy.transaction.client _ _ c.set_known.ensures

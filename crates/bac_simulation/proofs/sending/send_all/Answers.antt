@@ -1,8 +1,8 @@
 -- One more datagram has become a copy.
-use Rattle.std.proofs.Common.{◌≡◌, ◌+◌, ◌≤◌, ◌∷◌, [], ◌++◌, length, map, sym, ap, subst, ◌∙◌, append_assoc, append-nil, arith}
+use Rattle.std.proofs.Common.{◌≡◌, ◌∷◌, [], length, map, sym, ap, subst, ◌∙◌, append_assoc, append-nil, arith}
 use Rattle.std.proofs.lemmas.List.{length-append}
 use Rattle.std.specs.Vec.Iter.{into_iter_items}
-use Rattle.bac_simulation.specs.Growing.{BecomeCopies, CanGo}
+use Rattle.bac_simulation.specs.Growing.{BecomeCopies}
 use Rattle.bac_simulation.specs.Views.{copy_view}
 use Rattle.bac_simulation.proofs.Grown.{nothing_left, head_goes, tail_goes, more_become}
 use Rattle.bac_simulation.proofs.sending.send_all.Goals as goal
@@ -37,6 +37,7 @@ loop-datagram-preserved c =
       nodes = c.send_one.ensures.nodes ∙ at.invariant.nodes;
       many = (let was = at.invariant.many in let more = c.send_one.ensures.many in let long = length-append at.yielded (d ∷ []) in omega arith);
       room = c.send_one.ensures.room ∙ at.invariant.room;
+      tickets = c.send_one.ensures.tickets ∙ at.invariant.tickets;
     }
 
 pub returns-clause-copies : goal.returns-clause-copies

@@ -4,6 +4,7 @@ use Rattle.std.specs.Vec.Iter.{into_iter_items, into_iter_len}
 use Rattle.bac_world.specs.Node.{Node}
 use Rattle.bac_world.specs.World.{Note}
 use Rattle.bac_simulation.specs.Growing.{BecomeCopies, CanGo}
+use Rattle.bac_simulation.specs.Journals.{ticket_room}
 use Rattle.bac_simulation.specs.Records.{IsKept}
 use Rattle.bac_simulation.specs.Views.{copy_view, AreLinks}
 use Rattle.bac_simulation.proofs.sending.send_all.Given as goal
@@ -21,4 +22,5 @@ invariant-loop-datagram l =
       nodes : length l.rows ≡ length l.fn.rows;
       many : length l.copies.items ≡ length l.fn.copies.items + length l.yielded;
       room : l.copies.cap ≡ l.fn.copies.cap;
+      tickets : map ticket_room l.rows ≡ map ticket_room l.fn.rows;
     }

@@ -1,5 +1,5 @@
 -- Nothing is known yet.
-use Rattle.std.proofs.Common.{◌≡◌, [], List, length, sym, ap, subst, ◌∙◌}
+use Rattle.std.proofs.Common.{[], List, sym, subst, ◌∙◌}
 use Rattle.bac_simulation.specs.declared.copies.Copy.{Copy}
 use Rattle.bac_simulation.specs.declared.noting.Note.{Note}
 use Rattle.bac_simulation.specs.Notes.{notes_view}

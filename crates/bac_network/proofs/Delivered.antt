@@ -1,0 +1,249 @@
+-- A copy is delivered, a node ticks, or hears noise.
+use Rattle.std.proofs.Common.{◌≡◌, ℕ, zero, suc, ◌+◌, ◌<◌, ◌≤◌, ◌⊎◌, Bool, true, false, List, [], ◌∷◌, ◌++◌, length, Option, Some, None, Result, Ok, Err, slice_get}
+use Rattle.std.proofs.Common.{refl, sym, ap, subst, inl, inr, ◌∙◌, arith}
+use Rattle.std.proofs.lemmas.Option.{slice_get_within}
+use Rattle.std.specs.Option.{option_map}
+use Rattle.bac_apdu.specs.Apdu.{Apdu}
+use Rattle.bac_npdu.specs.Peers.{PeerView}
+use Rattle.bac_protocol.specs.Service.{Octets}
+use Rattle.bac_node.specs.Calls.{ticked}
+use Rattle.bac_world.specs.Laws.{IsMeaningless}
+use Rattle.bac_world.specs.Node.{Cause, Node, Outcome, NodeOn, NodeTick, IsDropped, IsHeard, dropped_for}
+use Rattle.bac_world.specs.Once.{Fact}
+use Rattle.bac_world.specs.Services.{Performed}
+use Rattle.bac_world.specs.World.{World, Copy, Event, Acts, Delivers, DeliversIf, IsDelivered, IsNoise, HearsNoise, IsWithNode, Ticks, WorldStep, link_at}
+use Rattle.bac_world.specs.World.{is_deliverable}
+use Rattle.bac_world.specs.World.Event.{Deliver, Noise, Tick}
+use Rattle.bac_world.proofs.Pairs.{append_none}
+use Rattle.bac_simulation.specs.Entering.{CanEnter, CanGoOn}
+use Rattle.bac_simulation.specs.Journals.{JournalView}
+use Rattle.bac_simulation.specs.Views.{AreLinks}
+use Rattle.bac_network.specs.Entries.{CanBeEntered, IsEntered, performances}
+use Rattle.bac_network.specs.Goings.{Arrives, Goes, IsBetween, IsDue, IsHeardCopy}
+use Rattle.bac_network.specs.Networks.{world_of, world_with, AreAlike, HasRoom, IsReady}
+use Rattle.bac_network.specs.Steps.{Happens, TakesMemory}
+use Rattle.bac_network.specs.Views.{log_view}
+use Rattle.bac_network.specs.declared.network.Network.{Network}
+use Rattle.bac_network.proofs.Entered.{acts_as, can_be_entered}
+
+-- More room changes nothing.
+
+pub world_alike : (m n : Network) → AreAlike m n → world_of n ≡ world_of m
+world_alike m n a =
+    ap (λ nodes. world_with nodes.items n.journal (log_view n.log.items)) a.nodes
+    ∙ ap (λ t. record { nodes = m.nodes.items; now = t; copies = n.journal.copies; log = log_view n.log.items; notes = n.journal.notes }) a.moment
+    ∙ ap (λ copies. record { nodes = m.nodes.items; now = m.journal.moment; copies = copies; log = log_view n.log.items; notes = n.journal.notes }) a.copies
+    ∙ ap (λ log. record { nodes = m.nodes.items; now = m.journal.moment; copies = m.journal.copies; log = log_view log; notes = n.journal.notes }) a.log
+    ∙ ap (λ notes. record { nodes = m.nodes.items; now = m.journal.moment; copies = m.journal.copies; log = log_view m.log.items; notes = notes }) a.notes
+
+pub ready_alike : (W overtake : ℕ) (m n : Network) → AreAlike m n → IsReady W overtake m → IsReady W overtake n
+ready_alike W overtake m n a r = record {
+  can = subst (λ w. CanGoOn W overtake w) (sym (world_alike m n a)) r.can;
+  linked = subst (λ nodes. AreLinks nodes.items n.journal.links) (sym a.nodes) (subst (λ links. AreLinks m.nodes.items links) (sym a.links) r.linked);
+  apart = subst (λ links. (i j : ℕ) (l : Octets) → slice_get links i ≡ Some l → slice_get links j ≡ Some l → i ≡ j) (sym a.links) r.apart;
+}
+
+-- The journal's links are as many as the nodes.
+
+pub link_within : (nodes : List Node) (links : List Octets) → AreLinks nodes links → (i : ℕ) (a : Node) → slice_get nodes i ≡ Some a → i < length links
+link_within nodes links linked i a at =
+    slice_get_within links i a.link (sym (linked i) ∙ ap (λ (o : Option Node). option_map (λ (n : Node). n.link) o) at)
+
+pub there_is : {A : Type 0} (xs : List A) (i : ℕ) → i < length xs → (x : A) × (slice_get xs i ≡ Some x)
+there_is [] i h = absurd (omega arith)
+there_is (x ∷ xs) zero h = (x, refl)
+there_is (x ∷ xs) (suc i) h = there_is xs i (omega arith)
+
+no_none : {A : Type 0} (xs : List A) (i : ℕ) → i < length xs → slice_get xs i ≡ None → ⊥
+no_none xs i h none = let a = there_is xs i h in let e : None ≡ Some a.0 = sym none ∙ a.1 in cc
+
+pub is_there : (nodes : List Node) (i : ℕ) → i < length nodes → slice_get nodes i ≡ None → ⊥
+is_there nodes i h none = no_none nodes i h none
+
+pub both_there : (nodes : List Node) (i j : ℕ) → i < length nodes → j < length nodes → ((slice_get nodes i ≡ None) ⊎ (slice_get nodes j ≡ None)) → ⊥
+both_there nodes i j h k (inl e) = no_none nodes i h e
+both_there nodes i j h k (inr e) = no_none nodes j k e
+
+-- a node that there is has a link
+pub linked_within : (nodes : List Node) (links : List Octets) → AreLinks nodes links → (i : ℕ) → i < length nodes → i < length links
+linked_within nodes links linked i h = let a = there_is nodes i h in link_within nodes links linked i a.0 a.1
+
+-- A copy.
+
+pub copy_between : (W overtake : ℕ) (n : Network) → IsReady W overtake n → (number : ℕ) (c : Copy) → slice_get n.journal.copies number ≡ Some c
+    → IsBetween n.nodes.items c
+copy_between W overtake n r number c at =
+    let from = r.can.from number c at in
+    let to = r.can.to number c at in
+    record { sender = from.0; from = from.1; receiver = to.0; to = to.1 }
+
+-- one ending and one effect at most
+few_facts : (ended : ℕ) (p : Option Performed) → ended ≤ 1 → ended + performances p ≤ 2
+few_facts ended None h = omega arith
+few_facts ended (Some p) h = omega arith
+
+pub record CopyEnters (W : ℕ) (n : Network) (to : ℕ) (o : Outcome) : Type 0 where
+  pub can : CanBeEntered n.journal to o
+  pub sender : to < length n.journal.links
+  pub sends : length o.sends ≤ W + 1
+  pub facts : length o.ended + performances o.performed ≤ 2
+
+module _ (W overtake : ℕ) (n : Network) (r : IsReady W overtake n) (number : ℕ) (m : TakesMemory overtake (world_of n) (Deliver number)) where
+  young : (c : Copy) → slice_get n.journal.copies number ≡ Some c → is_deliverable overtake n.journal.moment number n.journal.copies c ≡ true
+  young c at =
+      let same : m.0 ≡ c = let e : Some m.0 ≡ Some c = sym m.1 ∙ at in cc in
+      subst (λ (d : Copy). is_deliverable overtake n.journal.moment number n.journal.copies d ≡ true) same m.2
+
+  entering : (to : ℕ) (o : Outcome) (new : List Node) → IsHeardCopy n.nodes.items n.journal.moment n.journal.copies number to o new
+      → CopyEnters W n to o
+  entering to o new h = subst (λ (i : ℕ). CopyEnters W n i o) (sym h.receiver) (record {
+    can = can_be_entered W overtake n r h.copy.to o enters.0;
+    sender = link_within n.nodes.items n.journal.links r.linked h.copy.to h.goes.before h.goes.at;
+    sends = enters.1;
+    facts = few_facts (length o.ended) o.performed enters.2;
+  })
+    where
+      enters : CanEnter (world_of n) h.copy.to o × (length o.sends ≤ W + 1) × (length o.ended ≤ 1)
+      enters = r.can.hears number h.copy h.there (young h.copy h.there) h.link h.sender h.goes.before h.goes.after o h.goes.at h.goes.goes
+
+  pub copy_enters : (nodes : List Node) → nodes ≡ n.nodes.items → (to : ℕ) (o : Outcome) (new : List Node)
+      → IsHeardCopy nodes n.journal.moment n.journal.copies number to o new → CopyEnters W n to o
+  copy_enters nodes are to o new h =
+      entering to o new (subst (λ l. IsHeardCopy l n.journal.moment n.journal.copies number to o new) are h)
+
+arrives_so : (n n' : Network) (number to : ℕ) (o : Outcome) → IsHeardCopy n.nodes.items n.journal.moment n.journal.copies number to o n'.nodes.items
+    → IsEntered n.nodes.items to o n.journal n'.journal (log_view n.log.items) (log_view n'.log.items) → n'.journal.moment ≡ n.journal.moment
+    → n'.journal.notes ≡ n.journal.notes → Arrives (world_of n) number (world_of n')
+arrives_so n n' number to o h entered moment notes = record {
+  copy = h.copy;
+  there = h.there;
+  delivers = record {
+    link = h.link;
+    sender = h.sender;
+    hears = record {
+      before = h.goes.before;
+      at = h.goes.at;
+      after = h.goes.after;
+      outcome = o;
+      on = h.goes.goes;
+      acts = acts_as n.nodes.items n'.nodes.items n.journal n'.journal (log_view n.log.items) (log_view n'.log.items) h.copy.to h.goes.after o
+          h.goes.nodes
+          (subst (λ (i : ℕ). IsEntered n.nodes.items i o n.journal n'.journal (log_view n.log.items) (log_view n'.log.items)) h.receiver entered)
+          moment notes;
+    };
+  };
+}
+
+pub arrives : (n n' : Network) (number to : ℕ) (o : Outcome) (nodes : List Node) → nodes ≡ n.nodes.items
+    → (after : List Node) → n'.nodes.items ≡ after → IsHeardCopy nodes n.journal.moment n.journal.copies number to o after
+    → IsEntered n.nodes.items to o n.journal n'.journal (log_view n.log.items) (log_view n'.log.items) → n'.journal.moment ≡ n.journal.moment
+    → n'.journal.notes ≡ n.journal.notes → Arrives (world_of n) number (world_of n')
+arrives n n' number to o nodes are after fits h entered moment notes =
+    arrives_so n n' number to o
+    (subst (λ l. IsHeardCopy n.nodes.items n.journal.moment n.journal.copies number to o l) (sym fits)
+    (subst (λ l. IsHeardCopy l n.journal.moment n.journal.copies number to o after) are h)) entered moment notes
+
+-- the copy that arrived is the one that is deliverable
+pub delivered : (overtake : ℕ) (old new : World) (number : ℕ) → TakesMemory overtake old (Deliver number) → Arrives old number new
+    → IsDelivered overtake old number new
+delivered overtake old new number m a =
+    let same : m.0 ≡ a.copy = let e : Some m.0 ≡ Some a.copy = sym m.1 ∙ a.there in cc in
+    record {
+      copy = a.copy;
+      there = a.there;
+      goes = subst (λ (b : Bool). DeliversIf b old a.copy new)
+          (sym (subst (λ (d : Copy). is_deliverable overtake old.now number old.copies d ≡ true) same m.2)) a.delivers;
+    }
+
+pub lost : (overtake : ℕ) (old : World) (number : ℕ) (c : Copy) → slice_get old.copies number ≡ Some c
+    → is_deliverable overtake old.now number old.copies c ≡ false → IsDelivered overtake old number old
+lost overtake old number c at old_or_overtaken = record {
+  copy = c;
+  there = at;
+  goes = subst (λ (b : Bool). DeliversIf b old c old) (sym old_or_overtaken) refl;
+}
+
+-- A tick.
+
+no_facts : (ended : ℕ) (p : Option Performed) → p ≡ None → ended + performances p ≤ ended
+no_facts ended p is = subst (λ (q : Option Performed). ended + performances q ≤ ended) (sym is) (omega arith)
+
+pub record TickEnters (n : Network) (node : ℕ) (o : Outcome) : Type 0 where
+  pub can : CanBeEntered n.journal node o
+  pub sender : node < length n.journal.links
+  pub facts : length o.ended + performances o.performed ≤ length o.ended
+
+pub tick_enters : (W overtake : ℕ) (n : Network) → IsReady W overtake n → (node : ℕ) (o : Outcome) → IsDue n.nodes.items n.journal.moment node o
+    → TickEnters n node o
+tick_enters W overtake n r node o d = record {
+  can = can_be_entered W overtake n r node o (r.can.ticks node d.before (ticked n.journal.moment d.before) o d.at d.due);
+  sender = link_within n.nodes.items n.journal.links r.linked node d.before d.at;
+  facts = no_facts (length o.ended) o.performed d.due.performed;
+}
+
+pub ticks : (n n' : Network) (node : ℕ) (o : Outcome) → IsDue n.nodes.items n.journal.moment node o
+    → (nodes : List Node) → nodes ≡ n.nodes.items → (now : ℕ) → now ≡ n.journal.moment
+    → (new : List Node) → n'.nodes.items ≡ new → Goes nodes node (λ a b. b ≡ ticked now a) new
+    → IsEntered n.nodes.items node o n.journal n'.journal (log_view n.log.items) (log_view n'.log.items) → n'.journal.moment ≡ n.journal.moment
+    → n'.journal.notes ≡ n.journal.notes → Ticks (world_of n) node (world_of n')
+ticks n n' node o d nodes are now is new fits went entered moment notes =
+    let g : Goes n.nodes.items node (λ a b. b ≡ ticked n.journal.moment a) n'.nodes.items =
+    subst (λ l. Goes n.nodes.items node (λ a b. b ≡ ticked n.journal.moment a) l) (sym fits)
+    (subst (λ l. Goes l node (λ a b. b ≡ ticked n.journal.moment a) new) are
+    (subst (λ (t : ℕ). Goes nodes node (λ a b. b ≡ ticked t a) new) is went)) in
+    let same : d.before ≡ g.before = let e : Some d.before ≡ Some g.before = sym d.at ∙ g.at in cc in
+    let tick_is : g.after ≡ ticked n.journal.moment d.before = g.goes ∙ ap (ticked n.journal.moment) (sym same) in
+    record {
+      before = d.before;
+      at = d.at;
+      after = g.after;
+      outcome = o;
+      tick = subst (λ (b : Node). NodeTick n.journal.moment d.before b o) (sym tick_is) d.due;
+      acts = acts_as n.nodes.items n'.nodes.items n.journal n'.journal (log_view n.log.items) (log_view n'.log.items) node g.after o g.nodes entered
+          moment notes;
+    }
+
+pub due_alike : (m n : Network) → AreAlike m n → (node now : ℕ) → now ≡ m.journal.moment → (a : Node) → slice_get m.nodes.items node ≡ Some a
+    → (o : Outcome) → NodeTick now a (ticked now a) o → IsDue n.nodes.items n.journal.moment node o
+due_alike m n same node now is a at o due =
+    subst (λ v. IsDue v.items n.journal.moment node o) (sym same.nodes)
+    (subst (λ (t : ℕ). IsDue m.nodes.items t node o) (is ∙ sym same.moment) (record { before = a; at = at; due = due }))
+
+-- Noise.
+
+dropped_is : (now : ℕ) (from octets : Octets) (a b : Node) (o : Outcome) → IsMeaningless from octets → NodeOn now from octets a b o
+    → IsDropped now from octets a b o
+dropped_is now from octets a b o none (inl d) = d
+dropped_is now from octets a b o none (inr h) = absurd (none h.peer h.apdu h.means)
+
+pub noise_heard : (n n' : Network) (node : ℕ) (from octets : Octets) (o : Outcome) → IsNoise n.nodes.items from octets
+    → (nodes : List Node) → nodes ≡ n.nodes.items → (now : ℕ) → now ≡ n.journal.moment
+    → (new : List Node) → n'.nodes.items ≡ new → Goes nodes node (λ a b. NodeOn now from octets a b o) new → n'.journal ≡ n.journal → n'.log ≡ n.log
+    → HearsNoise (world_of n) node from octets (world_of n')
+noise_heard n n' node from octets o noise nodes are now is new fits went journal log =
+    let g : Goes n.nodes.items node (λ a b. NodeOn n.journal.moment from octets a b o) n'.nodes.items =
+    subst (λ l. Goes n.nodes.items node (λ a b. NodeOn n.journal.moment from octets a b o) l) (sym fits)
+    (subst (λ l. Goes l node (λ a b. NodeOn n.journal.moment from octets a b o) new) are
+    (subst (λ (t : ℕ). Goes nodes node (λ a b. NodeOn t from octets a b o) new) is went)) in
+    let d = dropped_is n.journal.moment from octets g.before g.after o noise.meaningless g.goes in
+    record {
+      noise = noise;
+      hears = record {
+        before = g.before;
+        at = g.at;
+        after = g.after;
+        outcome = dropped_for d.cause;
+        on = subst (NodeOn n.journal.moment from octets g.before g.after) d.outcome g.goes;
+        acts = record {
+          nodes = g.nodes;
+          now = ap (λ (j : JournalView). j.moment) journal;
+          notes = ap (λ (j : JournalView). j.notes) journal;
+          sent = [];
+          copies = ap (λ (j : JournalView). j.copies) journal ∙ sym (append_none n.journal.copies);
+          copied = tt;
+          between = log_view n.log.items;
+          ended = refl;
+          logged = ap (λ v. log_view v.items) log;
+        };
+      };
+    }

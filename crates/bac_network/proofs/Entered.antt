@@ -1,0 +1,91 @@
+-- What comes of a node's call enters the world.
+use Rattle.std.proofs.Common.{◌≡◌, ℕ, ◌+◌, ◌≤◌, List, [], ◌∷◌, ◌++◌, length, map, reverse, Option, Some, None, slice_get, refl, sym, ap, subst, ◌∙◌, arith}
+use Rattle.std.proofs.lemmas.List.{length-map, length-reverse, map-append, reverse-append}
+use Rattle.bac_ends.specs.Meanings.{Finish}
+use Rattle.bac_ends.specs.Sends.{Datagram}
+use Rattle.bac_protocol.specs.Service.{Octets}
+use Rattle.bac_world.specs.Node.{Node, Outcome}
+use Rattle.bac_world.specs.Once as once
+use Rattle.bac_world.specs.Once.Fact.{Ended}
+use Rattle.bac_world.specs.Services.{Performed}
+use Rattle.bac_world.specs.World.{World, Note, Acts, AreEnded, IsWithNode, ask_of, newest}
+use Rattle.bac_simulation.specs.Entering.{Every, AreOfClient, CanBeCopied, CanEnter}
+use Rattle.bac_simulation.specs.Growing.{CanBecome}
+use Rattle.bac_simulation.specs.Journals.{JournalView}
+use Rattle.bac_simulation.specs.Notes.{note_view, notes_view}
+use Rattle.bac_simulation.specs.declared.noting.Note as code
+use Rattle.bac_network.specs.Entries.{AreNoted, CanBeEntered, HaveClient, IsEntered}
+use Rattle.bac_network.specs.Networks.{world_of, world_with, IsReady}
+use Rattle.bac_network.specs.Views.{fact_view, log_view}
+use Rattle.bac_network.specs.declared.fact.Fact.{Fact}
+use Rattle.bac_network.specs.declared.network.Network.{Network}
+
+-- The log.
+
+pub log_push : (log : List Fact) (f : Fact) → log_view (log ++ f ∷ []) ≡ fact_view f ∷ log_view log
+log_push log f = ap reverse (map-append fact_view log (f ∷ [])) ∙ reverse-append (map fact_view log) (fact_view f ∷ [])
+
+pub notes_many : (notes : List code.Note) → length notes ≡ length (notes_view notes)
+notes_many notes = sym (length-reverse (map note_view notes) ∙ length-map notes note_view)
+
+pub more_ended : (notes : List Note) (node : ℕ) (fs gs : List Finish) (a b c : List once.Fact) → AreEnded notes node fs a b → AreEnded notes node gs b c
+    → AreEnded notes node (fs ++ gs) a c
+more_ended notes node [] gs a b c h k = subst (λ (l : List once.Fact). AreEnded notes node gs l c) h k
+more_ended notes node (f ∷ fs) gs a b c h k = (h.0, h.1, more_ended notes node fs gs (Ended h.0 f.how ∷ a) b c h.2 k)
+
+pub head_noted : (notes : List Note) (node : ℕ) (fs : List Finish) (f : Finish) (rest : List Finish) → fs ≡ f ∷ rest → AreNoted notes node fs
+    → AreNoted notes node (f ∷ [])
+head_noted notes node fs f rest is h = let k : AreNoted notes node (f ∷ rest) = subst (AreNoted notes node) is h in (k.0, tt)
+
+pub tail_noted : (notes : List Note) (node : ℕ) (fs : List Finish) (f : Finish) (rest : List Finish) → fs ≡ f ∷ rest → AreNoted notes node fs
+    → AreNoted notes node rest
+tail_noted notes node fs f rest is h = let k : AreNoted notes node (f ∷ rest) = subst (AreNoted notes node) is h in k.1
+
+pub nothing_left : {X : Type 0} (l : List X) → length l ≡ 0 → l ≡ []
+nothing_left [] h = refl
+nothing_left (x ∷ xs) h = absurd (omega arith)
+
+-- The world.
+
+pub copied_each : (w : World) (i : ℕ) (ds : List Datagram) → Every (CanBeCopied w i) ds → CanBecome w.nodes w.now i ds
+copied_each w i [] h = tt
+copied_each w i (d ∷ ds) h = ((h.0.copy, h.0.is), copied_each w i ds h.1)
+
+clients_known : (W overtake : ℕ) (n : Network) → IsReady W overtake n → (i : ℕ) (p : Option Performed) → AreOfClient (world_of n) i p
+    → HaveClient n.journal i p
+clients_known W overtake n r i None h = tt
+clients_known W overtake n r i (Some p) h =
+    let at : slice_get n.journal.links h.client ≡ Some p.key.peer.link = sym (r.linked h.client) ∙ h.link in
+    record {
+      client = h.client;
+      link = at;
+      noted = λ k there. (
+        h.number,
+        subst (λ (c : ℕ). newest (record { client = c; server = i; invoke_id = p.key.invoke_id }) n.journal.notes ≡ Some h.number)
+            (r.apart h.client k p.key.peer.link at there) h.noted,
+      );
+    }
+
+pub can_be_entered : (W overtake : ℕ) (n : Network) → IsReady W overtake n → (i : ℕ) (o : Outcome) → CanEnter (world_of n) i o
+    → CanBeEntered n.journal i o
+can_be_entered W overtake n r i o h = record {
+  nodes = n.nodes.items;
+  linked = r.linked;
+  sends = copied_each (world_of n) i o.sends h.sends;
+  ended = h.ended;
+  performed = clients_known W overtake n r i o.performed h.performed;
+}
+
+pub acts_as : (nodes nodes' : List Node) (j j' : JournalView) (log log' : List once.Fact) (i : ℕ) (b : Node) (o : Outcome) → IsWithNode nodes i b nodes'
+    → IsEntered nodes i o j j' log log' → j'.moment ≡ j.moment → j'.notes ≡ j.notes → Acts (world_with nodes j log) i b o (world_with nodes' j' log')
+acts_as nodes nodes' j j' log log' i b o with_node h moment notes = record {
+  nodes = with_node;
+  now = moment;
+  notes = notes;
+  sent = h.sent.sent;
+  copies = h.sent.copies;
+  copied = h.sent.copied;
+  between = h.between;
+  ended = h.ended;
+  logged = h.logged;
+}

@@ -1,0 +1,192 @@
+-- What follows from how an event went.
+use Rattle.std.proofs.Common.{◌≡◌, ◌⊎◌, ◌↔◌, ℕ, Bool, true, false, List, Option, Some, None, Result, Ok, Err, IsErrOf, OnOk, OnErr, IfOk, slice_get}
+use Rattle.std.proofs.Common.{refl, sym, ap, subst, inl, inr, ◌∙◌}
+use Rattle.std.specs.Option.{option_map}
+use Rattle.bac_protocol.specs.Service.{Octets}
+use Rattle.bac_store.specs.Stores.{Store}
+use Rattle.bac_network.specs.Histories.{WorldView}
+use Rattle.bac_requester.specs.declared.ask_fault.AskFault.{AskFault}
+use Rattle.bac_world.specs.Node.{Node}
+use Rattle.bac_world.specs.World.{World, Event, Copy, WorldStep, link_at, is_deliverable}
+use Rattle.bac_world.specs.World.Event.{Ask, Deliver, Noise, Tick, Advance}
+use Rattle.bac_network.specs.Steps.{NamesNoNode, NamesNoCopy, PassesClock, TakesMemory, IsFault, Happens, HappensTelling, Tells, Untells}
+use Rattle.bac_network.specs.declared.fault.WorldFault.{WorldFault}
+use Rattle.bac_network.specs.declared.fault.WorldFault.TheVariants as fault
+
+-- Faults exclude each other.
+
+no_link : (nodes : List Node) (i : ℕ) (l : Octets) → slice_get nodes i ≡ None → link_at nodes i ≡ Some l → ⊥
+no_link nodes i l e at =
+    let x : None ≡ Some l = sym (ap (λ (o : Option Node). option_map (λ (n : Node). n.link) o) e) ∙ at in cc
+
+none_some : {A : Type 0} (o : Option A) (x : A) → o ≡ None → o ≡ Some x → ⊥
+none_some o x e at = let f : None ≡ Some x = sym e ∙ at in cc
+
+abbrev seen : ℕ → List Store → World → WorldView
+seen limit opening w = record { overtake = limit; opening = opening; world = w }
+
+module _ (overtake : ℕ) (old new : World) where
+  no_node : (e : Event) → WorldStep overtake old e new → NamesNoNode old e → ⊥
+  no_node (Ask client server limits r) (inl h) (inl n) = none_some (slice_get old.nodes client) h.before n h.at
+  no_node (Ask client server limits r) (inl h) (inr n) = no_link old.nodes server h.link n h.peer
+  no_node (Ask client server limits r) (inr h) (inl n) = none_some (slice_get old.nodes client) h.node n h.at
+  no_node (Ask client server limits r) (inr h) (inr n) = no_link old.nodes server h.link n h.peer
+  no_node (Deliver number) h n = n
+  no_node (Noise node from octets) (inl h) n = none_some (slice_get old.nodes node) h.hears.before n h.hears.at
+  no_node (Noise node from octets) (inr h) n = none_some (slice_get old.nodes node) h.node n h.at
+  no_node (Tick node) h n = none_some (slice_get old.nodes node) h.before n h.at
+  no_node (Advance by) h n = n
+
+  no_copy : (e : Event) → WorldStep overtake old e new → NamesNoCopy old e → ⊥
+  no_copy (Ask client server limits r) h n = n
+  no_copy (Deliver number) h n = none_some (slice_get old.copies number) h.copy n h.there
+  no_copy (Noise node from octets) h n = n
+  no_copy (Tick node) h n = n
+  no_copy (Advance by) h n = n
+
+  node_or_copy : (e : Event) → NamesNoNode old e → NamesNoCopy old e → ⊥
+  node_or_copy (Ask client server limits r) n c = c
+  node_or_copy (Deliver number) n c = n
+  node_or_copy (Noise node from octets) n c = c
+  node_or_copy (Tick node) n c = c
+  node_or_copy (Advance by) n c = n
+
+  node_or_clock : (e : Event) → NamesNoNode old e → PassesClock old e → ⊥
+  node_or_clock (Ask client server limits r) n c = c
+  node_or_clock (Deliver number) n c = n
+  node_or_clock (Noise node from octets) n c = c
+  node_or_clock (Tick node) n c = c
+  node_or_clock (Advance by) n c = n
+
+  copy_or_clock : (e : Event) → NamesNoCopy old e → PassesClock old e → ⊥
+  copy_or_clock (Ask client server limits r) n c = n
+  copy_or_clock (Deliver number) n c = c
+  copy_or_clock (Noise node from octets) n c = n
+  copy_or_clock (Tick node) n c = n
+  copy_or_clock (Advance by) n c = n
+
+  copy_or_memory : (e : Event) → NamesNoCopy old e → TakesMemory overtake old e → ⊥
+  copy_or_memory (Ask client server limits r) n m = n
+  copy_or_memory (Deliver number) n m = none_some (slice_get old.copies number) m.0 n m.1
+  copy_or_memory (Noise node from octets) n m = n
+  copy_or_memory (Tick node) n m = n
+  copy_or_memory (Advance by) n m = n
+
+  clock_or_memory : (e : Event) → PassesClock old e → TakesMemory overtake old e → ⊥
+  clock_or_memory (Ask client server limits r) n m = n
+  clock_or_memory (Deliver number) n m = n
+  clock_or_memory (Noise node from octets) n m = n
+  clock_or_memory (Tick node) n m = n
+  clock_or_memory (Advance by) n m = m
+
+  -- Each fault comes exactly where it says.
+
+  module _ (e : Event) where
+    abbrev How : Result (Option AskFault) WorldFault → Type 0
+    How r = HappensTelling overtake old e r new
+
+    fails_node : (r : Result (Option AskFault) WorldFault) → How r → NamesNoNode old e → r ≡ Err fault.NoSuchNode
+    fails_node (Ok told) h n = absurd (no_node e h.0 n)
+    fails_node (Err fault.NoSuchNode) h n = refl
+    fails_node (Err fault.NoSuchDatagram) h n = absurd (node_or_copy e n h.0)
+    fails_node (Err fault.ClockEnd) h n = absurd (node_or_clock e n h.0)
+    fails_node (Err fault.NoMemory) h n = absurd ((h.0).1 n)
+
+    fails_copy : (r : Result (Option AskFault) WorldFault) → How r → NamesNoCopy old e → r ≡ Err fault.NoSuchDatagram
+    fails_copy (Ok told) h n = absurd (no_copy e h.0 n)
+    fails_copy (Err fault.NoSuchNode) h n = absurd (node_or_copy e h.0 n)
+    fails_copy (Err fault.NoSuchDatagram) h n = refl
+    fails_copy (Err fault.ClockEnd) h n = absurd (copy_or_clock e n h.0)
+    fails_copy (Err fault.NoMemory) h n = absurd (copy_or_memory e n (h.0).0)
+
+    fails_clock : (r : Result (Option AskFault) WorldFault) → How r → PassesClock old e → r ≡ Err fault.ClockEnd
+    fails_clock (Ok told) h n = absurd (h.2 n)
+    fails_clock (Err fault.NoSuchNode) h n = absurd (node_or_clock e h.0 n)
+    fails_clock (Err fault.NoSuchDatagram) h n = absurd (copy_or_clock e h.0 n)
+    fails_clock (Err fault.ClockEnd) h n = refl
+    fails_clock (Err fault.NoMemory) h n = absurd (clock_or_memory e n (h.0).0)
+
+    pub node_exactly : (r : Result (Option AskFault) WorldFault) → How r → (IsErrOf r fault.NoSuchNode ↔ NamesNoNode old e)
+    node_exactly r h = (λ is. (let k : How (Err fault.NoSuchNode) = subst How is h in k.0), fails_node r h)
+
+    pub copy_exactly : (r : Result (Option AskFault) WorldFault) → How r → (IsErrOf r fault.NoSuchDatagram ↔ NamesNoCopy old e)
+    copy_exactly r h = (λ is. (let k : How (Err fault.NoSuchDatagram) = subst How is h in k.0), fails_copy r h)
+
+    pub clock_exactly : (r : Result (Option AskFault) WorldFault) → How r → (IsErrOf r fault.ClockEnd ↔ PassesClock old e)
+    clock_exactly r h = (λ is. (let k : How (Err fault.ClockEnd) = subst How is h in k.0), fails_clock r h)
+
+    pub memory_only : (r : Result (Option AskFault) WorldFault) → How r → IsErrOf r fault.NoMemory → TakesMemory overtake old e
+    memory_only r h is = let k : How (Err fault.NoMemory) = subst How is h in (k.0).0
+
+    pub step_is : (r : Result (Option AskFault) WorldFault) → How r → OnOk r (WorldStep overtake old e new)
+    step_is (Ok told) h = h.0
+    step_is (Err f) h = tt
+
+    pub told_is : (r : Result (Option AskFault) WorldFault) → How r → IfOk r (λ told. Tells told old e new)
+    told_is (Ok told) h = h.1
+    told_is (Err f) h = tt
+
+    pub same_is : (r : Result (Option AskFault) WorldFault) → How r → OnErr r (new ≡ old)
+    same_is (Ok told) h = tt
+    same_is (Err f) h = h.1
+
+    -- in code the opening stores and the limit stay beside it
+    pub same_seen : (r : Result (Option AskFault) WorldFault) → How r → (limit : ℕ) (opening : List Store)
+        → OnErr r (seen limit opening new ≡ seen limit opening old)
+    same_seen (Ok told) h limit opening = tt
+    same_seen (Err f) h limit opening = ap (seen limit opening) h.1
+
+-- Want of memory.
+
+pub on_err : {T E P : Type 0} (r : Result T E) → P → OnErr r P
+on_err (Ok x) h = tt
+on_err (Err e) h = h
+
+pub no_memory : {A : Type 0} (overtake : ℕ) (old new : World) (e : Event) (q : Result A WorldFault) → q ≡ Err fault.NoMemory → TakesMemory overtake old e
+    → (NamesNoNode old e → ⊥) → new ≡ old → Happens overtake old e q new
+no_memory {A} overtake old new e q is memory node same =
+    subst (λ (r : Result A WorldFault). Happens overtake old e r new) (sym is) ((memory, node), same)
+
+pub no_memory_told : (overtake : ℕ) (old new : World) (e : Event) (q : Result (Option AskFault) WorldFault) → q ≡ Err fault.NoMemory
+    → TakesMemory overtake old e → (NamesNoNode old e → ⊥) → new ≡ old → HappensTelling overtake old e q new
+no_memory_told overtake old new e q is memory node same =
+    subst (λ (r : Result (Option AskFault) WorldFault). HappensTelling overtake old e r new) (sym is) ((memory, node), same)
+
+-- Events that tell nothing.
+
+abbrev pub IsNoAsk : Event → Type 0
+IsNoAsk (Ask client server limits r) = ⊥
+IsNoAsk (Deliver number) = Unit {0}
+IsNoAsk (Noise node from octets) = Unit {0}
+IsNoAsk (Tick node) = Unit {0}
+IsNoAsk (Advance by) = Unit {0}
+
+tells_none : (old new : World) (e : Event) → IsNoAsk e → Tells None old e new
+tells_none old new (Ask client server limits r) n = absurd n
+tells_none old new (Deliver number) n = tt
+tells_none old new (Noise node from octets) n = tt
+tells_none old new (Tick node) n = tt
+tells_none old new (Advance by) n = tt
+
+pub told_nothing : {A : Type 0} (overtake : ℕ) (old new : World) (e : Event) → IsNoAsk e → (done : Result A WorldFault) → (r : Result (Option AskFault) WorldFault)
+    → Happens overtake old e done new → Untells done r → HappensTelling overtake old e r new
+told_nothing overtake old new e n (Ok x) r h is =
+    subst (λ (q : Result (Option AskFault) WorldFault). HappensTelling overtake old e q new) (sym is) (h.0, tells_none old new e n, h.1)
+told_nothing overtake old new e n (Err f) r h is =
+    subst (λ (q : Result (Option AskFault) WorldFault). HappensTelling overtake old e q new) (sym is) h
+
+-- What is known of a copy that may be delivered.
+
+abbrev pub IsKnown : (overtake now number : ℕ) → List Copy → Option Bool → Type 0
+IsKnown overtake now number copies None = slice_get copies number ≡ None
+IsKnown overtake now number copies (Some b) =
+    (c : Copy) × (slice_get copies number ≡ Some c) × (is_deliverable overtake now number copies c ≡ b)
+
+pub known : (overtake now number : ℕ) (copies : List Copy) (answer : Option Bool) → (slice_get copies number ≡ None → answer ≡ None)
+    → ((c : Copy) → slice_get copies number ≡ Some c → answer ≡ Some (is_deliverable overtake now number copies c))
+    → IsKnown overtake now number copies answer
+known overtake now number copies answer none some = go (slice_get copies number) refl
+  where
+    go : (o : Option Copy) → slice_get copies number ≡ o → IsKnown overtake now number copies answer
+    go None e = subst (IsKnown overtake now number copies) (sym (none e)) e
+    go (Some c) e = subst (IsKnown overtake now number copies) (sym (some c e)) (c, e, refl)

@@ -1,0 +1,19 @@
+-- It is noted.
+use Rattle.std.proofs.Common.{◌≡◌, ◌∷◌, length, refl, sym, ap, subst, ◌∙◌}
+use Rattle.bac_simulation.specs.Journals.{JournalView}
+use Rattle.bac_simulation.specs.Notes.{note_view, notes_view}
+use Rattle.bac_world.specs.Once as once
+use Rattle.bac_world.specs.Once.Fact.{Asked}
+use Rattle.bac_service.specs.Views.{owned_request_view}
+use Rattle.bac_network.specs.Views.{log_view}
+use Rattle.bac_network.proofs.Asked.{noted_ask}
+use Rattle.bac_network.proofs.Entered.{log_push, notes_many}
+use Rattle.bac_network.proofs.asking.note.Goals as goal
+
+pub returns : goal.returns
+returns c = λ nodes linked.
+    noted_ask nodes c.args.client c.args.server (owned_request_view c.args.request) c.args.asked.invoke_id c.args.asked.ticket c.args.asked.sends.items
+    c.args.journal.now c.note.new.self c.send.new.self (log_view c.args.log.now.items) (log_view c.push_reserved.new.self.items) _
+    c.note.ensures c.send.ensures.same linked (c.send.ensures.copies nodes) _
+    (ap log_view c.push_reserved.ensures.items ∙ log_push c.args.log.now.items _)
+    (notes_many c.notes-number.result.now ∙ ap length c.notes-number.ensures)

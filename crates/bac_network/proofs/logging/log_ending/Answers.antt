@@ -1,0 +1,8 @@
+-- The ending has the number of an ask.
+use Rattle.std.proofs.Common.{sym, ap, ◌∙◌}
+use Rattle.bac_network.specs.Views.{log_view}
+use Rattle.bac_network.proofs.Entered.{log_push}
+use Rattle.bac_network.proofs.logging.log_ending.Goals as goal
+
+pub returns-clause-log : goal.returns-clause-log
+returns-clause-log c = (c.in-Some.number, sym c.in-Some.ensures, ap log_view c.push_reserved.ensures.items ∙ log_push c.args.log.now.items _)

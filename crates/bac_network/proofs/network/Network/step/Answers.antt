@@ -1,0 +1,36 @@
+-- Events that tell nothing.
+use Rattle.std.proofs.Common.{◌≡◌, sym, subst}
+use Rattle.bac_protocol.specs.Service.{Octets}
+use Rattle.bac_world.specs.World.Event.{Noise, Tick, Advance}
+use Rattle.bac_network.specs.Networks.{world_of}
+use Rattle.bac_network.specs.Steps.{Happens, HappensTelling}
+use Rattle.bac_network.specs.Views.{event_view}
+use Rattle.bac_network.specs.declared.event.Event.{Event}
+use Rattle.bac_network.proofs.Happening.{told_nothing}
+use Rattle.bac_network.proofs.network.Network.step.Goals as goal
+
+pub returns-in-Noise-clause-happens : goal.returns-in-Noise-clause-happens
+returns-in-Noise-clause-happens c =
+    let happens : Happens c.args.overtake (world_of c.args.self.now) (Noise c.in-Noise.node c.in-Noise.from c.in-Noise.octets.items) c.hear_noise.result
+    (world_of c.hear_noise.new.self) =
+    subst
+    (λ (o : Octets). Happens c.args.overtake (world_of c.args.self.now) (Noise c.in-Noise.node c.in-Noise.from o) c.hear_noise.result
+    (world_of c.hear_noise.new.self)) c.deref.ensures.value (c.hear_noise.ensures.happens c.args.overtake) in
+    subst (λ (e : Event). HappensTelling c.args.overtake (world_of c.args.self.now) (event_view e) c.untold-in-Noise.result (world_of c.hear_noise.new.self))
+    (sym c.in-Noise.is)
+    (told_nothing c.args.overtake (world_of c.args.self.now) (world_of c.hear_noise.new.self)
+    (Noise c.in-Noise.node c.in-Noise.from c.in-Noise.octets.items) tt c.hear_noise.result c.untold-in-Noise.result happens c.untold-in-Noise.ensures)
+
+pub returns-in-Tick-clause-happens : goal.returns-in-Tick-clause-happens
+returns-in-Tick-clause-happens c =
+    subst (λ (e : Event). HappensTelling c.args.overtake (world_of c.args.self.now) (event_view e) c.untold-in-Tick.result (world_of c.tick.new.self))
+    (sym c.in-Tick.is)
+    (told_nothing c.args.overtake (world_of c.args.self.now) (world_of c.tick.new.self) (Tick c.in-Tick.node) tt c.tick.result c.untold-in-Tick.result
+    (c.tick.ensures.happens c.args.overtake) c.untold-in-Tick.ensures)
+
+pub returns-in-Advance-clause-happens : goal.returns-in-Advance-clause-happens
+returns-in-Advance-clause-happens c =
+    subst (λ (e : Event). HappensTelling c.args.overtake (world_of c.args.self.now) (event_view e) c.untold-in-Advance.result (world_of c.advance.new.self))
+    (sym c.in-Advance.is)
+    (told_nothing c.args.overtake (world_of c.args.self.now) (world_of c.advance.new.self) (Advance c.in-Advance.by) tt c.advance.result
+    c.untold-in-Advance.result (c.advance.ensures.happens c.args.overtake) c.untold-in-Advance.ensures)

@@ -1,0 +1,29 @@
+-- One event after the other.
+use Rattle.std.proofs.Common.{◌≡◌, ◌<◌, Err, length, refl, ◌∙◌, arith}
+use Rattle.std.proofs.lemmas.Option.{slice_get_read}
+use Rattle.bac_network.specs.Views.{event_view}
+use Rattle.bac_network.proofs.Running.{fault_is, goes_on, stops}
+use Rattle.bac_network.proofs.world.World.run.Goals as goal
+
+pub returns-in-Err-clause-stopped : goal.returns-in-Err-clause-stopped
+returns-in-Err-clause-stopped c =
+    let at = c.loop-place in
+    let event = c.index-events-place.result in
+    let lt : at.place < length c.args.events.now = omega arith in
+    stops c.in-Err.fault c.args.self.now at.self c.step.new.self c.args.events.now at.place event
+    (slice_get_read c.args.events.now _ at.place event refl lt c.index-events-place.is) at.invariant.done at.invariant.overtake c.in-Err.ensures.err
+    (fault_is c.in-Err.fault at.self.overtake at.self.world (event_view event) (Err c.in-Err.fault) refl c.in-Err.ensures.node c.in-Err.ensures.datagram
+    c.in-Err.ensures.clock c.in-Err.ensures.memory)
+
+pub loop-place-preserved : goal.loop-place-preserved
+loop-place-preserved c =
+    let at = c.loop-place in
+    let event = c.index-events-place.result in
+    let lt : at.place < length c.args.events.now = omega arith in
+    record {
+      done = goes_on c.args.self.now at.self c.step.new.self c.args.events.now at.place event
+          (slice_get_read c.args.events.now _ at.place event refl lt c.index-events-place.is) at.invariant.done at.invariant.overtake
+          c.in_default.ensures.went;
+      overtake = c.in_default.ensures.settings.0 ∙ at.invariant.overtake;
+      opening = c.in_default.ensures.settings.1 ∙ at.invariant.opening;
+    }

@@ -1,0 +1,65 @@
+-- The step of the network is one of the world.
+use Rattle.std.proofs.Common.{◌≡◌, refl, sym, ap, subst, ◌∙◌}
+use Rattle.bac_network.specs.Histories.{view_of}
+use Rattle.bac_network.specs.Networks.{world_of}
+use Rattle.bac_network.specs.Views.{event_view}
+use Rattle.bac_network.proofs.Happening.{node_exactly, copy_exactly, clock_exactly, memory_only, step_is, told_is, same_seen}
+use Rattle.bac_network.proofs.Histories.{kept_after, once_now, ready_now}
+use Rattle.bac_network.proofs.world.World.step.Goals as goal
+
+pub step-requires : goal.step-requires
+step-requires c = ready_now c.self.inside.window c.self.inside.overtake c.self.inside.opening.items c.self.inside.network c.self.invariant
+
+pub invariant_of-self : goal.invariant_of-self
+invariant_of-self c =
+    kept_after c.self.inside.window c.self.inside.overtake c.self.inside.opening.items c.self.inside.network c.step.new.self c.step.ensures.links
+    c.self.invariant (event_view c.args.event.now) c.step.result c.step.ensures.happens
+
+pub returns-clause-once : goal.returns-clause-once
+returns-clause-once c =
+    let kept = kept_after c.self.inside.window c.self.inside.overtake c.self.inside.opening.items c.self.inside.network c.step.new.self c.step.ensures.links
+    c.self.invariant (event_view c.args.event.now) c.step.result c.step.ensures.happens in
+    once_now c.self.inside.window (view_of c.self.inside.overtake c.self.inside.opening.items c.step.new.self) kept.history
+
+pub returns-clause-went : goal.returns-clause-went
+returns-clause-went c =
+    rw (← c.self.view_is)
+    (step_is c.self.inside.overtake (world_of c.self.inside.network) (world_of c.step.new.self) (event_view c.args.event.now) c.step.result c.step.ensures.happens)
+
+pub returns-clause-told : goal.returns-clause-told
+returns-clause-told c =
+    rw (← c.self.view_is)
+    (told_is c.self.inside.overtake (world_of c.self.inside.network) (world_of c.step.new.self) (event_view c.args.event.now) c.step.result c.step.ensures.happens)
+
+pub returns-clause-node : goal.returns-clause-node
+returns-clause-node c =
+    rw (← c.self.view_is)
+    (node_exactly c.self.inside.overtake (world_of c.self.inside.network) (world_of c.step.new.self) (event_view c.args.event.now) c.step.result
+    c.step.ensures.happens)
+
+pub returns-clause-datagram : goal.returns-clause-datagram
+returns-clause-datagram c =
+    rw (← c.self.view_is)
+    (copy_exactly c.self.inside.overtake (world_of c.self.inside.network) (world_of c.step.new.self) (event_view c.args.event.now) c.step.result
+    c.step.ensures.happens)
+
+pub returns-clause-clock : goal.returns-clause-clock
+returns-clause-clock c =
+    rw (← c.self.view_is)
+    (clock_exactly c.self.inside.overtake (world_of c.self.inside.network) (world_of c.step.new.self) (event_view c.args.event.now) c.step.result
+    c.step.ensures.happens)
+
+pub returns-clause-memory : goal.returns-clause-memory
+returns-clause-memory c =
+    rw (← c.self.view_is)
+    (memory_only c.self.inside.overtake (world_of c.self.inside.network) (world_of c.step.new.self) (event_view c.args.event.now) c.step.result
+    c.step.ensures.happens)
+
+pub returns-clause-err : goal.returns-clause-err
+returns-clause-err c =
+    rw (← c.self.view_is)
+    (same_seen c.self.inside.overtake (world_of c.self.inside.network) (world_of c.step.new.self) (event_view c.args.event.now) c.step.result
+    c.step.ensures.happens c.self.inside.overtake c.self.inside.opening.items)
+
+pub returns-clause-settings : goal.returns-clause-settings
+returns-clause-settings c = rw (← c.self.view_is) (refl, refl)

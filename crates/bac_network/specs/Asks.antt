@@ -1,0 +1,56 @@
+-- An ask that was accepted enters the journal and the log.
+use Rattle.std.specs.Prelude.{◌≡◌, ◌<◌, ◌+◌, ℕ, List, ◌∷◌, length, Option, Some, None, Result, Ok, Err, slice_get}
+use Rattle.bac_ends.specs.Sends.{Datagram}
+use Rattle.bac_requester.specs.declared.ask_fault.AskFault.{AskFault}
+use Rattle.bac_requester.specs.declared.ask_fault.AskFault.TheVariants as ask_fault
+use Rattle.bac_service.specs.Values.{Request}
+use Rattle.bac_world.specs.Node.{Node}
+use Rattle.bac_world.specs.Once.{Fact}
+use Rattle.bac_world.specs.Once.Fact.{Asked}
+use Rattle.bac_simulation.specs.Entering.{asks_by}
+use Rattle.bac_simulation.specs.Growing.{BecomeCopies, CanBecome}
+use Rattle.bac_simulation.specs.Journals.{HasNoteRoom, JournalView}
+use Rattle.bac_simulation.specs.Views.{AreLinks}
+use Rattle.bac_network.specs.Networks.{HasRoom, IsReady}
+use Rattle.bac_network.specs.declared.fault.WorldFault.{WorldFault}
+use Rattle.bac_network.specs.declared.fault.WorldFault.TheVariants as fault
+use Rattle.bac_network.specs.declared.network.Network.{Network}
+
+-- a node can ask another one, and there is room for what comes of it
+pub record CanAsk (client server : ℕ) (n : Network) : Type 0 where
+  pub window : ℕ
+  pub overtake : ℕ
+  pub ready : IsReady window overtake n
+  pub client_there : client < length n.nodes.items
+  pub server_there : server < length n.nodes.items
+  pub note : HasNoteRoom n.journal client
+  pub room : HasRoom 1 (window + 1) n
+
+-- an accepted ask can be noted: its ticket counts its client's asks
+pub record CanBeNoted (j : JournalView) (client server ticket : ℕ) (sends : List Datagram) : Type 0 where
+  pub nodes : List Node
+  pub linked : AreLinks nodes j.links
+  pub sent : CanBecome nodes j.moment client sends
+  pub client_there : client < length j.links
+  pub server_there : server < length j.links
+  pub room : HasNoteRoom j client
+  pub counted : ticket ≡ asks_by client j.notes
+
+-- it is noted
+pub record IsNotedAsk (nodes : List Node) (client server : ℕ) (r : Request) (invoke_id ticket : ℕ) (sends : List Datagram) (old new : JournalView)
+    (facts facts' : List Fact) : Type 0 where
+  pub sent : BecomeCopies nodes old.moment client sends old.copies new.copies
+  pub notes : new.notes ≡ record { key = record { client = client; server = server; invoke_id = invoke_id }; ticket = ticket } ∷ old.notes
+  pub log : facts' ≡ Asked (length old.notes) client server r ∷ facts
+  pub moment : new.moment ≡ old.moment
+  pub links : new.links ≡ old.links
+
+-- the fault of a refused ask is told, but for want of memory, which is the event's
+abbrev pub TellsFault : AskFault → Result (Option AskFault) WorldFault → Type 0
+TellsFault ask_fault.ClockBack r = r ≡ Ok (Some ask_fault.ClockBack)
+TellsFault ask_fault.SelfPeer r = r ≡ Ok (Some ask_fault.SelfPeer)
+TellsFault ask_fault.TooLong r = r ≡ Ok (Some ask_fault.TooLong)
+TellsFault ask_fault.NeedsSegments r = r ≡ Ok (Some ask_fault.NeedsSegments)
+TellsFault ask_fault.NoInvokeId r = r ≡ Ok (Some ask_fault.NoInvokeId)
+TellsFault ask_fault.NoSlot r = r ≡ Ok (Some ask_fault.NoSlot)
+TellsFault ask_fault.NoMemory r = r ≡ Err fault.NoMemory

@@ -1,0 +1,44 @@
+-- What contracts see of a world in code, and how it came to be.
+use Rattle.std.specs.Prelude.{◌≡◌, ℕ, List, slice_get}
+use Rattle.bac_protocol.specs.Service.{Octets}
+use Rattle.bac_store.specs.Stores.{Store}
+use Rattle.bac_world.specs.Once.{Stores, IsOnce}
+use Rattle.bac_world.specs.World.{World, Event, WorldRun, IsFresh, IsBounded, stores_of}
+use Rattle.bac_simulation.specs.Views.{AreLinks}
+use Rattle.bac_network.specs.Networks.{world_of}
+use Rattle.bac_network.specs.declared.network.Network.{Network}
+
+-- how many later copies may overtake one, the stores that the nodes had at first, and the world as it now is
+pub record WorldView : Type 0 where
+  pub overtake : ℕ
+  pub opening : List Store
+  pub world : World
+
+abbrev pub view_of : (overtake : ℕ) → List Store → Network → WorldView
+view_of overtake opening n = record { overtake = overtake; opening = opening; world = world_of n }
+
+-- the stores that the nodes had at first
+abbrev pub opening_stores : WorldView → Stores
+opening_stores w i = slice_get w.opening i
+
+-- the log is right with the stores: every accepted ask was performed at most once
+abbrev pub IsOnceNow : WorldView → Type 0
+IsOnceNow w = IsOnce (opening_stores w) w.world.log (stores_of w.world.nodes)
+
+-- a run of a fresh world with those stores, whose windows are at most W, led to it
+pub record HasRun (W : ℕ) (w : WorldView) : Type 0 where
+  pub first : World
+  pub events : List Event
+  pub fresh : IsFresh first
+  pub bounded : IsBounded W w.overtake first
+  pub opening : (i : ℕ) → stores_of first.nodes i ≡ opening_stores w i
+  pub run : WorldRun w.overtake first events w.world
+
+-- some such run did
+abbrev pub HasHistory : WorldView → Type 0
+HasHistory w = (W : ℕ) × HasRun W w
+
+-- what is kept of it: the greatest window, and the nodes' links
+pub record IsKept (window : ℕ) (links : List Octets) (w : WorldView) : Type 0 where
+  pub history : HasRun window w
+  pub linked : AreLinks history.first.nodes links

@@ -1,0 +1,10 @@
+pub mod Faults
+pub mod Views
+pub mod Networks
+pub mod Goings
+pub mod Entries
+pub mod Asks
+pub mod Steps
+pub mod Histories
+pub mod Fresh
+pub mod Runs

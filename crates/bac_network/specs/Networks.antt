@@ -1,0 +1,38 @@
+-- A network in code as a world of bac_world.
+use Rattle.std.specs.Prelude.{◌≡◌, ◌+◌, ◌≤◌, ℕ, List, Some, length, slice_get, vec_capacity}
+use Rattle.bac_protocol.specs.Service.{Octets}
+use Rattle.bac_world.specs.Node.{Node}
+use Rattle.bac_world.specs.Once.{Fact}
+use Rattle.bac_world.specs.World.{World}
+use Rattle.bac_simulation.specs.Entering.{CanGoOn}
+use Rattle.bac_simulation.specs.Journals.{JournalView}
+use Rattle.bac_simulation.specs.Views.{AreLinks}
+use Rattle.bac_network.specs.Views.{log_view}
+use Rattle.bac_network.specs.declared.network.Network.{Network}
+
+-- nodes, what a journal keeps beside them, and a log
+abbrev pub world_with : List Node → JournalView → List Fact → World
+world_with nodes j log = record { nodes = nodes; now = j.moment; copies = j.copies; log = log; notes = j.notes }
+
+abbrev pub world_of : Network → World
+world_of n = world_with n.nodes.items n.journal (log_view n.log.items)
+
+-- what comes of a node's call can enter it; the journal has the nodes' links, and no two nodes have one
+pub record IsReady (window overtake : ℕ) (n : Network) : Type 0 where
+  pub can : CanGoOn window overtake (world_of n)
+  pub linked : AreLinks n.nodes.items n.journal.links
+  pub apart : (i j : ℕ) (l : Octets) → slice_get n.journal.links i ≡ Some l → slice_get n.journal.links j ≡ Some l → i ≡ j
+
+-- both are one, but for their room
+pub record AreAlike (old new : Network) : Type 0 where
+  pub nodes : new.nodes ≡ old.nodes
+  pub links : new.journal.links ≡ old.journal.links
+  pub moment : new.journal.moment ≡ old.journal.moment
+  pub copies : new.journal.copies ≡ old.journal.copies
+  pub notes : new.journal.notes ≡ old.journal.notes
+  pub log : new.log.items ≡ old.log.items
+
+-- there is room for so many facts and copies
+pub record HasRoom (facts copies : ℕ) (n : Network) : Type 0 where
+  pub log : length n.log.items + facts ≤ vec_capacity n.log
+  pub journal : copies ≤ n.journal.room

@@ -1,0 +1,90 @@
+-- Whether an event happens, and why not.
+use Rattle.std.specs.Prelude.{◌≡◌, ◌⊎◌, ◌<◌, ◌+◌, ◌-◌, ◌^◌, ℕ, true, Option, Some, None, Result, Ok, Err, slice_get}
+use Rattle.bac_protocol.specs.Sizes.{RequestFault}
+use Rattle.bac_ends.specs.Ends.{AskRefusal, CannotGo}
+use Rattle.bac_requester.specs.declared.ask_fault.AskFault.{AskFault}
+use Rattle.bac_requester.specs.declared.ask_fault.AskFault.TheVariants as ask_fault
+use Rattle.bac_world.specs.Node.{Refusal}
+use Rattle.bac_world.specs.World.{World, Copy, Event, WorldStep, IsAsked, IsRefused, is_deliverable}
+use Rattle.bac_world.specs.World.Event.{Ask, Deliver, Noise, Tick, Advance}
+use Rattle.bac_network.specs.declared.fault.WorldFault.{WorldFault}
+use Rattle.bac_network.specs.declared.fault.WorldFault.TheVariants as fault
+
+-- the event names a node that there is not
+abbrev pub NamesNoNode : World → Event → Type 0
+NamesNoNode w (Ask client server limits r) = (slice_get w.nodes client ≡ None) ⊎ (slice_get w.nodes server ≡ None)
+NamesNoNode w (Deliver number) = ⊥
+NamesNoNode w (Noise node from octets) = slice_get w.nodes node ≡ None
+NamesNoNode w (Tick node) = slice_get w.nodes node ≡ None
+NamesNoNode w (Advance by) = ⊥
+
+-- it names a copy that there is not
+abbrev pub NamesNoCopy : World → Event → Type 0
+NamesNoCopy w (Deliver number) = slice_get w.copies number ≡ None
+NamesNoCopy w (Ask client server limits r) = ⊥
+NamesNoCopy w (Noise node from octets) = ⊥
+NamesNoCopy w (Tick node) = ⊥
+NamesNoCopy w (Advance by) = ⊥
+
+-- the moment would pass 64 bits
+abbrev pub PassesClock : World → Event → Type 0
+PassesClock w (Advance by) = 2 ^ 64 - 1 < w.now + by
+PassesClock w (Ask client server limits r) = ⊥
+PassesClock w (Deliver number) = ⊥
+PassesClock w (Noise node from octets) = ⊥
+PassesClock w (Tick node) = ⊥
+
+-- it takes memory: an ask, a tick, and a copy that is deliverable
+abbrev pub TakesMemory : (overtake : ℕ) → World → Event → Type 0
+TakesMemory overtake w (Ask client server limits r) = Unit {0}
+TakesMemory overtake w (Deliver number) = (c : Copy) × (slice_get w.copies number ≡ Some c) × (is_deliverable overtake w.now number w.copies c ≡ true)
+TakesMemory overtake w (Noise node from octets) = ⊥
+TakesMemory overtake w (Tick node) = Unit {0}
+TakesMemory overtake w (Advance by) = ⊥
+
+-- a fault says why an event does not happen; memory is refused where nothing else speaks against it
+abbrev pub IsFault : WorldFault → (overtake : ℕ) → World → Event → Type 0
+IsFault fault.NoSuchNode overtake w e = NamesNoNode w e
+IsFault fault.NoSuchDatagram overtake w e = NamesNoCopy w e
+IsFault fault.ClockEnd overtake w e = PassesClock w e
+IsFault fault.NoMemory overtake w e = TakesMemory overtake w e × (NamesNoNode w e → ⊥)
+
+-- an event happens, or a fault says why not, and nothing changes
+abbrev pub Happens : {A : Type 0} → (overtake : ℕ) → World → Event → Result A WorldFault → World → Type 0
+Happens overtake old e (Ok x) new = WorldStep overtake old e new × (PassesClock old e → ⊥)
+Happens overtake old e (Err f) new = IsFault f overtake old e × (new ≡ old)
+
+-- Asks.
+
+-- why an ask was refused
+abbrev pub refusal_of : AskFault → Option Refusal
+refusal_of ask_fault.ClockBack = None
+refusal_of ask_fault.SelfPeer = Some Refusal.SelfPeer
+refusal_of ask_fault.TooLong = Some (Refusal.CannotAsk (CannotGo RequestFault.TooLong))
+refusal_of ask_fault.NeedsSegments = Some (Refusal.CannotAsk (CannotGo RequestFault.NeedsSegments))
+refusal_of ask_fault.NoInvokeId = Some (Refusal.CannotAsk AskRefusal.NoInvokeId)
+refusal_of ask_fault.NoSlot = Some (Refusal.CannotAsk AskRefusal.NoSlot)
+refusal_of ask_fault.NoMemory = None
+
+-- the fault of a refused ask is told, and no other event tells one
+abbrev pub Tells : Option AskFault → World → Event → World → Type 0
+Tells None old (Ask client server limits r) new = IsAsked old client server limits r new
+Tells (Some f) old (Ask client server limits r) new = (h : IsRefused old client server limits r new) × (refusal_of f ≡ Some h.refusal)
+Tells None old (Deliver number) new = Unit {0}
+Tells None old (Noise node from octets) new = Unit {0}
+Tells None old (Tick node) new = Unit {0}
+Tells None old (Advance by) new = Unit {0}
+Tells (Some f) old (Deliver number) new = ⊥
+Tells (Some f) old (Noise node from octets) new = ⊥
+Tells (Some f) old (Tick node) new = ⊥
+Tells (Some f) old (Advance by) new = ⊥
+
+-- it happens, and tells that
+abbrev pub HappensTelling : (overtake : ℕ) → World → Event → Result (Option AskFault) WorldFault → World → Type 0
+HappensTelling overtake old e (Ok told) new = WorldStep overtake old e new × Tells told old e new × (PassesClock old e → ⊥)
+HappensTelling overtake old e (Err f) new = IsFault f overtake old e × (new ≡ old)
+
+-- where nothing is told
+abbrev pub Untells : {A : Type 0} → Result A WorldFault → Result (Option AskFault) WorldFault → Type 0
+Untells (Ok x) r = r ≡ Ok None
+Untells (Err f) r = r ≡ Err f

@@ -1,0 +1,89 @@
+//! Why an event could not happen, and why a world was not made.
+ghost use Rattle.std.specs.Prelude.{◌≡◌};
+ghost use Rattle.bac_network.specs.Faults.{fault_number, new_fault_number};
+ghost use Rattle.bac_network.specs.declared.fault.NewWorldFault.TheVariants as new_fault;
+ghost use Rattle.bac_network.specs.declared.fault.WorldFault.TheVariants as fault;
+
+use bac_value::NoMemory;
+
+/// Why an event did not happen: the world is as before.
+#[derive(Clone, Copy, Debug, PartialEq, Eq)]
+pub enum WorldFault {
+    /// The event names a node that there is not.
+    NoSuchNode,
+    /// The event names a copy that there is not.
+    NoSuchDatagram,
+    /// The moment would pass 64 bits.
+    ClockEnd,
+    /// Memory was refused.
+    NoMemory,
+}
+
+impl WorldFault {
+    /// The number of the fault (own numbers of this profile): 1 `NoSuchNode`, 2 `NoSuchDatagram`, 3 `ClockEnd`, 4 `NoMemory`.
+    pub fn number(self) -> u8
+        ensures { result ≡ fault_number self }
+    {
+        match self {
+            WorldFault::NoSuchNode => 1,
+            WorldFault::NoSuchDatagram => 2,
+            WorldFault::ClockEnd => 3,
+            WorldFault::NoMemory => 4,
+        }
+    }
+}
+
+impl From<NoMemory> for WorldFault {
+    ghost from_gives = { λ _ e. e ≡ fault.NoMemory };
+
+    fn from(_error: NoMemory) -> WorldFault {
+        WorldFault::NoMemory
+    }
+}
+
+/// Why a world was not made: the first of these that holds.
+#[derive(Clone, Copy, Debug, PartialEq, Eq)]
+pub enum NewWorldFault {
+    /// Two nodes have one link.
+    SameLink,
+    /// A number of slots is not 1 to 1,024.
+    BadSlots,
+    /// A window is not 1 to 64.
+    BadWindow,
+    /// The overtaking limit and twice the greatest window are more than 255 together.
+    BadBound,
+    /// Memory was refused.
+    NoMemory,
+}
+
+impl NewWorldFault {
+    /// The number of the fault (own numbers of this profile): 4 `NoMemory`, 5 `SameLink`, 6 `BadSlots`, 7 `BadWindow`, 8 `BadBound`.
+    pub fn number(self) -> u8
+        ensures { result ≡ new_fault_number self }
+    {
+        match self {
+            NewWorldFault::SameLink => 5,
+            NewWorldFault::BadSlots => 6,
+            NewWorldFault::BadWindow => 7,
+            NewWorldFault::BadBound => 8,
+            NewWorldFault::NoMemory => 4,
+        }
+    }
+}
+
+impl From<NoMemory> for NewWorldFault {
+    ghost from_gives = { λ _ e. e ≡ new_fault.NoMemory };
+
+    fn from(_error: NoMemory) -> NewWorldFault {
+        NewWorldFault::NoMemory
+    }
+}
+
+/// Where a run stopped: the events before that place happened, and the one there did not.
+#[derive(Clone, Copy, Debug, PartialEq, Eq)]
+pub struct RunFault {
+    /// The place of the event in the list, from 0.
+    pub place: usize,
+    /// Why it did not happen.
+    pub fault: WorldFault,
+}

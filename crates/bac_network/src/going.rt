@@ -1,0 +1,99 @@
+//! A node's call among the nodes: it goes on, and all others stay.
+ghost use Rattle.std.specs.Prelude.{◌≡◌, ◌<◌, ◌≤◌, IfOk, IfErr, OnErr, IsErrOf, length, map, slice_get, Some};
+ghost use Rattle.bac_apdu.specs.Views.{limits_view};
+ghost use Rattle.bac_npdu.specs.Views.{peer_view};
+ghost use Rattle.bac_service.specs.Views.{owned_request_view};
+ghost use Rattle.bac_node.specs.Calls.{Refuses, IsAsked, ticked};
+ghost use Rattle.bac_node.specs.Views.{outcome_view};
+ghost use Rattle.bac_world.specs.Laws.{IsMeaningless};
+ghost use Rattle.bac_world.specs.Node.{NodeOn, NodeTick};
+ghost use Rattle.bac_world.specs.World.{Copy};
+ghost use Rattle.bac_network.specs.Goings.{ArePunctual, Goes, IsBetween, IsHeardCopy};
+
+use bac_apdu::Limits;
+use bac_node::{Node, NodeFault, Outcome};
+use bac_npdu::Peer;
+use bac_requester::{AskFault, Asked};
+use bac_service::OwnedRequest;
+use bac_simulation::Journal;
+use bac_value::NoMemory;
+
+/// A node hears a datagram from a link, at a moment that is not before its latest.
+pub(crate) fn hear(
+    nodes: &mut [Node],
+    i: usize,
+    now: u64,
+    from: [u8; 6],
+    octets: &[u8],
+) -> Result<Outcome, NoMemory>
+    requires there { i < length nodes.old }
+    requires punctual { ArePunctual nodes.old now }
+    ensures went { IfOk result (λ o. Goes nodes.old i (λ a b. NodeOn now from octets.now a b (outcome_view o)) nodes.new) }
+    ensures meant { IsMeaningless from octets.now → OnErr result ⊥ }
+    ensures err { OnErr result (nodes.new ≡ nodes.old) }
+{
+    let node = &mut nodes[i];
+    match node.on(now, from, octets) {
+        Ok(outcome) => Ok(outcome),
+        Err(NodeFault::NoMemory) => Err(NoMemory),
+        Err(NodeFault::ClockBack) => unreachable!(),
+    }
+}
+
+/// A copy comes to its node; its number among the nodes, and what came of it.
+pub(crate) fn hear_copy(
+    nodes: &mut [Node],
+    journal: &Journal,
+    number: usize,
+) -> Result<(usize, Outcome), NoMemory>
+    requires there { (c : Copy) × (slice_get journal.now.copies number ≡ Some c) × IsBetween nodes.old c }
+    requires punctual { ArePunctual nodes.old journal.now.moment }
+    ensures heard { IfOk result (λ r. IsHeardCopy nodes.old journal.now.moment journal.now.copies number r.0 (outcome_view r.1) nodes.new) }
+    ensures err { OnErr result (nodes.new ≡ nodes.old) }
+{
+    let copy = &journal.copies()[number];
+    let from = nodes[copy.from].link();
+    let outcome = hear(nodes, copy.to, journal.now(), from, &copy.octets)?;
+    Ok((copy.to, outcome))
+}
+
+/// What comes of a node's tick at a moment that is not before its latest. Nothing changes.
+pub(crate) fn due(node: &Node, now: u64) -> Result<Outcome, NoMemory>
+    requires { node.now.latest ≤ now }
+    ensures { IfOk result (λ o. NodeTick now node.now (ticked now node.now) (outcome_view o)) }
+{
+    match node.prepare_tick(now) {
+        Ok(outcome) => Ok(outcome),
+        Err(NodeFault::NoMemory) => Err(NoMemory),
+        Err(NodeFault::ClockBack) => unreachable!(),
+    }
+}
+
+/// A node ticks. It takes no memory.
+pub(crate) fn commit(nodes: &mut [Node], i: usize, now: u64)
+    requires { i < length nodes.old }
+    ensures { Goes nodes.old i (λ a b. b ≡ ticked now a) nodes.new }
+{
+    let node = &mut nodes[i];
+    node.commit_tick(now);
+}
+
+/// A node asks a peer.
+pub(crate) fn ask(
+    nodes: &mut [Node],
+    i: usize,
+    now: u64,
+    peer: &Peer,
+    limits: &Limits,
+    request: &OwnedRequest,
+) -> Result<Asked, AskFault>
+    requires { i < length nodes.old }
+    ensures asked { IfOk result (λ x. Goes nodes.old i
+        (λ a b. IsAsked now (peer_view peer.now) (limits_view limits.now) (owned_request_view request.now) a b x) nodes.new) }
+    ensures refused { IfErr result (λ e. Goes nodes.old i
+        (λ a b. Refuses e now (peer_view peer.now) (limits_view limits.now) (owned_request_view request.now) a) nodes.new) }
+    ensures err { OnErr result (nodes.new ≡ nodes.old) }
+{
+    let node = &mut nodes[i];
+    node.ask(now, peer, limits, request)
+}

@@ -1,0 +1,218 @@
+//! Worlds to which nothing has happened.
+ghost use Rattle.std.specs.Prelude.{◌≡◌, ◌↔◌, ◌<◌, ◌+◌, ◌*◌, ◌≤◌, IfErr, IfOk, IfSome, IsTrue, None, OnOk, length};
+ghost use Rattle.bac_node.specs.Fresh.{fresh_node, has_slots, window_fits};
+ghost use Rattle.bac_simulation.specs.Entering.{Every};
+ghost use Rattle.bac_network.specs.Fresh.{fresh_world, greatest_window, links_of, nodes_of, opening_of};
+ghost use Rattle.bac_network.specs.Fresh.{HasBadSlots, HasBadWindow, HaveSameLink, IsGood, IsRefusedFor, IsRight, IsTaken};
+
+use crate::fault::NewWorldFault;
+use crate::network::Network;
+use crate::world::World;
+use bac_node::{Config, NewNodeFault, Node};
+use bac_simulation::Journal;
+use bac_store::Store;
+use bac_value::NoMemory;
+use std::alloc::Global;
+
+/// Whether a node is to have that link.
+fn is_linked(maker: &(Config, Store), link: [u8; 6]) -> bool
+    ensures { IsTrue result ↔ ((maker.now.0).link ≡ link) }
+{
+    maker.0.link == link
+}
+
+/// Whether one of the nodes before a place is to have that link.
+fn is_taken(makers: &[(Config, Store)], place: usize, link: [u8; 6]) -> bool
+    requires { place ≤ length makers.now }
+    ensures { IsTrue result ↔ IsTaken makers.now place link }
+{
+    for i in 0..place {
+        if is_linked(&makers[i], link) {
+            return true;
+        }
+    }
+    false
+}
+
+/// Whether two of the nodes are to have one link.
+fn have_same_link(makers: &[(Config, Store)]) -> bool
+    ensures { IsTrue result ↔ HaveSameLink makers.now }
+{
+    for i in 0..makers.len() {
+        if is_taken(makers, i, makers[i].0.link) {
+            return true;
+        }
+    }
+    false
+}
+
+/// Whether both tables of a node may have so many slots.
+fn has_slots(config: &Config) -> bool
+    ensures { result ≡ has_slots config.now }
+{
+    (1..=1_024).contains(&config.client_slots) && (1..=1_024).contains(&config.reply_slots)
+}
+
+/// Whether a node's window may be that.
+fn window_fits(config: &Config) -> bool
+    ensures { result ≡ window_fits config.now.window }
+{
+    config.window >= 1 && config.window <= 64
+}
+
+/// Whether a number of slots of one of the nodes is not 1 to 1,024.
+fn has_bad_slots(makers: &[(Config, Store)]) -> bool
+    ensures { IsTrue result ↔ HasBadSlots makers.now }
+{
+    for maker in makers {
+        if !has_slots(&maker.0) {
+            return true;
+        }
+    }
+    false
+}
+
+/// Whether a window is not 1 to 64.
+fn has_bad_window(makers: &[(Config, Store)]) -> bool
+    ensures { IsTrue result ↔ HasBadWindow makers.now }
+{
+    for maker in makers {
+        if !window_fits(&maker.0) {
+            return true;
+        }
+    }
+    false
+}
+
+/// The greatest of the windows, and 1 where there are no nodes.
+fn greatest_window(makers: &[(Config, Store)]) -> u8
+    ensures { result ≡ greatest_window makers.now }
+{
+    let mut greatest = 1;
+    for maker in makers {
+        greatest = greatest.max(maker.0.window);
+    }
+    greatest
+}
+
+/// The overtaking limit, or the first reason why a world is not made of these nodes.
+fn checked(makers: &[(Config, Store)], overtake: u64) -> Result<u8, NewWorldFault>
+    ensures same { IfOk result (λ limit. limit ≡ overtake) }
+    ensures right { OnOk result (IsRight overtake makers.now) }
+    ensures refused { IfErr result (λ e. IsRefusedFor e overtake makers.now) }
+{
+    if have_same_link(makers) {
+        return Err(NewWorldFault::SameLink);
+    }
+    if has_bad_slots(makers) {
+        return Err(NewWorldFault::BadSlots);
+    }
+    if has_bad_window(makers) {
+        return Err(NewWorldFault::BadWindow);
+    }
+    match limit(overtake, greatest_window(makers)) {
+        Some(limit) => Ok(limit),
+        None => Err(NewWorldFault::BadBound),
+    }
+}
+
+/// The overtaking limit, where it and twice the window are at most 255 together.
+fn limit(overtake: u64, window: u8) -> Option<u8>
+    ensures some { IfSome result (λ limit. (limit ≡ overtake) × (overtake + 2 * window ≤ 255)) }
+    ensures none { result ≡ None → 255 < overtake + 2 * window }
+{
+    let room = 255_u64.checked_sub(u64::from(window) * 2)?;
+    if overtake > room {
+        return None;
+    }
+    Some(overtake as u8)
+}
+
+/// A node that may have so many slots and that window.
+fn node_made(alloc: Global, config: Config, store: Store) -> Result<Node, NoMemory>
+    requires { IsGood (config, store) }
+    ensures { IfOk result (λ n. n ≡ fresh_node config store) }
+{
+    match Node::new(alloc, config, store) {
+        Ok(node) => Ok(node),
+        Err(NewNodeFault::NoMemory) => Err(NoMemory),
+        Err(NewNodeFault::BadSlots) => unreachable!(),
+        Err(NewNodeFault::BadWindow) => unreachable!(),
+    }
+}
+
+/// The nodes.
+fn nodes_made(alloc: Global, makers: Vec<(Config, Store)>) -> Result<Vec<Node>, NoMemory>
+    requires { Every IsGood makers.items }
+    ensures { IfOk result (λ nodes. nodes.items ≡ nodes_of makers.items) }
+{
+    let mut nodes = Vec::with_capacity(alloc, makers.len())?;
+    for (config, store) in makers {
+        nodes.push(node_made(alloc, config, store)?)?;
+    }
+    Ok(nodes)
+}
+
+/// The nodes' links.
+fn links_of(alloc: Global, makers: &[(Config, Store)]) -> Result<Vec<[u8; 6]>, NoMemory>
+    ensures { IfOk result (λ links. links.items ≡ links_of makers.now) }
+{
+    let mut links = Vec::with_capacity(alloc, makers.len())?;
+    for maker in makers {
+        links.push(maker.0.link)?;
+    }
+    Ok(links)
+}
+
+/// Copies of the nodes' stores.
+fn stores_of(alloc: Global, makers: &[(Config, Store)]) -> Result<Vec<Store>, NoMemory>
+    ensures { IfOk result (λ stores. stores.items ≡ opening_of makers.now) }
+{
+    let mut stores = Vec::with_capacity(alloc, makers.len())?;
+    for maker in makers {
+        stores.push(maker.1.copy(alloc)?)?;
+    }
+    Ok(stores)
+}
+
+impl World {
+    /// A world to which nothing has happened: nodes with these configurations and stores, at moment 0. A copy is deliverable while at most `overtake` later
+    /// copies of its transaction were sent. The opening stores are copies.
+    ///
+    /// It is refused for the first of these that holds: `SameLink`, two nodes have one link; `BadSlots`, a number of slots is not 1 to 1,024; `BadWindow`, a
+    /// window is not 1 to 64; `BadBound`, `overtake` and twice the greatest window are more than 255 together; `NoMemory` comes last.
+    pub fn new(
+        alloc: Global,
+        nodes: Vec<(Config, Store)>,
+        overtake: u64,
+    ) -> Result<World, NewWorldFault>
+        ensures made { IfOk result (λ w. w ≡ fresh_world overtake nodes.items) }
+        ensures right { OnOk result (IsRight overtake nodes.items) }
+        ensures refused { IfErr result (λ e. IsRefusedFor e overtake nodes.items) }
+    {
+        let limit = checked(&nodes, overtake)?;
+        Ok(World::fresh(alloc, nodes, limit)?)
+    }
+
+    /// A world of nodes that are right.
+    fn fresh(alloc: Global, makers: Vec<(Config, Store)>, overtake: u8) -> Result<World, NoMemory>
+        requires { IsRight overtake makers.items }
+        ensures { IfOk result (λ w. w ≡ fresh_world overtake makers.items) }
+    {
+        let window = greatest_window(&makers);
+        let opening = stores_of(alloc, &makers)?;
+        let journal = Journal::new(alloc, links_of(alloc, &makers)?)?;
+        let nodes = nodes_made(alloc, makers)?;
+        Ok(World {
+            alloc,
+            overtake,
+            window,
+            opening,
+            network: Network {
+                nodes,
+                journal,
+                log: Vec::new(alloc),
+            },
+        })
+    }
+}

@@ -1,0 +1,67 @@
+//! Nodes, and what is kept beside them.
+ghost use Rattle.std.specs.Prelude.{◌≡◌, OnOk};
+ghost use Rattle.bac_network.specs.Networks.{world_of, AreAlike, HasRoom, IsReady};
+ghost use Rattle.bac_network.specs.Steps.{HappensTelling, Untells};
+ghost use Rattle.bac_network.specs.Views.{event_view};
+
+use crate::event::Event;
+use crate::fact::Fact;
+use crate::fault::WorldFault;
+use bac_node::Node;
+use bac_requester::AskFault;
+use bac_simulation::Journal;
+use bac_value::NoMemory;
+use std::alloc::Global;
+
+/// Nodes, what is kept of the network between them, and the log, oldest first.
+#[derive(Drop)]
+pub(crate) struct Network {
+    pub nodes: Vec<Node>,
+    pub journal: Journal,
+    pub log: Vec<Fact>,
+}
+
+impl Network {
+    /// Makes room for so many more facts and copies. Nothing else changes, after an Err neither.
+    pub(crate) fn make_room(&mut self, facts: usize, copies: usize) -> Result<(), NoMemory>
+        ensures ok { OnOk result (HasRoom facts copies self.new) }
+        ensures same { AreAlike self.old self.new }
+    {
+        self.log.reserve(facts)?;
+        self.journal.reserve(copies)
+    }
+
+    /// An event happens, or a fault says why not, and nothing changes. The fault of a refused ask is told.
+    pub(crate) fn step(
+        &mut self,
+        alloc: Global,
+        overtake: u8,
+        window: u8,
+        event: &Event,
+    ) -> Result<Option<AskFault>, WorldFault>
+        requires { IsReady window overtake self.old }
+        ensures happens { HappensTelling overtake (world_of self.old) (event_view event.now) result (world_of self.new) }
+        ensures links { self.new.journal.links ≡ self.old.journal.links }
+    {
+        match event {
+            Event::Ask {
+                client,
+                server,
+                limits,
+                request,
+            } => self.ask(alloc, window, *client, *server, limits, request),
+            Event::Deliver { number } => untold(self.deliver(overtake, window, *number)),
+            Event::Noise { node, from, octets } => untold(self.hear_noise(*node, *from, octets)),
+            Event::Tick { node } => untold(self.tick(*node)),
+            Event::Advance { by } => untold(self.advance(*by)),
+        }
+    }
+}
+
+/// No ask was refused.
+fn untold(done: Result<(), WorldFault>) -> Result<Option<AskFault>, WorldFault>
+    ensures { Untells done result }
+{
+    done?;
+    Ok(None)
+}

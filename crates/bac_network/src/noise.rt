@@ -1,0 +1,48 @@
+//! Octets that no node sent.
+ghost use Rattle.std.specs.Prelude.{◌≡◌, ◌<◌, ℕ, length};
+ghost use Rattle.bac_world.specs.World.{HearsNoise, IsNoise};
+ghost use Rattle.bac_world.specs.World.Event.{Noise};
+ghost use Rattle.bac_simulation.specs.Views.{AreLinks};
+ghost use Rattle.bac_network.specs.Goings.{ArePunctual};
+ghost use Rattle.bac_network.specs.Networks.{world_of};
+ghost use Rattle.bac_network.specs.Steps.{Happens};
+
+use crate::fault::WorldFault;
+use crate::going::hear;
+use crate::network::Network;
+
+impl Network {
+    /// Octets that mean no APDU of a peer come to a node from a link of no node; others are lost. It takes no memory.
+    pub(crate) fn hear_noise(
+        &mut self,
+        node: usize,
+        from: [u8; 6],
+        octets: &[u8],
+    ) -> Result<(), WorldFault>
+        requires punctual { ArePunctual self.old.nodes.items self.old.journal.moment }
+        requires linked { AreLinks self.old.nodes.items self.old.journal.links }
+        ensures happens { (overtake : ℕ) → Happens overtake (world_of self.old) (Noise node from octets.now) result (world_of self.new) }
+        ensures links { self.new.journal.links ≡ self.old.journal.links }
+    {
+        if node >= self.nodes.len() {
+            return Err(WorldFault::NoSuchNode);
+        }
+        if self.journal.is_noise(from, octets) {
+            self.drop_noise(node, from, octets);
+        }
+        Ok(())
+    }
+
+    /// A node drops what means nothing.
+    fn drop_noise(&mut self, node: usize, from: [u8; 6], octets: &[u8])
+        requires punctual { ArePunctual self.old.nodes.items self.old.journal.moment }
+        requires there { node < length self.old.nodes.items }
+        requires noise { IsNoise self.old.nodes.items from octets.now }
+        ensures heard { HearsNoise (world_of self.old) node from octets.now (world_of self.new) }
+        ensures links { self.new.journal.links ≡ self.old.journal.links }
+    {
+        let Ok(_outcome) = hear(&mut self.nodes, node, self.journal.now(), from, octets) else {
+            unreachable!()
+        };
+    }
+}

@@ -1,0 +1,150 @@
+//! A world.
+ghost use Rattle.std.specs.Prelude.{◌≡◌, ◌↔◌, ℕ, IsErrOf, IfErr, IfOk, OnErr, OnOk, MatchOption, MatchResult, None, Some, length, map, slice_get, take};
+ghost use Rattle.bac_world.specs.World.{WorldRun, WorldStep, stores_of};
+ghost use Rattle.bac_simulation.specs.Notes.{notes_view};
+ghost use Rattle.bac_simulation.specs.Views.{copy_view};
+ghost use Rattle.bac_network.specs.Histories.{HasHistory, IsOnceNow};
+ghost use Rattle.bac_network.specs.Steps.{NamesNoCopy, NamesNoNode, PassesClock, TakesMemory, Tells};
+ghost use Rattle.bac_network.specs.Runs.{StopsAt};
+ghost use Rattle.bac_network.specs.Views.{event_view, log_view};
+
+use crate::event::Event;
+use crate::fact::Fact;
+use crate::fault::{RunFault, WorldFault};
+use crate::network::Network;
+use bac_node::Node;
+use bac_requester::AskFault;
+use bac_simulation::{Copy, Note};
+use bac_store::Store;
+use std::alloc::Global;
+use std::marker::Model;
+
+/// Nodes in one simulated network, with a clock, the copies of the datagrams that they sent, and a log of what was asked, performed and answered.
+///
+/// However events follow each other, the log is right with the stores: every accepted ask takes effect at most once, and exactly once where a service answer
+/// reached its client; the request performed and the answer are its own, whole; and each store is the opening one after the performed requests in their order.
+#[derive(Drop)]
+pub struct World {
+    pub(crate) alloc: Global,
+    pub(crate) overtake: u8,
+    pub(crate) window: u8,
+    pub(crate) opening: Vec<Store>,
+    pub(crate) network: Network,
+}
+
+impl Model for World {
+    ghost use Rattle.bac_network.specs.Histories.{WorldView, IsKept, view_of};
+
+    ghost Value = { WorldView };
+
+    ghost view = { λ w. view_of w.overtake w.opening.items w.network };
+
+    ghost invariant = { λ w. IsKept w.window w.network.journal.links (view_of w.overtake w.opening.items w.network) };
+}
+
+impl World {
+    /// How many later copies of its transaction may overtake a copy that is delivered.
+    pub fn overtake(&self) -> u8
+        ensures { result ≡ self.now.overtake }
+    {
+        self.overtake
+    }
+
+    /// The nodes; they are numbered from 0.
+    pub fn nodes(&self) -> &[Node]
+        ensures { result.now ≡ self.now.world.nodes }
+    {
+        &self.network.nodes
+    }
+
+    /// The store of a node; None where there is no such node.
+    pub fn store(&self, node: usize) -> Option<&Store>
+        ensures { MatchOption result (stores_of self.now.world.nodes node ≡ None) (λ s. stores_of self.now.world.nodes node ≡ Some s.now) }
+    {
+        match self.network.nodes.get(node) {
+            Some(node) => Some(node.store()),
+            None => None,
+        }
+    }
+
+    /// The stores that the nodes had at first, in the nodes' order. They never change.
+    pub fn opening(&self) -> &[Store]
+        ensures { result.now ≡ self.now.opening }
+    {
+        &self.opening
+    }
+
+    /// The moment, in milliseconds; 0 at first.
+    pub fn now(&self) -> u64
+        ensures { result ≡ self.now.world.now }
+    {
+        self.network.journal.now()
+    }
+
+    /// The log, oldest first; contracts see the newest fact first.
+    pub fn log(&self) -> &[Fact]
+        ensures { log_view result.now ≡ self.now.world.log }
+    {
+        &self.network.log
+    }
+
+    /// The copies of the datagrams that nodes sent, oldest first; they are numbered from 0.
+    pub fn copies(&self) -> &[Copy]
+        ensures { map copy_view result.now ≡ self.now.world.copies }
+    {
+        self.network.journal.copies()
+    }
+
+    /// What is noted of the accepted asks, which are numbered from 0 in this order; contracts see the newest first.
+    pub fn asks(&self) -> &[Note]
+        ensures { notes_view result.now ≡ self.now.world.notes }
+    {
+        self.network.journal.notes()
+    }
+
+    /// A run of a fresh world with the opening stores led to it, and its log is right with the stores: every accepted ask was performed at most once, as it
+    /// was asked, with the reply of its server's store as it then was; it ended at most once, and was answered with that reply alone; and stores were changed
+    /// by performed requests alone.
+    pub fn is_once(&self)
+        ensures history { HasHistory self.now }
+        ensures once { IsOnceNow self.now }
+    {
+        let _network = &self.network;
+    }
+
+    /// An event happens. The fault of a refused ask is told: a refused ask changes nothing.
+    ///
+    /// `NoSuchNode` exactly where the event names a node that there is not, `NoSuchDatagram` exactly where it names a copy that there is not, `ClockEnd` exactly
+    /// where the moment would pass 64 bits, and `NoMemory` after these, where memory was refused: never for octets of no node, for a copy that is not
+    /// deliverable, and for the clock. After an Err the world is as before.
+    pub fn step(&mut self, event: &Event) -> Result<Option<AskFault>, WorldFault>
+        ensures went { OnOk result (WorldStep self.old.overtake self.old.world (event_view event.now) self.new.world) }
+        ensures told { IfOk result (λ told. Tells told self.old.world (event_view event.now) self.new.world) }
+        ensures node { IsErrOf result WorldFault.NoSuchNode ↔ NamesNoNode self.old.world (event_view event.now) }
+        ensures datagram { IsErrOf result WorldFault.NoSuchDatagram ↔ NamesNoCopy self.old.world (event_view event.now) }
+        ensures clock { IsErrOf result WorldFault.ClockEnd ↔ PassesClock self.old.world (event_view event.now) }
+        ensures memory { IsErrOf result WorldFault.NoMemory → TakesMemory self.old.overtake self.old.world (event_view event.now) }
+        ensures err { OnErr result (self.new ≡ self.old) }
+        ensures settings { (self.new.overtake ≡ self.old.overtake) × (self.new.opening ≡ self.old.opening) }
+        ensures once { IsOnceNow self.new }
+    {
+        self.network
+            .step(self.alloc, self.overtake, self.window, event)
+    }
+
+    /// Events happen in their order, up to the first that meets a fault: the events before it stand.
+    pub fn run(&mut self, events: &[Event]) -> Result<(), RunFault>
+        ensures went { OnOk result (WorldRun self.old.overtake self.old.world (map event_view events.now) self.new.world) }
+        ensures stopped { IfErr result (λ f. StopsAt f self.old (map event_view events.now) self.new) }
+        ensures settings { (self.new.overtake ≡ self.old.overtake) × (self.new.opening ≡ self.old.opening) }
+        ensures once { IsOnceNow self.new }
+    {
+        for (place, event) in events.iter().enumerate() {
+            if let Err(fault) = self.step(event) {
+                return Err(RunFault { place, fault });
+            }
+        }
+        self.is_once();
+        Ok(())
+    }
+}

@@ -1,0 +1,86 @@
+-- What is reported, of what was done and of what was printed.
+use Rattle.std.proofs.Common.{◌≡◌, ℕ, Bool, List, Option, ◌&&◌, subst, sym, ap, ◌∙◌}
+use Rattle.std.specs.Io.KnownBytes.{Appends}
+use Rattle.bac_protocol.specs.Service.{Octets}
+use Rattle.bac_link.specs.Calls.{Calls}
+use Rattle.bac_world.specs.Node.{Node}
+use Rattle.bac_turns.specs.Turns.{on_link}
+use Rattle.bac_text.specs.Statuses.{IsFailure}
+use Rattle.bac_text.specs.declared.status.Status.{Status}
+use Rattle.bac_text.specs.declared.status.Status.TheVariants as status
+use Rattle.bac_run.specs.Asking.{AskingEnds, Question}
+use Rattle.bac_service.specs.Values.{Request}
+use Rattle.bac_run.specs.Pairs.{Pair, pair}
+use Rattle.bac_run.specs.Serving.{Serves}
+use Rattle.bac_run.specs.declared.question.AskEnd.{AskEnd}
+use Rattle.bac_online.specs.Houses.{house_node}
+use Rattle.bac_online.specs.Pairs.{PairText, ReportsPair, TwoTexts, append_request, read_request}
+use Rattle.bac_online.specs.Questions.{question_for}
+use Rattle.bac_online.specs.Reports.{AskedText, ReportsAsking, ReportsServing, ServedText, end_line, is_answered, served_line}
+
+pub served_text : (address : Octets) (turns f g effects : ℕ) (k l : Calls) (node new : Node) (old after : Option (List ℕ))
+    → node ≡ house_node address → Serves turns effects (on_link node f k) (on_link new g l) → Appends old after (served_line effects)
+    → ServedText address turns f g k l old after
+served_text address turns f g effects k l node new old after is serves printed =
+    record {
+      node = new;
+      effects = effects;
+      serves = subst (λ (n : Node). Serves turns effects (on_link n f k) (on_link new g l)) is serves;
+      printed = printed;
+    }
+
+pub asked_text : (answered : Bool) (address : Octets) (q : Question) (end : AskEnd) (f g : ℕ) (k l : Calls) (node new : Node) (old after : Option (List ℕ))
+    → node ≡ house_node address → AskingEnds q end 100000 (on_link node f k) (on_link new g l) → Appends old after (end_line end)
+    → answered ≡ is_answered end → AskedText answered address q f g k l old after
+asked_text answered address q end f g k l node new old after is ends printed told =
+    record {
+      node = new;
+      end = end;
+      ends = subst (λ (n : Node). AskingEnds q end 100000 (on_link n f k) (on_link new g l)) is ends;
+      printed = printed;
+      is = sym told;
+    }
+
+pub serving_failed : (s : Status) (address : Octets) (turns f g : ℕ) (k l : Calls) (old after : Option (List ℕ)) → IsFailure s
+    → ReportsServing s address turns f g k l old after
+serving_failed status.Done address turns f g k l old after failed = absurd failed
+serving_failed status.Faulty address turns f g k l old after failed = absurd failed
+serving_failed status.CommandLine address turns f g k l old after failed = absurd failed
+serving_failed status.Output address turns f g k l old after failed = tt
+serving_failed status.Memory address turns f g k l old after failed = tt
+
+pub asking_failed : (s : Status) (address : Octets) (q : Question) (f g : ℕ) (k l : Calls) (old after : Option (List ℕ)) → IsFailure s
+    → ReportsAsking s address q f g k l old after
+asking_failed status.Done address q f g k l old after failed = absurd failed
+asking_failed status.Faulty address q f g k l old after failed = absurd failed
+asking_failed status.CommandLine address q f g k l old after failed = absurd failed
+asking_failed status.Output address q f g k l old after failed = tt
+asking_failed status.Memory address q f g k l old after failed = tt
+
+pub pair_failed : (s : Status) (address other : Octets) (p : Pair) (old after : Option (List ℕ)) → IsFailure s → ReportsPair s address other p old after
+pair_failed status.Done address other p old after failed = absurd failed
+pair_failed status.Faulty address other p old after failed = absurd failed
+pair_failed status.CommandLine address other p old after failed = absurd failed
+pair_failed status.Output address other p old after failed = tt
+pair_failed status.Memory address other p old after failed = tt
+
+pub two_texts : (answered appended read : Bool) (address other : Octets) (node peer : Node) (f g : ℕ) (k l : Calls) (middle new : Pair)
+    (text between after : Option (List ℕ)) (p q : Question) (a b : Request)
+    → node ≡ house_node address → peer ≡ house_node other → p ≡ question_for other a → a ≡ append_request → q ≡ question_for other b → b ≡ read_request
+    → PairText appended p (pair (on_link node f k) (on_link peer g l)) middle text between → PairText read q middle new between after
+    → answered ≡ appended && read
+    → TwoTexts answered address other (pair (on_link (house_node address) f k) (on_link (house_node other) g l)) text after
+two_texts answered appended read address other node peer f g k l middle new text between after p q a b is is_peer is_p is_a is_q is_b first second both =
+    record {
+      appended = appended;
+      read = read;
+      middle = middle;
+      new = new;
+      between = between;
+      appends =
+          subst (λ (n : Node). PairText appended (question_for other append_request) (pair (on_link n f k) (on_link (house_node other) g l)) middle text between) is
+          (subst (λ (n : Node). PairText appended (question_for other append_request) (pair (on_link node f k) (on_link n g l)) middle text between) is_peer
+          (subst (λ (x : Question). PairText appended x (pair (on_link node f k) (on_link peer g l)) middle text between) (is_p ∙ ap (question_for other) is_a) first));
+      reads = subst (λ (x : Question). PairText read x middle new between after) (is_q ∙ ap (question_for other) is_b) second;
+      both = both;
+    }

@@ -1,0 +1,5 @@
+use Rattle.std.proofs.Common.{rules, sym}
+use Rattle.bac_online.proofs.pairing.ask_other.Goals as goal
+
+pub returns : goal.returns
+returns g c = record { end = c.in_ok-end.end; ends = c.in_ok-end.ensures.ended; printed = search rules; is = sym c.is_answered.ensures }

@@ -1,0 +1,4 @@
+pub mod Houses
+pub mod Questions
+pub mod Reports
+pub mod Pairs

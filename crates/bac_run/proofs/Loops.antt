@@ -1,0 +1,90 @@
+-- What a loop over turns keeps, and what follows where it ends.
+use Rattle.std.proofs.Common.{◌≡◌, ℕ, suc, ◌+◌, ◌<◌, Bool, true, false, ◌==◌, if◌then◌else◌, List, [], ◌∷◌, ◌++◌, Option, Some, None, refl, ap, sym, arith, add-one}
+use Rattle.std.specs.Option.{option_map}
+use Rattle.bac_ends.specs.Meanings.{Ending, Finish}
+use Rattle.bac_turns.specs.Turns.{OnLink, Turn}
+use Rattle.bac_run.specs.Serving.{Serves, ServesOnce, StopsServing}
+use Rattle.bac_run.specs.Asking.{EndsIn, NeverEnds, Stops, ending_in, ending_of}
+
+-- ---- serving
+
+pub none_served : (old : OnLink) → Serves 0 0 old old
+none_served old = record { taken = []; all = refl; run = refl; counted = refl }
+
+pub one_more_served : (turns effects more : ℕ) (old middle new : OnLink) → Serves turns effects old middle → ServesOnce more middle new
+    → Serves (turns + 1) (effects + more) old new
+one_more_served turns effects more old middle new before once =
+    record {
+      taken = once.turn ∷ before.taken;
+      all = rw (add-one turns) (ap suc before.all);
+      run = record { middle = middle; so_far = before.run; last = once.takes };
+      counted = let a = before.counted in let b = once.counted in omega arith;
+    }
+
+pub stops_serving : (turns all effects : ℕ) (fails : OnLink → OnLink → Type 0) (old middle new : OnLink) → turns < all → Serves turns effects old middle
+    → fails middle new → StopsServing all fails old new
+stops_serving turns all effects fails old middle new fewer before failed =
+    record { taken = before.taken; fewer = let is = before.all in omega arith; middle = middle; run = before.run; failed = failed }
+
+-- ---- waiting
+
+pub none_yet : {S T : Type 0} (step : S → T → S → Type 0) (turn_in : T → Turn) (ticket : ℕ) (old : S) → NeverEnds step turn_in 0 ticket old old
+none_yet step turn_in ticket old = record { taken = []; all = refl; stays = record { run = refl; none_ended = tt } }
+
+pub one_more_waited : {S T : Type 0} (step : S → T → S → Type 0) (turn_in : T → Turn) (turns ticket : ℕ) (given : T) (old middle new : S)
+    → NeverEnds step turn_in turns ticket old middle → step middle given new → ending_in ticket (turn_in given) ≡ None
+    → NeverEnds step turn_in (turns + 1) ticket old new
+one_more_waited step turn_in turns ticket given old middle new before goes none =
+    record {
+      taken = given ∷ before.taken;
+      all = rw (add-one turns) (ap suc before.all);
+      stays =
+          record {
+            run = record { middle = middle; so_far = before.stays.run; last = goes };
+            none_ended = (none, before.stays.none_ended);
+          };
+    }
+
+pub ends_now : {S T : Type 0} (step : S → T → S → Type 0) (turn_in : T → Turn) (turns all ticket : ℕ) (how : Ending) (given : T) (old middle new : S)
+    → turns < all → NeverEnds step turn_in turns ticket old middle → step middle given new → ending_in ticket (turn_in given) ≡ Some how
+    → EndsIn step turn_in all how ticket old new
+ends_now step turn_in turns all ticket how given old middle new fewer before goes ends =
+    record {
+      taken = before.taken;
+      fewer = let is = before.all in omega arith;
+      middle = middle;
+      stays = before.stays;
+      last = given;
+      steps = goes;
+      ended = ends;
+    }
+
+pub stops_waiting : {S T : Type 0} (step : S → T → S → Type 0) (turn_in : T → Turn) (turns all ticket : ℕ) (fails : S → S → Type 0) (old middle new : S)
+    → turns < all → NeverEnds step turn_in turns ticket old middle → fails middle new → Stops step turn_in all fails ticket old new
+stops_waiting step turn_in turns all ticket fails old middle new fewer before failed =
+    record { taken = before.taken; fewer = let is = before.all in omega arith; middle = middle; stays = before.stays; failed = failed }
+
+-- ---- endings
+
+pub none_told : {A B : Type 0} (f : A → B) (told : Option A) (is : Option B) → ((a : A) → told ≡ Some a → ⊥) → option_map f told ≡ is → is ≡ None
+none_told f None is never same = sym same
+none_told f (Some a) is never same = absurd (never a refl)
+
+-- among the first of some finishes
+pub ending_before : (ticket : ℕ) (xs ys : List Finish) (how : Ending) → Some how ≡ ending_of ticket xs → Some how ≡ ending_of ticket (xs ++ ys)
+ending_before ticket [] ys how is = absurd (cc)
+ending_before ticket (f ∷ xs) ys how is = go (f.ticket == ticket) (ending_before ticket xs ys how) is where
+  go : (same : Bool) → (Some how ≡ ending_of ticket xs → Some how ≡ ending_of ticket (xs ++ ys))
+      → Some how ≡ (if same then Some f.how else ending_of ticket xs) → Some how ≡ (if same then Some f.how else ending_of ticket (xs ++ ys))
+  go true rest is = is
+  go false rest is = rest is
+
+-- among those after them
+pub ending_after : (ticket : ℕ) (xs ys : List Finish) (how : Option Ending) → None ≡ ending_of ticket xs → how ≡ ending_of ticket ys
+    → how ≡ ending_of ticket (xs ++ ys)
+ending_after ticket [] ys how none is = is
+ending_after ticket (f ∷ xs) ys how none is = go (f.ticket == ticket) (λ none. ending_after ticket xs ys how none is) none where
+  go : (same : Bool) → (None ≡ ending_of ticket xs → how ≡ ending_of ticket (xs ++ ys))
+      → None ≡ (if same then Some f.how else ending_of ticket xs) → how ≡ (if same then Some f.how else ending_of ticket (xs ++ ys))
+  go true rest none = absurd (cc)
+  go false rest none = rest none

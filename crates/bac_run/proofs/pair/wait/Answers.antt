@@ -1,0 +1,16 @@
+use Rattle.std.proofs.Common.{◌∙◌, ap}
+use Rattle.bac_client.specs.Views.{ending_view}
+use Rattle.bac_run.specs.Asking.{ending_in}
+use Rattle.bac_run.specs.Pairs.{TakesRound, turn_of_first}
+use Rattle.bac_run.proofs.Loops.{none_told, one_more_waited}
+use Rattle.bac_run.proofs.pair.wait.Goals as goal
+
+pub loop-preserved : goal.loop-preserved
+loop-preserved g c =
+    let gave = c.in_ok-turn.ensures.taken in
+    record {
+      waited =
+          one_more_waited TakesRound turn_of_first c.loop.counter c.args.ticket gave.round _ _ _ c.loop.invariant.waited gave.takes
+          (none_told ending_view c.ending_in.result _ c.in_default.not-Some (c.ending_in.ensures ∙ ap (ending_in c.args.ticket) gave.is));
+      size = c.take_round.auto.buffer ∙ c.loop.invariant.size;
+    }

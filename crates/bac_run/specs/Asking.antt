@@ -1,0 +1,129 @@
+-- A node asks, and takes turns until its ticket has ended.
+use Rattle.std.specs.Prelude.{◌≡◌, ◌⊎◌, ◌<◌, ◌≤◌, ◌++◌, ◌==◌, ◌≢◌, ℕ, List, [], ◌∷◌, map, length, if◌then◌else◌, Option, Some, None}
+use Rattle.bac_npdu.specs.Peers.{PeerView}
+use Rattle.bac_apdu.specs.Apdu.{Limits}
+use Rattle.bac_service.specs.Values.{Request}
+use Rattle.bac_requester.specs.declared.ask_fault.AskFault.{AskFault}
+use Rattle.bac_requester.specs.declared.ask_fault.AskFault.TheVariants as ask_fault
+use Rattle.bac_ends.specs.Ends.{Accepted}
+use Rattle.bac_ends.specs.Meanings.{Ending, Finish}
+use Rattle.bac_ends.specs.Sends.{Datagram}
+use Rattle.bac_world.specs.Node.{Node, NodeAsks}
+use Rattle.bac_node.specs.Calls.{Refuses}
+use Rattle.bac_turns.specs.Turns.{OnLink, Turn, call_of, counted, with_calls}
+use Rattle.bac_client.specs.Views.{ending_view}
+use Rattle.bac_client.specs.declared.ending.Ending as how
+use Rattle.bac_turns.specs.declared.turn.TurnFault.{TurnFault}
+use Rattle.bac_turns.specs.declared.turn.TurnFault.TheVariants as turn_fault
+use Rattle.bac_run.specs.Runs.{CannotReceive, GoesBack, Run, TakesTurn}
+use Rattle.bac_run.specs.declared.fault.RunFault.{RunFault}
+use Rattle.bac_run.specs.declared.fault.RunFault.TheVariants as fault
+use Rattle.bac_run.specs.declared.question.AskEnd.{AskEnd}
+use Rattle.bac_run.specs.declared.question.AskEnd.TheVariants as end
+
+-- whom a node asks, what that peer takes, and for what
+pub record Question : Type 0 where
+  pub peer : PeerView
+  pub limits : Limits
+  pub request : Request
+
+-- ---- the ask
+
+-- the ask was accepted, and what it sends went to the link
+pub record Asks (q : Question) (old : OnLink) (ticket : ℕ) (new : OnLink) : Type 0 where
+  pub now : ℕ
+  pub accepted : Accepted
+  pub sends : List Datagram
+  pub asks : NodeAsks now q.peer q.limits q.request old.node new.node accepted sends
+  pub ticket_is : ticket ≡ accepted.ticket
+  pub order : new.calls ≡ with_calls old.calls (map call_of sends)
+  pub lost : ℕ
+  pub count : new.failures ≡ counted old.failures lost
+  pub most : lost ≤ length sends
+
+-- the node refused it, at some moment; a clock that goes back is no refusal
+pub record IsRefused (q : Question) (why : AskFault) (old : Node) : Type 0 where
+  pub now : ℕ
+  pub other : why ≢ ask_fault.ClockBack
+  pub refuses : Refuses why now q.peer q.limits q.request old
+
+-- ---- the turns
+
+-- how a ticket ended, if it did
+abbrev pub ending_of : (ticket : ℕ) → List Finish → Option Ending
+ending_of ticket [] = None
+ending_of ticket (f ∷ fs) = if f.ticket == ticket then Some f.how else ending_of ticket fs
+
+-- by the datagram of a turn, or by its tick
+abbrev pub ending_in : (ticket : ℕ) → Turn → Option Ending
+ending_in ticket turn = ending_of ticket (turn.ended ++ turn.tick_ended)
+
+-- What follows speaks of the steps after an ask, each with what it gave, and of the turn in that of the node which asked.
+
+-- none of these steps ended the ticket
+abbrev pub NoneEnds : {T : Type 0} → (turn_in : T → Turn) → (ticket : ℕ) → List T → Type 0
+NoneEnds turn_in ticket [] = Unit {0}
+NoneEnds turn_in ticket (given ∷ before) = (ending_in ticket (turn_in given) ≡ None) × NoneEnds turn_in ticket before
+
+-- these steps were taken, and none of them ended the ticket
+pub record StaysOpen {S T : Type 0} (step : S → T → S → Type 0) (turn_in : T → Turn) (ticket : ℕ) (taken : List T) (old new : S) : Type 0 where
+  pub run : Run step taken old new
+  pub none_ended : NoneEnds turn_in ticket taken
+
+-- a step ended the ticket, so; fewer steps than so many were taken before
+pub record EndsIn {S T : Type 0} (step : S → T → S → Type 0) (turn_in : T → Turn) (turns : ℕ) (how : Ending) (ticket : ℕ) (old new : S) : Type 0 where
+  pub taken : List T
+  pub fewer : length taken < turns
+  pub middle : S
+  pub stays : StaysOpen step turn_in ticket taken old middle
+  pub last : T
+  pub steps : step middle last new
+  pub ended : ending_in ticket (turn_in last) ≡ Some how
+
+-- so many steps were taken, and none ended the ticket
+pub record NeverEnds {S T : Type 0} (step : S → T → S → Type 0) (turn_in : T → Turn) (turns ticket : ℕ) (old new : S) : Type 0 where
+  pub taken : List T
+  pub all : length taken ≡ turns
+  pub stays : StaysOpen step turn_in ticket taken old new
+
+-- after fewer steps than so many, none of which ended the ticket, this happened
+pub record Stops {S T : Type 0} (step : S → T → S → Type 0) (turn_in : T → Turn) (turns : ℕ) (fails : S → S → Type 0) (ticket : ℕ) (old new : S) : Type 0 where
+  pub taken : List T
+  pub fewer : length taken < turns
+  pub middle : S
+  pub stays : StaysOpen step turn_in ticket taken old middle
+  pub failed : fails middle new
+
+-- the ticket was waited for: it ended, so, or all steps were taken
+abbrev pub Waits : {S T : Type 0} → (step : S → T → S → Type 0) → (turn_in : T → Turn) → (turns ticket : ℕ) → (old new : S) → Option how.Ending → Type 0
+Waits step turn_in turns ticket old new None = NeverEnds step turn_in turns ticket old new
+Waits step turn_in turns ticket old new (Some how) = EndsIn step turn_in turns (ending_view how) ticket old new
+
+-- an ask began, and then this came of its ticket
+pub record Begins {S : Type 0} (begins : S → ℕ → S → Type 0) (rest : ℕ → S → S → Type 0) (old new : S) : Type 0 where
+  pub ticket : ℕ
+  pub asked : S
+  pub begun : begins old ticket asked
+  pub rest_is : rest ticket asked new
+
+-- ---- one node on its link
+
+abbrev pub own_turn : Turn → Turn
+own_turn turn = turn
+
+-- why waiting stopped
+abbrev pub WaitingFails : TurnFault → (turns ticket : ℕ) → (old new : OnLink) → Type 0
+WaitingFails turn_fault.Link turns ticket old new = Stops TakesTurn own_turn turns CannotReceive ticket old new
+WaitingFails turn_fault.ClockBack turns ticket old new = Stops TakesTurn own_turn turns GoesBack ticket old new
+
+-- how asking ended
+abbrev pub AskingEnds : Question → AskEnd → (turns : ℕ) → (old new : OnLink) → Type 0
+AskingEnds q (end.Ended how) turns old new = Begins (Asks q) (EndsIn TakesTurn own_turn turns (ending_view how)) old new
+AskingEnds q (end.Refused why) turns old new = IsRefused q why old.node × (new ≡ old)
+AskingEnds q end.NoEnding turns old new = Begins (Asks q) (NeverEnds TakesTurn own_turn turns) old new
+
+-- why asking stopped
+abbrev pub AskingFails : Question → RunFault → (turns : ℕ) → (old new : OnLink) → Type 0
+AskingFails q fault.Link turns old new = Begins (Asks q) (Stops TakesTurn own_turn turns CannotReceive) old new
+AskingFails q fault.ClockBack turns old new = GoesBack old new ⊎ Begins (Asks q) (Stops TakesTurn own_turn turns GoesBack) old new
+AskingFails q fault.NoMemory turns old new = new ≡ old

@@ -1,0 +1,77 @@
+//! A node that serves.
+ghost use Rattle.std.specs.Prelude.{◌≡◌, ◌≤◌, IfOk, IfErr, length};
+ghost use Rattle.bac_turns.specs.Turns.{on_link};
+ghost use Rattle.bac_run.specs.Runs.{BUFFER, TurnFails};
+ghost use Rattle.bac_run.specs.Serving.{Serves, ServesOnce, ServingFails, TurnsFail};
+
+use crate::buffer::buffer;
+use crate::fault::RunFault;
+use bac_link::{Clock, Link};
+use bac_node::Node;
+use bac_turns::{TurnFault, take_turn};
+use std::alloc::Global;
+
+/// One turn; how many requests were performed: 0 or 1.
+fn serve_once<L: Link>(
+    alloc: Global,
+    node: &mut Node,
+    link: &mut L,
+    now: u64,
+    buffer: &mut [u8],
+) -> Result<u64, TurnFault>
+    requires { length buffer.old ≡ BUFFER }
+    ensures served { IfOk result (λ effects. ServesOnce effects
+        (on_link node.old (L.failures link.old) (L.calls link.old)) (on_link node.new (L.failures link.new) (L.calls link.new))) }
+    ensures most { IfOk result (λ effects. effects ≤ 1) }
+    ensures failed { IfErr result (λ e. TurnFails e
+        (on_link node.old (L.failures link.old) (L.calls link.old)) (on_link node.new (L.failures link.new) (L.calls link.new))) }
+{
+    let turn = take_turn(alloc, node, link, now, buffer)?;
+    match turn.effect {
+        Some(_) => Ok(1),
+        None => Ok(0),
+    }
+}
+
+/// So many turns; how many requests were performed.
+fn serve_turns<L: Link, C: Clock>(
+    alloc: Global,
+    node: &mut Node,
+    link: &mut L,
+    clock: &mut C,
+    turns: u64,
+    buffer: &mut [u8],
+) -> Result<u64, TurnFault>
+    requires { length buffer.old ≡ BUFFER }
+    ensures served { IfOk result (λ effects. Serves turns effects
+        (on_link node.old (L.failures link.old) (L.calls link.old)) (on_link node.new (L.failures link.new) (L.calls link.new))) }
+    ensures failed { IfErr result (λ e. TurnsFail e turns
+        (on_link node.old (L.failures link.old) (L.calls link.old)) (on_link node.new (L.failures link.new) (L.calls link.new))) }
+{
+    let mut effects = 0;
+    for _ in 0..turns {
+        effects += serve_once(alloc, node, link, clock.now(), buffer)?;
+    }
+    Ok(effects)
+}
+
+/// A node takes so many turns on its link, at the moments that a clock tells. Answers how many requests it performed.
+///
+/// `Link` where the link could not receive, `ClockBack` where the clock went back, both in the turn after those that stand. `NoMemory` where there is none
+/// for the buffer, of 2,048 octets; then nothing was done.
+pub fn serve_over<L: Link, C: Clock>(
+    alloc: Global,
+    node: &mut Node,
+    link: &mut L,
+    clock: &mut C,
+    turns: u64,
+) -> Result<u64, RunFault>
+    ensures served { IfOk result (λ effects. Serves turns effects
+        (on_link node.old (L.failures link.old) (L.calls link.old)) (on_link node.new (L.failures link.new) (L.calls link.new))) }
+    ensures failed { IfErr result (λ e. ServingFails e turns
+        (on_link node.old (L.failures link.old) (L.calls link.old)) (on_link node.new (L.failures link.new) (L.calls link.new))) }
+{
+    let mut buffer = buffer(alloc)?;
+    let effects = serve_turns(alloc, node, link, clock, turns, &mut buffer)?;
+    Ok(effects)
+}

@@ -1,0 +1,4 @@
+pub mod Open
+pub mod Logs
+pub mod Runs
+pub mod Tells
