@@ -28,6 +28,11 @@ pub record MayArrive (overtake : ℕ) (w : World) (number : ℕ) (c : Copy) : Ty
   pub at : slice_get w.copies number ≡ Some c
   pub arrives : is_deliverable overtake w.now number w.copies c ≡ true
 
+-- a copy comes from the server, in the transaction of that client and invoke ID
+pub record IsFromServer (client server invoke_id : ℕ) (c : Copy) : Type 0 where
+  pub key : c.key ≡ record { client = client; server = server; invoke_id = invoke_id }
+  pub from : c.from ≡ server
+
 -- the ask's request goes in one APDU
 abbrev pub IsWhole : (old : World) (client server : ℕ) (limits : Limits) (r : Request) (asked : World) → IsAsked old client server limits r asked → Type 0
 IsWhole old client server limits r asked a = request_way_of a.before.settings limits a.asks.octets ≡ InOne

@@ -13,7 +13,7 @@ ghost use Rattle.bac_completion.specs.RoundTrip.{RoundTripSuffices};
 ghost use Rattle.bac_completion.specs.Repeats.{RepeatsSuffice};
 
 /// Each ask ends: in every world that a run reached, each ask that is accepted has at most one ending, and once a tick of its client has come more than
-/// 60,000 ms later it has exactly one, for good, whatever happens in between and afterwards.
+/// 60,000 ms later, or a copy of its server's in this transaction was delivered then, it has exactly one, for good, whatever happens in between and afterwards.
 pub fn asks_end()
     ensures { (W overtake : ℕ) (opening reached : World) → IsFresh opening → IsBounded W overtake opening
         → (events : List Event) → WorldRun overtake opening events reached → AsksEnd overtake reached }
