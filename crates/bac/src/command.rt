@@ -1,5 +1,5 @@
 //! What a command line asks for, and doing it: over any files and writers.
-use crate::text::answer_over;
+use bac_answer::answer_over;
 use bac_text::{Status, check_over, complain, decode_over, no_memory};
 use clap::error::ErrorKind;
 use clap::{Arg, ArgAction, ArgMatches, Command};

@@ -1,14 +1,9 @@
 //! `bac`: BACnet confirmed services on the command line.
 #![tactic(auto)]
 
-mod answer;
 mod command;
-mod laws;
-mod performing;
-mod reply_writing;
 #[cfg(test)]
 mod tests;
-mod text;
 
 use bac_text::{Status, no_memory};
 use command::{OpenFiles, run};
@@ -46,10 +41,6 @@ fn start(rt: &HostRuntime) -> io::Result<Status> {
 }
 
 fn main(rt: HostRuntime) -> ExitCode {
-    // a law is proved where it is reached
-    laws::one_meaning();
-    laws::one_frame();
-    laws::replies_fit();
     let status = match start(&rt) {
         Ok(status) => status,
         Err(error) if error.kind() == io::ErrorKind::OutOfMemory => no_memory(&mut rt.stderr()),

@@ -1,9 +1,6 @@
 //! What `bac answer` prints.
 use crate::command::{OpenFiles, run};
-use crate::performing::perform;
-use crate::reply_writing::put_reply;
-use crate::text::answer_over;
-use bac_store::{Store, house};
+use bac_answer::answer_over;
 use bac_text::Status;
 use std::alloc::Global;
 use std::io;
@@ -162,43 +159,6 @@ fn answers_files(rt: HostRuntime) -> Result<(), Fail> {
     Ok(())
 }
 
-/// The APDU with invoke ID 0 that service data get from a store, in hexadecimal.
-fn performed(alloc: Global, store: &mut Store, choice: u8, service: &str) -> Result<String, Fail> {
-    let service = hex::decode(alloc, service)?;
-    let reply = perform(alloc, store, choice, &service)?;
-    let mut apdu = Vec::new(alloc);
-    put_reply(alloc, 0, choice, reply.as_reply(), &mut apdu)?;
-    let text = hex::encode_upper(alloc, apdu)?;
-    Ok(text)
-}
-
-/// Service choices and data for one store after the other, and the APDUs that answer them.
-const WRITES: &[(u8, &str, &str)] = &[
-    // present-value of analog-value 1
-    (15, "0C0080000119553E44433400003F", "20000F"),
-    (12, "0C008000011955", "30000C0C0080000119553E44433400003F"),
-    // a Reject and an Error change nothing
-    (15, "0C0080000119553E44433400003F4900", "600006"),
-    (15, "0C0080000119553E21013F", "50000F91029109"),
-    (12, "0C008000011955", "30000C0C0080000119553E44433400003F"),
-    // file 1: nothing appended, two octets from the second on
-    (7, "C4028000010E31FF600F", "3000070902"),
-    (6, "C4028000010E3100210A0F", "300006110E3100624F4B0F"),
-    (7, "C4028000010E310162AABB0F", "3000070901"),
-    (6, "C4028000010E3100210A0F", "300006110E3100634FAABB0F"),
-    (12, "0C02800001192A", "30000C0C02800001192A3E21033F"),
-];
-
-#[test]
-fn a_store_keeps_what_is_written(rt: HostRuntime) -> Result<(), Fail> {
-    let mut store = house(rt.alloc())?;
-    for (choice, service, answer) in WRITES {
-        let apdu = performed(rt.alloc(), &mut store, *choice, service)?;
-        assert_eq!(rt; apdu.as_str(), *answer, "{service}");
-    }
-    Ok(())
-}
-
 #[test]
 fn each_datagram_has_its_own_house(rt: HostRuntime) -> Result<(), Fail> {
     answers_apdu(
@@ -222,10 +182,10 @@ const NONE: &[&str] = &[
     "81",
     "810A",
     "810A00",
-    // a SimpleACK, an unconfirmed request, a segment
+    // a SimpleACK, an unconfirmed request, a segment that is not the first
     "810A0009010020010F",
     "810A000801001008",
-    "810A0013010408050100010C0C000000051955",
+    "810A0013010408050101010C0C000000051955",
     // a length that is not the datagram's, a destination, a network message
     "810A000D01040005010C0C000000051955",
     "810A001601240005012AFF0005010C0C000000051955",
@@ -236,6 +196,35 @@ const NONE: &[&str] = &[
 fn answers_nothing_else(rt: HostRuntime) -> Result<(), Fail> {
     for datagram in NONE {
         answers(&rt, rt.alloc(), datagram, "none")?;
+    }
+    Ok(())
+}
+
+/// Segments of requests, and what answers them: a SegmentACK, and a reply after the last segment.
+const SEGMENTS: &[(&str, &str)] = &[
+    // more follow; none follows
+    (
+        "810A001301040E0501000F0C0C000000051955",
+        "810A000A01004101000F",
+    ),
+    (
+        "810A0013010408050100010C0C000000051955",
+        "810A000A010041010001\n810A0017010030010C0C0000000519553E444290999A3F",
+    ),
+    // a window of 127, and an object that there is not
+    (
+        "810A001301040A3200007F0C0C1FC00000194D",
+        "810A000A010041000020\n810A000D010050000C9101911F",
+    ),
+    // a SegmentACK and an Abort, for which nothing was sent
+    ("810A000A010041010001", "none"),
+    ("810A00090100710100", "none"),
+];
+
+#[test]
+fn answers_segments(rt: HostRuntime) -> Result<(), Fail> {
+    for (datagram, lines) in SEGMENTS {
+        answers(&rt, rt.alloc(), datagram, lines)?;
     }
     Ok(())
 }
@@ -336,6 +325,13 @@ const COMMANDS: &[(&[u8], &str, &str, &str, u8)] = &[
         GOOD,
         "answer 810A001101040005010C0C000000051955",
         "810A0017010030010C0C0000000519553E444290999A3F\n",
+        "",
+        0,
+    ),
+    (
+        GOOD,
+        "answer 810A0013010408050100010C0C000000051955",
+        "810A000A010041010001\n810A0017010030010C0C0000000519553E444290999A3F\n",
         "",
         0,
     ),

@@ -1,5 +1,5 @@
 -- A node asks another one.
-use Rattle.std.proofs.Common.{◌≡◌, ◌≢◌, ℕ, ◌+◌, ◌<◌, ◌≤◌, List, [], ◌∷◌, length, Option, Some, None, Result, Ok, Err, slice_get, refl, sym, ap, subst, inl, inr, ◌∙◌, arith}
+use Rattle.std.proofs.Common.{◌≡◌, ℕ, ◌+◌, ◌≤◌, List, ◌∷◌, length, Option, Some, None, Result, Ok, slice_get, refl, sym, ap, subst, inl, inr, ◌∙◌, arith}
 use Rattle.std.specs.Option.{option_map}
 use Rattle.bac_apdu.specs.Apdu.{Limits}
 use Rattle.bac_ends.specs.Ends.{Accepted}
@@ -13,20 +13,18 @@ use Rattle.bac_node.specs.Calls as node
 use Rattle.bac_node.specs.Calls.{Refuses}
 use Rattle.bac_world.specs.Node.{Node, NodeAsks, NodeRefuses, Refusal}
 use Rattle.bac_world.specs.Once.{Fact}
-use Rattle.bac_world.specs.World.{World, Event, IsAsked, IsRefused, IsWithNode, link_at, peer_at}
+use Rattle.bac_world.specs.World.{Event, IsAsked, IsRefused, IsWithNode, link_at, peer_at}
 use Rattle.bac_world.specs.World.Event.{Ask}
 use Rattle.bac_world.proofs.Asking.{accepted_is}
-use Rattle.bac_simulation.specs.Entering.{asks_by}
 use Rattle.bac_simulation.specs.Growing.{BecomeCopies}
-use Rattle.bac_simulation.specs.Journals.{HasNoteRoom, JournalView, NoteRoom}
+use Rattle.bac_simulation.specs.Journals.{JournalView, NoteRoom}
 use Rattle.bac_simulation.specs.Views.{AreLinks}
 use Rattle.bac_network.specs.Asks.{CanAsk, CanBeNoted, IsNotedAsk, TellsFault}
 use Rattle.bac_network.specs.Goings.{Goes}
-use Rattle.bac_network.specs.Networks.{world_of, IsReady}
+use Rattle.bac_network.specs.Networks.{world_of}
 use Rattle.bac_network.specs.Steps.{HappensTelling, refusal_of}
 use Rattle.bac_network.specs.Views.{log_view}
 use Rattle.bac_network.specs.declared.fault.WorldFault.{WorldFault}
-use Rattle.bac_network.specs.declared.fault.WorldFault.TheVariants as fault
 use Rattle.bac_network.specs.declared.network.Network.{Network}
 use Rattle.bac_network.proofs.Delivered.{link_within}
 use Rattle.bac_network.proofs.Entered.{copied_each}
@@ -100,7 +98,10 @@ module _ (n : Network) (client server : ℕ) (can : CanAsk client server n) (b :
 
 pub noted_ask : (nodes : List Node) (client server : ℕ) (r : Request) (invoke_id ticket : ℕ) (sends : List Datagram) (old mid new : JournalView)
     (facts facts' : List Fact) (room : NoteRoom)
-    → mid ≡ record old { notes = record { key = record { client = client; server = server; invoke_id = invoke_id }; ticket = ticket } ∷ old.notes; note_room = room }
+    → mid ≡ record old {
+      notes = record { key = record { client = client; server = server; invoke_id = invoke_id }; ticket = ticket } ∷ old.notes;
+      note_room = room;
+    }
     → new ≡ record mid { copies = new.copies; room = new.room } → AreLinks nodes old.links
     → (AreLinks nodes mid.links → BecomeCopies nodes mid.moment client sends mid.copies new.copies)
     → (number : ℕ) → facts' ≡ Fact.Asked number client server r ∷ facts → number ≡ length old.notes
@@ -125,7 +126,8 @@ module _ (overtake : ℕ) (n n' : Network) (client server : ℕ) (can : CanAsk c
   abbrev event : Event
   event = Ask client server limits r
 
-  refused_for : (refusal : Refusal) → NodeRefuses n.journal.moment (peer_at b.link) limits r a refusal → IsRefused (world_of n) client server limits r (world_of n')
+  refused_for : (refusal : Refusal) → NodeRefuses n.journal.moment (peer_at b.link) limits r a refusal
+      → IsRefused (world_of n) client server limits r (world_of n')
   refused_for refusal why = record {
     node = a;
     at = at;

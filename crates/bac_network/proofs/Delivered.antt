@@ -1,27 +1,24 @@
 -- A copy is delivered, a node ticks, or hears noise.
-use Rattle.std.proofs.Common.{◌≡◌, ℕ, zero, suc, ◌+◌, ◌<◌, ◌≤◌, ◌⊎◌, Bool, true, false, List, [], ◌∷◌, ◌++◌, length, Option, Some, None, Result, Ok, Err, slice_get}
+use Rattle.std.proofs.Common.{◌≡◌, ℕ, zero, suc, ◌+◌, ◌<◌, ◌≤◌, ◌⊎◌, Bool, true, false, List, [], ◌∷◌, length, Option, Some, None, slice_get}
 use Rattle.std.proofs.Common.{refl, sym, ap, subst, inl, inr, ◌∙◌, arith}
 use Rattle.std.proofs.lemmas.Option.{slice_get_within}
 use Rattle.std.specs.Option.{option_map}
-use Rattle.bac_apdu.specs.Apdu.{Apdu}
-use Rattle.bac_npdu.specs.Peers.{PeerView}
 use Rattle.bac_protocol.specs.Service.{Octets}
 use Rattle.bac_node.specs.Calls.{ticked}
 use Rattle.bac_world.specs.Laws.{IsMeaningless}
-use Rattle.bac_world.specs.Node.{Cause, Node, Outcome, NodeOn, NodeTick, IsDropped, IsHeard, dropped_for}
-use Rattle.bac_world.specs.Once.{Fact}
+use Rattle.bac_world.specs.Node.{Node, Outcome, NodeOn, NodeTick, IsDropped, dropped_for}
 use Rattle.bac_world.specs.Services.{Performed}
-use Rattle.bac_world.specs.World.{World, Copy, Event, Acts, Delivers, DeliversIf, IsDelivered, IsNoise, HearsNoise, IsWithNode, Ticks, WorldStep, link_at}
+use Rattle.bac_world.specs.World.{World, Copy, DeliversIf, IsDelivered, IsNoise, HearsNoise, Ticks}
 use Rattle.bac_world.specs.World.{is_deliverable}
-use Rattle.bac_world.specs.World.Event.{Deliver, Noise, Tick}
+use Rattle.bac_world.specs.World.Event.{Deliver}
 use Rattle.bac_world.proofs.Pairs.{append_none}
 use Rattle.bac_simulation.specs.Entering.{CanEnter, CanGoOn}
 use Rattle.bac_simulation.specs.Journals.{JournalView}
 use Rattle.bac_simulation.specs.Views.{AreLinks}
 use Rattle.bac_network.specs.Entries.{CanBeEntered, IsEntered, performances}
 use Rattle.bac_network.specs.Goings.{Arrives, Goes, IsBetween, IsDue, IsHeardCopy}
-use Rattle.bac_network.specs.Networks.{world_of, world_with, AreAlike, HasRoom, IsReady}
-use Rattle.bac_network.specs.Steps.{Happens, TakesMemory}
+use Rattle.bac_network.specs.Networks.{world_of, world_with, AreAlike, IsReady}
+use Rattle.bac_network.specs.Steps.{TakesMemory}
 use Rattle.bac_network.specs.Views.{log_view}
 use Rattle.bac_network.specs.declared.network.Network.{Network}
 use Rattle.bac_network.proofs.Entered.{acts_as, can_be_entered}

@@ -1,14 +1,13 @@
 -- What comes of a node's call enters the world.
-use Rattle.std.proofs.Common.{◌≡◌, ℕ, ◌+◌, ◌≤◌, List, [], ◌∷◌, ◌++◌, length, map, reverse, Option, Some, None, slice_get, refl, sym, ap, subst, ◌∙◌, arith}
+use Rattle.std.proofs.Common.{◌≡◌, ℕ, List, [], ◌∷◌, ◌++◌, length, map, reverse, Option, Some, None, slice_get, refl, sym, ap, subst, ◌∙◌, arith}
 use Rattle.std.proofs.lemmas.List.{length-map, length-reverse, map-append, reverse-append}
 use Rattle.bac_ends.specs.Meanings.{Finish}
 use Rattle.bac_ends.specs.Sends.{Datagram}
-use Rattle.bac_protocol.specs.Service.{Octets}
 use Rattle.bac_world.specs.Node.{Node, Outcome}
 use Rattle.bac_world.specs.Once as once
 use Rattle.bac_world.specs.Once.Fact.{Ended}
 use Rattle.bac_world.specs.Services.{Performed}
-use Rattle.bac_world.specs.World.{World, Note, Acts, AreEnded, IsWithNode, ask_of, newest}
+use Rattle.bac_world.specs.World.{World, Note, Acts, AreEnded, IsWithNode, newest}
 use Rattle.bac_simulation.specs.Entering.{Every, AreOfClient, CanBeCopied, CanEnter}
 use Rattle.bac_simulation.specs.Growing.{CanBecome}
 use Rattle.bac_simulation.specs.Journals.{JournalView}

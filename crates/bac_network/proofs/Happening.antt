@@ -1,5 +1,5 @@
 -- What follows from how an event went.
-use Rattle.std.proofs.Common.{◌≡◌, ◌⊎◌, ◌↔◌, ℕ, Bool, true, false, List, Option, Some, None, Result, Ok, Err, IsErrOf, OnOk, OnErr, IfOk, slice_get}
+use Rattle.std.proofs.Common.{◌≡◌, ◌↔◌, ℕ, Bool, List, Option, Some, None, Result, Ok, Err, IsErrOf, OnOk, OnErr, IfOk, slice_get}
 use Rattle.std.proofs.Common.{refl, sym, ap, subst, inl, inr, ◌∙◌}
 use Rattle.std.specs.Option.{option_map}
 use Rattle.bac_protocol.specs.Service.{Octets}
@@ -9,7 +9,7 @@ use Rattle.bac_requester.specs.declared.ask_fault.AskFault.{AskFault}
 use Rattle.bac_world.specs.Node.{Node}
 use Rattle.bac_world.specs.World.{World, Event, Copy, WorldStep, link_at, is_deliverable}
 use Rattle.bac_world.specs.World.Event.{Ask, Deliver, Noise, Tick, Advance}
-use Rattle.bac_network.specs.Steps.{NamesNoNode, NamesNoCopy, PassesClock, TakesMemory, IsFault, Happens, HappensTelling, Tells, Untells}
+use Rattle.bac_network.specs.Steps.{NamesNoNode, NamesNoCopy, PassesClock, TakesMemory, Happens, HappensTelling, Tells, Untells}
 use Rattle.bac_network.specs.declared.fault.WorldFault.{WorldFault}
 use Rattle.bac_network.specs.declared.fault.WorldFault.TheVariants as fault
 
@@ -168,8 +168,8 @@ tells_none old new (Noise node from octets) n = tt
 tells_none old new (Tick node) n = tt
 tells_none old new (Advance by) n = tt
 
-pub told_nothing : {A : Type 0} (overtake : ℕ) (old new : World) (e : Event) → IsNoAsk e → (done : Result A WorldFault) → (r : Result (Option AskFault) WorldFault)
-    → Happens overtake old e done new → Untells done r → HappensTelling overtake old e r new
+pub told_nothing : {A : Type 0} (overtake : ℕ) (old new : World) (e : Event) → IsNoAsk e → (done : Result A WorldFault)
+    → (r : Result (Option AskFault) WorldFault) → Happens overtake old e done new → Untells done r → HappensTelling overtake old e r new
 told_nothing overtake old new e n (Ok x) r h is =
     subst (λ (q : Result (Option AskFault) WorldFault). HappensTelling overtake old e q new) (sym is) (h.0, tells_none old new e n, h.1)
 told_nothing overtake old new e n (Err f) r h is =

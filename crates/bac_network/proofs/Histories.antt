@@ -1,6 +1,5 @@
 -- What is known of a world from how it came to be.
-use Rattle.std.proofs.Common.{◌≡◌, ℕ, List, [], ◌∷◌, ◌++◌, Option, Some, None, Result, Ok, Err, slice_get, refl, sym, ap, subst, ◌∙◌}
-use Rattle.bac_protocol.specs.Service.{Octets}
+use Rattle.std.proofs.Common.{◌≡◌, ℕ, List, [], ◌∷◌, ◌++◌, Option, Result, Ok, Err, refl, sym, subst, ◌∙◌}
 use Rattle.bac_protocol.specs.World.{net_start}
 use Rattle.bac_store.specs.Stores.{Store}
 use Rattle.bac_requester.specs.declared.ask_fault.AskFault.{AskFault}
@@ -9,7 +8,7 @@ use Rattle.bac_world.specs.World.{World, Event, WorldStep, WorldRun, IsFresh, Is
 use Rattle.bac_world.proofs.Headline.{run_over, rules_of, rules_bounded, fresh_over, headline}
 use Rattle.bac_simulation.specs.Views.{AreLinks}
 use Rattle.bac_simulation.proofs.GoingOn.{runs_can_go_on}
-use Rattle.bac_network.specs.Histories.{WorldView, HasHistory, HasRun, IsKept, IsOnceNow, opening_stores, view_of}
+use Rattle.bac_network.specs.Histories.{WorldView, HasRun, IsKept, IsOnceNow, opening_stores, view_of}
 use Rattle.bac_network.specs.Networks.{world_of, IsReady}
 use Rattle.bac_network.specs.Steps.{HappensTelling}
 use Rattle.bac_network.specs.declared.fault.WorldFault.{WorldFault}

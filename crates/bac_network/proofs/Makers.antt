@@ -1,9 +1,8 @@
 -- Worlds to which nothing has happened.
-use Rattle.std.proofs.Common.{◌≡◌, ◌⊎◌, ℕ, zero, suc, ◌+◌, ◌*◌, ◌<◌, ◌≤◌, Bool, true, false, List, [], ◌∷◌, ◌++◌, length, map, max, drop, Option, Some, None, slice_get}
+use Rattle.std.proofs.Common.{◌≡◌, ◌⊎◌, ℕ, zero, suc, ◌+◌, ◌<◌, ◌≤◌, Bool, true, false, List, [], ◌∷◌, length, max, drop, Some, slice_get}
 use Rattle.std.proofs.Common.{nat_lt, refl, sym, ap, subst, inl, inr, ◌∙◌, arith}
 use Rattle.std.proofs.lemmas.Bool.Decides.{nat_tests}
-use Rattle.std.proofs.lemmas.Option.{slice_get-map, slice_get_within}
-use Rattle.std.specs.Option.{option_map}
+use Rattle.std.proofs.lemmas.Option.{slice_get_within}
 use Rattle.bac_protocol.specs.Service.{Octets}
 use Rattle.bac_store.specs.Stores.{Store}
 use Rattle.bac_node.specs.Fresh.{fresh_node, has_slots, window_fits}
@@ -15,7 +14,7 @@ use Rattle.bac_simulation.specs.Journals.{JournalView}
 use Rattle.bac_simulation.specs.Views.{AreLinks}
 use Rattle.bac_network.specs.Fresh.{Maker, fresh_world, greatest_window, links_of, nodes_of, opening_of}
 use Rattle.bac_network.specs.Fresh.{HasBadSlots, HasBadWindow, HaveSameLink, IsGood, IsRight, IsTaken}
-use Rattle.bac_network.specs.Histories.{WorldView, IsKept, opening_stores, view_of}
+use Rattle.bac_network.specs.Histories.{WorldView, IsKept, view_of}
 use Rattle.bac_network.specs.declared.network.Network.{Network}
 
 -- Windows.
@@ -183,7 +182,13 @@ taken_more makers i link m at ne none h = go (decide_number h.before i)
     go (inl is) =
         let same : h.maker ≡ m = let e : Some h.maker ≡ Some m = sym h.at ∙ ap (slice_get makers) is ∙ at in cc in
         ne (sym (ap (λ (x : Maker). (x.0).link) same) ∙ h.same)
-    go (inr ne') = none (record { before = h.before; maker = h.maker; below = (let lt : h.before < i + 1 = h.below in omega (arith, ne', lt)); at = h.at; same = h.same })
+    go (inr ne') = none (record {
+      before = h.before;
+      maker = h.maker;
+      below = (let lt : h.before < i + 1 = h.below in omega (arith, ne', lt));
+      at = h.at;
+      same = h.same;
+    })
 
 pub same_link_more : (makers : List Maker) (i : ℕ) (m : Maker) → slice_get makers i ≡ Some m → (IsTaken makers i (m.0).link → ⊥)
     → ((h : HaveSameLink makers) → h.second < i → ⊥) → (h : HaveSameLink makers) → h.second < i + 1 → ⊥

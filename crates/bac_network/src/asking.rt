@@ -36,7 +36,8 @@ impl Network {
     ) -> Result<Option<AskFault>, WorldFault>
         requires { (overtake : ℕ) × IsReady window overtake self.old }
         ensures happens { (overtake : ℕ)
-            → HappensTelling overtake (world_of self.old) (Ask client server (limits_view limits.now) (owned_request_view request.now)) result (world_of self.new) }
+            → HappensTelling overtake (world_of self.old) (Ask client server (limits_view limits.now) (owned_request_view request.now)) result
+            (world_of self.new) }
         ensures links { self.new.journal.links ≡ self.old.journal.links }
     {
         if client >= self.nodes.len() || server >= self.nodes.len() {
@@ -78,7 +79,8 @@ impl Network {
         requires can { CanAsk client server self.old }
         requires copied { owned_request_view copied ≡ owned_request_view request.now }
         ensures happens { (overtake : ℕ)
-            → HappensTelling overtake (world_of self.old) (Ask client server (limits_view limits.now) (owned_request_view request.now)) result (world_of self.new) }
+            → HappensTelling overtake (world_of self.old) (Ask client server (limits_view limits.now) (owned_request_view request.now)) result
+            (world_of self.new) }
         ensures links { self.new.journal.links ≡ self.old.journal.links }
     {
         let peer = Peer {

@@ -114,8 +114,8 @@ impl World {
 
     /// An event happens. The fault of a refused ask is told: a refused ask changes nothing.
     ///
-    /// `NoSuchNode` exactly where the event names a node that there is not, `NoSuchDatagram` exactly where it names a copy that there is not, `ClockEnd` exactly
-    /// where the moment would pass 64 bits, and `NoMemory` after these, where memory was refused: never for octets of no node, for a copy that is not
+    /// `NoSuchNode` exactly where the event names a node that there is not, `NoSuchDatagram` exactly where it names a copy that there is not, `ClockEnd`
+    /// exactly where the moment would pass 64 bits, and `NoMemory` after these, where memory was refused: never for octets of no node, for a copy that is not
     /// deliverable, and for the clock. After an Err the world is as before.
     pub fn step(&mut self, event: &Event) -> Result<Option<AskFault>, WorldFault>
         ensures went { OnOk result (WorldStep self.old.overtake self.old.world (event_view event.now) self.new.world) }

@@ -1,9 +1,5 @@
 -- It is noted.
-use Rattle.std.proofs.Common.{◌≡◌, ◌∷◌, length, refl, sym, ap, subst, ◌∙◌}
-use Rattle.bac_simulation.specs.Journals.{JournalView}
-use Rattle.bac_simulation.specs.Notes.{note_view, notes_view}
-use Rattle.bac_world.specs.Once as once
-use Rattle.bac_world.specs.Once.Fact.{Asked}
+use Rattle.std.proofs.Common.{length, ap, ◌∙◌}
 use Rattle.bac_service.specs.Views.{owned_request_view}
 use Rattle.bac_network.specs.Views.{log_view}
 use Rattle.bac_network.proofs.Asked.{noted_ask}

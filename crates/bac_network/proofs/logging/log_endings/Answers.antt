@@ -1,11 +1,9 @@
 -- One ending more is logged.
-use Rattle.std.proofs.Common.{◌≡◌, ◌+◌, ◌≤◌, ◌∷◌, [], ◌++◌, length, map, sym, ap, subst, ◌∙◌, append_assoc, append-nil, arith}
+use Rattle.std.proofs.Common.{◌≡◌, ◌∷◌, [], length, map, sym, ap, subst, ◌∙◌, append_assoc, append-nil, arith}
 use Rattle.std.proofs.lemmas.List.{length-append, map-append}
 use Rattle.std.specs.Vec.Iter.{into_iter_items}
-use Rattle.bac_ends.specs.Meanings.{Finish}
 use Rattle.bac_requester.specs.Views.{finish_view}
 use Rattle.bac_world.specs.World.{AreEnded}
-use Rattle.bac_network.specs.Entries.{AreNoted}
 use Rattle.bac_network.specs.Views.{log_view}
 use Rattle.bac_network.proofs.Entered.{more_ended, head_noted, nothing_left, tail_noted}
 use Rattle.bac_network.proofs.logging.log_endings.Goals as goal
@@ -44,7 +42,8 @@ returns-clause-log c =
     let at = c.loop-finish in
     let empty : into_iter_items at.finish-iterator ≡ [] = nothing_left _ (sym at.invariant.left ∙ c.in-None.ensures.steps.0) in
     let all = sym (append-nil at.yielded) ∙ rw empty at at.invariant.all ∙ c.into_iter-finish-iterator.ensures.into_iter_gives.0 in
-    subst (λ l. AreEnded c.args.journal.now.notes c.args.node (map finish_view l) (log_view c.args.log.now.items) (log_view at.log.items)) all at.invariant.ended
+    subst (λ l. AreEnded c.args.journal.now.notes c.args.node (map finish_view l) (log_view c.args.log.now.items) (log_view at.log.items)) all
+    at.invariant.ended
 
 pub returns-clause-many : goal.returns-clause-many
 returns-clause-many c =

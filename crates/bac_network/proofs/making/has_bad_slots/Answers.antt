@@ -1,5 +1,5 @@
 -- One node after the other is looked at.
-use Rattle.std.proofs.Common.{◌≡◌, ◌<◌, ◌≤◌, true, false, length, refl, sym, ◌∙◌, arith}
+use Rattle.std.proofs.Common.{◌≡◌, ◌<◌, true, false, length, refl, sym, arith}
 use Rattle.std.proofs.lemmas.Option.{slice_get_read}
 use Rattle.bac_network.proofs.Makers.{place_within, slots_more}
 use Rattle.bac_network.proofs.making.has_bad_slots.Goals as goal

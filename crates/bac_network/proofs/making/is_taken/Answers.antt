@@ -1,5 +1,5 @@
 -- One node after the other is looked at.
-use Rattle.std.proofs.Common.{◌≡◌, ◌<◌, ◌≤◌, true, false, length, refl, arith}
+use Rattle.std.proofs.Common.{◌≡◌, ◌<◌, true, false, length, refl, arith}
 use Rattle.std.proofs.lemmas.Option.{slice_get_read}
 use Rattle.bac_network.proofs.Makers.{taken_more}
 use Rattle.bac_network.proofs.making.is_taken.Goals as goal

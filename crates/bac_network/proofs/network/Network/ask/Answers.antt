@@ -1,5 +1,5 @@
 -- With room a node asks.
-use Rattle.std.proofs.Common.{◌≡◌, ◌<◌, ◌≤◌, ◌+◌, ℕ, None, Some, Ok, Err, length, slice_get, refl, sym, ap, subst, inl, inr, ◌∙◌, arith}
+use Rattle.std.proofs.Common.{◌<◌, Err, length, sym, ap, subst, ◌∙◌, arith}
 use Rattle.std.proofs.lemmas.Result.{err_from_is_err_and}
 use Rattle.bac_apdu.specs.Views.{limits_view}
 use Rattle.bac_service.specs.Views.{owned_request_view}

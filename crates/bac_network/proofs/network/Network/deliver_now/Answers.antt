@@ -1,9 +1,9 @@
 -- With room it is handed over.
-use Rattle.std.proofs.Common.{◌≡◌, ◌+◌, ℕ, OnErr, OnOk, refl, sym, ap, subst, ◌∙◌}
+use Rattle.std.proofs.Common.{◌≡◌, OnErr, OnOk, sym, subst}
 use Rattle.bac_world.specs.World.{World}
 use Rattle.bac_world.specs.World.Event.{Deliver}
 use Rattle.bac_network.specs.Goings.{Arrives}
-use Rattle.bac_network.specs.Networks.{world_of, HasRoom}
+use Rattle.bac_network.specs.Networks.{world_of}
 use Rattle.bac_network.specs.Steps.{TakesMemory}
 use Rattle.bac_network.proofs.Delivered.{ready_alike, world_alike}
 use Rattle.bac_network.proofs.Happening.{on_err}

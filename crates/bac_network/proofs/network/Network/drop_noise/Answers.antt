@@ -1,5 +1,5 @@
 -- It is heard, and dropped.
-use Rattle.std.proofs.Common.{◌≡◌, length, refl, arith}
+use Rattle.std.proofs.Common.{refl, arith}
 use Rattle.std.proofs.lemmas.List.{with_items_is}
 use Rattle.std.specs.Vec.{with_items}
 use Rattle.bac_node.specs.Views.{outcome_view}

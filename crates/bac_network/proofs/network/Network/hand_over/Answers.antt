@@ -1,13 +1,10 @@
 -- What comes of it enters the world.
-use Rattle.std.proofs.Common.{◌≡◌, ℕ, ◌+◌, ◌≤◌, length, refl, sym, ap, subst, ◌∙◌, arith}
+use Rattle.std.proofs.Common.{ap, arith}
 use Rattle.std.proofs.lemmas.List.{with_items_is}
 use Rattle.std.specs.Vec.{with_items}
-use Rattle.bac_node.specs.Views.{outcome_view}
-use Rattle.bac_world.specs.Node.{Outcome}
 use Rattle.bac_simulation.specs.Journals.{JournalView}
-use Rattle.bac_network.specs.Goings.{IsHeardCopy}
 use Rattle.bac_network.specs.declared.network.Network.{Network}
-use Rattle.bac_network.proofs.Delivered.{CopyEnters, copy_enters, arrives}
+use Rattle.bac_network.proofs.Delivered.{copy_enters, arrives}
 use Rattle.bac_network.proofs.network.Network.hand_over.Goals as goal
 
 pub enter-requires-clause-can : goal.enter-requires-clause-can

@@ -1,5 +1,5 @@
 -- Octets that are no noise are lost.
-use Rattle.std.proofs.Common.{◌≡◌, ◌<◌, length, true, false, refl, inl, inr, arith}
+use Rattle.std.proofs.Common.{◌≡◌, ◌<◌, length, true, false, refl, inr, arith}
 use Rattle.bac_world.specs.World.{IsNoise}
 use Rattle.bac_network.proofs.Delivered.{there_is}
 use Rattle.bac_network.proofs.network.Network.hear_noise.Goals as goal

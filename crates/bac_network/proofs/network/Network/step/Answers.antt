@@ -1,5 +1,5 @@
 -- Events that tell nothing.
-use Rattle.std.proofs.Common.{◌≡◌, sym, subst}
+use Rattle.std.proofs.Common.{sym, subst}
 use Rattle.bac_protocol.specs.Service.{Octets}
 use Rattle.bac_world.specs.World.Event.{Noise, Tick, Advance}
 use Rattle.bac_network.specs.Networks.{world_of}

@@ -1,9 +1,6 @@
 -- With room a node ticks.
-use Rattle.std.proofs.Common.{◌≡◌, ◌<◌, ◌≤◌, ◌+◌, ℕ, Some, length, slice_get, refl, sym, ap, subst, ◌∙◌, arith}
-use Rattle.std.proofs.lemmas.List.{length-map}
+use Rattle.std.proofs.Common.{refl, subst}
 use Rattle.std.proofs.lemmas.Option.{slice_get_read}
-use Rattle.bac_node.specs.Views.{outcome_view}
-use Rattle.bac_requester.specs.Views.{finish_view}
 use Rattle.bac_world.specs.World.{World, Ticks}
 use Rattle.bac_network.specs.Networks.{world_of}
 use Rattle.bac_network.proofs.Delivered.{due_alike, ready_alike, world_alike}

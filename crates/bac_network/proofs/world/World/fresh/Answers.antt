@@ -1,5 +1,5 @@
 -- What is made is fresh.
-use Rattle.std.proofs.Common.{◌≡◌, [], List, refl, sym, ap, ◌∙◌}
+use Rattle.std.proofs.Common.{◌≡◌, [], List, ap, ◌∙◌}
 use Rattle.bac_protocol.specs.Service.{Octets}
 use Rattle.bac_simulation.specs.Journals.{JournalView}
 use Rattle.bac_network.specs.Fresh.{greatest_window, links_of, opening_of}

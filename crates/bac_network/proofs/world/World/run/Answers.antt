@@ -1,5 +1,5 @@
 -- One event after the other.
-use Rattle.std.proofs.Common.{◌≡◌, ◌<◌, Err, length, refl, ◌∙◌, arith}
+use Rattle.std.proofs.Common.{◌<◌, Err, length, refl, ◌∙◌, arith}
 use Rattle.std.proofs.lemmas.Option.{slice_get_read}
 use Rattle.bac_network.specs.Views.{event_view}
 use Rattle.bac_network.proofs.Running.{fault_is, goes_on, stops}

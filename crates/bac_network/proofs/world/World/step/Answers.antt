@@ -1,5 +1,5 @@
 -- The step of the network is one of the world.
-use Rattle.std.proofs.Common.{◌≡◌, refl, sym, ap, subst, ◌∙◌}
+use Rattle.std.proofs.Common.{refl}
 use Rattle.bac_network.specs.Histories.{view_of}
 use Rattle.bac_network.specs.Networks.{world_of}
 use Rattle.bac_network.specs.Views.{event_view}
@@ -24,12 +24,14 @@ returns-clause-once c =
 pub returns-clause-went : goal.returns-clause-went
 returns-clause-went c =
     rw (← c.self.view_is)
-    (step_is c.self.inside.overtake (world_of c.self.inside.network) (world_of c.step.new.self) (event_view c.args.event.now) c.step.result c.step.ensures.happens)
+    (step_is c.self.inside.overtake (world_of c.self.inside.network) (world_of c.step.new.self) (event_view c.args.event.now) c.step.result
+    c.step.ensures.happens)
 
 pub returns-clause-told : goal.returns-clause-told
 returns-clause-told c =
     rw (← c.self.view_is)
-    (told_is c.self.inside.overtake (world_of c.self.inside.network) (world_of c.step.new.self) (event_view c.args.event.now) c.step.result c.step.ensures.happens)
+    (told_is c.self.inside.overtake (world_of c.self.inside.network) (world_of c.step.new.self) (event_view c.args.event.now) c.step.result
+    c.step.ensures.happens)
 
 pub returns-clause-node : goal.returns-clause-node
 returns-clause-node c =

@@ -1,3 +1,0 @@
-pub mod Short
-pub mod HouseReplies
-pub mod Asking

@@ -1,0 +1,4 @@
+pub mod Short
+pub mod HouseReplies
+pub mod OneReply
+pub mod Lines

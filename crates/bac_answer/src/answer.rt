@@ -1,0 +1,60 @@
+//! One datagram in, and those that answer it out.
+ghost use Rattle.std.specs.Prelude.{◌≡◌, ℕ, IfOk};
+ghost use Rattle.bac_npdu.specs.Peers.{PeerView};
+ghost use Rattle.bac_service.specs.Values.{Request};
+ghost use Rattle.bac_node.specs.Views.{outcome_view};
+ghost use Rattle.bac_world.specs.Node.{NodeOn};
+ghost use Rattle.bac_answer.specs.Answers.{AreAnswers, Asks, IsReplied, house_node};
+
+use crate::house_node::{CLIENT, CONFIG};
+use bac_ends::Datagram;
+use bac_node::{NewNodeFault, Node, NodeFault, Outcome};
+use bac_store::house;
+use bac_value::NoMemory;
+use std::alloc::Global;
+
+/// A node with the house store, to which nothing has happened.
+fn house_node(alloc: Global) -> Result<Node, NoMemory>
+    ensures { IfOk result (λ n. n ≡ house_node) }
+{
+    match Node::new(alloc, CONFIG, house(alloc)?) {
+        Ok(node) => Ok(node),
+        Err(NewNodeFault::NoMemory) => Err(NoMemory),
+        // its slots and its window are within the limits
+        Err(NewNodeFault::BadSlots) | Err(NewNodeFault::BadWindow) => unreachable!(),
+    }
+}
+
+/// The node hears a datagram at moment 0.
+fn hears(node: &mut Node, octets: &[u8]) -> Result<Outcome, NoMemory>
+    requires { node.old.latest ≡ 0 }
+    ensures { IfOk result (λ o. NodeOn 0 CLIENT octets.now node.old node.new (outcome_view o)) }
+{
+    match node.on(0, CLIENT, octets) {
+        Ok(outcome) => Ok(outcome),
+        Err(NodeFault::NoMemory) => Err(NoMemory),
+        // no moment is before 0
+        Err(NodeFault::ClockBack) => unreachable!(),
+    }
+}
+
+/// What the node sends for a datagram.
+fn sends(alloc: Global, octets: &[u8]) -> Result<Vec<Datagram>, NoMemory>
+    ensures { IfOk result (λ v. AreAnswers octets.now v.items) }
+{
+    let mut node = house_node(alloc)?;
+    let outcome = hears(&mut node, octets)?;
+    Ok(outcome.sends)
+}
+
+/// The datagrams that a node with the house store sends, in order of sending, where a datagram comes to it from 127.0.0.1, port 47,809, at moment 0.
+///
+/// A request in one APDU of one of the four services (clauses 14.1, 14.2, 15.5 and 15.9) gets the store's reply, in one datagram.
+/// An Err says that memory was refused.
+pub fn answer_datagram(alloc: Global, octets: &[u8]) -> Result<Vec<Datagram>, NoMemory>
+    ensures answers { IfOk result (λ v. AreAnswers octets.now v.items) }
+    ensures reply { (peer : PeerView) (invoke_id choice : ℕ) (r : Request) → Asks octets.now peer invoke_id choice r
+        → IfOk result (λ v. IsReplied peer invoke_id choice r v.items) }
+{
+    sends(alloc, octets)
+}

@@ -1,0 +1,160 @@
+//! Nodes, datagram by datagram. Here is what the tests share.
+use bac_apdu::Limits;
+use bac_client::Ending;
+use bac_ends::Datagram;
+use bac_node::{Config, NewNodeFault, Node, NodeFault, Outcome};
+use bac_npdu::Peer;
+use bac_requester::{AskFault, Asked};
+use bac_service::{AnyComplex, AnyReply, FileWritten, OwnedRequest, read_request};
+use bac_store::house;
+use bac_value::NoMemory;
+use std::alloc::Global;
+use std::process::Abort;
+use std::test::Fail;
+
+mod asks;
+mod causes;
+mod limits;
+mod memory;
+mod requests;
+mod transfers;
+
+/// The node that is asked.
+const SERVER: u8 = 1;
+
+/// The node that asks.
+const CLIENT: u8 = 2;
+
+/// Takes APDUs of 1,476 octets and any number of segments.
+const LARGE: Limits = Limits {
+    max_apdu: 5,
+    takes_segments: true,
+    max_segments: 7,
+};
+
+/// Takes APDUs of 50 octets and any number of segments.
+const SMALL: Limits = Limits {
+    max_apdu: 0,
+    takes_segments: true,
+    max_segments: 7,
+};
+
+/// A read of the present-value of analog-input 5 with invoke ID 1, and its answer.
+const READ: &str = "810A0011 0104 0005010C 0C00000005 1955";
+
+const VALUE: &str = "810A0017 0100 30010C 0C00000005 1955 3E 444290999A 3F";
+
+/// An append of AABBCC to file 1 with invoke ID 0, and its answer.
+const APPEND: &str = "810A0017 0104 02750007 C402800001 0E 31FF 63AABBCC 0F";
+
+const APPENDED: &str = "810A000B 0100 300007 0902";
+
+/// A moment, the number of the link that a datagram comes from, the datagram, the datagrams that are sent, and whether a request is performed.
+type Row = (u64, u8, &'static str, &'static str, bool);
+
+fn link(number: u8) -> [u8; 6] {
+    [10, 0, 0, number, 0xBA, 0xC0]
+}
+
+/// A node of that link, with so many slots at each end and that window.
+fn config(number: u8, client_slots: usize, reply_slots: usize, window: u8) -> Config {
+    Config {
+        link: link(number),
+        limits: LARGE,
+        window,
+        client_slots,
+        reply_slots,
+    }
+}
+
+/// A node of that link with the house store and 64 slots at each end.
+fn house_node(alloc: Global, number: u8) -> Result<Node, NewNodeFault> {
+    Node::new(alloc, config(number, 64, 64, 32), house(alloc)?)
+}
+
+fn digit(character: u8) -> Option<u8> {
+    match character {
+        b'0'..=b'9' => Some(character - b'0'),
+        b'A'..=b'F' => Some(character - b'A' + 10),
+        _ => None,
+    }
+}
+
+/// The octets of hexadecimal digits, which spaces may part.
+fn octets_of(alloc: Global, text: &str) -> Result<Vec<u8>, NoMemory> {
+    let mut octets = Vec::with_capacity(alloc, text.len())?;
+    let mut high = None;
+    for character in text.as_bytes() {
+        let Some(low) = digit(*character) else {
+            continue;
+        };
+        match high {
+            None => high = Some(low),
+            Some(digit) => {
+                octets.push((digit << 4) | low)?;
+                high = None;
+            }
+        }
+    }
+    Ok(octets)
+}
+
+/// Whether datagrams, one after the other, are these octets. It takes no memory.
+fn are_octets(sends: &[Datagram], octets: &[u8]) -> bool {
+    let mut rest = octets;
+    for datagram in sends {
+        if !rest.starts_with(datagram.octets()) {
+            return false;
+        }
+        rest = rest.get(datagram.octets().len()..).unwrap_or(&[]);
+    }
+    rest.is_empty()
+}
+
+/// Whether datagrams, one after the other, are the octets of this text.
+fn are_text(alloc: Global, sends: &[Datagram], text: &str) -> Result<bool, NoMemory> {
+    let octets = octets_of(alloc, text)?;
+    Ok(are_octets(sends, &octets))
+}
+
+/// Whether that is what a row says: nothing has ended, and the datagram was heard.
+fn is_told(outcome: &Outcome, wanted: &[u8], row: &Row) -> bool {
+    are_octets(&outcome.sends, wanted)
+        && outcome.effect.is_some() == row.4
+        && outcome.ended.is_empty()
+        && outcome.dropped.is_none()
+}
+
+/// A node does what each row says, one after the other.
+fn plays(rt: &impl Abort, alloc: Global, node: &mut Node, rows: &[Row]) -> Result<(), Fail> {
+    for row in rows {
+        let heard = octets_of(alloc, row.2)?;
+        let wanted = octets_of(alloc, row.3)?;
+        let outcome = node.on(row.0, link(row.1), &heard)?;
+        assert!(rt; is_told(&outcome, &wanted, row), "{} {}", row.0, row.2);
+    }
+    Ok(())
+}
+
+/// The request that service data spell; what spells none counts as out of memory.
+fn request(alloc: Global, choice: u8, service: &[u8]) -> Result<OwnedRequest, NoMemory> {
+    let Ok(request) = read_request(choice, service) else {
+        return Err(NoMemory);
+    };
+    request.to_owned(alloc)
+}
+
+/// Asks the node at a link, which takes so much.
+fn ask(
+    node: &mut Node,
+    now: u64,
+    number: u8,
+    takes: &Limits,
+    request: &OwnedRequest,
+) -> Result<Asked, AskFault> {
+    let peer = Peer {
+        link: link(number),
+        route: None,
+    };
+    node.ask(now, &peer, takes, request)
+}

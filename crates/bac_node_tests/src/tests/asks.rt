@@ -1,0 +1,254 @@
+//! Asks, their repeats, and the answers that come.
+use super::*;
+
+const READING: &str = "0C00000005 1955";
+
+/// What a ticket ended as.
+#[derive(Clone, Copy, Debug, PartialEq, Eq)]
+enum End {
+    /// File 1 was written from that position on.
+    Written(i64),
+    Aborted(u8),
+    TimedOut,
+    Expired,
+    /// It is open, or has ended otherwise.
+    Open,
+}
+
+fn end_of(how: &Ending) -> End {
+    match how {
+        Ending::Answered(AnyReply::Complex(AnyComplex::FileWritten(FileWritten::Stream(at)))) => {
+            End::Written(*at)
+        }
+        Ending::Aborted(reason) => End::Aborted(*reason),
+        Ending::TimedOut => End::TimedOut,
+        Ending::Expired => End::Expired,
+        _ => End::Open,
+    }
+}
+
+/// How many tickets ended as this.
+fn count(outcome: &Outcome, end: End) -> usize {
+    let mut count = 0usize;
+    for finish in &outcome.ended {
+        if end_of(&finish.how) == end {
+            count = count.saturating_add(1);
+        }
+    }
+    count
+}
+
+/// A moment, the datagram that comes from the server (none: a tick), the datagrams that are sent, and how the ticket ends.
+type ClientRow = (u64, &'static str, &'static str, End);
+
+/// What a datagram from the server makes a client do, or a tick.
+fn meets(node: &mut Node, now: u64, octets: &[u8]) -> Result<Outcome, NodeFault> {
+    if octets.is_empty() {
+        node.tick(now)
+    } else {
+        node.on(now, link(SERVER), octets)
+    }
+}
+
+/// Whether that is what a row says: the one ticket has ended so, or none has.
+fn is_as_said(outcome: &Outcome, wanted: &[u8], end: End) -> bool {
+    let ended = if end == End::Open { 0 } else { 1 };
+    are_octets(&outcome.sends, wanted)
+        && outcome.ended.len() == ended
+        && count(outcome, end) == ended
+}
+
+/// A client does what each row says, one after the other.
+fn goes_on(
+    rt: &impl Abort,
+    alloc: Global,
+    node: &mut Node,
+    rows: &[ClientRow],
+) -> Result<(), Fail> {
+    for row in rows {
+        let heard = octets_of(alloc, row.1)?;
+        let wanted = octets_of(alloc, row.2)?;
+        let outcome = meets(node, row.0, &heard)?;
+        assert!(rt; is_as_said(&outcome, &wanted, row.3), "{} {}", row.0, row.1);
+    }
+    Ok(())
+}
+
+/// The request that this text spells.
+fn request_of(alloc: Global, choice: u8, text: &str) -> Result<OwnedRequest, NoMemory> {
+    let service = octets_of(alloc, text)?;
+    request(alloc, choice, &service)
+}
+
+/// A client that has asked the server for an append to its file 1, at moment 0.
+fn appending(alloc: Global) -> Result<Node, Fail> {
+    let append = request_of(alloc, 7, "C402800001 0E 31FF 63AABBCC 0F")?;
+    let mut node = house_node(alloc, CLIENT)?;
+    let _ = ask(&mut node, 0, SERVER, &LARGE, &append)?;
+    Ok(node)
+}
+
+/// The first answer is lost: a tick sends the ask again, and the kept answer ends it; it comes once more.
+const LOST: &[ClientRow] = &[
+    (2_999, "", "", End::Open),
+    (3_000, "", APPEND, End::Open),
+    (3_000, APPENDED, "", End::Written(2)),
+    (3_000, APPENDED, "", End::Open),
+    (6_000, "", "", End::Open),
+];
+
+#[test]
+fn a_lost_answer(rt: HostRuntime) -> Result<(), Fail> {
+    let mut node = appending(rt.alloc())?;
+    goes_on(&rt, rt.alloc(), &mut node, LOST)
+}
+
+/// Nothing is delivered: three repeats, and the end.
+const SILENT: &[ClientRow] = &[
+    (3_000, "", APPEND, End::Open),
+    (5_999, "", "", End::Open),
+    (6_000, "", APPEND, End::Open),
+    (9_000, "", APPEND, End::Open),
+    (11_999, "", "", End::Open),
+    (12_000, "", "", End::TimedOut),
+];
+
+#[test]
+fn nothing_is_delivered(rt: HostRuntime) -> Result<(), Fail> {
+    let mut node = appending(rt.alloc())?;
+    goes_on(&rt, rt.alloc(), &mut node, SILENT)
+}
+
+/// The first tick is at 60,000, where the ask is sent again; a later one ends it.
+const LATE: &[ClientRow] = &[
+    (60_000, "", APPEND, End::Open),
+    (60_001, "", "", End::Expired),
+];
+
+#[test]
+fn late_ticks(rt: HostRuntime) -> Result<(), Fail> {
+    let mut node = appending(rt.alloc())?;
+    goes_on(&rt, rt.alloc(), &mut node, LATE)
+}
+
+/// The first tick is at 60,001.
+const TOO_LATE: &[ClientRow] = &[(60_001, "", "", End::Expired)];
+
+#[test]
+fn a_tick_too_late(rt: HostRuntime) -> Result<(), Fail> {
+    let mut node = appending(rt.alloc())?;
+    goes_on(&rt, rt.alloc(), &mut node, TOO_LATE)
+}
+
+/// A client that has asked the server for a property, at moment 0.
+fn reading(alloc: Global) -> Result<Node, Fail> {
+    let read = request_of(alloc, 12, READING)?;
+    let mut node = house_node(alloc, CLIENT)?;
+    let _ = ask(&mut node, 0, SERVER, &LARGE, &read)?;
+    Ok(node)
+}
+
+/// An answer whose service data spell nothing: the client gives up.
+const EMPTY: &[ClientRow] = &[(
+    0,
+    "810A0009 0100 30000C",
+    "810A0009 0100 700000",
+    End::Aborted(0),
+)];
+
+#[test]
+fn an_answer_of_no_octets(rt: HostRuntime) -> Result<(), Fail> {
+    let mut node = reading(rt.alloc())?;
+    goes_on(&rt, rt.alloc(), &mut node, EMPTY)
+}
+
+/// The number of the fault, 0 where the ask was accepted.
+fn fault(came: Result<Asked, AskFault>) -> u8 {
+    match came {
+        Ok(_) => 0,
+        Err(fault) => fault.number(),
+    }
+}
+
+/// A write of so many zeros at position 0 of file 1; of 254 octets or more.
+fn long_write(alloc: Global, len: u16) -> Result<OwnedRequest, Fail> {
+    let front = format!(in alloc; "C402800001 0E 3100 65FE{len:04X}")?;
+    let mut octets = octets_of(alloc, front.as_str())?;
+    for _ in 0..len {
+        octets.push(0)?;
+    }
+    octets.push(0x0F)?;
+    Ok(request(alloc, 7, &octets)?)
+}
+
+/// Takes no segments.
+const ONE_APDU: Limits = Limits {
+    max_apdu: 0,
+    takes_segments: false,
+    max_segments: 0,
+};
+
+/// One slot, and the latest moment 5: the moment, the link that is asked, how many octets are written, and the number of the fault.
+const FAULTS: &[(u64, u8, u16, u8)] = &[
+    (4, CLIENT, 65_523, 6),
+    (6, CLIENT, 65_523, 5),
+    (6, SERVER, 65_523, 4),
+    (6, SERVER, 65_522, 3),
+];
+
+/// The number of the fault of an ask for a write of so many octets, 0 where it is accepted.
+fn writes(alloc: Global, node: &mut Node, row: &(u64, u8, u16, u8)) -> Result<u8, Fail> {
+    let write = long_write(alloc, row.2)?;
+    Ok(fault(ask(node, row.0, row.1, &ONE_APDU, &write)))
+}
+
+#[test]
+fn faults_of_asks(rt: HostRuntime) -> Result<(), Fail> {
+    let mut node = Node::new(rt.alloc(), config(CLIENT, 1, 1, 32), house(rt.alloc())?)?;
+    let _ = node.tick(5)?;
+    for row in FAULTS {
+        assert_eq!(rt; writes(rt.alloc(), &mut node, row)?, row.3);
+        assert_eq!(rt; node.latest(), 5);
+    }
+    Ok(())
+}
+
+/// The invoke ID of an ask for a property, or its fault.
+fn invoke_id(node: &mut Node, now: u64, read: &OwnedRequest) -> Result<u8, AskFault> {
+    Ok(ask(node, now, SERVER, &LARGE, read)?.invoke_id)
+}
+
+/// One slot: the second ask is refused.
+#[test]
+fn one_client_slot(rt: HostRuntime) -> Result<(), Fail> {
+    let read = request_of(rt.alloc(), 12, READING)?;
+    let mut node = Node::new(rt.alloc(), config(CLIENT, 1, 1, 32), house(rt.alloc())?)?;
+    assert_eq!(rt; invoke_id(&mut node, 6, &read), Ok(0));
+    assert_eq!(rt; invoke_id(&mut node, 7, &read), Err(AskFault::NoSlot));
+    assert_eq!(rt; node.latest(), 6);
+    Ok(())
+}
+
+/// How many asks expire in a tick.
+fn expired(node: &mut Node, now: u64) -> Result<usize, NodeFault> {
+    let outcome = node.tick(now)?;
+    Ok(count(&outcome, End::Expired))
+}
+
+/// 256 asks take the invoke IDs of a peer; they are held for 135,000 ms.
+#[test]
+fn all_invoke_ids(rt: HostRuntime) -> Result<(), Fail> {
+    let read = request_of(rt.alloc(), 12, READING)?;
+    let mut node = Node::new(rt.alloc(), config(CLIENT, 1_024, 1, 32), house(rt.alloc())?)?;
+    for n in 0..256u16 {
+        assert_eq!(rt; invoke_id(&mut node, 0, &read), Ok(n as u8));
+    }
+    assert_eq!(rt; invoke_id(&mut node, 0, &read), Err(AskFault::NoInvokeId));
+    assert_eq!(rt; expired(&mut node, 135_000)?, 256);
+    assert_eq!(rt;
+        invoke_id(&mut node, 135_000, &read),
+        Err(AskFault::NoInvokeId)
+    );
+    assert_eq!(rt; invoke_id(&mut node, 135_001, &read), Ok(0));
+    Ok(())
+}
