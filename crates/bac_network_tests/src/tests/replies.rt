@@ -53,46 +53,6 @@ fn readers(
     Ok(Scene::of(alloc, nodes, 128)?.headed(LARGE))
 }
 
-/// A small node that takes segments or none, so many of them.
-fn taking(takes_segments: bool, max_segments: u8) -> Limits {
-    Limits {
-        max_apdu: 0,
-        takes_segments,
-        max_segments,
-    }
-}
-
-/// The tag and the length of a description, whether the client takes segments and how many, how the ask ends, and the number of deliveries.
-type Long = (&'static str, usize, bool, u8, Seen, usize);
-
-/// What fits one APDU of 50 octets, and what does not; what needs segments that a client does not take, or more of them than it takes.
-#[test]
-fn replies_in_segments(rt: HostRuntime) -> Result<(), Fail> {
-    const ROWS: &[Long] = &[
-        ("7524", 36, false, 0, Seen::Read(0, 0), 2),
-        ("7525", 37, false, 0, Seen::Aborted(0, 4), 2),
-        ("7525", 37, true, 7, Seen::Read(0, 0), 4),
-        ("754F", 79, true, 1, Seen::Read(0, 0), 4),
-        ("7550", 80, true, 1, Seen::Aborted(0, 1), 2),
-        ("75FE0FA0", 4_000, true, 7, Seen::Read(0, 0), 94),
-    ];
-    let alloc = rt.alloc();
-    for (tag, count, takes_segments, max_segments, end, deliveries) in ROWS {
-        let limits = taking(*takes_segments, *max_segments);
-        let mut scene = readers(alloc, limits, &[], *tag, *count)?;
-        let _ = scene.happens(alloc, Do::Ask(0, 1, READ, DESCRIPTION))?;
-        assert_eq!(&rt;
-            scene.straight(0),
-            *deliveries,
-            "{} {}",
-            *tag,
-            *max_segments
-        );
-        assert!(rt; scene.latest() == *end, "{} {}", *tag, *max_segments);
-    }
-    Ok(())
-}
-
 /// A reply of 90 segments is refused to a client that takes none and to one that takes two. To a third it is sent: one segment is lost, and the window is
 /// sent again from it on, three times more by ticks; then the transfer stops, until the request comes again.
 #[test]
