@@ -17,8 +17,11 @@ mkdir -p "$work/crates/$name/src"
 needs="bac_value bac_service"
 if [ -f "$top/$folder/stands_on" ]; then needs=$(cat "$top/$folder/stands_on"); fi
 for need in $needs; do
-    cp -a "$top/crates/$need" "$work/crates"
-    grep "^$need:" "$top/crates.txt" >> "$work/crates.txt"
+    # the kit's own libraries stand elsewhere
+    if [ -d "$top/crates/$need" ]; then
+        cp -a "$top/crates/$need" "$work/crates"
+        grep "^$need:" "$top/crates.txt" >> "$work/crates.txt"
+    fi
 done
 for file in "$top/$folder"/*; do
     case "$file" in

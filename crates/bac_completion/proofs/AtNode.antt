@@ -40,7 +40,7 @@ use Rattle.bac_world.proofs.NodeLaws.{heard_as}
 use Rattle.bac_world.proofs.Steps.{Over}
 use Rattle.bac_completion.specs.Ends.{IsOpen, finishes_of, expired, HasFinish, HasTicketsApart, Expires, TickEnds, AnswerEnds, NodesAreInOrder}
 use Rattle.bac_world.proofs.Headline.{fresh_over, rules_of, rules_bounded}
-use Rattle.bac_completion.proofs.Endings.{opened, tick_leaves, on_run}
+use Rattle.bac_completion.proofs.Endings.{opened, late_gets, tick_leaves, on_run}
 
 -- Lists of endings.
 
@@ -108,18 +108,6 @@ late_ticks : (c : Context) (t : Ticket) → is_idle t.phase ≡ false → DEADLI
 late_ticks c t going late =
     ap (λ (b : Bool). if b then Stays else if is_expired c.now t.ask then Ends [] machine.Ending.Expired else client.open_ticks c t t.phase) going
     ∙ ap (λ (b : Bool). if b then Ends [] machine.Ending.Expired else client.open_ticks c t t.phase) expires
-  where
-    expires : is_expired c.now t.ask ≡ true
-    expires = grind (arith, nat_tests)
-
-late_gets : (c : Context) (t : Ticket) (a : Apdu) → is_from_server a ≡ true → is_idle t.phase ≡ false → DEADLINE < c.now - t.ask.first
-    → client_gets c reads_reply t a ≡ Ends [] machine.Ending.Expired
-late_gets c t a from going late =
-    ap (λ (b : Bool). if b || not (is_from_server a) then Stays else if is_expired c.now t.ask then Ends [] machine.Ending.Expired
-    else client.open_gets c reads_reply t.ask t.phase a) going
-    ∙ ap (λ (b : Bool). if not b then Stays else if is_expired c.now t.ask then Ends [] machine.Ending.Expired
-    else client.open_gets c reads_reply t.ask t.phase a) from
-    ∙ ap (λ (b : Bool). if b then Ends [] machine.Ending.Expired else client.open_gets c reads_reply t.ask t.phase a) expires
   where
     expires : is_expired c.now t.ask ≡ true
     expires = grind (arith, nat_tests)
@@ -239,7 +227,7 @@ answer_ends now peer a old new o gets from apart number t there late = record { 
         (subst (λ (b : Bool). IsHeardBy b peer a now old new o) (not_from_client a from) (heard_as now peer a old new o gets))
 
     reaction : client_gets (context_of old.settings now (key_of peer a)) reads_reply t a ≡ Ends [] machine.Ending.Expired
-    reaction = late_gets (context_of old.settings now (key_of peer a)) t a from going late
+    reaction = late_gets reads_reply (context_of old.settings now (key_of peer a)) t a from going late
 
     only : IsOnlyExpired number o.ended
     only = only_expired number t.ask.choice o.ended

@@ -1,22 +1,29 @@
 -- Each ask ends, in every world.
-use Rattle.std.proofs.Common.{◌≡◌, ◌⊎◌, ℕ, suc, ◌-◌, ◌<◌, ◌≤◌, Bool, true, false, List, [], ◌∷◌, length, Option, Some, None, slice_get, if◌then◌else◌}
+use Rattle.std.proofs.Common.{◌≡◌, ◌⊎◌, ℕ, suc, ◌-◌, ◌<◌, ◌≤◌, Bool, true, false, List, [], ◌∷◌, length, Option, Some, None, slice_get, if◌then◌else◌, not, ◌||◌}
 use Rattle.std.proofs.Common.{nat_eq, refl, sym, ap, subst, inl, inr, ◌∙◌, arith}
 use Rattle.std.proofs.lemmas.Bool.Decides.{nat_tests}
-use Rattle.bac_apdu.specs.Apdu.{Limits}
+use Rattle.bac_apdu.specs.Apdu.{Apdu, Limits}
+use Rattle.bac_apdu.specs.Apdu.Apdu.{ConfirmedRequest, UnconfirmedRequest, SimpleAck, ComplexAck, SegmentAck, Error, Reject, Abort}
 use Rattle.bac_service.specs.Services.{reads_reply}
 use Rattle.bac_service.specs.Values.{Request, choice_of}
 use Rattle.bac_protocol.specs.declared.times.TheConstants.{DEADLINE}
 use Rattle.bac_protocol.specs.Context.{Context}
-use Rattle.bac_protocol.specs.Service.{Octets}
+use Rattle.bac_protocol.specs.Service.{Octets, Readable}
+use Rattle.bac_protocol.specs.Wire.{is_from_client, is_from_server}
 use Rattle.bac_protocol.specs.Service.{Ending}
 use Rattle.bac_protocol.specs.Client as client
 use Rattle.bac_protocol.specs.Client.{Ask, Ticket, Reaction, is_idle, is_expired}
 use Rattle.bac_protocol.specs.Client.Reaction.{Stays, GoesOn, Repeats, Ends}
 use Rattle.bac_protocol.specs.Log as octets
-use Rattle.bac_protocol.specs.Transaction.{Key, Rules, client_context}
-use Rattle.bac_protocol.specs.World.{Net, net_start}
+use Rattle.bac_protocol.specs.Transaction.{Key, Rules, client_context, ended}
+use Rattle.bac_protocol.specs.World.{Net, net_start, later, client_acts}
+use Rattle.bac_protocol.specs.Moves.{taken_by_client}
 use Rattle.bac_protocol.specs.Claims as claims
-use Rattle.bac_protocol.proofs.Keys.{set_same}
+use Rattle.bac_protocol.proofs.Keys.{copy_at}
+use Rattle.bac_protocol.proofs.Alone.{one}
+use Rattle.bac_protocol.proofs.Sound.{Up, Down, Says, Sound}
+use Rattle.bac_protocol.proofs.Nets.{sound_at}
+use Rattle.bac_protocol.proofs.SingleMoves.{reached_net}
 use Rattle.bac_protocol.proofs.Dead.{ended_is_silent}
 use Rattle.bac_progress.specs.Runs as net
 use Rattle.bac_progress.proofs.Paths.{Any, Path, path_then, path_log}
@@ -30,20 +37,22 @@ use Rattle.bac_ends.specs.Ends.Held.{Open, Closed}
 use Rattle.bac_world.specs.Node.{Node, Outcome, NodeTick}
 use Rattle.bac_world.specs.Once.{Fact}
 use Rattle.bac_world.specs.Once.Fact.{Asked, Performed, Ended}
-use Rattle.bac_world.specs.World.{World, Event, WorldStep, WorldRun, IsFresh, IsBounded, IsAsked, Ticks, link_at, peer_at}
-use Rattle.bac_world.specs.World.Event.{Tick}
+use Rattle.bac_world.specs.World.{World, Copy, Event, WorldStep, WorldRun, IsFresh, IsBounded, IsAsked, Ticks, link_at, peer_at}
+use Rattle.bac_world.specs.World.Event.{Deliver, Tick}
 use Rattle.bac_world.proofs.Slots.{changed, changed_value, value_changed}
 use Rattle.bac_world.proofs.Machines.{orderly}
 use Rattle.bac_world.proofs.Logs.{FactMeans}
-use Rattle.bac_world.proofs.Bridge.{TicketFits, key_of, slot_key}
+use Rattle.bac_world.proofs.Bridge.{IsCopyOf, IsBetween, TicketFits, key_of, slot_key}
+use Rattle.bac_world.proofs.Pairs.{IsPaired}
 use Rattle.bac_world.proofs.Steps.{Over}
 use Rattle.bac_world.proofs.Asking.{accepted_is}
 use Rattle.bac_world.proofs.ClientTick.{client_tick}
 use Rattle.bac_world.proofs.Headline.{fresh_over, rules_of, rules_bounded}
 use Rattle.bac_completion.specs.Runs.{Throughout, endings_of}
+use Rattle.bac_completion.specs.RoundTrip.{MayArrive, IsFromServer}
 use Rattle.bac_completion.specs.Ends.{IsOpen, EndsInTime, AsksEnd}
-use Rattle.bac_completion.proofs.Asked.{after_ask, key, ask, made, made_over, made_path, there, server_link}
-use Rattle.bac_completion.proofs.Following.{Followed, Parts, accepted, Gives, step_followed, run_followed}
+use Rattle.bac_completion.proofs.Asked.{after_ask, key, ask, made, made_over, made_path, there, server_link, foreign}
+use Rattle.bac_completion.proofs.Following.{Followed, Parts, IsTaken, accepted, post, heard_now, told_over, Gives, step_followed, run_followed}
 
 -- Endings are counted alike in a log of octets and in the same log as values.
 
@@ -138,6 +147,34 @@ tick_leaves now old new o tick key number u is = go (value_at same_key key old.c
     go (Some v) e =
         let same : client_tick old.settings now key v ≡ record { number = number; held = Open u } = cc in
         held_in_time (context_of old.settings now key) v.number v.held u (ap (λ (y : Client). y.held) same)
+
+-- An APDU of a server ends an old ticket.
+
+pub late_gets : (readable : Readable) (c : Context) (t : Ticket) (a : Apdu) → is_from_server a ≡ true → is_idle t.phase ≡ false → DEADLINE < c.now - t.ask.first
+    → client.client_gets c readable t a ≡ Ends [] Ending.Expired
+late_gets readable c t a from going late =
+    ap (λ (b : Bool). if b || not (is_from_server a) then Stays else if is_expired c.now t.ask then Ends [] Ending.Expired
+    else client.open_gets c readable t.ask t.phase a) going
+    ∙ ap (λ (b : Bool). if not b then Stays else if is_expired c.now t.ask then Ends [] Ending.Expired
+    else client.open_gets c readable t.ask t.phase a) from
+    ∙ ap (λ (b : Bool). if b then Ends [] Ending.Expired else client.open_gets c readable t.ask t.phase a) expires
+  where
+    expires : is_expired c.now t.ask ≡ true
+    expires = grind (arith, nat_tests)
+
+-- what a copy of a transaction says is sent by its client or by its server
+from_server : (W number : ℕ) (ask : Ask) (log : List octets.Fact) (up : Up) (down : Down) (moment k : ℕ) (a : Apdu)
+    → Says W number ask log up down moment k a → is_from_client a ≡ false → is_from_server a ≡ true
+from_server W number ask log up down moment k (ConfirmedRequest l id g choice o) h e = absurd cc
+from_server W number ask log up down moment k (UnconfirmedRequest choice o) h e = absurd h
+from_server W number ask log up down moment k (SimpleAck id choice) h e = refl
+from_server W number ask log up down moment k (ComplexAck id g choice o) h e = refl
+from_server W number ask log up down moment k (SegmentAck true id ack) h e = refl
+from_server W number ask log up down moment k (SegmentAck false id ack) h e = absurd cc
+from_server W number ask log up down moment k (Error id choice class code) h e = refl
+from_server W number ask log up down moment k (Reject id r) h e = refl
+from_server W number ask log up down moment k (Abort true id r) h e = refl
+from_server W number ask log up down moment k (Abort false id r) h e = absurd cc
 
 -- In every world.
 
@@ -279,8 +316,102 @@ module _ (links : ℕ → Option Octets) (apart : (i j : ℕ) (l : Octets) → l
         ended = go (tracked_path x asks_key n.asks its_ask first then.net path logged_first
             (inl (there links apart W x bound readable old n h c s limits r asked a parts Any)))
 
-    ends : EndsInTime x.overtake old c asked
-    ends = record { before = before; tick = tick }
+    -- a copy of its server's that is heard
+    module _ (w answered : World) (m : Net) (over : Over links apart W x w m) (late : DEADLINE < w.now - old.now) (number : ℕ) (d : Copy)
+        (may : MayArrive x.overtake w number d) (from : IsFromServer c s a.accepted.invoke_id d) (did : WorldStep x.overtake w (Deliver number) answered)
+        (t : IsThere x Any asks_key n.asks its_ask m) (going : is_idle t.ticket.phase ≡ false) where
+      abbrev z : IsPaired (IsCopyOf links apart) m.posts number d
+      z = post links apart W x bound readable w answered m over number d may.at
+
+      same_node : c ≡ s → ⊥
+      same_node = foreign links apart W x bound readable old n h c s limits r asked a parts
+
+      key_is : z.other.key ≡ asks_key
+      key_is = sym z.goes.key ∙ from.key ∙ ap (λ (k : ℕ). key_of c s k) (ap (λ y. y.invoke_id) parts.is)
+
+      down : is_from_client z.other.copy.apdu ≡ false
+      down = go (is_from_client z.other.copy.apdu) z.goes.between
+        where
+          go : (b : Bool) → IsBetween b z.other.key d.from d.to → b ≡ false
+          go false k = refl
+          go true k = absurd (same_node (sym (ap (λ (y : Key). y.client) key_is) ∙ sym k.0 ∙ from.from))
+
+      away : z.other.key.client ≡ z.other.key.server → ⊥
+      away e = same_node (sym (ap (λ (y : Key). y.client) key_is) ∙ e ∙ ap (λ (y : Key). y.server) key_is)
+
+      heard : IsTaken links apart W x bound readable w answered m number z.other d
+      heard = heard_now links apart W x bound readable w answered m over number d may.at may.arrives away did
+
+      at : m.tickets z.other.key ≡ Some t.ticket
+      at = ap m.tickets key_is ∙ t.at
+
+      known : (up : Up) × (down : Down) × Sound W z.other.key m.now m.asks (m.numbers z.other.key) t.ticket (m.entries z.other.key)
+          (one m z.other.key).copies m.log up down
+      known = sound_at W m z.other.key (Some t.ticket) at (reached_net W x bound m over.sound)
+
+      of_server : is_from_server z.other.copy.apdu ≡ true
+      of_server = from_server W (m.numbers z.other.key) t.ticket.ask m.log known.0 known.1 z.other.copy.moment (later z.other.key number m.posts)
+          z.other.copy.apdu (((known.2).arriving (later z.other.key number m.posts) z.other.copy (copy_at number m.posts z.other heard.at) heard.young).1) down
+
+      abbrev turn : Reaction
+      turn = client.client_gets (client_context x z.other.key m.now) x.readable t.ticket z.other.copy.apdu
+
+      told : Over links apart W x answered (client_acts m z.other.key t.ticket turn)
+      told = subst (λ (o : Option Ticket). Over links apart W x answered (taken_by_client x m z.other o)) at
+          (told_over links apart W x bound readable w answered m over number z.other d heard down)
+
+      expires : turn ≡ Ends [] Ending.Expired
+      expires =
+          let first : t.ticket.ask.first ≡ n.now = ap (λ (y : Ask). y.first) t.is in
+          let when : n.now ≡ old.now = h.now in
+          let now : m.now ≡ w.now = over.now in
+          late_gets x.readable (client_context x z.other.key m.now) t.ticket z.other.copy.apdu of_server going (omega arith)
+
+      number_is : m.numbers z.other.key ≡ n.asks
+      number_is = ap m.numbers key_is ∙ t.number_is
+
+      has_ended : HasEnded n.asks (client_acts m z.other.key t.ticket turn).log
+      has_ended = subst (λ (l : List octets.Fact). HasEnded n.asks l) (sym (log_is)) (Ending.Expired, inl refl)
+        where
+          log_is : (client_acts m z.other.key t.ticket turn).log ≡ octets.Fact.Ended n.asks Ending.Expired ∷ m.log
+          log_is = (λ i. ended (number_is i) (client.ending_of (expires i)) m.log)
+
+    answer : (between : List Event) (late answered : World) → WorldRun x.overtake asked between late → DEADLINE < late.now - old.now
+        → (number : ℕ) (d : Copy) → MayArrive x.overtake late number d → IsFromServer c s a.accepted.invoke_id d
+        → WorldStep x.overtake late (Deliver number) answered
+        → (after : List Event) (w : World) → WorldRun x.overtake answered after w → endings_of (length old.notes) w.log ≡ 1
+    answer between late answered run over number d may from did after w run' = go (tracked_path x asks_key n.asks its_ask first f.net f.path logged_first
+        (inl (there links apart W x bound readable old n h c s limits r asked a parts Any)))
+      where
+        f : Followed links apart W x bound readable Any late first
+        f = followed between late run
+
+        logged_first : IdleIsLogged first
+        logged_first = logged_path x Any n first (made_path links apart W x bound readable old n h c s limits r asked a parts Any) logged
+
+        then : Followed links apart W x bound readable Any answered f.net
+        then = on_step late answered f.net f.over (Deliver number) did
+
+        conclude : (m : Net) → Over links apart W x answered m → HasEnded n.asks m.log → endings_of (length old.notes) w.log ≡ 1
+        conclude m o ended =
+            let last = on_run after answered w m o run' in
+            once w last.net last.over (ended_grows n.asks m.log last.net.log (path_log x Any m last.net last.path) ended)
+
+        was : HasEnded n.asks f.net.log → endings_of (length old.notes) w.log ≡ 1
+        was e = conclude then.net then.over (ended_grows n.asks f.net.log then.net.log (path_log x Any f.net then.net then.path) e)
+
+        go : Tracked x asks_key n.asks its_ask f.net → endings_of (length old.notes) w.log ≡ 1
+        go (inr e) = was e
+        go (inl t) = by (is_idle t.ticket.phase) refl
+          where
+            by : (b : Bool) → is_idle t.ticket.phase ≡ b → endings_of (length old.notes) w.log ≡ 1
+            by true idle = was (subst (λ (k : ℕ). HasEnded k f.net.log) t.number_is
+                (logged_path x Any first f.net f.path logged_first asks_key t.ticket t.at idle))
+            by false going = conclude (client_acts f.net _ t.ticket _) (told late answered f.net f.over over number d may from did t going)
+                (has_ended late answered f.net f.over over number d may from did t going)
+
+    ends : EndsInTime x.overtake old c s a.accepted.invoke_id asked
+    ends = record { before = before; tick = tick; answer = answer }
 
 pub asks_end : (W overtake : ℕ) (opening reached : World) → IsFresh opening → IsBounded W overtake opening
     → (events : List Event) → WorldRun overtake opening events reached → AsksEnd overtake reached

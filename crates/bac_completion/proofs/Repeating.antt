@@ -56,8 +56,8 @@ use Rattle.bac_world.proofs.Asking.{accepted_whole}
 use Rattle.bac_world.proofs.Headline.{headline, fresh_over, rules_of, rules_bounded}
 use Rattle.bac_completion.specs.Runs.{Throughout}
 use Rattle.bac_completion.specs.Ends.{IsOpen}
-use Rattle.bac_completion.specs.RoundTrip.{MayArrive, IsRequest, CanPerform, IsAnswered}
-use Rattle.bac_completion.specs.Repeats.{FindsServer, IsFromServer, IsWaiting, IsRobust, RepeatsSuffice}
+use Rattle.bac_completion.specs.RoundTrip.{MayArrive, IsRequest, CanPerform, IsAnswered, IsFromServer}
+use Rattle.bac_completion.specs.Repeats.{FindsServer, IsWaiting, IsRobust, RepeatsSuffice}
 use Rattle.bac_completion.proofs.Following.{Gives, Followed, Parts, IsTaken, IsServedBy, served_reaction, accepted, asked_free, post, comes, heard_now, served_over}
 use Rattle.bac_completion.proofs.Following.{told_over, run_followed}
 use Rattle.bac_completion.proofs.Asked.{key, ask, made, made_over, client_link, server_link, foreign, request_is, is_request, pairwise_rest, just_one}

@@ -14,7 +14,7 @@ use Rattle.bac_world.specs.Node.{Node}
 use Rattle.bac_world.specs.World.{World, Copy, Event, WorldStep, WorldRun, IsAsked, peer_at}
 use Rattle.bac_world.specs.World.Event.{Ask, Deliver, Noise, Tick, Advance}
 use Rattle.bac_completion.specs.Runs.{Throughout}
-use Rattle.bac_completion.specs.RoundTrip.{MayArrive, IsWhole, IsRequest, CanPerform, IsAnswered}
+use Rattle.bac_completion.specs.RoundTrip.{MayArrive, IsFromServer, IsWhole, IsRequest, CanPerform, IsAnswered}
 use Rattle.bac_completion.specs.Ends.{IsOpen}
 
 -- a delivery of a copy of the ask's request to a server with no live entry for it finds a server that can perform it
@@ -25,12 +25,7 @@ FindsServer overtake server client invoke_id r sent w (Deliver number) =
     → CanPerform w.now client node invoke_id r
 FindsServer overtake server client invoke_id r sent w _ = Unit {0}
 
--- a copy comes from the server, in the transaction of that client and invoke ID
-pub record IsFromServer (client server invoke_id : ℕ) (c : Copy) : Type 0 where
-  pub key : c.key ≡ record { client = client; server = server; invoke_id = invoke_id }
-  pub from : c.from ≡ server
-
--- its ticket is open at its client and waits for the answer; where its timer is due a repeat is left, which the next tick sends
+-- its ticket is open at its client and waits for the answer; where its timer is due a repeat is left
 pub record IsWaiting (w : World) (client : ℕ) (server_link : List ℕ) (invoke_id : ℕ) : Type 0 where
   pub node : Node
   pub at : slice_get w.nodes client ≡ Some node

@@ -47,12 +47,12 @@ second_round_trip = record {
 
 pub round_trip_of_segment : RoundTripOfSegment
 round_trip_of_segment = record {
+  windows = record { client = omega arith; server = omega arith };
   ask = refl;
   fits = record { way = refl; kind = (refl, refl) };
   keeps = record { entry = _; at = refl; live = refl; request_is = refl; state = refl };
   request = record { post = _; at = refl; key_is = refl; apdu_is = refl; arrives = refl };
   going = record { ticket = _; at = refl; going = refl; in_time = omega arith };
-  all_sent = refl;
   answer = record { post = post_of key 2000 position_apdu; at = refl; key_is = refl; apdu_is = refl; arrives = refl };
   ends = refl;
 }

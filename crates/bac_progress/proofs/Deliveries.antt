@@ -1,5 +1,5 @@
 -- Copies that are delivered once, in order of sending, where one that too many later ones have overtaken is lost.
-use Rattle.std.proofs.Common.{◌≡◌, ℕ, zero, suc, ◌+◌, ◌-◌, ◌≤◌, ◌⊎◌, Bool, true, false, ◌&&◌, List, [], ◌∷◌, ◌++◌, length, Some, slice_get}
+use Rattle.std.proofs.Common.{◌≡◌, ℕ, zero, suc, ◌+◌, ◌-◌, ◌<◌, ◌≤◌, ◌⊎◌, Bool, true, false, ◌&&◌, List, [], ◌∷◌, ◌++◌, length, Some, slice_get}
 use Rattle.std.proofs.Common.{if◌then◌else◌, nat_le, refl, sym, ap, subst, inl, inr, ◌∙◌, arith, zero-add, suc-add, append_assoc, length-append}
 use Rattle.std.proofs.lemmas.Bool.Decides.{nat_tests}
 use Rattle.bac_apdu.specs.Apdu.{Apdu}
@@ -240,3 +240,46 @@ module _ (S : Type 0) (shop : Shop S) (x : Rules) (now number : ℕ) (key : Key)
       ran_suc j h.count first u q (run_follows h.count j (suc first) run.4 u (passes p h.xs h.a) q h.leads over
       (went_on w run.4 p first h.xs h.a run.0 run.5 s h.is (inl (run.1 refl))) run.6
       (stops_at (first + suc j) (suc first + j) u (omega arith) stops))
+
+  -- there is a straight run that goes so
+  pub record Follows (has_slot : Bool) (count first : ℕ) (w : World S) (q : Duo S) : Type 0 where
+    pub new : World S
+    pub run : Straight S exact key has_slot count first w new
+    pub shows : Shows S shop x now number key new q (first + count)
+
+  open_in : (w : World S) (q : Duo S) (first : ℕ) → Shows S shop x now number key w q first → is_idle q.ticket.phase ≡ false
+      → is_ended (w.net.tickets key) ≡ false
+  open_in w q first h going = ap is_ended h.ticket ∙ going
+
+  left_in : (w : World S) (q : Duo S) (first : ℕ) (h : Shows S shop x now number key w q first) (xs : List Apdu) (a : Apdu) → q.pending ≡ a ∷ xs
+      → first < length w.net.posts
+  left_in w q first h xs a is =
+      let len = ap length (posts_are w q first h xs a is true) ∙ length-append h.old (post_of key now a ∷ posts_of key now xs) in
+      let c = h.count in
+      omega arith
+
+  follows : (count first : ℕ) (w : World S) (p q : Duo S) → Leads count p q → Shows S shop x now number key w p first → Follows false count first w q
+  follows zero first w p q h s = record {
+    new = w;
+    run = refl;
+    shows = shows_at first (first + 0) w q (omega arith) (subst (λ (d : Duo S). Shows S shop x now number key w d first) h s);
+  }
+  follows (suc count) first w p q h s =
+      let u = happens S shop x w (Deliver first true) in
+      let f = follows count (suc first) u (passes p h.0 h.1) q h.5 (passes_shows w p first s h.0 h.1 h.2 true (inl refl)) in
+      record {
+        new = f.new;
+        run = (true, λ e. refl, open_in w p first s h.3, left_in w p first s h.0 h.1 h.2, u, refl, f.run);
+        shows = shows_at (suc first + count) (first + suc count) f.new q (omega arith) f.shows;
+      }
+
+  pub follows_start : (most first : ℕ) (w : World S) (p q : Duo S) → (h : Starts most p q) → Shows S shop x now number key w p first
+      → Follows true (suc h.count) first w q
+  follows_start most first w p q h s =
+      let u = happens S shop x w (Deliver first true) in
+      let f = follows h.count (suc first) u (passes p h.xs h.a) q h.leads (passes_shows w p first s h.xs h.a h.is true (inl refl)) in
+      record {
+        new = f.new;
+        run = (true, λ e. refl, open_in w p first s h.going, left_in w p first s h.xs h.a h.is, u, refl, f.run);
+        shows = shows_at (suc first + h.count) (first + suc h.count) f.new q (omega arith) f.shows;
+      }

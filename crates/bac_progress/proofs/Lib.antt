@@ -29,4 +29,5 @@ pub mod ServerFlows
 pub mod InRun
 pub mod Lifted
 pub mod Standing
+pub mod SentAll
 pub mod Computed

@@ -9,7 +9,7 @@ use Rattle.bac_protocol.specs.declared.times.TheConstants.{T_OUT, LIFE, KEEP}
 use Rattle.bac_protocol.specs.Service.{Octets, Reply}
 use Rattle.bac_protocol.specs.Service.Ending.{Answered}
 use Rattle.bac_protocol.specs.Client as client
-use Rattle.bac_protocol.specs.Client.{Ask, Phase, Ticket, is_idle, request_of}
+use Rattle.bac_protocol.specs.Client.{Ask, Ticket, is_idle, request_of}
 use Rattle.bac_protocol.specs.Client.Phase.{AwaitConfirmation}
 use Rattle.bac_protocol.specs.Client.Reaction.{Repeats}
 use Rattle.bac_protocol.specs.Server.{Entry, is_live, is_none_live}
@@ -108,7 +108,7 @@ module _ (S : Type 0) (shop : Shop S) (x : Rules) (key : Key) (ask : Ask) (numbe
   module _ (opening : ℕ → S) (W : ℕ) (bound : IsBounded W x) where
     record Brings (v u : World S) : Type 0 where
       reply : Reply
-      served : IsServed S shop x key ask reply (λ (phase : Phase). Unit {0}) v u
+      served : IsServed S shop x key ask reply v u
 
     brings : (v : World S) → Kept S shop opening W x bound v → On v → Young v → (i : ℕ) (free : Bool) → IsOnItsWay x v.net key (request_to x key ask) i
         → FindsServer S shop x key ask v (Deliver i free) → Brings v (happens S shop x v (Deliver i free))
@@ -121,7 +121,7 @@ module _ (S : Type 0) (shop : Shop S) (x : Rules) (key : Key) (ask : Ask) (numbe
             → Brings v (happens S shop x v (Deliver i free))
         served p fits can = record {
           reply = p;
-          served = subst (λ (k : Ask). IsServed S shop x key k p (λ (phase : Phase). Unit {0}) v (happens S shop x v (Deliver i free))) is
+          served = subst (λ (k : Ask). IsServed S shop x key k p v (happens S shop x v (Deliver i free))) is
               (trip S shop opening W x bound v s key h.ticket.ticket h.ticket.at p (subst (λ (k : Ask). FitsInOne x key k p) (sym is) fits)
               (ap (λ (k : Ask). k.whole) is ∙ whole) free
               (subst (λ (k : Ask). CanPerform S shop v key k free p ⊎ HasPerformed x v.net key k (Some (join k.pieces)) p) (sym is) can) i
@@ -178,7 +178,7 @@ module _ (S : Type 0) (shop : Shop S) (x : Rules) (key : Key) (ask : Ask) (numbe
         go (inr o) = answered_grows x key ask number u.net.log z.net.log grown o.1
         go (inl p) =
             let now = (r.served).answered between
-            (record { ticket = on.ticket.ticket; at = on.ticket.at; going = ap is_idle p.waits; in_time = omega arith }) tt (length v.net.posts)
+            (record { ticket = on.ticket.ticket; at = on.ticket.at; going = ap is_idle p.waits; in_time = omega arith }) (length v.net.posts)
             (record { post = post; at = in_u; key_is = refl; apdu_is = refl; arrives = arrives }) other in (
               r.reply,
               performed,

@@ -30,13 +30,20 @@ use Rattle.bac_protocol.proofs.Nets.{NetSound, sound_at}
 use Rattle.bac_protocol.proofs.Headline.{Kept, run_kept, event_kept, start_kept}
 use Rattle.bac_protocol.proofs.Keys.{set_same}
 use Rattle.bac_progress.specs.Runs.{IsOnItsWay}
-use Rattle.bac_progress.specs.RoundTrip.{request_to, segment_to, answer_to, FitsInOne, CanPerform, HasPerformed, IsOpenInTime, HasSentAll}
-use Rattle.bac_progress.specs.RoundTrip.{IsAnsweredNow, IsServed, RoundTripSuffices, RoundTripSufficesInSegments}
+use Rattle.bac_progress.specs.RoundTrip.{request_to, segment_to, answer_to, FitsInOne, CanPerform, HasPerformed, IsOpenInTime}
+use Rattle.bac_progress.specs.RoundTrip.{IsAnsweredNow, IsServed, RoundTripSuffices}
 use Rattle.bac_progress.proofs.Paths.{some_is, Any, run_steps}
 use Rattle.bac_progress.proofs.Endings.{request_now, answer_now}
 use Rattle.bac_progress.proofs.Serving.{answer_any_time, answer_not_from_client, answer_ends, answer_ends_sending, performed_entry, answers_first}
 use Rattle.bac_progress.proofs.Serving.{answers_again, serves_new, serves_again, serves_segment}
 use Rattle.bac_progress.proofs.Kept.{IsKept, kept_path}
+
+-- a ticket that sends segments has sent the last one (SentAllSegments of clause 5.4.4.2)
+abbrev pub HasSentAll : Phase → Type 0
+HasSentAll (SegmentedRequest out all_sent) = all_sent ≡ true
+HasSentAll AwaitConfirmation = Unit {0}
+HasSentAll (SegmentedConf inc) = Unit {0}
+HasSentAll Idle = Unit {0}
 
 -- a ticket takes an answer of one APDU: it waits for it, or has sent all segments
 abbrev pub TakesAnswer : Phase → Type 0
@@ -145,16 +152,26 @@ module _ (S : Type 0) (shop : Shop S) (opening : ℕ → S) (W : ℕ) (x : Rules
       ∙ ap (takes_at_client S x v key (answer_to x key t.ask p)) at
       ∙ ap (reacts S v key t) (takes_ends x v.net.now key t p phase young fits)
 
+  -- where a live entry keeps the answer to an ask that is in time, its ticket has sent all segments
+  abbrev pub SendsAll : Key → Ask → Reply → World S → Type 0
+  SendsAll key ask p v =
+      (t : Ticket) → v.net.tickets key ≡ Some t → t.ask ≡ ask → v.net.now - ask.first ≤ DEADLINE
+      → (e : Entry) → v.net.entries key ≡ Some e → server.is_live v.net.now e ≡ true → e.state ≡ Done (answer_to x key ask p) → HasSentAll t.phase
+
+  -- whatever happens from that world on
+  abbrev pub SendsAllFrom : Key → Ask → Reply → World S → Type 0
+  SendsAllFrom key ask p u = (events : List Event) → SendsAll key ask p (run S shop x events u)
+
   -- from a world in which an entry is done for an ask, whose ticket is there
   module _ (key : Key) (ask : Ask) (number begin : ℕ) (p : Reply) (since : ask.first ≤ begin) (fits : FitsInOne x key ask p) where
     abbrev KeptIn : World S → Type 0
     KeptIn u = IsKept x Any key number ask begin (answer_to x key ask p) since u.net
 
-    answered : (u : World S) → Kept S shop opening W x bound u → KeptIn u → (events : List Event)
-        → (let v = run S shop x events u in (o : IsOpenInTime v.net key ask) → ((ask.whole ≡ true) ⊎ HasSentAll o.ticket.phase)
+    answered : (u : World S) → Kept S shop opening W x bound u → KeptIn u → (ask.whole ≡ true) ⊎ SendsAllFrom key ask p u → (events : List Event)
+        → (let v = run S shop x events u in IsOpenInTime v.net key ask
         → (k : ℕ) → IsOnItsWay x v.net key (answer_to x key ask p) k → (free : Bool)
         → IsAnsweredNow S key number p v (happens S shop x v (Deliver k free)))
-    answered u s h events o ready k m free = record {
+    answered u s h ready events o k m free = record {
       log = ap (λ (y : World S). y.net.log) path ∙ ap (λ (n : ℕ). Ended n (Answered p) ∷ v.net.log) there.there.number_is;
       over = ap (λ (y : World S). is_ended (y.net.tickets key)) path
           ∙ ap is_ended (set_same v.net.tickets key (Some (client.after v.net.now there.there.ticket (Ends [] (Answered p)))));
@@ -169,13 +186,18 @@ module _ (S : Type 0) (shop : Shop S) (opening : ℕ → S) (W : ℕ) (x : Rules
         same : o.ticket ≡ there.there.ticket
         same = some_is o.ticket there.there.ticket (sym o.at ∙ there.there.at)
 
-        is_ready : (ask.whole ≡ true) ⊎ HasSentAll there.there.ticket.phase
-        is_ready = subst (λ (t : Ticket). (ask.whole ≡ true) ⊎ HasSentAll t.phase) same ready
+        live : server.is_live v.net.now there.entry ≡ true
+        live = let b = there.begun in let y = o.in_time in grind (arith, nat_tests)
+
+        is_ready : (ask.whole ≡ true) ⊎ SendsAllFrom key ask p u → (ask.whole ≡ true) ⊎ HasSentAll there.there.ticket.phase
+        is_ready (inl whole) = inl whole
+        is_ready (inr all) = inr (all events there.there.ticket there.there.at there.there.is o.in_time there.entry there.at live there.state)
 
         path : happens S shop x v (Deliver k free) ≡ reacts S v key there.there.ticket (Ends [] (Answered p))
         path = ends v key there.there.ticket p k free
             (subst (λ (a : Ask). IsOnItsWay x v.net key (answer_to x key a p) k) (sym there.there.is) m) there.there.at
-            (there_takes W x key ask number begin p since v.net (run_kept S shop opening W x bound events u s).net there (subst (λ (t : Ticket). is_idle t.phase ≡ false) same o.going) is_ready)
+            (there_takes W x key ask number begin p since v.net (run_kept S shop opening W x bound events u s).net there (subst (λ (t : Ticket). is_idle t.phase ≡ false) same o.going)
+            (is_ready ready))
             (subst (λ (a : Ask). v.net.now - a.first ≤ DEADLINE) (sym there.there.is) o.in_time)
             (subst (λ (a : Ask). FitsInOne x key a p) (sym there.there.is) fits)
 
@@ -183,18 +205,16 @@ module _ (S : Type 0) (shop : Shop S) (opening : ℕ → S) (W : ℕ) (x : Rules
   module _ (w : World S) (s : Kept S shop opening W x bound w) (key : Key) (t : Ticket) (at : w.net.tickets key ≡ Some t) (p : Reply)
       (fits : FitsInOne x key t.ask p) where
     -- an entry is done, and its answer was sent
-    served_by : (Ready : Phase → Type 0) → ((phase : Phase) → Ready phase → (t.ask.whole ≡ true) ⊎ HasSentAll phase)
-        → (e : Entry) (effect : Option server.Effect) → e.state ≡ Done (answer_to x key t.ask p) → t.ask.first ≤ e.begin
+    served_by : (e : Entry) (effect : Option server.Effect) → e.state ≡ Done (answer_to x key t.ask p) → t.ask.first ≤ e.begin
         → Has (Performed (w.net.numbers key) (client.request_of t.ask) p) (performed (w.net.numbers key) effect w.net.log)
-        → (number : ℕ) (free : Bool)
+        → (number : ℕ) (free : Bool) → (t.ask.whole ≡ true) ⊎ SendsAllFrom key t.ask p (happens S shop x w (Deliver number free))
         → happens S shop x w (Deliver number free)
         ≡ serves S shop w key (record { entry = Some e; sends = answer_to x key t.ask p ∷ []; effect = effect })
-        → IsServed S shop x key t.ask p Ready w (happens S shop x w (Deliver number free))
-    served_by Ready ready e effect state since has number free path = record {
+        → IsServed S shop x key t.ask p w (happens S shop x w (Deliver number free))
+    served_by e effect state since has number free ready path = record {
       performed = subst (λ (y : World S). Has (Performed (w.net.numbers key) (client.request_of t.ask) p) y.net.log) (sym path) has;
       sent = ap (λ (y : World S). y.net.posts) path;
-      answered = λ events o r k m other. answered key t.ask (w.net.numbers key) e.begin p since fits u
-          (event_kept S shop opening W x bound w s (Deliver number free)) kept events o (ready o.ticket.phase r) k m other;
+      answered = answered key t.ask (w.net.numbers key) e.begin p since fits u (event_kept S shop opening W x bound w s (Deliver number free)) kept ready;
     }
       where
         u : World S
@@ -210,18 +230,18 @@ module _ (S : Type 0) (shop : Shop S) (opening : ℕ → S) (W : ℕ) (x : Rules
         })
 
     -- it was performed before: the entry was begun for the ask
-    again : (Ready : Phase → Type 0) → ((phase : Phase) → Ready phase → (t.ask.whole ≡ true) ⊎ HasSentAll phase)
-        → (request : Option Octets) → (h : HasPerformed x w.net key t.ask request p) → (a : Apdu) → is_from_client a ≡ true
-        → (number : ℕ) (free : Bool) → IsOnItsWay x w.net key a number
+    again : (request : Option Octets) → (h : HasPerformed x w.net key t.ask request p) → (a : Apdu) → is_from_client a ≡ true
+        → (number : ℕ) (free : Bool) → (t.ask.whole ≡ true) ⊎ SendsAllFrom key t.ask p (happens S shop x w (Deliver number free))
+        → IsOnItsWay x w.net key a number
         → (h.entry.choice ≡ t.ask.choice → server.server_gets (server_context x key w.net.now) (service_of S shop w key) (Some h.entry) free a
         ≡ answers_again h.entry (answer_to x key t.ask p))
-        → IsServed S shop x key t.ask p Ready w (happens S shop x w (Deliver number free))
-    again Ready ready request h a up number free m gets =
-        served_by Ready ready h.entry None h.state begun.after
+        → IsServed S shop x key t.ask p w (happens S shop x w (Deliver number free))
+    again request h a up number free ready m gets =
+        served_by h.entry None h.state begun.after
         (reply_was x key (w.net.numbers key) t.ask.first t.ask.choice t.ask w.net.log p
         (kept_was W (w.net.numbers key) t.ask (answer_to x key t.ask p) known.0 known.1 w.net.log
         (subst (λ (st : State). StateFits W (w.net.numbers key) t.ask st known.0 known.1 w.net.log) h.state begun.state)))
-        number free
+        number free ready
         (request_now S shop x w key a number free up m
         ∙ ap (λ (o : Option Entry). serves S shop w key (server.server_gets (server_context x key w.net.now) (service_of S shop w key) o free a)) h.at
         ∙ ap (serves S shop w key) (gets begun.choice))
@@ -236,13 +256,13 @@ module _ (S : Type 0) (shop : Shop S) (opening : ℕ → S) (W : ℕ) (x : Rules
     pub trip : t.ask.whole ≡ true → (free : Bool)
         → CanPerform S shop w key t.ask free p ⊎ HasPerformed x w.net key t.ask (Some (join t.ask.pieces)) p
         → (number : ℕ) → IsOnItsWay x w.net key (request_to x key t.ask) number
-        → IsServed S shop x key t.ask p (λ phase. Unit {0}) w (happens S shop x w (Deliver number free))
-    trip whole free (inr h) number m = again (λ phase. Unit {0}) (λ phase r. inl whole) (Some (join t.ask.pieces)) h (request_to x key t.ask) refl number free m
+        → IsServed S shop x key t.ask p w (happens S shop x w (Deliver number free))
+    trip whole free (inr h) number m = again (Some (join t.ask.pieces)) h (request_to x key t.ask) refl number free (inl whole) m
         (λ choice. serves_again (server_context x key w.net.now) (client_context x key t.ask.first) (service_of S shop w key) h.entry free t.ask
         (answer_to x key t.ask p) h.live h.state choice h.request_is)
-    trip whole free (inl c) number m = served_by (λ phase. Unit {0}) (λ phase r. inl whole)
+    trip whole free (inl c) number m = served_by
         (performed_entry w.net.now (client_context x key t.ask.first) t.ask (answer_to x key t.ask p))
-        (Some (record { request = client.request_of t.ask; reply = p })) refl (((sound w s key t at).2).clock) (inl refl) number free
+        (Some (record { request = client.request_of t.ask; reply = p })) refl (((sound w s key t at).2).clock) (inl refl) number free (inl whole)
         (request_now S shop x w key (request_to x key t.ask) number free refl m
         ∙ ap (λ b. takes_at_server S shop x w key b (request_to x key t.ask)) c.slot
         ∙ ap (serves S shop w key) (serves_new (server_context x key w.net.now) (client_context x key t.ask.first) (service_of S shop w key)
@@ -252,9 +272,9 @@ module _ (S : Type 0) (shop : Shop S) (opening : ℕ → S) (W : ℕ) (x : Rules
 
     -- a segment of a request that was performed
     pub trip_of_segment : HasPerformed x w.net key t.ask None p → (number piece : ℕ) (free : Bool)
-        → IsOnItsWay x w.net key (segment_to x key t.ask piece) number
-        → IsServed S shop x key t.ask p HasSentAll w (happens S shop x w (Deliver number free))
-    trip_of_segment h number piece free m = again HasSentAll (λ phase r. inr r) None h (segment_to x key t.ask piece) refl number free m
+        → SendsAllFrom key t.ask p (happens S shop x w (Deliver number free)) → IsOnItsWay x w.net key (segment_to x key t.ask piece) number
+        → IsServed S shop x key t.ask p w (happens S shop x w (Deliver number free))
+    trip_of_segment h number piece free all m = again None h (segment_to x key t.ask piece) refl number free (inr all) m
         (λ choice. serves_segment (server_context x key w.net.now) (client_context x key t.ask.first) (service_of S shop w key) h.entry free t.ask
         (answer_to x key t.ask p) h.live h.state h.request_is piece)
 
@@ -264,7 +284,3 @@ module _ (S : Type 0) (shop : Shop S) (opening : ℕ → S) (W : ℕ) (x : Rules
   pub round_trips : (events : List Event) → RoundTripSuffices S shop x (run S shop x events (start S opening))
   round_trips events key t at whole p fits free can number m =
       trip (run S shop x events (start S opening)) (reached events) key t at p fits whole free can number m
-
-  pub round_trips_in_segments : (events : List Event) → RoundTripSufficesInSegments S shop x (run S shop x events (start S opening))
-  round_trips_in_segments events key t at p fits h number piece free m =
-      trip_of_segment (run S shop x events (start S opening)) (reached events) key t at p fits h number piece free m

@@ -13,7 +13,7 @@ use Rattle.bac_protocol.specs.Server.State.{Done, SegmentedResponse, Dropped}
 use Rattle.bac_protocol.specs.Log.{Fact, Shop}
 use Rattle.bac_protocol.specs.Own.{lesser_window, StateHas, EntryHas, PhaseHas, TicketHas, IsSentByServer, IsLesser}
 use Rattle.bac_protocol.specs.Transaction.{Key, Rules, Copy}
-use Rattle.bac_protocol.specs.World.{Event, run, start, copies_of}
+use Rattle.bac_protocol.specs.World.{World, Event, run, start, copies_of}
 use Rattle.bac_protocol.specs.Claims.{IsBounded}
 use Rattle.bac_protocol.proofs.Headline.{run_kept, start_kept}
 use Rattle.bac_protocol.proofs.Nets.{sound_at}
@@ -23,12 +23,12 @@ use Rattle.bac_protocol.proofs.Sound.{IsBegunFor, Sound}
 use Rattle.bac_protocol.proofs.Sound.Up.{Reading, Repeated}
 use Rattle.bac_protocol.proofs.Sound.Down.{Unsent, Sent}
 use Rattle.bac_progress.specs.InStep.{IsAtStart, IsUnderway, AreTogether, StandsSending, StandsWaiting, StandsCollecting, Stands, AreInStep, IsCutFor}
-use Rattle.bac_progress.specs.AfterPast.{AfterAnyPast}
+use Rattle.bac_progress.specs.AfterPast.{AfterAnyPast, AnsweringRunExists, EndsAreInStep}
 use Rattle.bac_progress.proofs.Flow.{reach, PhaseFlows, TakenUp, StateMade, Flow}
 use Rattle.bac_progress.proofs.InRun.{sending_whole, sending_behind}
 use Rattle.bac_progress.proofs.Lifted.{flows_in_run}
 use Rattle.bac_progress.proofs.Turned.{there}
-use Rattle.bac_progress.proofs.AnyTurn.{in_step_is_answered}
+use Rattle.bac_progress.proofs.AnyTurn.{in_step_is_answered, in_step_runs}
 
 at_start : (actual : ℕ) (out : Outgoing) → out.first ≤ 0 → (IsAtStart out ⊎ IsUnderway actual out) → IsAtStart out
 at_start actual out none (inl h) = h
@@ -259,18 +259,32 @@ module _ (W : ℕ) (x : Rules) (bound : IsBounded W x) (key : Key) (some : 0 < l
       let f = there now o e is in
       in_step_beside e f.at (live_begun_for e f.at f.live)
 
-pub after_any_past : (S : Type 0) (shop : Shop S) (opening : ℕ → S) (W : ℕ) (x : Rules) → IsBounded W x → (events : List Event)
-    → AfterAnyPast S shop x (run S shop x events (start S opening))
-after_any_past S shop opening W x bound events key t at good p can as_client as_server turn count v straight stops =
+pub ends_in_step : (S : Type 0) (shop : Shop S) (opening : ℕ → S) (W : ℕ) (x : Rules) → IsBounded W x → (events : List Event)
+    → EndsAreInStep S x (run S shop x events (start S opening))
+ends_in_step S shop opening W x bound events key windows t at young =
     let w = run S shop x events (start S opening) in
     let s = run_kept S shop opening W x bound events (start S opening) (start_kept S shop opening W x bound) in
-    let a = good.client in
-    let b = good.server in
+    let a = windows.client in
+    let b = windows.server in
     let some : 0 < lesser_window x key = omega arith in
     let flow = flows_in_run W x bound key some S shop opening events t at in
     let own = own_in_run x S shop opening events in
     let f = sound_at W w.net key (Some t) at s.net in
-    let step = in_step W x bound key some w.net.now w.net.asks (w.net.numbers key) t (w.net.entries key) (copies_of key w.net.posts) w.net.log flow f.0 f.1 f.2
-    can.in_time (own.entries key) (subst (λ (y : Option Ticket). TicketHas (IsLesser x key) y) at (own.tickets key))
-    (live_entry w.net.now (w.net.entries key)) refl in
-    in_step_is_answered S shop opening W x bound events key t at step good p can as_client as_server turn count v straight stops
+    in_step W x bound key some w.net.now w.net.asks (w.net.numbers key) t (w.net.entries key) (copies_of key w.net.posts) w.net.log flow f.0 f.1 f.2
+    young (own.entries key) (subst (λ (y : Option Ticket). TicketHas (IsLesser x key) y) at (own.tickets key))
+    (live_entry w.net.now (w.net.entries key)) refl
+
+module _ (S : Type 0) (shop : Shop S) (opening : ℕ → S) (W : ℕ) (x : Rules) (bound : IsBounded W x) (events : List Event) where
+  abbrev reached : World S
+  reached = run S shop x events (start S opening)
+
+  pub after_any_past : AfterAnyPast S shop x reached
+  after_any_past key t at good p can as_client as_server turn count v straight stops =
+      in_step_is_answered S shop opening W x bound events key t at
+      (ends_in_step S shop opening W x bound events key (record { client = good.client; server = good.server }) t at can.in_time)
+      good p can as_client as_server turn count v straight stops
+
+  pub answering_run : AnsweringRunExists S shop x reached
+  answering_run key t at good p can =
+      in_step_runs S shop opening W x bound reached (run_kept S shop opening W x bound events (start S opening) (start_kept S shop opening W x bound))
+      key t at good p can (ends_in_step S shop opening W x bound events key (record { client = good.client; server = good.server }) t at can.in_time)

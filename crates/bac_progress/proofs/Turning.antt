@@ -107,7 +107,7 @@ module _ (S : Type 0) (shop : Shop S) (opening : ℕ → S) (W : ℕ) (x : Rules
     abbrev u : World S
     u = happens S shop x v (Deliver (length w.net.posts) free)
 
-    served : IsServed S shop x key t.ask p (λ (phase : Phase). Unit {0}) v u
+    served : IsServed S shop x key t.ask p v u
     served = trip S shop opening W x bound v v_sound key t_next t_there p fits whole free (can_now can) (length w.net.posts) request
 
     u_is : u ≡ takes_at_server S shop x v key free (request_to x key t.ask)
@@ -136,7 +136,7 @@ module _ (S : Type 0) (shop : Shop S) (opening : ℕ → S) (W : ℕ) (x : Rules
             at = ap (λ (y : World S). y.net.tickets key) u_is ∙ t_there;
             going = ap is_idle d.waits;
             in_time = let y = d.in_time in let z = u_now in omega arith;
-          }) tt (length v.net.posts) answer other),
+          }) (length v.net.posts) answer other),
     )
 
     pub turn : (let y = happens S shop x (happens S shop x w (Tick (key ∷ []) [])) (Deliver (length w.net.posts) free) in

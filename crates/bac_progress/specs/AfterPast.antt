@@ -17,7 +17,8 @@ use Rattle.bac_protocol.specs.Log.Fact.{Performed, Ended}
 use Rattle.bac_protocol.specs.Transaction.{Key, Rules, server_context}
 use Rattle.bac_protocol.specs.World.{World, happens}
 use Rattle.bac_protocol.specs.World.Event.{Tick}
-use Rattle.bac_protocol.specs.Straight.{AreStraight, Straight, Stops, RequestFits, WayFits, KindFits, way_to, way_count, request_count}
+use Rattle.bac_protocol.specs.Straight.{AreStraight, Straight, Stops, RequestFits, WayFits, KindFits, way_to, way_count, request_count, is_ended}
+use Rattle.bac_progress.specs.Runs.{HasWindows}
 use Rattle.bac_progress.specs.InStep.{AreInStep}
 
 -- Whose timer is due.
@@ -95,6 +96,20 @@ TurnAnswers S shop x w key t =
     → Stops S key (length w.net.posts + count) v
     → IsAnsweredIn S x key t (w.net.numbers key) p count v
 
+-- there is such a run, and its last delivery ends the ticket
+pub record RunsOut (S : Type 0) (shop : Shop S) (x : Rules) (key : Key) (t : Ticket) (number : ℕ) (p : Reply) (first : ℕ) (ticked : World S) : Type 0 where
+  pub count : ℕ
+  pub last : World S
+  pub run : Straight S (λ u e y. y ≡ happens S shop x u e) key true count first ticked last
+  pub over : is_ended (last.net.tickets key) ≡ true
+  pub answered : IsAnsweredIn S x key t number p count last
+
+abbrev pub TurnRunsOut : (S : Type 0) → Shop S → Rules → World S → Key → Ticket → Type 0
+TurnRunsOut S shop x w key t =
+    AreStraight x key → (p : Reply) → CanStill S shop x w key t p
+    → (as_client as_server : List Key) → IsTurn S w key t as_client as_server
+    → RunsOut S shop x key t (w.net.numbers key) p (length w.net.posts) (happens S shop x w (Tick as_client as_server))
+
 -- so it is wherever the two ends are in step
 abbrev pub InStepIsAnswered : (S : Type 0) → Shop S → Rules → World S → Type 0
 InStepIsAnswered S shop x w =
@@ -104,3 +119,13 @@ InStepIsAnswered S shop x w =
 -- after any past
 abbrev pub AfterAnyPast : (S : Type 0) → Shop S → Rules → World S → Type 0
 AfterAnyPast S shop x w = (key : Key) (t : Ticket) → w.net.tickets key ≡ Some t → TurnAnswers S shop x w key t
+
+-- and such a run exists
+abbrev pub AnsweringRunExists : (S : Type 0) → Shop S → Rules → World S → Type 0
+AnsweringRunExists S shop x w = (key : Key) (t : Ticket) → w.net.tickets key ≡ Some t → TurnRunsOut S shop x w key t
+
+-- the two ends of each transaction whose ask is in time are in step
+abbrev pub EndsAreInStep : (S : Type 0) → Rules → World S → Type 0
+EndsAreInStep S x w =
+    (key : Key) → HasWindows x key → (t : Ticket) → w.net.tickets key ≡ Some t → w.net.now - t.ask.first ≤ DEADLINE
+    → AreInStep x key t.ask t.phase (live_entry w.net.now (w.net.entries key))

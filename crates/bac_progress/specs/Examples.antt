@@ -16,8 +16,8 @@ use Rattle.bac_protocol.specs.World.Event.{MakeAsk, Deliver, Tick, Noise, Advanc
 use Rattle.bac_protocol.specs.Claims.{IsBounded}
 use Rattle.bac_protocol.specs.Straight.{AreStraight}
 use Rattle.bac_protocol.specs.Examples.{key, shop, rules, tick, ask_append, append, position, position_apdu, zeros}
-use Rattle.bac_progress.specs.Runs.{Throughout, IsOnItsWay}
-use Rattle.bac_progress.specs.RoundTrip.{FitsInOne, CanPerform, HasPerformed, IsOpenInTime, HasSentAll, request_to, segment_to}
+use Rattle.bac_progress.specs.Runs.{Throughout, IsOnItsWay, HasWindows}
+use Rattle.bac_progress.specs.RoundTrip.{FitsInOne, CanPerform, HasPerformed, IsOpenInTime, request_to, segment_to}
 use Rattle.bac_progress.specs.Repeats.{PATIENCE, FindsServer}
 use Rattle.bac_progress.specs.Turns.{IsDue}
 use Rattle.bac_progress.specs.Stopped.{HasStopped}
@@ -107,12 +107,12 @@ abbrev pub segment_again : List Event
 segment_again = ask_two ∷ Deliver 0 true ∷ Deliver 1 true ∷ Deliver 2 true ∷ Advance 2000 ∷ tick ∷ []
 
 pub record RoundTripOfSegment : Type 0 where
+  pub windows : HasWindows (rules 3) key
   pub ask : (world position (ask_two ∷ [])).net.tickets key ≡ Some (ticket_of cut_ask)
   pub fits : FitsInOne (rules 3) key cut_ask position
   pub keeps : HasPerformed (rules 3) (world position segment_again).net key cut_ask None position
   pub request : IsOnItsWay (rules 3) (world position segment_again).net key (segment_to (rules 3) key cut_ask 1) 5
   pub going : IsOpenInTime (world position (segment_again ++ Deliver 5 true ∷ [])).net key cut_ask
-  pub all_sent : HasSentAll going.ticket.phase
   pub answer : IsOnItsWay (rules 3) (world position (segment_again ++ Deliver 5 true ∷ [])).net key position_apdu 6
   pub ends : (world position (segment_again ++ Deliver 5 true ∷ Deliver 6 true ∷ [])).net.log
       ≡ Ended 0 (Answered position) ∷ was_performed (0 ∷ 1 ∷ []) position ∷ was_asked (0 ∷ 1 ∷ []) ∷ []
@@ -185,7 +185,8 @@ abbrev pub deliveries : (number count : ℕ) → List Event
 deliveries number zero = []
 deliveries number (suc count) = Deliver number true ∷ deliveries (suc number) count
 
--- its tick sends segments 1 to 3 again; segment 1 gets a negative SegmentACK, so that 24 deliveries are needed, where a run without losses takes 22
+-- its tick sends segments 1 to 3 again; segment 1 gets a negative SegmentACK, so that 24 deliveries are needed, where a run without losses
+-- takes 15
 pub record HalfWindow : Type 0 where
   pub ticket : Ticket
   pub is : (world position half_window).net.tickets key ≡ Some ticket

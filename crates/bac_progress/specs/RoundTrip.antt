@@ -8,8 +8,7 @@ use Rattle.bac_protocol.specs.Service.{Octets, Reply}
 use Rattle.bac_protocol.specs.Service.Outcome.{Replies}
 use Rattle.bac_protocol.specs.Service.Ending.{Answered}
 use Rattle.bac_protocol.specs.Sizes.Way.{InOne}
-use Rattle.bac_protocol.specs.Client.{Ask, Phase, Ticket, is_idle, request_of, request_apdu, request_piece}
-use Rattle.bac_protocol.specs.Client.Phase.{SegmentedRequest, AwaitConfirmation, SegmentedConf, Idle}
+use Rattle.bac_protocol.specs.Client.{Ask, Ticket, is_idle, request_of, request_apdu, request_piece}
 use Rattle.bac_protocol.specs.Server.{Entry, is_live, is_none_live, reply_apdu}
 use Rattle.bac_protocol.specs.Server.State.{Done}
 use Rattle.bac_protocol.specs.Log.{Has, Shop}
@@ -18,7 +17,7 @@ use Rattle.bac_protocol.specs.Transaction.{Key, Rules, client_context, server_co
 use Rattle.bac_protocol.specs.World.{Net, World, Event, happens, run, post_of}
 use Rattle.bac_protocol.specs.World.Event.{Deliver}
 use Rattle.bac_protocol.specs.Straight.{KindFits, way_to, is_ended}
-use Rattle.bac_progress.specs.Runs.{IsOnItsWay}
+use Rattle.bac_progress.specs.Runs.{IsOnItsWay, HasWindows}
 
 -- the request of an ask in one APDU, piece n of it as a segment, and a reply to it in one APDU
 abbrev pub request_to : Rules → Key → Ask → Apdu
@@ -49,19 +48,12 @@ pub record HasPerformed (x : Rules) (n : Net) (key : Key) (ask : Ask) (request :
   pub request_is : entry.request ≡ request
   pub state : entry.state ≡ Done (answer_to x key ask p)
 
--- the ticket of that ask is open, and in time
+-- the ticket of that transaction is open, and the ask is in time
 pub record IsOpenInTime (n : Net) (key : Key) (ask : Ask) : Type 0 where
   pub ticket : Ticket
   pub at : n.tickets key ≡ Some ticket
   pub going : is_idle ticket.phase ≡ false
   pub in_time : n.now - ask.first ≤ DEADLINE
-
--- a ticket that sends segments has sent the last one (SentAllSegments of clause 5.4.4.2)
-abbrev pub HasSentAll : Phase → Type 0
-HasSentAll (SegmentedRequest out all_sent) = all_sent ≡ true
-HasSentAll AwaitConfirmation = Unit {0}
-HasSentAll (SegmentedConf inc) = Unit {0}
-HasSentAll Idle = Unit {0}
 
 -- the ticket ends now, and the log says with which reply
 pub record IsAnsweredNow (S : Type 0) (key : Key) (number : ℕ) (p : Reply) (old new : World S) : Type 0 where
@@ -69,26 +61,27 @@ pub record IsAnsweredNow (S : Type 0) (key : Key) (number : ℕ) (p : Reply) (ol
   pub over : is_ended (new.net.tickets key) ≡ true
 
 -- a delivery leads from world w to world u: the request was performed with that reply, and the answer was sent; and whatever happens then, as long
--- as the ticket is open, in time and ready, each copy of the answer that is delivered ends it with that reply
-pub record IsServed (S : Type 0) (shop : Shop S) (x : Rules) (key : Key) (ask : Ask) (p : Reply) (Ready : Phase → Type 0) (w u : World S) : Type 0 where
+-- as the ticket is open and in time, each copy of the answer that is delivered ends it with that reply
+pub record IsServed (S : Type 0) (shop : Shop S) (x : Rules) (key : Key) (ask : Ask) (p : Reply) (w u : World S) : Type 0 where
   pub performed : Has (Performed (w.net.numbers key) (request_of ask) p) u.net.log
   pub sent : u.net.posts ≡ w.net.posts ++ post_of key w.net.now (answer_to x key ask p) ∷ []
   pub answered : (events : List Event)
-      → (let v = run S shop x events u in (o : IsOpenInTime v.net key ask) → Ready o.ticket.phase
+      → (let v = run S shop x events u in IsOpenInTime v.net key ask
       → (number : ℕ) → IsOnItsWay x v.net key (answer_to x key ask p) number → (free : Bool)
       → IsAnsweredNow S key (w.net.numbers key) p v (happens S shop x v (Deliver number free)))
 
--- a request of one APDU is served where a copy of it is delivered; its ticket is always ready
+-- a request of one APDU is served where a copy of it is delivered
 abbrev pub RoundTripSuffices : (S : Type 0) → Shop S → Rules → World S → Type 0
 RoundTripSuffices S shop x w =
     (key : Key) (t : Ticket) → w.net.tickets key ≡ Some t → t.ask.whole ≡ true → (p : Reply) → FitsInOne x key t.ask p
     → (free : Bool) → CanPerform S shop w key t.ask free p ⊎ HasPerformed x w.net key t.ask (Some (join t.ask.pieces)) p
     → (number : ℕ) → IsOnItsWay x w.net key (request_to x key t.ask) number
-    → IsServed S shop x key t.ask p (λ phase. Unit {0}) w (happens S shop x w (Deliver number free))
+    → IsServed S shop x key t.ask p w (happens S shop x w (Deliver number free))
 
--- a request in segments that was performed is served where a copy of any of its segments is delivered; its ticket is ready once all were sent
+-- a request in segments that was performed is served where a copy of any of its segments is delivered
 abbrev pub RoundTripSufficesInSegments : (S : Type 0) → Shop S → Rules → World S → Type 0
 RoundTripSufficesInSegments S shop x w =
-    (key : Key) (t : Ticket) → w.net.tickets key ≡ Some t → (p : Reply) → FitsInOne x key t.ask p → HasPerformed x w.net key t.ask None p
+    (key : Key) → HasWindows x key → (t : Ticket) → w.net.tickets key ≡ Some t → (p : Reply) → FitsInOne x key t.ask p
+    → HasPerformed x w.net key t.ask None p
     → (number piece : ℕ) (free : Bool) → IsOnItsWay x w.net key (segment_to x key t.ask piece) number
-    → IsServed S shop x key t.ask p HasSentAll w (happens S shop x w (Deliver number free))
+    → IsServed S shop x key t.ask p w (happens S shop x w (Deliver number free))

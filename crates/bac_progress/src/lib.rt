@@ -11,7 +11,7 @@ ghost use Rattle.bac_protocol.specs.Log.{Shop};
 ghost use Rattle.bac_protocol.specs.Transaction.{Rules};
 ghost use Rattle.bac_protocol.specs.World.{Event, run, start};
 ghost use Rattle.bac_protocol.specs.Claims.{IsBounded};
-ghost use Rattle.bac_progress.specs.AfterPast.{AfterAnyPast, InStepIsAnswered};
+ghost use Rattle.bac_progress.specs.AfterPast.{AfterAnyPast, AnsweringRunExists, EndsAreInStep, InStepIsAnswered};
 ghost use Rattle.bac_progress.specs.Ends.{EndingsAreLogged, EndsInTime};
 ghost use Rattle.bac_progress.specs.Repeats.{RepeatsSuffice};
 ghost use Rattle.bac_progress.specs.RoundTrip.{RoundTripSuffices, RoundTripSufficesInSegments};
@@ -40,7 +40,7 @@ pub fn round_trip_suffices<S>()
 {}
 
 /// The same for a request in segments, once it was performed: each of its segments that is delivered brings its reply of one APDU again, and one copy of
-/// that answer ends the ticket, as soon as its client has sent all segments.
+/// that answer ends the ticket. Windows are from 1 on.
 pub fn round_trip_suffices_in_segments<S>()
     ensures { (shop : Shop S) (opening : ℕ → S) (W : ℕ) (rules : Rules) → IsBounded W rules → (events : List Event)
         → RoundTripSufficesInSegments S shop rules (run S shop rules events (start S opening)) }
@@ -78,9 +78,21 @@ pub fn in_step_is_answered<S>()
         → InStepIsAnswered S shop rules (run S shop rules events (start S opening)) }
 {}
 
-/// After any past, the same, since after every run the two ends of each transaction that is in time are in step: so after any losses one timer that is due,
-/// and each copy from then on, answer the ask.
+/// After every run the two ends of each transaction are in step whose ask is in time, where windows are from 1 on.
+pub fn ends_are_in_step<S>()
+    ensures { (shop : Shop S) (opening : ℕ → S) (W : ℕ) (rules : Rules) → IsBounded W rules → (events : List Event)
+        → EndsAreInStep S rules (run S shop rules events (start S opening)) }
+{}
+
+/// After any past one turn answers: after any run, whatever was lost, one timer of an ask in time that is due, and then each copy that is sent from then on,
+/// delivered once, in order of sending, at one moment, end the ask with the reply with which it was performed, after at most 3n + 3m deliveries.
 pub fn after_any_past<S>()
     ensures { (shop : Shop S) (opening : ℕ → S) (W : ℕ) (rules : Rules) → IsBounded W rules → (events : List Event)
         → AfterAnyPast S shop rules (run S shop rules events (start S opening)) }
+{}
+
+/// Such a run exists: after that tick there is a count of at most 3n + 3m deliveries, each of a copy that was sent, the last of which ends the ask.
+pub fn answering_run_exists<S>()
+    ensures { (shop : Shop S) (opening : ℕ → S) (W : ℕ) (rules : Rules) → IsBounded W rules → (events : List Event)
+        → AnsweringRunExists S shop rules (run S shop rules events (start S opening)) }
 {}
