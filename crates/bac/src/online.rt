@@ -1,6 +1,4 @@
 //! Nodes on links of the machine: what `serve`, `ask` and `pair` do.
-ghost use Rattle.bac.specs.Online.{IsPair, IsServed};
-
 use bac_link::{Clock, Link};
 use bac_online::{clock_fault, link_fault, local, read_question};
 use bac_run::Question;
@@ -30,9 +28,7 @@ pub(crate) fn serve<M: Machine, O: Write, E: Write>(
     turns: u64,
     out: &mut O,
     err: &mut E,
-) -> Status
-    ensures { IsServed result turns (O.contents out.old) (O.contents out.new) }
-{
+) -> Status {
     let Some(bound) = machine.bind(port) else {
         return link_fault(err);
     };
@@ -86,9 +82,7 @@ pub(crate) fn pair<M: Machine, O: Write, E: Write>(
     machine: &M,
     out: &mut O,
     err: &mut E,
-) -> Status
-    ensures { IsPair result (O.contents out.old) (O.contents out.new) }
-{
+) -> Status {
     let Some(bound) = machine.bind(0) else {
         return link_fault(err);
     };
