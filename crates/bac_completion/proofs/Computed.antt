@@ -1,18 +1,28 @@
 -- Runs that are computed.
-use Rattle.std.proofs.Common.{◌≡◌, ℕ, List, [], ◌∷◌, Some, None, refl, inl, inr, ◌≢◌, arith}
+use Rattle.std.proofs.Common.{◌≡◌, ℕ, zero, suc, List, [], ◌∷◌, Some, None, slice_get, refl, sym, ap, subst, inl, inr, ◌≢◌, IsTrue, arith}
+use Rattle.bac_apdu.specs.Spelling.{apdu_fits, apdu_spelling}
+use Rattle.bac_service.specs.Services.{reads_reply}
+use Rattle.bac_service.proofs.Wholes.{request_again}
+use Rattle.bac_protocol.specs.Context.{Context}
+use Rattle.bac_protocol.specs.Short.{IsShort}
+use Rattle.bac_protocol.specs.Server as server
+use Rattle.bac_protocol.specs.Server.{performs_so, begins}
 use Rattle.bac_protocol.specs.Service as machine
+use Rattle.bac_ends.specs.Keys.{PeerKey}
 use Rattle.bac_ends.specs.Sends.{Datagram}
-use Rattle.bac_ends.specs.Meanings.Ending.{Expired}
-use Rattle.bac_ends.specs.Ends.{clients_tick, servers_tick}
-use Rattle.bac_world.specs.Node.{Node, Outcome, NodeTick}
-use Rattle.bac_world.specs.Once.Fact.{Ended}
-use Rattle.bac_world.specs.World.{World, Copy, Ticks, IsCopied, peer_at}
-use Rattle.bac_world.specs.Examples.{REQUEST, ASKED}
-use Rattle.bac_world.specs.AnsweredRun.{LIMITS, SETTINGS, OPENING, link, node}
-use Rattle.bac_world.proofs.Answered.{ASK, ANSWER, datagram, ASKED_NODE, copy, NOTES, SECOND, THIRD, LAST, ask_fits, ask_short, sent, means, others_first, asked}
+use Rattle.bac_ends.specs.Meanings.Ending.{Answered, Expired}
+use Rattle.bac_ends.specs.Ends.{clients_tick, servers_tick, context_of, server_goes, client_hears}
+use Rattle.bac_server.specs.Services.{service_of, outcome_by}
+use Rattle.bac_world.specs.Node.{Node, Outcome, IsServerTurn, NodeTick}
+use Rattle.bac_world.specs.Once.Fact.{Performed, Ended}
+use Rattle.bac_world.specs.World.{World, Copy, Hears, Ticks, IsCopied, peer_at}
+use Rattle.bac_world.specs.Examples.{REQUEST, REPLY, STORE, ASKED}
+use Rattle.bac_world.specs.AnsweredRun.{LIMITS, SETTINGS, OPENING, LOG, link, node}
+use Rattle.bac_world.proofs.Answered.{SERVICE_DATA, ASK, ANSWER, apart, spelled, datagram, ASKED_NODE, copy, NOTES, SECOND, THIRD, LAST}
+use Rattle.bac_world.proofs.Answered.{ask_fits, ask_short, sent, means, others_first, asked}
 use Rattle.bac_world.proofs.Answered.{request_delivered, answer_delivered}
 use Rattle.bac_completion.specs.RoundTrip.{CanPerform, IsRequest}
-use Rattle.bac_completion.specs.Examples.{LateTick, OneRoundTrip, SecondSending}
+use Rattle.bac_completion.specs.Examples.{LateTick, LateAnswer, OneRoundTrip, SecondSending}
 
 -- node 0 after a tick at that moment
 abbrev ticked_node : ℕ → Node
@@ -144,6 +154,143 @@ sends_again = record {
   };
 }
 
+answer_fits : IsTrue (apdu_fits ANSWER)
+unfolding apdu_fits
+answer_fits = refl
+
+answer_short : IsShort ANSWER
+unfolding apdu_spelling
+answer_short = omega arith
+
+others_second : {A : Type 0} (a b c : A) (j : ℕ) → j ≢ 1 → slice_get (c ∷ a ∷ []) j ≡ slice_get (c ∷ b ∷ []) j
+others_second a b c zero ne = refl
+others_second a b c (suc zero) ne = absurd (ne refl)
+others_second a b c (suc (suc j)) ne = refl
+
+abbrev CLIENT_KEY : PeerKey
+CLIENT_KEY = record { peer = peer_at (link 0); invoke_id = 0 }
+
+abbrev CONTEXT : Context
+CONTEXT = context_of SETTINGS 3000 CLIENT_KEY
+
+abbrev done_by : machine.Outcome → server.Reaction
+done_by o = performs_so CONTEXT (begins CONTEXT 12 LIMITS (Some SERVICE_DATA)) [] SERVICE_DATA o
+
+abbrev REPLIES : machine.Outcome
+REPLIES = machine.Outcome.Replies (machine.Reply.Error 1 31)
+
+says : service_of STORE 12 SERVICE_DATA ≡ REPLIES
+says = ap (outcome_by STORE) (request_again 12 SERVICE_DATA REQUEST spelled)
+
+abbrev SERVED_NODE : Node
+SERVED_NODE = record (node 1) { latest = 3000; servers = (server_goes 3000 (node 1).servers CLIENT_KEY (done_by REPLIES)).end }
+
+abbrev SERVED_OUTCOME : Outcome
+SERVED_OUTCOME = record {
+  sends = datagram (link 0) ANSWER ∷ [];
+  performed = Some (record { key = CLIENT_KEY; request = REQUEST; reply = REPLY });
+  ended = [];
+  dropped = None;
+}
+
+abbrev ServerTurn : machine.Outcome → Type 0
+ServerTurn o = IsServerTurn (server_goes 3000 (node 1).servers CLIENT_KEY (done_by o)) 3000 (node 1) SERVED_NODE SERVED_OUTCOME
+
+turn : ServerTurn REPLIES
+turn = record {
+  node = refl;
+  sends = (sent (link 0) ANSWER answer_fits answer_short, tt);
+  ended = refl;
+  performed = record { key = refl; what = record { request = spelled; reply = refl; means = (refl, refl) } };
+  dropped = refl;
+}
+
+abbrev ANSWER_COPY : Copy
+ANSWER_COPY = record (copy 1 0 ANSWER) { moment = 3000 }
+
+abbrev SERVED : World
+SERVED = record {
+  nodes = ticked_node 3000 ∷ SERVED_NODE ∷ [];
+  now = 3000;
+  copies = copy 0 1 ASK ∷ SECOND_COPY ∷ ANSWER_COPY ∷ [];
+  log = Performed 0 REQUEST REPLY ∷ ASKED;
+  notes = NOTES;
+}
+
+answer_copied : IsCopied AGAIN.nodes 3000 1 (datagram (link 0) ANSWER) ANSWER_COPY
+answer_copied = record {
+  moment = refl;
+  from = refl;
+  to = refl;
+  octets = refl;
+  transaction = record {
+    link = link 1;
+    sender = refl;
+    peer = peer_at (link 1);
+    apdu = ANSWER;
+    means = means (link 1) (link 0) ANSWER answer_fits answer_short;
+    key = refl;
+  };
+}
+
+serves : Hears AGAIN 1 (link 0) SECOND_COPY.octets SERVED
+serves = record {
+  before = node 1;
+  at = refl;
+  after = SERVED_NODE;
+  outcome = SERVED_OUTCOME;
+  on = inr (record {
+    peer = peer_at (link 0);
+    apdu = ASK;
+    foreign = apart;
+    means = means (link 0) (link 1) ASK ask_fits ask_short;
+    heard = subst ServerTurn (sym says) turn;
+  });
+  acts = record {
+    nodes = record { here = refl; others = others_second SERVED_NODE (node 1) (ticked_node 3000) };
+    now = refl;
+    notes = refl;
+    sent = ANSWER_COPY ∷ [];
+    copies = refl;
+    copied = (answer_copied, tt);
+    between = ASKED;
+    ended = refl;
+    logged = record { client = 0; number = 0; link = refl; noted = refl; log = refl };
+  };
+}
+
+abbrev ENDED_NODE : Node
+ENDED_NODE = record (ticked_node 3000) { clients = (client_hears SETTINGS reads_reply 3000 (peer_at (link 1)) ANSWER (ticked_node 3000).clients).end }
+
+abbrev ANSWERED : World
+ANSWERED = record { nodes = ENDED_NODE ∷ SERVED_NODE ∷ []; now = 3000; copies = SERVED.copies; log = LOG; notes = NOTES }
+
+hears : Hears SERVED 0 (link 1) ANSWER_COPY.octets ANSWERED
+hears = record {
+  before = ticked_node 3000;
+  at = refl;
+  after = ENDED_NODE;
+  outcome = record { sends = []; performed = None; ended = record { ticket = 0; how = Answered REPLY } ∷ []; dropped = None };
+  on = inr (record {
+    peer = peer_at (link 1);
+    apdu = ANSWER;
+    foreign = λ e. apart (sym e);
+    means = means (link 1) (link 0) ANSWER answer_fits answer_short;
+    heard = record { node = refl; sends = tt; ended = (record { ticket = refl; how = (refl, refl) }, tt); performed = refl; dropped = refl };
+  });
+  acts = record {
+    nodes = record { here = refl; others = others_first ENDED_NODE (ticked_node 3000) SERVED_NODE };
+    now = refl;
+    notes = refl;
+    sent = [];
+    copies = refl;
+    copied = tt;
+    between = LOG;
+    ended = (0, refl, refl);
+    logged = refl;
+  };
+}
+
 pub second_sending : SecondSending
 second_sending = record {
   second = SECOND;
@@ -159,4 +306,49 @@ second_sending = record {
   server = node 1;
   at = refl;
   performs = performs 3000;
+  served = SERVED;
+  performed = record { copy = SECOND_COPY; there = refl; goes = record { link = link 0; sender = refl; hears = serves } };
+  answer = ANSWER_COPY;
+  comes = record { at = refl; arrives = refl };
+  from = record { key = refl; from = refl };
+  last = ANSWERED;
+  answered = record { copy = ANSWER_COPY; there = refl; goes = record { link = link 1; sender = refl; hears = hears } };
+  log = refl;
+}
+
+-- An answer at 60,001.
+
+abbrev LATE_NODE : Node
+LATE_NODE = record (ASKED_NODE) {
+  latest = 60001;
+  clients = (client_hears SETTINGS reads_reply 60001 (peer_at (link 1)) ANSWER ASKED_NODE.clients).end;
+}
+
+pub late_answer : LateAnswer
+late_answer = record {
+  second = SECOND;
+  asks = asked;
+  old = ASKED_NODE;
+  at = refl;
+  apdu = ANSWER;
+  server = refl;
+  new = LATE_NODE;
+  outcome = EXPIRES;
+  gets = record {
+    from = link 1;
+    octets = (datagram (link 0) ANSWER).octets;
+    foreign = λ e. apart (sym e);
+    means = means (link 1) (link 0) ANSWER answer_fits answer_short;
+    on = inr (record {
+      peer = peer_at (link 1);
+      apdu = ANSWER;
+      foreign = λ e. apart (sym e);
+      means = means (link 1) (link 0) ANSWER answer_fits answer_short;
+      heard = record { node = refl; sends = tt; ended = (record { ticket = refl; how = tt }, tt); performed = refl; dropped = refl };
+    });
+  };
+  ticket = _;
+  is_open = refl;
+  late = omega arith;
+  ends = refl;
 }

@@ -257,20 +257,32 @@ module _ (links : ℕ → Option Octets) (apart : (i j : ℕ) (l : Octets) → l
           (subst (λ (z : Post). Over links apart W x answered (taken_by_client x f.net z (f.net.tickets z.key))) post_is
           (told_over links apart W x bound readable v answered f.net f.over (length w.copies) reply_post.other one.0 reply_taken down)))
 
-      is_answered : IsAnswered (length old.notes) r answered.log
-      is_answered = subst (λ (k : ℕ). IsAnswered k r answered.log) h.asks
-          (answered_values opening (stores_of answered.nodes) n.asks (request_of its_ask) can.reply
-          (octets.Fact.Ended (f.net.numbers its_key) (Answered can.reply) ∷ f.net.log) answered.log last_over.log
-          (once ((before ++ Deliver number ∷ between) ++ Deliver (length w.copies) ∷ []) answered
-          (run_join x.overtake (before ++ Deliver number ∷ between) (Deliver (length w.copies) ∷ []) asked v answered run_v (answered, hears, refl)))
-          (inr performed_then) r spelled
-          (inl (ap (λ (k : ℕ). octets.Fact.Ended k (Answered can.reply)) kept_then.there.number_is)))
+      -- the net in which it is answered
+      abbrev ended_net : Net
+      ended_net = client_acts f.net its_key kept_then.there.ticket (Ends [] (Answered can.reply))
+
+      is_answered : (more : List Event) (last : World) → WorldRun x.overtake answered more last → IsAnswered (length old.notes) r last.log
+      is_answered more last ran = subst (λ (k : ℕ). IsAnswered k r last.log) h.asks
+          (answered_values opening (stores_of last.nodes) n.asks (request_of its_ask) can.reply end.net.log last.log end.over.log
+          (once (((before ++ Deliver number ∷ between) ++ Deliver (length w.copies) ∷ []) ++ more) last
+          (run_join x.overtake ((before ++ Deliver number ∷ between) ++ Deliver (length w.copies) ∷ []) more asked answered last
+          (run_join x.overtake (before ++ Deliver number ∷ between) (Deliver (length w.copies) ∷ []) asked v answered run_v (answered, hears, refl)) ran))
+          (grown (octets.Fact.Performed n.asks (request_of its_ask) can.reply) (inr performed_then)) r spelled
+          (grown (octets.Fact.Ended n.asks (Answered can.reply))
+          (inl (ap (λ (k : ℕ). octets.Fact.Ended k (Answered can.reply)) kept_then.there.number_is))))
+        where
+          end : Followed links apart W x bound readable Any last ended_net
+          end = on_run links apart W x bound readable more answered last ended_net last_over ran
+
+          grown : (q : octets.Fact) → octets.Has q ended_net.log → octets.Has q end.net.log
+          grown q has = path_log x Any ended_net end.net end.path q has
 
     is_served : IsServed x.overtake old r w served
     is_served = record {
       answer = one.0;
       sent = taken.acts.copies ∙ ap (λ (cs : List Copy). w.copies ++ cs) one.1;
-      answered = λ between v answered after unended young comes hears. is_answered between v answered after unended young comes hears;
+      answered = λ between v answered after unended young comes hears more last ran.
+          is_answered between v answered after unended young comes hears more last ran;
     }
 
   pub suffices : (before : List Event) (w served : World) → WorldRun x.overtake asked before w → endings_of (length old.notes) w.log ≡ 0

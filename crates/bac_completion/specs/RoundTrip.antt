@@ -59,14 +59,14 @@ pub record IsAnswered (n : ℕ) (r : Request) (log : List Fact) : Type 0 where
   pub ended : Has (Ended n (Answered reply)) log
 
 -- a copy of the request was delivered in world w: one answer was sent, and where, after any further events, it is delivered while the ask is open and in
--- time, the ask is answered
+-- time, the ask is answered, whatever happens after that
 pub record IsServed (overtake : ℕ) (old : World) (r : Request) (w served : World) : Type 0 where
   pub answer : Copy
   pub sent : served.copies ≡ w.copies ++ answer ∷ []
   pub answered : (between : List Event) (v answered : World) → WorldRun overtake served between v
       → endings_of (length old.notes) v.log ≡ 0 → v.now - old.now ≤ DEADLINE
       → MayArrive overtake v (length w.copies) answer → WorldStep overtake v (Deliver (length w.copies)) answered
-      → IsAnswered (length old.notes) r answered.log
+      → (after : List Event) (last : World) → WorldRun overtake answered after last → IsAnswered (length old.notes) r last.log
 
 -- of each ask of one APDU that this world accepts: each copy of its request that is delivered, after any events, while the ask is open and its server can
 -- perform it

@@ -1,11 +1,17 @@
 //! For each law a run that meets its premises: no premise is empty.
 
-ghost use Rattle.bac_completion.specs.Examples.{LateTick, OneRoundTrip, SecondSending};
+ghost use Rattle.bac_completion.specs.Examples.{LateTick, LateAnswer, OneRoundTrip, SecondSending};
 
 /// An ask that ends at a tick at 60,001.
 #[tactic(auto, using(crate::proofs::Computed::late_tick))]
 pub fn late_tick()
     ensures { LateTick }
+{}
+
+/// An answer that comes to its node at 60,001 ends the ask.
+#[tactic(auto, using(crate::proofs::Computed::late_answer))]
+pub fn late_answer()
+    ensures { LateAnswer }
 {}
 
 /// A request and its answer are delivered.
@@ -14,7 +20,7 @@ pub fn one_round_trip()
     ensures { OneRoundTrip }
 {}
 
-/// The first copy is lost, and the second finds its server.
+/// The first copy is lost, and the second finds its server, whose answer is delivered.
 #[tactic(auto, using(crate::proofs::Computed::second_sending))]
 pub fn second_sending()
     ensures { SecondSending }

@@ -22,7 +22,7 @@ pub fn asks_end()
 /// One round trip suffices: in every world that a run reached, an ask of one APDU is accepted; after any events, while it has no ending, a copy of its
 /// request is delivered to a server with no live entry for it and a free slot, whose reply goes in one APDU. Then one answer is sent; and where it is
 /// delivered after any further events, while the ask has no ending and no more than 60,000 ms have passed since it was accepted, the ask has ended with the
-/// reply with which it was performed.
+/// reply with which it was performed, and so say the logs of all worlds that follow.
 pub fn round_trip_suffices()
     ensures { (W overtake : ℕ) (opening reached : World) → IsFresh opening → IsBounded W overtake opening
         → (events : List Event) → WorldRun overtake opening events reached → RoundTripSuffices overtake reached }

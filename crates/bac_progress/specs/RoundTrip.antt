@@ -48,7 +48,7 @@ pub record HasPerformed (x : Rules) (n : Net) (key : Key) (ask : Ask) (request :
   pub request_is : entry.request ≡ request
   pub state : entry.state ≡ Done (answer_to x key ask p)
 
--- the ticket of that ask is open, and in time
+-- the ticket of that transaction is open, and the ask is in time
 pub record IsOpenInTime (n : Net) (key : Key) (ask : Ask) : Type 0 where
   pub ticket : Ticket
   pub at : n.tickets key ≡ Some ticket

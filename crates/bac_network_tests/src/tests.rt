@@ -1,0 +1,379 @@
+//! Worlds, event by event: what each one logs, and what is sent. Here is what the tests share.
+use bac_apdu::Limits;
+use bac_client::Ending;
+use bac_network::{Event, Fact, World, WorldFault};
+use bac_node::Config;
+use bac_requester::AskFault;
+use bac_service::{
+    AnyComplex, AnyReply, AnyRequest, FileWritten, OwnedReply, OwnedRequest, WriteAccess,
+    WriteFile, WriteStream, read_request,
+};
+use bac_simulation::Copy;
+use bac_store::{Store, house};
+use bac_value::{NoMemory, ObjectIdentifier, OctetString};
+use std::alloc::Global;
+use std::test::Fail;
+
+mod asks;
+mod faults;
+mod lives;
+mod noise;
+mod replies;
+mod requests;
+mod whole;
+
+/// A node that takes APDUs of 1,476 octets and any number of segments.
+const LARGE: Limits = Limits {
+    max_apdu: 5,
+    takes_segments: true,
+    max_segments: 7,
+};
+
+/// A node that takes APDUs of 50 octets and any number of segments.
+const SMALL: Limits = Limits {
+    max_apdu: 0,
+    takes_segments: true,
+    max_segments: 7,
+};
+
+/// ReadProperty, AtomicReadFile and AtomicWriteFile: their service choices.
+const READ: u8 = 12;
+
+const GET: u8 = 6;
+
+const PUT: u8 = 7;
+
+/// The present-value of analog-input 5.
+const INPUT: &str = "0C00000005 1955";
+
+/// The octets AABBCC at the end of file 1.
+const APPEND: &str = "C402800001 0E 31FF 63AABBCC 0F";
+
+/// An event.
+#[derive(Clone, Copy, Debug)]
+enum Do {
+    /// A client asks a server for a service, with these service data.
+    Ask(usize, usize, u8, &'static str),
+    /// Node 0 asks node 1 to write so many octets at position 0 of file 1.
+    Put(usize),
+    /// A copy comes.
+    Deliver(usize),
+    /// The copies from one number to another, which is left out, come in their order.
+    Each(usize, usize),
+    Tick(usize),
+    Advance(u64),
+}
+
+/// The one fact that events log, with the number of its ask; or why they log none.
+#[derive(Clone, Copy, Debug, PartialEq, Eq)]
+enum Seen {
+    Nothing,
+    Many,
+    /// Client and server, too.
+    Asked(usize, usize, usize),
+    Performed(usize),
+    Simple(usize),
+    Written(usize, i64),
+    /// The last eight octets of what was read, as one number.
+    Read(usize, u64),
+    Error(usize, u32, u32),
+    Rejected(usize, u8),
+    Aborted(usize, u8),
+    TimedOut(usize),
+    Expired(usize),
+    Refused(AskFault),
+    Fault(WorldFault),
+}
+
+/// An event, what it logs, how many copies it sends, and the octets of the first of them and of the last.
+type Row = (Do, Seen, usize, &'static str);
+
+/// A world, what its clients suppose that servers take, and which octets of copies are compared.
+#[derive(Drop)]
+struct Scene {
+    world: World,
+    limits: Limits,
+    from: usize,
+    to: usize,
+}
+
+/// The link of the node with that number.
+fn link(number: u8) -> [u8; 6] {
+    [10, 0, 0, number, 0xBA, 0xC0]
+}
+
+/// A node with 64 slots of each kind and a window of 32.
+fn config(number: u8, limits: Limits) -> Config {
+    Config {
+        link: link(number),
+        limits,
+        window: 32,
+        client_slots: 64,
+        reply_slots: 64,
+    }
+}
+
+/// Nodes with the house store.
+fn housed(alloc: Global, configs: &[Config]) -> Result<Vec<(Config, Store)>, NoMemory> {
+    let mut nodes = Vec::new(alloc);
+    for config in configs {
+        nodes.push((*config, house(alloc)?))?;
+    }
+    Ok(nodes)
+}
+
+fn digit(character: u8) -> Option<u8> {
+    match character {
+        b'0'..=b'9' => Some(character - b'0'),
+        b'A'..=b'F' => Some(character - b'A' + 10),
+        _ => None,
+    }
+}
+
+/// The octets of hexadecimal digits, which spaces may part.
+fn octets_of(alloc: Global, text: &str) -> Result<Vec<u8>, NoMemory> {
+    let mut octets = Vec::new(alloc);
+    let mut high = None;
+    for character in text.as_bytes() {
+        let Some(low) = digit(*character) else {
+            continue;
+        };
+        match high {
+            None => high = Some(low),
+            Some(digit) => {
+                octets.push((digit << 4) | low)?;
+                high = None;
+            }
+        }
+    }
+    Ok(octets)
+}
+
+/// The request that service data spell; what spells none counts as out of memory.
+fn request(alloc: Global, choice: u8, service: &str) -> Result<OwnedRequest, NoMemory> {
+    let service = octets_of(alloc, service)?;
+    let Ok(request) = read_request(choice, &service) else {
+        return Err(NoMemory);
+    };
+    request.to_owned(alloc)
+}
+
+/// A write of so many octets at position 0 of file 1.
+fn put(alloc: Global, len: usize) -> Result<OwnedRequest, NoMemory> {
+    let octets = vec![in alloc; 0xABu8; len]?;
+    let Some(file) = ObjectIdentifier::new(10, 1) else {
+        return Err(NoMemory);
+    };
+    let Some(content) = OctetString::new(octets) else {
+        return Err(NoMemory);
+    };
+    let access = WriteAccess::Stream(WriteStream { start: 0, content });
+    Ok(AnyRequest::WriteFile(WriteFile { file, access }))
+}
+
+/// The last eight octets as one number.
+fn number_of(octets: &[u8]) -> u64 {
+    let mut number = 0u64;
+    for octet in octets {
+        number = (number << 8) | u64::from(*octet);
+    }
+    number
+}
+
+fn answer_of(number: usize, reply: &OwnedReply) -> Seen {
+    match reply {
+        AnyReply::Simple => Seen::Simple(number),
+        AnyReply::Complex(AnyComplex::FileWritten(FileWritten::Stream(start))) => {
+            Seen::Written(number, *start)
+        }
+        AnyReply::Complex(AnyComplex::FileWritten(FileWritten::Records(_))) => Seen::Many,
+        AnyReply::Complex(AnyComplex::FileRead(read)) => {
+            Seen::Read(number, number_of(&read.content.octets))
+        }
+        AnyReply::Complex(AnyComplex::PropertyRead(read)) => {
+            Seen::Read(number, number_of(&read.values.octets))
+        }
+        AnyReply::Error { class, code } => Seen::Error(number, *class, *code),
+        AnyReply::Reject(reason) => Seen::Rejected(number, *reason),
+    }
+}
+
+fn fact_of(fact: &Fact) -> Seen {
+    match fact {
+        Fact::Asked {
+            number,
+            client,
+            server,
+            request: _,
+        } => Seen::Asked(*number, *client, *server),
+        Fact::Performed {
+            number,
+            request: _,
+            reply: _,
+        } => Seen::Performed(*number),
+        Fact::Ended { number, how } => match how {
+            Ending::Answered(reply) => answer_of(*number, reply),
+            Ending::Rejected(reason) => Seen::Rejected(*number, *reason),
+            Ending::Aborted(reason) => Seen::Aborted(*number, *reason),
+            Ending::TimedOut => Seen::TimedOut(*number),
+            Ending::Expired => Seen::Expired(*number),
+        },
+    }
+}
+
+/// What new facts tell.
+fn seen_of(facts: &[Fact]) -> Seen {
+    match facts.first() {
+        None => Seen::Nothing,
+        Some(fact) if facts.len() == 1 => fact_of(fact),
+        Some(_) => Seen::Many,
+    }
+}
+
+impl Scene {
+    /// A world of these nodes with that overtaking limit, of which whole datagrams are compared.
+    fn of(alloc: Global, nodes: Vec<(Config, Store)>, overtake: u64) -> Result<Scene, Fail> {
+        let Ok(world) = World::new(alloc, nodes, overtake) else {
+            return Err(Fail::from("no world"));
+        };
+        Ok(Scene {
+            world,
+            limits: LARGE,
+            from: 0,
+            to: 1_500,
+        })
+    }
+
+    /// Three nodes with the house store and such limits.
+    fn house(alloc: Global, limits: Limits) -> Result<Scene, Fail> {
+        let configs = [config(0, limits), config(1, limits), config(2, limits)];
+        Scene::of(alloc, housed(alloc, &configs)?, 128)
+    }
+
+    /// The first five octets of APDUs are compared; clients suppose such limits.
+    fn headed(self, limits: Limits) -> Scene {
+        Scene {
+            world: self.world,
+            limits,
+            from: 6,
+            to: 11,
+        }
+    }
+
+    fn step(&mut self, event: &Event) -> Seen {
+        match self.world.step(event) {
+            Ok(None) => Seen::Nothing,
+            Ok(Some(fault)) => Seen::Refused(fault),
+            Err(fault) => Seen::Fault(fault),
+        }
+    }
+
+    fn each(&mut self, from: usize, to: usize) -> Seen {
+        for number in from..to {
+            let seen = self.step(&Event::Deliver { number });
+            if seen != Seen::Nothing {
+                return seen;
+            }
+        }
+        Seen::Nothing
+    }
+
+    fn ask(&mut self, client: usize, server: usize, request: OwnedRequest) -> Seen {
+        let limits = self.limits;
+        self.step(&Event::Ask {
+            client,
+            server,
+            limits,
+            request,
+        })
+    }
+
+    fn happens(&mut self, alloc: Global, what: Do) -> Result<Seen, NoMemory> {
+        Ok(match what {
+            Do::Ask(client, server, choice, service) => {
+                self.ask(client, server, request(alloc, choice, service)?)
+            }
+            Do::Put(len) => self.ask(0, 1, put(alloc, len)?),
+            Do::Deliver(number) => self.step(&Event::Deliver { number }),
+            Do::Each(from, to) => self.each(from, to),
+            Do::Tick(node) => self.step(&Event::Tick { node }),
+            Do::Advance(by) => self.step(&Event::Advance { by }),
+        })
+    }
+
+    /// The octets of a copy that are compared, after others.
+    fn add_octets(&self, copy: Option<&Copy>, octets: &mut Vec<u8>) -> Result<(), NoMemory> {
+        if let Some(copy) = copy {
+            let end = copy.octets.len().min(self.to);
+            octets.extend_from_slice(copy.octets.get(self.from..end).unwrap_or(&[]))?;
+        }
+        Ok(())
+    }
+
+    /// What is told of the first and the last copy from that number on.
+    fn sent(&self, alloc: Global, copies: usize) -> Result<Vec<u8>, NoMemory> {
+        let sent = self.world.copies().get(copies..).unwrap_or(&[]);
+        let mut octets = Vec::new(alloc);
+        self.add_octets(sent.first(), &mut octets)?;
+        if sent.len() > 1 {
+            self.add_octets(sent.last(), &mut octets)?;
+        }
+        Ok(octets)
+    }
+
+    /// What happens logs. A fault of an ask or of the world logs nothing.
+    fn sees(&mut self, alloc: Global, what: Do) -> Result<Seen, NoMemory> {
+        let facts = self.world.log().len();
+        let told = self.happens(alloc, what)?;
+        let logged = seen_of(self.world.log().get(facts..).unwrap_or(&[]));
+        Ok(match (told, logged) {
+            (Seen::Nothing, logged) => logged,
+            (told, Seen::Nothing) => told,
+            (_, _) => Seen::Many,
+        })
+    }
+
+    /// Whether a row goes as it says.
+    fn goes(&mut self, alloc: Global, row: &Row) -> Result<bool, NoMemory> {
+        let (what, seen, count, octets) = *row;
+        let copies = self.world.copies().len();
+        let told = self.sees(alloc, what)?;
+        let sent = self.world.copies().get(copies..).unwrap_or(&[]).len();
+        Ok(told == seen && sent == count && self.sent(alloc, copies)? == octets_of(alloc, octets)?)
+    }
+
+    /// How many rows go as they say before the first that does not.
+    fn plays(&mut self, alloc: Global, rows: &[Row]) -> Result<usize, NoMemory> {
+        for (place, row) in rows.iter().enumerate() {
+            if !self.goes(alloc, row)? {
+                return Ok(place);
+            }
+        }
+        Ok(rows.len())
+    }
+
+    fn has_ended(&self) -> bool {
+        match self.world.log().last() {
+            Some(Fact::Ended { number: _, how: _ }) => true,
+            _ => false,
+        }
+    }
+
+    /// Delivers each copy from that number on once, in their order, until the ask has ended or no copy is left: how many.
+    fn straight(&mut self, first: usize) -> usize {
+        for (count, number) in (first..4_000).enumerate() {
+            if self.has_ended() || self.step(&Event::Deliver { number }) != Seen::Nothing {
+                return count;
+            }
+        }
+        0
+    }
+
+    /// The latest fact.
+    fn latest(&self) -> Seen {
+        match self.world.log().last() {
+            Some(fact) => fact_of(fact),
+            None => Seen::Nothing,
+        }
+    }
+}

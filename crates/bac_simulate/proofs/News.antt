@@ -1,0 +1,52 @@
+-- What is told of new facts and copies, one after the other.
+use Rattle.std.proofs.Common.{◌≡◌, ℕ, ◌+◌, ◌≤◌, List, length, map, drop, Option, Some, sym, ap, subst, ◌∙◌, slice_get}
+use Rattle.std.proofs.lemmas.List.{drop_all, length-map, length-reverse}
+use Rattle.std.specs.Io.KnownBytes.{Appends}
+use Rattle.bac_simulation.specs.Views.{copy_view}
+use Rattle.bac_simulation.specs.declared.copies.Copy as copy
+use Rattle.bac_network.specs.Views.{fact_view, log_view}
+use Rattle.bac_network.specs.declared.fact.Fact as fact
+use Rattle.bac_world.specs.Once as once
+use Rattle.bac_world.specs.World as world
+use Rattle.bac_simulate.specs.Told.{copies_text, fact_text, facts_text}
+use Rattle.bac_simulate.proofs.Appending.{drop_seen, joined, nothing_more}
+use Rattle.bac_facts.specs.Texts.{sent_line}
+
+-- ---- one more
+
+pub fact_more : (notes : List world.Note) (facts : List fact.Fact) (i : ℕ) (f : fact.Fact) → slice_get facts i ≡ Some f → (a b c : Option (List ℕ))
+    → Appends a b (fact_text notes (fact_view f)) → Appends b c (facts_text notes (drop (i + 1) (map fact_view facts)))
+    → Appends a c (facts_text notes (drop i (map fact_view facts)))
+fact_more notes facts i f at a b c p q =
+    subst (λ (l : List once.Fact). Appends a c (facts_text notes l)) (sym (drop_seen fact_view facts i f at))
+    (joined a b c (fact_text notes (fact_view f)) (facts_text notes (drop (i + 1) (map fact_view facts))) p q)
+
+pub copy_more : (copies : List copy.Copy) (i : ℕ) (k : copy.Copy) → slice_get copies i ≡ Some k → (a b c : Option (List ℕ))
+    → Appends a b (sent_line i k.from k.to k.octets.items) → Appends b c (copies_text (i + 1) (drop (i + 1) (map copy_view copies)))
+    → Appends a c (copies_text i (drop i (map copy_view copies)))
+copy_more copies i k at a b c p q =
+    subst (λ (l : List world.Copy). Appends a c (copies_text i l)) (sym (drop_seen copy_view copies i k at))
+    (joined a b c (sent_line i k.from k.to k.octets.items) (copies_text (i + 1) (drop (i + 1) (map copy_view copies))) p q)
+
+-- ---- no more
+
+past : {A B : Type 0} (f : A → B) (xs : List A) (n : ℕ) → length xs ≤ n → length (map f xs) ≤ n
+past f xs n h = let same = length-map xs f in subst (λ (m : ℕ). m ≤ n) (sym same) h
+
+pub no_fact_more : (notes : List world.Note) (facts : List fact.Fact) (i : ℕ) → length facts ≤ i → (a : Option (List ℕ))
+    → Appends a a (facts_text notes (drop i (map fact_view facts)))
+no_fact_more notes facts i h a =
+    subst (λ (l : List once.Fact). Appends a a (facts_text notes l)) (sym (drop_all i (map fact_view facts) (past fact_view facts i h))) (nothing_more a)
+
+pub no_copy_more : (copies : List copy.Copy) (i : ℕ) → length copies ≤ i → (a : Option (List ℕ))
+    → Appends a a (copies_text i (drop i (map copy_view copies)))
+no_copy_more copies i h a =
+    subst (λ (l : List world.Copy). Appends a a (copies_text i l)) (sym (drop_all i (map copy_view copies) (past copy_view copies i h))) (nothing_more a)
+
+-- ---- how many
+
+pub log_length : (facts : List fact.Fact) (log : List once.Fact) → log_view facts ≡ log → length facts ≡ length log
+log_length facts log e = sym (length-map facts fact_view) ∙ (sym (length-reverse (map fact_view facts)) ∙ ap length e)
+
+pub copies_length : (copies : List copy.Copy) (all : List world.Copy) → map copy_view copies ≡ all → length copies ≡ length all
+copies_length copies all e = sym (length-map copies copy_view) ∙ ap length e
