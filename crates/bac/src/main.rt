@@ -2,12 +2,16 @@
 #![tactic(auto)]
 
 mod command;
+mod online;
 #[cfg(test)]
 mod tests;
 
+use bac_link::{MonotonicClock, UdpLink};
 use bac_text::{Status, no_memory};
 use command::{OpenFiles, run};
+use online::Machine;
 use std::io::BufWriter;
+use std::net::Net;
 use std::process::ExitCode;
 use std::rt::Files;
 use std::{fs, io};
@@ -26,6 +30,28 @@ impl<R: Files> OpenFiles for Disk<'_, R> {
     }
 }
 
+/// The sockets and the clock of the system.
+#[derive(Drop)]
+struct Sockets<'a, R> {
+    runtime: &'a R,
+}
+
+impl<'a, R: Net + std::time::Clock> Machine for Sockets<'a, R> {
+    type Link = UdpLink;
+
+    type Timer = MonotonicClock<'a, R>;
+
+    fn bind(&self, port: u16) -> Option<(UdpLink, [u8; 6])> {
+        let link = UdpLink::bind(self.runtime, port).ok()?;
+        let address = link.link()?;
+        Some((link, address))
+    }
+
+    fn timer(&self) -> Option<MonotonicClock<'a, R>> {
+        MonotonicClock::new(self.runtime).ok()
+    }
+}
+
 /// Reads the command line and does what it says. An Err is out of memory, or a word that is no UTF-8.
 fn start(rt: &HostRuntime) -> io::Result<Status> {
     let words: Vec<String> = std::env::args(rt)?.collect(rt.alloc())?;
@@ -34,6 +60,7 @@ fn start(rt: &HostRuntime) -> io::Result<Status> {
         rt.alloc(),
         words.as_slice(),
         &Disk { files: rt },
+        &Sockets { runtime: rt },
         &mut out,
         &mut rt.stderr(),
     );

@@ -1,11 +1,15 @@
 //! What `bac answer` prints.
 use crate::command::{OpenFiles, run};
+use crate::online::Machine;
 use bac_answer::answer_over;
+use bac_link::{Clock, UdpLink};
 use bac_text::Status;
 use std::alloc::Global;
 use std::io;
 use std::process::Abort;
 use std::test::Fail;
+
+mod online;
 
 /// What a command printed and how it ended.
 #[derive(Drop)]
@@ -300,8 +304,46 @@ impl OpenFiles for OneFile {
     }
 }
 
-/// What the program prints for these words, and how it ends.
+/// A clock that stands.
+#[derive(Clone, Copy)]
+struct Still;
+
+impl Clock for Still {
+    fn now(&mut self) -> u64 {
+        0
+    }
+}
+
+/// A machine that refuses every link.
+#[derive(Clone, Copy)]
+struct Refusing;
+
+impl Machine for Refusing {
+    type Link = UdpLink;
+
+    type Timer = Still;
+
+    fn bind(&self, _port: u16) -> Option<(UdpLink, [u8; 6])> {
+        None
+    }
+
+    fn timer(&self) -> Option<Still> {
+        Some(Still)
+    }
+}
+
+/// What the program prints for these words on a machine without links, and how it ends.
 fn runs(alloc: Global, line: &str, files: OneFile) -> Result<Printed, Fail> {
+    runs_on(alloc, line, files, &Refusing)
+}
+
+/// What the program prints for these words, and how it ends.
+fn runs_on<M: Machine>(
+    alloc: Global,
+    line: &str,
+    files: OneFile,
+    machine: &M,
+) -> Result<Printed, Fail> {
     let mut words = vec![in alloc; String::from_str(alloc, "bac")?]?;
     for word in line.split(' ') {
         if !word.is_empty() {
@@ -310,7 +352,7 @@ fn runs(alloc: Global, line: &str, files: OneFile) -> Result<Printed, Fail> {
     }
     let mut out = Vec::new(alloc);
     let mut err = Vec::new(alloc);
-    let status = run(alloc, &words, &files, &mut out, &mut err);
+    let status = run(alloc, &words, &files, machine, &mut out, &mut err);
     Ok(Printed { status, out, err })
 }
 
@@ -356,6 +398,24 @@ const COMMANDS: &[(&[u8], &str, &str, &str, u8)] = &[
     ),
     (GOOD, "check missing", "", "cannot read\n", 2),
     (GOOD, "check starved", "", "no memory\n", 4),
+    (GOOD, "serve --port 47899 --turns 2", "", "link fault\n", 3),
+    (GOOD, "ask --port 47899 read 0:5 85", "", "link fault\n", 3),
+    (
+        GOOD,
+        "ask --port 47899 get 10:1 -- -1 5",
+        "",
+        "link fault\n",
+        3,
+    ),
+    (GOOD, "ask --port 47899 get 10:1", "", "bad words\n", 2),
+    (
+        GOOD,
+        "ask --port 47899 append 10:1 4G",
+        "",
+        "bad words\n",
+        2,
+    ),
+    (GOOD, "pair", "", "link fault\n", 3),
 ];
 
 /// Each command, with good and with bad words.
@@ -382,6 +442,19 @@ const WORDS: &[(&str, &str)] = &[
     ("answer --help", "Usage: bac answer <HEX>"),
     ("decode --help", "Usage: bac decode <HEX>"),
     ("check --help", "Usage: bac check <FILE>"),
+    ("serve", "--port <P>"),
+    ("serve --port 47899", "--turns <N>"),
+    ("serve --port 0 --turns 2", "0"),
+    ("serve --port 65536 --turns 2", "65536"),
+    ("serve --port 47899 --turns 1000001", "1000001"),
+    ("ask --port 47899", "<WORDS>"),
+    ("ask --port 47899 get 10:1 -1 5", "-1"),
+    (
+        "serve --help",
+        "Example: bac serve --port 47808 --turns 600",
+    ),
+    ("ask --help", "Example: bac ask --port 47808 read 0:5 85"),
+    ("pair --help", "Example: bac pair"),
 ];
 
 /// Words of no form, and words that ask for help, are told with a text on standard error, and the output stays empty.

@@ -1,0 +1,109 @@
+//! Nodes on links of the machine: what `serve`, `ask` and `pair` do.
+use bac_link::{Clock, Link};
+use bac_online::{clock_fault, link_fault, local, read_question};
+use bac_run::Question;
+use bac_script::FormFault;
+use bac_text::{Status, complain, no_memory};
+use std::alloc::Global;
+use std::io::Write;
+
+/// The links and the clock of a machine.
+pub(crate) trait Machine {
+    type Link: Link + Drop;
+
+    type Timer: Clock + Drop;
+
+    /// A link at that port of 127.0.0.1, and its address; port 0 is any free one. None where the system refuses it.
+    fn bind(&self, port: u16) -> Option<(Self::Link, [u8; 6])>;
+
+    /// A clock; None where it can't be read.
+    fn timer(&self) -> Option<Self::Timer>;
+}
+
+/// A node at a port takes so many turns.
+pub(crate) fn serve<M: Machine, O: Write, E: Write>(
+    alloc: Global,
+    machine: &M,
+    port: u16,
+    turns: u64,
+    out: &mut O,
+    err: &mut E,
+) -> Status {
+    let Some(bound) = machine.bind(port) else {
+        return link_fault(err);
+    };
+    let Some(mut timer) = machine.timer() else {
+        return clock_fault(err);
+    };
+    let address = bound.1;
+    let mut link = bound.0;
+    bac_online::serve(alloc, &mut link, address, &mut timer, turns, out, err)
+}
+
+/// The question for a port that some words are.
+fn question_in(alloc: Global, port: u16, words: &[&str]) -> Result<Question, FormFault> {
+    let mut octets = Vec::new(alloc);
+    for word in words {
+        if octets.push(word.as_bytes()).is_err() {
+            return Err(FormFault::NoMemory);
+        }
+    }
+    read_question(alloc, local(port), &octets)
+}
+
+/// A node at any free port asks the one at a port. Words that are no request: `bad words` on `err`.
+pub(crate) fn ask<M: Machine, O: Write, E: Write>(
+    alloc: Global,
+    machine: &M,
+    port: u16,
+    words: &[&str],
+    out: &mut O,
+    err: &mut E,
+) -> Status {
+    let question = match question_in(alloc, port, words) {
+        Ok(question) => question,
+        Err(FormFault::NoForm) => return complain(err, "bad words", Status::CommandLine),
+        Err(FormFault::NoMemory) => return no_memory(err),
+    };
+    let Some(bound) = machine.bind(0) else {
+        return link_fault(err);
+    };
+    let Some(mut timer) = machine.timer() else {
+        return clock_fault(err);
+    };
+    let address = bound.1;
+    let mut link = bound.0;
+    bac_online::ask(alloc, &mut link, address, &mut timer, &question, out, err)
+}
+
+/// Two nodes at free ports: one asks the other.
+pub(crate) fn pair<M: Machine, O: Write, E: Write>(
+    alloc: Global,
+    machine: &M,
+    out: &mut O,
+    err: &mut E,
+) -> Status {
+    let Some(bound) = machine.bind(0) else {
+        return link_fault(err);
+    };
+    let Some(other_bound) = machine.bind(0) else {
+        return link_fault(err);
+    };
+    let Some(mut timer) = machine.timer() else {
+        return clock_fault(err);
+    };
+    let address = bound.1;
+    let mut link = bound.0;
+    let other_address = other_bound.1;
+    let mut other = other_bound.0;
+    bac_online::pair(
+        alloc,
+        &mut link,
+        address,
+        &mut other,
+        other_address,
+        &mut timer,
+        out,
+        err,
+    )
+}
