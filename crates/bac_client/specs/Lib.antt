@@ -3,3 +3,4 @@ pub mod Views
 pub mod Requests
 pub mod Fits
 pub mod Reacts
+pub mod Timers

@@ -17,6 +17,7 @@ mod segmented_request;
 mod sending;
 mod ticket;
 mod ticking;
+mod timers;
 
 pub use asking::Begun;
 pub use ending::Ending;

@@ -3,3 +3,4 @@ pub mod Tables
 pub mod Turning
 pub mod Ticks
 pub mod Accepting
+pub mod Quiet

@@ -1,6 +1,7 @@
 //! The value of a slot.
 ghost use Rattle.std.specs.Prelude.{◌≡◌};
 ghost use Rattle.bac_ends.specs.Ends.{is_held};
+ghost use Rattle.bac_client.specs.Timers.{IsHeldQuiet};
 
 use bac_client::Held;
 use bac_slots::{Same, Test};
@@ -29,6 +30,13 @@ impl Client {
         ensures { result ≡ is_held now self.now.held }
     {
         self.held.is_held(now)
+    }
+
+    /// The first moment at which a tick finds something to do for its ticket.
+    pub(crate) fn due(&self) -> u64
+        ensures { IsHeldQuiet result self.now.held }
+    {
+        self.held.due()
     }
 
     /// A value that stands in a slot while its own is out.

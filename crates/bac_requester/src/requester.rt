@@ -19,7 +19,7 @@ use crate::ask_fault::AskFault;
 use crate::asking::{Asked, ask, held_count};
 use crate::client::Client;
 use crate::hearing::hears;
-use crate::ticking::{commit, prepare};
+use crate::ticking::{at_the_earliest, commit, first_due, nothing_due, prepare};
 use crate::turn::{Due, Turn};
 use bac_apdu::{Apdu, Limits};
 use bac_client::{RequestFault, RequestWay};
@@ -39,6 +39,8 @@ pub struct Requester<S: SlotTable<PeerKey, Client> + Drop> {
     settings: Settings,
     table: S,
     asked: u64,
+    /// A tick before this moment finds nothing to do.
+    due: u64,
 }
 
 impl<S: SlotTable<PeerKey, Client> + Drop> Model for Requester<S> {
@@ -46,10 +48,13 @@ impl<S: SlotTable<PeerKey, Client> + Drop> Model for Requester<S> {
 
     ghost Value = { views.Requester };
 
-    ghost use Rattle.bac_ends.specs.Views.{settings_view};
+    ghost use Rattle.bac_ends.specs.Views.{settings_view, slots_view};
+    ghost use Rattle.bac_requester.specs.Timers.{AreQuiet};
     ghost use Rattle.bac_requester.specs.Views.{end_of};
 
     ghost view = { λ r. record { link = r.link; settings = settings_view r.settings; end = end_of (S.slots r.table) (S.capacity r.table) r.asked } };
+
+    ghost invariant = { λ r. AreQuiet r.due (slots_view (S.slots r.table)) };
 }
 
 /// A request that can't go, as the fault of its ask.
@@ -81,6 +86,7 @@ impl<S: SlotTable<PeerKey, Client> + Drop> Requester<S> {
             settings,
             table,
             asked: 0,
+            due: u64::MAX,
         })
     }
 
@@ -123,7 +129,7 @@ impl<S: SlotTable<PeerKey, Client> + Drop> Requester<S> {
             Ok(way) => way,
             Err(fault) => return Err(fault_of(fault)),
         };
-        ask(
+        let asked = ask(
             self.alloc,
             &self.settings,
             &mut self.table,
@@ -132,7 +138,9 @@ impl<S: SlotTable<PeerKey, Client> + Drop> Requester<S> {
             peer,
             way,
             request,
-        )
+        );
+        self.due = at_the_earliest(self.due, now);
+        asked
     }
 
     /// An APDU comes from a peer at a moment, in milliseconds. Where memory is refused, nothing has changed.
@@ -148,21 +156,31 @@ impl<S: SlotTable<PeerKey, Client> + Drop> Requester<S> {
             key,
             moment: now,
         };
-        hears(self.alloc, &context, &mut self.table, apdu)
+        let turn = hears(self.alloc, &context, &mut self.table, apdu);
+        self.due = at_the_earliest(self.due, now);
+        turn
     }
 
-    /// What a tick sends and ends. Nothing changes.
+    /// What a tick sends and ends. Nothing changes. Before the first moment at which anything can be due no slot is looked at.
     pub fn prepare_tick(&self, now: u64) -> Result<Due, NoMemory>
         ensures { IfOk result (IsDue (clients_tick self.now.settings now self.now.end)) }
     {
+        if now < self.due {
+            return Ok(nothing_due(self.alloc));
+        }
         prepare(self.alloc, &self.settings, &self.table, now)
     }
 
-    /// The end after a tick, of which `prepare_tick` says what is sent and ended. It takes no memory.
+    /// The end after a tick, of which `prepare_tick` says what is sent and ended. It takes no memory. Before the first moment at which anything can be
+    /// due no slot is looked at.
     pub fn commit_tick(&mut self, now: u64)
         ensures { self.new ≡ record self.old { end = (clients_tick self.old.settings now self.old.end).end } }
     {
+        if now < self.due {
+            return;
+        }
         commit(&self.settings, &mut self.table, now);
+        self.due = first_due(&self.table);
     }
 
     /// How many slots are held at a moment, in milliseconds: their tickets are open, or no more than 135,000 milliseconds have passed since the first

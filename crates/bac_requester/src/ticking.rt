@@ -1,10 +1,13 @@
 //! A tick of all tickets.
-ghost use Rattle.std.specs.Prelude.{◌≡◌, ℕ, ◌++◌, Some, None, IfOk, OnOk, MatchOption, map, slice_get};
+ghost use Rattle.std.specs.Prelude.{◌≡◌, ◌≤◌, ◌+◌, ℕ, [], ◌++◌, Some, None, IfOk, OnOk, MatchOption, map, slice_get};
 ghost use Rattle.bac_slots.specs.declared.slot.Slot.{Slot};
 ghost use Rattle.bac_ends.specs.Ends as ends;
 ghost use Rattle.bac_ends.specs.Ends.{clients_tick, held_ticked};
-ghost use Rattle.bac_ends.specs.Views.{context_view, peer_key_view, settings_view};
+ghost use Rattle.bac_ends.specs.Views.{context_view, peer_key_view, settings_view, slots_view};
+ghost use Rattle.bac_client.specs.Timers.{IsHeldQuiet};
 ghost use Rattle.bac_client.specs.Views.{held_view};
+ghost use Rattle.bac_protocol.specs.declared.times.TheConstants.{T_SEG as SHORTEST_WAIT};
+ghost use Rattle.bac_requester.specs.Timers.{AreQuiet};
 ghost use Rattle.bac_requester.specs.Turns.{IsDue, IsSlotTold, changed, ticked_at, value_ticked};
 ghost use Rattle.bac_requester.specs.Views.{end_of, finish_view, finishes_of};
 
@@ -13,6 +16,7 @@ use crate::hearing::{nothing, put_back, turn_of};
 use crate::turn::{Due, Turn};
 use bac_client::Held;
 use bac_ends::{Context, PeerKey, Settings};
+use bac_protocol::times::T_SEG;
 use bac_slots::{SlotTable, slots_in_order};
 use bac_value::NoMemory;
 use std::alloc::Global;
@@ -130,4 +134,44 @@ pub(crate) fn prepare<S: SlotTable<PeerKey, Client>>(
         tell(&mut due, turn)?;
     }
     Ok(due)
+}
+
+/// Nothing is sent or ended.
+pub(crate) fn nothing_due(alloc: Global) -> Due
+    ensures sends { result.sends.items ≡ [] }
+    ensures ended { result.ended.items ≡ [] }
+{
+    Due {
+        sends: Vec::new(alloc),
+        ended: Vec::new(alloc),
+    }
+}
+
+/// The first moment at which a tick can find anything due, where an event has set a timer now: the shortest of them runs for 2,000 milliseconds.
+pub(crate) fn at_the_earliest(due: u64, now: u64) -> u64
+    ensures within { result ≤ due }
+    ensures soon { result ≤ now + SHORTEST_WAIT }
+{
+    due.min(now.saturating_add(T_SEG))
+}
+
+/// The first moment at which a tick finds something to do for the n-th slot in order of putting.
+fn due_at<S: SlotTable<PeerKey, Client>>(table: &S, n: usize) -> u64
+    ensures { (s : Slot PeerKey ends.Client) → slice_get (S.slots table.now) n ≡ Some s → IsHeldQuiet result s.value.held }
+{
+    match table.by_age(n) {
+        Some((_, _, client)) => client.due(),
+        None => u64::MAX,
+    }
+}
+
+/// The first moment at which a tick finds something to do for any slot.
+pub(crate) fn first_due<S: SlotTable<PeerKey, Client>>(table: &S) -> u64
+    ensures { AreQuiet result (slots_view (S.slots table.now)) }
+{
+    let mut due = u64::MAX;
+    for n in 0..table.len() {
+        due = due.min(due_at(table, n));
+    }
+    due
 }

@@ -2,3 +2,5 @@ pub mod Turned
 pub mod Firsts
 pub mod Sweeps
 pub mod Orders
+pub mod Quiet
+pub mod Timed

@@ -1,13 +1,18 @@
 -- A turn of the table is a turn of the server's end.
-use Rattle.std.proofs.Common.{◌≡◌, ℕ, ◌-◌, Bool, true, false, List, nat_le, Option, Some, None, Result, if◌then◌else◌}
+use Rattle.std.proofs.Common.{◌≡◌, ℕ, ◌-◌, Bool, true, false, ◌&&◌, not, List, [], ◌∷◌, nat_eq, nat_le, Option, Some, None, Result, if◌then◌else◌}
 use Rattle.std.proofs.Common.{refl, ap, sym, subst, ◌∙◌, arith}
 use Rattle.std.proofs.lemmas.Bool.Decides.{nat_tests}
 use Rattle.bac_apdu.specs.Apdu.{Apdu}
+use Rattle.bac_apdu.specs.Apdu.Apdu.{ConfirmedRequest}
+use Rattle.bac_segment.specs.Window.{incoming, takes}
 use Rattle.bac_slots.specs.Slots.{value_at}
 use Rattle.bac_store.specs.Stores.{Store}
 use Rattle.bac_protocol.specs.declared.times.TheConstants.{KEEP}
 use Rattle.bac_protocol.specs.Context.{Context}
 use Rattle.bac_protocol.specs.Server.{Entry, Effect, Reaction, Service, is_live, is_none_live, live_gets, idle_gets, server_gets}
+use Rattle.bac_protocol.specs.Server.{begins, request_segment_taken, rests, server_abort}
+use Rattle.bac_protocol.specs.Service.{OTHER}
+use Rattle.bac_responder.specs.Tables.{begins_request}
 use Rattle.bac_protocol.specs.Steps.{StaysIn}
 use Rattle.bac_protocol.proofs.Served.{live_stays_law}
 use Rattle.bac_ends.specs.Keys.{PeerKey, same_key}
@@ -63,6 +68,29 @@ pub idle_is : (c : Context) (service : Service) (o : Option Entry) (free : Bool)
 idle_is c service None free a dead = refl
 idle_is c service (Some d) free a dead =
     ap (λ x. if x then live_gets c service d d.state a else idle_gets c service (Some d) free a) (dead_of (is_live c.now d) dead)
+
+-- whether a slot is free is asked only where a request begins
+pub where_it_begins : (c : Context) (service : Service) (o : Option Entry) (free : Bool) (a : Apdu)
+    → idle_gets c service o free a ≡ idle_gets c service o (begins_request a && free) a
+where_it_begins c service o free (ConfirmedRequest limits id None choice octets) = refl
+where_it_begins c service o free (ConfirmedRequest limits id (Some segment) choice octets) =
+    go (nat_eq segment.number 0)
+    (request_segment_taken c service (begins c choice limits None) segment.number (incoming c.settings.window segment.window).window
+    (takes (incoming c.settings.window segment.window) segment.number segment.more octets))
+  where
+    go : (b : Bool) (begun : Reaction) → (if not b then rests o [] else (if free then begun else rests o (server_abort c OTHER ∷ [])))
+        ≡ (if not b then rests o [] else (if b && free then begun else rests o (server_abort c OTHER ∷ [])))
+    go true begun = refl
+    go false begun = refl
+where_it_begins c service o free _ = refl
+
+pub its_place : (a : Apdu) (free : Bool) → begins_request a && free ≡ true → free ≡ true
+its_place a true h = refl
+its_place a false h = go (begins_request a) h
+  where
+    go : (b : Bool) → b && false ≡ true → false ≡ true
+    go true h = h
+    go false h = h
 
 pub live_is : (c : Context) (service : Service) (o : Option Entry) (d : Entry) (free : Bool) (a : Apdu) → o ≡ Some d → is_none_live c.now o ≡ false
     → server_gets c service o free a ≡ live_gets c service d d.state a

@@ -1,3 +1,4 @@
 pub mod Turns
 pub mod Views
 pub mod Tables
+pub mod Timers

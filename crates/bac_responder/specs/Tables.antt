@@ -1,5 +1,7 @@
 -- What a table's slots are to the server's end.
-use Rattle.std.specs.Prelude.{ℕ, zero, suc, List, [], ◌∷◌, Bool, Option, Some, None}
+use Rattle.std.specs.Prelude.{ℕ, zero, suc, List, [], ◌∷◌, Bool, true, false, Option, Some, None, nat_eq}
+use Rattle.bac_apdu.specs.Apdu.{Apdu}
+use Rattle.bac_apdu.specs.Apdu.Apdu.{ConfirmedRequest}
 use Rattle.bac_slots.specs.declared.slot.Slot.{Slot}
 use Rattle.bac_slots.specs.Slots.{with_value}
 use Rattle.bac_protocol.specs.Context.{Settings}
@@ -33,3 +35,9 @@ with_first f (suc n) (s ∷ slots) = given f s ∷ with_first f n slots
 abbrev pub taken_out : PeerKey → Option Entry → List TableSlot → List TableSlot
 taken_out key None slots = slots
 taken_out key (Some e) slots = with_value code_same_key key no_entry slots
+
+-- an APDU that begins a request: one without SEG, or its segment 0
+abbrev pub begins_request : Apdu → Bool
+begins_request (ConfirmedRequest limits invoke_id None choice octets) = true
+begins_request (ConfirmedRequest limits invoke_id (Some segment) choice octets) = nat_eq segment.number 0
+begins_request _ = false

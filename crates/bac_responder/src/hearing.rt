@@ -1,10 +1,12 @@
 //! An APDU comes for one transaction.
-ghost use Rattle.std.specs.Prelude.{◌≡◌, true};
+ghost use Rattle.std.specs.Prelude.{◌≡◌, ◌&&◌, true};
 ghost use Rattle.bac_apdu.specs.Views.{apdu_view};
 ghost use Rattle.bac_slots.specs.Slots.{value_at};
 ghost use Rattle.bac_protocol.specs.Server.{is_none_live};
+ghost use Rattle.bac_ends.specs.Ends.{is_free as is_free_in};
 ghost use Rattle.bac_ends.specs.Views.{code_same_key, peer_key_view};
 ghost use Rattle.bac_server.specs.Views.{performed_view};
+ghost use Rattle.bac_responder.specs.Tables.{begins_request};
 ghost use Rattle.bac_responder.specs.Turns.{acted_of};
 ghost use Rattle.bac_responder.specs.Views.{acted_view, end_of, turn_of, Serves};
 
@@ -32,7 +34,28 @@ fn served(key: PeerKey, sends: Vec<Datagram>, effect: Option<Effect>) -> Served
     }
 }
 
-/// No entry of the context's key is live.
+/// Whether an APDU begins a request: one without SEG, or its segment 0.
+fn begins_request(apdu: &Apdu<'_>) -> bool
+    ensures { result ≡ begins_request (apdu_view apdu.now) }
+{
+    match apdu {
+        Apdu::ConfirmedRequest { segment: None, .. } => true,
+        Apdu::ConfirmedRequest {
+            segment: Some(segment),
+            ..
+        } => segment.number == 0,
+        _ => false,
+    }
+}
+
+/// Whether an APDU begins a request and a slot has no live entry. For any other APDU the entries are not counted.
+fn has_place<S: SlotTable<PeerKey, Entry>>(table: &S, moment: u64, apdu: &Apdu<'_>) -> bool
+    ensures { result ≡ (begins_request (apdu_view apdu.now) && is_free_in moment (end_of (S.slots table.now) (S.capacity table.now))) }
+{
+    begins_request(apdu) && is_free(table, moment)
+}
+
+/// No entry of the context's key is live. The live entries are counted where the APDU begins a request.
 fn idle_hears<S: SlotTable<PeerKey, Entry>>(
     alloc: Global,
     context: &Context,
@@ -44,7 +67,7 @@ fn idle_hears<S: SlotTable<PeerKey, Entry>>(
     ensures { Serves (turn_of context.now store.old (apdu_view apdu.now) (end_of (S.slots table.old) (S.capacity table.old)))
         (end_of (S.slots table.old) (S.capacity table.old)) store.old result (end_of (S.slots table.new) (S.capacity table.new)) store.new }
 {
-    let free = is_free(table, context.moment);
+    let free = has_place(table, context.moment, apdu);
     match idle_gets(alloc, context, free, apdu, store)? {
         IdleReaction::Stays(sends) => Ok(Served { sends, act: None }),
         IdleReaction::Begins(reaction) => {

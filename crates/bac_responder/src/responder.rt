@@ -12,7 +12,7 @@ ghost use Rattle.bac_responder.specs.Views.{end_of, Serves};
 use crate::hearing::hears;
 use crate::live_at::LiveAt;
 use crate::served::Served;
-use crate::ticking::{commit_all, prepare_all};
+use crate::ticking::{at_the_earliest, commit_all, first_due, is_quiet, nothing_due, prepare_all};
 use bac_apdu::Apdu;
 use bac_ends::{Context, Datagram, PeerKey, Settings, invoke_id_of};
 use bac_npdu::Peer;
@@ -28,6 +28,10 @@ use std::marker::Model;
 pub struct Responder<S: SlotTable<PeerKey, Entry> + Drop> {
     settings: Settings,
     table: S,
+    /// From this moment on a tick finds nothing to do,
+    from: u64,
+    /// and before this one.
+    due: u64,
 }
 
 impl<S: SlotTable<PeerKey, Entry> + Drop> Model for Responder<S> {
@@ -35,10 +39,13 @@ impl<S: SlotTable<PeerKey, Entry> + Drop> Model for Responder<S> {
 
     ghost Value = { Serving };
 
-    ghost use Rattle.bac_ends.specs.Views.{settings_view};
+    ghost use Rattle.bac_ends.specs.Views.{settings_view, slots_view};
+    ghost use Rattle.bac_responder.specs.Timers.{AreQuiet};
     ghost use Rattle.bac_responder.specs.Views.{end_of};
 
     ghost view = { λ r. record { settings = settings_view r.settings; end = end_of (S.slots r.table) (S.capacity r.table) } };
+
+    ghost invariant = { λ r. AreQuiet r.from r.due (slots_view (S.slots r.table)) };
 }
 
 impl<S: SlotTable<PeerKey, Entry> + Drop> Responder<S> {
@@ -47,7 +54,12 @@ impl<S: SlotTable<PeerKey, Entry> + Drop> Responder<S> {
         ensures { IfOk result (λ r. r ≡ record { settings = settings_view settings; end = record { slots = []; capacity = slots } }) }
     {
         let table = S::new(alloc, slots)?;
-        Ok(Responder { settings, table })
+        Ok(Responder {
+            settings,
+            table,
+            from: 0,
+            due: u64::MAX,
+        })
     }
 
     /// How many entries are live. No two entries have one key, and there are no more of them than slots, whether they are live or not.
@@ -92,22 +104,32 @@ impl<S: SlotTable<PeerKey, Entry> + Drop> Responder<S> {
             key,
             moment,
         };
-        hears(alloc, &context, &mut self.table, apdu, store)
+        let served = hears(alloc, &context, &mut self.table, apdu, store);
+        self.due = at_the_earliest(self.due, moment);
+        served
     }
 
     /// What a tick sends, in ascending order of peer and invoke ID: the windows of replies that no SegmentACK came for in 2,000 ms, while a retry is left.
-    /// An Err says that memory was refused.
+    /// An Err says that memory was refused. Before the first moment at which anything can be due no slot is looked at.
     pub fn prepare_tick(&self, alloc: Global, moment: u64) -> Result<Vec<Datagram>, NoMemory>
         ensures { IfOk result (λ v. Pairwise IsSent (servers_tick self.now.settings moment self.now.end).sends v.items) }
     {
+        if is_quiet(self.from, self.due, moment) {
+            return Ok(nothing_due(alloc));
+        }
         prepare_all(alloc, &self.settings, &self.table, moment)
     }
 
-    /// The entries after a tick. It takes no memory.
+    /// The entries after a tick. It takes no memory. Before the first moment at which anything can be due no slot is looked at.
     pub fn commit_tick(&mut self, moment: u64)
         ensures { self.new ≡ record self.old { end = (servers_tick self.old.settings moment self.old.end).end } }
     {
+        if is_quiet(self.from, self.due, moment) {
+            return;
+        }
         let settings = self.settings;
         commit_all(&settings, &mut self.table, moment);
+        self.from = moment;
+        self.due = first_due(&self.table, moment);
     }
 }

@@ -1,14 +1,18 @@
 //! A tick of the table, in two steps: what it sends, and what it changes.
-ghost use Rattle.std.specs.Prelude.{◌≡◌, map, IfOk, MatchOption, Some, None, slice_get};
+ghost use Rattle.std.specs.Prelude.{◌≡◌, ◌≤◌, ◌+◌, ◌&&◌, [], map, nat_le, nat_lt, IfOk, MatchOption, Some, None, slice_get};
 ghost use Rattle.bac_slots.specs.Slots.{nth_by_key};
 ghost use Rattle.bac_ends.specs.Ends.{server_tick_sends, servers_tick};
 ghost use Rattle.bac_ends.specs.Sends.{Pairwise, IsSent};
-ghost use Rattle.bac_ends.specs.Views.{settings_view, slot_view, code_key_cmp};
+ghost use Rattle.bac_ends.specs.Views.{settings_view, slot_view, slots_view, code_key_cmp};
+ghost use Rattle.bac_protocol.specs.declared.times.TheConstants.{T_SEG as SHORTEST_WAIT};
+ghost use Rattle.bac_server.specs.Timers.{IsQuiet};
 ghost use Rattle.bac_responder.specs.Tables.{TableSlot, given, ticked};
+ghost use Rattle.bac_responder.specs.Timers.{AreQuiet};
 ghost use Rattle.bac_responder.specs.Views.{end_of};
 
 use crate::table::put_back;
 use bac_ends::{Context, Datagram, PeerKey, Settings};
+use bac_protocol::times::T_SEG;
 use bac_server::Entry;
 use bac_slots::SlotTable;
 use bac_value::NoMemory;
@@ -96,4 +100,47 @@ pub(crate) fn prepare_all<S: SlotTable<PeerKey, Entry>>(
         sends.append(&mut more)?;
     }
     Ok(sends)
+}
+
+/// Nothing is sent.
+pub(crate) fn nothing_due(alloc: Global) -> Vec<Datagram>
+    ensures { result.items ≡ [] }
+{
+    Vec::new(alloc)
+}
+
+/// Whether a tick at that moment finds nothing to do, where none does from the one moment on and before the other.
+pub(crate) fn is_quiet(from: u64, due: u64, moment: u64) -> bool
+    ensures { result ≡ (nat_le from moment && nat_lt moment due) }
+{
+    from <= moment && moment < due
+}
+
+/// The first moment at which a tick can find anything due, where an APDU has set a timer now: the shortest of them runs for 2,000 milliseconds.
+pub(crate) fn at_the_earliest(due: u64, moment: u64) -> u64
+    ensures within { result ≤ due }
+    ensures soon { result ≤ moment + SHORTEST_WAIT }
+{
+    due.min(moment.saturating_add(T_SEG))
+}
+
+/// The first moment at which a tick finds something to do for the n-th slot in order of putting, looked at from a moment on.
+fn due_at<S: SlotTable<PeerKey, Entry>>(table: &S, from: u64, n: usize) -> u64
+    ensures { (s : TableSlot) → slice_get (S.slots table.now) n ≡ Some s → IsQuiet from result s.value }
+{
+    match table.by_age(n) {
+        Some((_, _, entry)) => entry.due(from),
+        None => u64::MAX,
+    }
+}
+
+/// The first moment at which a tick finds something to do for any slot, looked at from a moment on.
+pub(crate) fn first_due<S: SlotTable<PeerKey, Entry>>(table: &S, from: u64) -> u64
+    ensures { AreQuiet from result (slots_view (S.slots table.now)) }
+{
+    let mut due = u64::MAX;
+    for n in 0..table.len() {
+        due = due.min(due_at(table, from, n));
+    }
+    due
 }

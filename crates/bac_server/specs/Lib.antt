@@ -4,3 +4,4 @@ pub mod Reactions
 pub mod Reading
 pub mod Preparing
 pub mod Segments
+pub mod Timers

@@ -20,6 +20,7 @@ mod repeats;
 mod segmented_request;
 mod segmented_response;
 mod tick;
+mod timers;
 
 pub use effect::Effect;
 pub use entry::Entry;

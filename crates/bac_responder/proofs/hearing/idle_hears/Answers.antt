@@ -13,7 +13,7 @@ use Rattle.bac_server.specs.Services.{service_of}
 use Rattle.bac_ends.specs.Views.{context_view}
 use Rattle.bac_responder.specs.Tables.{TableSlot}
 use Rattle.bac_responder.specs.Views.{end_of}
-use Rattle.bac_responder.proofs.Turned.{served_so, served_still, served_with, idle_is, begun_live}
+use Rattle.bac_responder.proofs.Turned.{served_so, served_still, served_with, idle_is, begun_live, where_it_begins, its_place}
 use Rattle.bac_responder.proofs.Sweeps.{entered}
 use Rattle.bac_responder.proofs.hearing.idle_hears.Goals as goal
 
@@ -30,7 +30,8 @@ returns-in-Stays g c =
     ap (is_none_live now) (sym (value_viewed Entry key slots)) ∙ c.requires in
     let same =
     idle_is set (service_of c.args.store.now) o (is_free now e) (apdu_view c.args.apdu.now) dead
-    ∙ ap (λ (b : Bool). idle_gets set (service_of c.args.store.now) o b (apdu_view c.args.apdu.now)) (sym c.is_free-free.ensures) in
+    ∙ where_it_begins set (service_of c.args.store.now) o (is_free now e) (apdu_view c.args.apdu.now)
+    ∙ ap (λ (b : Bool). idle_gets set (service_of c.args.store.now) o b (apdu_view c.args.apdu.now)) (sym c.has_place-free.ensures) in
     let did = rw c.in-Stays.is at c.in_ok-sends.ensures.does in
     served_still now e k _ _ c.args.store.now _ o _ same (did o) dead
 
@@ -48,10 +49,18 @@ returns-in-Begins g c =
     ap (is_none_live now) (sym (value_viewed Entry key slots)) ∙ c.requires in
     let same =
     idle_is set (service_of c.args.store.now) o (is_free now e) (apdu_view c.args.apdu.now) dead
-    ∙ ap (λ (b : Bool). idle_gets set (service_of c.args.store.now) o b (apdu_view c.args.apdu.now)) (sym c.is_free-free.ensures) in
+    ∙ where_it_begins set (service_of c.args.store.now) o (is_free now e) (apdu_view c.args.apdu.now)
+    ∙ ap (λ (b : Bool). idle_gets set (service_of c.args.store.now) o b (apdu_view c.args.apdu.now)) (sym c.has_place-free.ensures) in
     let did = rw c.in-Begins.is at c.in_ok-sends.ensures.does in
     let begin = rw c.in-Begins.is at c.in_ok-sends.ensures.begin in
     let r = served_so now e k _ _ c.args.store.now _ x true _ _ _ same (did o) (begun_live now x begin) dead
     (entered now key x slots _ c.enter.ensures.slots) in
     served_with _ c.args.store.now _ _ _ _ _ _ _ r c.served.ensures.sends c.served.ensures.act
     (ap (λ (n : ℕ). end_of (g.S.SlotTable.slots c.enter.new.table) n) c.enter.ensures.same)
+
+pub enter-requires-clause-room : goal.enter-requires-clause-room
+enter-requires-clause-room g c =
+    let free = rw c.in-Begins.is at c.in_ok-sends.ensures.free in
+    its_place (apdu_view c.args.apdu.now)
+    (is_free c.args.context.now.moment (end_of (g.S.SlotTable.slots c.args.table.now) (g.S.SlotTable.capacity c.args.table.now)))
+    (sym c.has_place-free.ensures ∙ free)

@@ -1,5 +1,5 @@
 -- The ask of the table is that of the end.
-use Rattle.std.proofs.Common.{◌∙◌, ap, sym}
+use Rattle.std.proofs.Common.{◌∙◌, ap, refl, sym}
 use Rattle.bac_apdu.specs.Views.{limits_view}
 use Rattle.bac_npdu.specs.Views.{peer_view}
 use Rattle.bac_service.specs.Spellings.{request_spelling}
@@ -11,6 +11,7 @@ use Rattle.bac_ends.specs.Ends.{ClientEnd, asks_by_way, asks_for, client_asks}
 use Rattle.bac_ends.specs.Views.{settings_view}
 use Rattle.bac_requester.specs.Views.{Requester, end_of}
 use Rattle.bac_requester.proofs.Accepting.{asked_by, asked_so, by_result, by_way}
+use Rattle.bac_requester.proofs.Quiet.{asked_quiet}
 use Rattle.bac_requester.proofs.requester.Requester.ask_other.Goals as goal
 
 pub returns-clause-asks : goal.returns-clause-asks
@@ -25,5 +26,14 @@ returns-clause-asks g c =
     ∙ ap (λ r. by_result s c.args.now (peer_view c.args.peer.now) (choice_of (request_view c.args.request)) octets e r) c.in-Ok.is in
     rw (← c.self.view_is) (asked_so before
     (client_asks s c.args.now (peer_view c.args.peer.now) (limits_view c.args.limits.now) (choice_of (request_view c.args.request)) octets e)
-    (asks_for s c.args.now (peer_view c.args.peer.now) (asked_by c.args.now (request_view c.args.request) c.in-Ok.way) e) c.ask.result
-    (end_of (g.S.SlotTable.slots c.ask.new.table) (g.S.SlotTable.capacity c.ask.new.table) c.ask.new.asked) is c.ask.ensures)
+    (asks_for s c.args.now (peer_view c.args.peer.now) (asked_by c.args.now (request_view c.args.request) c.in-Ok.way) e) c.ask-asked.result
+    (end_of (g.S.SlotTable.slots c.ask-asked.new.table) (g.S.SlotTable.capacity c.ask-asked.new.table) c.ask-asked.new.asked) is c.ask-asked.ensures)
+
+pub invariant_of-self : goal.invariant_of-self
+invariant_of-self g c =
+    asked_quiet c.args.now c.self.inside.due c.at_the_earliest-self-inside.result c.at_the_earliest-self-inside.ensures.within
+    c.at_the_earliest-self-inside.ensures.soon (settings_view c.self.inside.settings) (peer_view c.args.peer.now)
+    (asked_by c.args.now (request_view c.args.request) c.in-Ok.way)
+    (end_of (g.S.SlotTable.slots c.self.inside.table) (g.S.SlotTable.capacity c.self.inside.table) c.self.inside.asked)
+    (end_of (g.S.SlotTable.slots c.ask-asked.new.table) (g.S.SlotTable.capacity c.ask-asked.new.table) c.ask-asked.new.asked)
+    c.ask-asked.result refl c.ask-asked.ensures c.self.invariant

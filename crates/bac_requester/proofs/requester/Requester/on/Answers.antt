@@ -2,8 +2,10 @@
 use Rattle.std.proofs.Common.{ap}
 use Rattle.bac_apdu.specs.Views.{apdu_view}
 use Rattle.bac_npdu.specs.Views.{peer_view}
+use Rattle.bac_service.specs.Services.{reads_reply}
 use Rattle.bac_ends.specs.Views.{settings_view}
 use Rattle.bac_requester.specs.Views.{Requester, end_of}
+use Rattle.bac_requester.proofs.Quiet.{heard_quiet}
 use Rattle.bac_requester.proofs.Turning.{heard}
 use Rattle.bac_requester.proofs.requester.Requester.on.Goals as goal
 
@@ -15,6 +17,15 @@ returns g c =
       end = end_of (g.S.SlotTable.slots c.self.inside.table) (g.S.SlotTable.capacity c.self.inside.table) c.self.inside.asked;
     } in
     rw (← c.self.view_is) (heard before c.args.now (peer_view c.args.peer.now) (apdu_view c.args.apdu.now)
-    (record { peer = peer_view c.args.peer.now; invoke_id = c.invoke_id_of.result }) c.hears.result
-    (end_of (g.S.SlotTable.slots c.hears.new.table) (g.S.SlotTable.capacity c.hears.new.table) c.self.inside.asked)
-    (ap (λ i. record { peer = peer_view c.args.peer.now; invoke_id = i }) c.invoke_id_of.ensures) (c.hears.ensures c.self.inside.asked))
+    (record { peer = peer_view c.args.peer.now; invoke_id = c.invoke_id_of.result }) c.hears-turn.result
+    (end_of (g.S.SlotTable.slots c.hears-turn.new.table) (g.S.SlotTable.capacity c.hears-turn.new.table) c.self.inside.asked)
+    (ap (λ i. record { peer = peer_view c.args.peer.now; invoke_id = i }) c.invoke_id_of.ensures) (c.hears-turn.ensures c.self.inside.asked))
+
+pub invariant_of-self : goal.invariant_of-self
+invariant_of-self g c =
+    heard_quiet c.args.now c.self.inside.due c.at_the_earliest-self-inside.result c.at_the_earliest-self-inside.ensures.within
+    c.at_the_earliest-self-inside.ensures.soon (settings_view c.self.inside.settings) reads_reply (apdu_view c.args.apdu.now)
+    (end_of (g.S.SlotTable.slots c.self.inside.table) (g.S.SlotTable.capacity c.self.inside.table) c.self.inside.asked)
+    (end_of (g.S.SlotTable.slots c.hears-turn.new.table) (g.S.SlotTable.capacity c.hears-turn.new.table) c.self.inside.asked)
+    (record { peer = peer_view c.args.peer.now; invoke_id = c.invoke_id_of.result }) c.hears-turn.result (c.hears-turn.ensures c.self.inside.asked)
+    c.self.invariant
