@@ -8,7 +8,6 @@ use bac_slots::IndexSlots;
 use bac_store::{Store, house};
 use bac_value::NoMemory;
 use std::alloc::Global;
-use std::process::Abort;
 use std::test::Fail;
 
 mod entries;
@@ -100,21 +99,32 @@ impl Server {
         }
     }
 
-    /// It does what each row says, one after the other; `head` is how many octets of each APDU are compared.
-    fn plays(
-        &mut self,
-        rt: &impl Abort,
-        alloc: Global,
-        rows: &[Row],
-        head: usize,
-    ) -> Result<(), NoMemory> {
+    /// Whether it does what a row says; `head` is how many octets of each APDU are compared.
+    fn does(&mut self, alloc: Global, row: &Row, head: usize) -> Result<bool, NoMemory> {
+        let (sends, performed) = self.meets(alloc, row)?;
+        is_as_said(alloc, &sends, performed, row, head)
+    }
+
+    /// It does what each row says, one after the other.
+    fn plays(&mut self, alloc: Global, rows: &[Row], head: usize) -> Result<(), Fail> {
         for row in rows {
-            let (sends, performed) = self.meets(alloc, row)?;
-            let right = is_as_said(alloc, &sends, performed, row, head)?;
-            assert!(rt; right, "{} {}", row.0, row.2);
+            if !self.does(alloc, row, head)? {
+                return Err(wrong(row));
+            }
         }
         Ok(())
     }
+}
+
+/// A row that went otherwise.
+fn wrong(row: &Row) -> Fail {
+    Fail::from(if row.2.is_empty() { row.3 } else { row.2 })
+}
+
+/// A server with the house's store and so many slots does what each row says; 50 octets of each APDU are compared.
+fn played(alloc: Global, slots: usize, window: Window, rows: &[Row]) -> Result<(), Fail> {
+    let mut server = Server::new(alloc, slots, window)?;
+    server.plays(alloc, rows, 50)
 }
 
 /// Whether the first octets of all APDUs, and whether a request is performed, are as a row says.

@@ -4,7 +4,9 @@ use bac_ends::{Context, Datagram, PeerKey, Settings};
 use bac_npdu::Peer;
 use bac_server::{Entry, IdleReaction, Reaction, idle_gets, live_gets};
 use bac_slots::Same;
-use bac_store::house;
+use bac_store::{Store, house};
+use bac_value::NoMemory;
+use std::alloc::Global;
 use std::test::Fail;
 
 /// Reads the present-value of analog-input 5, with invoke ID 1.
@@ -48,32 +50,93 @@ fn is_alone(sends: &[Datagram], octets: &[u8]) -> bool {
     sends.len() == 1
 }
 
-#[test]
-fn each_call_once(rt: HostRuntime) -> Result<(), Fail> {
-    let alloc = rt.alloc();
+/// What comes of the request where no entry is live.
+fn idle(
+    alloc: Global,
+    moment: u64,
+    free: bool,
+    store: &mut Store,
+) -> Result<IdleReaction, NoMemory> {
+    match read(REQUEST) {
+        Ok(apdu) => idle_gets(alloc, &context(moment), free, &apdu, store),
+        Err(_) => Err(NoMemory),
+    }
+}
+
+/// Whether it is turned away where no slot is free.
+fn is_turned_away(alloc: Global) -> Result<bool, NoMemory> {
     let mut store = house(alloc)?;
+    match idle(alloc, 0, false, &mut store)? {
+        IdleReaction::Stays(sends) => Ok(is_alone(&sends, FULL)),
+        IdleReaction::Begins(_) => Ok(false),
+    }
+}
+
+#[test]
+fn no_slot_is_free(rt: HostRuntime) -> Result<(), Fail> {
+    assert!(rt; is_turned_away(rt.alloc())?);
+    Ok(())
+}
+
+/// What it begins at moment 5.
+fn begun(alloc: Global, store: &mut Store) -> Result<Reaction, NoMemory> {
+    match idle(alloc, 5, true, store)? {
+        IdleReaction::Stays(_) => Err(NoMemory),
+        IdleReaction::Begins(reaction) => Ok(reaction),
+    }
+}
+
+fn is_begun(reaction: &Reaction) -> bool {
+    let entry = &reaction.entry;
+    let times = entry.begin() == 5 && entry.is_live(65_005) && !entry.is_live(65_006);
+    times && is_alone(&reaction.sends, ANSWER) && reaction.effect.is_some()
+}
+
+fn begins(alloc: Global) -> Result<bool, NoMemory> {
+    let mut store = house(alloc)?;
+    let reaction = begun(alloc, &mut store)?;
+    Ok(is_begun(&reaction) && reaction.entry.due(5) == u64::MAX)
+}
+
+#[test]
+fn a_slot_is_free(rt: HostRuntime) -> Result<(), Fail> {
+    assert!(rt; begins(rt.alloc())?);
+    Ok(())
+}
+
+/// The entry after a tick that sends nothing.
+fn ticked(alloc: Global, entry: Entry) -> Result<Entry, NoMemory> {
+    let context = context(9_000);
+    if !entry.prepare_tick(alloc, &context)?.is_empty() {
+        return Err(NoMemory);
+    }
+    Ok(entry.commit_tick(&context))
+}
+
+/// Whether the request is answered again from its entry.
+fn is_repeated(alloc: Global, entry: Entry, store: &mut Store) -> bool {
     let Ok(apdu) = read(REQUEST) else {
-        return Err(Fail::from("no APDU"));
+        return false;
     };
-    match idle_gets(alloc, &context(0), false, &apdu, &mut store)? {
-        IdleReaction::Stays(sends) => assert!(rt; is_alone(&sends, FULL)),
-        IdleReaction::Begins(_) => return Err(Fail::from("no slot is free")),
-    }
-    let IdleReaction::Begins(begun) = idle_gets(alloc, &context(5), true, &apdu, &mut store)? else {
-        return Err(Fail::from("a slot is free"));
-    };
-    assert!(rt; is_alone(&begun.sends, ANSWER) && begun.effect.is_some());
-    let Reaction { entry, .. } = begun;
-    assert!(rt; entry.begin() == 5 && entry.is_live(65_005) && !entry.is_live(65_006));
-    assert!(rt; entry.prepare_tick(alloc, &context(9_000))?.is_empty());
-    let entry = entry.commit_tick(&context(9_000));
-    match live_gets(alloc, &context(65_005), entry, &apdu, &mut store) {
+    match live_gets(alloc, &context(65_005), entry, &apdu, store) {
         Ok(again) => {
-            assert!(rt; is_alone(&again.sends, ANSWER) && again.effect.is_none());
-            assert!(rt; again.entry.same(&again.entry));
-            assert!(rt; !again.entry.same(&Entry::placeholder()));
+            let told = is_alone(&again.sends, ANSWER) && again.effect.is_none();
+            let same = again.entry.same(&again.entry);
+            told && same && !again.entry.same(&Entry::placeholder())
         }
-        Err(_) => return Err(Fail::from("no memory")),
+        Err(_) => false,
     }
+}
+
+fn repeats(alloc: Global) -> Result<bool, NoMemory> {
+    let mut store = house(alloc)?;
+    let reaction = begun(alloc, &mut store)?;
+    let entry = ticked(alloc, reaction.entry)?;
+    Ok(is_repeated(alloc, entry, &mut store))
+}
+
+#[test]
+fn it_comes_again(rt: HostRuntime) -> Result<(), Fail> {
+    assert!(rt; repeats(rt.alloc())?);
     Ok(())
 }

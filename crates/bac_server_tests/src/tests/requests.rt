@@ -27,10 +27,7 @@ fn request_in_three_segments(rt: HostRuntime) -> Result<(), Fail> {
         (2_000, 2, SEGMENT_2, DONE, false),
         (3_000, 2, SEGMENT_0, DONE, false),
     ];
-    let alloc = rt.alloc();
-    let mut server = Server::new(alloc, 64, WINDOW)?;
-    server.plays(&rt, alloc, ROWS, 50)?;
-    Ok(())
+    played(rt.alloc(), 64, WINDOW, ROWS)
 }
 
 /// Segments out of order: each that is not the next one is told the last that was taken.
@@ -44,10 +41,7 @@ fn segments_out_of_order(rt: HostRuntime) -> Result<(), Fail> {
         (0, 2, SEGMENT_1, "43000120", false),
         (0, 2, SEGMENT_2, LAST, true),
     ];
-    let alloc = rt.alloc();
-    let mut server = Server::new(alloc, 64, WINDOW)?;
-    server.plays(&rt, alloc, ROWS, 50)?;
-    Ok(())
+    played(rt.alloc(), 64, WINDOW, ROWS)
 }
 
 /// A segment 7,999 ms after the last one goes on, and one 8,000 ms after it ends the reassembly; an Abort of the client does so at once.
@@ -64,10 +58,7 @@ fn segments_that_come_late(rt: HostRuntime) -> Result<(), Fail> {
         (8_000, 4, "700000", "", false),
         (8_000, 4, SEGMENT_1, "710000", false),
     ];
-    let alloc = rt.alloc();
-    let mut server = Server::new(alloc, 64, WINDOW)?;
-    server.plays(&rt, alloc, ROWS, 50)?;
-    Ok(())
+    played(rt.alloc(), 64, WINDOW, ROWS)
 }
 
 /// Piece `number` of a request to write a file, counted from 0.
@@ -102,30 +93,72 @@ fn writes(alloc: Global, tag: &str, count: usize) -> Result<(Vec<u8>, bool), NoM
     Ok((heads(alloc, &last.0, 50)?, last.1))
 }
 
-/// 65,535 octets of service data are performed: the file would be too long. One more ends the reassembly.
+/// Whether such a write is answered so, and performed or not.
+fn is_written(
+    alloc: Global,
+    tag: &str,
+    count: usize,
+    answer: &str,
+    performs: bool,
+) -> Result<bool, NoMemory> {
+    let (told, performed) = writes(alloc, tag, count)?;
+    Ok(told == octets_of(alloc, answer)? && performed == performs)
+}
+
+/// 65,535 octets of service data are performed: the file would be too long.
 #[test]
-fn longest_requests(rt: HostRuntime) -> Result<(), Fail> {
-    let alloc = rt.alloc();
-    let (told, performed) = writes(alloc, "C402800001 0E 3100 65FEFFF2", 65_522)?;
-    assert!(rt; told == octets_of(alloc, "41002C20 5000079103 9114")?);
-    assert!(rt; performed);
-    let (told, performed) = writes(alloc, "C402800001 0E 3100 65FEFFF3", 65_523)?;
-    assert!(rt; told == octets_of(alloc, "710001")?);
-    assert!(rt; !performed);
+fn longest_request(rt: HostRuntime) -> Result<(), Fail> {
+    const ANSWER: &str = "41002C20 5000079103 9114";
+    assert!(rt;
+        is_written(
+            rt.alloc(),
+            "C402800001 0E 3100 65FEFFF2",
+            65_522,
+            ANSWER,
+            true
+        )?
+    );
     Ok(())
 }
 
-/// 65,535 segments are taken, also empty ones; one more ends the reassembly.
+/// One more ends the reassembly.
 #[test]
-fn most_segments(rt: HostRuntime) -> Result<(), Fail> {
-    let alloc = rt.alloc();
-    let mut server = Server::new(alloc, 64, WINDOW)?;
+fn request_that_is_too_long(rt: HostRuntime) -> Result<(), Fail> {
+    assert!(rt;
+        is_written(
+            rt.alloc(),
+            "C402800001 0E 3100 65FEFFF3",
+            65_523,
+            "710001",
+            false
+        )?
+    );
+    Ok(())
+}
+
+/// Whether a request is performed while 65,535 segments come, empty ones.
+fn is_performed_early(alloc: Global, server: &mut Server) -> Result<bool, NoMemory> {
     for number in 0..65_535 {
         let (_, performed) = server.hears(alloc, 0, 2, &segment_of(&[7], number, 0))?;
-        assert!(rt; !performed);
+        if performed {
+            return Ok(true);
+        }
+    }
+    Ok(false)
+}
+
+/// Whether 65,535 segments are taken, and one more ends the reassembly.
+fn takes_most(alloc: Global) -> Result<bool, NoMemory> {
+    let mut server = Server::new(alloc, 64, WINDOW)?;
+    if is_performed_early(alloc, &mut server)? {
+        return Ok(false);
     }
     let (sends, performed) = server.hears(alloc, 0, 2, &segment_of(&[], 65_535, 0))?;
-    assert!(rt; heads(alloc, &sends, 50)? == octets_of(alloc, "710001")?);
-    assert!(rt; !performed);
+    Ok(heads(alloc, &sends, 50)? == octets_of(alloc, "710001")? && !performed)
+}
+
+#[test]
+fn most_segments(rt: HostRuntime) -> Result<(), Fail> {
+    assert!(rt; takes_most(rt.alloc())?);
     Ok(())
 }

@@ -38,6 +38,12 @@ fn with_file(alloc: Global, len: usize) -> Result<Server, NoMemory> {
     Ok(server)
 }
 
+/// One whose file 1 has 300 octets does what each row says.
+fn played_with_file(alloc: Global, rows: &[Row], head: usize) -> Result<(), Fail> {
+    let mut server = with_file(alloc, 300)?;
+    server.plays(alloc, rows, head)
+}
+
 #[test]
 fn reply_of_one_apdu(rt: HostRuntime) -> Result<(), Fail> {
     const ROWS: &[Row] = &[
@@ -51,10 +57,7 @@ fn reply_of_one_apdu(rt: HostRuntime) -> Result<(), Fail> {
         (65_000, 2, APPEND, "30010709 02", false),
         (65_001, 2, APPEND, "30010709 05", true),
     ];
-    let alloc = rt.alloc();
-    let mut server = Server::new(alloc, 1, SMALL_WINDOW)?;
-    server.plays(&rt, alloc, ROWS, 50)?;
-    Ok(())
+    played(rt.alloc(), 1, SMALL_WINDOW, ROWS)
 }
 
 #[test]
@@ -79,10 +82,7 @@ fn rejects_and_errors(rt: HostRuntime) -> Result<(), Fail> {
             false,
         ),
     ];
-    let alloc = rt.alloc();
-    let mut server = Server::new(alloc, 1, SMALL_WINDOW)?;
-    server.plays(&rt, alloc, ROWS, 50)?;
-    Ok(())
+    played(rt.alloc(), 1, SMALL_WINDOW, ROWS)
 }
 
 /// A segment, a request without SEG and an Abort at each state of a request in segments.
@@ -102,10 +102,7 @@ fn request_in_segments(rt: HostRuntime) -> Result<(), Fail> {
         (16_000, 2, APPEND, "710100", false),
         (65_001, 2, SEGMENT_1, "", false),
     ];
-    let alloc = rt.alloc();
-    let mut server = Server::new(alloc, 1, SMALL_WINDOW)?;
-    server.plays(&rt, alloc, ROWS, 50)?;
-    Ok(())
+    played(rt.alloc(), 1, SMALL_WINDOW, ROWS)
 }
 
 /// A reassembly ends 8,000 ms after the last segment, by a segment or by a tick; it is not begun again.
@@ -127,10 +124,7 @@ fn reassembly_that_ends(rt: HostRuntime) -> Result<(), Fail> {
         (130_003, 2, "700100", "", false),
         (130_004, 2, SEGMENT_1, "710100", false),
     ];
-    let alloc = rt.alloc();
-    let mut server = Server::new(alloc, 1, SMALL_WINDOW)?;
-    server.plays(&rt, alloc, ROWS, 50)?;
-    Ok(())
+    played(rt.alloc(), 1, SMALL_WINDOW, ROWS)
 }
 
 /// The window is sent again three times, the transfer stops, and a copy of the request sets it going where it stood.
@@ -152,6 +146,10 @@ fn reply_in_segments(rt: HostRuntime) -> Result<(), Fail> {
         (8_001, 2, "", "", false),
         (8_001, 2, "40010104", "", false),
         (8_002, 2, READ, "710100", false),
+        // the entry began without SEG
+        (8_002, 2, SEGMENT_0, "710100", false),
+        // an Abort of a server
+        (8_002, 2, "710100", "", false),
         (8_003, 2, READ_FILE, WINDOW_1, false),
         (8_004, 2, "40010404", "3C01050406 3801060406", false),
         (8_005, 2, "40010604", "", false),
@@ -161,10 +159,24 @@ fn reply_in_segments(rt: HostRuntime) -> Result<(), Fail> {
         (65_002, 2, "700100", "", false),
         (65_003, 2, "40010004", "", false),
     ];
-    let alloc = rt.alloc();
-    let mut server = with_file(alloc, 300)?;
-    server.plays(&rt, alloc, ROWS, 5)?;
-    Ok(())
+    played_with_file(rt.alloc(), ROWS, 5)
+}
+
+/// Once its transfer has stopped, an Abort of the client finishes it: no copy of the request sets it going again.
+const ABORTED_WHILE_STOPPED: &[Row] = &[
+    (0, 2, READ_FILE, "3C01000406", true),
+    (2_000, 2, "", "3C01000406", false),
+    (4_000, 2, "", "3C01000406", false),
+    (6_000, 2, "", "3C01000406", false),
+    (8_000, 2, "", "", false),
+    (8_001, 2, "700100", "", false),
+    (8_002, 2, READ_FILE, "", false),
+    (8_002, 2, "40010004", "", false),
+];
+
+#[test]
+fn reply_aborted_while_it_is_stopped(rt: HostRuntime) -> Result<(), Fail> {
+    played_with_file(rt.alloc(), ABORTED_WHILE_STOPPED, 5)
 }
 
 /// A reply that the client can't take is an Abort, and its request is not performed.
@@ -200,49 +212,60 @@ fn reply_that_cannot_go(rt: HostRuntime) -> Result<(), Fail> {
             false,
         ),
     ];
-    let alloc = rt.alloc();
-    let mut server = with_file(alloc, 300)?;
-    server.plays(&rt, alloc, ROWS, 50)?;
-    Ok(())
+    played_with_file(rt.alloc(), ROWS, 50)
 }
+
+const READ_3: &str = "02050106 C402800001 0E 3100 2103 0F";
+
+/// The file grows between these.
+const BEFORE: &[Row] = &[(0, 2, READ_3, "300106 11 0E 3100 624F4B 0F", true)];
+
+const AFTER: &[Row] = &[
+    (1, 2, READ_3, "300106 11 0E 3100 624F4B 0F", false),
+    (65_001, 2, READ_3, "300106 11 0E 3100 63070707 0F", true),
+];
 
 /// A kept reply is not computed again: the file has grown since it was read.
-#[test]
-fn kept_reply_of_a_read(rt: HostRuntime) -> Result<(), Fail> {
-    const READ_3: &str = "02050106 C402800001 0E 3100 2103 0F";
-    const BEFORE: &[Row] = &[(0, 2, READ_3, "300106 11 0E 3100 624F4B 0F", true)];
-    const AFTER: &[Row] = &[
-        (1, 2, READ_3, "300106 11 0E 3100 624F4B 0F", false),
-        (65_001, 2, READ_3, "300106 11 0E 3100 63070707 0F", true),
-    ];
-    let alloc = rt.alloc();
+fn kept(alloc: Global) -> Result<(), Fail> {
     let mut server = Server::new(alloc, 1, SMALL_WINDOW)?;
-    server.plays(&rt, alloc, BEFORE, 50)?;
+    server.plays(alloc, BEFORE, 50)?;
     let grown = with_file(alloc, 3)?;
     server.store = grown.store;
-    server.plays(&rt, alloc, AFTER, 50)?;
-    Ok(())
+    server.plays(alloc, AFTER, 50)
 }
 
-/// A file of 60,000 octets goes in 1,334 segments of at most 45 octets.
 #[test]
-fn longest_reply(rt: HostRuntime) -> Result<(), Fail> {
-    let alloc = rt.alloc();
+fn kept_reply_of_a_read(rt: HostRuntime) -> Result<(), Fail> {
+    kept(rt.alloc())
+}
+
+/// A SegmentACK of the last of so many segments.
+fn ack_of(sent: u64) -> Apdu<'static> {
+    Apdu::SegmentAck {
+        nak: false,
+        server: false,
+        invoke_id: 1,
+        number: (sent.saturating_sub(1) % 256) as u8,
+        window: SMALL_WINDOW,
+    }
+}
+
+/// In how many segments a file of 60,000 octets goes.
+fn longest(alloc: Global) -> Result<u64, NoMemory> {
     let mut server = with_file(alloc, 60_000)?;
     let request = (0, 2, "02000106 C402800001 0E 3100 22EA60 0F", "", true);
-    let (mut sends, _) = server.meets(alloc, &request)?;
-    let mut sent = 0u64;
+    let (first, _) = server.meets(alloc, &request)?;
+    let mut sent = first.len() as u64;
     for _ in 0..400u64 {
+        let (sends, _) = server.hears(alloc, sent, 2, &ack_of(sent))?;
         sent = sent.saturating_add(sends.len() as u64);
-        let ack = Apdu::SegmentAck {
-            nak: false,
-            server: false,
-            invoke_id: 1,
-            number: (sent.saturating_sub(1) % 256) as u8,
-            window: SMALL_WINDOW,
-        };
-        (sends, _) = server.hears(alloc, sent, 2, &ack)?;
     }
-    assert!(rt; sent == 1_334);
+    Ok(sent)
+}
+
+/// It goes in 1,334 segments of at most 45 octets.
+#[test]
+fn longest_reply(rt: HostRuntime) -> Result<(), Fail> {
+    assert!(rt; longest(rt.alloc())? == 1_334);
     Ok(())
 }
