@@ -8,6 +8,7 @@ ghost use Rattle.std.specs.Cmp.Rules.{comparing};
 use bac_slots::{
     Count, IndexSlots, PlainSlots, Same, SlotTable, Test, count_passing, same_tables, sweep,
 };
+use std::alloc::Global;
 use std::cell::Cell;
 use std::cmp::Ordering;
 use std::process::Abort;
@@ -270,23 +271,55 @@ fn is_put<K: Ord + Copy + Drop, T: Drop, S: SlotTable<K, T>>(
     table.get(&key).is_none() && table.put(key, 0, value).is_ok()
 }
 
-// All keys below 1,024 are put in a scattered order, and each is found with no more comparisons than are counted.
-#[test]
-fn an_index_counts_every_comparison(rt: HostRuntime) -> Result<(), Fail> {
+type Counted<'a> = IndexSlots<CountedKey<'a>, u8>;
+
+// All keys below a number, put in a scattered order.
+fn scattered<'a>(alloc: Global, keys: u32, comparisons: &'a Cell<u64>) -> Option<Counted<'a>> {
+    let Ok(mut table) = IndexSlots::<CountedKey<'a>, u8>::new(alloc, keys as usize) else {
+        return None;
+    };
+    for n in 0..keys {
+        if !is_put(
+            &mut table,
+            counted(n.wrapping_mul(389) % keys, comparisons),
+            0u8,
+        ) {
+            return None;
+        }
+    }
+    Some(table)
+}
+
+// Whether a key is found where it is with so many comparisons at most, all of which are counted.
+fn is_found_by(table: &Counted<'_>, number: u32, comparisons: &Cell<u64>, most: u64) -> bool {
+    let mut count = Count { comparisons: 0 };
+    comparisons.set(0);
+    let found = table.find(&counted(number, comparisons), &mut count) == Some(number as usize);
+    found && comparisons.get() <= count.comparisons && count.comparisons <= most
+}
+
+// The same for all keys below a number; keys above are not there, with as few comparisons.
+fn are_found_by(alloc: Global, keys: u32, most: u64) -> bool {
     let comparisons = Cell::new(0);
-    let mut table = IndexSlots::<CountedKey, u8>::new(rt.alloc(), 1_024)?;
-    for n in 0..1_024u32 {
-        let key = counted(n * 389 % 1_024, &comparisons);
-        assert!(rt; is_put(&mut table, key, 0u8));
+    let Some(table) = scattered(alloc, keys, &comparisons) else {
+        return false;
+    };
+    for number in 0..keys {
+        if !is_found_by(&table, number, &comparisons, most) {
+            return false;
+        }
     }
-    for number in 0..1_024u32 {
-        let key = counted(number, &comparisons);
-        let mut count = Count { comparisons: 0 };
-        comparisons.set(0);
-        assert_eq!(rt; table.find(&key, &mut count), Some(number as usize));
-        assert!(rt; comparisons.get() <= count.comparisons && count.comparisons <= 11);
-    }
-    Ok(())
+    let mut count = Count { comparisons: 0 };
+    let above = table.find(&counted(keys, &comparisons), &mut count);
+    above.is_none() && count.comparisons <= most
+}
+
+// 1,024 has 11 binary digits, 1,023 has 10, and 0 none.
+#[test]
+fn an_index_counts_every_comparison(rt: HostRuntime) {
+    assert!(rt; are_found_by(rt.alloc(), 1_024, 11));
+    assert!(rt; are_found_by(rt.alloc(), 1_023, 10));
+    assert!(rt; are_found_by(rt.alloc(), 0, 0));
 }
 
 #[test]
