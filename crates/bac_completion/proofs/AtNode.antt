@@ -29,8 +29,8 @@ use Rattle.bac_ends.specs.Ends.Held.{Open, Closed}
 use Rattle.bac_world.specs.Node.{Node, Outcome, NodeTick, IsHeardBy, IsClientTurn}
 use Rattle.bac_world.specs.Laws.{Gets}
 use Rattle.bac_world.specs.World.{World, WorldRun, Event, IsFresh, IsBounded, ask_of, peer_at, link_at}
-use Rattle.bac_world.proofs.Slots.{EachSlot, changed, changed_value, value_changed, with_same, slot, decide_slot_key, apart_none, found_first, passed_first}
-use Rattle.bac_world.proofs.Slots.{distinct_in_order, each_in_order, found_in_order, each_at}
+use Rattle.bac_ends.proofs.KeyedSlots.{EachSlot, changed, changed_value, value_changed, with_same, slot, decide_slot_key, apart_none, found_first, passed_first}
+use Rattle.bac_ends.proofs.KeyedSlots.{distinct_in_order, each_in_order, found_in_order, each_at}
 use Rattle.bac_world.proofs.Bridge.{IsKnown, TicketFits, slot_key}
 use Rattle.bac_world.proofs.Bridge.{key_of as node_key}
 use Rattle.bac_world.proofs.Pairs.{IsSplit, pairwise_split, pairwise_none}

@@ -39,7 +39,7 @@ use Rattle.bac_world.specs.Once.{Fact}
 use Rattle.bac_world.specs.Once.Fact.{Asked, Performed, Ended}
 use Rattle.bac_world.specs.World.{World, Copy, Event, WorldStep, WorldRun, IsFresh, IsBounded, IsAsked, Ticks, link_at, peer_at}
 use Rattle.bac_world.specs.World.Event.{Deliver, Tick}
-use Rattle.bac_world.proofs.Slots.{changed, changed_value, value_changed}
+use Rattle.bac_ends.proofs.KeyedSlots.{changed, changed_value, value_changed}
 use Rattle.bac_world.proofs.Machines.{orderly}
 use Rattle.bac_world.proofs.Logs.{FactMeans}
 use Rattle.bac_world.proofs.Bridge.{IsCopyOf, IsBetween, TicketFits, key_of, slot_key}

@@ -3,7 +3,7 @@ use Rattle.std.proofs.Common.{◌≡◌, ◌⊎◌, ℕ, List, ◌∷◌, Option
 use Rattle.bac_slots.specs.declared.slot.Slot.{Slot}
 use Rattle.bac_slots.specs.Slots.{value_at, in_order, IsApart, IsDistinct}
 use Rattle.bac_ends.specs.Keys.{PeerKey, peer_key_cmp, same_key}
-use Rattle.bac_world.proofs.Slots.{or_else, slot, decide_slot_key, apart_none, found_first, passed_first, found_in_order, changed, changed_value, value_changed}
+use Rattle.bac_ends.proofs.KeyedSlots.{or_else, slot, decide_slot_key, apart_none, found_first, passed_first, found_in_order, changed, changed_value, value_changed}
 
 module _ (T : Type 0) (f : PeerKey → T → T) (all : List (Slot PeerKey T)) where
   -- all is what comes of all slots, and these have not gone on yet
