@@ -1,12 +1,12 @@
 -- The way of a request, by the tests that decide it.
-use Rattle.std.proofs.Common.{◌≡◌, ℕ, ◌+◌, ◌-◌, ◌<◌, ◌≤◌, ◌&&◌, Bool, true, false, List, length, nat_lt, nat_le, if◌then◌else◌, refl, ap, sym, ◌∙◌, arith}
+use Rattle.std.proofs.Common.{◌≡◌, ℕ, ◌+◌, ◌-◌, ◌<◌, ◌≤◌, ◌&&◌, Bool, false, List, length, nat_lt, nat_le, if◌then◌else◌, ap, ◌∙◌, arith}
 use Rattle.std.proofs.lemmas.Bool.Decides.{nat_tests}
 use Rattle.std.specs.Int.{div_ceil}
 use Rattle.bac_apdu.specs.Apdu.{Limits}
 use Rattle.bac_segment.specs.Limits.{DATA}
 use Rattle.bac_segment.specs.Pieces.{pieces_of}
 use Rattle.bac_segment.proofs.Cut.{length-pieces_of}
-use Rattle.bac_protocol.specs.Sizes.{Way, RequestFault, allows_segments, request_way_of_size, request_way_in_segments}
+use Rattle.bac_protocol.specs.Sizes.{allows_segments, request_way_of_size, request_way_in_segments}
 use Rattle.bac_protocol.specs.Sizes.Way.{InOne, InSegments, Refused}
 use Rattle.bac_protocol.specs.Sizes.RequestFault.{NeedsSegments, TooLong}
 

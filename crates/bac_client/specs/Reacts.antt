@@ -1,7 +1,6 @@
 -- What the calls answer for one ticket.
 use Rattle.std.specs.Prelude.{◌≡◌, ℕ, true, false, List, [], Option, Some, None, Result, Ok, Err}
 use Rattle.std.specs.Option.{option_map}
-use Rattle.bac_apdu.specs.Apdu.{Apdu}
 use Rattle.bac_service.specs.Replies.{SpellsComplex}
 use Rattle.bac_service.specs.Services.{reads_reply}
 use Rattle.bac_service.specs.Values.{Complex}

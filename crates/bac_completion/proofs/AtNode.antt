@@ -1,15 +1,12 @@
 -- Each ask ends, at its node.
-use Rattle.std.proofs.Common.{◌≡◌, ◌⊎◌, ℕ, suc, ◌+◌, ◌-◌, ◌<◌, ◌≤◌, Bool, true, false, not, ◌||◌, List, [], ◌∷◌, ◌++◌, Option, Some, None, slice_get}
+use Rattle.std.proofs.Common.{◌≡◌, ◌⊎◌, ℕ, suc, ◌+◌, ◌-◌, ◌<◌, Bool, true, false, List, [], ◌∷◌, ◌++◌, Option, Some, None, slice_get}
 use Rattle.std.proofs.Common.{if◌then◌else◌, nat_eq, refl, sym, ap, subst, inl, inr, ◌∙◌, arith}
 use Rattle.std.proofs.lemmas.Bool.Decides.{nat_tests}
-use Rattle.bac_apdu.specs.Apdu.{Apdu}
-use Rattle.bac_npdu.specs.Peers.{PeerView}
 use Rattle.bac_service.specs.Services.{reads_reply}
 use Rattle.bac_protocol.specs.declared.times.TheConstants.{DEADLINE}
-use Rattle.bac_protocol.specs.Context.{Settings, Context}
+use Rattle.bac_protocol.specs.Context.{Context}
 use Rattle.bac_protocol.specs.Service as machine
 use Rattle.bac_protocol.specs.Service.{Octets}
-use Rattle.bac_protocol.specs.Wire.{is_from_client, is_from_server}
 use Rattle.bac_protocol.specs.Client as client
 use Rattle.bac_protocol.specs.Client.{Ticket, Reaction, is_idle, is_expired, client_gets, client_ticks}
 use Rattle.bac_protocol.specs.Client.Reaction.{Stays, Ends}
@@ -23,14 +20,13 @@ use Rattle.bac_ends.specs.Keys.{PeerKey, peer_key_cmp, same_key}
 use Rattle.bac_ends.specs.Sends.{Pairwise}
 use Rattle.bac_ends.specs.Meanings as plain
 use Rattle.bac_ends.specs.Meanings.{Finish, IsFinish, MeansEnding}
-use Rattle.bac_ends.specs.Ends.{Client, Held, ClientSlot, ClientEnd, ClientTurn, Ended, context_of, from_each, client_tick_ends, client_ticked, held_ticked}
-use Rattle.bac_ends.specs.Ends.{clients_tick, client_hears, client_hears_at, key_of, kept, ended_with}
+use Rattle.bac_ends.specs.Ends.{Client, Held, ClientSlot, Ended, context_of, from_each, client_tick_ends}
+use Rattle.bac_ends.specs.Ends.{client_hears_at, key_of, kept, ended_with}
 use Rattle.bac_ends.specs.Ends.Held.{Open, Closed}
 use Rattle.bac_world.specs.Node.{Node, Outcome, NodeTick, IsHeardBy, IsClientTurn}
-use Rattle.bac_world.specs.Laws.{Gets}
 use Rattle.bac_world.specs.World.{World, WorldRun, Event, IsFresh, IsBounded, ask_of, peer_at, link_at}
-use Rattle.bac_world.proofs.Slots.{EachSlot, changed, changed_value, value_changed, with_same, slot, decide_slot_key, apart_none, found_first, passed_first}
-use Rattle.bac_world.proofs.Slots.{distinct_in_order, each_in_order, found_in_order, each_at}
+use Rattle.bac_ends.proofs.KeyedSlots.{EachSlot, changed_value, value_changed, with_same, slot, decide_slot_key, apart_none, found_first, passed_first}
+use Rattle.bac_ends.proofs.KeyedSlots.{distinct_in_order, each_in_order, found_in_order, each_at}
 use Rattle.bac_world.proofs.Bridge.{IsKnown, TicketFits, slot_key}
 use Rattle.bac_world.proofs.Bridge.{key_of as node_key}
 use Rattle.bac_world.proofs.Pairs.{IsSplit, pairwise_split, pairwise_none}
@@ -38,7 +34,7 @@ use Rattle.bac_world.proofs.ClientTick.{client_tick}
 use Rattle.bac_world.proofs.Hearing.{ticket_at}
 use Rattle.bac_world.proofs.NodeLaws.{heard_as}
 use Rattle.bac_world.proofs.Steps.{Over}
-use Rattle.bac_completion.specs.Ends.{IsOpen, finishes_of, expired, HasFinish, HasTicketsApart, Expires, TickEnds, AnswerEnds, NodesAreInOrder}
+use Rattle.bac_completion.specs.Ends.{IsOpen, finishes_of, expired, HasFinish, HasTicketsApart, TickEnds, AnswerEnds, NodesAreInOrder}
 use Rattle.bac_world.proofs.Headline.{fresh_over, rules_of, rules_bounded}
 use Rattle.bac_completion.proofs.Endings.{opened, late_gets, tick_leaves, on_run}
 
@@ -163,7 +159,8 @@ module _ (now : ℕ) (old : Node) (apart : HasTicketsApart old) (key : PeerKey) 
           let value : s.value ≡ record { number = number; held = Open t } =
           (let e : Some s.value ≡ Some (record { number = number; held = Open t }) =
           sym (found_first Client s.key s.begin s.value os) ∙ ap (λ (q : PeerKey). value_at same_key q (s ∷ os)) is ∙ found in cc) in
-          let one = own_ends s.begin d.front (subst (λ (q : PeerKey). Pairwise IsFinish (ends (slot Client q s.begin (record { number = number; held = Open t }))) d.front) is
+          let one = own_ends s.begin d.front (subst (λ (q : PeerKey).
+          Pairwise IsFinish (ends (slot Client q s.begin (record { number = number; held = Open t }))) d.front) is
           (subst (λ (v : Client). Pairwise IsFinish (ends (slot Client s.key s.begin v)) d.front) value d.first)) in
           let two = none_end os (subst (λ (q : PeerKey). IsApart same_key q os) is distinct.0) own.1 d.rest d.second in
           record {

@@ -1,5 +1,5 @@
 -- Runs that are computed.
-use Rattle.std.proofs.Common.{◌≡◌, ℕ, zero, suc, List, [], ◌∷◌, Some, None, slice_get, refl, sym, ap, subst, inl, inr, ◌≢◌, IsTrue, arith}
+use Rattle.std.proofs.Common.{◌≡◌, ℕ, zero, suc, [], ◌∷◌, Some, None, slice_get, refl, sym, ap, subst, inr, ◌≢◌, IsTrue, arith}
 use Rattle.bac_apdu.specs.Spelling.{apdu_fits, apdu_spelling}
 use Rattle.bac_service.specs.Services.{reads_reply}
 use Rattle.bac_service.proofs.Wholes.{request_again}
@@ -9,15 +9,14 @@ use Rattle.bac_protocol.specs.Server as server
 use Rattle.bac_protocol.specs.Server.{performs_so, begins}
 use Rattle.bac_protocol.specs.Service as machine
 use Rattle.bac_ends.specs.Keys.{PeerKey}
-use Rattle.bac_ends.specs.Sends.{Datagram}
 use Rattle.bac_ends.specs.Meanings.Ending.{Answered, Expired}
 use Rattle.bac_ends.specs.Ends.{clients_tick, servers_tick, context_of, server_goes, client_hears}
 use Rattle.bac_server.specs.Services.{service_of, outcome_by}
-use Rattle.bac_world.specs.Node.{Node, Outcome, IsServerTurn, NodeTick}
+use Rattle.bac_world.specs.Node.{Node, Outcome, IsServerTurn}
 use Rattle.bac_world.specs.Once.Fact.{Performed, Ended}
 use Rattle.bac_world.specs.World.{World, Copy, Hears, Ticks, IsCopied, peer_at}
 use Rattle.bac_world.specs.Examples.{REQUEST, REPLY, STORE, ASKED}
-use Rattle.bac_world.specs.AnsweredRun.{LIMITS, SETTINGS, OPENING, LOG, link, node}
+use Rattle.bac_world.specs.AnsweredRun.{LIMITS, SETTINGS, LOG, link, node}
 use Rattle.bac_world.proofs.Answered.{SERVICE_DATA, ASK, ANSWER, apart, spelled, datagram, ASKED_NODE, copy, NOTES, SECOND, THIRD, LAST}
 use Rattle.bac_world.proofs.Answered.{ask_fits, ask_short, sent, means, others_first, asked}
 use Rattle.bac_world.proofs.Answered.{request_delivered, answer_delivered}

@@ -1,5 +1,5 @@
 -- Each ask ends, in every world.
-use Rattle.std.proofs.Common.{◌≡◌, ◌⊎◌, ℕ, suc, ◌-◌, ◌<◌, ◌≤◌, Bool, true, false, List, [], ◌∷◌, length, Option, Some, None, slice_get, if◌then◌else◌, not, ◌||◌}
+use Rattle.std.proofs.Common.{◌≡◌, ◌⊎◌, ℕ, suc, ◌-◌, ◌<◌, ◌≤◌, Bool, true, false, List, [], ◌∷◌, length, Option, Some, None, if◌then◌else◌, not, ◌||◌}
 use Rattle.std.proofs.Common.{nat_eq, refl, sym, ap, subst, inl, inr, ◌∙◌, arith}
 use Rattle.std.proofs.lemmas.Bool.Decides.{nat_tests}
 use Rattle.bac_apdu.specs.Apdu.{Apdu, Limits}
@@ -32,14 +32,14 @@ use Rattle.bac_progress.proofs.Endings.{Tracked, tracked_path, ended_once}
 use Rattle.bac_slots.specs.Slots.{value_at}
 use Rattle.bac_ends.specs.Keys.{PeerKey, same_key}
 use Rattle.bac_ends.specs.Sends.{Pairwise}
-use Rattle.bac_ends.specs.Ends.{Client, Held, ClientSlot, context_of, kept, open_unless, held_ticked, clients_tick}
+use Rattle.bac_ends.specs.Ends.{Client, Held, context_of, kept, open_unless, held_ticked}
 use Rattle.bac_ends.specs.Ends.Held.{Open, Closed}
 use Rattle.bac_world.specs.Node.{Node, Outcome, NodeTick}
 use Rattle.bac_world.specs.Once.{Fact}
 use Rattle.bac_world.specs.Once.Fact.{Asked, Performed, Ended}
 use Rattle.bac_world.specs.World.{World, Copy, Event, WorldStep, WorldRun, IsFresh, IsBounded, IsAsked, Ticks, link_at, peer_at}
 use Rattle.bac_world.specs.World.Event.{Deliver, Tick}
-use Rattle.bac_world.proofs.Slots.{changed, changed_value, value_changed}
+use Rattle.bac_ends.proofs.KeyedSlots.{changed, changed_value, value_changed}
 use Rattle.bac_world.proofs.Machines.{orderly}
 use Rattle.bac_world.proofs.Logs.{FactMeans}
 use Rattle.bac_world.proofs.Bridge.{IsCopyOf, IsBetween, TicketFits, key_of, slot_key}

@@ -1,6 +1,6 @@
 -- What a world does is a path of its machines.
-use Rattle.std.proofs.Common.{◌≡◌, ◌⊎◌, ℕ, ◌+◌, ◌-◌, ◌≤◌, Bool, true, false, ◌&&◌, List, [], ◌∷◌, length, Option, Some, None, slice_get, nat_le, refl, sym, ap, subst}
-use Rattle.std.proofs.Common.{inl, inr, ◌∙◌, arith}
+use Rattle.std.proofs.Common.{◌≡◌, ◌⊎◌, ℕ, ◌+◌, ◌-◌, ◌≤◌, Bool, true, false, ◌&&◌, List, [], ◌∷◌, length, Option, Some, None, slice_get, nat_le}
+use Rattle.std.proofs.Common.{refl, sym, ap, subst, inl, inr, ◌∙◌, arith}
 use Rattle.std.proofs.lemmas.Bool.Decides.{nat_tests}
 use Rattle.bac_apdu.specs.Apdu.{Apdu, Limits}
 use Rattle.bac_apdu.specs.Spelling.{SpellsApdu, is_confirmed_request}
@@ -28,8 +28,7 @@ use Rattle.bac_progress.proofs.Paths.{ask_of, Comes, Step, Path, path_then}
 use Rattle.bac_progress.proofs.Paths.Path.{Here, Then}
 use Rattle.bac_world.specs.Services.{ArePerformed}
 use Rattle.bac_world.specs.Node.{Node, Outcome, IsDropped, IsHeard, IsHeardBy, NodeOn}
-use Rattle.bac_world.specs.World.{World, Event, Copy, link_at, later, is_deliverable, peer_at, Acts, DeliversIf, Delivers, HearsNoise, IsAsked, WorldStep, WorldRun}
-use Rattle.bac_world.specs.World.{IsFresh, IsBounded}
+use Rattle.bac_world.specs.World.{World, Event, Copy, later, is_deliverable, peer_at, Acts, DeliversIf, Delivers, HearsNoise, IsAsked, WorldStep, WorldRun}
 use Rattle.bac_world.specs.World.Event.{Ask, Deliver, Noise, Tick, Advance}
 use Rattle.bac_world.specs.Laws.{IsMeaningless}
 use Rattle.bac_world.proofs.NodeLaws.{drops_exactly}
@@ -42,7 +41,7 @@ use Rattle.bac_world.proofs.Serving.{serves, served_so}
 use Rattle.bac_world.proofs.Clients.{hears, quiet}
 use Rattle.bac_world.proofs.Asking.{IsAccepted, accepted_is, free_ticket, asks_with}
 use Rattle.bac_world.proofs.Ticking.{tick_over, tick_leads}
-use Rattle.bac_world.proofs.Headline.{advanced_over, fresh_over, rules_of, rules_bounded}
+use Rattle.bac_world.proofs.Headline.{advanced_over}
 use Rattle.bac_completion.specs.Runs.{Throughout}
 use Rattle.bac_completion.specs.RoundTrip.{MayArrive}
 

@@ -1,5 +1,5 @@
 -- A server that can perform the request of an accepted ask does so when a copy of it comes.
-use Rattle.std.proofs.Common.{◌≡◌, ℕ, Bool, true, false, [], ◌∷◌, Option, Some, None, slice_get, if◌then◌else◌, refl, sym, ap, subst, ◌∙◌}
+use Rattle.std.proofs.Common.{◌≡◌, ℕ, Bool, true, false, Option, Some, None, slice_get, if◌then◌else◌, refl, sym, ap, ◌∙◌}
 use Rattle.bac_apdu.specs.Apdu.{Apdu, Limits}
 use Rattle.bac_segment.specs.Pieces.{join}
 use Rattle.bac_service.specs.Services.{reads_reply}

@@ -1,6 +1,6 @@
 -- Repeats suffice, in every world.
 use Rattle.std.proofs.Common.{◌≡◌, ◌⊎◌, ℕ, ◌+◌, ◌-◌, ◌<◌, ◌≤◌, Bool, true, false, List, [], ◌∷◌, ◌++◌, map, length, Option, Some, None, slice_get}
-use Rattle.std.proofs.Common.{if◌then◌else◌, refl, sym, ap, subst, inl, inr, ◌∙◌, arith}
+use Rattle.std.proofs.Common.{refl, sym, ap, subst, inl, inr, ◌∙◌, arith}
 use Rattle.std.specs.Option.{option_map}
 use Rattle.bac_apdu.specs.Apdu.{Apdu, Limits}
 use Rattle.bac_segment.specs.Pieces.{join}
@@ -22,26 +22,24 @@ use Rattle.bac_protocol.specs.Server as server
 use Rattle.bac_protocol.specs.Server.{Effect, Service, is_none_live, live_entry, server_gets}
 use Rattle.bac_protocol.specs.Log as octets
 use Rattle.bac_protocol.specs.Transaction.{Key, Rules, client_context, server_context, ended}
-use Rattle.bac_protocol.specs.World.{Net, Post, post_of, asked_at, client_acts, server_acts, net_start}
+use Rattle.bac_protocol.specs.World.{Net, Post, post_of, asked_at, client_acts, net_start}
 use Rattle.bac_protocol.specs.Moves.{taken_by_client}
 use Rattle.bac_protocol.specs.Straight.{KindFits}
 use Rattle.bac_protocol.specs.Claims as claims
 use Rattle.bac_protocol.proofs.Dead.{ended_is_silent}
 use Rattle.bac_protocol.proofs.SingleMoves.{reached_net}
-use Rattle.bac_progress.specs.Runs.{IsOnItsWay}
 use Rattle.bac_progress.specs.RoundTrip.{FitsInOne, request_to, answer_to}
 use Rattle.bac_progress.specs.Repeats as machine
 use Rattle.bac_progress.specs.Repeats.{PATIENCE}
 use Rattle.bac_progress.proofs.Paths.{some_is, ask_of}
 use Rattle.bac_progress.proofs.Serving.{answer_not_from_client}
-use Rattle.bac_progress.proofs.Waits.{Waits, Finds, PatientOrAnswered, IsFine, WasGiven, waits_path, repeat_left, fine_comes, fine_down, told_answered}
+use Rattle.bac_progress.proofs.Waits.{Waits, Finds, PatientOrAnswered, WasGiven, waits_path, repeat_left, fine_comes, fine_down, told_answered}
 use Rattle.bac_progress.proofs.Waits.{brings_answer}
 use Rattle.bac_progress.proofs.Robust.{asked_on}
 use Rattle.bac_slots.specs.Slots.{value_at}
 use Rattle.bac_ends.specs.Keys.{PeerKey, same_key}
 use Rattle.bac_ends.specs.Sends.{Pairwise}
-use Rattle.bac_ends.specs.Ends.{Client, Held, act_at, is_free, kept, open_unless}
-use Rattle.bac_ends.specs.Ends.Held.{Open}
+use Rattle.bac_ends.specs.Ends.{Client, Held, act_at, is_free, open_unless}
 use Rattle.bac_server.specs.Services.{service_of}
 use Rattle.bac_world.specs.Services.{Performed, ArePerformed}
 use Rattle.bac_world.specs.Node.{Node}
@@ -55,11 +53,10 @@ use Rattle.bac_world.proofs.Steps.{Over}
 use Rattle.bac_world.proofs.Asking.{accepted_whole}
 use Rattle.bac_world.proofs.Headline.{headline, fresh_over, rules_of, rules_bounded}
 use Rattle.bac_completion.specs.Runs.{Throughout}
-use Rattle.bac_completion.specs.Ends.{IsOpen}
 use Rattle.bac_completion.specs.RoundTrip.{MayArrive, IsRequest, CanPerform, IsAnswered, IsFromServer}
 use Rattle.bac_completion.specs.Repeats.{FindsServer, IsWaiting, IsRobust, RepeatsSuffice}
-use Rattle.bac_completion.proofs.Following.{Gives, Followed, Parts, IsTaken, IsServedBy, served_reaction, accepted, asked_free, post, comes, heard_now, served_over}
-use Rattle.bac_completion.proofs.Following.{told_over, run_followed}
+use Rattle.bac_completion.proofs.Following.{Gives, Followed, Parts, IsTaken, IsServedBy, served_reaction, accepted, asked_free, post, comes, heard_now}
+use Rattle.bac_completion.proofs.Following.{served_over, told_over, run_followed}
 use Rattle.bac_completion.proofs.Asked.{key, ask, made, made_over, client_link, server_link, foreign, request_is, is_request, pairwise_rest, just_one}
 use Rattle.bac_completion.proofs.Endings.{on_run}
 use Rattle.bac_completion.proofs.Performing.{id_is, is_none, entry_is, slot, outcome, way, does, reaction}

@@ -1,19 +1,16 @@
 -- One round trip suffices, in every world.
-use Rattle.std.proofs.Common.{◌≡◌, ◌⊎◌, ℕ, ◌-◌, ◌≤◌, Bool, true, false, List, [], ◌∷◌, ◌++◌, length, Option, Some, None, slice_get, if◌then◌else◌}
+use Rattle.std.proofs.Common.{◌≡◌, ℕ, ◌-◌, ◌≤◌, Bool, true, false, List, [], ◌∷◌, ◌++◌, length, Option, Some, slice_get}
 use Rattle.std.proofs.Common.{refl, sym, ap, subst, inl, inr, ◌∙◌, arith}
 use Rattle.bac_apdu.specs.Apdu.{Apdu, Limits}
-use Rattle.bac_segment.specs.Pieces.{join}
 use Rattle.bac_service.specs.Services.{reads_reply}
 use Rattle.bac_service.specs.Values.{Request, choice_of}
 use Rattle.bac_service.specs.Requests.{SpellsRequest}
-use Rattle.bac_service.proofs.Wholes.{request_again}
 use Rattle.bac_protocol.specs.declared.times.TheConstants.{DEADLINE}
 use Rattle.bac_protocol.specs.Context.{Settings, Context}
 use Rattle.bac_protocol.specs.Sizes.{request_way_of, reply_way_of}
 use Rattle.bac_protocol.specs.Sizes.Way.{InOne}
-use Rattle.bac_protocol.specs.Service.{Octets, Reply}
+use Rattle.bac_protocol.specs.Service.{Octets}
 use Rattle.bac_protocol.specs.Service.Ending.{Answered}
-use Rattle.bac_protocol.specs.Service.Outcome.{Replies}
 use Rattle.bac_protocol.specs.Wire.{is_from_client}
 use Rattle.bac_protocol.specs.Client as client
 use Rattle.bac_protocol.specs.Client.{Ask, Ticket, is_idle, request_of}
@@ -29,32 +26,27 @@ use Rattle.bac_protocol.specs.Claims as claims
 use Rattle.bac_protocol.proofs.Keys.{set_same}
 use Rattle.bac_protocol.proofs.SingleMoves.{reached_net}
 use Rattle.bac_progress.specs.RoundTrip.{FitsInOne, request_to, answer_to}
-use Rattle.bac_progress.proofs.Paths.{Any, some_is, Path, path_then, path_now, path_log, path_posts}
+use Rattle.bac_progress.proofs.Paths.{Any, some_is, Path, path_now, path_log, path_posts}
 use Rattle.bac_progress.proofs.Changes.{IdleIsLogged, HasEnded, IsThere, logged_path}
 use Rattle.bac_progress.proofs.Endings.{Tracked, tracked_path}
-use Rattle.bac_progress.proofs.Serving.{answer_any_time, answer_not_from_client, performed_entry, answers_first, serves_new}
+use Rattle.bac_progress.proofs.Serving.{answer_not_from_client, performed_entry}
 use Rattle.bac_progress.proofs.Kept.{IsKept, kept_path}
 use Rattle.bac_progress.proofs.RoundTrips.{TakesAnswer, takes_ends, there_takes}
 use Rattle.bac_progress.proofs.Robust.{at_end}
-use Rattle.bac_slots.specs.Slots.{value_at}
-use Rattle.bac_ends.specs.Keys.{same_key}
 use Rattle.bac_ends.specs.Sends.{Pairwise}
-use Rattle.bac_ends.specs.Ends.{is_free}
-use Rattle.bac_server.specs.Services.{service_of, outcome_by}
 use Rattle.bac_world.specs.Node.{Node}
 use Rattle.bac_world.specs.Once.{Stores, IsOnce}
 use Rattle.bac_world.specs.World.{World, Event, Copy, WorldStep, WorldRun, IsFresh, IsBounded, IsAsked, link_at, stores_of, peer_at}
 use Rattle.bac_world.specs.World.Event.{Deliver}
 use Rattle.bac_world.proofs.Pairs.{IsPaired}
-use Rattle.bac_world.proofs.Bridge.{IsCopyOf, NodeFits, key_of, slot_key}
+use Rattle.bac_world.proofs.Bridge.{IsCopyOf}
 use Rattle.bac_world.proofs.Steps.{Over}
-use Rattle.bac_world.proofs.Serving.{served_so}
 use Rattle.bac_world.proofs.Asking.{accepted_whole}
 use Rattle.bac_world.proofs.Headline.{headline, fresh_over, rules_of, rules_bounded}
 use Rattle.bac_completion.specs.Runs.{endings_of}
-use Rattle.bac_completion.specs.RoundTrip.{MayArrive, IsWhole, IsRequest, CanPerform, IsAnswered, IsServed, RoundTripSuffices}
+use Rattle.bac_completion.specs.RoundTrip.{MayArrive, IsRequest, CanPerform, IsAnswered, IsServed, RoundTripSuffices}
 use Rattle.bac_completion.proofs.Following.{Followed, Parts, IsTaken, IsServedBy, served_reaction, accepted, post, heard_now, served_over, told_over}
-use Rattle.bac_completion.proofs.Asked.{key, ask, made, made_over, made_path, there, client_link, foreign, request_is, pairwise_rest, pairwise_length, just_one}
+use Rattle.bac_completion.proofs.Asked.{key, ask, made, made_over, made_path, there, foreign, request_is, pairwise_rest, pairwise_length, just_one}
 use Rattle.bac_completion.proofs.Endings.{on_run, once_in}
 use Rattle.bac_completion.proofs.Performing.{way, does, reaction}
 use Rattle.bac_completion.proofs.Values.{answered_values, kind_fits}

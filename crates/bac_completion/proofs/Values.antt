@@ -1,6 +1,5 @@
 -- What a log of octets says of an ask, as values.
-use Rattle.std.proofs.Common.{◌≡◌, ◌⊎◌, ℕ, true, false, List, [], ◌∷◌, Option, Some, None, refl, sym, ap, subst, inl, inr, ◌∙◌, arith}
-use Rattle.std.specs.Prelude.{Result, Ok, Err}
+use Rattle.std.proofs.Common.{◌≡◌, ℕ, true, List, [], ◌∷◌, refl, sym, ap, subst, inl, inr, ◌∙◌}
 use Rattle.bac_service.specs.Values.{Request, Complex, choice_of, complex_choice_of}
 use Rattle.bac_service.specs.Values.Complex.{FileRead, StreamWritten, RecordsWritten, PropertyRead}
 use Rattle.bac_service.specs.Choices.{has_simple_ack, has_complex_ack}
@@ -17,7 +16,7 @@ use Rattle.bac_protocol.specs.Service as machine
 use Rattle.bac_protocol.specs.Log as octets
 use Rattle.bac_protocol.specs.Straight.{KindFits}
 use Rattle.bac_ends.specs.Sends.{Pairwise}
-use Rattle.bac_ends.specs.Meanings.{MeansReply, MeansEnding, Ending}
+use Rattle.bac_ends.specs.Meanings.{MeansReply}
 use Rattle.bac_ends.specs.Meanings.Ending.{Answered, Rejected, Aborted, TimedOut, Expired}
 use Rattle.bac_world.specs.Once.{Fact, Has, Stores, IsUnperformed, IsOnce}
 use Rattle.bac_world.specs.Once.Fact.{Asked, Performed, Ended}

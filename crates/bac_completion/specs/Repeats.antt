@@ -12,7 +12,7 @@ use Rattle.bac_slots.specs.Slots.{value_at}
 use Rattle.bac_ends.specs.Keys.{same_key}
 use Rattle.bac_world.specs.Node.{Node}
 use Rattle.bac_world.specs.World.{World, Copy, Event, WorldStep, WorldRun, IsAsked, peer_at}
-use Rattle.bac_world.specs.World.Event.{Ask, Deliver, Noise, Tick, Advance}
+use Rattle.bac_world.specs.World.Event.{Deliver}
 use Rattle.bac_completion.specs.Runs.{Throughout}
 use Rattle.bac_completion.specs.RoundTrip.{MayArrive, IsFromServer, IsWhole, IsRequest, CanPerform, IsAnswered}
 use Rattle.bac_completion.specs.Ends.{IsOpen}

@@ -12,7 +12,7 @@ use Rattle.bac_protocol.specs.Service as machine
 use Rattle.bac_protocol.specs.Service.Outcome.{Replies}
 use Rattle.bac_protocol.specs.Server.{live_entry}
 use Rattle.bac_slots.specs.Slots.{value_at}
-use Rattle.bac_ends.specs.Keys.{PeerKey, same_key}
+use Rattle.bac_ends.specs.Keys.{same_key}
 use Rattle.bac_ends.specs.Meanings.Ending.{Answered}
 use Rattle.bac_ends.specs.Ends.{is_free}
 use Rattle.bac_server.specs.Services.{outcome_of}

@@ -5,7 +5,8 @@ use Rattle.bac_world.specs.Once.Fact.{Asked, Performed, Ended}
 use Rattle.bac_world.specs.World.{World, Event, WorldRun}
 
 -- each event of a run has that, in the world in which it happens
-abbrev pub Throughout : (overtake : ℕ) → (World → Event → Type 0) → (old : World) (events : List Event) (new : World) → WorldRun overtake old events new → Type 0
+abbrev pub Throughout : (overtake : ℕ) → (World → Event → Type 0) → (old : World) (events : List Event) (new : World)
+    → WorldRun overtake old events new → Type 0
 Throughout overtake P old [] new run = Unit {0}
 Throughout overtake P old (e ∷ es) new run = P old e × Throughout overtake P run.0 es new run.2
 

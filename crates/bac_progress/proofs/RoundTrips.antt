@@ -196,8 +196,8 @@ module _ (S : Type 0) (shop : Shop S) (opening : ℕ → S) (W : ℕ) (x : Rules
         path : happens S shop x v (Deliver k free) ≡ reacts S v key there.there.ticket (Ends [] (Answered p))
         path = ends v key there.there.ticket p k free
             (subst (λ (a : Ask). IsOnItsWay x v.net key (answer_to x key a p) k) (sym there.there.is) m) there.there.at
-            (there_takes W x key ask number begin p since v.net (run_kept S shop opening W x bound events u s).net there (subst (λ (t : Ticket). is_idle t.phase ≡ false) same o.going)
-            (is_ready ready))
+            (there_takes W x key ask number begin p since v.net (run_kept S shop opening W x bound events u s).net there
+            (subst (λ (t : Ticket). is_idle t.phase ≡ false) same o.going) (is_ready ready))
             (subst (λ (a : Ask). v.net.now - a.first ≤ DEADLINE) (sym there.there.is) o.in_time)
             (subst (λ (a : Ask). FitsInOne x key a p) (sym there.there.is) fits)
 

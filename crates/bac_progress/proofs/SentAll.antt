@@ -1,11 +1,11 @@
 -- While an ask is in time and its server keeps its reply, its client has sent all segments; so the answer ends its ticket.
-use Rattle.std.proofs.Common.{◌≡◌, ℕ, ◌-◌, ◌≤◌, Bool, true, List, [], ◌∷◌, ◌++◌, Option, Some, refl, sym, ap, subst, ◌∙◌}
+use Rattle.std.proofs.Common.{◌≡◌, ℕ, ◌-◌, ◌≤◌, List, [], ◌∷◌, ◌++◌, Option, Some, refl, sym, ap, subst, ◌∙◌}
 use Rattle.bac_apdu.specs.Apdu.{Apdu}
 use Rattle.bac_protocol.specs.declared.times.TheConstants.{DEADLINE}
 use Rattle.bac_protocol.specs.Service.{Reply}
-use Rattle.bac_protocol.specs.Client.{Ask, Phase, Ticket}
+use Rattle.bac_protocol.specs.Client.{Ask, Phase}
 use Rattle.bac_protocol.specs.Client.Phase.{SegmentedRequest, AwaitConfirmation, SegmentedConf, Idle}
-use Rattle.bac_protocol.specs.Server.{State, Entry, live_entry, is_live}
+use Rattle.bac_protocol.specs.Server.{State, Entry, live_entry}
 use Rattle.bac_protocol.specs.Server.State.{Done}
 use Rattle.bac_protocol.specs.Own.{lesser_window}
 use Rattle.bac_protocol.specs.Log.{Shop}

@@ -241,7 +241,8 @@ module _ (x : Rules) (key : Key) (ask : Ask) (number : ℕ) where
     where
       go : t.ask ≡ ask → PatientOrAnswered n.now t n.log
           → IsAnswered number ask (ended number (ending_of (client.client_gets (client_context x key n.now) x.readable t (answer_to x key ask p))) n.log)
-      go is (inr o) = answered_grows n.log (ended number (ending_of (client.client_gets (client_context x key n.now) x.readable t (answer_to x key ask p))) n.log)
+      go is (inr o) = answered_grows n.log
+          (ended number (ending_of (client.client_gets (client_context x key n.now) x.readable t (answer_to x key ask p))) n.log)
           (grows_ended number (ending_of (client.client_gets (client_context x key n.now) x.readable t (answer_to x key ask p))) n.log) o.1
       go is (inl w) =
           let c = client_context x key n.now in

@@ -1,11 +1,9 @@
 -- What the handling of segments answers.
-use Rattle.std.specs.Prelude.{◌≡◌, ℕ, ◌-◌, ◌%◌, true, false, List, [], ◌∷◌, ◌++◌, Bool, not, Option, Some, None, is_some, Result, Ok, Err}
+use Rattle.std.specs.Prelude.{◌≡◌, ℕ, false, List, [], ◌∷◌, ◌++◌, Bool, not, Option, Some, None, is_some, Result, Ok, Err}
 use Rattle.std.specs.Global.{Vec}
-use Rattle.bac_apdu.specs.Apdu.{Apdu, Limits, Segment}
+use Rattle.bac_apdu.specs.Apdu.{Limits, Segment}
 use Rattle.bac_npdu.specs.Peers.{PeerView}
 use Rattle.bac_segment.specs.Window.{Incoming, Outgoing}
-use Rattle.bac_segment.specs.declared.incoming.Step.{Step}
-use Rattle.bac_segment.specs.declared.incoming.Step.TheVariants as step
 use Rattle.bac_service.specs.Values.{Request}
 use Rattle.bac_store.specs.Stores.{Store}
 use Rattle.bac_value.specs.declared.memory.NoMemory.{NoMemory}

@@ -29,8 +29,8 @@ fn request_comes(
     octets: &[u8],
     store: &mut Store,
 ) -> Result<IdleReaction, NoMemory>
-    ensures does { IdleReacts (λ dead. machine.idle_gets_request (context_view context.now) (service_of store.old) dead free terms.choice (limits_view terms.limits)
-        octets.now) (peer_of context.now) store.old result store.new }
+    ensures does { IdleReacts (λ dead. machine.idle_gets_request (context_view context.now) (service_of store.old) dead free terms.choice
+        (limits_view terms.limits) octets.now) (peer_of context.now) store.old result store.new }
     ensures free { BeginsWhereFree free result }
 {
     if !free {
@@ -69,8 +69,8 @@ fn segment_comes(
     octets: &[u8],
     store: &mut Store,
 ) -> Result<IdleReaction, NoMemory>
-    ensures does { IdleReacts (λ dead. machine.idle_gets_segment (context_view context.now) (service_of store.old) dead free terms.choice (limits_view terms.limits)
-        (segment_view segment) octets.now) (peer_of context.now) store.old result store.new }
+    ensures does { IdleReacts (λ dead. machine.idle_gets_segment (context_view context.now) (service_of store.old) dead free terms.choice
+        (limits_view terms.limits) (segment_view segment) octets.now) (peer_of context.now) store.old result store.new }
     ensures free { BeginsWhereFree free result }
 {
     if segment.number != 0 {

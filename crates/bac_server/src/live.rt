@@ -91,8 +91,8 @@ pub fn live_gets(
     apdu: &Apdu<'_>,
     store: &mut Store,
 ) -> Result<Reaction, Entry>
-    ensures { Reacts (machine.live_gets (context_view context.now) (service_of store.old) entry entry.state (apdu_view apdu.now)) (peer_of context.now) entry store.old
-        result store.new }
+    ensures { Reacts (machine.live_gets (context_view context.now) (service_of store.old) entry entry.state (apdu_view apdu.now)) (peer_of context.now) entry
+        store.old result store.new }
 {
     let Entry { origin, state } = entry;
     match state {

@@ -74,8 +74,8 @@ fn last_segment(
     store: &mut Store,
 ) -> Result<Reaction, (Origin, Incoming)>
     requires { Ok step.Whole ≡ answer_of (takes incoming segment.number segment.more octets.now) }
-    ensures { TakesSegment (λ z. machine.request_segment_taken (context_view context.now) (service_of store.old) (entry_of origin z) segment.number incoming.window
-        (takes incoming segment.number segment.more octets.now)) (peer_of context.now) origin incoming store.old result store.new }
+    ensures { TakesSegment (λ z. machine.request_segment_taken (context_view context.now) (service_of store.old) (entry_of origin z) segment.number
+        incoming.window (takes incoming segment.number segment.more octets.now)) (peer_of context.now) origin incoming store.old result store.new }
 {
     let unacknowledged = incoming.unacknowledged();
     let Ok(_) = incoming.on_segment(segment.number, segment.more, octets) else {
@@ -123,8 +123,8 @@ pub(crate) fn take_segment(
     octets: &[u8],
     store: &mut Store,
 ) -> Result<Reaction, (Origin, Incoming)>
-    ensures { TakesSegment (λ z. machine.request_segment_taken (context_view context.now) (service_of store.old) (entry_of origin z) segment.number incoming.window
-        (takes incoming segment.number segment.more octets.now)) (peer_of context.now) origin incoming store.old result store.new }
+    ensures { TakesSegment (λ z. machine.request_segment_taken (context_view context.now) (service_of store.old) (entry_of origin z) segment.number
+        incoming.window (takes incoming segment.number segment.more octets.now)) (peer_of context.now) origin incoming store.old result store.new }
 {
     let step = match incoming.answer(segment.number, segment.more, octets) {
         Ok(step) => step,
@@ -177,8 +177,9 @@ fn segment_comes(
     octets: &[u8],
     store: &mut Store,
 ) -> Result<Reaction, Entry>
-    ensures { Reacts (machine.segmented_request_gets_segment (context_view context.now) (service_of store.old) (entry_of origin (SegmentedRequest incoming since))
-        incoming since (segment_view segment) octets.now) (peer_of context.now) (entry_of origin (SegmentedRequest incoming since)) store.old result store.new }
+    ensures { Reacts (machine.segmented_request_gets_segment (context_view context.now) (service_of store.old)
+        (entry_of origin (SegmentedRequest incoming since)) incoming since (segment_view segment) octets.now) (peer_of context.now)
+        (entry_of origin (SegmentedRequest incoming since)) store.old result store.new }
 {
     if context.moment.saturating_sub(since) >= WAIT_SEG {
         let Ok(sends) = only_abort(alloc, context, true, OTHER) else {

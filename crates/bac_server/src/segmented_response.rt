@@ -51,7 +51,8 @@ fn runs(
     outgoing: Outgoing,
 ) -> Result<Reaction, (Origin, Outgoing)>
     requires { ArePiecesShort LONGEST_PIECE outgoing }
-    ensures { SendsWindow (λ z. machine.sends_reply_window (context_view context.now) (entry_of origin z) outgoing) (peer_of context.now) origin outgoing result }
+    ensures { SendsWindow (λ z. machine.sends_reply_window (context_view context.now) (entry_of origin z) outgoing) (peer_of context.now) origin outgoing
+        result }
 {
     let Ok(sends) = window_sends(alloc, context, origin.terms.choice, &outgoing) else {
         return Err((origin, outgoing));
@@ -98,8 +99,8 @@ fn resume(
     since: u64,
 ) -> Result<Reaction, Entry>
     requires { ArePiecesShort LONGEST_PIECE outgoing }
-    ensures { (s : Objects) → Reacts (machine.resumes (context_view context.now) (entry_of origin (SegmentedResponse outgoing (transfer_view transfer) since)) outgoing
-        (transfer_view transfer)) (peer_of context.now) (entry_of origin (SegmentedResponse outgoing (transfer_view transfer) since)) s result s }
+    ensures { (s : Objects) → Reacts (machine.resumes (context_view context.now) (entry_of origin (SegmentedResponse outgoing (transfer_view transfer) since))
+        outgoing (transfer_view transfer)) (peer_of context.now) (entry_of origin (SegmentedResponse outgoing (transfer_view transfer) since)) s result s }
 {
     let Transfer::Stopped = transfer else {
         let entry = with_transfer(origin, outgoing, transfer, since);

@@ -16,7 +16,7 @@ use Rattle.bac_ends.specs.Sends.{Datagram, Pairwise, IsSent, to_peer, to_all}
 use Rattle.bac_ends.specs.Meanings.{Finish, IsFinish}
 use Rattle.bac_ends.specs.Ends.{ended_with}
 use Rattle.bac_world.specs.World.{World, link_at, peer_at, transaction_of, ask_of}
-use Rattle.bac_world.proofs.Slots.{EachSlot, found_first}
+use Rattle.bac_ends.proofs.KeyedSlots.{EachSlot, found_first}
 use Rattle.bac_world.proofs.Bridge.{key_of, IsBetween, IsWay}
 use Rattle.bac_simulation.specs.Entering.{Every, CanBeCopied, IsNoted}
 

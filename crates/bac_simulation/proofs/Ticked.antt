@@ -23,7 +23,7 @@ use Rattle.bac_ends.specs.Ends.{client_tick_sends, client_tick_ends, held_tick_s
 use Rattle.bac_ends.specs.Ends.Held.{Open, Closed}
 use Rattle.bac_world.specs.Node.{Node, Outcome, NodeTick, NodeAsks}
 use Rattle.bac_world.specs.World.{World, link_at, peer_at}
-use Rattle.bac_world.proofs.Slots.{EachSlot, each_so, each_in_order}
+use Rattle.bac_ends.proofs.KeyedSlots.{EachSlot, each_so, each_in_order}
 use Rattle.bac_world.proofs.Machines.{own_of}
 use Rattle.bac_world.proofs.Pairs.{pairwise_split}
 use Rattle.bac_world.proofs.Bridge.{IsKnown, TicketFits, key_of, slot_key}

@@ -1,6 +1,6 @@
 -- How far the deliveries of an ask have gone.
 use Rattle.std.proofs.Common.{◌≡◌, ℕ, ◌+◌, ◌-◌, ◌≤◌, List, length, map, Option, Some, None, slice_get, refl, sym, ap, subst, inl, inr, ◌∙◌, arith}
-use Rattle.std.specs.Prelude.{reverse, Result, Ok, Err, IfOk, IsErrAnd, MatchResult}
+use Rattle.std.specs.Prelude.{Result, Ok, Err, IfOk, IsErrAnd, MatchResult}
 use Rattle.std.proofs.lemmas.List.{length-map, length-reverse}
 use Rattle.bac_apdu.specs.Apdu.{Limits}
 use Rattle.bac_service.specs.Values.{Request}

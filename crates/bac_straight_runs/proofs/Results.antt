@@ -69,7 +69,8 @@ module _ (W overtake : ℕ) (first old : World) (fresh : IsFresh first) (bounded
     refused was =
         let node : was.refused.node ≡ a = let e : Some was.refused.node ≡ Some a = sym was.refused.at ∙ can.client_at in cc in
         let link : was.refused.link ≡ b.link =
-        let e : Some was.refused.link ≡ Some b.link = sym was.refused.peer ∙ ap (λ (o : Option Node). option_map (λ (n : Node). n.link) o) can.server_at in cc in
+        let e : Some was.refused.link ≡ Some b.link = sym was.refused.peer
+        ∙ ap (λ (o : Option Node). option_map (λ (n : Node). n.link) o) can.server_at in cc in
         absurd (can.may_ask was.refused.refusal
         (subst (λ (x : Node). NodeRefuses old.now (peer_at b.link) x.settings.limits r a was.refused.refusal) server_is
         (subst (λ (l : Octets). NodeRefuses old.now (peer_at l) g.node.settings.limits r a was.refused.refusal) link

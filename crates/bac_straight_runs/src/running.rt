@@ -99,7 +99,8 @@ fn deliver_each(
     first: usize,
 ) -> Result<usize, WorldFault>
     requires { IsSince since ask world.old.world.log }
-    ensures { MatchResult result (λ count. HasStopped ask since first world.old world.new count) (λ _. (count : ℕ) × HasGone ask since first world.old world.new count) }
+    ensures { MatchResult result (λ count. HasStopped ask since first world.old world.new count)
+        (λ _. (count : ℕ) × HasGone ask since first world.old world.new count) }
 {
     for number in first..usize::MAX {
         if is_over(world, ask, since, number) {
@@ -136,7 +137,8 @@ fn deliver_all(
     first: usize,
 ) -> Result<StraightRun, WorldFault>
     requires { IsSince since ask world.old.world.log }
-    ensures { MatchResult result (λ s. HasStopped ask since first world.old world.new s.deliveries × (option_map ending_view s.ending ≡ ending_in ask world.new.world.log))
+    ensures { MatchResult result (λ s. HasStopped ask since first world.old world.new s.deliveries
+        × (option_map ending_view s.ending ≡ ending_in ask world.new.world.log))
         (λ _. (count : ℕ) × HasGone ask since first world.old world.new count) }
 {
     let deliveries = deliver_each(world, ask, since, first)?;

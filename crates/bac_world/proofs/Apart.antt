@@ -18,8 +18,8 @@ use Rattle.bac_ends.specs.Ends.Held.{Open, Closed}
 use Rattle.bac_server.specs.Services.{service_of}
 use Rattle.bac_world.specs.Node.{Node, Outcome, IsHeardBy, NodeOn, NodeAsks}
 use Rattle.bac_world.specs.Keys.{HasKeysApart, KeysStayApart}
-use Rattle.bac_world.proofs.Slots.{passing, passing_value, passing_distinct, with_distinct, put_distinct, distinct_changed}
-use Rattle.bac_world.proofs.Table.{entry_distinct}
+use Rattle.bac_ends.proofs.KeyedSlots.{passing, passing_value, passing_distinct, with_distinct, put_distinct, distinct_changed}
+use Rattle.bac_ends.proofs.Entries.{entry_distinct}
 use Rattle.bac_world.proofs.Asking.{holds, free_kept, accepted_is}
 use Rattle.bac_world.proofs.ClientTick.{client_tick}
 use Rattle.bac_world.proofs.ServerTick.{entry_tick}

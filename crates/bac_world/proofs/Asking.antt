@@ -28,8 +28,8 @@ use Rattle.bac_ends.proofs.Holding.{held_is}
 use Rattle.bac_world.specs.Node.{Node}
 use Rattle.bac_world.specs.Once.{Fact, Stores, IsOnce}
 use Rattle.bac_world.specs.World.{World, Note, Copy, stores_of, newest, ask_of, peer_at, IsCopied, IsAsked}
-use Rattle.bac_world.proofs.Slots.{slot, passing, passing_value, passing_distinct, put_same, put_other, put_distinct}
-use Rattle.bac_world.proofs.Slots.{each_at, each_so, each_passing, each_put}
+use Rattle.bac_ends.proofs.KeyedSlots.{slot, passing, passing_value, passing_distinct, put_same, put_other, put_distinct}
+use Rattle.bac_ends.proofs.KeyedSlots.{each_at, each_so, each_passing, each_put}
 use Rattle.bac_world.proofs.Machines.{Sound, counted, asked}
 use Rattle.bac_world.proofs.Pairs.{pairwise_join, append_none}
 use Rattle.bac_world.proofs.Logs.{FactMeans, asks_counted}

@@ -22,7 +22,7 @@ use Rattle.bac_ends.specs.Sends.{Datagram, Pairwise, IsSent, to_peer, to_all}
 use Rattle.bac_ends.specs.Ends.{Client, ClientEnd, ServerEnd, kept}
 use Rattle.bac_world.specs.Node.{Node}
 use Rattle.bac_world.specs.World.{World, Copy, Note, link_at, newest, ask_of, peer_at, transaction_of, IsCopied, count_of, later}
-use Rattle.bac_world.proofs.Slots.{EachSlot}
+use Rattle.bac_ends.proofs.KeyedSlots.{EachSlot}
 use Rattle.bac_world.proofs.Machines.{Sound}
 use Rattle.bac_world.proofs.Logs.{FactMeans}
 

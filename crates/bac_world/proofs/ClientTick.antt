@@ -16,7 +16,7 @@ use Rattle.bac_ends.specs.Ends.{ClientSlot, Client, Held, context_of, held_ticke
 use Rattle.bac_ends.specs.Ends.Held.{Open, Closed}
 use Rattle.bac_world.specs.Once.{Fact}
 use Rattle.bac_world.specs.World.{World, Note, Copy, AreEnded, peer_at, IsCopied}
-use Rattle.bac_world.proofs.Slots.{EachSlot, slot}
+use Rattle.bac_ends.proofs.KeyedSlots.{EachSlot, slot}
 use Rattle.bac_world.proofs.Changes.{look, Change, look_first, look_next, look_here, look_same, change_rest}
 use Rattle.bac_world.proofs.Leads.{Leads}
 use Rattle.bac_world.proofs.Leads.Leads.{TicksTicket}

@@ -29,7 +29,7 @@ use Rattle.bac_ends.specs.Ends.Held.{Open, Closed}
 use Rattle.bac_world.specs.Node.{Node, Outcome, IsClientTurn}
 use Rattle.bac_world.specs.Once.{Fact, IsOnce}
 use Rattle.bac_world.specs.World.{World, Copy, stores_of, Acts, AreLogged, AreEnded, IsCopied}
-use Rattle.bac_world.proofs.Slots.{EachSlot, with_same, with_other, with_distinct, each_with, each_at}
+use Rattle.bac_ends.proofs.KeyedSlots.{EachSlot, with_same, with_other, with_distinct, each_with, each_at}
 use Rattle.bac_world.proofs.Leads.Leads.{Here, Hears}
 use Rattle.bac_world.proofs.Machines.{gets_at_client, may_arrive}
 use Rattle.bac_world.proofs.Pairs.{pairwise_none, append_none}

@@ -27,7 +27,7 @@ use Rattle.bac_world.specs.Once.{Fact, Stores, IsOnce}
 use Rattle.bac_world.specs.World.{World, Event, Copy, Note, link_at, stores_of, later, peer_at, Acts, DeliversIf, Delivers, HearsNoise}
 use Rattle.bac_world.specs.World.{WorldStep, WorldRun, IsFresh, IsBounded}
 use Rattle.bac_world.specs.World.Event.{Ask, Deliver, Noise, Tick, Advance}
-use Rattle.bac_world.proofs.Slots.{EachSlot}
+use Rattle.bac_ends.proofs.KeyedSlots.{EachSlot}
 use Rattle.bac_world.proofs.Machines.{passed, starts}
 use Rattle.bac_world.proofs.Pairs.{IsPaired, pairwise_get}
 use Rattle.bac_world.proofs.Logs.{FactMeans}

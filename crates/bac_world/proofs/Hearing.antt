@@ -115,7 +115,8 @@ module _ (links : ℕ → Option Octets) (apart : (i j : ℕ) (l : Octets) → l
       (look look' : PeerKey → Option Client) (copies : List Copy) (log : List Fact) (m : Net) (h : Reached w key.client n look copies log m)
       (linked : (k : ℕ) → link_at w.nodes k ≡ links k) (number : ℕ) (t : Ticket)
       (there : look (slot_key l key.invoke_id) ≡ Some (record { number = number; held = Open t })) (r : client.Reaction)
-      (goes : m.tickets key ≡ Some t → Sound x (client_acts m key t r) × Leads x n (client_acts m key t r)) (own : Each (IsOfClient key.invoke_id) (client.sends_of r))
+      (goes : m.tickets key ≡ Some t → Sound x (client_acts m key t r) × Leads x n (client_acts m key t r))
+      (own : Each (IsOfClient key.invoke_id) (client.sends_of r))
       (here : look' (slot_key l key.invoke_id) ≡ Some (client_after n.now number t r))
       (away : (q : PeerKey) → (slot_key l key.invoke_id ≡ q → ⊥) → look' q ≡ look q) where
     abbrev q : PeerKey

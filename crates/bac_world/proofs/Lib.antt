@@ -1,4 +1,3 @@
-pub mod Slots
 pub mod Leads
 pub mod Machines
 pub mod Pairs

@@ -39,8 +39,8 @@ use Rattle.bac_world.specs.Services.{Performed, ArePerformed, store_after}
 use Rattle.bac_world.specs.Node.{Node, Outcome, Cause, NodeOn, IsWhy, IsDropped, IsHeardBy, IsServerTurn}
 use Rattle.bac_world.specs.Laws.{IsMeaningless, DropsExactly, Gets, SendsAlone, NewIsPerformed, IsEntry, IsAnsweredOnly, RepeatGetsKeptReply}
 use Rattle.bac_world.specs.Laws.{IsResumed, StoppedIsResumed, StoresReply}
-use Rattle.bac_world.proofs.Slots.{keys_equivalent}
-use Rattle.bac_world.proofs.Table.{entry_here}
+use Rattle.bac_ends.proofs.KeyedSlots.{keys_equivalent}
+use Rattle.bac_ends.proofs.Entries.{entry_here}
 
 -- What is dropped.
 

@@ -20,7 +20,7 @@ use Rattle.bac_ends.specs.Sends.{Send, Datagram, Pairwise, IsSent, to_all}
 use Rattle.bac_ends.specs.Ends.{ServerSlot, context_of, server_tick_sends, entry_or, from_each}
 use Rattle.bac_world.specs.Node.{Node}
 use Rattle.bac_world.specs.World.{World, Copy, link_at, peer_at, IsCopied}
-use Rattle.bac_world.proofs.Slots.{EachSlot, slot}
+use Rattle.bac_ends.proofs.KeyedSlots.{EachSlot, slot}
 use Rattle.bac_world.proofs.Changes.{look, Change, look_first, look_next, look_here, look_same, change_rest}
 use Rattle.bac_world.proofs.Leads.{Leads}
 use Rattle.bac_world.proofs.Leads.Leads.{TicksEntry}

@@ -40,7 +40,8 @@ use Rattle.bac_world.proofs.Pairs.{pairwise_join}
 use Rattle.bac_world.proofs.Logs.{FactMeans, WasAskedAs, asked_as, unperformed}
 use Rattle.bac_world.proofs.Bridge.{NodeFits, ServersFit, IsKnown, IsCopyOf, IsWay, EntryFits, key_of, slot_key, copies_of}
 use Rattle.bac_world.proofs.Steps.{Over, Fits, Goes, acts_over, once_same, stores_same}
-use Rattle.bac_world.proofs.Table.{entry_here, entry_there, entry_distinct, entry_each, none_left}
+use Rattle.bac_ends.proofs.Entries.{entry_here, entry_there, entry_distinct, entry_each}
+use Rattle.bac_world.proofs.Table.{none_left}
 
 -- what a server sends is no client's
 server_is_no_client : (a : Apdu) → is_from_server a ≡ true → is_from_client a ≡ false

@@ -1,5 +1,4 @@
 -- A request, whole or in segments.
-use Rattle.std.proofs.Common.{ap}
 use Rattle.bac_apdu.specs.Views.{apdu_view}
 use Rattle.bac_server.specs.Services.{service_of}
 use Rattle.bac_ends.specs.Views.{context_view, peer_of}
