@@ -4,7 +4,7 @@
 #     sh tests/scratch.sh tests/memory/growths sh count.sh
 # A program's files end in .rt.in and are copied as src/NAME.rt, since the gate wants each .rt file in a crate of crates.txt.
 # Its file stands_on names the crates that it stands on, where these are more than bac_value and bac_service.
-# What was proved of the crates below is taken from their out/ folders, where these are there.
+# The libraries of the crates below are taken from their out/rlib folders, where these are there.
 set -eu
 top=$(cd "$(dirname "$0")/.." && pwd)
 folder=$1
@@ -19,7 +19,8 @@ if [ -f "$top/$folder/stands_on" ]; then needs=$(cat "$top/$folder/stands_on"); 
 for need in $needs; do
     # the kit's own libraries stand elsewhere
     if [ -d "$top/crates/$need" ]; then
-        cp -a "$top/crates/$need" "$work/crates"
+        mkdir -p "$work/crates/$need/out"
+        (cd "$top/crates/$need" && tar -c --exclude=./out . && if [ -d out/rlib ]; then tar -c out/rlib; fi) | tar -xi -C "$work/crates/$need"
         grep "^$need:" "$top/crates.txt" >> "$work/crates.txt"
     fi
 done
