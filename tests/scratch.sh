@@ -4,22 +4,29 @@
 #     sh tests/scratch.sh tests/memory/growths sh count.sh
 # A program's files end in .rt.in and are copied as src/NAME.rt, since the gate wants each .rt file in a crate of crates.txt.
 # Its file stands_on names the crates that it stands on, where these are more than bac_value and bac_service.
-# What was proved of the crates below is taken from their out/ folders, where these are there.
+# The libraries of the crates below are taken from their out/rlib folders, where these are there.
+# SCRATCH=FOLDER keeps the repository in that folder with what was proved there, for the next time; otherwise it is removed.
 set -eu
 top=$(cd "$(dirname "$0")/.." && pwd)
 folder=$1
 name=$(basename "$folder")
 shift
-work=$(mktemp -d)
-trap 'rm -rf "$work"' EXIT
-trap 'exit 1' HUP INT TERM
+if [ -n "${SCRATCH:-}" ]; then
+    work=$SCRATCH
+    rm -f "$work/crates.txt"
+else
+    work=$(mktemp -d)
+    trap 'rm -rf "$work"' EXIT
+    trap 'exit 1' HUP INT TERM
+fi
 mkdir -p "$work/crates/$name/src"
 needs="bac_value bac_service"
 if [ -f "$top/$folder/stands_on" ]; then needs=$(cat "$top/$folder/stands_on"); fi
 for need in $needs; do
     # the kit's own libraries stand elsewhere
     if [ -d "$top/crates/$need" ]; then
-        cp -a "$top/crates/$need" "$work/crates"
+        mkdir -p "$work/crates/$need/out"
+        (cd "$top/crates/$need" && tar -c --exclude=./out . && if [ -d out/rlib ]; then tar -c out/rlib; fi) | tar -xi -C "$work/crates/$need"
         grep "^$need:" "$top/crates.txt" >> "$work/crates.txt"
     fi
 done

@@ -1,0 +1,250 @@
+//! Run with each allocation refused in turn, too: `sh tests/memory/refused.sh`. A call that was refused leaves all as it was, and is done when it comes
+//! again.
+use super::*;
+use bac_apdu::{read, write};
+use bac_node::{NodeFault, Outcome};
+use bac_npdu::{Peer, write_datagram};
+use bac_service::{read_reply, read_request, write_reply, write_request};
+use bac_store::{Object, Property, Store, StoreFault};
+use bac_value::{
+    NoMemory, ObjectIdentifier, Value, read_data, read_tag, write_data, write_tag, write_value,
+};
+
+/// What is written.
+#[derive(Clone, Copy, Debug)]
+enum Written {
+    Tag,
+    Value,
+    Data,
+    Request,
+    Reply,
+    Apdu,
+    /// To link 2, of an APDU that begins behind six octets.
+    Datagram,
+}
+
+/// What is written, and its octets.
+const WRITTEN: &[(Written, &[u8])] = &[
+    (Written::Tag, b"\x65\xFE\x01\x00"),
+    (Written::Value, b"\x22\x01\x00"),
+    (Written::Data, b"\x0E\x44\x42\x90\x99\x9A\x0F\x21\x05"),
+    (Written::Request, b"\x0C\x00\x00\x00\x05\x19\x55"),
+    (
+        Written::Reply,
+        b"\x0C\x00\x00\x00\x05\x19\x55\x3E\x44\x42\x90\x99\x9A\x3F",
+    ),
+    (
+        Written::Apdu,
+        b"\x00\x05\x01\x0C\x0C\x00\x00\x00\x05\x19\x55",
+    ),
+    (Written::Datagram, READ),
+];
+
+/// Octets that spell nothing of the kind.
+fn unread() -> Fail {
+    Fail::from("not read")
+}
+
+/// Reads a tag, a value, data or service data from its octets, and writes it.
+fn writes_value(
+    what: Written,
+    octets: &[u8],
+    out: &mut Vec<u8>,
+) -> Result<Result<(), NoMemory>, Fail> {
+    Ok(match what {
+        Written::Tag => write_tag(&read_tag(octets)?.0, out),
+        Written::Value => write_value(&Value::Unsigned(256), out),
+        Written::Data => write_data(read_data(octets)?.0, out),
+        Written::Request => write_request(read_request(12, octets).map_err(|_| unread())?, out),
+        _ => write_reply(read_reply(12, octets)?, out),
+    })
+}
+
+/// Reads an APDU or the one in a datagram from its octets, and writes that.
+fn writes(what: Written, octets: &[u8], out: &mut Vec<u8>) -> Result<Result<(), NoMemory>, Fail> {
+    match what {
+        Written::Apdu => Ok(write(&read(octets)?, out)),
+        Written::Datagram => {
+            let peer = Peer {
+                link: link(2),
+                route: None,
+            };
+            Ok(write_datagram(&peer, true, &READ[6..17], out))
+        }
+        _ => writes_value(what, octets, out),
+    }
+}
+
+/// One octet, in a vector that has to grow for a second.
+fn one_octet(alloc: Global) -> Result<Vec<u8>, Fail> {
+    let mut out = match Vec::with_capacity(alloc, 1) {
+        Ok(out) => out,
+        Err(_) => Vec::with_capacity(alloc, 1)?,
+    };
+    out.push(0xAA)?;
+    Ok(out)
+}
+
+/// Whether the octet and then those were written; a refused writer left the octet alone, and wrote when it came again.
+fn is_written(alloc: Global, what: Written, octets: &[u8]) -> Result<bool, Fail> {
+    let mut out = one_octet(alloc)?;
+    if writes(what, octets, &mut out)?.is_err() {
+        if !matches!(out.as_slice(), [0xAA]) {
+            return Ok(false);
+        }
+        writes(what, octets, &mut out)??;
+    }
+    Ok(out.first() == Some(&0xAA) && out.get(1..) == Some(octets))
+}
+
+#[test]
+fn writers_with_refused_memory(rt: HostRuntime) -> Result<(), Fail> {
+    for (what, octets) in WRITTEN {
+        assert!(rt; is_written(rt.alloc(), *what, octets)?, "{what:?}");
+    }
+    Ok(())
+}
+
+/// A description of three octets, and one object that has it.
+fn objects(alloc: Global) -> Result<Vec<Object>, NoMemory> {
+    let Ok((values, _)) = read_data(b"\x73\x00\x61\x62") else {
+        return Err(NoMemory);
+    };
+    let mut properties = Vec::new(alloc);
+    properties.push(Property {
+        number: 28,
+        values: values.to_owned(alloc)?,
+        writable: true,
+    })?;
+    let mut objects = Vec::new(alloc);
+    objects.push(Object {
+        id: ObjectIdentifier {
+            kind: 0,
+            instance: 7,
+        },
+        name: String::from_str(alloc, "level")?,
+        properties,
+        file: None,
+    })?;
+    Ok(objects)
+}
+
+/// Objects, where one allocation alone may be refused.
+fn objects_at_last(alloc: Global) -> Result<Vec<Object>, NoMemory> {
+    match objects(alloc) {
+        Ok(objects) => Ok(objects),
+        Err(NoMemory) => objects(alloc),
+    }
+}
+
+/// The store of these objects; where one was refused that was for want of memory alone, and it is made when the call comes again.
+fn store_at_last(alloc: Global) -> Result<Store, Fail> {
+    match Store::new(alloc, objects_at_last(alloc)?) {
+        Ok(store) => Ok(store),
+        Err(fault) => {
+            if fault != StoreFault::NoMemory {
+                return Err(Fail::from("a fault of the objects"));
+            }
+            Ok(Store::new(alloc, objects_at_last(alloc)?)?)
+        }
+    }
+}
+
+#[test]
+fn stores_with_refused_memory(rt: HostRuntime) -> Result<(), Fail> {
+    let store = store_at_last(rt.alloc())?;
+    let again = store_at_last(rt.alloc())?;
+    assert!(rt; store.same(&again));
+    Ok(())
+}
+
+/// A moment, and the datagram that comes from link 2 (no octets: a tick).
+type Row = (u64, &'static [u8]);
+
+/// A write of a property, a write of 60 octets of file 1, a read of them by a client that takes APDUs of 50 octets, its SegmentACK, and a tick that sends
+/// the window again.
+const ROWS: &[Row] = &[
+    (
+        0,
+        b"\x81\x0A\x00\x18\x01\x04\x00\x04\x59\x0F\x0C\x00\x80\x00\x01\x19\x55\x3E\x44\x43\x34\x00\x00\x3F",
+    ),
+    (
+        0,
+        b"\x81\x0A\x00\x51\x01\x04\x02\x75\x00\x07\xC4\x02\x80\x00\x01\x0E\x31\x00\x65\x3C\
+        123456789012345678901234567890123456789012345678901234567890\x0F",
+    ),
+    (
+        0,
+        b"\x81\x0A\x00\x15\x01\x04\x02\x70\x01\x06\xC4\x02\x80\x00\x01\x0E\x31\x00\x21\x64\x0F",
+    ),
+    (0, b"\x81\x0A\x00\x0A\x01\x00\x40\x01\x00\x20"),
+    (2_000, b""),
+];
+
+/// How many datagrams are sent for each row.
+const COUNTS: &[usize] = &[1, 1, 1, 1, 1];
+
+fn happens(node: &mut Node, row: &Row) -> Result<Outcome, NodeFault> {
+    if row.1.is_empty() {
+        node.tick(row.0)
+    } else {
+        node.on(row.0, link(2), row.1)
+    }
+}
+
+/// A node to which the first rows happened.
+fn after(alloc: Global, count: usize) -> Result<Node, NoMemory> {
+    let Ok(mut node) = server(alloc, 8) else {
+        return Err(NoMemory);
+    };
+    for row in ROWS.get(..count).unwrap_or(ROWS) {
+        if happens(&mut node, row).is_err() {
+            return Err(NoMemory);
+        }
+    }
+    Ok(node)
+}
+
+/// Whether a node is one to which the first rows happened, where one allocation alone may be refused.
+fn is_after(alloc: Global, node: &Node, count: usize) -> Result<bool, NoMemory> {
+    let other = match after(alloc, count) {
+        Ok(other) => other,
+        Err(NoMemory) => after(alloc, count)?,
+    };
+    Ok(node.same(&other))
+}
+
+/// How many datagrams a row makes a node send that `place` rows happened to; where it was refused, for want of memory alone, the node was as before, and
+/// the row happened when it came again.
+fn sent_at_last(alloc: Global, node: &mut Node, place: usize, row: &Row) -> Result<usize, Fail> {
+    match happens(node, row) {
+        Ok(outcome) => Ok(outcome.sends.len()),
+        Err(NodeFault::NoMemory) => {
+            if !is_after(alloc, node, place)? {
+                return Err(Fail::from("the node has changed"));
+            }
+            Ok(happens(node, row)?.sends.len())
+        }
+        Err(NodeFault::ClockBack) => Err(Fail::from("the moment")),
+    }
+}
+
+/// A node, where one allocation alone may be refused.
+fn node_at_last(alloc: Global) -> Result<Node, NewNodeFault> {
+    match server(alloc, 8) {
+        Ok(node) => Ok(node),
+        Err(_) => server(alloc, 8),
+    }
+}
+
+#[test]
+fn datagrams_with_refused_memory(rt: HostRuntime) -> Result<(), Fail> {
+    let alloc = rt.alloc();
+    let mut node = node_at_last(alloc)?;
+    for (place, (row, count)) in ROWS.iter().zip(COUNTS).enumerate() {
+        let sent = sent_at_last(alloc, &mut node, place, row)?;
+        assert_eq!(rt; sent, *count, "{place}");
+    }
+    assert!(rt; is_after(alloc, &node, ROWS.len())?);
+    Ok(())
+}

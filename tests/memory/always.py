@@ -1,0 +1,60 @@
+#!/usr/bin/env python3
+"""Gives one function after the other a body that always answers that memory was refused, and sees that tests fail:
+    python3 tests/memory/always.py [WORD..]
+takes the rows of always.tsv that have one of the words, or all: the crate, the file, the function, the error, and the crate whose tests are run, unproved, by
+`rt try`. A function that tests its arguments first is named by the one that it calls after these tests, which only answers for memory. It prints the tests that
+fail, and ends with a status other than 0 where none does."""
+
+import re
+import shutil
+import subprocess
+import sys
+import tempfile
+from pathlib import Path
+
+TOP = Path(__file__).resolve().parents[2]
+
+
+def refusing(text, function, error):
+    """The text of a file in which the body of that function begins with a refusal."""
+    lines = text.split('\n')
+    heads = [number for number, line in enumerate(lines) if re.match(rf'\s*(pub )?(pub\(crate\) )?fn {function}\b', line)]
+    if len(heads) != 1:
+        raise SystemExit(f'{len(heads)} functions {function}')
+    indent = re.match(r'\s*', lines[heads[0]]).group()
+    body = next(number for number in range(heads[0], len(lines)) if lines[number] in (indent + '{', indent + '}') or lines[number].endswith(' {'))
+    lines.insert(body + 1, f'{indent}    let is_refused = true; if is_refused {{ return Err({error}); }}')
+    return '\n'.join(lines)
+
+
+def failing(row, folder):
+    """The tests that fail in a copy of the repository with that body."""
+    crate, file, function, error, tests = row
+    path = folder / 'crates' / crate / file
+    kept = path.read_text()
+    path.write_text(refusing(kept, function, error))
+    ran = subprocess.run(['rt', 'try', '--test'], cwd=folder / 'crates' / tests, capture_output=True, text=True)
+    path.write_text(kept)
+    said = ran.stdout + ran.stderr
+    if 'test result:' not in said:
+        raise SystemExit(f'{crate} {function}: the tests did not run\n{said}')
+    return re.findall(r'^test (\S+) \.\.\. FAILED', said, re.M)
+
+
+def main(words):
+    rows = [line.split('\t') for line in (TOP / 'tests/memory/always.tsv').read_text().splitlines()]
+    rows = [row for row in rows if not words or set(words) & set(row)]
+    passed = 0
+    with tempfile.TemporaryDirectory() as name:
+        folder = Path(name)
+        shutil.copy(TOP / 'crates.txt', folder)
+        shutil.copytree(TOP / 'crates', folder / 'crates', ignore=shutil.ignore_patterns('out', 'must-fail'))
+        for row in rows:
+            tests = failing(row, folder)
+            passed += not tests
+            print(f'{row[0]} {row[2]}: {len(tests)} fail in {row[4]}: {" ".join(tests[:3]) or "NONE"}', flush=True)
+    return 1 if passed else 0
+
+
+if __name__ == '__main__':
+    sys.exit(main(sys.argv[1:]))
