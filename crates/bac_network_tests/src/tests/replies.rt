@@ -113,38 +113,21 @@ const SENT: &[Row] = &[
     (Do::Deliver(201), Seen::Nothing, 32, "3C0029200C 3C0048200C"),
 ];
 
-/// A client that takes no segments, and one that takes two.
-const OTHERS: &[Config] = &[
-    Config {
-        link: [10, 0, 0, 2, 0xBA, 0xC0],
-        limits: Limits {
-            max_apdu: 5,
-            takes_segments: false,
-            max_segments: 0,
-        },
-        window: 32,
-        client_slots: 1,
-        reply_slots: 1,
-    },
-    Config {
-        link: [10, 0, 0, 3, 0xBA, 0xC0],
-        limits: Limits {
-            max_apdu: 5,
-            takes_segments: true,
-            max_segments: 1,
-        },
-        window: 32,
-        client_slots: 1,
-        reply_slots: 1,
-    },
-];
+/// A large node that takes so many segments.
+fn other(number: u8, takes_segments: bool, max_segments: u8) -> Config {
+    let limits = Limits {
+        max_apdu: 5,
+        takes_segments,
+        max_segments,
+    };
+    config(number, limits)
+}
 
-/// Four nodes: three clients, and the second node, which has a description of 4,000 octets.
+/// Four nodes: a small client, the server with a description of 4,000 octets, a client that takes no segments, and one that takes two.
 fn four_readers(alloc: Global) -> Result<Scene, Fail> {
     let mut nodes = readers(alloc, SMALL, "75FE0FA0", 4_000)?;
-    for config in OTHERS {
-        nodes.push((*config, house(alloc)?))?;
-    }
+    nodes.push((other(2, false, 0), house(alloc)?))?;
+    nodes.push((other(3, true, 1), house(alloc)?))?;
     Ok(Scene::of(alloc, nodes, 128)?.headed(LARGE))
 }
 

@@ -44,7 +44,11 @@ fn dropped(node: &mut Node, now: u64, from: u8, octets: &[u8]) -> Result<Option<
 }
 
 /// Each datagram comes a millisecond after the other.
-fn all_dropped(alloc: Global, node: &mut Node, rows: &[(u8, &'static str, u8)]) -> Result<(), Fail> {
+fn all_dropped(
+    alloc: Global,
+    node: &mut Node,
+    rows: &[(u8, &'static str, u8)],
+) -> Result<(), Fail> {
     for row in rows {
         let octets = octets_of(alloc, row.1)?;
         let now = node.latest().saturating_add(1);

@@ -39,12 +39,8 @@ fn limits_of_a_node(rt: HostRuntime) -> Result<(), Fail> {
 }
 
 #[test]
-fn number_of_a_refused_node(rt: HostRuntime) {
+fn numbers_of_faults(rt: HostRuntime) {
     assert!(rt; NewNodeFault::NoMemory.number() == 2);
-}
-
-#[test]
-fn number_of_a_refused_call(rt: HostRuntime) {
     assert!(rt; NodeFault::NoMemory.number() == 2);
 }
 
@@ -79,9 +75,11 @@ fn are_faults(node: &mut Node, now: u64, read: &[u8], fault: u8, latest: u64) ->
 fn refuses_earlier(alloc: Global) -> Result<bool, Fail> {
     let read = octets_of(alloc, READ)?;
     let mut node = Node::new(alloc, config(SERVER, 1, 1, 32), house(alloc)?)?;
-    Ok(are_faults(&mut node, 5, &read, 0, 5)
-        && are_faults(&mut node, 4, &read, 1, 5)
-        && are_faults(&mut node, 6, &read, 0, 6))
+    Ok(
+        are_faults(&mut node, 5, &read, 0, 5)
+            && are_faults(&mut node, 4, &read, 1, 5)
+            && are_faults(&mut node, 6, &read, 0, 6),
+    )
 }
 
 #[test]
