@@ -1,5 +1,6 @@
 //! What is logged.
 use bac_client::Ending;
+use bac_comparing::{Alike, same_ending, same_reply, same_request};
 use bac_service::{OwnedReply, OwnedRequest};
 
 /// What was asked, performed or ended. Asks are numbered from 0; clients and servers are numbered among the nodes.
@@ -32,4 +33,56 @@ pub enum Fact {
         /// How it ended.
         how: Ending,
     },
+}
+
+impl Alike for Fact {
+    ghost use Rattle.bac_world.specs.Once as once;
+    ghost use Rattle.bac_network.specs.Views.{fact_view};
+
+    ghost Seen = { once.Fact };
+
+    ghost seen = { λ f. fact_view f };
+
+    fn is_alike(&self, other: &Fact) -> bool {
+        match self {
+            Fact::Asked {
+                number,
+                client,
+                server,
+                request,
+            } => match other {
+                Fact::Asked {
+                    number: place,
+                    client: asking,
+                    server: asked,
+                    request: service,
+                } => {
+                    number == place
+                        && client == asking
+                        && server == asked
+                        && same_request(request, service)
+                }
+                _ => false,
+            },
+            Fact::Performed {
+                number,
+                request,
+                reply,
+            } => match other {
+                Fact::Performed {
+                    number: place,
+                    request: service,
+                    reply: answer,
+                } => number == place && same_request(request, service) && same_reply(reply, answer),
+                _ => false,
+            },
+            Fact::Ended { number, how } => match other {
+                Fact::Ended {
+                    number: place,
+                    how: end,
+                } => number == place && same_ending(how, end),
+                _ => false,
+            },
+        }
+    }
 }

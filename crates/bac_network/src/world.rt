@@ -1,5 +1,5 @@
 //! A world.
-ghost use Rattle.std.specs.Prelude.{◌≡◌, ◌↔◌, ℕ, IsErrOf, IfErr, IfOk, OnErr, OnOk, MatchOption, MatchResult, None, Some, length, map, slice_get, take};
+ghost use Rattle.std.specs.Prelude.{◌≡◌, ◌↔◌, ℕ, IsErrOf, IsTrue, IfErr, IfOk, OnErr, OnOk, MatchOption, MatchResult, None, Some, length, map, slice_get, take};
 ghost use Rattle.bac_world.specs.World.{WorldRun, WorldStep, stores_of};
 ghost use Rattle.bac_simulation.specs.Notes.{notes_view};
 ghost use Rattle.bac_simulation.specs.Views.{copy_view};
@@ -12,6 +12,7 @@ use crate::event::Event;
 use crate::fact::Fact;
 use crate::fault::{RunFault, WorldFault};
 use crate::network::Network;
+use bac_comparing::are_alike;
 use bac_node::Node;
 use bac_requester::AskFault;
 use bac_simulation::{Copy, Note};
@@ -146,5 +147,25 @@ impl World {
         }
         self.is_once();
         Ok(())
+    }
+
+    /// Whether contracts see no difference between two worlds: the same limit of overtaking, opening stores, nodes with their stores, moment, log, copies and
+    /// notes of asks. It takes no memory.
+    pub fn same(&self, other: &World) -> bool
+        ensures { IsTrue result ↔ (self.now ≡ other.now) }
+    {
+        if self.overtake != other.overtake {
+            return false;
+        }
+        if !are_alike(&self.opening, &other.opening) {
+            return false;
+        }
+        if !are_alike(&self.network.nodes, &other.network.nodes) {
+            return false;
+        }
+        if !are_alike(&self.network.log, &other.network.log) {
+            return false;
+        }
+        self.network.journal.same(&other.network.journal)
     }
 }

@@ -5,8 +5,8 @@ use bac_network::{Event, Fact, World, WorldFault};
 use bac_node::Config;
 use bac_requester::AskFault;
 use bac_service::{
-    AnyComplex, AnyReply, AnyRequest, FileWritten, OwnedReply, OwnedRequest, WriteAccess,
-    WriteFile, WriteStream, read_request,
+    AnyComplex, AnyReply, AnyRequest, FileWritten, OwnedComplex, OwnedReply, OwnedRequest,
+    WriteAccess, WriteFile, WriteStream, read_request,
 };
 use bac_simulation::Copy;
 use bac_store::{Store, house};
@@ -16,7 +16,9 @@ use std::test::Fail;
 
 mod asks;
 mod faults;
+mod files;
 mod lives;
+mod memory;
 mod noise;
 mod replies;
 mod requests;
@@ -50,7 +52,7 @@ const INPUT: &str = "0C00000005 1955";
 const APPEND: &str = "C402800001 0E 31FF 63AABBCC 0F";
 
 /// An event.
-#[derive(Clone, Copy, Debug)]
+#[derive(Clone, Copy)]
 enum Do {
     /// A client asks a server for a service, with these service data.
     Ask(usize, usize, u8, &'static str),
@@ -65,7 +67,7 @@ enum Do {
 }
 
 /// The one fact that events log, with the number of its ask; or why they log none.
-#[derive(Clone, Copy, Debug, PartialEq, Eq)]
+#[derive(Clone, Copy, PartialEq, Eq)]
 enum Seen {
     Nothing,
     Many,
@@ -180,21 +182,55 @@ fn number_of(octets: &[u8]) -> u64 {
     number
 }
 
+/// The first five octets of a datagram's APDU as one number, and how many octets the APDU has.
+fn front_of(datagram: &[u8]) -> (u64, usize) {
+    let apdu = datagram.get(6..).unwrap_or(&[]);
+    let end = apdu.len().min(5);
+    (number_of(apdu.get(..end).unwrap_or(&[])), apdu.len())
+}
+
+/// Whether octets are those of the first and then those of the last.
+fn is_pair(first: &[u8], last: &[u8], octets: &[u8]) -> bool {
+    octets.starts_with(first) && octets.get(first.len()..).unwrap_or(&[]) == last
+}
+
+/// What was told, or logged where nothing was told.
+fn either(told: Seen, logged: Seen) -> Seen {
+    if told == Seen::Nothing {
+        return logged;
+    }
+    if logged == Seen::Nothing {
+        return told;
+    }
+    Seen::Many
+}
+
+/// What was read or written.
+fn data_of(number: usize, data: &OwnedComplex) -> Seen {
+    match data {
+        AnyComplex::FileWritten(FileWritten::Stream(start)) => Seen::Written(number, *start),
+        AnyComplex::FileWritten(FileWritten::Records(_)) => Seen::Many,
+        AnyComplex::FileRead(read) => Seen::Read(number, number_of(&read.content.octets)),
+        AnyComplex::PropertyRead(read) => Seen::Read(number, number_of(&read.values.octets)),
+    }
+}
+
 fn answer_of(number: usize, reply: &OwnedReply) -> Seen {
     match reply {
         AnyReply::Simple => Seen::Simple(number),
-        AnyReply::Complex(AnyComplex::FileWritten(FileWritten::Stream(start))) => {
-            Seen::Written(number, *start)
-        }
-        AnyReply::Complex(AnyComplex::FileWritten(FileWritten::Records(_))) => Seen::Many,
-        AnyReply::Complex(AnyComplex::FileRead(read)) => {
-            Seen::Read(number, number_of(&read.content.octets))
-        }
-        AnyReply::Complex(AnyComplex::PropertyRead(read)) => {
-            Seen::Read(number, number_of(&read.values.octets))
-        }
+        AnyReply::Complex(data) => data_of(number, data),
         AnyReply::Error { class, code } => Seen::Error(number, *class, *code),
         AnyReply::Reject(reason) => Seen::Rejected(number, *reason),
+    }
+}
+
+fn end_of(number: usize, how: &Ending) -> Seen {
+    match how {
+        Ending::Answered(reply) => answer_of(number, reply),
+        Ending::Rejected(reason) => Seen::Rejected(number, *reason),
+        Ending::Aborted(reason) => Seen::Aborted(number, *reason),
+        Ending::TimedOut => Seen::TimedOut(number),
+        Ending::Expired => Seen::Expired(number),
     }
 }
 
@@ -211,13 +247,7 @@ fn fact_of(fact: &Fact) -> Seen {
             request: _,
             reply: _,
         } => Seen::Performed(*number),
-        Fact::Ended { number, how } => match how {
-            Ending::Answered(reply) => answer_of(*number, reply),
-            Ending::Rejected(reason) => Seen::Rejected(*number, *reason),
-            Ending::Aborted(reason) => Seen::Aborted(*number, *reason),
-            Ending::TimedOut => Seen::TimedOut(*number),
-            Ending::Expired => Seen::Expired(*number),
-        },
+        Fact::Ended { number, how } => end_of(*number, how),
     }
 }
 
@@ -301,55 +331,90 @@ impl Scene {
         })
     }
 
-    /// The octets of a copy that are compared, after others.
-    fn add_octets(&self, copy: Option<&Copy>, octets: &mut Vec<u8>) -> Result<(), NoMemory> {
-        if let Some(copy) = copy {
-            let end = copy.octets.len().min(self.to);
-            octets.extend_from_slice(copy.octets.get(self.from..end).unwrap_or(&[]))?;
-        }
-        Ok(())
+    /// The octets of a copy that are compared.
+    fn part<'a>(&self, copy: &'a Copy) -> &'a [u8] {
+        let end = copy.octets.len().min(self.to);
+        copy.octets.get(self.from..end).unwrap_or(&[])
     }
 
-    /// What is told of the first and the last copy from that number on.
-    fn sent(&self, alloc: Global, copies: usize) -> Result<Vec<u8>, NoMemory> {
-        let sent = self.world.copies().get(copies..).unwrap_or(&[]);
-        let mut octets = Vec::new(alloc);
-        self.add_octets(sent.first(), &mut octets)?;
-        if sent.len() > 1 {
-            self.add_octets(sent.last(), &mut octets)?;
-        }
-        Ok(octets)
+    /// Whether the first and the last of these copies have these octets.
+    fn are_octets(&self, sent: &[Copy], wanted: &[u8]) -> bool {
+        let Some(first) = sent.first() else {
+            return wanted.is_empty();
+        };
+        let Some(last) = sent.get(1..).unwrap_or(&[]).last() else {
+            return self.part(first) == wanted;
+        };
+        is_pair(self.part(first), self.part(last), wanted)
+    }
+
+    /// Whether so many copies were sent from that number on, and the first and the last of them have these octets.
+    fn is_sent(&self, from: usize, count: usize, wanted: &[u8]) -> bool {
+        let sent = self.world.copies().get(from..).unwrap_or(&[]);
+        sent.len() == count && self.are_octets(sent, wanted)
+    }
+
+    /// What was logged from that fact on.
+    fn logged(&self, from: usize) -> Seen {
+        seen_of(self.world.log().get(from..).unwrap_or(&[]))
     }
 
     /// What happens logs. A fault of an ask or of the world logs nothing.
     fn sees(&mut self, alloc: Global, what: Do) -> Result<Seen, NoMemory> {
         let facts = self.world.log().len();
         let told = self.happens(alloc, what)?;
-        let logged = seen_of(self.world.log().get(facts..).unwrap_or(&[]));
-        Ok(match (told, logged) {
-            (Seen::Nothing, logged) => logged,
-            (told, Seen::Nothing) => told,
-            (_, _) => Seen::Many,
-        })
+        Ok(either(told, self.logged(facts)))
     }
 
     /// Whether a row goes as it says.
     fn goes(&mut self, alloc: Global, row: &Row) -> Result<bool, NoMemory> {
-        let (what, seen, count, octets) = *row;
         let copies = self.world.copies().len();
-        let told = self.sees(alloc, what)?;
-        let sent = self.world.copies().get(copies..).unwrap_or(&[]).len();
-        Ok(told == seen && sent == count && self.sent(alloc, copies)? == octets_of(alloc, octets)?)
+        let seen = self.sees(alloc, row.0)?;
+        let wanted = octets_of(alloc, row.3)?;
+        Ok(seen == row.1 && self.is_sent(copies, row.2, &wanted))
     }
 
-    /// How many rows go as they say before the first that does not.
-    fn plays(&mut self, alloc: Global, rows: &[Row]) -> Result<usize, NoMemory> {
-        for (place, row) in rows.iter().enumerate() {
+    /// The rows go as they say, up to the first that does not: an Err that has its octets.
+    fn plays(&mut self, alloc: Global, rows: &[Row]) -> Result<(), Fail> {
+        for row in rows {
             if !self.goes(alloc, row)? {
-                return Ok(place);
+                return Err(Fail::from(row.3));
             }
         }
-        Ok(rows.len())
+        Ok(())
+    }
+
+    /// How many copies a node sent.
+    fn count_from(&self, node: usize) -> usize {
+        let mut count = 0usize;
+        for copy in self.world.copies() {
+            if copy.from == node {
+                count = count.saturating_add(1);
+            }
+        }
+        count
+    }
+
+    /// The front and the length of the last APDU that a node sent.
+    fn last_from(&self, node: usize) -> (u64, usize) {
+        let mut last = (0, 0);
+        for copy in self.world.copies() {
+            if copy.from == node {
+                last = front_of(&copy.octets);
+            }
+        }
+        last
+    }
+
+    /// Whether a node's store is not as it was at first.
+    fn is_changed(&self, node: usize) -> bool {
+        let Some(opening) = self.world.opening().get(node) else {
+            return false;
+        };
+        match self.world.store(node) {
+            Some(store) => !store.same(opening),
+            None => false,
+        }
     }
 
     fn has_ended(&self) -> bool {
@@ -376,4 +441,16 @@ impl Scene {
             None => Seen::Nothing,
         }
     }
+}
+
+/// The rows go as they say among three nodes with the house store; whole datagrams are compared.
+fn large_plays(alloc: Global, rows: &[Row]) -> Result<(), Fail> {
+    let mut scene = Scene::house(alloc, LARGE)?;
+    scene.plays(alloc, rows)
+}
+
+/// The rows go as they say among three nodes with the house store and these limits; the first five octets of APDUs are compared.
+fn headed_plays(alloc: Global, limits: Limits, rows: &[Row]) -> Result<(), Fail> {
+    let mut scene = Scene::house(alloc, limits)?.headed(limits);
+    scene.plays(alloc, rows)
 }

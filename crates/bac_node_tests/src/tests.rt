@@ -9,7 +9,6 @@ use bac_service::{AnyComplex, AnyReply, FileWritten, OwnedRequest, read_request}
 use bac_store::house;
 use bac_value::NoMemory;
 use std::alloc::Global;
-use std::process::Abort;
 use std::test::Fail;
 
 mod asks;
@@ -125,15 +124,28 @@ fn is_told(outcome: &Outcome, wanted: &[u8], row: &Row) -> bool {
         && outcome.dropped.is_none()
 }
 
-/// A node does what each row says, one after the other.
-fn plays(rt: &impl Abort, alloc: Global, node: &mut Node, rows: &[Row]) -> Result<(), Fail> {
+/// Whether a node does what a row says.
+fn goes(alloc: Global, node: &mut Node, row: &Row) -> Result<bool, Fail> {
+    let heard = octets_of(alloc, row.2)?;
+    let wanted = octets_of(alloc, row.3)?;
+    let outcome = node.on(row.0, link(row.1), &heard)?;
+    Ok(is_told(&outcome, &wanted, row))
+}
+
+/// A node does what each row says, one after the other; an Err has the datagram of the first that goes otherwise.
+fn plays(alloc: Global, node: &mut Node, rows: &[Row]) -> Result<(), Fail> {
     for row in rows {
-        let heard = octets_of(alloc, row.2)?;
-        let wanted = octets_of(alloc, row.3)?;
-        let outcome = node.on(row.0, link(row.1), &heard)?;
-        assert!(rt; is_told(&outcome, &wanted, row), "{} {}", row.0, row.2);
+        if !goes(alloc, node, row)? {
+            return Err(Fail::from(row.2));
+        }
     }
     Ok(())
+}
+
+/// A node with the house store does what each row says.
+fn house_plays(alloc: Global, rows: &[Row]) -> Result<(), Fail> {
+    let mut node = house_node(alloc, SERVER)?;
+    plays(alloc, &mut node, rows)
 }
 
 /// The request that service data spell; what spells none counts as out of memory.

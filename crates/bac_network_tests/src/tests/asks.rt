@@ -1,83 +1,135 @@
 //! Invoke IDs and slots.
 use super::*;
+use bac_network::Note;
 
-/// 256 asks of one peer have the invoke IDs 0 to 255; they are held for 135,000 milliseconds.
-#[test]
-fn asks_for_all_invoke_ids(rt: HostRuntime) -> Result<(), Fail> {
-    const NO_INVOKE_ID: Seen = Seen::Refused(AskFault::NoInvokeId);
-    let alloc = rt.alloc();
+const ASK: Do = Do::Ask(0, 1, READ, INPUT);
+
+const NO_INVOKE_ID: Seen = Seen::Refused(AskFault::NoInvokeId);
+
+/// A client with 1,024 slots, and a server.
+fn wide_scene(alloc: Global) -> Result<Scene, Fail> {
     let mut client = config(0, LARGE);
     client.client_slots = 1_024;
-    let configs = [client, config(1, LARGE)];
-    let mut scene = Scene::of(alloc, housed(alloc, &configs)?, 128)?;
-    let ask = Do::Ask(0, 1, READ, INPUT);
+    let nodes = housed(alloc, &[client, config(1, LARGE)])?;
+    Scene::of(alloc, nodes, 128)
+}
+
+/// Whether 256 asks of one peer are accepted.
+fn asks_all(alloc: Global, scene: &mut Scene) -> Result<bool, NoMemory> {
     for number in 0..256 {
-        assert!(rt; scene.sees(alloc, ask)? == Seen::Asked(number, 0, 1));
+        if scene.sees(alloc, ASK)? != Seen::Asked(number, 0, 1) {
+            return Ok(false);
+        }
     }
-    for (number, note) in scene.world.asks().iter().enumerate() {
-        assert_eq!(&rt; usize::from(note.transaction.invoke_id), number);
+    Ok(true)
+}
+
+/// Whether asks have the invoke IDs from 0 on.
+fn are_in_order(notes: &[Note]) -> bool {
+    for (number, note) in notes.iter().enumerate() {
+        if usize::from(note.transaction.invoke_id) != number {
+            return false;
+        }
     }
-    assert!(rt; scene.sees(alloc, ask)? == NO_INVOKE_ID);
-    assert_eq!(&rt; scene.world.copies().len(), 256);
+    true
+}
+
+/// Whether the asks from the first on have expired.
+fn have_expired(facts: &[Fact]) -> bool {
+    for (number, fact) in facts.iter().enumerate() {
+        if fact_of(fact) != Seen::Expired(number) {
+            return false;
+        }
+    }
+    true
+}
+
+/// Whether one more ask is refused, and sends nothing.
+fn is_refused(alloc: Global, scene: &mut Scene) -> Result<bool, NoMemory> {
+    Ok(scene.sees(alloc, ASK)? == NO_INVOKE_ID && scene.world.copies().len() == 256)
+}
+
+/// Whether all asks have ended after 135,000 milliseconds.
+fn ends_all(alloc: Global, scene: &mut Scene) -> Result<bool, NoMemory> {
     let _ = scene.happens(alloc, Do::Advance(135_000))?;
     let _ = scene.happens(alloc, Do::Tick(0))?;
-    assert_eq!(&rt; scene.world.log().len(), 512);
-    for (number, fact) in scene.world.log().iter().skip(256).enumerate() {
-        assert!(rt; fact_of(fact) == Seen::Expired(number));
-    }
-    assert!(rt; scene.sees(alloc, ask)? == NO_INVOKE_ID);
+    let ended = scene.world.log().get(256..).unwrap_or(&[]);
+    Ok(ended.len() == 256 && have_expired(ended))
+}
+
+/// Whether the first invoke ID is given again a millisecond later.
+fn asks_again(alloc: Global, scene: &mut Scene) -> Result<bool, NoMemory> {
     let _ = scene.happens(alloc, Do::Advance(1))?;
-    assert!(rt; scene.sees(alloc, ask)? == Seen::Asked(256, 0, 1));
-    let Some(note) = scene.world.asks().last() else {
-        return Err(Fail::from("no ask"));
-    };
-    assert_eq!(&rt; note.transaction.invoke_id, 0);
+    let seen = scene.sees(alloc, ASK)?;
+    let notes = scene.world.asks().get(256..).unwrap_or(&[]);
+    Ok(seen == Seen::Asked(256, 0, 1) && are_in_order(notes))
+}
+
+/// 256 asks of one peer have the invoke IDs 0 to 255; they are held for 135,000 milliseconds.
+fn takes_all(alloc: Global) -> Result<bool, Fail> {
+    let mut scene = wide_scene(alloc)?;
+    Ok(
+        asks_all(alloc, &mut scene)?
+            && are_in_order(scene.world.asks())
+            && is_refused(alloc, &mut scene)?
+            && ends_all(alloc, &mut scene)?
+            && is_refused(alloc, &mut scene)?
+            && asks_again(alloc, &mut scene)?,
+    )
+}
+
+#[test]
+fn asks_for_all_invoke_ids(rt: HostRuntime) -> Result<(), Fail> {
+    assert!(rt; takes_all(rt.alloc())?);
     Ok(())
 }
 
 /// A server with one slot, and two clients.
-#[test]
-fn reply_table_of_one_slot(rt: HostRuntime) -> Result<(), Fail> {
-    const ROWS: &[Row] = &[
-        (
-            Do::Ask(0, 1, READ, INPUT),
-            Seen::Asked(0, 0, 1),
-            1,
-            "0275000C0C",
-        ),
-        (Do::Deliver(0), Seen::Performed(0), 1, "30000C0C00"),
-        (
-            Do::Ask(2, 1, READ, INPUT),
-            Seen::Asked(1, 2, 1),
-            1,
-            "0275000C0C",
-        ),
-        (Do::Deliver(2), Seen::Nothing, 1, "710000"),
-        (Do::Deliver(3), Seen::Aborted(1, 0), 0, ""),
-        (Do::Advance(65_000), Seen::Nothing, 0, ""),
-        (
-            Do::Ask(2, 1, READ, INPUT),
-            Seen::Asked(2, 2, 1),
-            1,
-            "0275010C0C",
-        ),
-        (Do::Deliver(4), Seen::Nothing, 1, "710100"),
-        (Do::Deliver(5), Seen::Aborted(2, 0), 0, ""),
-        (Do::Advance(1), Seen::Nothing, 0, ""),
-        (
-            Do::Ask(2, 1, READ, INPUT),
-            Seen::Asked(3, 2, 1),
-            1,
-            "0275020C0C",
-        ),
-        (Do::Deliver(6), Seen::Performed(3), 1, "30020C0C00"),
-        (Do::Deliver(7), Seen::Read(3, 0x44_4290_999A), 0, ""),
-    ];
-    let alloc = rt.alloc();
+const ONE_SLOT: &[Row] = &[
+    (
+        Do::Ask(0, 1, READ, INPUT),
+        Seen::Asked(0, 0, 1),
+        1,
+        "0275000C0C",
+    ),
+    (Do::Deliver(0), Seen::Performed(0), 1, "30000C0C00"),
+    (
+        Do::Ask(2, 1, READ, INPUT),
+        Seen::Asked(1, 2, 1),
+        1,
+        "0275000C0C",
+    ),
+    (Do::Deliver(2), Seen::Nothing, 1, "710000"),
+    (Do::Deliver(3), Seen::Aborted(1, 0), 0, ""),
+    (Do::Advance(65_000), Seen::Nothing, 0, ""),
+    (
+        Do::Ask(2, 1, READ, INPUT),
+        Seen::Asked(2, 2, 1),
+        1,
+        "0275010C0C",
+    ),
+    (Do::Deliver(4), Seen::Nothing, 1, "710100"),
+    (Do::Deliver(5), Seen::Aborted(2, 0), 0, ""),
+    (Do::Advance(1), Seen::Nothing, 0, ""),
+    (
+        Do::Ask(2, 1, READ, INPUT),
+        Seen::Asked(3, 2, 1),
+        1,
+        "0275020C0C",
+    ),
+    (Do::Deliver(6), Seen::Performed(3), 1, "30020C0C00"),
+    (Do::Deliver(7), Seen::Read(3, 0x44_4290_999A), 0, ""),
+];
+
+fn narrow_scene(alloc: Global) -> Result<Scene, Fail> {
     let mut server = config(1, LARGE);
     server.reply_slots = 1;
-    let configs = [config(0, LARGE), server, config(2, LARGE)];
-    let mut scene = Scene::of(alloc, housed(alloc, &configs)?, 128)?.headed(LARGE);
-    assert_eq!(&rt; scene.plays(alloc, ROWS)?, ROWS.len());
-    Ok(())
+    let nodes = housed(alloc, &[config(0, LARGE), server, config(2, LARGE)])?;
+    Ok(Scene::of(alloc, nodes, 128)?.headed(LARGE))
+}
+
+#[test]
+fn reply_table_of_one_slot(rt: HostRuntime) -> Result<(), Fail> {
+    let mut scene = narrow_scene(rt.alloc())?;
+    scene.plays(rt.alloc(), ONE_SLOT)
 }

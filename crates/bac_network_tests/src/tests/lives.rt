@@ -2,36 +2,48 @@
 use super::*;
 
 /// A copy comes where it is 5,000 milliseconds old, and is lost where it is older.
+const AGES: &[Row] = &[
+    (
+        Do::Ask(0, 1, READ, INPUT),
+        Seen::Asked(0, 0, 1),
+        1,
+        "0275000C0C",
+    ),
+    (Do::Advance(5_000), Seen::Nothing, 0, ""),
+    (Do::Deliver(0), Seen::Performed(0), 1, "30000C0C00"),
+    (Do::Advance(1), Seen::Nothing, 0, ""),
+    (Do::Deliver(0), Seen::Nothing, 0, ""),
+    (Do::Advance(4_999), Seen::Nothing, 0, ""),
+    (Do::Deliver(1), Seen::Read(0, 0x44_4290_999A), 0, ""),
+    (Do::Advance(1), Seen::Nothing, 0, ""),
+    (Do::Deliver(1), Seen::Nothing, 0, ""),
+];
+
 #[test]
 fn age_of_a_copy(rt: HostRuntime) -> Result<(), Fail> {
-    const ROWS: &[Row] = &[
-        (Do::Ask(0, 1, READ, INPUT), Seen::Asked(0, 0, 1), 1, "0275"),
-        (Do::Advance(5_000), Seen::Nothing, 0, ""),
-        (Do::Deliver(0), Seen::Performed(0), 1, "3000"),
-        (Do::Advance(1), Seen::Nothing, 0, ""),
-        (Do::Deliver(0), Seen::Nothing, 0, ""),
-        (Do::Advance(4_999), Seen::Nothing, 0, ""),
-        (Do::Deliver(1), Seen::Read(0, 0x44_4290_999A), 0, ""),
-        (Do::Advance(1), Seen::Nothing, 0, ""),
-        (Do::Deliver(1), Seen::Nothing, 0, ""),
-    ];
-    let alloc = rt.alloc();
-    let mut scene = Scene::house(alloc, LARGE)?.headed(LARGE);
-    scene.to = 8;
-    assert_eq!(&rt; scene.plays(alloc, ROWS)?, ROWS.len());
-    Ok(())
+    headed_plays(rt.alloc(), LARGE, AGES)
+}
+
+/// A client and a server; so many later copies may overtake one.
+fn two_nodes(alloc: Global, overtake: u64) -> Result<Scene, Fail> {
+    let nodes = housed(alloc, &[config(0, LARGE), config(1, LARGE)])?;
+    Scene::of(alloc, nodes, overtake)
+}
+
+/// Whether the first copy is answered.
+fn is_answered(scene: &mut Scene) -> bool {
+    let copies = scene.world.copies().len();
+    let seen = scene.step(&Event::Deliver { number: 0 });
+    seen == Seen::Nothing && scene.world.copies().len() > copies
 }
 
 /// How often a request can be delivered that is answered each time, where so many later copies may overtake it; other asks don't count.
 fn deliveries(alloc: Global, overtake: u64) -> Result<usize, Fail> {
-    let configs = [config(0, LARGE), config(1, LARGE)];
-    let mut scene = Scene::of(alloc, housed(alloc, &configs)?, overtake)?;
+    let mut scene = two_nodes(alloc, overtake)?;
     let _ = scene.happens(alloc, Do::Ask(0, 1, READ, INPUT))?;
     let _ = scene.happens(alloc, Do::Ask(0, 1, READ, INPUT))?;
     for count in 0..300 {
-        let copies = scene.world.copies().len();
-        let _ = scene.happens(alloc, Do::Deliver(0))?;
-        if scene.world.copies().len() == copies {
+        if !is_answered(&mut scene) {
             return Ok(count);
         }
     }
@@ -39,12 +51,19 @@ fn deliveries(alloc: Global, overtake: u64) -> Result<usize, Fail> {
 }
 
 /// A copy comes where as many later ones of its transaction overtook it as may, and is lost where one more did.
+const OVERTAKEN: &[(u64, usize)] = &[(0, 1), (5, 6), (128, 129), (191, 192)];
+
+fn are_overtaken(alloc: Global, rows: &[(u64, usize)]) -> Result<bool, Fail> {
+    for row in rows {
+        if deliveries(alloc, row.0)? != row.1 {
+            return Ok(false);
+        }
+    }
+    Ok(true)
+}
+
 #[test]
 fn overtaken_copies(rt: HostRuntime) -> Result<(), Fail> {
-    const ROWS: &[(u64, usize)] = &[(0, 1), (5, 6), (128, 129), (191, 192)];
-    let alloc = rt.alloc();
-    for (overtake, count) in ROWS {
-        assert_eq!(&rt; deliveries(alloc, *overtake)?, *count);
-    }
+    assert!(rt; are_overtaken(rt.alloc(), OVERTAKEN)?);
     Ok(())
 }

@@ -23,42 +23,73 @@ fn is_heard(scene: &mut Scene, from: u8, octets: Vec<u8>) -> Option<bool> {
 }
 
 /// What means no APDU of a peer is looked at and dropped, where it comes from a link of no node; all else is lost.
+const HEARD: &[Heard] = &[
+    (9, "", true),
+    (0, "", false),
+    (1, "", false),
+    (9, "00", true),
+    (9, REQUEST, false),
+    (9, "810A000D 0104 0005010C 0C00000005 1955", true),
+    (9, "810A0011 0105 0005010C 0C00000005 1955", false),
+    (9, "810A0015 010C0005012A 0005010C 0C00000005 1955", false),
+    (9, "810A0009 0100 20000F", false),
+    (2, "810A000D 0104 0005010C 0C00000005 1955", false),
+];
+
+const REQUEST: &str = "810A0011 0104 0005010C 0C00000005 1955";
+
+fn are_heard(alloc: Global, scene: &mut Scene, rows: &[Heard]) -> Result<(), Fail> {
+    for row in rows {
+        let octets = octets_of(alloc, row.1)?;
+        if is_heard(scene, row.0, octets) != Some(row.2) {
+            return Err(Fail::from(row.1));
+        }
+    }
+    Ok(())
+}
+
 #[test]
 fn octets_that_no_node_sent(rt: HostRuntime) -> Result<(), Fail> {
-    const ROWS: &[Heard] = &[
-        (9, "", true),
-        (0, "", false),
-        (1, "", false),
-        (9, "00", true),
-        (9, "810A0011 0104 0005010C 0C00000005 1955", false),
-        (9, "810A000D 0104 0005010C 0C00000005 1955", true),
-        (9, "810A0011 0105 0005010C 0C00000005 1955", false),
-        (9, "810A0015 010C0005012A 0005010C 0C00000005 1955", false),
-        (9, "810A0009 0100 20000F", false),
-        (2, "810A000D 0104 0005010C 0C00000005 1955", false),
-    ];
-    let alloc = rt.alloc();
-    let mut scene = Scene::house(alloc, LARGE)?;
-    for (from, text, heard) in ROWS {
-        let octets = octets_of(alloc, *text)?;
-        assert_eq!(&rt;
-            is_heard(&mut scene, *from, octets),
-            Some(*heard),
-            "{}",
-            *text
-        );
-    }
-    let whole = octets_of(alloc, "810A0011 0104 0005010C 0C00000005 1955")?;
+    let mut scene = Scene::house(rt.alloc(), LARGE)?;
+    are_heard(rt.alloc(), &mut scene, HEARD)
+}
+
+/// Whether the node looks at so many octets of a request.
+fn is_front_heard(alloc: Global, scene: &mut Scene, len: usize) -> Result<bool, NoMemory> {
+    let mut front = octets_of(alloc, REQUEST)?;
+    front.truncate(len);
+    Ok(is_heard(scene, 9, front) == Some(true))
+}
+
+/// Each front of a request, the empty one too, is dropped.
+fn are_fronts_heard(alloc: Global, scene: &mut Scene) -> Result<bool, NoMemory> {
     for len in 0..17 {
-        let mut front = Vec::new(alloc);
-        front.extend_from_slice(whole.get(..len).unwrap_or(&[]))?;
-        assert_eq!(&rt; is_heard(&mut scene, 9, front), Some(true));
+        if !is_front_heard(alloc, scene, len)? {
+            return Ok(false);
+        }
     }
-    let absent = Event::Noise {
+    Ok(true)
+}
+
+#[test]
+fn fronts_of_a_request(rt: HostRuntime) -> Result<(), Fail> {
+    let mut scene = Scene::house(rt.alloc(), LARGE)?;
+    assert!(rt; are_fronts_heard(rt.alloc(), &mut scene)?);
+    Ok(())
+}
+
+/// What comes to no node.
+fn comes_to_none(alloc: Global, scene: &mut Scene) -> Seen {
+    scene.step(&Event::Noise {
         node: 3,
         from: link(9),
         octets: Vec::new(alloc),
-    };
-    assert!(rt; scene.step(&absent) == Seen::Fault(WorldFault::NoSuchNode));
+    })
+}
+
+#[test]
+fn octets_to_no_node(rt: HostRuntime) -> Result<(), Fail> {
+    let mut scene = Scene::house(rt.alloc(), LARGE)?;
+    assert!(rt; comes_to_none(rt.alloc(), &mut scene) == Seen::Fault(WorldFault::NoSuchNode));
     Ok(())
 }

@@ -8,130 +8,257 @@ const GRANTED: Row = (Do::Deliver(0), Seen::Nothing, 1, "41000020");
 
 const REST: Row = (Do::Deliver(1), Seen::Nothing, 2, "0E70000120 0A70000220");
 
-/// Answers, segments and grants that are lost, come late, or come out of order.
+/// The last grant and the answer are lost: the segments after the first grant are sent again.
+const LOST: &[Row] = &[
+    FIRST,
+    GRANTED,
+    REST,
+    (Do::Deliver(2), Seen::Nothing, 0, ""),
+    (Do::Deliver(3), Seen::Performed(0), 2, "41000220 3000070900"),
+    (Do::Advance(2_000), Seen::Nothing, 0, ""),
+    (Do::Tick(0), Seen::Nothing, 2, "0E70000120 0A70000220"),
+    (Do::Deliver(6), Seen::Nothing, 1, "3000070900"),
+    (Do::Deliver(8), Seen::Written(0, 0), 0, ""),
+];
+
 #[test]
-fn write_in_three_segments(rt: HostRuntime) -> Result<(), Fail> {
-    const LOST: &[Row] = &[
-        FIRST,
-        GRANTED,
-        REST,
-        (Do::Deliver(2), Seen::Nothing, 0, ""),
-        (Do::Deliver(3), Seen::Performed(0), 2, "41000220 3000070900"),
-        (Do::Advance(2_000), Seen::Nothing, 0, ""),
-        (Do::Tick(0), Seen::Nothing, 2, "0E70000120 0A70000220"),
-        (Do::Deliver(6), Seen::Nothing, 1, "3000070900"),
-        (Do::Deliver(8), Seen::Written(0, 0), 0, ""),
-    ];
-    const CROSSED: &[Row] = &[
-        FIRST,
-        GRANTED,
-        REST,
-        (Do::Deliver(3), Seen::Nothing, 1, "43000020"),
-        (Do::Deliver(3), Seen::Nothing, 1, "43000020"),
-        (Do::Deliver(2), Seen::Nothing, 0, ""),
-        (Do::Deliver(2), Seen::Nothing, 1, "43000120"),
-        (Do::Deliver(4), Seen::Nothing, 0, ""),
-        (Do::Deliver(5), Seen::Nothing, 0, ""),
-        (Do::Deliver(6), Seen::Nothing, 1, "0A70000220"),
-        (Do::Deliver(7), Seen::Performed(0), 2, "41000220 3000070900"),
-    ];
-    const IN_TIME: &[Row] = &[
-        FIRST,
-        GRANTED,
-        REST,
-        (Do::Advance(6_000), Seen::Nothing, 0, ""),
-        (Do::Tick(0), Seen::Nothing, 2, "0E70000120 0A70000220"),
-        (Do::Advance(1_999), Seen::Nothing, 0, ""),
-        (Do::Deliver(4), Seen::Nothing, 0, ""),
-        (Do::Deliver(5), Seen::Performed(0), 2, "41000220 3000070900"),
-    ];
-    const TOO_LATE: &[Row] = &[
-        FIRST,
-        GRANTED,
-        REST,
-        (Do::Advance(6_000), Seen::Nothing, 0, ""),
-        (Do::Tick(0), Seen::Nothing, 2, "0E70000120 0A70000220"),
-        (Do::Advance(2_000), Seen::Nothing, 0, ""),
-        (Do::Deliver(4), Seen::Nothing, 1, "710000"),
-        (Do::Deliver(6), Seen::Aborted(0, 0), 0, ""),
-    ];
-    const UNANSWERED: &[Row] = &[
-        FIRST,
-        GRANTED,
-        REST,
-        (Do::Deliver(2), Seen::Nothing, 0, ""),
-        (Do::Deliver(3), Seen::Performed(0), 2, "41000220 3000070900"),
-        (Do::Deliver(4), Seen::Nothing, 0, ""),
-        (Do::Advance(3_000), Seen::Nothing, 0, ""),
-        (Do::Tick(0), Seen::Nothing, 1, "0E70000020"),
-        (Do::Deliver(6), Seen::Nothing, 1, "3000070900"),
-        (Do::Deliver(7), Seen::Written(0, 0), 0, ""),
-    ];
-    const WHOLE: &[Row] = &[
-        (Do::Put(35), Seen::Asked(0, 0, 1), 1, "02700007C4"),
-        (Do::Put(36), Seen::Asked(1, 0, 1), 1, "0E70010020"),
-        (Do::Deliver(1), Seen::Nothing, 1, "41010020"),
-        (Do::Deliver(2), Seen::Nothing, 1, "0A70010120"),
-    ];
-    let alloc = rt.alloc();
-    for rows in [LOST, CROSSED, IN_TIME, TOO_LATE, UNANSWERED, WHOLE] {
-        let mut scene = Scene::house(alloc, SMALL)?.headed(SMALL);
-        assert_eq!(&rt; scene.plays(alloc, rows)?, rows.len(), "{}", rows.len());
-    }
+fn answer_that_is_lost(rt: HostRuntime) -> Result<(), Fail> {
+    headed_plays(rt.alloc(), SMALL, LOST)
+}
+
+/// Segments that come out of order and twice are told so, once, and the missing one is sent again.
+const CROSSED: &[Row] = &[
+    FIRST,
+    GRANTED,
+    REST,
+    (Do::Deliver(3), Seen::Nothing, 1, "43000020"),
+    (Do::Deliver(3), Seen::Nothing, 1, "43000020"),
+    (Do::Deliver(2), Seen::Nothing, 0, ""),
+    (Do::Deliver(2), Seen::Nothing, 1, "43000120"),
+    (Do::Deliver(4), Seen::Nothing, 0, ""),
+    (Do::Deliver(5), Seen::Nothing, 0, ""),
+    (Do::Deliver(6), Seen::Nothing, 1, "0A70000220"),
+    (Do::Deliver(7), Seen::Performed(0), 2, "41000220 3000070900"),
+];
+
+#[test]
+fn segments_that_cross(rt: HostRuntime) -> Result<(), Fail> {
+    headed_plays(rt.alloc(), SMALL, CROSSED)
+}
+
+/// The segments after the first come within 8,000 milliseconds.
+const IN_TIME: &[Row] = &[
+    FIRST,
+    GRANTED,
+    REST,
+    (Do::Advance(6_000), Seen::Nothing, 0, ""),
+    (Do::Tick(0), Seen::Nothing, 2, "0E70000120 0A70000220"),
+    (Do::Advance(1_999), Seen::Nothing, 0, ""),
+    (Do::Deliver(4), Seen::Nothing, 0, ""),
+    (Do::Deliver(5), Seen::Performed(0), 2, "41000220 3000070900"),
+];
+
+#[test]
+fn segments_in_time(rt: HostRuntime) -> Result<(), Fail> {
+    headed_plays(rt.alloc(), SMALL, IN_TIME)
+}
+
+/// They come a millisecond later: the server has given up.
+const TOO_LATE: &[Row] = &[
+    FIRST,
+    GRANTED,
+    REST,
+    (Do::Advance(6_000), Seen::Nothing, 0, ""),
+    (Do::Tick(0), Seen::Nothing, 2, "0E70000120 0A70000220"),
+    (Do::Advance(2_000), Seen::Nothing, 0, ""),
+    (Do::Deliver(4), Seen::Nothing, 1, "710000"),
+    (Do::Deliver(6), Seen::Aborted(0, 0), 0, ""),
+];
+
+#[test]
+fn segments_too_late(rt: HostRuntime) -> Result<(), Fail> {
+    headed_plays(rt.alloc(), SMALL, TOO_LATE)
+}
+
+/// The answer is lost: the request begins anew, and gets the kept answer.
+const UNANSWERED: &[Row] = &[
+    FIRST,
+    GRANTED,
+    REST,
+    (Do::Deliver(2), Seen::Nothing, 0, ""),
+    (Do::Deliver(3), Seen::Performed(0), 2, "41000220 3000070900"),
+    (Do::Deliver(4), Seen::Nothing, 0, ""),
+    (Do::Advance(3_000), Seen::Nothing, 0, ""),
+    (Do::Tick(0), Seen::Nothing, 1, "0E70000020"),
+    (Do::Deliver(6), Seen::Nothing, 1, "3000070900"),
+    (Do::Deliver(7), Seen::Written(0, 0), 0, ""),
+];
+
+#[test]
+fn answer_to_another_sending(rt: HostRuntime) -> Result<(), Fail> {
+    headed_plays(rt.alloc(), SMALL, UNANSWERED)
+}
+
+/// Service data of 46 octets go whole in an APDU of 50.
+const WHOLE: &[Row] = &[(Do::Put(35), Seen::Asked(0, 0, 1), 1, "02700007C4")];
+
+/// Those of 47 go as 44 and 3.
+const IN_TWO: &[Row] = &[
+    (Do::Put(36), Seen::Asked(0, 0, 1), 1, "0E70000020"),
+    (Do::Deliver(0), Seen::Nothing, 1, "41000020"),
+    (Do::Deliver(1), Seen::Nothing, 1, "0A70000120"),
+];
+
+/// The front and the length of the last APDU that the client sends.
+fn last_sent(alloc: Global, rows: &[Row]) -> Result<(u64, usize), Fail> {
+    let mut scene = Scene::house(alloc, SMALL)?.headed(SMALL);
+    scene.plays(alloc, rows)?;
+    Ok(scene.last_from(0))
+}
+
+#[test]
+fn write_that_goes_whole(rt: HostRuntime) -> Result<(), Fail> {
+    assert!(rt; last_sent(rt.alloc(), WHOLE)? == (0x02_7000_07C4, 50));
     Ok(())
 }
 
+#[test]
+fn write_in_two_segments(rt: HostRuntime) -> Result<(), Fail> {
+    assert!(rt; last_sent(rt.alloc(), IN_TWO)? == (0x0A_7000_0120, 9));
+    Ok(())
+}
+
+/// The size of APDUs that a server is supposed to take and how many segments, how many octets are written, and what the ask tells.
+type Limited = (u8, u8, usize, Seen);
+
 /// How many segments a server is supposed to take, and how long service data may be.
+const LIMITED: &[Limited] = &[
+    (0, 1, 100, Seen::Refused(AskFault::NeedsSegments)),
+    (0, 2, 100, Seen::Asked(0, 0, 1)),
+    (5, 7, 65_523, Seen::Refused(AskFault::TooLong)),
+    (5, 7, 65_522, Seen::Asked(0, 0, 1)),
+];
+
+/// A scene whose clients suppose that.
+fn limited_scene(alloc: Global, max_apdu: u8, max_segments: u8) -> Result<Scene, Fail> {
+    let limits = Limits {
+        max_apdu,
+        takes_segments: true,
+        max_segments,
+    };
+    Ok(Scene::house(alloc, LARGE)?.headed(limits))
+}
+
+fn is_limited(alloc: Global, row: &Limited) -> Result<bool, Fail> {
+    let mut scene = limited_scene(alloc, row.0, row.1)?;
+    Ok(scene.sees(alloc, Do::Put(row.2))? == row.3)
+}
+
+fn are_limited(alloc: Global, rows: &[Limited]) -> Result<bool, Fail> {
+    for row in rows {
+        if !is_limited(alloc, row)? {
+            return Ok(false);
+        }
+    }
+    Ok(true)
+}
+
 #[test]
 fn limits_of_requests(rt: HostRuntime) -> Result<(), Fail> {
-    const ROWS: &[(u8, u8, usize, Seen)] = &[
-        (0, 1, 100, Seen::Refused(AskFault::NeedsSegments)),
-        (0, 2, 100, Seen::Asked(0, 0, 1)),
-        (5, 7, 65_523, Seen::Refused(AskFault::TooLong)),
-        (5, 7, 65_522, Seen::Asked(0, 0, 1)),
-    ];
-    let alloc = rt.alloc();
-    for (max_apdu, max_segments, len, seen) in ROWS {
-        let limits = Limits {
-            max_apdu: *max_apdu,
-            takes_segments: true,
-            max_segments: *max_segments,
-        };
-        let mut scene = Scene::house(alloc, LARGE)?.headed(limits);
-        assert!(rt; scene.sees(alloc, Do::Put(*len))? == *seen, "{}", *len);
-        if *len == 65_522 {
-            assert_eq!(&rt; scene.straight(0), 49);
-            assert!(rt; scene.latest() == Seen::Error(0, 3, 20));
+    assert!(rt; are_limited(rt.alloc(), LIMITED)?);
+    Ok(())
+}
+
+/// How many copies come of the longest write, and how it ends.
+fn longest_write(alloc: Global) -> Result<(usize, Seen), Fail> {
+    let mut scene = limited_scene(alloc, 5, 7)?;
+    let _ = scene.happens(alloc, Do::Put(65_522))?;
+    let deliveries = scene.straight(0);
+    Ok((deliveries, scene.latest()))
+}
+
+/// 45 segments, 3 SegmentACKs, and an Error: no file is so long.
+#[test]
+fn write_of_65_522_octets(rt: HostRuntime) -> Result<(), Fail> {
+    assert!(rt; longest_write(rt.alloc())? == (49, Seen::Error(0, 3, 20)));
+    Ok(())
+}
+
+/// The windows of client and server, the overtaking limit, segment 0 but for its last octets, its grant, and what comes of the write.
+type Long = (u8, u8, u64, &'static str, &'static str, Told);
+
+/// The front of the last segment, the number of what the server sends, and that of the deliveries after the first.
+type Told = (u64, usize, usize);
+
+/// A write of 60,000 octets goes in 1,364 segments, each of which comes once; so do its 44, 23 or 87 SegmentACKs and its answer.
+const LONG: &[Long] = &[
+    (
+        32,
+        32,
+        128,
+        "0E7500002007 C402800001 0E 3100 65FEEA60",
+        "41000020",
+        (0x0A_7500_5320, 45, 1_408),
+    ),
+    (
+        64,
+        64,
+        100,
+        "0E7500004007 C402800001 0E 3100 65FEEA60",
+        "41000040",
+        (0x0A_7500_5340, 24, 1_387),
+    ),
+    (
+        64,
+        16,
+        100,
+        "0E7500004007 C402800001 0E 3100 65FEEA60",
+        "41000010",
+        (0x0A_7500_5340, 88, 1_451),
+    ),
+];
+
+/// A client, and a small server, with these windows; of APDUs the first 18 octets are compared.
+fn long_scene(alloc: Global, row: &Long) -> Result<Scene, Fail> {
+    let mut client = config(0, LARGE);
+    client.window = row.0;
+    let mut server = config(1, SMALL);
+    server.window = row.1;
+    let nodes = housed(alloc, &[client, server])?;
+    let mut scene = Scene::of(alloc, nodes, row.2)?.headed(SMALL);
+    scene.to = 24;
+    Ok(scene)
+}
+
+/// Segment 0 is asked and granted.
+fn begins(alloc: Global, scene: &mut Scene, row: &Long) -> Result<bool, NoMemory> {
+    let ask = (Do::Put(60_000), Seen::Asked(0, 0, 1), 1, row.3);
+    let grant = (Do::Deliver(0), Seen::Nothing, 1, row.4);
+    Ok(scene.goes(alloc, &ask)? && scene.goes(alloc, &grant)?)
+}
+
+/// Whether the rest is 1,363 segments, the last of which has 41 octets of data, and the answer is a position.
+fn goes_on(scene: &mut Scene, told: &Told) -> bool {
+    let deliveries = scene.straight(1);
+    deliveries == told.2
+        && scene.count_from(0) == 1_364
+        && scene.count_from(1) == told.1
+        && scene.last_from(0) == (told.0, 47)
+        && scene.last_from(1) == (0x30_0007_0900, 5)
+        && scene.latest() == Seen::Written(0, 0)
+}
+
+fn are_written(alloc: Global, rows: &[Long]) -> Result<(), Fail> {
+    for row in rows {
+        let mut scene = long_scene(alloc, row)?;
+        if !begins(alloc, &mut scene, row)? || !goes_on(&mut scene, &row.5) {
+            return Err(Fail::from(row.4));
         }
     }
     Ok(())
 }
 
-/// The windows of client and server, the overtaking limit, the head of segment 0 and of its grant, and the number of deliveries after the first.
-type Long = (u8, u8, u64, &'static str, &'static str, usize);
-
-/// A write of 60,000 octets goes in 1,364 segments, each of which comes once; so do its 44, 23 or 87 SegmentACKs and its answer.
 #[test]
 fn write_of_60_000_octets(rt: HostRuntime) -> Result<(), Fail> {
-    const ROWS: &[Long] = &[
-        (32, 32, 128, "0E75000020", "41000020", 1_408),
-        (64, 64, 100, "0E75000040", "41000040", 1_387),
-        (64, 16, 100, "0E75000040", "41000010", 1_451),
-    ];
-    let alloc = rt.alloc();
-    for (client_window, server_window, overtake, head, grant, deliveries) in ROWS {
-        let mut client = config(0, LARGE);
-        client.window = *client_window;
-        let mut server = config(1, SMALL);
-        server.window = *server_window;
-        let nodes = housed(alloc, &[client, server])?;
-        let mut scene = Scene::of(alloc, nodes, *overtake)?.headed(SMALL);
-        let ask = (Do::Put(60_000), Seen::Asked(0, 0, 1), 1, *head);
-        assert!(rt; scene.goes(alloc, &ask)?, "{}", *head);
-        let first = (Do::Deliver(0), Seen::Nothing, 1, *grant);
-        assert!(rt; scene.goes(alloc, &first)?, "{}", *grant);
-        assert_eq!(&rt; scene.straight(1), *deliveries);
-        assert!(rt; scene.latest() == Seen::Written(0, 0));
-    }
-    Ok(())
+    are_written(rt.alloc(), LONG)
 }

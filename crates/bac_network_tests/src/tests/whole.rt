@@ -31,149 +31,174 @@ fn append_delivered_four_times(rt: HostRuntime) -> Result<(), Fail> {
         ),
         (Do::Deliver(6), Seen::Read(1, 0x4F4B_AABB_CC), 0, ""),
     ];
-    let alloc = rt.alloc();
-    let mut scene = Scene::house(alloc, LARGE)?;
-    assert_eq!(&rt; scene.plays(alloc, ROWS)?, ROWS.len());
-    Ok(())
+    large_plays(rt.alloc(), ROWS)
 }
 
 /// An answer is lost: a tick after 3,000 milliseconds repeats the request, which is not performed again.
+const LOST: &[Row] = &[
+    (Do::Ask(0, 1, PUT, APPEND), Seen::Asked(0, 0, 1), 1, APPENDS),
+    (Do::Deliver(0), Seen::Performed(0), 1, APPENDED),
+    (Do::Advance(2_999), Seen::Nothing, 0, ""),
+    (Do::Tick(0), Seen::Nothing, 0, ""),
+    (Do::Advance(1), Seen::Nothing, 0, ""),
+    (Do::Tick(1), Seen::Nothing, 0, ""),
+    (Do::Tick(0), Seen::Nothing, 1, APPENDS),
+    (Do::Deliver(2), Seen::Nothing, 1, APPENDED),
+    (Do::Deliver(3), Seen::Written(0, 2), 0, ""),
+    (Do::Deliver(1), Seen::Nothing, 0, ""),
+    (Do::Advance(3_000), Seen::Nothing, 0, ""),
+    (Do::Tick(0), Seen::Nothing, 0, ""),
+];
+
 #[test]
-fn repeats_of_an_append(rt: HostRuntime) -> Result<(), Fail> {
-    const LOST: &[Row] = &[
-        (Do::Ask(0, 1, PUT, APPEND), Seen::Asked(0, 0, 1), 1, APPENDS),
-        (Do::Deliver(0), Seen::Performed(0), 1, APPENDED),
-        (Do::Advance(2_999), Seen::Nothing, 0, ""),
-        (Do::Tick(0), Seen::Nothing, 0, ""),
-        (Do::Advance(1), Seen::Nothing, 0, ""),
-        (Do::Tick(1), Seen::Nothing, 0, ""),
-        (Do::Tick(0), Seen::Nothing, 1, APPENDS),
-        (Do::Deliver(2), Seen::Nothing, 1, APPENDED),
-        (Do::Deliver(3), Seen::Written(0, 2), 0, ""),
-        (Do::Deliver(1), Seen::Nothing, 0, ""),
-        (Do::Advance(3_000), Seen::Nothing, 0, ""),
-        (Do::Tick(0), Seen::Nothing, 0, ""),
-    ];
-    const UNHEARD: &[Row] = &[
-        (Do::Ask(0, 1, PUT, APPEND), Seen::Asked(0, 0, 1), 1, APPENDS),
-        (Do::Advance(3_000), Seen::Nothing, 0, ""),
-        (Do::Tick(0), Seen::Nothing, 1, APPENDS),
-        (Do::Advance(3_000), Seen::Nothing, 0, ""),
-        (Do::Tick(0), Seen::Nothing, 1, APPENDS),
-        (Do::Advance(3_000), Seen::Nothing, 0, ""),
-        (Do::Tick(0), Seen::Nothing, 1, APPENDS),
-        (Do::Advance(3_000), Seen::Nothing, 0, ""),
-        (Do::Tick(0), Seen::TimedOut(0), 0, ""),
-    ];
-    const AT_DEADLINE: &[Row] = &[
-        (Do::Ask(0, 1, PUT, APPEND), Seen::Asked(0, 0, 1), 1, APPENDS),
-        (Do::Advance(60_000), Seen::Nothing, 0, ""),
-        (Do::Tick(0), Seen::Nothing, 1, APPENDS),
-        (Do::Advance(1), Seen::Nothing, 0, ""),
-        (Do::Tick(0), Seen::Expired(0), 0, ""),
-    ];
-    const AFTER_DEADLINE: &[Row] = &[
-        (Do::Ask(0, 1, PUT, APPEND), Seen::Asked(0, 0, 1), 1, APPENDS),
-        (Do::Advance(60_001), Seen::Nothing, 0, ""),
-        (Do::Tick(0), Seen::Expired(0), 0, ""),
-    ];
-    let alloc = rt.alloc();
-    for rows in [LOST, UNHEARD, AT_DEADLINE, AFTER_DEADLINE] {
-        let mut scene = Scene::house(alloc, LARGE)?;
-        assert_eq!(&rt; scene.plays(alloc, rows)?, rows.len(), "{}", rows.len());
-    }
-    Ok(())
+fn answer_that_is_lost(rt: HostRuntime) -> Result<(), Fail> {
+    large_plays(rt.alloc(), LOST)
 }
 
-/// A read is performed before a write; the read's request comes again after it, and gets the answer of before. The opening stores stay.
+/// Nothing is delivered: three repeats, and the end.
+const UNHEARD: &[Row] = &[
+    (Do::Ask(0, 1, PUT, APPEND), Seen::Asked(0, 0, 1), 1, APPENDS),
+    (Do::Advance(3_000), Seen::Nothing, 0, ""),
+    (Do::Tick(0), Seen::Nothing, 1, APPENDS),
+    (Do::Advance(3_000), Seen::Nothing, 0, ""),
+    (Do::Tick(0), Seen::Nothing, 1, APPENDS),
+    (Do::Advance(3_000), Seen::Nothing, 0, ""),
+    (Do::Tick(0), Seen::Nothing, 1, APPENDS),
+    (Do::Advance(3_000), Seen::Nothing, 0, ""),
+    (Do::Tick(0), Seen::TimedOut(0), 0, ""),
+];
+
+#[test]
+fn append_that_is_unheard(rt: HostRuntime) -> Result<(), Fail> {
+    large_plays(rt.alloc(), UNHEARD)
+}
+
+/// The first tick is at 60,000 milliseconds, and repeats the request.
+const AT_DEADLINE: &[Row] = &[
+    (Do::Ask(0, 1, PUT, APPEND), Seen::Asked(0, 0, 1), 1, APPENDS),
+    (Do::Advance(60_000), Seen::Nothing, 0, ""),
+    (Do::Tick(0), Seen::Nothing, 1, APPENDS),
+    (Do::Advance(1), Seen::Nothing, 0, ""),
+    (Do::Tick(0), Seen::Expired(0), 0, ""),
+];
+
+#[test]
+fn tick_at_the_deadline(rt: HostRuntime) -> Result<(), Fail> {
+    large_plays(rt.alloc(), AT_DEADLINE)
+}
+
+/// The first tick is a millisecond later.
+const AFTER_DEADLINE: &[Row] = &[
+    (Do::Ask(0, 1, PUT, APPEND), Seen::Asked(0, 0, 1), 1, APPENDS),
+    (Do::Advance(60_001), Seen::Nothing, 0, ""),
+    (Do::Tick(0), Seen::Expired(0), 0, ""),
+];
+
+#[test]
+fn tick_after_the_deadline(rt: HostRuntime) -> Result<(), Fail> {
+    large_plays(rt.alloc(), AFTER_DEADLINE)
+}
+
+/// A read is performed before a write; the read's request comes again after it, and gets the answer of before.
+const READ_BEFORE: &[Row] = &[
+    (
+        Do::Ask(0, 1, READ, "0C00800001 1955"),
+        Seen::Asked(0, 0, 1),
+        1,
+        "810A0011 0104 0275000C 0C00800001 1955",
+    ),
+    (
+        Do::Deliver(0),
+        Seen::Performed(0),
+        1,
+        "810A0017 0100 30000C 0C00800001 1955 3E 4400000000 3F",
+    ),
+    (
+        Do::Ask(2, 1, 15, "0C00800001 1955 3E 4443340000 3F"),
+        Seen::Asked(1, 2, 1),
+        1,
+        "810A0018 0104 0275000F 0C00800001 1955 3E 4443340000 3F",
+    ),
+    (
+        Do::Deliver(2),
+        Seen::Performed(1),
+        1,
+        "810A0009 0100 20000F",
+    ),
+    (
+        Do::Deliver(0),
+        Seen::Nothing,
+        1,
+        "810A0017 0100 30000C 0C00800001 1955 3E 4400000000 3F",
+    ),
+    (Do::Deliver(4), Seen::Read(0, 0x44_0000_0000), 0, ""),
+    (Do::Deliver(3), Seen::Simple(1), 0, ""),
+];
+
+/// Requests that get an Error.
+const REFUSED: &[Row] = &[
+    (
+        Do::Ask(0, 1, 15, "0C00000005 1955 3E 4400000000 3F"),
+        Seen::Asked(2, 0, 1),
+        1,
+        "810A0018 0104 0275010F 0C00000005 1955 3E 4400000000 3F",
+    ),
+    (
+        Do::Deliver(5),
+        Seen::Performed(2),
+        1,
+        "810A000D 0100 50010F91029128",
+    ),
+    (Do::Deliver(6), Seen::Error(2, 2, 40), 0, ""),
+    (
+        Do::Ask(0, 1, READ, "0C00000009 1955"),
+        Seen::Asked(3, 0, 1),
+        1,
+        "810A0011 0104 0275020C 0C00000009 1955",
+    ),
+    (
+        Do::Deliver(7),
+        Seen::Performed(3),
+        1,
+        "810A000D 0100 50020C9101911F",
+    ),
+    (Do::Deliver(8), Seen::Error(3, 1, 31), 0, ""),
+    (
+        Do::Ask(0, 1, GET, "C402800001 0E 3103 2101 0F"),
+        Seen::Asked(4, 0, 1),
+        1,
+        "810A0015 0104 02750306 C402800001 0E 3103 2101 0F",
+    ),
+    (
+        Do::Deliver(9),
+        Seen::Performed(4),
+        1,
+        "810A000D 0100 50030691 05910B",
+    ),
+    (Do::Deliver(10), Seen::Error(4, 5, 11), 0, ""),
+];
+
+/// Whether these are house stores to which nothing has happened.
+fn are_fresh(alloc: Global, stores: &[Store]) -> Result<bool, NoMemory> {
+    let fresh = house(alloc)?;
+    for store in stores {
+        if !store.same(&fresh) {
+            return Ok(false);
+        }
+    }
+    Ok(true)
+}
+
+/// Whether the opening stores stay, and the store of the node that was asked is another one.
+fn stores_change(alloc: Global) -> Result<bool, Fail> {
+    let mut scene = Scene::house(alloc, LARGE)?;
+    scene.plays(alloc, READ_BEFORE)?;
+    scene.plays(alloc, REFUSED)?;
+    Ok(are_fresh(alloc, scene.world.opening())? && scene.is_changed(1))
+}
+
 #[test]
 fn a_read_before_a_write(rt: HostRuntime) -> Result<(), Fail> {
-    const ROWS: &[Row] = &[
-        (
-            Do::Ask(0, 1, READ, "0C00800001 1955"),
-            Seen::Asked(0, 0, 1),
-            1,
-            "810A0011 0104 0275000C 0C00800001 1955",
-        ),
-        (
-            Do::Deliver(0),
-            Seen::Performed(0),
-            1,
-            "810A0017 0100 30000C 0C00800001 1955 3E 4400000000 3F",
-        ),
-        (
-            Do::Ask(2, 1, 15, "0C00800001 1955 3E 4443340000 3F"),
-            Seen::Asked(1, 2, 1),
-            1,
-            "810A0018 0104 0275000F 0C00800001 1955 3E 4443340000 3F",
-        ),
-        (
-            Do::Deliver(2),
-            Seen::Performed(1),
-            1,
-            "810A0009 0100 20000F",
-        ),
-        (
-            Do::Deliver(0),
-            Seen::Nothing,
-            1,
-            "810A0017 0100 30000C 0C00800001 1955 3E 4400000000 3F",
-        ),
-        (Do::Deliver(4), Seen::Read(0, 0x44_0000_0000), 0, ""),
-        (Do::Deliver(3), Seen::Simple(1), 0, ""),
-    ];
-    const REFUSED: &[Row] = &[
-        (
-            Do::Ask(0, 1, 15, "0C00000005 1955 3E 4400000000 3F"),
-            Seen::Asked(2, 0, 1),
-            1,
-            "810A0018 0104 0275010F 0C00000005 1955 3E 4400000000 3F",
-        ),
-        (
-            Do::Deliver(5),
-            Seen::Performed(2),
-            1,
-            "810A000D 0100 50010F91029128",
-        ),
-        (Do::Deliver(6), Seen::Error(2, 2, 40), 0, ""),
-        (
-            Do::Ask(0, 1, READ, "0C00000009 1955"),
-            Seen::Asked(3, 0, 1),
-            1,
-            "810A0011 0104 0275020C 0C00000009 1955",
-        ),
-        (
-            Do::Deliver(7),
-            Seen::Performed(3),
-            1,
-            "810A000D 0100 50020C9101911F",
-        ),
-        (Do::Deliver(8), Seen::Error(3, 1, 31), 0, ""),
-        (
-            Do::Ask(0, 1, GET, "C402800001 0E 3103 2101 0F"),
-            Seen::Asked(4, 0, 1),
-            1,
-            "810A0015 0104 02750306 C402800001 0E 3103 2101 0F",
-        ),
-        (
-            Do::Deliver(9),
-            Seen::Performed(4),
-            1,
-            "810A000D 0100 50030691 05910B",
-        ),
-        (Do::Deliver(10), Seen::Error(4, 5, 11), 0, ""),
-    ];
-    let alloc = rt.alloc();
-    let mut scene = Scene::house(alloc, LARGE)?;
-    assert_eq!(&rt; scene.plays(alloc, ROWS)?, ROWS.len());
-    assert_eq!(&rt; scene.plays(alloc, REFUSED)?, REFUSED.len());
-    let fresh = house(alloc)?;
-    for store in scene.world.opening() {
-        assert!(rt; store.same(&fresh));
-    }
-    let Some(changed) = scene.world.store(1) else {
-        return Err(Fail::from("no store"));
-    };
-    assert!(rt; !changed.same(&fresh));
+    assert!(rt; stores_change(rt.alloc())?);
     Ok(())
 }

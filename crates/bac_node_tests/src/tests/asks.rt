@@ -4,7 +4,7 @@ use super::*;
 const READING: &str = "0C00000005 1955";
 
 /// What a ticket ended as.
-#[derive(Clone, Copy, Debug, PartialEq, Eq)]
+#[derive(Clone, Copy, PartialEq, Eq)]
 enum End {
     /// File 1 was written from that position on.
     Written(i64),
@@ -58,18 +58,20 @@ fn is_as_said(outcome: &Outcome, wanted: &[u8], end: End) -> bool {
         && count(outcome, end) == ended
 }
 
+/// Whether a client does what a row says.
+fn goes_on(alloc: Global, node: &mut Node, row: &ClientRow) -> Result<bool, Fail> {
+    let heard = octets_of(alloc, row.1)?;
+    let wanted = octets_of(alloc, row.2)?;
+    let outcome = meets(node, row.0, &heard)?;
+    Ok(is_as_said(&outcome, &wanted, row.3))
+}
+
 /// A client does what each row says, one after the other.
-fn goes_on(
-    rt: &impl Abort,
-    alloc: Global,
-    node: &mut Node,
-    rows: &[ClientRow],
-) -> Result<(), Fail> {
+fn all_go_on(alloc: Global, node: &mut Node, rows: &[ClientRow]) -> Result<(), Fail> {
     for row in rows {
-        let heard = octets_of(alloc, row.1)?;
-        let wanted = octets_of(alloc, row.2)?;
-        let outcome = meets(node, row.0, &heard)?;
-        assert!(rt; is_as_said(&outcome, &wanted, row.3), "{} {}", row.0, row.1);
+        if !goes_on(alloc, node, row)? {
+            return Err(Fail::from("a row goes otherwise"));
+        }
     }
     Ok(())
 }
@@ -88,6 +90,12 @@ fn appending(alloc: Global) -> Result<Node, Fail> {
     Ok(node)
 }
 
+/// Such a client does what each row says.
+fn appends(alloc: Global, rows: &[ClientRow]) -> Result<(), Fail> {
+    let mut node = appending(alloc)?;
+    all_go_on(alloc, &mut node, rows)
+}
+
 /// The first answer is lost: a tick sends the ask again, and the kept answer ends it; it comes once more.
 const LOST: &[ClientRow] = &[
     (2_999, "", "", End::Open),
@@ -99,8 +107,7 @@ const LOST: &[ClientRow] = &[
 
 #[test]
 fn a_lost_answer(rt: HostRuntime) -> Result<(), Fail> {
-    let mut node = appending(rt.alloc())?;
-    goes_on(&rt, rt.alloc(), &mut node, LOST)
+    appends(rt.alloc(), LOST)
 }
 
 /// Nothing is delivered: three repeats, and the end.
@@ -115,8 +122,7 @@ const SILENT: &[ClientRow] = &[
 
 #[test]
 fn nothing_is_delivered(rt: HostRuntime) -> Result<(), Fail> {
-    let mut node = appending(rt.alloc())?;
-    goes_on(&rt, rt.alloc(), &mut node, SILENT)
+    appends(rt.alloc(), SILENT)
 }
 
 /// The first tick is at 60,000, where the ask is sent again; a later one ends it.
@@ -127,8 +133,7 @@ const LATE: &[ClientRow] = &[
 
 #[test]
 fn late_ticks(rt: HostRuntime) -> Result<(), Fail> {
-    let mut node = appending(rt.alloc())?;
-    goes_on(&rt, rt.alloc(), &mut node, LATE)
+    appends(rt.alloc(), LATE)
 }
 
 /// The first tick is at 60,001.
@@ -136,8 +141,7 @@ const TOO_LATE: &[ClientRow] = &[(60_001, "", "", End::Expired)];
 
 #[test]
 fn a_tick_too_late(rt: HostRuntime) -> Result<(), Fail> {
-    let mut node = appending(rt.alloc())?;
-    goes_on(&rt, rt.alloc(), &mut node, TOO_LATE)
+    appends(rt.alloc(), TOO_LATE)
 }
 
 /// A client that has asked the server for a property, at moment 0.
@@ -159,7 +163,7 @@ const EMPTY: &[ClientRow] = &[(
 #[test]
 fn an_answer_of_no_octets(rt: HostRuntime) -> Result<(), Fail> {
     let mut node = reading(rt.alloc())?;
-    goes_on(&rt, rt.alloc(), &mut node, EMPTY)
+    all_go_on(rt.alloc(), &mut node, EMPTY)
 }
 
 /// The number of the fault, 0 where the ask was accepted.
@@ -202,14 +206,31 @@ fn writes(alloc: Global, node: &mut Node, row: &(u64, u8, u16, u8)) -> Result<u8
     Ok(fault(ask(node, row.0, row.1, &ONE_APDU, &write)))
 }
 
+/// A client with one slot and that latest moment.
+fn narrow_client(alloc: Global, latest: u64) -> Result<Node, Fail> {
+    let mut node = Node::new(alloc, config(CLIENT, 1, 1, 32), house(alloc)?)?;
+    let _ = node.tick(latest)?;
+    Ok(node)
+}
+
+/// Whether each ask gets the fault of its row, and the latest moment stays.
+fn are_refused(alloc: Global, node: &mut Node, rows: &[(u64, u8, u16, u8)]) -> Result<bool, Fail> {
+    for row in rows {
+        if writes(alloc, node, row)? != row.3 || node.latest() != 5 {
+            return Ok(false);
+        }
+    }
+    Ok(true)
+}
+
+fn refuses(alloc: Global) -> Result<bool, Fail> {
+    let mut node = narrow_client(alloc, 5)?;
+    are_refused(alloc, &mut node, FAULTS)
+}
+
 #[test]
 fn faults_of_asks(rt: HostRuntime) -> Result<(), Fail> {
-    let mut node = Node::new(rt.alloc(), config(CLIENT, 1, 1, 32), house(rt.alloc())?)?;
-    let _ = node.tick(5)?;
-    for row in FAULTS {
-        assert_eq!(rt; writes(rt.alloc(), &mut node, row)?, row.3);
-        assert_eq!(rt; node.latest(), 5);
-    }
+    assert!(rt; refuses(rt.alloc())?);
     Ok(())
 }
 
@@ -218,15 +239,31 @@ fn invoke_id(node: &mut Node, now: u64, read: &OwnedRequest) -> Result<u8, AskFa
     Ok(ask(node, now, SERVER, &LARGE, read)?.invoke_id)
 }
 
-/// One slot: the second ask is refused.
+/// One slot: the second ask is refused, and the latest moment stays.
+fn asks_once(alloc: Global) -> Result<bool, Fail> {
+    let read = request_of(alloc, 12, READING)?;
+    let mut node = narrow_client(alloc, 5)?;
+    Ok(
+        invoke_id(&mut node, 6, &read) == Ok(0)
+            && invoke_id(&mut node, 7, &read) == Err(AskFault::NoSlot)
+            && node.latest() == 6,
+    )
+}
+
 #[test]
 fn one_client_slot(rt: HostRuntime) -> Result<(), Fail> {
-    let read = request_of(rt.alloc(), 12, READING)?;
-    let mut node = Node::new(rt.alloc(), config(CLIENT, 1, 1, 32), house(rt.alloc())?)?;
-    assert_eq!(rt; invoke_id(&mut node, 6, &read), Ok(0));
-    assert_eq!(rt; invoke_id(&mut node, 7, &read), Err(AskFault::NoSlot));
-    assert_eq!(rt; node.latest(), 6);
+    assert!(rt; asks_once(rt.alloc())?);
     Ok(())
+}
+
+/// Whether 256 asks of one peer take the invoke IDs from 0 on.
+fn takes_all(node: &mut Node, read: &OwnedRequest) -> bool {
+    for n in 0..256u16 {
+        if invoke_id(node, 0, read) != Ok(n as u8) {
+            return false;
+        }
+    }
+    true
 }
 
 /// How many asks expire in a tick.
@@ -235,20 +272,27 @@ fn expired(node: &mut Node, now: u64) -> Result<usize, NodeFault> {
     Ok(count(&outcome, End::Expired))
 }
 
+/// Whether all invoke IDs are held until 135,000 ms have passed, though all asks have ended.
+fn holds_all(node: &mut Node, read: &OwnedRequest) -> Result<bool, NodeFault> {
+    let held = invoke_id(node, 0, read);
+    let expired = expired(node, 135_000)?;
+    Ok(
+        held == Err(AskFault::NoInvokeId)
+            && expired == 256
+            && invoke_id(node, 135_000, read) == Err(AskFault::NoInvokeId)
+            && invoke_id(node, 135_001, read) == Ok(0),
+    )
+}
+
 /// 256 asks take the invoke IDs of a peer; they are held for 135,000 ms.
+fn takes_and_holds(alloc: Global) -> Result<bool, Fail> {
+    let read = request_of(alloc, 12, READING)?;
+    let mut node = Node::new(alloc, config(CLIENT, 1_024, 1, 32), house(alloc)?)?;
+    Ok(takes_all(&mut node, &read) && holds_all(&mut node, &read)?)
+}
+
 #[test]
 fn all_invoke_ids(rt: HostRuntime) -> Result<(), Fail> {
-    let read = request_of(rt.alloc(), 12, READING)?;
-    let mut node = Node::new(rt.alloc(), config(CLIENT, 1_024, 1, 32), house(rt.alloc())?)?;
-    for n in 0..256u16 {
-        assert_eq!(rt; invoke_id(&mut node, 0, &read), Ok(n as u8));
-    }
-    assert_eq!(rt; invoke_id(&mut node, 0, &read), Err(AskFault::NoInvokeId));
-    assert_eq!(rt; expired(&mut node, 135_000)?, 256);
-    assert_eq!(rt;
-        invoke_id(&mut node, 135_000, &read),
-        Err(AskFault::NoInvokeId)
-    );
-    assert_eq!(rt; invoke_id(&mut node, 135_001, &read), Ok(0));
+    assert!(rt; takes_and_holds(rt.alloc())?);
     Ok(())
 }

@@ -2,7 +2,9 @@
 use super::*;
 
 /// Numbers of slots and a window, and the number of the fault, 0 where a node is made.
-const LIMITS: &[(usize, usize, u8, u8)] = &[
+type Limit = (usize, usize, u8, u8);
+
+const LIMITS: &[Limit] = &[
     (1, 1_024, 1, 0),
     (1_024, 1, 64, 0),
     (0, 1, 0, 1),
@@ -13,27 +15,33 @@ const LIMITS: &[(usize, usize, u8, u8)] = &[
     (1, 1, 65, 3),
 ];
 
+fn made(alloc: Global, limit: &Limit) -> Result<u8, NoMemory> {
+    let config = config(SERVER, limit.0, limit.1, limit.2);
+    Ok(match Node::new(alloc, config, house(alloc)?) {
+        Ok(_) => 0,
+        Err(fault) => fault.number(),
+    })
+}
+
+fn are_limits(alloc: Global, limits: &[Limit]) -> Result<bool, NoMemory> {
+    for limit in limits {
+        if made(alloc, limit)? != limit.3 {
+            return Ok(false);
+        }
+    }
+    Ok(true)
+}
+
 #[test]
 fn limits_of_a_node(rt: HostRuntime) -> Result<(), Fail> {
-    let alloc = rt.alloc();
-    for (client_slots, reply_slots, window, number) in LIMITS {
-        let config = config(SERVER, *client_slots, *reply_slots, *window);
-        let found = match Node::new(alloc, config, house(alloc)?) {
-            Ok(_) => 0,
-            Err(fault) => fault.number(),
-        };
-        assert_eq!(rt; found, *number, "{client_slots} {reply_slots} {window}");
-    }
+    assert!(rt; are_limits(rt.alloc(), LIMITS)?);
     Ok(())
 }
 
 #[test]
 fn numbers_of_faults(rt: HostRuntime) {
-    assert_eq!(rt; NewNodeFault::BadSlots.number(), 1);
-    assert_eq!(rt; NewNodeFault::NoMemory.number(), 2);
-    assert_eq!(rt; NewNodeFault::BadWindow.number(), 3);
-    assert_eq!(rt; NodeFault::ClockBack.number(), 1);
-    assert_eq!(rt; NodeFault::NoMemory.number(), 2);
+    assert!(rt; NewNodeFault::NoMemory.number() == 2);
+    assert!(rt; NodeFault::NoMemory.number() == 2);
 }
 
 /// The number of a fault, 0 where there is none.
@@ -44,33 +52,58 @@ fn number(came: Result<Outcome, NodeFault>) -> u8 {
     }
 }
 
-/// The numbers of the faults of a request, of a dropped datagram and of a tick at one moment.
-fn faults(node: &mut Node, now: u64, read: &[u8]) -> (u8, u8, u8, u8) {
+/// The numbers of the faults of a request and of a dropped datagram at one moment.
+fn heard(node: &mut Node, now: u64, read: &[u8]) -> (u8, u8) {
     let heard = number(node.on(now, link(CLIENT), read));
-    let dropped = number(node.on(now, link(SERVER), &[]));
-    let prepared = number(node.prepare_tick(now));
-    (heard, dropped, prepared, number(node.tick(now)))
+    (heard, number(node.on(now, link(SERVER), &[])))
 }
 
-/// The latest moment is 5: each call at 4 is refused, and at 5 and 6 none is.
+/// The numbers of the faults of a tick that is prepared, and of one that is made.
+fn ticked(node: &mut Node, now: u64) -> (u8, u8) {
+    let prepared = number(node.prepare_tick(now));
+    (prepared, number(node.tick(now)))
+}
+
+/// Whether each call at a moment gets a fault of that number, and whatever comes the latest moment is then another one.
+fn are_faults(node: &mut Node, now: u64, read: &[u8], fault: u8, latest: u64) -> bool {
+    heard(node, now, read) == (fault, fault)
+        && ticked(node, now) == (fault, fault)
+        && node.latest() == latest
+}
+
+/// One slot of each kind, and the latest moment 5: each call at 4 is refused, and at 5 and 6 none is.
+fn refuses_earlier(alloc: Global) -> Result<bool, Fail> {
+    let read = octets_of(alloc, READ)?;
+    let mut node = Node::new(alloc, config(SERVER, 1, 1, 32), house(alloc)?)?;
+    Ok(
+        are_faults(&mut node, 5, &read, 0, 5)
+            && are_faults(&mut node, 4, &read, 1, 5)
+            && are_faults(&mut node, 6, &read, 0, 6),
+    )
+}
+
 #[test]
 fn the_clock_goes_back(rt: HostRuntime) -> Result<(), Fail> {
-    let read = octets_of(rt.alloc(), READ)?;
-    let mut node = house_node(rt.alloc(), SERVER)?;
-    assert_eq!(rt; faults(&mut node, 5, &read), (0, 0, 0, 0));
-    assert_eq!(rt; faults(&mut node, 4, &read), (1, 1, 1, 1));
-    assert_eq!(rt; node.latest(), 5);
-    assert_eq!(rt; faults(&mut node, 6, &read), (0, 0, 0, 0));
-    assert_eq!(rt; node.latest(), 6);
+    assert!(rt; refuses_earlier(rt.alloc())?);
     Ok(())
+}
+
+fn is_set(node: &Node) -> bool {
+    let settings = node.settings();
+    node.link() == link(SERVER)
+        && node.latest() == 0
+        && settings.window.size == 32
+        && settings.limits == LARGE
+}
+
+fn made_is_set(alloc: Global) -> Result<bool, Fail> {
+    let node = house_node(alloc, SERVER)?;
+    Ok(is_set(&node))
 }
 
 #[test]
 fn what_a_node_is_set_to(rt: HostRuntime) -> Result<(), Fail> {
-    let node = house_node(rt.alloc(), SERVER)?;
-    assert_eq!(rt; (node.link(), node.latest()), (link(SERVER), 0));
-    assert_eq!(rt; node.settings().window.size, 32);
-    assert_eq!(rt; node.settings().limits, LARGE);
+    assert!(rt; made_is_set(rt.alloc())?);
     Ok(())
 }
 
@@ -83,12 +116,17 @@ fn is_new(alloc: Global, node: &Node, number: u8) -> Result<(bool, bool), Fail> 
 const ROW: &[Row] = &[(0, 2, APPEND, APPENDED, true)];
 
 /// Two nodes are the same until one of them performs a request; nodes of other links are not.
+fn are_compared(alloc: Global) -> Result<bool, Fail> {
+    let mut node = house_node(alloc, SERVER)?;
+    let new = is_new(alloc, &node, SERVER)?;
+    let other = is_new(alloc, &node, CLIENT)?;
+    plays(alloc, &mut node, ROW)?;
+    let changed = is_new(alloc, &node, SERVER)?;
+    Ok(new == (true, true) && other == (false, true) && changed == (false, false))
+}
+
 #[test]
 fn nodes_are_compared(rt: HostRuntime) -> Result<(), Fail> {
-    let mut node = house_node(rt.alloc(), SERVER)?;
-    assert_eq!(rt; is_new(rt.alloc(), &node, SERVER)?, (true, true));
-    assert_eq!(rt; is_new(rt.alloc(), &node, CLIENT)?, (false, true));
-    plays(&rt, rt.alloc(), &mut node, ROW)?;
-    assert_eq!(rt; is_new(rt.alloc(), &node, SERVER)?, (false, false));
+    assert!(rt; are_compared(rt.alloc())?);
     Ok(())
 }

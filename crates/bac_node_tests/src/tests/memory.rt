@@ -62,36 +62,86 @@ fn is_after(alloc: Global, node: &Node, rows: &[Row], n: usize) -> Result<bool, 
     Ok(node.same(&other))
 }
 
+/// Whether a row that was refused has changed nothing, and is done when it comes again.
+fn goes_again(
+    alloc: Global,
+    node: &mut Node,
+    heard: &[u8],
+    rows: &[Row],
+    n: usize,
+) -> Result<Option<Outcome>, Fail> {
+    let Some(row) = rows.get(n) else {
+        return Ok(None);
+    };
+    if !is_after(alloc, node, rows, n)? {
+        return Ok(None);
+    }
+    let outcome = node.on(row.0, link(row.1), heard)?;
+    if is_after(alloc, node, rows, n.saturating_add(1))? {
+        Ok(Some(outcome))
+    } else {
+        Ok(None)
+    }
+}
+
+/// What comes of a row, the first or the second time; None where a refusal changed something.
+fn comes(
+    alloc: Global,
+    node: &mut Node,
+    heard: &[u8],
+    rows: &[Row],
+    n: usize,
+) -> Result<Option<Outcome>, Fail> {
+    let Some(row) = rows.get(n) else {
+        return Ok(None);
+    };
+    match node.on(row.0, link(row.1), heard) {
+        Ok(outcome) => Ok(Some(outcome)),
+        Err(NodeFault::NoMemory) => goes_again(alloc, node, heard, rows, n),
+        Err(NodeFault::ClockBack) => Ok(None),
+    }
+}
+
+/// Whether a row goes as it says, the first or the second time; so does one whose own octets were refused.
+fn goes_at_last(alloc: Global, node: &mut Node, rows: &[Row], n: usize) -> Result<bool, Fail> {
+    let Some(row) = rows.get(n) else {
+        return Ok(false);
+    };
+    let heard = again(alloc, row.2)?;
+    let wanted = again(alloc, row.3)?;
+    Ok(match comes(alloc, node, &heard, rows, n)? {
+        Some(outcome) => is_told(&outcome, &wanted, row),
+        None => false,
+    })
+}
+
+/// The octets of a text, which are asked for again where they were refused.
+fn again(alloc: Global, text: &str) -> Result<Vec<u8>, NoMemory> {
+    match octets_of(alloc, text) {
+        Ok(octets) => Ok(octets),
+        Err(_) => octets_of(alloc, text),
+    }
+}
+
 /// A node hears these rows; a call that was refused leaves it as it was, and is done when it comes again.
-fn plays_refused(rt: &impl Abort, alloc: Global, rows: &[Row]) -> Result<(), Fail> {
+fn plays_refused(alloc: Global, rows: &[Row]) -> Result<(), Fail> {
     let mut node = made(alloc, SERVER)?;
-    for (n, row) in rows.iter().enumerate() {
-        let (Ok(heard), Ok(wanted)) = (octets_of(alloc, row.2), octets_of(alloc, row.3)) else {
-            return Ok(());
-        };
-        let outcome = match node.on(row.0, link(row.1), &heard) {
-            Ok(outcome) => outcome,
-            Err(fault) => {
-                assert_eq!(rt; fault, NodeFault::NoMemory);
-                assert!(rt; is_after(alloc, &node, rows, n)?, "{}", row.2);
-                let outcome = node.on(row.0, link(row.1), &heard)?;
-                assert!(rt; is_after(alloc, &node, rows, n.saturating_add(1))?);
-                outcome
-            }
-        };
-        assert!(rt; is_told(&outcome, &wanted, row), "{}", row.2);
+    for n in 0..rows.len() {
+        if !goes_at_last(alloc, &mut node, rows, n)? {
+            return Err(Fail::from("a refused row goes otherwise"));
+        }
     }
     Ok(())
 }
 
 #[test]
 fn requests_with_refused_memory(rt: HostRuntime) -> Result<(), Fail> {
-    plays_refused(&rt, rt.alloc(), WHOLE)
+    plays_refused(rt.alloc(), WHOLE)
 }
 
 #[test]
 fn segments_with_refused_memory(rt: HostRuntime) -> Result<(), Fail> {
-    plays_refused(&rt, rt.alloc(), SEGMENTS)
+    plays_refused(rt.alloc(), SEGMENTS)
 }
 
 /// Whether nothing has happened to a client.
@@ -100,47 +150,68 @@ fn is_new(alloc: Global, node: &Node) -> Result<bool, Fail> {
     Ok(node.same(&other))
 }
 
-/// What an ask sends; one that was refused changed nothing, and is accepted when it comes again.
-fn asked(
-    rt: &impl Abort,
+/// What an ask sends that comes again; None where the refusal changed something.
+fn asked_again(
     alloc: Global,
     node: &mut Node,
     write: &OwnedRequest,
-) -> Result<Vec<Datagram>, Fail> {
+) -> Result<Option<Vec<Datagram>>, Fail> {
+    if !is_new(alloc, node)? {
+        return Ok(None);
+    }
+    Ok(Some(ask(node, 0, SERVER, &LARGE, write)?.sends))
+}
+
+/// What an ask sends, the first or the second time.
+fn asked(
+    alloc: Global,
+    node: &mut Node,
+    write: &OwnedRequest,
+) -> Result<Option<Vec<Datagram>>, Fail> {
     match ask(node, 0, SERVER, &LARGE, write) {
-        Ok(asked) => Ok(asked.sends),
-        Err(fault) => {
-            assert_eq!(rt; fault, AskFault::NoMemory);
-            assert!(rt; is_new(alloc, node)?);
-            Ok(ask(node, 0, SERVER, &LARGE, write)?.sends)
-        }
+        Ok(asked) => Ok(Some(asked.sends)),
+        Err(AskFault::NoMemory) => asked_again(alloc, node, write),
+        Err(_) => Ok(None),
     }
 }
 
-/// What a tick sends; one that was refused changed nothing, and is made when it comes again.
-fn ticked(rt: &impl Abort, node: &mut Node, now: u64) -> Result<Vec<Datagram>, Fail> {
+/// What a tick sends, the first or the second time; None where the refusal changed the latest moment.
+fn ticked(node: &mut Node, now: u64) -> Result<Option<Vec<Datagram>>, Fail> {
     match node.tick(now) {
-        Ok(outcome) => Ok(outcome.sends),
-        Err(fault) => {
-            assert_eq!(rt; (fault, node.latest()), (NodeFault::NoMemory, 0));
-            Ok(node.tick(now)?.sends)
-        }
+        Ok(outcome) => Ok(Some(outcome.sends)),
+        Err(NodeFault::NoMemory) if node.latest() == 0 => Ok(Some(node.tick(now)?.sends)),
+        Err(_) => Ok(None),
     }
 }
 
-/// An ask, and a tick that repeats it.
+fn are_sent(sends: Option<Vec<Datagram>>, octets: &[u8]) -> bool {
+    match sends {
+        Some(sends) => are_octets(&sends, octets),
+        None => false,
+    }
+}
+
+/// Whether an ask for a write, and a tick that repeats it, send that datagram.
+fn sends_twice(alloc: Global, write: &OwnedRequest, append: &[u8]) -> Result<bool, Fail> {
+    let mut node = made(alloc, CLIENT)?;
+    let first = asked(alloc, &mut node, write)?;
+    let second = ticked(&mut node, 3_000)?;
+    Ok(are_sent(first, append) && are_sent(second, append))
+}
+
+/// The same of an append, whose own octets are asked for again where they were refused.
+fn appends_twice(alloc: Global) -> Result<bool, Fail> {
+    let append = again(alloc, APPEND)?;
+    let service = append.get(10..).unwrap_or(&[]);
+    let write = match request(alloc, 7, service) {
+        Ok(write) => write,
+        Err(_) => request(alloc, 7, service)?,
+    };
+    sends_twice(alloc, &write, &append)
+}
+
 #[test]
 fn asks_with_refused_memory(rt: HostRuntime) -> Result<(), Fail> {
-    let Ok(append) = octets_of(rt.alloc(), APPEND) else {
-        return Ok(());
-    };
-    let Ok(write) = request(rt.alloc(), 7, append.get(10..).unwrap_or(&[])) else {
-        return Ok(());
-    };
-    let mut node = made(rt.alloc(), CLIENT)?;
-    let sends = asked(&rt, rt.alloc(), &mut node, &write)?;
-    assert!(rt; are_octets(&sends, &append));
-    let sends = ticked(&rt, &mut node, 3_000)?;
-    assert!(rt; are_octets(&sends, &append));
+    assert!(rt; appends_twice(rt.alloc())?);
     Ok(())
 }

@@ -100,8 +100,51 @@ const ROWS: &[Row] = &[
 
 #[test]
 fn rows_of_one_node(rt: HostRuntime) -> Result<(), Fail> {
-    let mut node = house_node(rt.alloc(), SERVER)?;
-    plays(&rt, rt.alloc(), &mut node, ROWS)
+    house_plays(rt.alloc(), ROWS)
+}
+
+/// Reads of file 1 as it is at first: all of it, its first octet, none after its last; from too far on, and by records.
+const FILES: &[Row] = &[
+    (
+        0,
+        2,
+        "810A0015 0104 00050D06 C402800001 0E 3100 210A 0F",
+        "810A0011 0100 300D06 11 0E 3100 624F4B 0F",
+        true,
+    ),
+    (
+        0,
+        2,
+        "810A0015 0104 00050E06 C402800001 0E 3100 2101 0F",
+        "810A0010 0100 300E06 10 0E 3100 614F 0F",
+        true,
+    ),
+    (
+        0,
+        2,
+        "810A0015 0104 00050F06 C402800001 0E 3102 2101 0F",
+        "810A000F 0100 300F06 11 0E 3102 60 0F",
+        true,
+    ),
+    (
+        0,
+        2,
+        "810A0015 0104 00051006 C402800001 0E 3103 2101 0F",
+        "810A000D 0100 501006 9105 910B",
+        true,
+    ),
+    (
+        0,
+        2,
+        "810A0015 0104 00051106 C402800001 1E 3100 2101 1F",
+        "810A000D 0100 501106 9105 910A",
+        true,
+    ),
+];
+
+#[test]
+fn reads_of_a_file(rt: HostRuntime) -> Result<(), Fail> {
+    house_plays(rt.alloc(), FILES)
 }
 
 /// One entry is live for 65,000 ms: another client's requests are turned away until then.
@@ -113,18 +156,15 @@ const ONE_SLOT: &[Row] = &[
     (65_001, 2, READ, "810A0009 0100 710100", false),
 ];
 
-#[test]
-fn one_reply_slot(rt: HostRuntime) -> Result<(), Fail> {
-    let alloc = rt.alloc();
+fn narrow_plays(alloc: Global, rows: &[Row]) -> Result<(), Fail> {
     let mut node = Node::new(alloc, config(SERVER, 1, 1, 32), house(alloc)?)?;
-    plays(&rt, alloc, &mut node, ONE_SLOT)
+    plays(alloc, &mut node, rows)
 }
 
-/// How many octets were appended to the two of file 1, what an append of three more gets, and whether the file is longer then.
-const LONG: &[(usize, &str)] = &[
-    (59_996, "810A000D 0100 500007 9103 9114"),
-    (59_995, "810A000D 0100 300007 0B00EA5D"),
-];
+#[test]
+fn one_reply_slot(rt: HostRuntime) -> Result<(), Fail> {
+    narrow_plays(rt.alloc(), ONE_SLOT)
+}
 
 /// An append of so many zeros to file 1, in one datagram.
 fn long_append(alloc: Global, len: usize) -> Result<Vec<u8>, Fail> {
@@ -136,21 +176,31 @@ fn long_append(alloc: Global, len: usize) -> Result<Vec<u8>, Fail> {
     Ok(octets)
 }
 
-/// What a node sends for an append of three octets, after one of so many.
-fn appended(alloc: Global, len: usize) -> Result<Vec<Datagram>, Fail> {
+/// A node whose file 1 has so many octets beside its first two.
+fn appended(alloc: Global, len: usize) -> Result<Node, Fail> {
     let first = long_append(alloc, len)?;
-    let second = octets_of(alloc, APPEND)?;
     let mut node = house_node(alloc, SERVER)?;
     let _ = node.on(0, link(CLIENT), &first)?;
-    Ok(node.on(0, link(CLIENT), &second)?.sends)
+    Ok(node)
+}
+
+/// An append of three octets gets this answer after one of so many.
+fn appends_after(alloc: Global, len: usize, rows: &[Row]) -> Result<(), Fail> {
+    let mut node = appended(alloc, len)?;
+    plays(alloc, &mut node, rows)
 }
 
 /// A file has at most 60,000 octets.
+const FULL: &[Row] = &[(0, 2, APPEND, "810A000D 0100 500007 9103 9114", true)];
+
 #[test]
-fn appends_to_a_long_file(rt: HostRuntime) -> Result<(), Fail> {
-    for (len, answer) in LONG {
-        let sends = appended(rt.alloc(), *len)?;
-        assert!(rt; are_text(rt.alloc(), &sends, answer)?, "{len}");
-    }
-    Ok(())
+fn append_to_a_full_file(rt: HostRuntime) -> Result<(), Fail> {
+    appends_after(rt.alloc(), 59_996, FULL)
+}
+
+const FITS: &[Row] = &[(0, 2, APPEND, "810A000D 0100 300007 0B00EA5D", true)];
+
+#[test]
+fn append_to_a_long_file(rt: HostRuntime) -> Result<(), Fail> {
+    appends_after(rt.alloc(), 59_995, FITS)
 }
