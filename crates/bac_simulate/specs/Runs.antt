@@ -9,12 +9,15 @@ use Rattle.bac_network.specs.Steps.{IsFault, Tells}
 use Rattle.bac_network.specs.declared.fault.WorldFault.{WorldFault}
 use Rattle.bac_facts.specs.Texts.{fault_line}
 use Rattle.bac_text.specs.Lines.{lines_of}
+use Rattle.bac_text.specs.Statuses.{IsFailure}
 use Rattle.bac_text.specs.Texts.{AppendsText}
 use Rattle.bac_text.specs.declared.status.Status.{Status}
 use Rattle.bac_text.specs.declared.status.Status.TheVariants as status
 use Rattle.bac_simulate.specs.Houses.{world_set}
 use Rattle.bac_simulate.specs.Scripts.{Script, script_of}
 use Rattle.bac_simulate.specs.Told.{outcome_text}
+use Rattle.bac_simulate.specs.declared.script.ScriptFault.{ScriptFault}
+use Rattle.bac_simulate.specs.declared.script.ScriptFault.TheVariants as fault
 
 -- ---- events
 
@@ -56,6 +59,17 @@ Ran s all old new = (last : WorldView) × AppendsText old new (IsRun 2 s.events 
 abbrev pub status_of : (all : Bool) → Status
 status_of true = status.Done
 status_of false = status.Faulty
+
+-- of a run that was printed so far as the output took it, and of the output's flush
+abbrev pub IsEnd : {A B E : Type 0} → Result Bool E → Result A B → Status → Type 0
+IsEnd (Ok all) (Ok flushed) end = end ≡ status_of all
+IsEnd (Ok all) (Err e) end = IsFailure end
+IsEnd (Err e) flushed end = IsFailure end
+
+-- of octets that are no script, and of want of memory
+abbrev pub status_for : ScriptFault → Status
+status_for (fault.Line number) = status.CommandLine
+status_for fault.NoMemory = status.Memory
 
 -- what was printed of the script of some octets, by the status: a script with a bad line prints nothing
 abbrev pub Reports : Result Script ℕ → (old new : Option (List ℕ)) → Status → Type 0

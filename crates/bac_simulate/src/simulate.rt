@@ -1,10 +1,11 @@
 //! `bac simulate`, over any reader and writers.
-ghost use Rattle.std.specs.Prelude.{◌≡◌, ◌+◌, ◌≤◌, ◌^◌, length, map, IfOk, Ok};
+ghost use Rattle.std.specs.Prelude.{◌≡◌, ◌+◌, ◌≤◌, ◌^◌, length, map, IfOk, IfSome, Ok};
 ghost use Rattle.bac_network.specs.Views.{event_view};
 ghost use Rattle.bac_script.specs.Views.{setting_view};
 ghost use Rattle.bac_text.specs.Lines.{lines_of};
 ghost use Rattle.bac_text.specs.Texts.{AppendsText};
-ghost use Rattle.bac_simulate.specs.Runs.{IsRun, IsStep, IsUnread, Reports, Simulates, status_of};
+ghost use Rattle.bac_simulate.specs.Houses.{world_set};
+ghost use Rattle.bac_simulate.specs.Runs.{IsEnd, IsRun, IsStep, IsUnread, Reports, Simulates, status_for, status_of};
 ghost use Rattle.bac_simulate.specs.Scripts.{IsModest, script_of, script_view};
 
 use crate::script::{Script, ScriptFault, read_script};
@@ -66,17 +67,10 @@ fn status_of(all: bool) -> Status
     if all { Status::Done } else { Status::Faulty }
 }
 
-/// Runs a script whose lines are all read.
-fn run<O: Write, E: Write>(alloc: Global, script: &Script, out: &mut O, err: &mut E) -> Status
-    requires modest { IsModest (setting_view script.now.setting) }
-    requires few { length script.now.events.items + 2 ≤ 2 ^ 64 }
-    ensures { Reports (Ok (script_view script.now)) (O.contents out.old) (O.contents out.new) result }
+/// How a run ended whose output was flushed then.
+fn ended<E: Write>(ran: io::Result<bool>, flushed: io::Result<()>, err: &mut E) -> Status
+    ensures { IsEnd ran flushed result }
 {
-    let Ok(mut world) = world_of(alloc, &script.setting) else {
-        return no_memory(err);
-    };
-    let ran = run_and_print(alloc, &mut world, &script.events, out);
-    let flushed = out.flush();
     match ran {
         Ok(all) => match flushed {
             Ok(()) => status_of(all),
@@ -86,19 +80,66 @@ fn run<O: Write, E: Write>(alloc: Global, script: &Script, out: &mut O, err: &mu
     }
 }
 
+/// Runs the events of a script in its network.
+fn run_in<O: Write, E: Write>(
+    alloc: Global,
+    world: &mut World,
+    script: &Script,
+    out: &mut O,
+    err: &mut E,
+) -> Status
+    requires fresh { world.old ≡ world_set (setting_view script.now.setting) }
+    requires few { length script.now.events.items + 2 ≤ 2 ^ 64 }
+    ensures { Reports (Ok (script_view script.now)) (O.contents out.old) (O.contents out.new) result }
+{
+    let ran = run_and_print(alloc, world, &script.events, out);
+    let flushed = out.flush();
+    ended(ran, flushed, err)
+}
+
+/// Runs a script whose lines are all read.
+fn run<O: Write, E: Write>(alloc: Global, script: &Script, out: &mut O, err: &mut E) -> Status
+    requires modest { IsModest (setting_view script.now.setting) }
+    requires few { length script.now.events.items + 2 ≤ 2 ^ 64 }
+    ensures { Reports (Ok (script_view script.now)) (O.contents out.old) (O.contents out.new) result }
+{
+    match world_of(alloc, &script.setting) {
+        Ok(mut world) => run_in(alloc, &mut world, script, out, err),
+        Err(NoMemory) => no_memory(err),
+    }
+}
+
+/// Complains of octets that are no script.
+fn no_script<E: Write>(fault: ScriptFault, err: &mut E) -> Status
+    ensures { result ≡ status_for fault }
+{
+    match fault {
+        ScriptFault::Line(number) => {
+            // where even that fails, the status alone tells
+            let _ = writeln!(err, "line {number}: not a script line");
+            Status::CommandLine
+        }
+        ScriptFault::NoMemory => no_memory(err),
+    }
+}
+
 /// Runs the script that these octets are; all its lines are read before the first event.
 fn simulate<O: Write, E: Write>(alloc: Global, text: &[u8], out: &mut O, err: &mut E) -> Status
     ensures { Reports (script_of (lines_of text.now)) (O.contents out.old) (O.contents out.new) result }
 {
     match read_script(alloc, text) {
         Ok(script) => run(alloc, &script, out, err),
-        Err(ScriptFault::Line(number)) => {
-            // where even that fails, the status alone tells
-            let _ = writeln!(err, "line {number}: not a script line");
-            Status::CommandLine
-        }
-        Err(ScriptFault::NoMemory) => no_memory(err),
+        Err(fault) => no_script(fault, err),
     }
+}
+
+/// All octets of an input.
+fn octets_of<R: Read>(alloc: Global, input: &mut R) -> io::Result<Vec<u8>>
+    ensures { IfOk result (λ text. IfSome (R.remaining input.old) (λ octets. text.items ≡ octets)) }
+{
+    let mut text = Vec::new(alloc);
+    input.read_to_end(&mut text)?;
+    Ok(text)
 }
 
 /// Complains of an input that could not be read.
@@ -125,9 +166,8 @@ pub fn simulate_over<R: Read, O: Write, E: Write>(
 ) -> Status
     ensures { Simulates (R.remaining input.old) (O.contents out.old) (O.contents out.new) result }
 {
-    let mut text = Vec::new(alloc);
-    match input.read_to_end(&mut text) {
-        Ok(_) => simulate(alloc, &text, out, err),
+    match octets_of(alloc, input) {
+        Ok(text) => simulate(alloc, &text, out, err),
         Err(error) => unread(&error, err),
     }
 }

@@ -14,7 +14,7 @@ use bac_value::NoMemory;
 use std::alloc::Global;
 
 /// APDUs of 1,476 octets, and any number of segments.
-const LIMITS: Limits = Limits {
+pub(crate) const LIMITS: Limits = Limits {
     max_apdu: 5,
     takes_segments: true,
     max_segments: 7,
