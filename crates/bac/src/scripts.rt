@@ -9,10 +9,16 @@ use std::io::Write;
 
 /// What the lines of a script are.
 const LINES_HELP: &str = "\
-First line: `nodes N`, or `nodes N window W overtake V`: N nodes (1 to 16), each with a house of its own, windows of up to W segments (1 to 64, 32 where the \
-line names none), and how many later datagrams of its transaction may overtake one (V, 128 where the line names none; V + 2W is at most 255). Each later line \
-is an event: `ask C S REQUEST` (node C asks node S; the requests are those of `bac ask`), `deliver K` (the datagram of that number comes to its node), \
-`noise N HEX` (octets of no node come to node N), `tick N` (node N looks at its timers) or `advance MS` (so many milliseconds pass)";
+The first line of a script sets the network: `nodes N`, or `nodes N window W overtake V`
+  N  how many nodes there are, 1 to 16, each with a house of its own
+  W  the greatest window in segments, 1 to 64; 32 where it is not given
+  V  how many later datagrams of its transaction may overtake one; 128 where it is not given; V + 2W is at most 255
+Each later line is an event:
+  ask C S REQUEST  node C asks node S; the requests are those of `bac ask`
+  deliver K        the datagram of that number comes to its node
+  noise N HEX      octets that no node sent come to node N
+  tick N           node N looks at its timers
+  advance MS       so many milliseconds pass";
 
 /// What `simulate` takes.
 pub(crate) fn simulate_command<'a>(alloc: Global) -> Result<Command<'a>, clap::Error> {

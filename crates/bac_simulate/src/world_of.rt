@@ -14,7 +14,7 @@ use bac_value::NoMemory;
 use std::alloc::Global;
 
 /// APDUs of 1,476 octets, and any number of segments.
-pub(crate) const LIMITS: Limits = Limits {
+const LIMITS: Limits = Limits {
     max_apdu: 5,
     takes_segments: true,
     max_segments: 7,
@@ -31,16 +31,20 @@ fn link_of(node: u8) -> [u8; 6]
     [127, 0, 0, 1, 0xBA, 0xC0 + node]
 }
 
-/// So many nodes, each with a house store of its own.
-fn nodes_of(alloc: Global, setting: &Setting) -> Result<Vec<(Config, Store)>, NoMemory>
+/// So many nodes of those limits, each with a house store of its own.
+fn nodes_of(
+    alloc: Global,
+    setting: &Setting,
+    limits: Limits,
+) -> Result<Vec<(Config, Store)>, NoMemory>
     requires { setting.now.nodes < 64 }
-    ensures { IfOk result (λ nodes. nodes.items ≡ makers_from setting.now.window 0 setting.now.nodes) }
+    ensures { IfOk result (λ nodes. nodes.items ≡ makers_from limits setting.now.window 0 setting.now.nodes) }
 {
     let mut nodes = Vec::new(alloc);
     for node in 0..setting.nodes {
         let config = Config {
             link: link_of(node),
-            limits: LIMITS,
+            limits,
             window: setting.window,
             client_slots: 64,
             reply_slots: 64,
@@ -55,7 +59,7 @@ pub(crate) fn world_of(alloc: Global, setting: &Setting) -> Result<World, NoMemo
     requires { IsModest (setting_view setting.now) }
     ensures { IfOk result (λ w. w ≡ world_set (setting_view setting.now)) }
 {
-    let nodes = nodes_of(alloc, setting)?;
+    let nodes = nodes_of(alloc, setting, LIMITS)?;
     match World::new(alloc, nodes, u64::from(setting.overtake)) {
         Ok(world) => Ok(world),
         Err(NewWorldFault::NoMemory) => Err(NoMemory),
