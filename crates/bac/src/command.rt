@@ -1,6 +1,6 @@
 //! What a command line asks for, and doing it: over any files, links and writers.
-use crate::online;
 use crate::online::Machine;
+use crate::{online, scripts};
 use bac_answer::answer_over;
 use bac_text::{Status, check_over, complain, decode_over, no_memory};
 use clap::builder::ValueParser;
@@ -19,7 +19,7 @@ pub(crate) trait OpenFiles {
 }
 
 /// A word that has to be given.
-fn word<'a>(alloc: Global, name: &'a str, help: &'a str) -> Arg<'a> {
+pub(crate) fn word<'a>(alloc: Global, name: &'a str, help: &'a str) -> Arg<'a> {
     Arg::new(alloc, name)
         .required(true)
         .action(ArgAction::Set)
@@ -106,6 +106,7 @@ fn command<'a>(alloc: Global) -> Result<Command<'a>, clap::Error> {
         .subcommand(answer)?
         .subcommand(decode)?
         .subcommand(check)?
+        .subcommand(scripts::simulate_command(alloc)?)?
         .subcommand(serve_command(alloc)?)?
         .subcommand(ask_command(alloc)?)?
         .subcommand(pair_command(alloc))?;
@@ -125,6 +126,8 @@ enum Task<'m, 'a> {
     Decode(&'a str),
     /// The bad lines of the capture in this file.
     Check(&'a str),
+    /// The script in this file.
+    Simulate(&'a str),
     /// So many turns at a port.
     Serve { port: u16, turns: u64 },
     /// The request that some words are, of the node at a port.
@@ -151,6 +154,7 @@ fn asked_of<'m, 'a>(matches: &'m ArgMatches<'a>) -> Option<Task<'m, 'a>> {
         ("answer", given) => Some(Task::Answer(given.get_str("HEX")?)),
         ("decode", given) => Some(Task::Decode(given.get_str("HEX")?)),
         ("check", given) => Some(Task::Check(given.get_str("FILE")?)),
+        ("simulate", given) => Some(Task::Simulate(given.get_str("FILE")?)),
         ("serve", given) => {
             let (port, turns) = serve_of(given)?;
             Some(Task::Serve { port, turns })
@@ -207,6 +211,7 @@ pub(crate) fn run<F: OpenFiles, M: Machine, O: Write, E: Write>(
         Some(Task::Answer(datagram)) => answer_over(alloc, datagram, out, err),
         Some(Task::Decode(datagram)) => decode_over(alloc, datagram, out, err),
         Some(Task::Check(path)) => check(alloc, files, path, out, err),
+        Some(Task::Simulate(path)) => scripts::simulate(alloc, files, path, out, err),
         Some(Task::Serve { port, turns }) => online::serve(alloc, machine, port, turns, out, err),
         Some(Task::Ask { port, words }) => online::ask(alloc, machine, port, words, out, err),
         Some(Task::Pair) => online::pair(alloc, machine, out, err),

@@ -3,6 +3,7 @@
 
 mod command;
 mod online;
+mod scripts;
 #[cfg(test)]
 mod tests;
 

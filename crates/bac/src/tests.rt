@@ -10,6 +10,7 @@ use std::process::Abort;
 use std::test::Fail;
 
 mod online;
+mod scripts;
 
 /// What a command printed and how it ended.
 #[derive(Drop)]

@@ -1,15 +1,17 @@
 -- What is told of new facts and copies, one after the other.
-use Rattle.std.proofs.Common.{◌≡◌, ℕ, ◌+◌, ◌≤◌, List, length, map, drop, Option, Some, sym, ap, subst, ◌∙◌, slice_get}
-use Rattle.std.proofs.lemmas.List.{drop_all, length-map, length-reverse}
+use Rattle.std.proofs.Common.{◌≡◌, ℕ, ◌+◌, ◌≤◌, false, List, ◌++◌, length, map, drop, reverse, Option, Some, Result, OnOk, sym, ap, subst, ◌∙◌, slice_get}
+use Rattle.std.proofs.lemmas.List.{drop_all, length-map, length-reverse, reverse-reverse}
 use Rattle.std.specs.Io.KnownBytes.{Appends}
+use Rattle.bac_simulation.specs.Notes.{note_view, notes_view}
 use Rattle.bac_simulation.specs.Views.{copy_view}
 use Rattle.bac_simulation.specs.declared.copies.Copy as copy
+use Rattle.bac_simulation.specs.declared.noting.Note as note
 use Rattle.bac_network.specs.Views.{fact_view, log_view}
 use Rattle.bac_network.specs.declared.fact.Fact as fact
 use Rattle.bac_world.specs.Once as once
 use Rattle.bac_world.specs.World as world
-use Rattle.bac_simulate.specs.Told.{copies_text, fact_text, facts_text}
-use Rattle.bac_simulate.proofs.Appending.{drop_seen, joined, nothing_more}
+use Rattle.bac_simulate.specs.Told.{copies_text, fact_text, facts_text, news_text}
+use Rattle.bac_simulate.proofs.Appending.{before, drop_seen, joined, nothing_more}
 use Rattle.bac_facts.specs.Texts.{sent_line}
 
 -- ---- one more
@@ -43,10 +45,24 @@ pub no_copy_more : (copies : List copy.Copy) (i : ℕ) → length copies ≤ i �
 no_copy_more copies i h a =
     subst (λ (l : List world.Copy). Appends a a (copies_text i l)) (sym (drop_all i (map copy_view copies) (past copy_view copies i h))) (nothing_more a)
 
--- ---- how many
+-- ---- both
 
 pub log_length : (facts : List fact.Fact) (log : List once.Fact) → log_view facts ≡ log → length facts ≡ length log
 log_length facts log e = sym (length-map facts fact_view) ∙ (sym (length-reverse (map fact_view facts)) ∙ ap length e)
 
 pub copies_length : (copies : List copy.Copy) (all : List world.Copy) → map copy_view copies ≡ all → length copies ≡ length all
 copies_length copies all e = sym (length-map copies copy_view) ∙ ap length e
+
+pub news_told : {T E : Type 0} (r : Result T E) (w : world.World) (notes : List note.Note) (facts : List fact.Fact) (copies : List copy.Copy) (i k : ℕ)
+    → (a b c : Option (List ℕ)) → notes_view notes ≡ w.notes → log_view facts ≡ w.log → map copy_view copies ≡ w.copies
+    → Appends a b (facts_text (map note_view notes) (drop i (map fact_view facts)))
+    → OnOk r (Appends b c (copies_text k (drop k (map copy_view copies)))) → OnOk r (Appends a c (news_text false i k w))
+news_told r w notes facts copies i k a b c ns fs cs p q =
+    let notes_are : map note_view notes ≡ reverse w.notes = sym (reverse-reverse (map note_view notes)) ∙ ap reverse ns in
+    let facts_are : map fact_view facts ≡ reverse w.log = sym (reverse-reverse (map fact_view facts)) ∙ ap reverse fs in
+    let first : Appends a b (facts_text (reverse w.notes) (drop i (reverse w.log))) =
+    subst (λ (l : List world.Note). Appends a b (facts_text l (drop i (reverse w.log)))) notes_are
+    (subst (λ (l : List once.Fact). Appends a b (facts_text (map note_view notes) (drop i l))) facts_are p) in
+    let second : OnOk r (Appends b c (copies_text k (drop k w.copies))) =
+    subst (λ (l : List world.Copy). OnOk r (Appends b c (copies_text k (drop k l)))) cs q in
+    before r a b c (facts_text (reverse w.notes) (drop i (reverse w.log))) (copies_text k (drop k w.copies)) first second

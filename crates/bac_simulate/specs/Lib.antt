@@ -1,1 +1,4 @@
+pub mod Houses
+pub mod Runs
+pub mod Scripts
 pub mod Told

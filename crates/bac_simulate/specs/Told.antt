@@ -1,9 +1,11 @@
 -- What is told of an event in a network of nodes.
-use Rattle.std.specs.Prelude.{ℕ, ◌+◌, Bool, ◌&&◌, nat_eq, List, [], ◌∷◌, ◌++◌, length, Option, Some, None, slice_get}
+use Rattle.std.specs.Prelude.{ℕ, ◌+◌, Bool, true, false, ◌&&◌, nat_eq, List, [], ◌∷◌, ◌++◌, length, drop, reverse, Option, Some, None, slice_get}
+use Rattle.bac_requester.specs.Faults.{ask_fault_number}
+use Rattle.bac_requester.specs.declared.ask_fault.AskFault.{AskFault}
 use Rattle.bac_world.specs.Once.{Fact}
 use Rattle.bac_world.specs.Once.Fact.{Asked, Performed, Ended}
 use Rattle.bac_world.specs.World.{World, Copy, Note}
-use Rattle.bac_facts.specs.Texts.{asked_line, ended_line, performed_line, sent_line}
+use Rattle.bac_facts.specs.Texts.{asked_line, ended_line, nothing_line, performed_line, refused_line, sent_line}
 
 -- an accepted ask, by what is noted of it
 abbrev pub asked_text : (ask : ℕ) → Option Note → List ℕ
@@ -28,3 +30,13 @@ copies_text number (c ∷ copies) = sent_line number c.from c.to c.octets ++ cop
 -- nothing is new
 abbrev pub is_as_before : (facts copies : ℕ) → World → Bool
 is_as_before facts copies w = nat_eq (length w.log) facts && nat_eq (length w.copies) copies
+
+-- the facts after so many, oldest first, and then the copies after so many
+abbrev pub news_text : (as_before : Bool) → (facts copies : ℕ) → World → List ℕ
+news_text true facts copies w = nothing_line
+news_text false facts copies w = facts_text (reverse w.notes) (drop facts (reverse w.log)) ++ copies_text copies (drop copies w.copies)
+
+-- a refused ask, by the number of its fault; or what is new in a world that had so many facts and copies
+abbrev pub outcome_text : Option AskFault → (facts copies : ℕ) → World → List ℕ
+outcome_text (Some fault) facts copies w = refused_line (ask_fault_number fault)
+outcome_text None facts copies w = news_text (is_as_before facts copies w) facts copies w

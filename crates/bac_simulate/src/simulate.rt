@@ -1,11 +1,20 @@
 //! `bac simulate`, over any reader and writers.
+ghost use Rattle.std.specs.Prelude.{◌≡◌, ◌+◌, ◌≤◌, ◌^◌, length, map, IfOk, IfSome, Ok};
+ghost use Rattle.bac_network.specs.Views.{event_view};
+ghost use Rattle.bac_script.specs.Views.{setting_view};
+ghost use Rattle.bac_text.specs.Lines.{lines_of};
+ghost use Rattle.bac_text.specs.Texts.{AppendsText};
+ghost use Rattle.bac_simulate.specs.Houses.{world_set};
+ghost use Rattle.bac_simulate.specs.Runs.{IsEnd, IsRun, IsStep, IsUnread, Reports, Simulates, status_for, status_of};
+ghost use Rattle.bac_simulate.specs.Scripts.{IsModest, script_of, script_view};
 
 use crate::script::{Script, ScriptFault, read_script};
 use crate::telling::{Seen, print_outcome};
 use crate::world_of::world_of;
 use bac_facts::print_fault;
-use bac_network::{Event, NewWorldFault, World};
+use bac_network::{Event, World};
 use bac_text::{Status, complain, no_memory, output_failed};
+use bac_value::NoMemory;
 use std::alloc::Global;
 use std::io;
 use std::io::{ErrorKind, Read, Write};
@@ -17,7 +26,10 @@ fn step_and_print<W: Write>(
     line: u64,
     event: &Event,
     out: &mut W,
-) -> io::Result<bool> {
+) -> io::Result<bool>
+    ensures { IfOk result (λ happened. AppendsText (W.contents out.old) (W.contents out.new)
+        (IsStep line happened (event_view event.now) world.old world.new)) }
+{
     let before = Seen::of(world);
     match world.step(event) {
         Ok(refused) => {
@@ -37,28 +49,28 @@ fn run_and_print<W: Write>(
     world: &mut World,
     events: &[Event],
     out: &mut W,
-) -> io::Result<bool> {
+) -> io::Result<bool>
+    requires { length events.now + 2 ≤ 2 ^ 64 }
+    ensures { IfOk result (λ all. AppendsText (W.contents out.old) (W.contents out.new) (IsRun 2 (map event_view events.now) all world.old world.new)) }
+{
     for (place, event) in events.iter().enumerate() {
-        if !step_and_print(alloc, world, (place as u64).saturating_add(2), event, out)? {
+        if !step_and_print(alloc, world, place as u64 + 2, event, out)? {
             return Ok(false);
         }
     }
     Ok(true)
 }
 
-fn status_of(all: bool) -> Status {
+fn status_of(all: bool) -> Status
+    ensures { result ≡ status_of all }
+{
     if all { Status::Done } else { Status::Faulty }
 }
 
-/// Runs a script whose lines are all read.
-fn run<O: Write, E: Write>(alloc: Global, script: &Script, out: &mut O, err: &mut E) -> Status {
-    let mut world = match world_of(alloc, &script.setting) {
-        Ok(world) => world,
-        Err(NewWorldFault::NoMemory) => return no_memory(err),
-        Err(_) => return complain(err, "line 1: not a script line", Status::CommandLine),
-    };
-    let ran = run_and_print(alloc, &mut world, &script.events, out);
-    let flushed = out.flush();
+/// How a run ended whose output was flushed then.
+fn ended<E: Write>(ran: io::Result<bool>, flushed: io::Result<()>, err: &mut E) -> Status
+    ensures { IsEnd ran flushed result }
+{
     match ran {
         Ok(all) => match flushed {
             Ok(()) => status_of(all),
@@ -68,30 +80,94 @@ fn run<O: Write, E: Write>(alloc: Global, script: &Script, out: &mut O, err: &mu
     }
 }
 
+/// Runs the events of a script in its network.
+fn run_in<O: Write, E: Write>(
+    alloc: Global,
+    world: &mut World,
+    script: &Script,
+    out: &mut O,
+    err: &mut E,
+) -> Status
+    requires fresh { world.old ≡ world_set (setting_view script.now.setting) }
+    requires few { length script.now.events.items + 2 ≤ 2 ^ 64 }
+    ensures { Reports (Ok (script_view script.now)) (O.contents out.old) (O.contents out.new) result }
+{
+    let ran = run_and_print(alloc, world, &script.events, out);
+    let flushed = out.flush();
+    ended(ran, flushed, err)
+}
+
+/// Runs a script whose lines are all read.
+fn run<O: Write, E: Write>(alloc: Global, script: &Script, out: &mut O, err: &mut E) -> Status
+    requires modest { IsModest (setting_view script.now.setting) }
+    requires few { length script.now.events.items + 2 ≤ 2 ^ 64 }
+    ensures { Reports (Ok (script_view script.now)) (O.contents out.old) (O.contents out.new) result }
+{
+    match world_of(alloc, &script.setting) {
+        Ok(mut world) => run_in(alloc, &mut world, script, out, err),
+        Err(NoMemory) => no_memory(err),
+    }
+}
+
+/// Complains of octets that are no script.
+fn no_script<E: Write>(fault: ScriptFault, err: &mut E) -> Status
+    ensures { result ≡ status_for fault }
+{
+    match fault {
+        ScriptFault::Line(number) => {
+            // where even that fails, the status alone tells
+            let _ = writeln!(err, "line {number}: not a script line");
+            Status::CommandLine
+        }
+        ScriptFault::NoMemory => no_memory(err),
+    }
+}
+
+/// Runs the script that these octets are; all its lines are read before the first event.
+fn simulate<O: Write, E: Write>(alloc: Global, text: &[u8], out: &mut O, err: &mut E) -> Status
+    ensures { Reports (script_of (lines_of text.now)) (O.contents out.old) (O.contents out.new) result }
+{
+    match read_script(alloc, text) {
+        Ok(script) => run(alloc, &script, out, err),
+        Err(fault) => no_script(fault, err),
+    }
+}
+
+/// All octets of an input.
+fn octets_of<R: Read>(alloc: Global, input: &mut R) -> io::Result<Vec<u8>>
+    ensures { IfOk result (λ text. IfSome (R.remaining input.old) (λ octets. text.items ≡ octets)) }
+{
+    let mut text = Vec::new(alloc);
+    input.read_to_end(&mut text)?;
+    Ok(text)
+}
+
+/// Complains of an input that could not be read.
+fn unread<E: Write>(error: &io::Error, err: &mut E) -> Status
+    ensures { IsUnread result }
+{
+    match error.kind() {
+        ErrorKind::OutOfMemory => no_memory(err),
+        _ => complain(err, "cannot read", Status::CommandLine),
+    }
+}
+
 /// Runs a script of events in a network of nodes, each with a house store of its own, and prints what comes of each event. All lines are read before the
 /// first event.
 ///
 /// An event that names no node or no copy, or that the clock or the memory has no room for, prints `line L: fault F` and ends the run with `Faulty`. A line of
-/// no form: `line L: not a script line` on `err`; an input that cannot be read: `cannot read`; out of memory outside an event: `no memory`.
+/// no form: `line L: not a script line` on `err`; an input that cannot be read: `cannot read`; out of memory outside an event: `no memory`. `Output` where
+/// `out` cannot be written.
 pub fn simulate_over<R: Read, O: Write, E: Write>(
     alloc: Global,
     input: &mut R,
     out: &mut O,
     err: &mut E,
-) -> Status {
-    let mut text = Vec::new(alloc);
-    if let Err(error) = input.read_to_end(&mut text) {
-        return match error.kind() {
-            ErrorKind::OutOfMemory => no_memory(err),
-            _ => complain(err, "cannot read", Status::CommandLine),
-        };
-    }
-    match read_script(alloc, &text) {
-        Ok(script) => run(alloc, &script, out, err),
-        Err(ScriptFault::Line(number)) => {
-            let _ = writeln!(err, "line {number}: not a script line");
-            Status::CommandLine
-        }
-        Err(ScriptFault::NoMemory) => no_memory(err),
+) -> Status
+    ensures { Simulates (R.remaining input.old) (O.contents out.old) (O.contents out.new) result }
+{
+    match octets_of(alloc, input) {
+        Ok(text) => simulate(alloc, &text, out, err),
+        Err(error) => unread(&error, err),
     }
 }

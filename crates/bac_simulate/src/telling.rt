@@ -1,11 +1,11 @@
 //! What came of an event, line by line.
-ghost use Rattle.std.specs.Prelude.{◌≡◌, drop, length, map, slice_get, OnOk};
+ghost use Rattle.std.specs.Prelude.{◌≡◌, false, drop, length, map, slice_get, OnOk};
 ghost use Rattle.std.specs.Io.KnownBytes.{Appends};
 ghost use Rattle.bac_simulation.specs.Notes.{note_view};
 ghost use Rattle.bac_simulation.specs.Views.{copy_view};
 ghost use Rattle.bac_network.specs.Views.{fact_view};
 ghost use Rattle.bac_facts.specs.Texts.{sent_line};
-ghost use Rattle.bac_simulate.specs.Told.{asked_text, copies_text, fact_text, facts_text, is_as_before};
+ghost use Rattle.bac_simulate.specs.Told.{asked_text, copies_text, fact_text, facts_text, is_as_before, news_text, outcome_text};
 
 use bac_facts::{
     print_asked, print_ended, print_nothing, print_performed, print_refused, print_sent,
@@ -107,7 +107,9 @@ fn is_as_before(world: &World, before: Seen) -> bool
     seen.facts == before.facts && seen.copies == before.copies
 }
 
-fn print_news<W: Write>(alloc: Global, world: &World, before: Seen, out: &mut W) -> io::Result<()> {
+fn print_news<W: Write>(alloc: Global, world: &World, before: Seen, out: &mut W) -> io::Result<()>
+    ensures { OnOk result (Appends (W.contents out.old) (W.contents out.new) (news_text false before.facts before.copies world.now.world)) }
+{
     print_facts(alloc, world.asks(), world.log(), before.facts, out)?;
     print_copies(alloc, world.copies(), before.copies, out)
 }
@@ -119,7 +121,9 @@ pub(crate) fn print_outcome<W: Write>(
     before: Seen,
     refused: Option<AskFault>,
     out: &mut W,
-) -> io::Result<()> {
+) -> io::Result<()>
+    ensures { OnOk result (Appends (W.contents out.old) (W.contents out.new) (outcome_text refused before.facts before.copies world.now.world)) }
+{
     if let Some(fault) = refused {
         return print_refused(fault.number(), out);
     }

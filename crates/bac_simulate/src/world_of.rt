@@ -1,6 +1,9 @@
 //! The network of a script, and its events.
-ghost use Rattle.std.specs.Prelude.{◌≡◌, List, IfOk};
-ghost use Rattle.bac_network.specs.Fresh.{Maker, fresh_world};
+ghost use Rattle.std.specs.Prelude.{◌≡◌, ◌<◌, IfOk};
+ghost use Rattle.bac_network.specs.Views.{event_view};
+ghost use Rattle.bac_script.specs.Views.{setting_view, step_view};
+ghost use Rattle.bac_simulate.specs.Houses.{link_at, makers_from, world_set};
+ghost use Rattle.bac_simulate.specs.Scripts.{IsModest, event_of};
 
 use bac_apdu::Limits;
 use bac_network::{Event, NewWorldFault, World};
@@ -9,9 +12,6 @@ use bac_script::{Setting, Step};
 use bac_store::{Store, house};
 use bac_value::NoMemory;
 use std::alloc::Global;
-
-/// The UDP port of the first node; each node after it has the next one.
-const PORT: u16 = 47_808;
 
 /// APDUs of 1,476 octets, and any number of segments.
 const LIMITS: Limits = Limits {
@@ -23,19 +23,28 @@ const LIMITS: Limits = Limits {
 /// The link of no node.
 const NOWHERE: [u8; 6] = [0, 0, 0, 0, 0, 0];
 
-/// The link of a node.
-fn link_of(node: u8) -> [u8; 6] {
-    let [high, low] = (PORT + u16::from(node)).to_be_bytes();
-    [127, 0, 0, 1, high, low]
+/// The link of a node: 127.0.0.1, and for the first node the UDP port 47,808 (BAC0 in hexadecimal); each node after it has the next one.
+fn link_of(node: u8) -> [u8; 6]
+    requires { node < 64 }
+    ensures { result ≡ link_at node }
+{
+    [127, 0, 0, 1, 0xBA, 0xC0 + node]
 }
 
-/// So many nodes, each with a house store of its own.
-fn nodes_of(alloc: Global, setting: &Setting) -> Result<Vec<(Config, Store)>, NoMemory> {
+/// So many nodes of those limits, each with a house store of its own.
+fn nodes_of(
+    alloc: Global,
+    setting: &Setting,
+    limits: Limits,
+) -> Result<Vec<(Config, Store)>, NoMemory>
+    requires { setting.now.nodes < 64 }
+    ensures { IfOk result (λ nodes. nodes.items ≡ makers_from limits setting.now.window 0 setting.now.nodes) }
+{
     let mut nodes = Vec::new(alloc);
     for node in 0..setting.nodes {
         let config = Config {
             link: link_of(node),
-            limits: LIMITS,
+            limits,
             window: setting.window,
             client_slots: 64,
             reply_slots: 64,
@@ -45,16 +54,26 @@ fn nodes_of(alloc: Global, setting: &Setting) -> Result<Vec<(Config, Store)>, No
     Ok(nodes)
 }
 
-/// The network that the first line of a script sets.
-pub(crate) fn world_of(alloc: Global, setting: &Setting) -> Result<World, NewWorldFault>
-    ensures { IfOk result (λ w. (makers : List Maker) × (w ≡ fresh_world setting.now.overtake makers)) }
+/// The network that the first line of a script sets: nothing but memory can be wanting.
+pub(crate) fn world_of(alloc: Global, setting: &Setting) -> Result<World, NoMemory>
+    requires { IsModest (setting_view setting.now) }
+    ensures { IfOk result (λ w. w ≡ world_set (setting_view setting.now)) }
 {
-    let nodes = nodes_of(alloc, setting)?;
-    World::new(alloc, nodes, u64::from(setting.overtake))
+    let nodes = nodes_of(alloc, setting, LIMITS)?;
+    match World::new(alloc, nodes, u64::from(setting.overtake)) {
+        Ok(world) => Ok(world),
+        Err(NewWorldFault::NoMemory) => Err(NoMemory),
+        Err(NewWorldFault::SameLink) => unreachable!(),
+        Err(NewWorldFault::BadSlots) => unreachable!(),
+        Err(NewWorldFault::BadWindow) => unreachable!(),
+        Err(NewWorldFault::BadBound) => unreachable!(),
+    }
 }
 
 /// What a line says is to happen.
-pub(crate) fn event_of(step: Step) -> Event {
+pub(crate) fn event_of(step: Step) -> Event
+    ensures { event_view result ≡ event_of (step_view step) }
+{
     match step {
         Step::Ask(ask) => Event::Ask {
             client: ask.client as usize,

@@ -1,0 +1,113 @@
+-- Events, one after the other, and what is told of them.
+use Rattle.std.proofs.Common.{◌≡◌, ◌↔◌, ℕ, ◌+◌, true, false, Bool, List, [], ◌∷◌, ◌++◌, length, map, drop, Option, Some, None, Result, Ok, Err, IsErrOf, inl, inr}
+use Rattle.std.proofs.Common.{refl, sym, ap, subst, ◌∙◌, slice_get, OnOk, IfOk}
+use Rattle.std.specs.Io.KnownBytes.{Appends}
+use Rattle.bac_requester.specs.declared.ask_fault.AskFault.{AskFault}
+use Rattle.bac_world.specs.World as world
+use Rattle.bac_world.specs.World.{WorldStep}
+use Rattle.bac_network.specs.Faults.{fault_number}
+use Rattle.bac_network.specs.Histories.{WorldView}
+use Rattle.bac_network.specs.Steps.{IsFault, NamesNoCopy, NamesNoNode, PassesClock, TakesMemory, Tells}
+use Rattle.bac_network.specs.Views.{event_view}
+use Rattle.bac_network.specs.declared.event.Event as event
+use Rattle.bac_network.specs.declared.fault.WorldFault.{WorldFault}
+use Rattle.bac_network.specs.declared.fault.WorldFault.TheVariants as fault
+use Rattle.bac_facts.specs.Texts.{fault_line}
+use Rattle.bac_text.specs.Texts.{AppendsText}
+use Rattle.bac_simulate.specs.Told.{outcome_text}
+use Rattle.bac_simulate.specs.Runs.{Happened, Stopped, IsStep, IsRun}
+use Rattle.bac_simulate.proofs.Appending.{drop_seen, joined}
+
+-- ---- one event
+
+pub happened : (line : ℕ) (e : world.Event) (told : Option AskFault) (old new : WorldView) (facts copies : ℕ) (a b : Option (List ℕ))
+    → facts ≡ length old.world.log → copies ≡ length old.world.copies → WorldStep old.overtake old.world e new.world → Tells told old.world e new.world
+    → new.overtake ≡ old.overtake → Appends a b (outcome_text told facts copies new.world) → AppendsText a b (IsStep line true e old new)
+happened line e told old new facts copies a b fs cs went tells same printed = (
+  outcome_text told facts copies new.world,
+  (
+    record {
+      told = told;
+      went = went;
+      tells = tells;
+      overtake = same;
+      is = ap (λ (n : ℕ). outcome_text told n copies new.world) fs ∙ ap (λ (n : ℕ). outcome_text told (length old.world.log) n new.world) cs;
+    },
+    printed,
+  ),
+)
+
+clash : (r : Result (Option AskFault) WorldFault) → r ≡ Err fault.NoMemory → r ≡ Err fault.NoSuchNode → ⊥
+clash r a b = cc
+
+fault_is : (f : WorldFault) (overtake : ℕ) (w : world.World) (e : world.Event) (r : Result (Option AskFault) WorldFault) → r ≡ Err f
+    → (IsErrOf r fault.NoSuchNode ↔ NamesNoNode w e) → (IsErrOf r fault.NoSuchDatagram ↔ NamesNoCopy w e) → (IsErrOf r fault.ClockEnd ↔ PassesClock w e)
+    → (IsErrOf r fault.NoMemory → TakesMemory overtake w e) → IsFault f overtake w e
+fault_is fault.NoSuchNode overtake w e r is node copy clock memory = node.0 is
+fault_is fault.NoSuchDatagram overtake w e r is node copy clock memory = copy.0 is
+fault_is fault.ClockEnd overtake w e r is node copy clock memory = clock.0 is
+fault_is fault.NoMemory overtake w e r is node copy clock memory = (
+  memory is,
+  λ n. clash r is (node.1 n),
+)
+
+abbrev pub the_err : WorldFault → Result (Option AskFault) WorldFault
+the_err f = Err f
+
+pub stopped : (line : ℕ) (e : world.Event) (f : WorldFault) (old new : WorldView) (number : ℕ) (a b : Option (List ℕ))
+    → (IsErrOf (the_err f) fault.NoSuchNode ↔ NamesNoNode old.world e)
+    → (IsErrOf (the_err f) fault.NoSuchDatagram ↔ NamesNoCopy old.world e)
+    → (IsErrOf (the_err f) fault.ClockEnd ↔ PassesClock old.world e)
+    → (IsErrOf (the_err f) fault.NoMemory → TakesMemory old.overtake old.world e)
+    → new ≡ old → number ≡ fault_number f → Appends a b (fault_line line number) → AppendsText a b (IsStep line false e old new)
+stopped line e f old new number a b node copy clock memory same is printed = (
+  fault_line line number,
+  (
+    record {
+      fault = f;
+      why = fault_is f old.overtake old.world e (the_err f) refl node copy clock memory;
+      same = same;
+      is = ap (λ (n : ℕ). fault_line line n) is;
+    },
+    printed,
+  ),
+)
+
+-- ---- one event more
+
+more_true : (line : ℕ) (e : world.Event) (events : List world.Event) (old mid new : WorldView) (first rest : List ℕ) → Happened e old mid first
+    → IsRun (line + 1) events true mid new rest → IsRun line (e ∷ events) true old new (first ++ rest)
+more_true line e events old mid new first rest h r = (mid, first, rest, h, r, refl)
+
+more_false : (line : ℕ) (e : world.Event) (events : List world.Event) (old mid new : WorldView) (first rest : List ℕ) → Happened e old mid first
+    → IsRun (line + 1) events false mid new rest → IsRun line (e ∷ events) false old new (first ++ rest)
+more_false line e events old mid new first rest h r = inr (mid, first, rest, h, r, refl)
+
+more : (all : Bool) (line : ℕ) (e : world.Event) (events : List world.Event) (old mid new : WorldView) (first rest : List ℕ) → Happened e old mid first
+    → IsRun (line + 1) events all mid new rest → IsRun line (e ∷ events) all old new (first ++ rest)
+more true line e events old mid new first rest h r = more_true line e events old mid new first rest h r
+more false line e events old mid new first rest h r = more_false line e events old mid new first rest h r
+
+pub goes_on : (all : Bool) (line : ℕ) (events : List event.Event) (i : ℕ) (e : event.Event) → slice_get events i ≡ Some e
+    → (old mid new : WorldView) (a b c : Option (List ℕ)) → (went : Bool) → went ≡ true → AppendsText a b (IsStep line went (event_view e) old mid)
+    → (next : ℕ) → next ≡ line + 1 → AppendsText b c (IsRun next (drop (i + 1) (map event_view events)) all mid new)
+    → AppendsText a c (IsRun line (drop i (map event_view events)) all old new)
+goes_on all line events i e at old mid new a b c went is stepped next on ran =
+    let step = subst (λ (w : Bool). AppendsText a b (IsStep line w (event_view e) old mid)) is stepped in
+    let rest = subst (λ (n : ℕ). AppendsText b c (IsRun n (drop (i + 1) (map event_view events)) all mid new)) on ran in (
+      step.0 ++ rest.0,
+      (
+        subst (λ (l : List world.Event). IsRun line l all old new (step.0 ++ rest.0)) (sym (drop_seen event_view events i e at))
+            (more all line (event_view e) (drop (i + 1) (map event_view events)) old mid new step.0 rest.0 step.1.0 rest.1.0),
+        joined a b c step.0 rest.0 step.1.1 rest.1.1,
+      ),
+    )
+
+pub stops : (line : ℕ) (events : List event.Event) (i : ℕ) (e : event.Event) → slice_get events i ≡ Some e → (old new : WorldView) (a b : Option (List ℕ))
+    → (went : Bool) → went ≡ false → AppendsText a b (IsStep line went (event_view e) old new)
+    → AppendsText a b (IsRun line (drop i (map event_view events)) false old new)
+stops line events i e at old new a b went is stepped =
+    let step = subst (λ (w : Bool). AppendsText a b (IsStep line w (event_view e) old new)) is stepped in (
+      step.0,
+      (subst (λ (l : List world.Event). IsRun line l false old new step.0) (sym (drop_seen event_view events i e at)) (inl step.1.0), step.1.1),
+    )

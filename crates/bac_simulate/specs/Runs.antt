@@ -1,0 +1,98 @@
+-- What is printed of a script's events, one after the other, and the status.
+use Rattle.std.specs.Prelude.{◌≡◌, ◌⊎◌, ℕ, ◌+◌, Bool, true, false, List, [], ◌∷◌, ◌++◌, length, ⊤, Option, Some, None, Result, Ok, Err}
+use Rattle.std.specs.Io.KnownBytes.{Keeps}
+use Rattle.bac_requester.specs.declared.ask_fault.AskFault.{AskFault}
+use Rattle.bac_world.specs.World.{Event, WorldStep}
+use Rattle.bac_network.specs.Faults.{fault_number}
+use Rattle.bac_network.specs.Histories.{WorldView}
+use Rattle.bac_network.specs.Steps.{IsFault, Tells}
+use Rattle.bac_network.specs.declared.fault.WorldFault.{WorldFault}
+use Rattle.bac_facts.specs.Texts.{fault_line}
+use Rattle.bac_text.specs.Lines.{lines_of}
+use Rattle.bac_text.specs.Statuses.{IsFailure}
+use Rattle.bac_text.specs.Texts.{AppendsText}
+use Rattle.bac_text.specs.declared.status.Status.{Status}
+use Rattle.bac_text.specs.declared.status.Status.TheVariants as status
+use Rattle.bac_simulate.specs.Houses.{world_set}
+use Rattle.bac_simulate.specs.Scripts.{Script, script_of}
+use Rattle.bac_simulate.specs.Told.{outcome_text}
+use Rattle.bac_simulate.specs.declared.script.ScriptFault.{ScriptFault}
+use Rattle.bac_simulate.specs.declared.script.ScriptFault.TheVariants as fault
+
+-- ---- events
+
+-- an event happened, and this is told of it
+pub record Happened (event : Event) (old new : WorldView) (text : List ℕ) : Type 0 where
+  pub told : Option AskFault
+  pub went : WorldStep old.overtake old.world event new.world
+  pub tells : Tells told old.world event new.world
+  pub overtake : new.overtake ≡ old.overtake
+  pub is : text ≡ outcome_text told (length old.world.log) (length old.world.copies) new.world
+
+-- the event of that line did not happen, nothing changed, and the number of the fault is told
+pub record Stopped (line : ℕ) (event : Event) (old new : WorldView) (text : List ℕ) : Type 0 where
+  pub fault : WorldFault
+  pub why : IsFault fault old.overtake old.world event
+  pub same : new ≡ old
+  pub is : text ≡ fault_line line (fault_number fault)
+
+abbrev pub IsStep : (line : ℕ) → (happened : Bool) → Event → (old new : WorldView) → (text : List ℕ) → Type 0
+IsStep line true event old new text = Happened event old new text
+IsStep line false event old new text = Stopped line event old new text
+
+-- the events, the first of which stands in that line, happened one after the other, all of them or up to the first that did not; and that was told
+abbrev pub IsRun : (line : ℕ) → List Event → (all : Bool) → (old new : WorldView) → (text : List ℕ) → Type 0
+IsRun line [] true old new text = (new ≡ old) × (text ≡ [])
+IsRun line [] false old new text = ⊥
+IsRun line (e ∷ events) true old new text = (mid : WorldView) × (first : List ℕ) × (rest : List ℕ) × Happened e old mid first
+    × IsRun (line + 1) events true mid new rest × (text ≡ first ++ rest)
+IsRun line (e ∷ events) false old new text = Stopped line e old new text
+    ⊎ ((mid : WorldView) × (first : List ℕ) × (rest : List ℕ) × Happened e old mid first
+    × IsRun (line + 1) events false mid new rest × (text ≡ first ++ rest))
+
+-- ---- scripts
+
+-- the events of a script happened in the network that it sets, from its second line on, and that was printed
+abbrev pub Ran : Script → (all : Bool) → (old new : Option (List ℕ)) → Type 0
+Ran s all old new = (last : WorldView) × AppendsText old new (IsRun 2 s.events all (world_set s.setting) last)
+
+abbrev pub status_of : (all : Bool) → Status
+status_of true = status.Done
+status_of false = status.Faulty
+
+-- of a run that was printed so far as the output took it, and of the output's flush
+abbrev pub IsEnd : {A B E : Type 0} → Result Bool E → Result A B → Status → Type 0
+IsEnd (Ok all) (Ok flushed) end = end ≡ status_of all
+IsEnd (Ok all) (Err e) end = IsFailure end
+IsEnd (Err e) flushed end = IsFailure end
+
+-- of octets that are no script, and of want of memory
+abbrev pub status_for : ScriptFault → Status
+status_for (fault.Line number) = status.CommandLine
+status_for fault.NoMemory = status.Memory
+
+-- what was printed of the script of some octets, by the status: a script with a bad line prints nothing
+abbrev pub Reports : Result Script ℕ → (old new : Option (List ℕ)) → Status → Type 0
+Reports (Ok s) old new status.Done = Ran s true old new
+Reports (Ok s) old new status.Faulty = Ran s false old new
+Reports (Ok s) old new status.CommandLine = ⊥
+Reports (Ok s) old new status.Output = ⊤
+Reports (Ok s) old new status.Memory = ⊤
+Reports (Err bad) old new status.Done = ⊥
+Reports (Err bad) old new status.Faulty = ⊥
+Reports (Err bad) old new status.CommandLine = Keeps old new
+Reports (Err bad) old new status.Output = ⊥
+Reports (Err bad) old new status.Memory = Keeps old new
+
+-- the input could not be read
+abbrev pub IsUnread : Status → Type 0
+IsUnread status.Done = ⊥
+IsUnread status.Faulty = ⊥
+IsUnread status.CommandLine = ⊤
+IsUnread status.Output = ⊥
+IsUnread status.Memory = ⊤
+
+-- where the octets of the input are known: what its script reports, or that it could not be read, and nothing was printed
+abbrev pub Simulates : (input : Option (List ℕ)) → (old new : Option (List ℕ)) → Status → Type 0
+Simulates None old new end = ⊤
+Simulates (Some text) old new end = Reports (script_of (lines_of text)) old new end ⊎ (Keeps old new × IsUnread end)
