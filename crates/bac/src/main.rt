@@ -1,6 +1,9 @@
 //! `bac`: BACnet confirmed services on the command line.
 #![tactic(auto)]
 
+ghost use Rattle.std.specs.Prelude.{◌≡◌};
+ghost use Rattle.bac_link.specs.Udp.{bound_port, udp_address};
+
 mod command;
 mod online;
 mod scripts;
@@ -42,9 +45,11 @@ impl<'a, R: Net + std::time::Clock> Machine for Sockets<'a, R> {
 
     type Timer = MonotonicClock<'a, R>;
 
+    ghost is_bound = { λ port l address. (bound_port l ≡ port) × (udp_address l ≡ address) };
+
     fn bind(&self, port: u16) -> Option<(UdpLink, [u8; 6])> {
         let link = UdpLink::bind(self.runtime, port).ok()?;
-        let address = link.link()?;
+        let address = link.address();
         Some((link, address))
     }
 

@@ -1,4 +1,9 @@
 //! Nodes on links of the machine: what `serve`, `ask` and `pair` do.
+ghost use Rattle.std.specs.Prelude.{◌≡◌, ℕ, map, IfSome};
+ghost use Rattle.bac_protocol.specs.Service.{Octets};
+ghost use Rattle.bac_online.specs.Questions.{ReadsQuestion, local};
+ghost use Rattle.bac.specs.Online.{IsAsked, IsPair, IsServed, OnPort};
+
 use bac_link::{Clock, Link};
 use bac_online::{clock_fault, link_fault, local, read_question};
 use bac_run::Question;
@@ -13,8 +18,11 @@ pub(crate) trait Machine {
 
     type Timer: Clock + Drop;
 
+    ghost is_bound: { (port : ℕ) → Self.Link → (address : Octets) → Type 0 };
+
     /// A link at that port of 127.0.0.1, and its address; port 0 is any free one. None where the system refuses it.
-    fn bind(&self, port: u16) -> Option<(Self::Link, [u8; 6])>;
+    fn bind(&self, port: u16) -> Option<(Self::Link, [u8; 6])>
+        ensures { IfSome result (λ b. Self.is_bound port b.0 b.1) };
 
     /// A clock; None where it can't be read.
     fn timer(&self) -> Option<Self::Timer>;
@@ -28,7 +36,9 @@ pub(crate) fn serve<M: Machine, O: Write, E: Write>(
     turns: u64,
     out: &mut O,
     err: &mut E,
-) -> Status {
+) -> Status
+    ensures { IsServed (OnPort M.is_bound M.Link.failures M.Link.calls) result port turns (O.contents out.old) (O.contents out.new) }
+{
     let Some(bound) = machine.bind(port) else {
         return link_fault(err);
     };
@@ -41,7 +51,9 @@ pub(crate) fn serve<M: Machine, O: Write, E: Write>(
 }
 
 /// The question for a port that some words are.
-fn question_in(alloc: Global, port: u16, words: &[&str]) -> Result<Question, FormFault> {
+fn question_in(alloc: Global, port: u16, words: &[&str]) -> Result<Question, FormFault>
+    ensures { ReadsQuestion (local port) (map (λ w. w.now) words.now) result }
+{
     let mut octets = Vec::new(alloc);
     for word in words {
         if octets.push(word.as_bytes()).is_err() {
@@ -59,7 +71,9 @@ pub(crate) fn ask<M: Machine, O: Write, E: Write>(
     words: &[&str],
     out: &mut O,
     err: &mut E,
-) -> Status {
+) -> Status
+    ensures { IsAsked (OnPort M.is_bound M.Link.failures M.Link.calls) result port (map (λ w. w.now) words.now) (O.contents out.old) (O.contents out.new) }
+{
     let question = match question_in(alloc, port, words) {
         Ok(question) => question,
         Err(FormFault::NoForm) => return complain(err, "bad words", Status::CommandLine),
@@ -82,7 +96,9 @@ pub(crate) fn pair<M: Machine, O: Write, E: Write>(
     machine: &M,
     out: &mut O,
     err: &mut E,
-) -> Status {
+) -> Status
+    ensures { IsPair (OnPort M.is_bound M.Link.failures M.Link.calls) result (O.contents out.old) (O.contents out.new) }
+{
     let Some(bound) = machine.bind(0) else {
         return link_fault(err);
     };

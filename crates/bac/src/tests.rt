@@ -324,6 +324,8 @@ impl Machine for Refusing {
 
     type Timer = Still;
 
+    ghost is_bound = { λ _ _ _. ⊥ };
+
     fn bind(&self, _port: u16) -> Option<(UdpLink, [u8; 6])> {
         None
     }

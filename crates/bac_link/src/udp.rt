@@ -1,6 +1,7 @@
 //! A link over UDP (clause J.1).
-ghost use Rattle.std.specs.Prelude.{◌≡◌, ℕ, None};
+ghost use Rattle.std.specs.Prelude.{◌≡◌, ℕ, None, IfOk};
 ghost use Rattle.bac_link.specs.Calls.{one_more};
+ghost use Rattle.bac_link.specs.Udp.{bound_port, udp_address};
 
 use crate::link::{Link, LinkFault};
 use std::io;
@@ -15,6 +16,10 @@ const WAIT: u64 = 100;
 #[derive(Drop)]
 pub struct UdpLink {
     socket: UdpSocket,
+    /// The port that was asked for.
+    port: u16,
+    /// The address that the system tells.
+    address: [u8; 6],
     failures: u64,
 }
 
@@ -36,20 +41,35 @@ fn address_of(link: [u8; 6]) -> SocketAddr {
 }
 
 impl UdpLink {
-    /// A link at that port of 127.0.0.1; port 0 is any free one. An Err where the system refuses it.
-    pub fn bind<R: Net>(net: &R, port: u16) -> io::Result<UdpLink> {
+    /// A link at that port of 127.0.0.1; port 0 is any free one. An Err where the system refuses it, or tells no IPv4 address of it.
+    pub fn bind<R: Net>(net: &R, port: u16) -> io::Result<UdpLink>
+        ensures { IfOk result (λ l. bound_port l ≡ port) }
+    {
         let socket = UdpSocket::bind(net, SocketAddr::from((Ipv4Addr::LOCALHOST, port)))?;
         socket.set_read_timeout(Some(Duration::from_millis(WAIT)))?;
+        let Some(address) = link_of(socket.local_addr()?) else {
+            return Err(io::Error::from(ErrorKind::AddrNotAvailable));
+        };
         Ok(UdpLink {
             socket,
+            port,
+            address,
             failures: 0,
         })
     }
 
-    /// The address of this link; None where the system doesn't tell.
-    pub fn link(&self) -> Option<[u8; 6]> {
-        let address = self.socket.local_addr().ok()?;
-        link_of(address)
+    /// The port that it was bound to; 0 was any free one.
+    pub fn port(&self) -> u16
+        ensures { result ≡ bound_port self.now }
+    {
+        self.port
+    }
+
+    /// The address of this link.
+    pub fn address(&self) -> [u8; 6]
+        ensures { result ≡ udp_address self.now }
+    {
+        self.address
     }
 
     fn failed(&mut self) -> LinkFault

@@ -1,0 +1,90 @@
+//! Links in memory, and the clock beside them.
+ghost use Rattle.std.specs.Prelude.{◌≡◌, ◌≤◌, length, IfOk, IfSome, None};
+ghost use Rattle.bac_link.specs.Calls.{one_more};
+
+use crate::medium::Medium;
+use bac_link::{Clock, Link, LinkFault};
+use std::cell::{Cell, RefCell};
+
+/// A link of a medium. The clock goes on by 100 milliseconds at each call that receives nothing.
+#[derive(Drop)]
+pub(crate) struct MemoryLink<'a> {
+    pub(crate) medium: &'a RefCell<Medium>,
+    pub(crate) moment: &'a Cell<u64>,
+    pub(crate) link: [u8; 6],
+    pub(crate) failures: u64,
+}
+
+impl MemoryLink<'_> {
+    fn failed(&mut self) -> LinkFault
+        ensures { self.new.failures ≡ one_more self.old.failures }
+    {
+        self.failures = self.failures.saturating_add(1);
+        LinkFault
+    }
+
+    fn hand_over(&self, to: [u8; 6], octets: &[u8]) -> Option<()> {
+        match self.medium.try_borrow_mut() {
+            Ok(mut medium) => medium.send(self.link, to, octets),
+            Err(_) => None,
+        }
+    }
+
+    fn take(&self, buffer: &mut [u8]) -> Result<Option<([u8; 6], usize)>, LinkFault>
+        ensures { IfOk result (λ r. IfSome r (λ d. d.1 ≤ length buffer.new)) }
+    {
+        let Ok(mut medium) = self.medium.try_borrow_mut() else {
+            return Err(LinkFault);
+        };
+        if medium.fails_to_receive() {
+            return Err(LinkFault);
+        }
+        Ok(medium.receive(self.link, buffer))
+    }
+
+    /// Time passes where nothing came.
+    fn wait(&self, received: &Option<([u8; 6], usize)>) {
+        if received.is_none() {
+            self.moment.set(self.moment.get().saturating_add(100));
+        }
+    }
+}
+
+impl Link for MemoryLink<'_> {
+    ghost failures = { λ l. l.failures };
+
+    ghost calls = { λ _. None };
+
+    fn failures(&self) -> u64 {
+        self.failures
+    }
+
+    fn send(&mut self, to: [u8; 6], octets: &[u8]) -> Result<(), LinkFault> {
+        match self.hand_over(to, octets) {
+            Some(()) => Ok(()),
+            None => Err(self.failed()),
+        }
+    }
+
+    fn receive(&mut self, buffer: &mut [u8]) -> Result<Option<([u8; 6], usize)>, LinkFault> {
+        match self.take(buffer) {
+            Ok(received) => {
+                self.wait(&received);
+                Ok(received)
+            }
+            Err(_) => Err(self.failed()),
+        }
+    }
+}
+
+/// A clock that stands at that moment until a link moves it.
+#[derive(Clone, Copy)]
+pub(crate) struct MemoryClock<'a> {
+    pub(crate) moment: &'a Cell<u64>,
+}
+
+impl Clock for MemoryClock<'_> {
+    fn now(&mut self) -> u64 {
+        self.moment.get()
+    }
+}

@@ -1,0 +1,111 @@
+//! Two nodes in one process.
+use super::*;
+
+/// How both asks of a pair end, how many calls failed, and the file of the node that was asked.
+#[derive(Drop)]
+pub(super) struct Story {
+    pub(super) first: String,
+    pub(super) second: String,
+    pub(super) failures: u64,
+    pub(super) file: String,
+}
+
+fn told_number(alloc: Global, word: &str, number: u8) -> Result<String, Fail> {
+    Ok(format!(in alloc; "{word} {number}")?)
+}
+
+/// What is told of an ask: its end, or the number of the fault.
+fn told_end(alloc: Global, end: Result<AskEnd, RunFault>) -> Result<String, Fail> {
+    match end {
+        Ok(AskEnd::Ended(ending)) => told(alloc, &ending),
+        Ok(AskEnd::Refused(fault)) => told_number(alloc, "refused", fault.number()),
+        Ok(AskEnd::NoEnding) => Ok(String::from_str(alloc, "no ending")?),
+        Err(fault) => told_number(alloc, "fault", fault.number()),
+    }
+}
+
+/// A node asks another one, for at most so many turns.
+fn ask_other<'a>(
+    alloc: Global,
+    client: &mut Station<'a>,
+    server: &mut Station<'a>,
+    clock: &mut MemoryClock<'_>,
+    question: &Question,
+    turns: u64,
+) -> Result<AskEnd, RunFault> {
+    pair_over(
+        alloc,
+        &mut client.node,
+        &mut client.link,
+        &mut server.node,
+        &mut server.link,
+        clock,
+        question,
+        turns,
+    )
+}
+
+/// An append and then a read, each for at most so many turns, over a medium of which a call may fail.
+pub(super) fn run_pair(alloc: Global, failing: Failing, turns: u64) -> Result<Story, Fail> {
+    let medium = RefCell::new(Medium::new(alloc, failing));
+    let moment = Cell::new(0);
+    let mut clock = MemoryClock { moment: &moment };
+    let mut client = Station::new(alloc, &medium, &moment, CLIENT)?;
+    let mut server = Station::new(alloc, &medium, &moment, SERVER)?;
+    let appending = append(alloc)?;
+    let appended = ask_other(alloc, &mut client, &mut server, &mut clock, &appending, turns);
+    let reading = read(alloc)?;
+    let was_read = ask_other(alloc, &mut client, &mut server, &mut clock, &reading, turns);
+    let failures = client.link.failures().saturating_add(server.link.failures());
+    Ok(Story {
+        first: told_end(alloc, appended)?,
+        second: told_end(alloc, was_read)?,
+        failures,
+        file: file_of(alloc, &server.node)?,
+    })
+}
+
+/// How the asks end where each has at most so many turns.
+fn ends(rt: &impl Abort, alloc: Global, turns: u64, first: &str, second: &str) -> Result<(), Fail> {
+    let story = run_pair(alloc, Failing::NOTHING, turns)?;
+    assert_eq!(rt; story.first.as_str(), first, "{turns}");
+    assert_eq!(rt; story.second.as_str(), second, "{turns}");
+    assert_eq!(rt; story.failures, 0);
+    Ok(())
+}
+
+#[test]
+fn a_pair_appends_and_reads(rt: HostRuntime) -> Result<(), Fail> {
+    ends(&rt, rt.alloc(), 0, "no ending", "no ending")?;
+    // the answer to the append comes in the turn of the read
+    ends(&rt, rt.alloc(), 1, "no ending", "no ending")?;
+    ends(&rt, rt.alloc(), 2, APPENDED, WAS_READ)?;
+    ends(&rt, rt.alloc(), 10_000, APPENDED, WAS_READ)
+}
+
+/// A node asks, and nobody answers. Answers how the ask ended, and the moment.
+fn ask_nobody(alloc: Global) -> Result<(String, u64), Fail> {
+    let medium = RefCell::new(Medium::new(alloc, Failing::NOTHING));
+    let moment = Cell::new(0);
+    let mut clock = MemoryClock { moment: &moment };
+    let mut client = Station::new(alloc, &medium, &moment, CLIENT)?;
+    let question = read(alloc)?;
+    let end = ask_over(
+        alloc,
+        &mut client.node,
+        &mut client.link,
+        &mut clock,
+        &question,
+        100_000,
+    );
+    Ok((told_end(alloc, end)?, moment.get()))
+}
+
+#[test]
+fn asks_and_gets_no_answer(rt: HostRuntime) -> Result<(), Fail> {
+    let (how, moment) = ask_nobody(rt.alloc())?;
+    assert_eq!(&rt; how.as_str(), "timed-out");
+    // repeats at 3, 6 and 9 seconds, and the end at 12, in a turn that waits for 100 milliseconds
+    assert_eq!(&rt; moment, 12_100);
+    Ok(())
+}

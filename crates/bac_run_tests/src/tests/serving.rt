@@ -1,0 +1,58 @@
+//! A node that serves.
+use super::*;
+
+/// How a node served: how many requests were performed, or the number of the fault; how many calls of its link failed; and whether the node is still as it was made.
+type Served = (Option<u64>, Option<u8>, u64, bool);
+
+fn serve(
+    alloc: Global,
+    server: &mut Station<'_>,
+    moment: &Cell<u64>,
+    turns: u64,
+) -> Result<u64, RunFault> {
+    let mut clock = MemoryClock { moment };
+    serve_over(alloc, &mut server.node, &mut server.link, &mut clock, turns)
+}
+
+/// Whether a node is as it was made.
+fn is_fresh(alloc: Global, station: &Station<'_>) -> Result<bool, Fail> {
+    let fresh = house_node(alloc, SERVER)?;
+    Ok(station.node.same(&fresh))
+}
+
+/// Two turns with one datagram, where a call may fail.
+fn serve_one(alloc: Global, failing: Failing) -> Result<Served, Fail> {
+    let medium = RefCell::new(Medium::new(alloc, failing));
+    let moment = Cell::new(0);
+    let mut client = Station::new(alloc, &medium, &moment, CLIENT)?;
+    let mut server = Station::new(alloc, &medium, &moment, SERVER)?;
+    client.send(alloc, SERVER, READ)?;
+    let served = serve(alloc, &mut server, &moment, 2);
+    let failures = server.link.failures();
+    let fresh = is_fresh(alloc, &server)?;
+    Ok(match served {
+        Ok(effects) => (Some(effects), None, failures, fresh),
+        Err(fault) => (None, Some(fault.number()), failures, fresh),
+    })
+}
+
+fn serves(rt: &impl Abort, alloc: Global, failing: Failing, want: Served) -> Result<(), Fail> {
+    let served = serve_one(alloc, failing)?;
+    assert!(rt; served == want, "{} {}", failing.send, failing.receive);
+    Ok(())
+}
+
+#[test]
+fn serves_one_datagram(rt: HostRuntime) -> Result<(), Fail> {
+    let performed = (Some(1), None, 0, false);
+    serves(&rt, rt.alloc(), Failing::NOTHING, performed)?;
+    // the answer is lost
+    let unanswered = (Some(1), None, 1, false);
+    serves(&rt, rt.alloc(), Failing::to_send(2), unanswered)?;
+    // the node is as before the turn that could not receive
+    let stopped = (None, Some(1), 1, true);
+    serves(&rt, rt.alloc(), Failing::to_receive(1), stopped)?;
+    let stopped_later = (None, Some(1), 1, false);
+    serves(&rt, rt.alloc(), Failing::to_receive(2), stopped_later)?;
+    serves(&rt, rt.alloc(), Failing::to_receive(3), performed)
+}

@@ -1,0 +1,112 @@
+"""A network on this machine that drops, repeats, delays and reorders UDP datagrams, by a seed."""
+
+import heapq
+import random
+import selectors
+import socket
+import threading
+import time
+from contextlib import contextmanager
+from itertools import count
+
+from processes import LOOPBACK
+
+DROPPED = 0.15
+REPEATED = 0.15
+# how likely a copy is delayed by at most so many seconds; all are younger than the 5 seconds in which a copy can still be delivered
+DELAYS = [(0.5, 0.005), (0.8, 0.1), (0.95, 0.8), (1.0, 4.0)]
+
+
+class Route:
+    """The way between one client and a server: a socket that the client sends to, and one by which the server sees it."""
+
+    def __init__(self, server, draws):
+        self.server, self.client, self.draws = (LOOPBACK, server), None, draws
+        self.front, self.back = bound_socket(), bound_socket()
+
+
+def bound_socket():
+    opened = socket.socket(socket.AF_INET, socket.SOCK_DGRAM)
+    opened.bind((LOOPBACK, 0))
+    opened.setblocking(False)
+    return opened
+
+
+class Network:
+    """Routes, and the copies that are under way on them. What becomes of a route's datagrams depends on the seed and the route's number alone."""
+
+    def __init__(self, seed):
+        self.seed, self.order, self.under_way = seed, count(), []
+        self.selector, self.lock, self.ended = selectors.DefaultSelector(), threading.Lock(), False
+        self.counts = {'came': 0, 'dropped': 0, 'repeated': 0, 'late': 0, 'overtaken': 0}
+        self.thread = threading.Thread(target=self.carry)
+
+    def __enter__(self):
+        self.thread.start()
+        return self
+
+    def __exit__(self, *_):
+        self.ended = True
+        self.thread.join()
+        for key in list(self.selector.get_map().values()):
+            key.fileobj.close()
+        self.selector.close()
+
+    @contextmanager
+    def route(self, server, number):
+        """The port of a way to a server. Copies that are under way may still come after its end: its sockets are closed with the network."""
+        made = Route(server, random.Random(f'{self.seed} {number}'))
+        with self.lock:
+            self.selector.register(made.front, selectors.EVENT_READ, (made, made.front))
+            self.selector.register(made.back, selectors.EVENT_READ, (made, made.back))
+        yield made.front.getsockname()[1]
+
+    def wait_until_empty(self):
+        """Waits until all copies that are under way now have come."""
+        time.sleep(DELAYS[-1][1] + 0.5)
+
+    def carry(self):
+        while not self.ended:
+            with self.lock:
+                ready = self.selector.select(0.002)
+            for key, _ in ready:
+                self.take(*key.data)
+            self.hand_over(time.monotonic())
+            time.sleep(0.0005)
+
+    def take(self, route, taken):
+        """A datagram has come to a socket of a route: its copies are under way to the other end."""
+        octets, sender = taken.recvfrom(65535)
+        if taken is route.front:
+            route.client = sender
+        self.counts['came'] += 1
+        if route.draws.random() < DROPPED:
+            self.counts['dropped'] += 1
+            return
+        self.start(route, taken is route.front, octets)
+        while route.draws.random() < REPEATED:
+            self.counts['repeated'] += 1
+            self.start(route, taken is route.front, octets)
+
+    def start(self, route, is_request, octets):
+        draw = route.draws.random()
+        most = next(seconds for share, seconds in DELAYS if draw < share)
+        delay = route.draws.random() * most
+        self.counts['late'] += delay > 0.5
+        due = time.monotonic() + delay
+        number = next(self.order)
+        self.counts['overtaken'] += any(other[0] > due and other[2:4] == (route, is_request) for other in self.under_way)
+        heapq.heappush(self.under_way, (due, number, route, is_request, octets))
+
+    def hand_over(self, now):
+        """Sends the copies that are due."""
+        while self.under_way and self.under_way[0][0] <= now:
+            _, _, route, is_request, octets = heapq.heappop(self.under_way)
+            if is_request:
+                route.back.sendto(octets, route.server)
+            else:
+                route.front.sendto(octets, route.client)
+
+    def summary(self):
+        words = {'came': 'datagrams came', 'late': 'copies later than 0.5 s', 'overtaken': 'copies overtook an earlier one'}
+        return ', '.join(f'{number} {words.get(name, name)}' for name, number in self.counts.items())
