@@ -1,4 +1,5 @@
 mod Appending
+mod HexDigits
 mod Moments
 pub mod LineFronts
 mod OneVerdict

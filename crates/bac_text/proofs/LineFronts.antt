@@ -6,7 +6,9 @@ use Rattle.std.proofs.KnownBytes.{starts_with_rest}
 use Rattle.std.proofs.lemmas.Bool.Decides.{nat_tests}
 use Rattle.std.proofs.lemmas.Bool.{false≢true}
 use Rattle.std.proofs.lemmas.List.Recursion.{is_position_or_len}
+use Rattle.std.proofs.lemmas.List.Sums.{position_or_len_is}
 use Rattle.std.specs.List.{position, position_or_len}
+use Rattle.memchr.specs.Find.{IsFirstByte}
 use Rattle.std.specs.Io.{StartsWith}
 use Rattle.std.specs.Io.BufRead.{drop_through, DropsConsumable}
 use Rattle.std.specs.Io.KnownBytes.{Keeps}
@@ -251,6 +253,26 @@ or_none (Some n) = n
 abbrev is_there : Option ℕ → Bool
 is_there None = false
 is_there (Some n) = true
+
+not_true : (b : Bool) → ¬ (b ≡ true) → b ≡ false
+not_true true h = absurd (h refl)
+not_true false h = refl
+
+abbrev place_if : ℕ → ℕ → Option ℕ
+place_if len place = cond (nat_lt place len) (Some place) None
+
+-- a search's answer is the place of the first that passes
+pub first_place : (test : ℕ → Bool) (xs : List ℕ) (r : Option ℕ) → IsFirstByte test xs r → r ≡ position test xs
+first_place test xs None h =
+    let at_end : position_or_len test xs ≡ length xs =
+    position_or_len_is test xs (length xs) 0 (omega arith) (λ k lt. not_true _ (h k (omega arith) lt)) (λ lt. absurd (omega (arith, lt))) in
+    let out : nat_lt (length xs) (length xs) ≡ false = grind (arith, nat_tests) in
+    sym (ap (place_if (length xs)) at_end ∙ ap (λ (b : Bool). cond b (Some (length xs)) None) out)
+first_place test xs (Some k) h =
+    let here : position_or_len test xs ≡ k =
+    position_or_len_is test xs k 0 (omega (arith, h.0.high)) (λ j lt. not_true _ (h.0.before j (omega arith) lt)) (λ lt. h.1) in
+    let inside : nat_lt k (length xs) ≡ true = grind (arith, nat_tests, h.0.high) in
+    sym (ap (place_if (length xs)) here ∙ ap (λ (b : Bool). cond b (Some k) None) inside)
 
 pub len_some : (xs : List ℕ) (k : ℕ) → position is_line_end xs ≡ Some k → k ≡ length (line_in xs)
 len_some xs k e = go (nat_lt (position_or_len is_line_end xs) (length xs)) e where

@@ -49,11 +49,12 @@ parts_at line = do
     moment ← moment_at number.0
     Some (moment, to.1)) else None
 
+abbrev pub octets_or_none : Result (List ℕ) FromHexError → Option (List ℕ)
+octets_or_none (Ok octets) = Some octets
+octets_or_none (Err e) = None
+
 abbrev pub decoded_at : List ℕ → Option (List ℕ)
-decoded_at text = kept (decode_of text) where
-  kept : Result (List ℕ) FromHexError → Option (List ℕ)
-  kept (Ok octets) = Some octets
-  kept (Err e) = None
+decoded_at text = octets_or_none (decode_of text)
 
 -- the moment and the datagram of a line
 unfoldable pub capture_at : List ℕ → Option (ℕ × List ℕ)

@@ -2,6 +2,7 @@ pub mod Capture
 pub mod Checked
 pub mod Checking
 pub mod Decoded
+pub mod Digits
 pub mod Faults
 pub mod Layers
 pub mod Lines

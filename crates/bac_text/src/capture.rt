@@ -5,7 +5,7 @@ ghost use Rattle.std.specs.List.{list_all, position};
 ghost use Rattle.std.specs.Char.{is_ascii_digit, is_ascii_hexdigit};
 ghost use Rattle.bac_text.specs.Capture.{is_space, word_at, is_link, moment_at, parts_at, capture_at};
 
-use hex::FromHexError;
+use crate::digits::read_digits;
 use std::alloc::{AllocError, Global};
 
 /// A datagram as it was captured.
@@ -79,18 +79,29 @@ fn parts_in(line: &[u8]) -> Option<(u64, &[u8])>
     }
 }
 
-/// Reads a line `moment from to hex`, without its end: a decimal moment, two addresses of 12 hexadecimal digits and a datagram
-/// in hexadecimal, separated by single spaces. None where the line is none such, and an Err only where memory ran out.
+/// Reads a line as `read_capture_line` does: answers its moment, and puts its datagram in the place of what `datagram` has.
 #[tactic(auto, unfolding(crate::specs::Capture::capture_at))]
-pub fn read_capture_line(alloc: Global, line: &[u8]) -> Result<Option<CaptureLine>, AllocError>
-    ensures { IfOk result (λ c. option_map (λ l. (l.moment, l.datagram.items)) c ≡ capture_at line.now) }
+pub(crate) fn read_into(line: &[u8], datagram: &mut Vec<u8>) -> Result<Option<u64>, AllocError>
+    ensures { IfOk result (λ m. option_map (λ moment. (moment, datagram.new.items)) m ≡ capture_at line.now) }
 {
     let Some((moment, text)) = parts_in(line) else {
         return Ok(None);
     };
-    match hex::decode(alloc, text) {
-        Ok(datagram) => Ok(Some(CaptureLine { moment, datagram })),
-        Err(FromHexError::OutOfMemory) => Err(AllocError),
-        Err(_) => Ok(None),
+    if read_digits(text, datagram)? {
+        Ok(Some(moment))
+    } else {
+        Ok(None)
+    }
+}
+
+/// Reads a line `moment from to hex`, without its end: a decimal moment, two addresses of 12 hexadecimal digits and a datagram
+/// in hexadecimal, separated by single spaces. None where the line is none such, and an Err only where memory ran out.
+pub fn read_capture_line(alloc: Global, line: &[u8]) -> Result<Option<CaptureLine>, AllocError>
+    ensures { IfOk result (λ c. option_map (λ l. (l.moment, l.datagram.items)) c ≡ capture_at line.now) }
+{
+    let mut datagram = Vec::new(alloc);
+    match read_into(line, &mut datagram)? {
+        Some(moment) => Ok(Some(CaptureLine { moment, datagram })),
+        None => Ok(None),
     }
 }

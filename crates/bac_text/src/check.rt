@@ -8,7 +8,7 @@ ghost use Rattle.bac_text.specs.Lines.{short_capture_at, IsJudged};
 ghost use Rattle.bac_text.specs.Statuses.{IsStop};
 ghost use Rattle.bac_text.specs.Stops.{IsStopBy, IsStopFor};
 
-use crate::capture::read_capture_line;
+use crate::capture::read_into;
 use crate::fault::LineFault;
 use crate::layers::check_datagram;
 use crate::lines::{LINE_LIMIT, next_line};
@@ -28,21 +28,26 @@ enum CheckError {
 }
 
 /// What is wrong with a line, if something is, where the greatest moment so far is `latest`; and the greatest moment from here on.
-fn fault_in(alloc: Global, line: &[u8], latest: u64) -> Result<(Option<LineFault>, u64), AllocError>
+/// Its datagram stands in `datagram`, whose memory serves each line.
+fn fault_in(
+    line: &[u8],
+    latest: u64,
+    datagram: &mut Vec<u8>,
+) -> Result<(Option<LineFault>, u64), AllocError>
     ensures { IfOk result (λ r. IsJudged (short_capture_at line.now) latest r.0 r.1) }
 {
     if line.len() > LINE_LIMIT {
         return Ok((Some(LineFault::NoCaptureLine), latest));
     }
-    let Some(captured) = read_capture_line(alloc, line)? else {
+    let Some(moment) = read_into(line, datagram)? else {
         return Ok((Some(LineFault::NoCaptureLine), latest));
     };
-    if captured.moment < latest {
+    if moment < latest {
         return Ok((Some(LineFault::MomentGoesBack), latest));
     }
-    match check_datagram(&captured.datagram) {
-        Ok(()) => Ok((None, captured.moment)),
-        Err(fault) => Ok((Some(LineFault::Datagram(fault)), captured.moment)),
+    match check_datagram(datagram) {
+        Ok(()) => Ok((None, moment)),
+        Err(fault) => Ok((Some(LineFault::Datagram(fault)), moment)),
     }
 }
 
@@ -59,15 +64,15 @@ fn print_verdict<W: Write>(number: u64, fault: Option<LineFault>, out: &mut W) -
 
 /// Judges a line, counts it, and prints its fault where it has one.
 fn check_line<W: Write>(
-    alloc: Global,
     line: &[u8],
+    datagram: &mut Vec<u8>,
     tally: Tally,
     out: &mut W,
 ) -> Result<Tally, CheckError>
     ensures is { IfOk result (λ t. IsCounted line.now (W.contents out.old) (W.contents out.new) (count_of tally) (count_of t)) }
     ensures fits { OnOk result (tally.lines < 2 ^ 64 - 1) }
 {
-    let Ok((fault, latest)) = fault_in(alloc, line, tally.latest) else {
+    let Ok((fault, latest)) = fault_in(line, tally.latest, datagram) else {
         return Err(CheckError::Memory);
     };
     let Some(counted) = tally.with(fault, latest) else {
@@ -81,9 +86,9 @@ fn check_line<W: Write>(
 
 /// Takes the next line and checks it; None at the end of the input.
 fn check_next<R: BufRead, W: Write>(
-    alloc: Global,
     input: &mut R,
     line: &mut Vec<u8>,
+    datagram: &mut Vec<u8>,
     tally: Tally,
     out: &mut W,
 ) -> Result<Option<Tally>, CheckError>
@@ -92,7 +97,7 @@ fn check_next<R: BufRead, W: Write>(
     ensures more { IfOk result (λ r. IfSome r (λ t. (t.lines ≡ tally.lines + 1) × (tally.lines < 2 ^ 64 - 1))) }
 {
     match next_line(input, line) {
-        Ok(true) => match check_line(alloc, line, tally, out) {
+        Ok(true) => match check_line(line, datagram, tally, out) {
             Ok(counted) => Ok(Some(counted)),
             Err(error) => Err(error),
         },
@@ -114,7 +119,8 @@ fn check_lines<R: BufRead, W: Write>(
         latest: 0,
     };
     let mut line = Vec::new(alloc);
-    while let Some(next) = check_next(alloc, input, &mut line, tally, out)? {
+    let mut datagram = Vec::new(alloc);
+    while let Some(next) = check_next(input, &mut line, &mut datagram, tally, out)? {
         tally = next;
     }
     Ok(tally)

@@ -5,6 +5,7 @@ mod apdu_line;
 mod capture;
 mod check;
 mod decode;
+mod digits;
 mod fault;
 mod frame_lines;
 mod laws;

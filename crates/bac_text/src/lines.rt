@@ -5,6 +5,7 @@ ghost use Rattle.std.specs.Io.KnownBytes.{Keeps};
 ghost use Rattle.bac_text.specs.Lines.{LINE_LIMIT, is_line_end, line_in};
 ghost use Rattle.bac_text.specs.NextLine.{IsEmptyInput, IsLook, IsPart, IsLine, IsNextLine};
 
+use memchr::memchr;
 use std::io;
 use std::io::{BufRead, ErrorKind};
 
@@ -15,7 +16,7 @@ pub(crate) const LINE_LIMIT: usize = 132_000;
 fn end_in(octets: &[u8]) -> Option<usize>
     ensures { result ≡ position is_line_end octets.now }
 {
-    octets.iter().position(|octet| *octet == b'\n')
+    memchr(b'\n', octets)
 }
 
 /// How many octets stand before the first end of a line, or in all where there is none.
