@@ -173,6 +173,45 @@ fn put(alloc: Global, len: usize) -> Result<OwnedRequest, NoMemory> {
     Ok(AnyRequest::WriteFile(WriteFile { file, access }))
 }
 
+/// Who asks whom, and what.
+fn asked(alloc: Global, what: Do) -> Result<(usize, usize, OwnedRequest), NoMemory> {
+    match what {
+        Do::Ask(client, server, choice, service) => {
+            Ok((client, server, request(alloc, choice, service)?))
+        }
+        Do::Put(len) => Ok((0, 1, put(alloc, len)?)),
+        _ => Err(NoMemory),
+    }
+}
+
+fn ask(alloc: Global, limits: Limits, what: Do) -> Result<Event, NoMemory> {
+    let (client, server, request) = asked(alloc, what)?;
+    Ok(Event::Ask {
+        client,
+        server,
+        limits,
+        request,
+    })
+}
+
+/// What happens, as an event; of several copies the first one comes.
+fn event(alloc: Global, limits: Limits, what: Do) -> Result<Event, NoMemory> {
+    Ok(match what {
+        Do::Deliver(number) | Do::Each(number, _) => Event::Deliver { number },
+        Do::Tick(node) => Event::Tick { node },
+        Do::Advance(by) => Event::Advance { by },
+        asks => ask(alloc, limits, asks)?,
+    })
+}
+
+/// Limits of a node; what is none counts as out of memory.
+fn limits(max_apdu: u8, takes_segments: bool, max_segments: u8) -> Result<Limits, NoMemory> {
+    match Limits::new(max_apdu, takes_segments, max_segments) {
+        Some(limits) => Ok(limits),
+        None => Err(NoMemory),
+    }
+}
+
 /// The last eight octets as one number.
 fn number_of(octets: &[u8]) -> u64 {
     let mut number = 0u64;
@@ -308,27 +347,12 @@ impl Scene {
         Seen::Nothing
     }
 
-    fn ask(&mut self, client: usize, server: usize, request: OwnedRequest) -> Seen {
-        let limits = self.limits;
-        self.step(&Event::Ask {
-            client,
-            server,
-            limits,
-            request,
-        })
-    }
-
     fn happens(&mut self, alloc: Global, what: Do) -> Result<Seen, NoMemory> {
-        Ok(match what {
-            Do::Ask(client, server, choice, service) => {
-                self.ask(client, server, request(alloc, choice, service)?)
-            }
-            Do::Put(len) => self.ask(0, 1, put(alloc, len)?),
-            Do::Deliver(number) => self.step(&Event::Deliver { number }),
-            Do::Each(from, to) => self.each(from, to),
-            Do::Tick(node) => self.step(&Event::Tick { node }),
-            Do::Advance(by) => self.step(&Event::Advance { by }),
-        })
+        if let Do::Each(from, to) = what {
+            return Ok(self.each(from, to));
+        }
+        let event = event(alloc, self.limits, what)?;
+        Ok(self.step(&event))
     }
 
     /// The octets of a copy that are compared.

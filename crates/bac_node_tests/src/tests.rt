@@ -124,12 +124,17 @@ fn is_told(outcome: &Outcome, wanted: &[u8], row: &Row) -> bool {
         && outcome.dropped.is_none()
 }
 
+/// Whether a node does what a row says, whose octets these are.
+fn hears(node: &mut Node, heard: &[u8], wanted: &[u8], row: &Row) -> Result<bool, NodeFault> {
+    let outcome = node.on(row.0, link(row.1), heard)?;
+    Ok(is_told(&outcome, wanted, row))
+}
+
 /// Whether a node does what a row says.
 fn goes(alloc: Global, node: &mut Node, row: &Row) -> Result<bool, Fail> {
     let heard = octets_of(alloc, row.2)?;
     let wanted = octets_of(alloc, row.3)?;
-    let outcome = node.on(row.0, link(row.1), &heard)?;
-    Ok(is_told(&outcome, &wanted, row))
+    Ok(hears(node, &heard, &wanted, row)?)
 }
 
 /// A node does what each row says, one after the other; an Err has the datagram of the first that goes otherwise.

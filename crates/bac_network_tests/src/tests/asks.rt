@@ -65,22 +65,25 @@ fn asks_again(alloc: Global, scene: &mut Scene) -> Result<bool, NoMemory> {
     Ok(seen == Seen::Asked(256, 0, 1) && are_in_order(notes))
 }
 
+/// Whether 256 asks get the invoke IDs 0 to 255, and one more is refused.
+fn takes_all(alloc: Global, scene: &mut Scene) -> Result<bool, NoMemory> {
+    Ok(asks_all(alloc, scene)? && are_in_order(scene.world.asks()) && is_refused(alloc, scene)?)
+}
+
+/// Whether all have ended then, and only a millisecond later one is accepted.
+fn holds_all(alloc: Global, scene: &mut Scene) -> Result<bool, NoMemory> {
+    Ok(ends_all(alloc, scene)? && is_refused(alloc, scene)? && asks_again(alloc, scene)?)
+}
+
 /// 256 asks of one peer have the invoke IDs 0 to 255; they are held for 135,000 milliseconds.
-fn takes_all(alloc: Global) -> Result<bool, Fail> {
+fn takes_and_holds(alloc: Global) -> Result<bool, Fail> {
     let mut scene = wide_scene(alloc)?;
-    Ok(
-        asks_all(alloc, &mut scene)?
-            && are_in_order(scene.world.asks())
-            && is_refused(alloc, &mut scene)?
-            && ends_all(alloc, &mut scene)?
-            && is_refused(alloc, &mut scene)?
-            && asks_again(alloc, &mut scene)?,
-    )
+    Ok(takes_all(alloc, &mut scene)? && holds_all(alloc, &mut scene)?)
 }
 
 #[test]
 fn asks_for_all_invoke_ids(rt: HostRuntime) -> Result<(), Fail> {
-    assert!(rt; takes_all(rt.alloc())?);
+    assert!(rt; takes_and_holds(rt.alloc())?);
     Ok(())
 }
 
@@ -128,8 +131,12 @@ fn narrow_scene(alloc: Global) -> Result<Scene, Fail> {
     Ok(Scene::of(alloc, nodes, 128)?.headed(LARGE))
 }
 
+fn narrow_plays(alloc: Global) -> Result<(), Fail> {
+    let mut scene = narrow_scene(alloc)?;
+    scene.plays(alloc, ONE_SLOT)
+}
+
 #[test]
 fn reply_table_of_one_slot(rt: HostRuntime) -> Result<(), Fail> {
-    let mut scene = narrow_scene(rt.alloc())?;
-    scene.plays(rt.alloc(), ONE_SLOT)
+    narrow_plays(rt.alloc())
 }

@@ -37,17 +37,22 @@ fn is_answered(scene: &mut Scene) -> bool {
     seen == Seen::Nothing && scene.world.copies().len() > copies
 }
 
+/// How often its first copy is answered.
+fn answers(scene: &mut Scene) -> usize {
+    for count in 0..300 {
+        if !is_answered(scene) {
+            return count;
+        }
+    }
+    300
+}
+
 /// How often a request can be delivered that is answered each time, where so many later copies may overtake it; other asks don't count.
 fn deliveries(alloc: Global, overtake: u64) -> Result<usize, Fail> {
     let mut scene = two_nodes(alloc, overtake)?;
     let _ = scene.happens(alloc, Do::Ask(0, 1, READ, INPUT))?;
     let _ = scene.happens(alloc, Do::Ask(0, 1, READ, INPUT))?;
-    for count in 0..300 {
-        if !is_answered(&mut scene) {
-            return Ok(count);
-        }
-    }
-    Ok(300)
+    Ok(answers(&mut scene))
 }
 
 /// A copy comes where as many later ones of its transaction overtook it as may, and is lost where one more did.

@@ -87,30 +87,6 @@ fn world(alloc: Global, limits: Limits, tag: &str) -> Option<World> {
     }
 }
 
-fn ask(alloc: Global, limits: Limits, what: Do) -> Result<Event, NoMemory> {
-    let (client, server, request) = match what {
-        Do::Ask(client, server, choice, service) => {
-            (client, server, request(alloc, choice, service)?)
-        }
-        _ => (0, 1, put(alloc, 100)?),
-    };
-    Ok(Event::Ask {
-        client,
-        server,
-        limits,
-        request,
-    })
-}
-
-fn event(alloc: Global, limits: Limits, what: Do) -> Result<Event, NoMemory> {
-    Ok(match what {
-        Do::Deliver(number) | Do::Each(number, _) => Event::Deliver { number },
-        Do::Tick(node) => Event::Tick { node },
-        Do::Advance(by) => Event::Advance { by },
-        asked => ask(alloc, limits, asked)?,
-    })
-}
-
 /// The events one by one.
 fn events(alloc: Global, limits: Limits, dos: &[Do]) -> Result<Vec<Event>, NoMemory> {
     let mut events = Vec::new(alloc);

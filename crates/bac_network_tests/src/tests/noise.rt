@@ -48,10 +48,14 @@ fn are_heard(alloc: Global, scene: &mut Scene, rows: &[Heard]) -> Result<(), Fai
     Ok(())
 }
 
+fn house_hears(alloc: Global) -> Result<(), Fail> {
+    let mut scene = Scene::house(alloc, LARGE)?;
+    are_heard(alloc, &mut scene, HEARD)
+}
+
 #[test]
 fn octets_that_no_node_sent(rt: HostRuntime) -> Result<(), Fail> {
-    let mut scene = Scene::house(rt.alloc(), LARGE)?;
-    are_heard(rt.alloc(), &mut scene, HEARD)
+    house_hears(rt.alloc())
 }
 
 /// Whether the node looks at so many octets of a request.
@@ -71,25 +75,23 @@ fn are_fronts_heard(alloc: Global, scene: &mut Scene) -> Result<bool, NoMemory> 
     Ok(true)
 }
 
+fn house_hears_fronts(alloc: Global) -> Result<bool, Fail> {
+    let mut scene = Scene::house(alloc, LARGE)?;
+    Ok(are_fronts_heard(alloc, &mut scene)? && comes_to_none(alloc, &mut scene))
+}
+
 #[test]
 fn fronts_of_a_request(rt: HostRuntime) -> Result<(), Fail> {
-    let mut scene = Scene::house(rt.alloc(), LARGE)?;
-    assert!(rt; are_fronts_heard(rt.alloc(), &mut scene)?);
+    assert!(rt; house_hears_fronts(rt.alloc())?);
     Ok(())
 }
 
-/// What comes to no node.
-fn comes_to_none(alloc: Global, scene: &mut Scene) -> Seen {
-    scene.step(&Event::Noise {
+/// Whether octets to a node that there is not are a fault.
+fn comes_to_none(alloc: Global, scene: &mut Scene) -> bool {
+    let seen = scene.step(&Event::Noise {
         node: 3,
         from: link(9),
         octets: Vec::new(alloc),
-    })
-}
-
-#[test]
-fn octets_to_no_node(rt: HostRuntime) -> Result<(), Fail> {
-    let mut scene = Scene::house(rt.alloc(), LARGE)?;
-    assert!(rt; comes_to_none(rt.alloc(), &mut scene) == Seen::Fault(WorldFault::NoSuchNode));
-    Ok(())
+    });
+    seen == Seen::Fault(WorldFault::NoSuchNode)
 }

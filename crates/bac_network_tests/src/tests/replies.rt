@@ -113,22 +113,29 @@ const SENT: &[Row] = &[
     (Do::Deliver(201), Seen::Nothing, 32, "3C0029200C 3C0048200C"),
 ];
 
-/// A large node that takes so many segments.
-fn other(number: u8, takes_segments: bool, max_segments: u8) -> Config {
-    let limits = Limits {
-        max_apdu: 5,
-        takes_segments,
-        max_segments,
-    };
-    config(number, limits)
+/// A node that takes large APDUs and no segments, and one that takes two.
+const NONE: Limits = Limits {
+    max_apdu: 5,
+    takes_segments: false,
+    max_segments: 0,
+};
+
+const TWO: Limits = Limits {
+    max_apdu: 5,
+    takes_segments: true,
+    max_segments: 1,
+};
+
+/// A small client, the server with a description of 4,000 octets, and those two.
+fn four_nodes(alloc: Global) -> Result<Vec<(Config, Store)>, NoMemory> {
+    let mut nodes = readers(alloc, SMALL, "75FE0FA0", 4_000)?;
+    nodes.push((config(2, NONE), house(alloc)?))?;
+    nodes.push((config(3, TWO), house(alloc)?))?;
+    Ok(nodes)
 }
 
-/// Four nodes: a small client, the server with a description of 4,000 octets, a client that takes no segments, and one that takes two.
 fn four_readers(alloc: Global) -> Result<Scene, Fail> {
-    let mut nodes = readers(alloc, SMALL, "75FE0FA0", 4_000)?;
-    nodes.push((other(2, false, 0), house(alloc)?))?;
-    nodes.push((other(3, true, 1), house(alloc)?))?;
-    Ok(Scene::of(alloc, nodes, 128)?.headed(LARGE))
+    Ok(Scene::of(alloc, four_nodes(alloc)?, 128)?.headed(LARGE))
 }
 
 fn plays_to_all(alloc: Global) -> Result<(), Fail> {
@@ -151,24 +158,25 @@ type Gets = (usize, (u64, usize), (u64, usize), usize, Seen);
 
 /// A client that takes APDUs of 50 octets, and a server that has the description.
 fn reading(alloc: Global, description: &Description) -> Result<Scene, Fail> {
-    let client = Limits {
-        max_apdu: 0,
-        takes_segments: description.2,
-        max_segments: description.3,
-    };
+    let client = limits(0, description.2, description.3)?;
     let nodes = readers(alloc, client, description.0, description.1)?;
     Ok(Scene::of(alloc, nodes, 128)?.headed(LARGE))
+}
+
+/// What a client gets that has asked.
+fn got(scene: &mut Scene) -> Gets {
+    let _ = scene.step(&Event::Deliver { number: 0 });
+    let first = scene.last_from(1);
+    let deliveries = scene.straight(1).saturating_add(1);
+    let facts = scene.world.log().len();
+    (deliveries, first, scene.last_from(1), facts, scene.latest())
 }
 
 /// What a client that takes APDUs of 50 octets gets that reads a description.
 fn gets(alloc: Global, description: &Description) -> Result<Gets, Fail> {
     let mut scene = reading(alloc, description)?;
     let _ = scene.happens(alloc, Do::Ask(0, 1, READ, DESCRIPTION))?;
-    let _ = scene.step(&Event::Deliver { number: 0 });
-    let first = scene.last_from(1);
-    let deliveries = scene.straight(1).saturating_add(1);
-    let facts = scene.world.log().len();
-    Ok((deliveries, first, scene.last_from(1), facts, scene.latest()))
+    Ok(got(&mut scene))
 }
 
 const WHOLE: (u64, usize) = (0x30_000C_0C00, 50);

@@ -141,11 +141,7 @@ const LIMITED: &[Limited] = &[
 
 /// A scene whose clients suppose that.
 fn limited_scene(alloc: Global, max_apdu: u8, max_segments: u8) -> Result<Scene, Fail> {
-    let limits = Limits {
-        max_apdu,
-        takes_segments: true,
-        max_segments,
-    };
+    let limits = limits(max_apdu, true, max_segments)?;
     Ok(Scene::house(alloc, LARGE)?.headed(limits))
 }
 
@@ -218,16 +214,24 @@ const LONG: &[Long] = &[
     ),
 ];
 
-/// A client, and a small server, with these windows; of APDUs the first 18 octets are compared.
-fn long_scene(alloc: Global, row: &Long) -> Result<Scene, Fail> {
+/// A client, and a small server, with these windows.
+fn long_nodes(alloc: Global, row: &Long) -> Result<Vec<(Config, Store)>, NoMemory> {
     let mut client = config(0, LARGE);
     client.window = row.0;
     let mut server = config(1, SMALL);
     server.window = row.1;
-    let nodes = housed(alloc, &[client, server])?;
-    let mut scene = Scene::of(alloc, nodes, row.2)?.headed(SMALL);
-    scene.to = 24;
-    Ok(scene)
+    housed(alloc, &[client, server])
+}
+
+/// A scene of them; of APDUs the first 18 octets are compared.
+fn long_scene(alloc: Global, row: &Long) -> Result<Scene, Fail> {
+    let scene = Scene::of(alloc, long_nodes(alloc, row)?, row.2)?;
+    Ok(Scene {
+        world: scene.world,
+        limits: SMALL,
+        from: 6,
+        to: 24,
+    })
 }
 
 /// Segment 0 is asked and granted.
@@ -248,10 +252,14 @@ fn goes_on(scene: &mut Scene, told: &Told) -> bool {
         && scene.latest() == Seen::Written(0, 0)
 }
 
+fn is_written(alloc: Global, row: &Long) -> Result<bool, Fail> {
+    let mut scene = long_scene(alloc, row)?;
+    Ok(begins(alloc, &mut scene, row)? && goes_on(&mut scene, &row.5))
+}
+
 fn are_written(alloc: Global, rows: &[Long]) -> Result<(), Fail> {
     for row in rows {
-        let mut scene = long_scene(alloc, row)?;
-        if !begins(alloc, &mut scene, row)? || !goes_on(&mut scene, &row.5) {
+        if !is_written(alloc, row)? {
             return Err(Fail::from(row.4));
         }
     }

@@ -189,11 +189,16 @@ fn are_fresh(alloc: Global, stores: &[Store]) -> Result<bool, NoMemory> {
     Ok(true)
 }
 
-/// Whether the opening stores stay, and the store of the node that was asked is another one.
-fn stores_change(alloc: Global) -> Result<bool, Fail> {
+fn read_and_written(alloc: Global) -> Result<Scene, Fail> {
     let mut scene = Scene::house(alloc, LARGE)?;
     scene.plays(alloc, READ_BEFORE)?;
     scene.plays(alloc, REFUSED)?;
+    Ok(scene)
+}
+
+/// Whether the opening stores stay, and the store of the node that was asked is another one.
+fn stores_change(alloc: Global) -> Result<bool, Fail> {
+    let scene = read_and_written(alloc)?;
     Ok(are_fresh(alloc, scene.world.opening())? && scene.is_changed(1))
 }
 

@@ -58,12 +58,23 @@ fn is_as_said(outcome: &Outcome, wanted: &[u8], end: End) -> bool {
         && count(outcome, end) == ended
 }
 
+/// Whether that datagram, or a tick, makes a client do so.
+fn does(
+    node: &mut Node,
+    now: u64,
+    heard: &[u8],
+    wanted: &[u8],
+    end: End,
+) -> Result<bool, NodeFault> {
+    let outcome = meets(node, now, heard)?;
+    Ok(is_as_said(&outcome, wanted, end))
+}
+
 /// Whether a client does what a row says.
 fn goes_on(alloc: Global, node: &mut Node, row: &ClientRow) -> Result<bool, Fail> {
     let heard = octets_of(alloc, row.1)?;
     let wanted = octets_of(alloc, row.2)?;
-    let outcome = meets(node, row.0, &heard)?;
-    Ok(is_as_said(&outcome, &wanted, row.3))
+    Ok(does(node, row.0, &heard, &wanted, row.3)?)
 }
 
 /// A client does what each row says, one after the other.
@@ -82,18 +93,33 @@ fn request_of(alloc: Global, choice: u8, text: &str) -> Result<OwnedRequest, NoM
     request(alloc, choice, &service)
 }
 
-/// A client that has asked the server for an append to its file 1, at moment 0.
-fn appending(alloc: Global) -> Result<Node, Fail> {
-    let append = request_of(alloc, 7, "C402800001 0E 31FF 63AABBCC 0F")?;
-    let mut node = house_node(alloc, CLIENT)?;
-    let _ = ask(&mut node, 0, SERVER, &LARGE, &append)?;
-    Ok(node)
+/// The client asks the server at moment 0.
+fn asks(alloc: Global, node: &mut Node, choice: u8, text: &str) -> Result<(), Fail> {
+    let request = request_of(alloc, choice, text)?;
+    let _ = ask(node, 0, SERVER, &LARGE, &request)?;
+    Ok(())
 }
 
-/// Such a client does what each row says.
+fn asks_and_goes_on(
+    alloc: Global,
+    node: &mut Node,
+    choice: u8,
+    text: &str,
+    rows: &[ClientRow],
+) -> Result<(), Fail> {
+    asks(alloc, node, choice, text)?;
+    all_go_on(alloc, node, rows)
+}
+
+/// A client that has asked the server at moment 0 does what each row says.
+fn client_plays(alloc: Global, choice: u8, text: &str, rows: &[ClientRow]) -> Result<(), Fail> {
+    let mut node = house_node(alloc, CLIENT)?;
+    asks_and_goes_on(alloc, &mut node, choice, text, rows)
+}
+
+/// A client that has asked the server for an append to its file 1 does what each row says.
 fn appends(alloc: Global, rows: &[ClientRow]) -> Result<(), Fail> {
-    let mut node = appending(alloc)?;
-    all_go_on(alloc, &mut node, rows)
+    client_plays(alloc, 7, "C402800001 0E 31FF 63AABBCC 0F", rows)
 }
 
 /// The first answer is lost: a tick sends the ask again, and the kept answer ends it; it comes once more.
@@ -144,14 +170,6 @@ fn a_tick_too_late(rt: HostRuntime) -> Result<(), Fail> {
     appends(rt.alloc(), TOO_LATE)
 }
 
-/// A client that has asked the server for a property, at moment 0.
-fn reading(alloc: Global) -> Result<Node, Fail> {
-    let read = request_of(alloc, 12, READING)?;
-    let mut node = house_node(alloc, CLIENT)?;
-    let _ = ask(&mut node, 0, SERVER, &LARGE, &read)?;
-    Ok(node)
-}
-
 /// An answer whose service data spell nothing: the client gives up.
 const EMPTY: &[ClientRow] = &[(
     0,
@@ -162,8 +180,7 @@ const EMPTY: &[ClientRow] = &[(
 
 #[test]
 fn an_answer_of_no_octets(rt: HostRuntime) -> Result<(), Fail> {
-    let mut node = reading(rt.alloc())?;
-    all_go_on(rt.alloc(), &mut node, EMPTY)
+    client_plays(rt.alloc(), 12, READING, EMPTY)
 }
 
 /// The number of the fault, 0 where the ask was accepted.
@@ -178,9 +195,7 @@ fn fault(came: Result<Asked, AskFault>) -> u8 {
 fn long_write(alloc: Global, len: u16) -> Result<OwnedRequest, Fail> {
     let front = format!(in alloc; "C402800001 0E 3100 65FE{len:04X}")?;
     let mut octets = octets_of(alloc, front.as_str())?;
-    for _ in 0..len {
-        octets.push(0)?;
-    }
+    octets.resize(octets.len().saturating_add(usize::from(len)), 0)?;
     octets.push(0x0F)?;
     Ok(request(alloc, 7, &octets)?)
 }
@@ -206,11 +221,10 @@ fn writes(alloc: Global, node: &mut Node, row: &(u64, u8, u16, u8)) -> Result<u8
     Ok(fault(ask(node, row.0, row.1, &ONE_APDU, &write)))
 }
 
-/// A client with one slot and that latest moment.
-fn narrow_client(alloc: Global, latest: u64) -> Result<Node, Fail> {
-    let mut node = Node::new(alloc, config(CLIENT, 1, 1, 32), house(alloc)?)?;
-    let _ = node.tick(latest)?;
-    Ok(node)
+/// A client with so many slots.
+fn client(alloc: Global, slots: usize) -> Result<Node, Fail> {
+    let store = house(alloc)?;
+    Ok(Node::new(alloc, config(CLIENT, slots, 1, 32), store)?)
 }
 
 /// Whether each ask gets the fault of its row, and the latest moment stays.
@@ -223,9 +237,15 @@ fn are_refused(alloc: Global, node: &mut Node, rows: &[(u64, u8, u16, u8)]) -> R
     Ok(true)
 }
 
+/// The same after a tick at 5.
+fn tick_and_are_refused(alloc: Global, node: &mut Node) -> Result<bool, Fail> {
+    let _ = node.tick(5)?;
+    are_refused(alloc, node, FAULTS)
+}
+
 fn refuses(alloc: Global) -> Result<bool, Fail> {
-    let mut node = narrow_client(alloc, 5)?;
-    are_refused(alloc, &mut node, FAULTS)
+    let mut node = client(alloc, 1)?;
+    tick_and_are_refused(alloc, &mut node)
 }
 
 #[test]
@@ -239,15 +259,20 @@ fn invoke_id(node: &mut Node, now: u64, read: &OwnedRequest) -> Result<u8, AskFa
     Ok(ask(node, now, SERVER, &LARGE, read)?.invoke_id)
 }
 
-/// One slot: the second ask is refused, and the latest moment stays.
-fn asks_once(alloc: Global) -> Result<bool, Fail> {
+/// Whether a second ask is refused, and the latest moment stays.
+fn takes_one(alloc: Global, node: &mut Node) -> Result<bool, Fail> {
     let read = request_of(alloc, 12, READING)?;
-    let mut node = narrow_client(alloc, 5)?;
     Ok(
-        invoke_id(&mut node, 6, &read) == Ok(0)
-            && invoke_id(&mut node, 7, &read) == Err(AskFault::NoSlot)
+        invoke_id(node, 6, &read) == Ok(0)
+            && invoke_id(node, 7, &read) == Err(AskFault::NoSlot)
             && node.latest() == 6,
     )
+}
+
+/// One slot.
+fn asks_once(alloc: Global) -> Result<bool, Fail> {
+    let mut node = client(alloc, 1)?;
+    takes_one(alloc, &mut node)
 }
 
 #[test]
@@ -284,11 +309,15 @@ fn holds_all(node: &mut Node, read: &OwnedRequest) -> Result<bool, NodeFault> {
     )
 }
 
+fn takes_then_holds(alloc: Global, node: &mut Node) -> Result<bool, Fail> {
+    let read = request_of(alloc, 12, READING)?;
+    Ok(takes_all(node, &read) && holds_all(node, &read)?)
+}
+
 /// 256 asks take the invoke IDs of a peer; they are held for 135,000 ms.
 fn takes_and_holds(alloc: Global) -> Result<bool, Fail> {
-    let read = request_of(alloc, 12, READING)?;
-    let mut node = Node::new(alloc, config(CLIENT, 1_024, 1, 32), house(alloc)?)?;
-    Ok(takes_all(&mut node, &read) && holds_all(&mut node, &read)?)
+    let mut node = client(alloc, 1_024)?;
+    takes_then_holds(alloc, &mut node)
 }
 
 #[test]

@@ -31,16 +31,23 @@ fn is_idle(outcome: &Outcome) -> bool {
     outcome.sends.is_empty() && outcome.effect.is_none() && outcome.ended.is_empty()
 }
 
-/// The number of the cause for which a datagram is dropped, with nothing else done; None where it is not.
-fn dropped(node: &mut Node, now: u64, from: u8, octets: &[u8]) -> Result<Option<u8>, NodeFault> {
-    let outcome = node.on(now, link(from), octets)?;
-    if !is_idle(&outcome) {
-        return Ok(None);
+/// The number of the cause for which a datagram was dropped, with nothing else done; None where it was not.
+fn cause_of(outcome: &Outcome) -> Option<u8> {
+    if !is_idle(outcome) {
+        return None;
     }
-    Ok(match outcome.dropped {
+    match &outcome.dropped {
         Some(cause) => Some(cause.number()),
         None => None,
-    })
+    }
+}
+
+/// The number of the cause for which a node drops a datagram; None where it does not.
+fn dropped(node: &mut Node, now: u64, from: u8, octets: &[u8]) -> Option<u8> {
+    match node.on(now, link(from), octets) {
+        Ok(outcome) => cause_of(&outcome),
+        Err(_) => None,
+    }
 }
 
 /// Each datagram comes a millisecond after the other.
@@ -52,25 +59,38 @@ fn all_dropped(
     for row in rows {
         let octets = octets_of(alloc, row.1)?;
         let now = node.latest().saturating_add(1);
-        if dropped(node, now, row.0, &octets)? != Some(row.2) {
+        if dropped(node, now, row.0, &octets) != Some(row.2) {
             return Err(Fail::from(row.1));
         }
     }
     Ok(())
 }
 
+/// Whether a node is as one that has ticked at its latest moment.
+fn is_ticked(node: &Node, idle: &mut Node) -> Result<bool, NodeFault> {
+    let _ = idle.tick(node.latest())?;
+    Ok(node.same(idle))
+}
+
 /// Whether nothing has happened to the node but its latest moment.
 fn is_as_made(alloc: Global, node: &Node) -> Result<bool, Fail> {
     let mut idle = house_node(alloc, SERVER)?;
-    let _ = idle.tick(node.latest())?;
-    Ok(node.same(&idle))
+    Ok(is_ticked(node, &mut idle)?)
+}
+
+fn are_alone(
+    alloc: Global,
+    node: &mut Node,
+    rows: &[(u8, &'static str, u8)],
+) -> Result<bool, Fail> {
+    all_dropped(alloc, node, rows)?;
+    is_as_made(alloc, node)
 }
 
 /// A dropped datagram changes the latest moment alone.
 fn drops_alone(alloc: Global, rows: &[(u8, &'static str, u8)]) -> Result<bool, Fail> {
     let mut node = house_node(alloc, SERVER)?;
-    all_dropped(alloc, &mut node, rows)?;
-    is_as_made(alloc, &node)
+    are_alone(alloc, &mut node, rows)
 }
 
 #[test]
@@ -80,25 +100,29 @@ fn causes_in_their_order(rt: HostRuntime) -> Result<(), Fail> {
 }
 
 /// Whether the empty datagram, and each other front of these octets, is dropped.
-fn are_fronts_dropped(node: &mut Node, read: &[u8]) -> Result<bool, NodeFault> {
+fn are_fronts_dropped(node: &mut Node, read: &[u8]) -> bool {
     for len in 0..read.len() {
         let front = read.get(..len).unwrap_or(&[]);
-        if dropped(node, 0, CLIENT, front)? != Some(1) {
-            return Ok(false);
+        if dropped(node, 0, CLIENT, front) != Some(1) {
+            return false;
         }
     }
-    Ok(true)
+    true
 }
 
 /// The fronts of a request, of which there are 17.
-fn drops_fronts(alloc: Global) -> Result<bool, Fail> {
-    let mut node = house_node(alloc, SERVER)?;
+fn drops_fronts(alloc: Global, node: &mut Node) -> Result<bool, NoMemory> {
     let read = octets_of(alloc, READ)?;
-    Ok(read.len() == 17 && are_fronts_dropped(&mut node, &read)?)
+    Ok(read.len() == 17 && are_fronts_dropped(node, &read))
+}
+
+fn house_drops_fronts(alloc: Global) -> Result<bool, Fail> {
+    let mut node = house_node(alloc, SERVER)?;
+    Ok(drops_fronts(alloc, &mut node)?)
 }
 
 #[test]
 fn fronts_of_a_request(rt: HostRuntime) -> Result<(), Fail> {
-    assert!(rt; drops_fronts(rt.alloc())?);
+    assert!(rt; house_drops_fronts(rt.alloc())?);
     Ok(())
 }

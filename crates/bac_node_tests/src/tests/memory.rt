@@ -46,73 +46,63 @@ fn made(alloc: Global, number: u8) -> Result<Node, NewNodeFault> {
     }
 }
 
-/// A node that heard these rows.
-fn after(alloc: Global, rows: &[Row]) -> Result<Node, Fail> {
-    let mut node = house_node(alloc, SERVER)?;
+/// A node hears these rows.
+fn hears_all(alloc: Global, node: &mut Node, rows: &[Row]) -> Result<(), Fail> {
     for row in rows {
         let heard = octets_of(alloc, row.2)?;
         let _ = node.on(row.0, link(row.1), &heard)?;
     }
-    Ok(node)
+    Ok(())
+}
+
+/// Whether a node is what the other one becomes that hears these rows.
+fn is_what_hears(alloc: Global, node: &Node, other: &mut Node, rows: &[Row]) -> Result<bool, Fail> {
+    hears_all(alloc, other, rows)?;
+    Ok(node.same(other))
 }
 
 /// Whether a node is one that heard the first `n` of these rows.
 fn is_after(alloc: Global, node: &Node, rows: &[Row], n: usize) -> Result<bool, Fail> {
-    let other = after(alloc, rows.get(..n).unwrap_or(rows))?;
-    Ok(node.same(&other))
+    let mut other = house_node(alloc, SERVER)?;
+    is_what_hears(alloc, node, &mut other, rows.get(..n).unwrap_or(rows))
 }
 
 /// Whether a row that was refused has changed nothing, and is done when it comes again.
-fn goes_again(
+fn hears_again(
     alloc: Global,
     node: &mut Node,
     heard: &[u8],
+    wanted: &[u8],
     rows: &[Row],
     n: usize,
-) -> Result<Option<Outcome>, Fail> {
-    let Some(row) = rows.get(n) else {
-        return Ok(None);
-    };
-    if !is_after(alloc, node, rows, n)? {
-        return Ok(None);
-    }
-    let outcome = node.on(row.0, link(row.1), heard)?;
-    if is_after(alloc, node, rows, n.saturating_add(1))? {
-        Ok(Some(outcome))
-    } else {
-        Ok(None)
-    }
-}
-
-/// What comes of a row, the first or the second time; None where a refusal changed something.
-fn comes(
-    alloc: Global,
-    node: &mut Node,
-    heard: &[u8],
-    rows: &[Row],
-    n: usize,
-) -> Result<Option<Outcome>, Fail> {
-    let Some(row) = rows.get(n) else {
-        return Ok(None);
-    };
-    match node.on(row.0, link(row.1), heard) {
-        Ok(outcome) => Ok(Some(outcome)),
-        Err(NodeFault::NoMemory) => goes_again(alloc, node, heard, rows, n),
-        Err(NodeFault::ClockBack) => Ok(None),
-    }
-}
-
-/// Whether a row goes as it says, the first or the second time; so does one whose own octets were refused.
-fn goes_at_last(alloc: Global, node: &mut Node, rows: &[Row], n: usize) -> Result<bool, Fail> {
+) -> Result<bool, Fail> {
     let Some(row) = rows.get(n) else {
         return Ok(false);
     };
-    let heard = again(alloc, row.2)?;
-    let wanted = again(alloc, row.3)?;
-    Ok(match comes(alloc, node, &heard, rows, n)? {
-        Some(outcome) => is_told(&outcome, &wanted, row),
-        None => false,
-    })
+    Ok(
+        is_after(alloc, node, rows, n)?
+            && hears(node, heard, wanted, row)?
+            && is_after(alloc, node, rows, n.saturating_add(1))?,
+    )
+}
+
+/// Whether a row goes as it says, the first or the second time.
+fn hears_at_last(
+    alloc: Global,
+    node: &mut Node,
+    heard: &[u8],
+    wanted: &[u8],
+    rows: &[Row],
+    n: usize,
+) -> Result<bool, Fail> {
+    let Some(row) = rows.get(n) else {
+        return Ok(false);
+    };
+    match hears(node, heard, wanted, row) {
+        Ok(told) => Ok(told),
+        Err(NodeFault::NoMemory) => hears_again(alloc, node, heard, wanted, rows, n),
+        Err(NodeFault::ClockBack) => Ok(false),
+    }
 }
 
 /// The octets of a text, which are asked for again where they were refused.
@@ -123,15 +113,32 @@ fn again(alloc: Global, text: &str) -> Result<Vec<u8>, NoMemory> {
     }
 }
 
+fn goes_at_last(
+    alloc: Global,
+    node: &mut Node,
+    rows: &[Row],
+    n: usize,
+    row: &Row,
+) -> Result<bool, Fail> {
+    let heard = again(alloc, row.2)?;
+    let wanted = again(alloc, row.3)?;
+    hears_at_last(alloc, node, &heard, &wanted, rows, n)
+}
+
 /// A node hears these rows; a call that was refused leaves it as it was, and is done when it comes again.
-fn plays_refused(alloc: Global, rows: &[Row]) -> Result<(), Fail> {
-    let mut node = made(alloc, SERVER)?;
-    for n in 0..rows.len() {
-        if !goes_at_last(alloc, &mut node, rows, n)? {
-            return Err(Fail::from("a refused row goes otherwise"));
+fn all_go_at_last(alloc: Global, node: &mut Node, rows: &[Row]) -> Result<(), Fail> {
+    for (n, row) in rows.iter().enumerate() {
+        if !goes_at_last(alloc, node, rows, n, row)? {
+            return Err(Fail::from(row.2));
         }
     }
     Ok(())
+}
+
+/// The same of a node that is made, or refused and then made.
+fn plays_refused(alloc: Global, rows: &[Row]) -> Result<(), Fail> {
+    let mut node = made(alloc, SERVER)?;
+    all_go_at_last(alloc, &mut node, rows)
 }
 
 #[test]
@@ -150,53 +157,48 @@ fn is_new(alloc: Global, node: &Node) -> Result<bool, Fail> {
     Ok(node.same(&other))
 }
 
-/// What an ask sends that comes again; None where the refusal changed something.
-fn asked_again(
+/// Whether an ask sends that datagram.
+fn sends(node: &mut Node, write: &OwnedRequest, wanted: &[u8]) -> Result<bool, AskFault> {
+    let asked = ask(node, 0, SERVER, &LARGE, write)?;
+    Ok(are_octets(&asked.sends, wanted))
+}
+
+/// Whether it does, the first or the second time; one that was refused has changed nothing.
+fn sends_at_last(
     alloc: Global,
     node: &mut Node,
     write: &OwnedRequest,
-) -> Result<Option<Vec<Datagram>>, Fail> {
-    if !is_new(alloc, node)? {
-        return Ok(None);
-    }
-    Ok(Some(ask(node, 0, SERVER, &LARGE, write)?.sends))
-}
-
-/// What an ask sends, the first or the second time.
-fn asked(
-    alloc: Global,
-    node: &mut Node,
-    write: &OwnedRequest,
-) -> Result<Option<Vec<Datagram>>, Fail> {
-    match ask(node, 0, SERVER, &LARGE, write) {
-        Ok(asked) => Ok(Some(asked.sends)),
-        Err(AskFault::NoMemory) => asked_again(alloc, node, write),
-        Err(_) => Ok(None),
+    wanted: &[u8],
+) -> Result<bool, Fail> {
+    match sends(node, write, wanted) {
+        Ok(sent) => Ok(sent),
+        Err(AskFault::NoMemory) => Ok(is_new(alloc, node)? && sends(node, write, wanted)?),
+        Err(_) => Ok(false),
     }
 }
 
-/// What a tick sends, the first or the second time; None where the refusal changed the latest moment.
-fn ticked(node: &mut Node, now: u64) -> Result<Option<Vec<Datagram>>, Fail> {
-    match node.tick(now) {
-        Ok(outcome) => Ok(Some(outcome.sends)),
-        Err(NodeFault::NoMemory) if node.latest() == 0 => Ok(Some(node.tick(now)?.sends)),
-        Err(_) => Ok(None),
-    }
+/// Whether a tick sends that datagram.
+fn repeats(node: &mut Node, now: u64, wanted: &[u8]) -> Result<bool, NodeFault> {
+    let outcome = node.tick(now)?;
+    Ok(are_octets(&outcome.sends, wanted))
 }
 
-fn are_sent(sends: Option<Vec<Datagram>>, octets: &[u8]) -> bool {
-    match sends {
-        Some(sends) => are_octets(&sends, octets),
-        None => false,
+/// Whether it does, the first or the second time; one that was refused has left the latest moment.
+fn repeats_at_last(node: &mut Node, now: u64, wanted: &[u8]) -> Result<bool, NodeFault> {
+    match repeats(node, now, wanted) {
+        Ok(sent) => Ok(sent),
+        Err(NodeFault::NoMemory) => Ok(node.latest() == 0 && repeats(node, now, wanted)?),
+        Err(_) => Ok(false),
     }
 }
 
 /// Whether an ask for a write, and a tick that repeats it, send that datagram.
 fn sends_twice(alloc: Global, write: &OwnedRequest, append: &[u8]) -> Result<bool, Fail> {
     let mut node = made(alloc, CLIENT)?;
-    let first = asked(alloc, &mut node, write)?;
-    let second = ticked(&mut node, 3_000)?;
-    Ok(are_sent(first, append) && are_sent(second, append))
+    Ok(
+        sends_at_last(alloc, &mut node, write, append)?
+            && repeats_at_last(&mut node, 3_000, append)?,
+    )
 }
 
 /// The same of an append, whose own octets are asked for again where they were refused.
