@@ -53,7 +53,7 @@ class Capture:
         time.sleep(2)
         self.process.send_signal(signal.SIGINT)
         out, _ = self.process.communicate(timeout=60)
-        return [row_of(line) for line in out.splitlines()]
+        return [row_of(line) for line in out.removesuffix('\n').split('\n') if line]
 
 
 def main(words):
