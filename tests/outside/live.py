@@ -1,7 +1,8 @@
 #!/usr/bin/env python3
 """tshark beside `bac serve` and `bac ask` on loopback: live.py PROGRAM
 
-It captures what both send for asks of each kind, short ones, ones in segments, and ones that are answered with errors, and counts what tshark marks as malformed.
+It captures what both send for asks of each kind, short ones, ones in segments, and ones that are answered with errors, and counts what tshark marks as
+malformed.
 Capturing needs root or the rights of Debian's group wireshark.
 """
 
