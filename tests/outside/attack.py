@@ -153,12 +153,13 @@ def main(words):
     with Server(program, TURNS) as server, Attack(server.port) as attack:
         before = server.memory()
         attack.run(shots(seed, worked), seconds)
+        missed = server.missed()
         ends = asked_until_answered(program, server.port)
         after = server.memory()
         performed = server.finish(600)
     count = len(attack.answers)
     verdict = checked(program, attack.answers)
-    print(f'sent {attack.sent} datagrams, {attack.came} came back, {count} of them distinct: {verdict}')
+    print(f'sent {attack.sent} datagrams, of which the system dropped {missed}; {attack.came} came back, {count} of them distinct: {verdict}')
     print('honest asks: ' + ', '.join(f'{line} after {since} s' for since, line in ends))
     print(f'performed {performed} requests; at most {before} KB of memory before, {after} KB after')
     return 0 if ends[-1][1] == VALUE and verdict == f'lines={count} good={count} bad=0' and count > 0 else 1

@@ -1,7 +1,8 @@
 #!/usr/bin/env python3
 """tshark beside `bac serve` and `bac ask` on loopback: live.py PROGRAM
 
-It captures what both send for asks of each kind, short ones, ones in segments, and ones that are answered with errors, and counts what tshark marks as malformed.
+It captures what both send for asks of each kind, short ones, ones in segments, and ones that are answered with errors, and counts what tshark marks as
+malformed.
 Capturing needs root or the rights of Debian's group wireshark.
 """
 
@@ -53,7 +54,7 @@ class Capture:
         time.sleep(2)
         self.process.send_signal(signal.SIGINT)
         out, _ = self.process.communicate(timeout=60)
-        return [row_of(line) for line in out.splitlines()]
+        return [row_of(line) for line in out.removesuffix('\n').split('\n') if line]
 
 
 def main(words):

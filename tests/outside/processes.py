@@ -16,10 +16,10 @@ def free_port():
         return found.getsockname()[1]
 
 
-def is_bound(port):
-    """Whether the system has a UDP socket at that port."""
+def socket_line(port):
+    """The words that the system has of the UDP socket at that port, or None."""
     lines = Path('/proc/net/udp').read_text().splitlines()[1:]
-    return any(line.split()[1].endswith(f':{port:04X}') for line in lines)
+    return next((line.split() for line in lines if line.split()[1].endswith(f':{port:04X}')), None)
 
 
 class Server:
@@ -32,7 +32,7 @@ class Server:
 
     def __enter__(self):
         end = time.monotonic() + START_SECONDS
-        while not is_bound(self.port):
+        while socket_line(self.port) is None:
             if self.process.poll() is not None or time.monotonic() > end:
                 self.process.kill()
                 raise SystemExit(f'no server at port {self.port}: {self.process.communicate()}')
@@ -47,6 +47,10 @@ class Server:
         """The most memory that the process has had, in KB."""
         lines = Path(f'/proc/{self.process.pid}/status').read_text().splitlines()
         return next(int(line.split()[1]) for line in lines if line.startswith('VmHWM'))
+
+    def missed(self):
+        """How many datagrams the system has dropped, as the server's socket had no room for them."""
+        return int(socket_line(self.port)[-1])
 
     def finish(self, seconds=120):
         """Takes up the turns that are left with empty datagrams, which every node drops. Answers how many requests the server says it performed."""

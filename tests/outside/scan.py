@@ -1,9 +1,9 @@
 #!/usr/bin/env python3
 """nmap's script bacnet-info against `bac serve`: scan.py PROGRAM [PORT]
 
-The script reads the object-identifier of device 4,194,303, which stands for whichever device hears it at stations that have a device object of that kind. The
-house store has no such device, so the answer is Error object, unknown-object (clause 18): by the script "Presence of this error positively identifies the device
-as a BACNet device". nmap wants root for UDP.
+The script reads the object-identifier of device 4,194,303, the instance that stands for whichever device hears it (clause 15.5.2). This profile leaves
+that rule out, so the answer is Error object, unknown-object (clause 18). By the script "Presence of this error positively identifies the device as a BACnet
+device". nmap wants root for UDP.
 """
 
 import subprocess

@@ -83,6 +83,23 @@ fn a_pair_appends_and_reads(rt: HostRuntime) -> Result<(), Fail> {
     ends(&rt, rt.alloc(), 10_000, APPENDED, WAS_READ)
 }
 
+/// A node asks, for at most 100,000 turns.
+fn ask_alone(
+    alloc: Global,
+    client: &mut Station<'_>,
+    clock: &mut MemoryClock<'_>,
+    question: &Question,
+) -> Result<AskEnd, RunFault> {
+    ask_over(
+        alloc,
+        &mut client.node,
+        &mut client.link,
+        clock,
+        question,
+        100_000,
+    )
+}
+
 /// A node asks, and nobody answers. Answers how the ask ended, and the moment.
 fn ask_nobody(alloc: Global) -> Result<(String, u64), Fail> {
     let medium = RefCell::new(Medium::new(alloc, Failing::NOTHING));
@@ -90,14 +107,7 @@ fn ask_nobody(alloc: Global) -> Result<(String, u64), Fail> {
     let mut clock = MemoryClock { moment: &moment };
     let mut client = Station::new(alloc, &medium, &moment, CLIENT)?;
     let question = read(alloc)?;
-    let end = ask_over(
-        alloc,
-        &mut client.node,
-        &mut client.link,
-        &mut clock,
-        &question,
-        100_000,
-    );
+    let end = ask_alone(alloc, &mut client, &mut clock, &question);
     Ok((told_end(alloc, end)?, moment.get()))
 }
 
