@@ -81,8 +81,8 @@ memory_alone limits f overtake window count makers is least most bound refused =
   of : (g : NewWorldFault) → IsRefusedFor g overtake (makers_from limits window 0 count) → g ≡ fault.NoMemory
   of fault.SameLink h = absurd (links_differ limits window count h)
   of fault.BadSlots h = absurd (slots_fit_all limits window count h.1)
-  of fault.BadWindow h = absurd (windows_fit limits window count least most h.1.1)
-  of fault.BadBound h = absurd (bound_fits limits overtake window count least bound h.1.1.1)
+  of fault.BadWindow h = absurd (windows_fit limits window count least most h.2)
+  of fault.BadBound h = absurd (bound_fits limits overtake window count least bound h.3)
   of fault.NoMemory h = refl
 
 -- ---- the network that is made
