@@ -1,5 +1,5 @@
 -- The nodes of a script can make a network: nothing but memory speaks against it.
-use Rattle.std.proofs.Common.{◌≡◌, ℕ, zero, suc, ◌+◌, ◌-◌, ◌*◌, ◌<◌, ◌≤◌, true, false, List, [], ◌∷◌, ◌++◌, max, Some, slice_get, refl, sym, ap, subst, ◌∙◌, arith, append_assoc, append-nil}
+use Rattle.std.proofs.Common.{◌≡◌, ℕ, zero, suc, ◌+◌, ◌-◌, ◌*◌, ◌<◌, ◌≤◌, true, false, List, [], ◌∷◌, ◌++◌, max, Some, slice_get, refl, sym, ap, subst, ◌∙◌, arith, append_assoc}
 use Rattle.std.proofs.lemmas.Bool.Decides.{nat_tests}
 use Rattle.bac_apdu.specs.Apdu as plain
 use Rattle.bac_apdu.specs.Views.{limits_view}
@@ -67,11 +67,6 @@ one_made limits window first count made all more before =
     let left : count - first ≡ suc (count - (first + 1)) = omega arith in
     append_assoc made (maker_at limits window first ∷ []) (makers_from limits window (first + 1) (count - (first + 1)))
     ∙ (sym (ap (λ (n : ℕ). made ++ makers_from limits window first n) left) ∙ before)
-
-pub all_made : (limits : Limits) (window count : ℕ) (made all : List Maker) → made ++ makers_from limits window count (count - count) ≡ all → made ≡ all
-all_made limits window count made all before =
-    let none : count - count ≡ 0 = omega arith in
-    sym (append-nil made) ∙ (sym (ap (λ (n : ℕ). made ++ makers_from limits window count n) none) ∙ before)
 
 -- ---- why a network is not made
 
