@@ -1,5 +1,5 @@
 -- The nodes of a script can make a network: nothing but memory speaks against it.
-use Rattle.std.proofs.Common.{◌≡◌, ℕ, zero, suc, ◌+◌, ◌-◌, ◌*◌, ◌<◌, ◌≤◌, true, false, List, [], ◌∷◌, ◌++◌, max, Some, slice_get, refl, sym, ap, subst, ◌∙◌, arith, append_assoc, append-nil}
+use Rattle.std.proofs.Common.{◌≡◌, ℕ, zero, suc, ◌+◌, ◌-◌, ◌*◌, ◌<◌, ◌≤◌, true, false, List, [], ◌∷◌, ◌++◌, max, Some, slice_get, refl, sym, ap, subst, ◌∙◌, arith, append_assoc}
 use Rattle.std.proofs.lemmas.Bool.Decides.{nat_tests}
 use Rattle.bac_apdu.specs.Apdu as plain
 use Rattle.bac_apdu.specs.Views.{limits_view}
@@ -68,11 +68,6 @@ one_made limits window first count made all more before =
     append_assoc made (maker_at limits window first ∷ []) (makers_from limits window (first + 1) (count - (first + 1)))
     ∙ (sym (ap (λ (n : ℕ). made ++ makers_from limits window first n) left) ∙ before)
 
-pub all_made : (limits : Limits) (window count : ℕ) (made all : List Maker) → made ++ makers_from limits window count (count - count) ≡ all → made ≡ all
-all_made limits window count made all before =
-    let none : count - count ≡ 0 = omega arith in
-    sym (append-nil made) ∙ (sym (ap (λ (n : ℕ). made ++ makers_from limits window count n) none) ∙ before)
-
 -- ---- why a network is not made
 
 pub memory_alone : (limits : Limits) (f : NewWorldFault) (overtake window count : ℕ) (makers : List Maker) → makers ≡ makers_from limits window 0 count
@@ -81,8 +76,8 @@ memory_alone limits f overtake window count makers is least most bound refused =
   of : (g : NewWorldFault) → IsRefusedFor g overtake (makers_from limits window 0 count) → g ≡ fault.NoMemory
   of fault.SameLink h = absurd (links_differ limits window count h)
   of fault.BadSlots h = absurd (slots_fit_all limits window count h.1)
-  of fault.BadWindow h = absurd (windows_fit limits window count least most h.1.1)
-  of fault.BadBound h = absurd (bound_fits limits overtake window count least bound h.1.1.1)
+  of fault.BadWindow h = absurd (windows_fit limits window count least most h.2)
+  of fault.BadBound h = absurd (bound_fits limits overtake window count least bound h.3)
   of fault.NoMemory h = refl
 
 -- ---- the network that is made

@@ -2,6 +2,7 @@
 use Rattle.std.proofs.Common.{◌≡◌, ℕ, true, false, Bool, List, ◌++◌, Option, Some, None, IfOk, IfSome, Result, Ok, Err, inl, inr, refl, sym, subst, ◌∙◌}
 use Rattle.std.specs.Io.KnownBytes.{Appends, Keeps}
 use Rattle.bac_network.specs.Histories.{WorldView}
+use Rattle.bac_world.specs.World.{Event}
 use Rattle.bac_text.specs.Lines.{lines_of}
 use Rattle.bac_text.specs.Statuses.{IsFailure}
 use Rattle.bac_text.specs.Texts.{AppendsText}
@@ -40,13 +41,15 @@ failed status.CommandLine s a b f = absurd f
 failed status.Output s a b f = tt
 failed status.Memory s a b f = tt
 
-pub reported : {A B E : Type 0} → (run : Result Bool E) (flushed : Result A B) (s : Script) (first last : WorldView) (a b c : Option (List ℕ)) (end : Status)
-    → first ≡ world_set s.setting → IsEnd run flushed end → IfOk run (λ all. AppendsText a b (IsRun 2 s.events all first last)) → Keeps b c
-    → Reports (Ok s) a c end
-reported (Ok all) (Ok flushed) s first last a b c end is ends printed same =
-    ran all s last a b c end ends (subst (λ (w : WorldView). AppendsText a b (IsRun 2 s.events all w last)) is printed) same
-reported (Ok all) (Err e) s first last a b c end is ends printed same = failed end s a c ends
-reported (Err e) flushed s first last a b c end is ends printed same = failed end s a c ends
+pub reported : {A B E : Type 0} → (run : Result Bool E) (flushed : Result A B) (s : Script) (events : List Event) (first last : WorldView)
+    → (a b c : Option (List ℕ)) (end : Status) → events ≡ s.events → first ≡ world_set s.setting → IsEnd run flushed end
+    → IfOk run (λ all. AppendsText a b (IsRun 2 events all first last)) → Keeps b c → Reports (Ok s) a c end
+reported (Ok all) (Ok flushed) s events first last a b c end all_events is ends printed same =
+    ran all s last a b c end ends
+    (subst (λ (w : WorldView). AppendsText a b (IsRun 2 s.events all w last)) is
+    (subst (λ (l : List Event). AppendsText a b (IsRun 2 l all first last)) all_events printed)) same
+reported (Ok all) (Err e) s events first last a b c end all_events is ends printed same = failed end s a c ends
+reported (Err e) flushed s events first last a b c end all_events is ends printed same = failed end s a c ends
 
 pub as_read : (read : Result Script ℕ) (s : Script) (a b : Option (List ℕ)) (end : Status) → read ≡ Ok s → Reports (Ok s) a b end → Reports read a b end
 as_read read s a b end is reports = subst (λ (r : Result Script ℕ). Reports r a b end) (sym is) reports
@@ -70,10 +73,10 @@ not_read fault.NoMemory read a end bad is = subst (Reports read a a) (sym is) (s
 
 -- ---- inputs
 
-pub taken : (input : Option (List ℕ)) (text : List ℕ) (a b : Option (List ℕ)) (end : Status) → IfSome input (λ octets. text ≡ octets)
+pub taken : (input : Option (List ℕ)) (held text : List ℕ) (a b : Option (List ℕ)) (end : Status) → text ≡ held → IfSome input (λ octets. held ≡ octets)
     → Reports (script_of (lines_of text)) a b end → Simulates input a b end
-taken None text a b end is reports = tt
-taken (Some octets) text a b end is reports = inl (subst (λ (t : List ℕ). Reports (script_of (lines_of t)) a b end) is reports)
+taken None held text a b end same is reports = tt
+taken (Some octets) held text a b end same is reports = inl (subst (λ (t : List ℕ). Reports (script_of (lines_of t)) a b end) (same ∙ is) reports)
 
 pub not_taken : (input a : Option (List ℕ)) (end : Status) → IsUnread end → Simulates input a a end
 not_taken None a end unread = tt
