@@ -1,7 +1,7 @@
 //! The store's tables, at the level of requests and replies.
 ghost use Rattle.std.specs.Prelude.{◌<◌};
 
-use bac_service::{AnyComplex, AnyReply, Reply, read_request, write_reply};
+use bac_service::{AnyReply, Complex, Reply, read_request, write_reply};
 use bac_store::{File, Object, Planned, Property, Store, StoreFault, house};
 use bac_value::{NoMemory, ObjectIdentifier, read_data};
 use std::alloc::Global;
@@ -23,36 +23,46 @@ fn digit(character: u8) -> u8
 }
 
 fn octets_of(alloc: Global, text: &str) -> Result<Vec<u8>, NoMemory> {
+    let text = text.as_bytes();
     let mut octets = Vec::new(alloc);
-    for pair in text.as_bytes().chunks(2) {
-        if let [high, low] = pair {
-            octets.push(16 * digit(*high) + digit(*low))?;
-        }
+    for n in 0..text.len() / 2 {
+        octets.push(16 * digit(text[2 * n]) + digit(text[2 * n + 1]))?;
     }
     Ok(octets)
 }
 
 /// What a reply is expected to be.
 #[derive(Clone, Copy)]
-enum Want<'a> {
+enum Want {
     Simple,
     /// The service data of a ComplexACK.
-    Complex(&'a str),
+    Complex(&'static str),
     Error(u32, u32),
 }
 
-fn is_wanted(alloc: Global, reply: Reply<'_>, want: Want<'_>) -> Result<bool, NoMemory> {
-    match (reply, want) {
-        (AnyReply::Simple, Want::Simple) => Ok(true),
-        (AnyReply::Complex(told), Want::Complex(text)) => {
-            let mut octets = Vec::new(alloc);
-            write_reply(told, &mut octets)?;
-            Ok(octets.as_slice() == octets_of(alloc, text)?.as_slice())
-        }
-        (AnyReply::Error { class, code }, Want::Error(of_class, of_code)) => {
-            Ok(class == of_class && code == of_code)
-        }
-        _ => Ok(false),
+/// The octets of service data.
+fn spelled(alloc: Global, complex: Complex<'_>) -> Result<Vec<u8>, NoMemory> {
+    let mut octets = Vec::new(alloc);
+    write_reply(complex, &mut octets)?;
+    Ok(octets)
+}
+
+fn is_spelled(alloc: Global, complex: Complex<'_>, text: &str) -> Result<bool, NoMemory> {
+    let octets = octets_of(alloc, text)?;
+    Ok(spelled(alloc, complex)?.as_slice() == octets.as_slice())
+}
+
+fn is_wanted(alloc: Global, reply: Reply<'_>, want: Want) -> Result<bool, NoMemory> {
+    match reply {
+        AnyReply::Simple => Ok(matches!(want, Want::Simple)),
+        AnyReply::Complex(complex) => match want {
+            Want::Complex(text) => is_spelled(alloc, complex, text),
+            _ => Ok(false),
+        },
+        AnyReply::Error { class, code } => Ok(
+            matches!(want, Want::Error(c, d) if c == class && d == code),
+        ),
+        AnyReply::Reject(_) => Ok(false),
     }
 }
 
@@ -62,7 +72,7 @@ fn performs(
     store: &mut Store,
     choice: u8,
     octets: &[u8],
-    want: Want<'_>,
+    want: Want,
 ) -> Result<bool, NoMemory> {
     let Ok(request) = read_request(choice, octets) else {
         return Ok(false);
@@ -74,21 +84,38 @@ fn performs(
 }
 
 /// A service choice, the octets of a request, and the reply to it.
-type Row<'a> = (u8, &'a str, Want<'a>);
+type Row = (u8, &'static str, Want);
 
-/// Performs requests by plans, one after the other, up to the first whose reply is not the one beside it.
-fn first_wrong<'a>(
-    alloc: Global,
-    store: &mut Store,
-    rows: &[Row<'a>],
-) -> Result<Option<&'a str>, NoMemory> {
-    for (choice, text, want) in rows {
-        let octets = octets_of(alloc, text)?;
-        if !performs(alloc, store, *choice, &octets, *want)? {
-            return Ok(Some(text));
+fn is_performed(alloc: Global, store: &mut Store, row: &Row) -> Result<bool, NoMemory> {
+    let octets = octets_of(alloc, row.1)?;
+    performs(alloc, store, row.0, &octets, row.2)
+}
+
+/// Performs requests by plans, one after the other, up to the first whose reply is not the one beside it: an Err has its octets.
+fn all_performed(alloc: Global, store: &mut Store, rows: &[Row]) -> Result<(), Fail> {
+    for row in rows {
+        if !is_performed(alloc, store, row)? {
+            return Err(Fail::from(row.1));
         }
     }
-    Ok(None)
+    Ok(())
+}
+
+/// The same of a fresh house.
+fn house_performs(alloc: Global, rows: &[Row]) -> Result<(), Fail> {
+    let mut store = house(alloc)?;
+    all_performed(alloc, &mut store, rows)
+}
+
+/// The same of a copy, which the store is without.
+fn copy_performs(alloc: Global, store: &Store, rows: &[Row]) -> Result<(), Fail> {
+    let mut copy = store.copy(alloc)?;
+    all_performed(alloc, &mut copy, rows)
+}
+
+/// An Err about this where it is not so.
+fn holds(is: bool, about: &'static str) -> Result<(), Fail> {
+    if is { Ok(()) } else { Err(Fail::from(about)) }
 }
 
 /// A property of these octets, which can be written.

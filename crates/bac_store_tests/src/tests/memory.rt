@@ -1,23 +1,30 @@
 //! Run with each allocation refused in turn, too: `sh tests/memory/refused.sh`.
 use super::*;
+use bac_service::Request;
+
+/// A copy, where one allocation alone is refused.
+fn copied(alloc: Global, store: &Store) -> Result<Store, NoMemory> {
+    match store.copy(alloc) {
+        Ok(copy) => Ok(copy),
+        Err(NoMemory) => store.copy(alloc),
+    }
+}
+
+fn is_copied(alloc: Global, store: &Store) -> Result<bool, NoMemory> {
+    Ok(copied(alloc, store)?.same(store))
+}
 
 /// A refused copy leaves the store, which can be copied then.
 #[test]
 fn copies_or_refuses(rt: HostRuntime) -> Result<(), Fail> {
-    let Ok(store) = house(rt.alloc()) else {
-        return Ok(());
-    };
-    let copy = match store.copy(rt.alloc()) {
-        Ok(copy) => copy,
-        // one allocation alone is refused
-        Err(NoMemory) => store.copy(rt.alloc())?,
-    };
-    assert!(rt; copy.same(&store));
-    Ok(())
+    match house(rt.alloc()) {
+        Ok(store) => holds(is_copied(rt.alloc(), &store)?, "a copy"),
+        Err(NoMemory) => Ok(()),
+    }
 }
 
 /// Whether a reply is the wanted one, where one allocation alone is refused.
-fn is_told(alloc: Global, plan: &Planned, want: Want<'_>) -> Result<bool, NoMemory> {
+fn is_told(alloc: Global, plan: &Planned, want: Want) -> Result<bool, NoMemory> {
     match is_wanted(alloc, plan.reply(), want) {
         Ok(is) => Ok(is),
         Err(NoMemory) => is_wanted(alloc, plan.reply(), want),
@@ -25,7 +32,7 @@ fn is_told(alloc: Global, plan: &Planned, want: Want<'_>) -> Result<bool, NoMemo
 }
 
 /// Requests of the house, and their replies.
-const REQUESTS: &[(u8, &[u8], Want<'_>)] = &[
+const REQUESTS: &[(u8, &[u8], Want)] = &[
     (
         12,
         b"\x0C\x02\x00\x00\x01\x19\x4D",
@@ -49,24 +56,50 @@ const REQUESTS: &[(u8, &[u8], Want<'_>)] = &[
     (12, b"\x0C\x00\x00\x00\x09\x19\x55", Want::Error(1, 31)),
 ];
 
+/// A plan, where one allocation alone is refused; none where memory was refused for an Error.
+fn planned(
+    alloc: Global,
+    store: &Store,
+    request: &Request<'_>,
+    want: Want,
+) -> Result<Option<Planned>, NoMemory> {
+    match store.prepare(alloc, request) {
+        Ok(plan) => Ok(Some(plan)),
+        Err(NoMemory) if matches!(want, Want::Error(_, _)) => Ok(None),
+        Err(NoMemory) => Ok(Some(store.prepare(alloc, request)?)),
+    }
+}
+
+fn is_prepared(
+    alloc: Global,
+    store: &Store,
+    choice: u8,
+    octets: &[u8],
+    want: Want,
+) -> Result<bool, NoMemory> {
+    let Ok(request) = read_request(choice, octets) else {
+        return Ok(false);
+    };
+    match planned(alloc, store, &request, want)? {
+        Some(plan) => is_told(alloc, &plan, want),
+        None => Ok(false),
+    }
+}
+
+fn all_prepared(alloc: Global, store: &Store) -> Result<(), Fail> {
+    for (choice, octets, want) in REQUESTS {
+        if !is_prepared(alloc, store, *choice, octets, *want)? {
+            return Err(Fail::from(*octets));
+        }
+    }
+    Ok(())
+}
+
 /// Each reply is told; where its memory is refused, the next call finds the store as it was. An Error takes no memory.
 #[test]
 fn prepares_or_refuses(rt: HostRuntime) -> Result<(), Fail> {
-    let Ok(store) = house(rt.alloc()) else {
-        return Ok(());
-    };
-    for (choice, octets, want) in REQUESTS {
-        let Ok(request) = read_request(*choice, octets) else {
-            return Err(Fail::from("no request"));
-        };
-        let plan = match store.prepare(rt.alloc(), &request) {
-            Ok(plan) => plan,
-            Err(NoMemory) => {
-                assert!(rt; !matches!(want, Want::Error(_, _)), "memory for an Error");
-                store.prepare(rt.alloc(), &request)?
-            }
-        };
-        assert!(rt; is_told(rt.alloc(), &plan, *want)?, "{choice}");
+    match house(rt.alloc()) {
+        Ok(store) => all_prepared(rt.alloc(), &store),
+        Err(NoMemory) => Ok(()),
     }
-    Ok(())
 }

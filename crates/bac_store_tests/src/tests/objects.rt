@@ -17,13 +17,18 @@ const OBJECTS: &[(u16, u32, bool)] = &[
     (0, 4_194_303, false),
 ];
 
-#[test]
-fn takes_objects_of_the_profile(rt: HostRuntime) -> Result<(), Fail> {
+fn all_objects_taken(alloc: Global) -> Result<(), Fail> {
     for (kind, instance, right) in OBJECTS {
-        let object = bare(rt.alloc(), *kind, *instance)?;
-        assert_eq!(rt; is_right(rt.alloc(), object)?, *right, "{kind} {instance}");
+        if is_right(alloc, bare(alloc, *kind, *instance)?)? != *right {
+            return Err(Fail::from((*kind, *instance)));
+        }
     }
     Ok(())
+}
+
+#[test]
+fn takes_objects_of_the_profile(rt: HostRuntime) -> Result<(), Fail> {
+    all_objects_taken(rt.alloc())
 }
 
 /// An object's type, a property's number and its values, and whether the object may have it.
@@ -50,44 +55,72 @@ const PROPERTIES: &[(u16, u32, &str, bool)] = &[
     (0, 4_194_304, "00", false),
 ];
 
-#[test]
-fn takes_properties_of_the_profile(rt: HostRuntime) -> Result<(), Fail> {
+fn has_property(alloc: Global, kind: u16, number: u32, text: &str) -> Result<bool, Fail> {
+    let octets = octets_of(alloc, text)?;
+    is_right(alloc, with_property(alloc, kind, number, &octets)?)
+}
+
+fn all_properties_taken(alloc: Global) -> Result<(), Fail> {
     for (kind, number, text, right) in PROPERTIES {
-        let octets = octets_of(rt.alloc(), text)?;
-        let object = with_property(rt.alloc(), *kind, *number, &octets)?;
-        let is_right = is_right(rt.alloc(), object)?;
-        assert_eq!(rt; is_right, *right, "{kind} {number} {text}");
+        if has_property(alloc, *kind, *number, text)? != *right {
+            return Err(Fail::from((*number, *text)));
+        }
     }
     Ok(())
 }
 
+#[test]
+fn takes_properties_of_the_profile(rt: HostRuntime) -> Result<(), Fail> {
+    all_properties_taken(rt.alloc())
+}
+
 /// Object types, and whether objects of them with one instance are told to have a duplicate: before a type that is none.
-const DUPLICATES: &[([u16; 3], bool)] = &[([0, 2, 0], true), ([7, 2, 7], true), ([0, 2, 7], false)];
+const DUPLICATES: &[(&[u16], bool)] = &[
+    (&[0, 2, 0], true),
+    (&[7, 2, 7], true),
+    (&[0, 2, 7], false),
+];
+
+fn alike(alloc: Global, kinds: &[u16]) -> Result<Vec<Object>, Fail> {
+    let mut objects = Vec::new(alloc);
+    for kind in kinds {
+        objects.push(bare(alloc, *kind, 5)?)?;
+    }
+    Ok(objects)
+}
+
+fn has_duplicate(alloc: Global, kinds: &[u16]) -> Result<bool, Fail> {
+    let made = Store::new(alloc, alike(alloc, kinds)?);
+    Ok(matches!(made, Err(StoreFault::Duplicate)))
+}
 
 #[test]
 fn finds_duplicates_first(rt: HostRuntime) -> Result<(), Fail> {
     for (kinds, expected) in DUPLICATES {
-        let mut objects = Vec::new(rt.alloc());
-        for kind in kinds {
-            objects.push(bare(rt.alloc(), *kind, 5)?)?;
-        }
-        let fault = Store::new(rt.alloc(), objects).err();
-        assert_eq!(rt; fault == Some(StoreFault::Duplicate), *expected);
+        holds(has_duplicate(rt.alloc(), kinds)? == *expected, "duplicates")?;
     }
     Ok(())
 }
 
+/// An object with property 600, another one, and 600 again.
+fn with_a_property_twice(alloc: Global) -> Result<Object, Fail> {
+    let mut object = with_property(alloc, 0, 600, b"\x00")?;
+    object.properties.push(property(alloc, 512, b"")?)?;
+    object.properties.push(property(alloc, 600, b"\x00")?)?;
+    Ok(object)
+}
+
+fn is_listed_twice(alloc: Global) -> Result<bool, Fail> {
+    is_right(alloc, with_a_property_twice(alloc)?)
+}
+
 #[test]
 fn lists_a_property_once(rt: HostRuntime) -> Result<(), Fail> {
-    let mut object = with_property(rt.alloc(), 0, 600, b"\x00")?;
-    object.properties.push(property(rt.alloc(), 512, b"")?)?;
-    object.properties.push(property(rt.alloc(), 600, b"\x00")?)?;
-    assert!(rt; !is_right(rt.alloc(), object)?);
-    Ok(())
+    holds(!is_listed_twice(rt.alloc())?, "600 twice")
 }
 
 /// First values of property 512, writes, and a read after them. Values that are no single application value take any others.
-const KINDS: &[(&[u8], &[Row<'_>])] = &[
+const KINDS: &[(&[u8], &[Row])] = &[
     (
         b"\x0E\x0F",
         &[
@@ -110,19 +143,32 @@ const KINDS: &[(&[u8], &[Row<'_>])] = &[
     ),
 ];
 
+fn store_with(alloc: Global, values: &[u8]) -> Result<Store, Fail> {
+    store_of(alloc, with_property(alloc, 0, 512, values)?)
+}
+
+/// Whether a copy that has performed these differs from the store.
+fn copy_differs(alloc: Global, store: &Store, rows: &[Row]) -> Result<bool, Fail> {
+    let mut copy = store.copy(alloc)?;
+    all_performed(alloc, &mut copy, rows)?;
+    Ok(!copy.same(store))
+}
+
+fn keeps_kind(alloc: Global, values: &[u8], rows: &[Row]) -> Result<(), Fail> {
+    let store = store_with(alloc, values)?;
+    holds(copy_differs(alloc, &store, rows)?, "the store has changed")
+}
+
 /// A written copy leaves the store.
 #[test]
 fn keeps_the_kind_of_the_first_values(rt: HostRuntime) -> Result<(), Fail> {
     for (values, rows) in KINDS {
-        let store = store_of(rt.alloc(), with_property(rt.alloc(), 0, 512, values)?)?;
-        let mut copy = store.copy(rt.alloc())?;
-        assert_eq!(rt; first_wrong(rt.alloc(), &mut copy, rows)?, None);
-        assert!(rt; !copy.same(&store));
+        keeps_kind(rt.alloc(), values, rows)?;
     }
     Ok(())
 }
 
-const WRITES_OF_A_FILE: &[Row<'_>] = &[
+const WRITES_OF_A_FILE: &[Row] = &[
     (7, "C4028000010E31FF61AA0F", Want::Error(5, 5)),
     (7, "C4028000010E310961AA0F", Want::Error(5, 5)),
     (
@@ -132,12 +178,12 @@ const WRITES_OF_A_FILE: &[Row<'_>] = &[
     ),
 ];
 
+fn file_keeps(alloc: Global) -> Result<(), Fail> {
+    let mut store = store_of(alloc, file_of(alloc, 0x5A, 2, false)?)?;
+    all_performed(alloc, &mut store, WRITES_OF_A_FILE)
+}
+
 #[test]
 fn keeps_files_that_cannot_be_written(rt: HostRuntime) -> Result<(), Fail> {
-    let mut store = store_of(rt.alloc(), file_of(rt.alloc(), 0x5A, 2, false)?)?;
-    assert_eq!(rt;
-        first_wrong(rt.alloc(), &mut store, WRITES_OF_A_FILE)?,
-        None
-    );
-    Ok(())
+    file_keeps(rt.alloc())
 }

@@ -2,7 +2,7 @@
 use super::*;
 
 /// Reads before writes, so that one house serves all.
-const PROPERTIES: &[Row<'_>] = &[
+const PROPERTIES: &[Row] = &[
     (
         12,
         "0C02000001194D",
@@ -65,14 +65,12 @@ const PROPERTIES: &[Row<'_>] = &[
 
 #[test]
 fn answers_properties_of_the_house(rt: HostRuntime) -> Result<(), Fail> {
-    let mut store = house(rt.alloc())?;
-    assert_eq!(rt; first_wrong(rt.alloc(), &mut store, PROPERTIES)?, None);
-    Ok(())
+    house_performs(rt.alloc(), PROPERTIES)
 }
 
-const LOG: Want<'_> = Want::Complex("110E3100624F4B0F");
+const LOG: Want = Want::Complex("110E3100624F4B0F");
 
-const FILE_READS: &[Row<'_>] = &[
+const FILE_READS: &[Row] = &[
     (6, "C4028000010E3100210A0F", LOG),
     (6, "C4028000010E310021010F", Want::Complex("100E3100614F0F")),
     (6, "C4028000010E310021020F", LOG),
@@ -86,13 +84,11 @@ const FILE_READS: &[Row<'_>] = &[
 
 #[test]
 fn reads_files_of_the_house(rt: HostRuntime) -> Result<(), Fail> {
-    let mut store = house(rt.alloc())?;
-    assert_eq!(rt; first_wrong(rt.alloc(), &mut store, FILE_READS)?, None);
-    Ok(())
+    house_performs(rt.alloc(), FILE_READS)
 }
 
 /// Writes, each of a fresh house, with its reply and what the file has then.
-const FILE_WRITES: &[(&str, Want<'_>, Want<'_>)] = &[
+const FILE_WRITES: &[(&str, Want, Want)] = &[
     ("C4028000010E31FF600F", Want::Complex("0902"), LOG),
     (
         "C4028000010E310162AABB0F",
@@ -122,19 +118,33 @@ const FILE_WRITES: &[(&str, Want<'_>, Want<'_>)] = &[
     ("C4000000051E3100210162ABCD1F", Want::Error(1, 31), LOG),
 ];
 
+fn is_file_written(
+    alloc: Global,
+    store: &mut Store,
+    (text, want, then): &(&'static str, Want, Want),
+) -> Result<bool, NoMemory> {
+    Ok(
+        is_performed(alloc, store, &(7, text, *want))?
+            && is_performed(alloc, store, &(6, "C4028000010E310021FF0F", *then))?,
+    )
+}
+
+fn house_writes(alloc: Global, row: &(&'static str, Want, Want)) -> Result<bool, NoMemory> {
+    let mut store = house(alloc)?;
+    is_file_written(alloc, &mut store, row)
+}
+
 #[test]
 fn writes_files_of_the_house(rt: HostRuntime) -> Result<(), Fail> {
-    for (text, want, then) in FILE_WRITES {
-        let mut store = house(rt.alloc())?;
-        let rows = [(7, *text, *want), (6, "C4028000010E310021FF0F", *then)];
-        assert_eq!(rt; first_wrong(rt.alloc(), &mut store, &rows)?, None);
+    for row in FILE_WRITES {
+        holds(house_writes(rt.alloc(), row)?, row.0)?;
     }
     Ok(())
 }
 
-const WRITTEN: Want<'_> = Want::Complex("0C0080000119553E44433400003F");
+const WRITTEN: Want = Want::Complex("0C0080000119553E44433400003F");
 
-const WRITES: &[Row<'_>] = &[
+const WRITES: &[Row] = &[
     (15, "0C0080000119553E44433400003F", Want::Simple),
     (12, "0C008000011955", WRITTEN),
     (15, "0C00800001191C3E626B573F", Want::Error(2, 9)),
@@ -153,12 +163,15 @@ const WRITES: &[Row<'_>] = &[
     ),
 ];
 
+const READS: &[Row] = &[(12, "0C008000011955", WRITTEN)];
+
+fn keeps(alloc: Global) -> Result<(), Fail> {
+    let mut store = house(alloc)?;
+    all_performed(alloc, &mut store, WRITES)?;
+    copy_performs(alloc, &store, READS)
+}
+
 #[test]
 fn keeps_what_was_written(rt: HostRuntime) -> Result<(), Fail> {
-    let mut store = house(rt.alloc())?;
-    assert_eq!(rt; first_wrong(rt.alloc(), &mut store, WRITES)?, None);
-    let mut copy = store.copy(rt.alloc())?;
-    let rows = [(12, "0C008000011955", WRITTEN)];
-    assert_eq!(rt; first_wrong(rt.alloc(), &mut copy, &rows)?, None);
-    Ok(())
+    keeps(rt.alloc())
 }
