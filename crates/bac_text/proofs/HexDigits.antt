@@ -1,7 +1,7 @@
 -- Hexadecimal digits that are read in vectors, lane by lane, and what they decode to.
-use Rattle.std.proofs.Common.{◌≡◌, ◌+◌, ◌-◌, ◌*◌, ◌/◌, ◌%◌, ◌^◌, ◌<◌, ◌≤◌, ◌++◌, ◌&&◌, ℕ, zero, suc, Bool, true, false, cond, eqb, ltb, leb, List, [], ◌∷◌, map, length, get_or}
+use Rattle.std.proofs.Common.{◌≡◌, ◌+◌, ◌*◌, ◌%◌, ◌^◌, ◌<◌, ◌≤◌, ◌++◌, ◌&&◌, ℕ, zero, suc, Bool, true, false, cond, eqb, ltb, leb, List, [], ◌∷◌, map, length, get_or}
 use Rattle.std.proofs.Common.{replicate, bit_and, Fits, w8, refl, sym, ap, ◌∙◌, arith, eqb-true, nat_lt, inl, inr, take, drop, length-drop}
-use Rattle.std.proofs.Common.{Option, Some, None, is_some, unwrap_or, Result, Ok, Err, length-append, append_assoc, if◌then◌else◌, take_at, length-take-le}
+use Rattle.std.proofs.Common.{Option, Some, None, is_some, unwrap_or, Result, Ok, Err, length-append, append_assoc, take_at, length-take-le}
 use Rattle.std.proofs.lemmas.Bool.{and_parts, cases_lt, false≢true}
 use Rattle.std.proofs.lemmas.Bool.Decides.{nat_tests}
 use Rattle.std.proofs.lemmas.List.{take-append-drop, drop-drop}
@@ -67,7 +67,6 @@ lanes zero [] e = refl
 lanes zero (x ∷ xs) e = absurd (omega (arith, e))
 lanes (suc n) [] e = absurd (omega (arith, e))
 lanes (suc n) (x ∷ xs) e = ap (λ (l : List ℕ). lane x ∷ l) (lanes n xs (omega (arith, e)))
-
 
 each_lane : (x : ℕ) → x < 256 → lane x ≡ value_of x
 each_lane x h = eqb-true (lane x) (value_of x) (every_below (λ y. eqb (lane y) (value_of y)) 256 x refl h)
@@ -201,6 +200,7 @@ decoded_len s octets h = go (decode_of s) refl h where
   octets_in : Option (List ℕ) → List ℕ
   octets_in None = []
   octets_in (Some xs) = xs
+
   go : (r : Result (List ℕ) FromHexError) → decode_of s ≡ r → octets_or_none r ≡ Some octets → length s ≡ 2 * length octets
   go (Ok xs) e q = (decode_of-ok s xs e).2 ∙ ap (λ (l : List ℕ). 2 * length l) (ap octets_in q)
   go (Err f) e q = cc q
@@ -227,8 +227,10 @@ pub decoded_append : (xs ys : List ℕ) → length xs % 2 ≡ 0 → decoded_at (
 decoded_append xs ys even = go (list_all is_value (map value_of xs)) refl (list_all is_value (map value_of ys)) refl where
   both : (a b : Bool) → list_all is_value (map value_of xs) ≡ a → list_all is_value (map value_of ys) ≡ b → list_all is_value (map value_of (xs ++ ys)) ≡ (a && b)
   both a b p q = all_append xs ys ∙ rw (p, q) refl
+
   parity : (n : ℕ) → length ys % 2 ≡ n → length (xs ++ ys) % 2 ≡ n
   parity n e = omega (arith, even, e, length-append xs ys)
+
   whole : (n : ℕ) → n < 2 → length ys % 2 ≡ n → list_all is_value (map value_of xs) ≡ true → list_all is_value (map value_of ys) ≡ true
       → decoded_at (xs ++ ys) ≡ onto (by_pairs (map value_of xs)) (decoded_at ys)
   whole zero small e p q =
@@ -236,6 +238,7 @@ decoded_append xs ys even = go (list_all is_value (map value_of xs)) refl (list_
       ∙ ap (onto (by_pairs (map value_of xs))) (sym (decoded ys e q))
   whole (suc zero) small e p q = odd_decoded (xs ++ ys) (parity 1 e) ∙ ap (onto (by_pairs (map value_of xs))) (sym (odd_decoded ys e))
   whole (suc (suc n)) small e p q = absurd (omega (arith, small))
+
   go : (a : Bool) → list_all is_value (map value_of xs) ≡ a → (b : Bool) → list_all is_value (map value_of ys) ≡ b
       → decoded_at (xs ++ ys) ≡ join (decoded_at xs) (decoded_at ys)
   go false p b q = not_decoded (xs ++ ys) (both false b p q) ∙ ap (λ (o : Option (List ℕ)). join o (decoded_at ys)) (sym (not_decoded xs p))

@@ -21,9 +21,7 @@ fn values(text: u8x16) -> u8x16
     let letters = letter
         .simd_lt(u8x16::splat(6))
         .select(letter + u8x16::splat(10), u8x16::splat(255));
-    decimal
-        .simd_lt(u8x16::splat(10))
-        .select(decimal, letters)
+    decimal.simd_lt(u8x16::splat(10)).select(decimal, letters)
 }
 
 /// Whether all lanes are values of digits.

@@ -14,7 +14,7 @@ returns-else-are_values c =
     elim c.else-are_values.branch [
       | else-are_values-via-then-are_values+else-are_values-2 w ↦
           block_refused_second c.args.first c.args.second c.values-second.result c.values-second.ensures
-              (sym w.are_values-then-are_values.ensures ∙ w.if-are_values-2.false)
+          (sym w.are_values-then-are_values.ensures ∙ w.if-are_values-2.false)
       | else-are_values-via-else-are_values w ↦
           block_refused_first c.args.first c.args.second c.values-first.result c.values-first.ensures (sym c.are_values.ensures ∙ w.if-are_values.false)
     ]

@@ -15,5 +15,5 @@ loop-place-preserved c =
     let within : place + 32 ≤ length c.args.text.now = omega (arith, c.loop-place-test.true, c.loop-place.invariant.0) in (
       within,
       more_read c.args.text.now c.loop-place.octets.items c.in-Some.read place within c.loop-place.invariant.1 (sym c.in-Some.is ∙ c.block_at.ensures)
-      ∙ ap (λ (l : List ℕ). onto l (decoded_at (drop (place + 32) c.args.text.now))) (sym c.in_ok-extend_from_slice-in-Some.ensures.items),
+          ∙ ap (λ (l : List ℕ). onto l (decoded_at (drop (place + 32) c.args.text.now))) (sym c.in_ok-extend_from_slice-in-Some.ensures.items),
     )
