@@ -64,23 +64,31 @@ pair_failed status.CommandLine address other p old after failed = absurd failed
 pair_failed status.Output address other p old after failed = tt
 pair_failed status.Memory address other p old after failed = tt
 
-pub two_texts : (answered appended read : Bool) (address other : Octets) (node peer : Node) (f g : ℕ) (k l : Calls) (middle new : Pair)
-    (text between after : Option (List ℕ)) (p q : Question) (a b : Request)
-    → node ≡ house_node address → peer ≡ house_node other → p ≡ question_for other a → a ≡ append_request → q ≡ question_for other b → b ≡ read_request
-    → PairText appended p (pair (on_link node f k) (on_link peer g l)) middle text between → PairText read q middle new between after
-    → answered ≡ appended && read
-    → TwoTexts answered address other (pair (on_link (house_node address) f k) (on_link (house_node other) g l)) text after
-two_texts answered appended read address other node peer f g k l middle new text between after p q a b is is_peer is_p is_a is_q is_b first second both =
+-- an ask of a question, as one of the request that it has
+pub text_of : (answered : Bool) (q : Question) (link : Octets) (a b : Request) (old new : Pair) (text after : Option (List ℕ))
+    → q ≡ question_for link a → a ≡ b → PairText answered q old new text after → PairText answered (question_for link b) old new text after
+text_of answered q link a b old new text after is same told =
+    subst (λ (x : Question). PairText answered x old new text after) (is ∙ ap (question_for link) same) told
+
+pub both_texts : (answered appended read : Bool) (address other : Octets) (old middle new : Pair) (text between after : Option (List ℕ))
+    → PairText appended (question_for other append_request) old middle text between → PairText read (question_for other read_request) middle new between after
+    → answered ≡ appended && read → TwoTexts answered address other old text after
+both_texts answered appended read address other old middle new text between after first second both =
     record {
       appended = appended;
       read = read;
       middle = middle;
       new = new;
       between = between;
-      appends =
-          subst (λ (n : Node). PairText appended (question_for other append_request) (pair (on_link n f k) (on_link (house_node other) g l)) middle text between) is
-          (subst (λ (n : Node). PairText appended (question_for other append_request) (pair (on_link node f k) (on_link n g l)) middle text between) is_peer
-          (subst (λ (x : Question). PairText appended x (pair (on_link node f k) (on_link peer g l)) middle text between) (is_p ∙ ap (question_for other) is_a) first));
-      reads = subst (λ (x : Question). PairText read x middle new between after) (is_q ∙ ap (question_for other) is_b) second;
+      appends = first;
+      reads = second;
       both = both;
     }
+
+pub at_houses : (answered : Bool) (address other : Octets) (node peer : Node) (f g : ℕ) (k l : Calls) (text after : Option (List ℕ))
+    → node ≡ house_node address → peer ≡ house_node other
+    → ((a : Octets) → TwoTexts answered a other (pair (on_link node f k) (on_link peer g l)) text after)
+    → TwoTexts answered address other (pair (on_link (house_node address) f k) (on_link (house_node other) g l)) text after
+at_houses answered address other node peer f g k l text after is is_peer told =
+    subst (λ (n : Node). TwoTexts answered address other (pair (on_link n f k) (on_link (house_node other) g l)) text after) is
+    (subst (λ (n : Node). TwoTexts answered address other (pair (on_link node f k) (on_link n g l)) text after) is_peer (told address))

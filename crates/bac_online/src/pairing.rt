@@ -6,6 +6,8 @@ ghost use Rattle.bac_run.specs.Pairs.{pair};
 ghost use Rattle.bac_run.specs.Views.{question_view};
 ghost use Rattle.bac_online.specs.Houses.{house_node};
 ghost use Rattle.bac_online.specs.Pairs.{ReportsPair, TwoTexts, PairText, append_request, read_request};
+ghost use Rattle.bac_online.specs.Questions.{question_for};
+ghost use Rattle.bac_protocol.specs.Service.{Octets};
 
 use crate::asking::{is_answered, print_end};
 use crate::house_node::house_node;
@@ -87,6 +89,86 @@ fn are_both(first: bool, second: bool) -> bool
     first && second
 }
 
+/// The first node asks the other to append AABBCC to file 1. Answers whether it was answered.
+fn ask_append<L: Link, C: Clock, O: Write>(
+    alloc: Global,
+    node: &mut Node,
+    link: &mut L,
+    other: &mut Node,
+    other_link: &mut L,
+    other_address: [u8; 6],
+    clock: &mut C,
+    out: &mut O,
+) -> Result<bool, Trouble>
+    ensures { IfOk result (λ answered. PairText answered (question_for other_address append_request)
+        (pair (on_link node.old (L.failures link.old) (L.calls link.old)) (on_link other.old (L.failures other_link.old) (L.calls other_link.old)))
+        (pair (on_link node.new (L.failures link.new) (L.calls link.new)) (on_link other.new (L.failures other_link.new) (L.calls other_link.new)))
+        (O.contents out.old) (O.contents out.new)) }
+{
+    let question = question_for(other_address, append_request(alloc)?);
+    let answered = ask_other(alloc, node, link, other, other_link, clock, &question, out)?;
+    Ok(answered)
+}
+
+/// The first node asks the other for the present-value of analog-input 5. Answers whether it was answered.
+fn ask_read<L: Link, C: Clock, O: Write>(
+    alloc: Global,
+    node: &mut Node,
+    link: &mut L,
+    other: &mut Node,
+    other_link: &mut L,
+    other_address: [u8; 6],
+    clock: &mut C,
+    out: &mut O,
+) -> Result<bool, Trouble>
+    ensures { IfOk result (λ answered. PairText answered (question_for other_address read_request)
+        (pair (on_link node.old (L.failures link.old) (L.calls link.old)) (on_link other.old (L.failures other_link.old) (L.calls other_link.old)))
+        (pair (on_link node.new (L.failures link.new) (L.calls link.new)) (on_link other.new (L.failures other_link.new) (L.calls other_link.new)))
+        (O.contents out.old) (O.contents out.new)) }
+{
+    let question = question_for(other_address, read_request());
+    let answered = ask_other(alloc, node, link, other, other_link, clock, &question, out)?;
+    Ok(answered)
+}
+
+/// Both asks are made, one after the other. Answers whether both were answered.
+fn ask_both<L: Link, C: Clock, O: Write>(
+    alloc: Global,
+    node: &mut Node,
+    link: &mut L,
+    other: &mut Node,
+    other_link: &mut L,
+    other_address: [u8; 6],
+    clock: &mut C,
+    out: &mut O,
+) -> Result<bool, Trouble>
+    ensures { IfOk result (λ answered. (address : Octets) → TwoTexts answered address other_address
+        (pair (on_link node.old (L.failures link.old) (L.calls link.old)) (on_link other.old (L.failures other_link.old) (L.calls other_link.old)))
+        (O.contents out.old) (O.contents out.new)) }
+{
+    let first = ask_append(
+        alloc,
+        node,
+        link,
+        other,
+        other_link,
+        other_address,
+        clock,
+        out,
+    )?;
+    let second = ask_read(
+        alloc,
+        node,
+        link,
+        other,
+        other_link,
+        other_address,
+        clock,
+        out,
+    )?;
+    Ok(are_both(first, second))
+}
+
 /// Both nodes are made, and both asks are made, one after the other. Answers whether both were answered.
 fn ask_twice<L: Link, C: Clock, O: Write>(
     alloc: Global,
@@ -104,15 +186,17 @@ fn ask_twice<L: Link, C: Clock, O: Write>(
 {
     let mut node = house_node(alloc, address)?;
     let mut other = house_node(alloc, other_address)?;
-    let append = question_for(other_address, append_request(alloc)?);
-    let first = ask_other(
-        alloc, &mut node, link, &mut other, other_link, clock, &append, out,
+    let answered = ask_both(
+        alloc,
+        &mut node,
+        link,
+        &mut other,
+        other_link,
+        other_address,
+        clock,
+        out,
     )?;
-    let read = question_for(other_address, read_request());
-    let second = ask_other(
-        alloc, &mut node, link, &mut other, other_link, clock, &read, out,
-    )?;
-    Ok(are_both(first, second))
+    Ok(answered)
 }
 
 /// Two nodes of those addresses, each with a house store of its own and its own link, take turns: the first asks the second to append AABBCC to file 1, and

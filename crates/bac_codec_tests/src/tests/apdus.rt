@@ -1,5 +1,8 @@
 //! APDUs: tables of octets whose readings and writings were worked out by hand.
+use super::{holds, holds_of};
 use bac_apdu::{ApduFault, read, write};
+use bac_value::NoMemory;
+use std::alloc::Global;
 use std::test::Fail;
 
 /// Octets that are no APDU, and their fault.
@@ -47,11 +50,16 @@ const FAULTS: &[(&[u8], ApduFault)] = &[
     (b"\x72\x00\x00", ApduFault::ReservedBits),
 ];
 
+fn has_fault(octets: &[u8], fault: ApduFault) -> bool {
+    read(octets).err() == Some(fault)
+}
+
 #[test]
-fn faults(rt: HostRuntime) {
+fn faults() -> Result<(), Fail> {
     for (octets, fault) in FAULTS {
-        assert_eq!(rt; read(octets).err(), Some(*fault), "{octets:?}");
+        holds_of(has_fault(octets, *fault), octets)?;
     }
+    Ok(())
 }
 
 /// Each is read, and written again.
@@ -75,26 +83,38 @@ const SPELLINGS: &[&[u8]] = &[
     b"\x71\x01\x00",
 ];
 
+/// Whether octets are read as an APDU that is written as they are.
+fn is_written_back(alloc: Global, octets: &[u8]) -> Result<bool, NoMemory> {
+    let Ok(apdu) = read(octets) else {
+        return Ok(false);
+    };
+    let mut out = Vec::new(alloc);
+    write(&apdu, &mut out)?;
+    Ok(out.as_slice() == octets)
+}
+
 #[test]
 fn spellings(rt: HostRuntime) -> Result<(), Fail> {
     for octets in SPELLINGS {
-        let apdu = read(octets)?;
-        let mut out = Vec::new(rt.alloc());
-        write(&apdu, &mut out)?;
-        assert_eq!(rt; out.as_slice(), *octets);
+        holds_of(is_written_back(rt.alloc(), octets)?, octets)?;
     }
     Ok(())
 }
 
 /// 65,535 octets of service data in a segment.
-#[test]
-fn the_longest(rt: HostRuntime) -> Result<(), Fail> {
-    let alloc = rt.alloc();
+fn longest(alloc: Global) -> Result<Vec<u8>, NoMemory> {
     let mut octets = Vec::new(alloc);
     octets.extend_from_slice(b"\x0A\x75\xFF\xFF\x7F\xFF")?;
     octets.resize(65_541, 0x55)?;
-    let mut out = Vec::new(alloc);
-    write(&read(&octets)?, &mut out)?;
-    assert!(rt; out == octets);
-    Ok(())
+    Ok(octets)
+}
+
+fn is_longest_written_back(alloc: Global) -> Result<bool, NoMemory> {
+    let octets = longest(alloc)?;
+    is_written_back(alloc, &octets)
+}
+
+#[test]
+fn the_longest(rt: HostRuntime) -> Result<(), Fail> {
+    holds(is_longest_written_back(rt.alloc())?, "the longest")
 }

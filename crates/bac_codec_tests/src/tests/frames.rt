@@ -1,7 +1,10 @@
 //! Datagrams: tables of octets whose readings and writings were worked out by hand.
+use super::{holds, holds_of};
 use bac_npdu::{
     Dropped, FrameFault, Peer, Route, read_bvll, read_datagram, read_npdu, write_datagram,
 };
+use bac_value::NoMemory;
+use std::alloc::Global;
 use std::test::Fail;
 
 const LINK: [u8; 6] = [0x7F, 0, 0, 1, 0xBA, 0xC1];
@@ -24,12 +27,17 @@ const BVLL_FAULTS: &[(&[u8], FrameFault)] = &[
     (b"\x81\x0A\x00\x08\x01\x00\x60", FrameFault::BadLength),
 ];
 
+fn has_bvll_fault(octets: &[u8], fault: FrameFault) -> bool {
+    read_bvll(octets).err() == Some(fault)
+}
+
 #[test]
-fn faults_of_bvll(rt: HostRuntime) {
+fn faults_of_bvll() -> Result<(), Fail> {
     for (octets, fault) in BVLL_FAULTS {
-        assert_eq!(rt; read_bvll(octets).err(), Some(*fault), "{octets:?}");
+        holds_of(has_bvll_fault(octets, *fault), octets)?;
     }
-    assert_eq!(rt; read_bvll(b"\x81\x0A\x00\x04"), Ok(b"".as_slice()));
+    let empty = read_bvll(b"\x81\x0A\x00\x04");
+    holds(empty == Ok(b"".as_slice()), "an empty NPDU")
 }
 
 /// Octets that are no NPDU, and their fault.
@@ -66,11 +74,16 @@ const NPDU_FAULTS: &[(&[u8], FrameFault)] = &[
     (b"\x01\xA0\x00\x05\x00\xFF", FrameFault::Truncated),
 ];
 
+fn has_npdu_fault(octets: &[u8], fault: FrameFault) -> bool {
+    read_npdu(octets).err() == Some(fault)
+}
+
 #[test]
-fn faults_of_npdu(rt: HostRuntime) {
+fn faults_of_npdu() -> Result<(), Fail> {
     for (octets, fault) in NPDU_FAULTS {
-        assert_eq!(rt; read_npdu(octets).err(), Some(*fault), "{octets:?}");
+        holds_of(has_npdu_fault(octets, *fault), octets)?;
     }
+    Ok(())
 }
 
 /// A datagram, whether it comes from device 2A of network 5, and the octets of its APDU.
@@ -89,22 +102,32 @@ const MEANINGS: &[(&[u8], bool, &[u8])] = &[
     ),
 ];
 
-/// The peer itself, or device 2A of network 5 behind it.
-fn peer(is_routed: bool) -> Peer {
-    let route = if is_routed {
+fn route(is_routed: bool) -> Option<Route> {
+    if is_routed {
         Route::new(5, b"\x2A")
     } else {
         None
-    };
-    Peer { link: LINK, route }
+    }
+}
+
+/// The peer itself, or device 2A of network 5 behind it.
+fn peer(is_routed: bool) -> Peer {
+    Peer {
+        link: LINK,
+        route: route(is_routed),
+    }
+}
+
+fn is_meant(octets: &[u8], is_routed: bool, apdu: &[u8]) -> bool {
+    read_datagram(LINK, octets) == Ok((peer(is_routed), apdu))
 }
 
 #[test]
-fn what_datagrams_mean(rt: HostRuntime) {
+fn what_datagrams_mean() -> Result<(), Fail> {
     for (octets, is_routed, apdu) in MEANINGS {
-        let meaning = read_datagram(LINK, octets);
-        assert!(rt; meaning == Ok((peer(*is_routed), *apdu)), "{octets:?}");
+        holds_of(is_meant(octets, *is_routed, apdu), octets)?;
     }
+    Ok(())
 }
 
 /// Datagrams without an APDU for this node, and why.
@@ -132,31 +155,38 @@ const DROPPED: &[(&[u8], Dropped)] = &[
     ),
 ];
 
+fn is_dropped(octets: &[u8], dropped: Dropped) -> bool {
+    read_datagram(LINK, octets).err() == Some(dropped)
+}
+
 #[test]
-fn why_datagrams_are_dropped(rt: HostRuntime) {
+fn why_datagrams_are_dropped() -> Result<(), Fail> {
     for (octets, dropped) in DROPPED {
-        let told = read_datagram(LINK, octets).err();
-        assert_eq!(rt; told, Some(*dropped), "{octets:?}");
+        holds_of(is_dropped(octets, *dropped), octets)?;
+    }
+    Ok(())
+}
+
+/// Whether a front of a request, with its own length in the BVLL, is read, or dropped for its cause.
+fn is_front_of(len: u8) -> bool {
+    let mut octets = REQUEST;
+    octets[3] = len;
+    let front = octets.get(..usize::from(len)).unwrap_or(&[]);
+    match len {
+        0..4 => is_dropped(front, Dropped::Bvll(FrameFault::Truncated)),
+        4 | 5 => is_dropped(front, Dropped::Npdu(FrameFault::Truncated)),
+        _ => read_datagram(LINK, front).is_ok(),
     }
 }
 
-/// Fronts of a request, each with its own length in the BVLL.
 #[test]
-fn fronts_of_a_request(rt: HostRuntime) {
-    for len in 0..17 {
-        let mut octets = REQUEST;
-        octets[3] = len as u8;
-        let expected = match len {
-            0..4 => Some(Dropped::Bvll(FrameFault::Truncated)),
-            4 | 5 => Some(Dropped::Npdu(FrameFault::Truncated)),
-            _ => None,
-        };
-        assert_eq!(rt;
-            read_datagram(LINK, &octets[..len]).err(),
-            expected,
-            "{len}"
-        );
+fn fronts_of_a_request() -> Result<(), Fail> {
+    for len in 0..17u8 {
+        if !is_front_of(len) {
+            return Err(Fail::from(len));
+        }
     }
+    Ok(())
 }
 
 /// Whether a frame goes to device 2A of network 5, whether a reply is expected, an APDU, and the frame.
@@ -187,29 +217,52 @@ const FRAMES: &[(bool, bool, &[u8], &[u8])] = &[
     ),
 ];
 
-/// Each is written after what was there.
-#[test]
-fn frames(rt: HostRuntime) -> Result<(), Fail> {
-    let mut out = Vec::new(rt.alloc());
-    for (is_routed, expecting, apdu, frame) in FRAMES {
-        let before = out.len();
-        write_datagram(&peer(*is_routed), *expecting, apdu, &mut out)?;
-        assert_eq!(rt; out.get(before..), Some(*frame));
+/// Whether the frame is what is written after what was there.
+fn appends(
+    out: &mut Vec<u8>,
+    (is_routed, expecting, apdu, frame): &(bool, bool, &[u8], &[u8]),
+) -> Result<bool, NoMemory> {
+    if apdu.len() > 1_476 {
+        return Ok(false);
+    }
+    let before = out.len();
+    write_datagram(&peer(*is_routed), *expecting, apdu, out)?;
+    Ok(out.get(before..) == Some(*frame))
+}
+
+fn all_appended(alloc: Global) -> Result<(), Fail> {
+    let mut out = Vec::new(alloc);
+    for row in FRAMES {
+        holds_of(appends(&mut out, row)?, row.3)?;
     }
     Ok(())
 }
 
+#[test]
+fn frames(rt: HostRuntime) -> Result<(), Fail> {
+    all_appended(rt.alloc())
+}
+
 /// The longest APDU, to the longest address.
+fn longest(alloc: Global) -> Result<Vec<u8>, NoMemory> {
+    let route = Route::new(65534, &[0x2A; 8]);
+    let mut out = Vec::new(alloc);
+    write_datagram(&Peer { link: LINK, route }, true, &[0x55; 1476], &mut out)?;
+    Ok(out)
+}
+
+fn is_longest_written(alloc: Global) -> Result<bool, NoMemory> {
+    let out = longest(alloc)?;
+    Ok(
+        out.len() == 1494
+            && out.starts_with(b"\x81\x0A\x05\xD6\x01\x24\xFF\xFE\x08\x2A\x2A")
+            && out.ends_with(&[0x55; 1476]),
+    )
+}
+
 #[test]
 fn the_longest_frame(rt: HostRuntime) -> Result<(), Fail> {
-    let route = Route::new(65534, &[0x2A; 8]);
-    let apdu = [0x55; 1476];
-    let mut out = Vec::new(rt.alloc());
-    write_datagram(&Peer { link: LINK, route }, true, &apdu, &mut out)?;
-    assert_eq!(rt; out.len(), 1494);
-    assert!(rt; out.starts_with(b"\x81\x0A\x05\xD6\x01\x24\xFF\xFE\x08\x2A\x2A"));
-    assert!(rt; out.ends_with(&apdu));
-    Ok(())
+    holds(is_longest_written(rt.alloc())?, "the longest frame")
 }
 
 /// The last octet of a peer's link, and its route, in the order of peers.
@@ -222,18 +275,34 @@ const PEERS: &[(u8, Option<(u16, &[u8])>)] = &[
     (2, None),
 ];
 
-fn peer_of((last, route): &(u8, Option<(u16, &[u8])>)) -> Peer {
-    let link = [0x7F, 0, 0, 1, 0xBA, *last];
-    let route = route.and_then(|(network, address)| Route::new(network, address));
-    Peer { link, route }
+fn route_of(route: Option<(u16, &[u8])>) -> Option<Route> {
+    match route {
+        Some((network, address)) => Route::new(network, address),
+        None => None,
+    }
+}
+
+fn peer_of(row: &(u8, Option<(u16, &[u8])>)) -> Peer {
+    Peer {
+        link: [0x7F, 0, 0, 1, 0xBA, row.0],
+        route: route_of(row.1),
+    }
+}
+
+/// Whether two peers of the table have the order of their places.
+fn are_in_order(i: usize, j: usize) -> bool {
+    match (PEERS.get(i), PEERS.get(j)) {
+        (Some(one), Some(other)) => peer_of(one).cmp(&peer_of(other)) == i.cmp(&j),
+        _ => false,
+    }
 }
 
 #[test]
-fn order_of_peers(rt: HostRuntime) {
-    for (i, one) in PEERS.iter().enumerate() {
-        for (j, other) in PEERS.iter().enumerate() {
-            let order = peer_of(one).cmp(&peer_of(other));
-            assert_eq!(rt; order, i.cmp(&j), "{i} {j}");
+fn order_of_peers() -> Result<(), Fail> {
+    for n in 0..36usize {
+        if !are_in_order(n / 6, n % 6) {
+            return Err(Fail::from(n));
         }
     }
+    Ok(())
 }

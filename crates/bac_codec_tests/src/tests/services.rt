@@ -1,5 +1,5 @@
 //! Requests and replies: rows that were worked out by hand, and rows that this stack did not write. Here is what they share.
-use super::{octets_of, pieces_of};
+use super::{holds, octets_of, pieces_of};
 use bac_service::{
     AnyComplex, AnyReply, AnyRequest, Complex, Content, Reply, Request, WriteAccess, WriteFile,
     WriteStream, read_reply, read_reply_parts, read_request, read_request_parts, reads_reply_parts,

@@ -1,8 +1,8 @@
 //! Tags, values and data: what no contract says of bac_value.
-use super::{octets_of, pieces_of};
+use super::{holds, octets_of, pieces_of};
 use bac_value::{
-    Fault, NoMemory, Octets, Parts, Value, copy_out, read_data, read_element, read_tag,
-    take_element, value_of, write_data, write_value,
+    Data, DataBuf, Fault, NoMemory, Octets, Parts, Value, copy_out, read_data, read_element,
+    read_tag, take_element, value_of, write_data, write_value,
 };
 use std::alloc::Global;
 use std::test::Fail;

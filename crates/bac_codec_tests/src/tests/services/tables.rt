@@ -103,16 +103,28 @@ fn is_request_read(
     }
 }
 
-#[test]
-fn reads_requests(rt: HostRuntime) -> Result<(), Fail> {
-    for rows in [REQUESTS, FOREIGN_REQUESTS] {
-        for (choice, text, expected) in rows {
-            let octets = octets_of(rt.alloc(), text)?;
-            let is_read = is_request_read(rt.alloc(), *choice, &octets, *expected)?;
-            assert!(rt; is_read, "{text}");
-        }
+type RequestRow = (u8, &'static str, Option<u8>);
+
+fn is_request_row(alloc: Global, (choice, text, expected): &RequestRow) -> Result<bool, NoMemory> {
+    let octets = octets_of(alloc, text)?;
+    is_request_read(alloc, *choice, &octets, *expected)
+}
+
+fn all_requests_read(alloc: Global, rows: &[RequestRow]) -> Result<(), Fail> {
+    for row in rows {
+        holds(is_request_row(alloc, row)?, row.1)?;
     }
     Ok(())
+}
+
+#[test]
+fn reads_requests(rt: HostRuntime) -> Result<(), Fail> {
+    all_requests_read(rt.alloc(), REQUESTS)
+}
+
+#[test]
+fn reads_foreign_requests(rt: HostRuntime) -> Result<(), Fail> {
+    all_requests_read(rt.alloc(), FOREIGN_REQUESTS)
 }
 
 /// The number of a fault and its place.
@@ -200,25 +212,46 @@ fn is_reply_read(
     }
 }
 
-#[test]
-fn reads_replies(rt: HostRuntime) -> Result<(), Fail> {
-    for rows in [REPLIES, FOREIGN_REPLIES] {
-        for (choice, text, expected) in rows {
-            let octets = octets_of(rt.alloc(), text)?;
-            let is_read = is_reply_read(rt.alloc(), *choice, &octets, *expected)?;
-            assert!(rt; is_read, "{text}");
-        }
+type ReplyRow = (u8, &'static str, Option<Place>);
+
+fn is_reply_row(alloc: Global, (choice, text, expected): &ReplyRow) -> Result<bool, NoMemory> {
+    let octets = octets_of(alloc, text)?;
+    is_reply_read(alloc, *choice, &octets, *expected)
+}
+
+fn all_replies_read(alloc: Global, rows: &[ReplyRow]) -> Result<(), Fail> {
+    for row in rows {
+        holds(is_reply_row(alloc, row)?, row.1)?;
     }
     Ok(())
 }
 
 #[test]
-fn writes_a_request_that_was_made(rt: HostRuntime) -> Result<(), Fail> {
-    let file = ObjectIdentifier::new(10, 1).ok_or("an object")?;
-    let content = Content::new(b"\xAA\xBB\xCC").ok_or("few octets")?;
+fn reads_replies(rt: HostRuntime) -> Result<(), Fail> {
+    all_replies_read(rt.alloc(), REPLIES)
+}
+
+#[test]
+fn reads_foreign_replies(rt: HostRuntime) -> Result<(), Fail> {
+    all_replies_read(rt.alloc(), FOREIGN_REPLIES)
+}
+
+/// An append to a file, made from its parts.
+fn append(content: Content<'_>) -> Option<Request<'_>> {
+    let file = ObjectIdentifier::new(10, 1)?;
     let access = WriteAccess::Stream(WriteStream { start: -1, content });
-    let request = AnyRequest::WriteFile(WriteFile { file, access });
-    let octets = octets_of(rt.alloc(), "C4028000010E31FF63AABBCC0F")?;
-    assert!(rt; is_request_of(rt.alloc(), request, &octets)?);
-    Ok(())
+    Some(AnyRequest::WriteFile(WriteFile { file, access }))
+}
+
+fn is_append_written(alloc: Global) -> Result<bool, NoMemory> {
+    let octets = octets_of(alloc, "C4028000010E31FF63AABBCC0F")?;
+    match Content::new(b"\xAA\xBB\xCC").and_then(append) {
+        Some(request) => is_request_of(alloc, request, &octets),
+        None => Ok(false),
+    }
+}
+
+#[test]
+fn writes_a_request_that_was_made(rt: HostRuntime) -> Result<(), Fail> {
+    holds(is_append_written(rt.alloc())?, "an append")
 }

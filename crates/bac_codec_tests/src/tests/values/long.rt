@@ -1,4 +1,6 @@
 //! Long strings, with ample memory: the lengths at which a tag grows, and 65,535 octets in one piece and in many.
+ghost use Rattle.std.specs.Prelude.{◌<◌};
+
 use super::*;
 
 /// The tags of octet strings of 4, 5, 253, 254, 65,535 and 65,536 octets, and how many octets there are with the tag.
@@ -11,23 +13,33 @@ const STRINGS: &[(&str, usize)] = &[
     ("65FF00010000", 65_542),
 ];
 
+/// The tag, and contents up to so many octets in all.
+fn string_of(alloc: Global, tag: &str, len: usize, octet: u8) -> Result<Vec<u8>, NoMemory> {
+    let mut octets = octets_of(alloc, tag)?;
+    octets.resize(len, octet)?;
+    Ok(octets)
+}
+
+fn is_string_written_back(alloc: Global, tag: &str, len: usize) -> Result<bool, NoMemory> {
+    let octets = string_of(alloc, tag, len, 7)?;
+    is_written_back(alloc, &octets)
+}
+
 #[test]
 fn strings_have_the_shortest_tags(rt: HostRuntime) -> Result<(), Fail> {
     for (tag, len) in STRINGS {
-        let mut octets = octets_of(rt.alloc(), tag)?;
-        octets.resize(*len, 7)?;
-        assert!(rt; is_written_back(rt.alloc(), &octets)?, "{tag}");
+        holds(is_string_written_back(rt.alloc(), tag, *len)?, tag)?;
     }
     Ok(())
 }
 
 /// Whether octets are data that are written as they are.
 fn is_data_written(alloc: Global, octets: &[u8]) -> Result<bool, NoMemory> {
+    let Ok((data, _)) = read_data(octets) else {
+        return Ok(false);
+    };
     let mut out = Vec::new(alloc);
-    match read_data(octets) {
-        Ok((data, _)) => write_data(data, &mut out)?,
-        Err(_) => return Ok(false),
-    }
+    write_data(data, &mut out)?;
     Ok(out.as_slice() == octets)
 }
 
@@ -41,17 +53,32 @@ fn is_the_same_in(alloc: Global, pieces: &[Vec<u8>], octets: &[u8]) -> Result<bo
     Ok(out.as_slice() == octets && is_written_back_from(alloc, parts, octets)?)
 }
 
-/// Octets, character and bit strings of 65,535 octets with their tags, in one piece, in pieces of 1,000, and of one octet each.
+/// Octets, character and bit strings with their tags, and the size of their pieces.
+const LONGEST: &[(&str, usize)] = &[("65FEFFFB", 1_000), ("75FEFFFB", 1), ("85FEFFFB", 65_535)];
+
+fn is_the_same_by(alloc: Global, octets: &[u8], size: usize) -> Result<bool, NoMemory>
+    requires { 0 < size }
+{
+    let pieces = pieces_of(alloc, octets, size)?;
+    is_the_same_in(alloc, &pieces, octets)
+}
+
+fn is_long_string(alloc: Global, tag: &str, size: usize) -> Result<bool, NoMemory>
+    requires { 0 < size }
+{
+    let octets = string_of(alloc, tag, 65_535, 0)?;
+    Ok(
+        is_data_written(alloc, &octets)?
+            && is_written_back(alloc, &octets)?
+            && is_the_same_by(alloc, &octets, size)?,
+    )
+}
+
+/// 65,535 octets in one piece, in pieces of 1,000, and of one octet each.
 #[test]
 fn copies_and_writes_65535_octets(rt: HostRuntime) -> Result<(), Fail> {
-    let alloc = rt.alloc();
-    for (tag, size) in [("65FEFFFB", 1_000), ("75FEFFFB", 1), ("85FEFFFB", 65_535)] {
-        let mut octets = octets_of(alloc, tag)?;
-        octets.resize(65_535, 0)?;
-        assert!(rt; is_data_written(alloc, &octets)?, "{tag}");
-        assert!(rt; is_written_back(alloc, &octets)?, "{tag}");
-        let pieces = pieces_of(alloc, &octets, size)?;
-        assert!(rt; is_the_same_in(alloc, &pieces, &octets)?, "{tag}");
+    for (tag, size) in LONGEST {
+        holds(is_long_string(rt.alloc(), tag, (*size).max(1))?, tag)?;
     }
     Ok(())
 }

@@ -11,25 +11,42 @@ fn one_octet(alloc: Global) -> Result<Vec<u8>, NoMemory> {
     Ok(out)
 }
 
+/// Whether a refused write changes nothing.
+fn is_written_once(out: &mut Vec<u8>) -> Result<bool, NoMemory> {
+    let value = Value::Unsigned(256);
+    let is_unchanged = match write_value(&value, out) {
+        Ok(()) => return Ok(true),
+        Err(NoMemory) => matches!(out.as_slice(), [0xAA]),
+    };
+    write_value(&value, out)?;
+    Ok(is_unchanged)
+}
+
+fn is_written_after_all(alloc: Global) -> Result<bool, NoMemory> {
+    let mut out = one_octet(alloc)?;
+    Ok(is_written_once(&mut out)? && matches!(out.as_slice(), [0xAA, 0x22, 1, 0]))
+}
+
 #[test]
 fn writes_what_was_refused(rt: HostRuntime) -> Result<(), Fail> {
-    let value = Value::Unsigned(256);
-    let mut out = one_octet(rt.alloc())?;
-    if write_value(&value, &mut out).is_err() {
-        assert!(rt; matches!(out.as_slice(), [0xAA]));
-        write_value(&value, &mut out)?;
+    holds(is_written_after_all(rt.alloc())?, "256")
+}
+
+fn copied(alloc: Global, data: Data<'_>) -> Result<DataBuf, NoMemory> {
+    match data.to_owned(alloc) {
+        Ok(copy) => Ok(copy),
+        Err(NoMemory) => data.to_owned(alloc),
     }
-    assert!(rt; matches!(out.as_slice(), [0xAA, 0x22, 1, 0]));
-    Ok(())
+}
+
+fn is_copied(alloc: Global, octets: &[u8]) -> Result<bool, NoMemory> {
+    match read_data(octets) {
+        Ok((data, _)) => Ok(copied(alloc, data)?.octets.as_slice() == octets),
+        Err(_) => Ok(false),
+    }
 }
 
 #[test]
 fn copies_data_that_was_refused(rt: HostRuntime) -> Result<(), Fail> {
-    let (data, _) = read_data(b"\x62\xAB\xCD")?;
-    let copy = match data.to_owned(rt.alloc()) {
-        Ok(copy) => copy,
-        Err(NoMemory) => data.to_owned(rt.alloc())?,
-    };
-    assert!(rt; matches!(copy.octets.as_slice(), [0x62, 0xAB, 0xCD]));
-    Ok(())
+    holds(is_copied(rt.alloc(), b"\x62\xAB\xCD")?, "a copy")
 }

@@ -27,19 +27,26 @@ fn outcome_as(reading: Reading, octets: &[u8]) -> Outcome {
     }
 }
 
-/// The first octets of a table that have another outcome than it says.
-fn first_wrong<'a>(
+fn is_read_as(
     alloc: Global,
     reading: Reading,
-    rows: &[(&'a str, Outcome)],
-) -> Result<Option<&'a str>, NoMemory> {
+    text: &str,
+    expected: Outcome,
+) -> Result<bool, NoMemory> {
+    let octets = octets_of(alloc, text)?;
+    Ok(outcome_as(reading, &octets) == expected)
+}
+
+/// Up to the first octets of a table that have another outcome than it says.
+fn all_read_as(
+    alloc: Global,
+    reading: Reading,
+    rows: &[(&'static str, Outcome)],
+) -> Result<(), Fail> {
     for (text, expected) in rows {
-        let octets = octets_of(alloc, text)?;
-        if outcome_as(reading, &octets) != *expected {
-            return Ok(Some(text));
-        }
+        holds(is_read_as(alloc, reading, text, *expected)?, text)?;
     }
-    Ok(None)
+    Ok(())
 }
 
 const TAGS: &[(&str, Outcome)] = &[
@@ -125,16 +132,18 @@ const DATA: &[(&str, Outcome)] = &[
 ];
 
 #[test]
-fn reads_tables(rt: HostRuntime) -> Result<(), Fail> {
-    let tables = [
-        (Reading::Tag, TAGS),
-        (Reading::Element, ELEMENTS),
-        (Reading::Data, DATA),
-    ];
-    for (reading, rows) in tables {
-        assert_eq!(rt; first_wrong(rt.alloc(), reading, rows)?, None);
-    }
-    Ok(())
+fn reads_tags(rt: HostRuntime) -> Result<(), Fail> {
+    all_read_as(rt.alloc(), Reading::Tag, TAGS)
+}
+
+#[test]
+fn reads_elements(rt: HostRuntime) -> Result<(), Fail> {
+    all_read_as(rt.alloc(), Reading::Element, ELEMENTS)
+}
+
+#[test]
+fn reads_all_data(rt: HostRuntime) -> Result<(), Fail> {
+    all_read_as(rt.alloc(), Reading::Data, DATA)
 }
 
 /// A number, of one of the three kinds of values that are numbers.
@@ -183,15 +192,28 @@ const OTHERS: &[&str] = &[
     "C400800001",
 ];
 
+fn is_number_written(alloc: Global, number: Number, text: &str) -> Result<bool, NoMemory> {
+    let octets = octets_of(alloc, text)?;
+    is_written(alloc, &value(number), &octets)
+}
+
 #[test]
-fn writes_values_and_reads_them_back(rt: HostRuntime) -> Result<(), Fail> {
+fn writes_numbers(rt: HostRuntime) -> Result<(), Fail> {
     for (number, text) in NUMBERS {
-        let octets = octets_of(rt.alloc(), text)?;
-        assert!(rt; is_written(rt.alloc(), &value(*number), &octets)?, "{text}");
+        holds(is_number_written(rt.alloc(), *number, text)?, text)?;
     }
+    Ok(())
+}
+
+fn is_text_written_back(alloc: Global, text: &str) -> Result<bool, NoMemory> {
+    let octets = octets_of(alloc, text)?;
+    is_written_back(alloc, &octets)
+}
+
+#[test]
+fn writes_what_was_read(rt: HostRuntime) -> Result<(), Fail> {
     for text in OTHERS {
-        let octets = octets_of(rt.alloc(), text)?;
-        assert!(rt; is_written_back(rt.alloc(), &octets)?, "{text}");
+        holds(is_text_written_back(rt.alloc(), text)?, text)?;
     }
     Ok(())
 }
