@@ -24,7 +24,7 @@ mod tickets;
 type Indexed = Requester<IndexSlots<PeerKey, Client>>;
 
 /// How a call ends a ticket, or refuses an ask.
-#[derive(Clone, Copy, Debug, PartialEq, Eq)]
+#[derive(Clone, Copy, PartialEq)]
 enum End {
     Open,
     Simple,
@@ -39,7 +39,7 @@ enum End {
 }
 
 /// The moment, the APDU that comes (none: a tick), the first octets of the datagrams that are sent, and the end.
-type Row<'a> = (u64, &'a str, &'a str, End);
+type Row = (u64, &'static str, &'static str, End);
 
 /// A node that takes APDUs of 1,476 octets, and segments of any number.
 const LARGE: Settings = Settings {
@@ -203,30 +203,73 @@ fn meets(end: &mut Indexed, now: u64, octets: &[u8]) -> Result<(Vec<Datagram>, E
     }
 }
 
-/// Whether a row goes as it says.
-fn goes(end: &mut Indexed, alloc: Global, row: Row<'_>) -> Result<bool, NoMemory> {
-    let (now, heard, sent, how) = row;
-    let octets = octets_of(alloc, heard)?;
-    let (sends, ended) = meets(end, now, &octets)?;
-    let told = joined(alloc, &sends)?;
-    let wanted = octets_of(alloc, sent)?;
-    Ok(told == wanted && ended == how)
+/// Whether that is what a row says.
+fn is_said(alloc: Global, sends: &[Datagram], ended: End, row: &Row) -> Result<bool, NoMemory> {
+    let told = joined(alloc, sends)?;
+    let wanted = octets_of(alloc, row.2)?;
+    Ok(told == wanted && ended == row.3)
 }
 
-/// Whether an ask of peer 2 at moment 0 sends that, and all rows go as they say after it, between nodes that are set so.
-fn plays(
+/// Whether a row goes as it says.
+fn goes(end: &mut Indexed, alloc: Global, row: &Row) -> Result<bool, NoMemory> {
+    let octets = octets_of(alloc, row.1)?;
+    let (sends, ended) = meets(end, row.0, &octets)?;
+    is_said(alloc, &sends, ended, row)
+}
+
+/// A row that went otherwise.
+fn wrong(row: &Row) -> Fail {
+    Fail::from(if row.1.is_empty() { row.2 } else { row.1 })
+}
+
+/// All rows go as they say.
+fn all_go(end: &mut Indexed, alloc: Global, rows: &[Row]) -> Result<(), Fail> {
+    for row in rows {
+        if !goes(end, alloc, row)? {
+            return Err(wrong(row));
+        }
+    }
+    Ok(())
+}
+
+/// Whether an ask of peer 2 at moment 0 is accepted and sends that.
+fn begins(
+    end: &mut Indexed,
     alloc: Global,
     settings: &Settings,
     request: &OwnedRequest,
     sent: &str,
-    rows: &[Row<'_>],
 ) -> Result<bool, NoMemory> {
-    let mut end: Indexed = requester(alloc, settings, 64)?;
-    let told = ask(&mut end, alloc, 0, 2, &settings.limits, request)?;
+    let told = ask(end, alloc, 0, 2, &settings.limits, request)?;
     let wanted = octets_of(alloc, sent)?;
-    let mut right = told.sends == wanted && told.end == End::Open;
-    for row in rows {
-        right = goes(&mut end, alloc, *row)? && right;
+    Ok(told.sends == wanted && told.end == End::Open)
+}
+
+/// An ask of peer 2 at moment 0 sends that, and all rows go as they say after it, between nodes that are set so.
+fn plays(
+    alloc: Global,
+    settings: &Settings,
+    request: &OwnedRequest,
+    sent: &'static str,
+    rows: &[Row],
+) -> Result<(), Fail> {
+    let mut end: Indexed = requester(alloc, settings, 64)?;
+    if !begins(&mut end, alloc, settings, request, sent)? {
+        return Err(Fail::from(sent));
     }
-    Ok(right)
+    all_go(&mut end, alloc, rows)
+}
+
+/// The same for each of these tables, of a requester of its own.
+fn all_play(
+    alloc: Global,
+    settings: &Settings,
+    request: &OwnedRequest,
+    sent: &'static str,
+    tables: &[&[Row]],
+) -> Result<(), Fail> {
+    for rows in tables {
+        plays(alloc, settings, request, sent, rows)?;
+    }
+    Ok(())
 }

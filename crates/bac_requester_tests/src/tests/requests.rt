@@ -16,7 +16,7 @@ const SEGMENTS_1_AND_2: &str =
     "810A0038 0104 0E7000012007 ABABABABABABABABABABABAB 810A0023 0104 0A7000022007 ABABABABABABABABABABABAB";
 
 /// The first answer was lost.
-const SENT_AGAIN: &[Row<'_>] = &[
+const SENT_AGAIN: &[Row] = &[
     (2_999, "", "", End::Open),
     (3_000, "", APPEND, End::Open),
     (3_000, "300007 0902", "", End::Written(2)),
@@ -24,36 +24,41 @@ const SENT_AGAIN: &[Row<'_>] = &[
     (3_000, "300007 0902", "", End::Open),
 ];
 
-const LAST_MOMENT: &[Row<'_>] = &[(60_000, "", APPEND, End::Open)];
+const LAST_MOMENT: &[Row] = &[(60_000, "", APPEND, End::Open)];
 
-const TOO_LATE: &[Row<'_>] = &[(60_001, "", "", End::Expired), (63_001, "", "", End::Open)];
+const TOO_LATE: &[Row] = &[(60_001, "", "", End::Expired), (63_001, "", "", End::Open)];
+
+const APPENDS: &[&[Row]] = &[SENT_AGAIN, LAST_MOMENT, TOO_LATE];
+
+fn appended(alloc: Global) -> Result<(), Fail> {
+    let append = request(alloc, 7, "C402800001 0E 31FF 63AABBCC 0F")?;
+    all_play(alloc, &LARGE, &append, APPEND, APPENDS)
+}
 
 #[test]
 fn an_append(rt: HostRuntime) -> Result<(), Fail> {
-    let alloc = rt.alloc();
-    let append = request(alloc, 7, "C402800001 0E 31FF 63AABBCC 0F")?;
-    assert!(rt; plays(alloc, &LARGE, &append, APPEND, SENT_AGAIN)?);
-    assert!(rt; plays(alloc, &LARGE, &append, APPEND, LAST_MOMENT)?);
-    assert!(rt; plays(alloc, &LARGE, &append, APPEND, TOO_LATE)?);
-    Ok(())
+    appended(rt.alloc())
 }
 
-const NOTHING_COMES: &[Row<'_>] = &[
+const NOTHING_COMES: &[Row] = &[
     (3_000, "", READ, End::Open),
     (6_000, "", READ, End::Open),
     (9_000, "", READ, End::Open),
     (12_000, "", "", End::TimedOut),
 ];
 
+fn read_in_vain(alloc: Global) -> Result<(), Fail> {
+    let read = reading(alloc)?;
+    plays(alloc, &LARGE, &read, READ, NOTHING_COMES)
+}
+
 #[test]
 fn nothing_comes(rt: HostRuntime) -> Result<(), Fail> {
-    let read = reading(rt.alloc())?;
-    assert!(rt; plays(rt.alloc(), &LARGE, &read, READ, NOTHING_COMES)?);
-    Ok(())
+    read_in_vain(rt.alloc())
 }
 
 /// The last SegmentACK and the answer were lost.
-const ANSWER_LOST: &[Row<'_>] = &[
+const ANSWER_LOST: &[Row] = &[
     (0, "41000020", SEGMENTS_1_AND_2, End::Open),
     (1_999, "", "", End::Open),
     (2_000, "", SEGMENTS_1_AND_2, End::Open),
@@ -61,7 +66,7 @@ const ANSWER_LOST: &[Row<'_>] = &[
 ];
 
 /// Segments came out of order.
-const OUT_OF_ORDER: &[Row<'_>] = &[
+const OUT_OF_ORDER: &[Row] = &[
     (0, "41000020", SEGMENTS_1_AND_2, End::Open),
     (0, "43000020", "", End::Open),
     (0, "43000020", "", End::Open),
@@ -71,14 +76,14 @@ const OUT_OF_ORDER: &[Row<'_>] = &[
 ];
 
 /// Segments 1 and 2 were lost, and come too late.
-const GIVEN_UP: &[Row<'_>] = &[
+const GIVEN_UP: &[Row] = &[
     (0, "41000020", SEGMENTS_1_AND_2, End::Open),
     (6_000, "", SEGMENTS_1_AND_2, End::Open),
     (8_000, "710000", "", End::Aborted(0)),
 ];
 
 /// All but the answer came.
-const FROM_THE_FIRST: &[Row<'_>] = &[
+const FROM_THE_FIRST: &[Row] = &[
     (0, "41000020", SEGMENTS_1_AND_2, End::Open),
     (0, "41000220", "", End::Open),
     (3_000, "", SEGMENT_0, End::Open),
@@ -86,59 +91,79 @@ const FROM_THE_FIRST: &[Row<'_>] = &[
 ];
 
 /// Numbers that are not in the window, and a window that is larger than the client's own.
-const FOREIGN_ACKS: &[Row<'_>] = &[
+const FOREIGN_ACKS: &[Row] = &[
     (0, "41000120", "", End::Open),
     (0, "4100FF20", "", End::Open),
     (0, "4100007F", SEGMENTS_1_AND_2, End::Open),
 ];
 
+const IN_THREE: &[&[Row]] = &[
+    ANSWER_LOST,
+    OUT_OF_ORDER,
+    GIVEN_UP,
+    FROM_THE_FIRST,
+    FOREIGN_ACKS,
+];
+
+fn put_in_three(alloc: Global) -> Result<(), Fail> {
+    let put = put(alloc, 100)?;
+    all_play(alloc, &SMALL, &put, SEGMENT_0, IN_THREE)
+}
+
 #[test]
 fn three_segments(rt: HostRuntime) -> Result<(), Fail> {
-    let alloc = rt.alloc();
-    let put = put(alloc, 100)?;
-    for rows in [
-        ANSWER_LOST,
-        OUT_OF_ORDER,
-        GIVEN_UP,
-        FROM_THE_FIRST,
-        FOREIGN_ACKS,
-    ] {
-        assert!(rt; plays(alloc, &SMALL, &put, SEGMENT_0, rows)?);
-    }
-    Ok(())
+    put_in_three(rt.alloc())
 }
 
 const WHOLE: &str = "810A0038 0104 02700007 C402800001 0E 3100 6523 ABABABAB";
 
 const IN_TWO: &str = "810A0038 0104 0E7000002007 C402800001 0E 3100 6524 ABAB";
 
-const LAST_3: &[Row<'_>] = &[(
+const LAST_3: &[Row] = &[(
     0,
     "41000020",
     "810A000F 0104 0A7000012007 ABAB0F",
     End::Open,
 )];
 
-/// 46 octets of service data go in an APDU of 50; 47 go as 44 and 3.
-#[test]
-fn where_segments_begin(rt: HostRuntime) -> Result<(), Fail> {
-    let alloc = rt.alloc();
-    let whole = put(alloc, 35)?;
-    assert!(rt; plays(alloc, &SMALL, &whole, WHOLE, &[])?);
-    let longer = put(alloc, 36)?;
-    assert!(rt; plays(alloc, &SMALL, &longer, IN_TWO, LAST_3)?);
-    Ok(())
+/// A write of so many octets sends that, and the rows go as they say after it.
+fn puts(alloc: Global, len: usize, sent: &'static str, rows: &[Row]) -> Result<(), Fail> {
+    let put = put(alloc, len)?;
+    plays(alloc, &SMALL, &put, sent, rows)
 }
 
-/// With ample memory each row goes as it says, and both ends are the same.
+/// 46 octets of service data go in an APDU of 50.
+#[test]
+fn the_longest_in_one_apdu(rt: HostRuntime) -> Result<(), Fail> {
+    puts(rt.alloc(), 35, WHOLE, &[])
+}
+
+/// 47 go as 44 and 3.
+#[test]
+fn the_shortest_in_segments(rt: HostRuntime) -> Result<(), Fail> {
+    puts(rt.alloc(), 36, IN_TWO, LAST_3)
+}
+
+/// With ample memory each row goes as it says.
+fn with_memory(alloc: Global) -> Result<(), Fail> {
+    let mut end = memory::begun(alloc)?;
+    all_go(&mut end, alloc, memory::ROWS)
+}
+
+/// Whether two ends to which the same came are the same.
+fn are_alike(alloc: Global) -> Result<bool, NoMemory> {
+    let end = memory::after(alloc, memory::ROWS)?;
+    let other = memory::after(alloc, memory::ROWS)?;
+    Ok(end.same(&other))
+}
+
 #[test]
 fn rows_with_memory(rt: HostRuntime) -> Result<(), Fail> {
-    let alloc = rt.alloc();
-    let mut end = memory::begun(alloc)?;
-    for row in memory::ROWS {
-        assert!(rt; goes(&mut end, alloc, *row)?, "{}", row.1);
-    }
-    let other = memory::after(alloc, memory::ROWS)?;
-    assert!(rt; end.same(&other));
+    with_memory(rt.alloc())
+}
+
+#[test]
+fn ends_that_are_alike(rt: HostRuntime) -> Result<(), Fail> {
+    assert!(rt; are_alike(rt.alloc())?);
     Ok(())
 }

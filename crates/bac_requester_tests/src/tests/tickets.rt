@@ -55,18 +55,16 @@ fn is_as_said(
     alloc: Global,
     sends: &[Datagram],
     ended: &Option<Ending>,
-    row: Row<'_>,
+    row: &Row,
 ) -> Result<bool, NoMemory> {
-    let told = joined(alloc, sends)?;
-    let wanted = octets_of(alloc, row.2)?;
     let how = match ended {
         Some(how) => end_of(how),
         None => End::Open,
     };
-    Ok(told == wanted && how == row.3)
+    is_said(alloc, sends, how, row)
 }
 
-fn ticks(alloc: Global, row: Row<'_>, ticket: Ticket) -> Result<Played, Fail> {
+fn ticks(alloc: Global, row: &Row, ticket: Ticket) -> Result<Played, Fail> {
     let context = context(row.0);
     let due = ticket.prepare_tick(alloc, &context)?;
     let right = is_as_said(alloc, &due.sends, &due.ended, row)?;
@@ -74,7 +72,7 @@ fn ticks(alloc: Global, row: Row<'_>, ticket: Ticket) -> Result<Played, Fail> {
     Ok(Played { held, right })
 }
 
-fn hears(alloc: Global, row: Row<'_>, octets: &[u8], ticket: Ticket) -> Result<Played, Fail> {
+fn hears(alloc: Global, row: &Row, octets: &[u8], ticket: Ticket) -> Result<Played, Fail> {
     let Ok(apdu) = read(octets) else {
         return Err(Fail::new("no APDU"));
     };
@@ -86,25 +84,30 @@ fn hears(alloc: Global, row: Row<'_>, octets: &[u8], ticket: Ticket) -> Result<P
     Ok(Played { held, right })
 }
 
-/// Whether all rows go as they say.
-fn follows(alloc: Global, ticket: Ticket, rows: &[Row<'_>]) -> Result<bool, Fail> {
+/// One row.
+fn plays_one(alloc: Global, row: &Row, ticket: Ticket) -> Result<Played, Fail> {
+    let octets = octets_of(alloc, row.1)?;
+    if octets.is_empty() {
+        ticks(alloc, row, ticket)
+    } else {
+        hears(alloc, row, &octets, ticket)
+    }
+}
+
+/// All rows go as they say.
+fn follows(alloc: Global, ticket: Ticket, rows: &[Row]) -> Result<(), Fail> {
     let mut held = Held::Open(ticket);
     for row in rows {
         let Held::Open(ticket) = held else {
-            return Ok(false);
+            return Err(wrong(row));
         };
-        let octets = octets_of(alloc, row.1)?;
-        let played = if octets.is_empty() {
-            ticks(alloc, *row, ticket)?
-        } else {
-            hears(alloc, *row, &octets, ticket)?
-        };
+        let played = plays_one(alloc, row, ticket)?;
         if !played.right {
-            return Ok(false);
+            return Err(wrong(row));
         }
         held = played.held;
     }
-    Ok(true)
+    Ok(())
 }
 
 /// A request of a service choice was asked, with these service data.
@@ -116,8 +119,16 @@ fn begun(alloc: Global, choice: u8, service: Vec<u8>) -> Result<Begun, Fail> {
     Ok(Ticket::begin(alloc, &context(FIRST), request)?)
 }
 
-/// Whether all rows go as they say for a new ticket of a request in one APDU.
-fn receives(alloc: Global, choice: u8, rows: &[Row<'_>]) -> Result<bool, Fail> {
+/// All rows go as they say for a new ticket of a request in one APDU.
+fn receives(alloc: Global, choice: u8, rows: &[Row]) -> Result<(), Fail> {
     let begun = begun(alloc, choice, octets_of(alloc, SHORT)?)?;
     follows(alloc, begun.ticket, rows)
+}
+
+/// The same for each of these tables, of a request of service choice 7.
+fn all_receive(alloc: Global, tables: &[&[Row]]) -> Result<(), Fail> {
+    for rows in tables {
+        receives(alloc, 7, rows)?;
+    }
+    Ok(())
 }

@@ -1,19 +1,21 @@
 //! What comes for a request in one APDU (clause 5.4.4.3).
 use super::*;
 
+/// Whether an ask sends the request, and its ticket has the moment and the service choice.
+fn is_asked(alloc: Global) -> Result<bool, Fail> {
+    let begun = begun(alloc, 7, octets_of(alloc, SHORT)?)?;
+    let sent = joined(alloc, &begun.sends)? == octets_of(alloc, REQUEST)?;
+    Ok(sent && begun.ticket.first() == FIRST && begun.ticket.choice() == 7)
+}
+
 #[test]
 fn an_ask_sends_the_request(rt: HostRuntime) -> Result<(), Fail> {
-    let alloc = rt.alloc();
-    let begun = begun(alloc, 7, octets_of(alloc, SHORT)?)?;
-    let told = joined(alloc, &begun.sends)?;
-    assert!(rt; told == octets_of(alloc, REQUEST)?);
-    assert_eq!(rt; begun.ticket.first(), FIRST);
-    assert_eq!(rt; begun.ticket.choice(), 7);
+    assert!(rt; is_asked(rt.alloc())?);
     Ok(())
 }
 
 /// The service choice of a request, and what comes for it.
-const ANSWERS: &[(u8, Row<'_>)] = &[
+const ANSWERS: &[(u8, Row)] = &[
     (15, (2_000, "20010F", "", End::Simple)),
     // a kind that doesn't fit, and another service choice
     (12, (2_000, "20010C", "", End::Open)),
@@ -34,16 +36,20 @@ const ANSWERS: &[(u8, Row<'_>)] = &[
     (7, (2_000, "700104", "", End::Open)),
 ];
 
-#[test]
-fn answers(rt: HostRuntime) -> Result<(), Fail> {
+fn each_answer(alloc: Global) -> Result<(), Fail> {
     for (choice, row) in ANSWERS {
-        assert!(rt; receives(rt.alloc(), *choice, &[*row])?, "{}", row.1);
+        receives(alloc, *choice, &[*row])?;
     }
     Ok(())
 }
 
+#[test]
+fn answers(rt: HostRuntime) -> Result<(), Fail> {
+    each_answer(rt.alloc())
+}
+
 /// A request, a SegmentACK, a segment that is not the first, one of another service choice; then the answer.
-const IGNORED: &[Row<'_>] = &[
+const IGNORED: &[Row] = &[
     (2_000, "02000107", "", End::Open),
     (2_000, "41010004", "", End::Open),
     (2_000, "3C01010407 09", "", End::Open),
@@ -53,6 +59,5 @@ const IGNORED: &[Row<'_>] = &[
 
 #[test]
 fn what_is_ignored(rt: HostRuntime) -> Result<(), Fail> {
-    assert!(rt; receives(rt.alloc(), 7, IGNORED)?);
-    Ok(())
+    receives(rt.alloc(), 7, IGNORED)
 }

@@ -2,7 +2,7 @@
 use super::*;
 
 /// A reply of window 2: each second segment after the first is acknowledged.
-const RECEIVED: &[Row<'_>] = &[
+const RECEIVED: &[Row] = &[
     (2_000, "3C01000207 09", "810A000A 0100 40010002", End::Open),
     (3_000, "3C01010207", "", End::Open),
     (3_000, "3C01020207", "810A000A 0100 40010202", End::Open),
@@ -20,13 +20,13 @@ const RECEIVED: &[Row<'_>] = &[
     ),
 ];
 
-const LESSER_WINDOW: &[Row<'_>] = &[
+const LESSER_WINDOW: &[Row] = &[
     (2_000, "3C01007F07 09", "810A000A 0100 40010004", End::Open),
     (2_000, "600109", "", End::Rejected(9)),
 ];
 
 /// Segments that can't be read.
-const UNREADABLE: &[Row<'_>] = &[
+const UNREADABLE: &[Row] = &[
     (2_000, "3C01000207 09", "810A000A 0100 40010002", End::Open),
     (
         2_000,
@@ -36,17 +36,16 @@ const UNREADABLE: &[Row<'_>] = &[
     ),
 ];
 
-const ABORTED: &[Row<'_>] = &[
+const ABORTED: &[Row] = &[
     (2_000, "3C01000207 09", "810A000A 0100 40010002", End::Open),
     (2_000, "710105", "", End::Aborted(5)),
 ];
 
+const REPLIES: &[&[Row]] = &[RECEIVED, LESSER_WINDOW, UNREADABLE, ABORTED];
+
 #[test]
 fn replies_in_segments(rt: HostRuntime) -> Result<(), Fail> {
-    for rows in [RECEIVED, LESSER_WINDOW, UNREADABLE, ABORTED] {
-        assert!(rt; receives(rt.alloc(), 7, rows)?);
-    }
-    Ok(())
+    all_receive(rt.alloc(), REPLIES)
 }
 
 /// A request in segments of 44, 44 and 23 octets.
@@ -55,7 +54,7 @@ const SEGMENT_0: &str = "810A0038 0104 0E0001000407 ABABABABABABABABABABABAB";
 const SEGMENTS_1_AND_2: &str =
     "810A0038 0104 0E0001010407 ABABABABABABABABABABABAB 810A0023 0104 0A0001020407 ABABABABABABABABABABABAB";
 
-const SENT: &[Row<'_>] = &[
+const SENT: &[Row] = &[
     // an answer before the last segment was sent is ignored
     (2_000, "300107 0905", "", End::Open),
     (2_000, "41010702", "", End::Open),
@@ -70,7 +69,7 @@ const SENT: &[Row<'_>] = &[
 ];
 
 /// A window is sent four times.
-const SENT_FOUR_TIMES: &[Row<'_>] = &[
+const SENT_FOUR_TIMES: &[Row] = &[
     (3_000, "", SEGMENT_0, End::Open),
     (5_000, "", SEGMENT_0, End::Open),
     (7_000, "", SEGMENT_0, End::Open),
@@ -79,20 +78,48 @@ const SENT_FOUR_TIMES: &[Row<'_>] = &[
 ];
 
 /// A request in segments is not sent again once a segment of its reply came.
-const NOT_SENT_AGAIN: &[Row<'_>] = &[
+const NOT_SENT_AGAIN: &[Row] = &[
     (2_000, "41010002", SEGMENTS_1_AND_2, End::Open),
     (2_000, "3C01000207 09", "810A000A 0100 40010002", End::Open),
     (9_999, "", "", End::Open),
     (10_000, "", "", End::TimedOut),
 ];
 
-#[test]
-fn requests_in_segments(rt: HostRuntime) -> Result<(), Fail> {
-    let alloc = rt.alloc();
-    for rows in [SENT, SENT_FOUR_TIMES, NOT_SENT_AGAIN] {
-        let begun = begun(alloc, 7, vec![in alloc; 0xABu8; 111]?)?;
-        assert!(rt; joined(alloc, &begun.sends)? == octets_of(alloc, SEGMENT_0)?);
-        assert!(rt; follows(alloc, begun.ticket, rows)?);
+/// Before all segments were sent.
+const REJECTED_EARLY: &[Row] = &[(2_000, "600109", "", End::Rejected(9))];
+
+const ABORTED_EARLY: &[Row] = &[
+    // one that a client sends
+    (2_000, "700104", "", End::Open),
+    (2_000, "710104", "", End::Aborted(4)),
+];
+
+/// A request in segments is asked, and all rows go as they say after it.
+fn sends_and_follows(alloc: Global, rows: &[Row]) -> Result<(), Fail> {
+    let begun = begun(alloc, 7, vec![in alloc; 0xABu8; 111]?)?;
+    if joined(alloc, &begun.sends)? != octets_of(alloc, SEGMENT_0)? {
+        return Err(Fail::from(SEGMENT_0));
+    }
+    follows(alloc, begun.ticket, rows)
+}
+
+fn all_follow(alloc: Global, tables: &[&[Row]]) -> Result<(), Fail> {
+    for rows in tables {
+        sends_and_follows(alloc, rows)?;
     }
     Ok(())
+}
+
+const REQUESTS: &[&[Row]] = &[SENT, SENT_FOUR_TIMES, NOT_SENT_AGAIN];
+
+const REFUSED_EARLY: &[&[Row]] = &[REJECTED_EARLY, ABORTED_EARLY];
+
+#[test]
+fn requests_in_segments(rt: HostRuntime) -> Result<(), Fail> {
+    all_follow(rt.alloc(), REQUESTS)
+}
+
+#[test]
+fn requests_refused_before_all_segments_are_sent(rt: HostRuntime) -> Result<(), Fail> {
+    all_follow(rt.alloc(), REFUSED_EARLY)
 }

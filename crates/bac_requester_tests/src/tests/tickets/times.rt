@@ -2,7 +2,7 @@
 use super::*;
 
 /// Asked at 1,000; each repeat sets the timer anew.
-const THREE_REPEATS: &[Row<'_>] = &[
+const THREE_REPEATS: &[Row] = &[
     (3_999, "", "", End::Open),
     (4_000, "", REQUEST, End::Open),
     (6_999, "", "", End::Open),
@@ -12,7 +12,7 @@ const THREE_REPEATS: &[Row<'_>] = &[
     (13_500, "", "", End::TimedOut),
 ];
 
-const TWELVE_SECONDS: &[Row<'_>] = &[
+const TWELVE_SECONDS: &[Row] = &[
     (4_000, "", REQUEST, End::Open),
     (7_000, "", REQUEST, End::Open),
     (10_000, "", REQUEST, End::Open),
@@ -21,7 +21,7 @@ const TWELVE_SECONDS: &[Row<'_>] = &[
 ];
 
 /// In SEGMENTED_CONF the request is sent again 8,000 after the last segment or repeat.
-const WAITS_FOR_SEGMENTS: &[Row<'_>] = &[
+const WAITS_FOR_SEGMENTS: &[Row] = &[
     (2_000, "3C01000207 09", "810A000A 0100 40010002", End::Open),
     (9_999, "", "", End::Open),
     (10_000, "", REQUEST, End::Open),
@@ -31,16 +31,15 @@ const WAITS_FOR_SEGMENTS: &[Row<'_>] = &[
     (34_000, "", "", End::TimedOut),
 ];
 
+const REPEATS: &[&[Row]] = &[THREE_REPEATS, TWELVE_SECONDS, WAITS_FOR_SEGMENTS];
+
 #[test]
 fn repeats(rt: HostRuntime) -> Result<(), Fail> {
-    for rows in [THREE_REPEATS, TWELVE_SECONDS, WAITS_FOR_SEGMENTS] {
-        assert!(rt; receives(rt.alloc(), 7, rows)?);
-    }
-    Ok(())
+    all_receive(rt.alloc(), REPEATS)
 }
 
 /// Nothing is sent after 60 seconds; each comes for a ticket of its own.
-const LATE: &[Row<'_>] = &[
+const LATE: &[Row] = &[
     (61_000, "", REQUEST, End::Open),
     (61_001, "", "", End::Expired),
     // a tick that is an hour late
@@ -51,23 +50,53 @@ const LATE: &[Row<'_>] = &[
     (61_001, "700109", "", End::Open),
 ];
 
-#[test]
-fn nothing_after_60_seconds(rt: HostRuntime) -> Result<(), Fail> {
+/// Each row by itself.
+fn each_late(alloc: Global) -> Result<(), Fail> {
     for row in LATE {
-        assert!(rt; receives(rt.alloc(), 7, &[*row])?, "{} {}", row.0, row.1);
+        receives(alloc, 7, &[*row])?;
     }
     Ok(())
 }
 
 #[test]
-fn held_for_135_seconds(rt: HostRuntime) -> Result<(), Fail> {
+fn nothing_after_60_seconds(rt: HostRuntime) -> Result<(), Fail> {
+    each_late(rt.alloc())
+}
+
+/// Whether a ticket that has ended is held.
+fn is_closed_held(now: u64) -> bool {
     let closed = Held::Closed { first: FIRST };
-    assert_eq!(rt; closed.is_held(136_000), true);
-    assert_eq!(rt; closed.is_held(136_001), false);
-    let begun = begun(rt.alloc(), 7, octets_of(rt.alloc(), SHORT)?)?;
-    assert_eq!(rt; begun.ticket.is_expired(61_000), false);
-    assert_eq!(rt; begun.ticket.is_expired(61_001), true);
+    closed.is_held(now)
+}
+
+#[test]
+fn held_for_135_seconds(rt: HostRuntime) {
+    assert!(rt; is_closed_held(136_000) && !is_closed_held(136_001));
+}
+
+/// Whether an open ticket is expired, where it is still held.
+fn is_open_expired(alloc: Global, now: u64) -> Result<bool, Fail> {
+    let begun = begun(alloc, 7, octets_of(alloc, SHORT)?)?;
+    let expired = begun.ticket.is_expired(now);
     let open = Held::Open(begun.ticket);
-    assert_eq!(rt; open.is_held(u64::MAX), true);
+    Ok(expired && open.is_held(u64::MAX))
+}
+
+#[test]
+fn expired_after_60_seconds(rt: HostRuntime) -> Result<(), Fail> {
+    assert!(rt; !is_open_expired(rt.alloc(), 61_000)?);
+    assert!(rt; is_open_expired(rt.alloc(), 61_001)?);
+    Ok(())
+}
+
+/// When a ticket is due that was asked at 1,000.
+fn due(alloc: Global) -> Result<u64, Fail> {
+    let begun = begun(alloc, 7, octets_of(alloc, SHORT)?)?;
+    Ok(begun.ticket.due())
+}
+
+#[test]
+fn due_with_its_timer(rt: HostRuntime) -> Result<(), Fail> {
+    assert!(rt; due(rt.alloc())? == 4_000);
     Ok(())
 }
