@@ -1,10 +1,9 @@
 //! What `bac decode` and `bac check` print.
 use bac_text::{Status, check_over, decode_over, read_capture_line};
 use std::alloc::Global;
-use std::io;
-use std::io::{BufReader, Read, Write};
-use std::process::Abort;
 use std::test::Fail;
+
+mod failures;
 
 /// What a command printed and how it ended.
 #[derive(Drop)]
@@ -29,40 +28,58 @@ fn checked(alloc: Global, text: &[u8]) -> Printed {
     Printed { status, out, err }
 }
 
-/// The status and what is printed are these, and nothing goes to standard error.
-fn prints(rt: &impl Abort, printed: &Printed, status: Status, lines: &str, about: &str) {
-    let out = printed.out.as_slice();
-    assert_eq!(rt; out, lines.as_bytes(), "{about}");
-    assert_eq!(rt; printed.status, status, "{about}");
-    assert_eq!(rt; printed.err.len(), 0, "{about}");
+/// Whether the status and what is printed are these, and nothing goes to standard error.
+fn is_printed(printed: &Printed, status: Status, lines: &str) -> bool {
+    printed.out.as_slice() == lines.as_bytes() && printed.status == status && printed.err.is_empty()
 }
 
-/// The layers of a datagram are printed so, with that status.
-fn shows(rt: &impl Abort, alloc: Global, datagram: &str, status: Status, lines: &str) {
-    let printed = decoded(alloc, datagram);
-    prints(rt, &printed, status, lines, datagram);
+/// Whether the layers of a datagram are printed so, with that status.
+fn shows(alloc: Global, datagram: &str, status: Status, lines: &str) -> bool {
+    is_printed(&decoded(alloc, datagram), status, lines)
 }
 
-/// The same of an NPDU in its BVLL; its control octet is 0, or 4 where it expects a reply.
+/// Texts, one after the other.
+fn joined(alloc: Global, texts: &[&str]) -> Result<String, Fail> {
+    let mut all = String::new(alloc);
+    for text in texts {
+        all.push_str(text)?;
+    }
+    Ok(all)
+}
+
+/// An NPDU in its BVLL.
+fn datagram_of(alloc: Global, npdu: &str) -> Result<String, Fail> {
+    let len = npdu.len() / 2 + 4;
+    Ok(format!(in alloc; "810A{len:04X}{npdu}")?)
+}
+
+/// The lines of its frame before those of its APDU; its control octet is 0, or 4 where it expects a reply.
+fn lines_of(alloc: Global, expecting: u8, npdu: &str, lines: &str) -> Result<String, Fail> {
+    let len = npdu.len() / 2 + 4;
+    Ok(format!(in alloc; "bvll len={len}\nnpdu expecting={expecting} priority=0\n{lines}")?)
+}
+
+/// Whether the layers of an NPDU in its BVLL are printed so, with that status.
 fn shows_npdu(
-    rt: &impl Abort,
     alloc: Global,
     expecting: u8,
     npdu: &str,
     status: Status,
     lines: &str,
-) -> Result<(), Fail> {
-    let len = npdu.len() / 2 + 4;
-    let datagram = format!(in alloc; "810A{len:04X}{npdu}")?;
-    let want = format!(in alloc; "bvll len={len}\nnpdu expecting={expecting} priority=0\n{lines}")?;
-    shows(rt, alloc, datagram.as_str(), status, want.as_str());
-    Ok(())
+) -> Result<bool, Fail> {
+    let datagram = datagram_of(alloc, npdu)?;
+    let want = lines_of(alloc, expecting, npdu, lines)?;
+    Ok(shows(alloc, datagram.as_str(), status, want.as_str()))
 }
 
-/// Of these lines of a capture the bad ones and the counts are printed so, with that status.
-fn tallies(rt: &impl Abort, alloc: Global, capture: &str, status: Status, lines: &str) {
-    let printed = checked(alloc, capture.as_bytes());
-    prints(rt, &printed, status, lines, "a capture");
+/// Whether of these lines of a capture the bad ones and the counts are printed so, with that status.
+fn tallies(alloc: Global, capture: &str, status: Status, lines: &str) -> bool {
+    is_printed(&checked(alloc, capture.as_bytes()), status, lines)
+}
+
+/// An Err about this where it is not so.
+fn holds(is: bool, about: &'static str) -> Result<(), Fail> {
+    if is { Ok(()) } else { Err(Fail::from(about)) }
 }
 
 /// The hexadecimal of so many octets of 0.
@@ -72,15 +89,16 @@ fn zeros(alloc: Global, octets: usize) -> Result<String, Fail> {
     Ok(hex::encode(alloc, all)?)
 }
 
-/// Standard error has this line, the output is empty, and the status is this.
-fn complains(rt: &impl Abort, printed: &Printed, status: Status, line: &[u8]) {
-    assert_eq!(rt; printed.err.as_slice(), line);
-    assert_eq!(rt; printed.out.len(), 0);
-    assert_eq!(rt; printed.status, status);
+/// Whether standard error has this line, the output is empty, and the status is this.
+fn complains(printed: &Printed, status: Status, line: &[u8]) -> bool {
+    printed.err.as_slice() == line && printed.out.is_empty() && printed.status == status
 }
 
-/// The expecting flag, an NPDU, and the lines of its APDU and its service data.
-const APDUS: &[(u8, &str, &str, &str)] = &[
+/// The expecting flag, an NPDU, the line of its APDU, and that of its service data.
+type ApduRow = (u8, &'static str, &'static str, &'static str);
+
+/// APDUs of every kind.
+const APDUS: &[ApduRow] = &[
     (
         1,
         "01040E120100010F",
@@ -220,25 +238,30 @@ const APDUS: &[(u8, &str, &str, &str)] = &[
     ),
 ];
 
-/// After `bvll len=N` and `npdu expecting=E priority=0`, each kind of APDU and of service data.
-#[test]
-fn decodes_apdus(rt: HostRuntime) -> Result<(), Fail> {
-    for (expecting, npdu, line, service) in APDUS {
-        let lines = format!(in rt.alloc(); "{line}\n{service}")?;
-        shows_npdu(
-            &rt,
-            rt.alloc(),
-            *expecting,
-            npdu,
-            Status::Done,
-            lines.as_str(),
-        )?;
+fn is_row_shown(
+    alloc: Global,
+    (expecting, npdu, line, service): &ApduRow,
+    status: Status,
+) -> Result<bool, Fail> {
+    let lines = joined(alloc, &[line, "\n", service])?;
+    shows_npdu(alloc, *expecting, npdu, status, lines.as_str())
+}
+
+fn all_shown(alloc: Global, rows: &[ApduRow], status: Status) -> Result<(), Fail> {
+    for row in rows {
+        holds(is_row_shown(alloc, row, status)?, row.1)?;
     }
     Ok(())
 }
 
+/// After `bvll len=N` and `npdu expecting=E priority=0`, each kind of APDU and of service data.
+#[test]
+fn decodes_apdus(rt: HostRuntime) -> Result<(), Fail> {
+    all_shown(rt.alloc(), APDUS, Status::Done)
+}
+
 /// The expecting flag, an NPDU, the line of its APDU, and the fault of its service data.
-const SERVICE_FAULTS: &[(u8, &str, &str, &str)] = &[
+const SERVICE_FAULTS: &[ApduRow] = &[
     (
         1,
         "0104000500070C0000000519553E443F",
@@ -298,18 +321,7 @@ const SERVICE_FAULTS: &[(u8, &str, &str, &str)] = &[
 /// Each reason of a Reject, and faults of the service data of a ComplexACK.
 #[test]
 fn decodes_up_to_service_data(rt: HostRuntime) -> Result<(), Fail> {
-    for (expecting, npdu, line, service) in SERVICE_FAULTS {
-        let lines = format!(in rt.alloc(); "{line}\n{service}")?;
-        shows_npdu(
-            &rt,
-            rt.alloc(),
-            *expecting,
-            npdu,
-            Status::Faulty,
-            lines.as_str(),
-        )?;
-    }
-    Ok(())
+    all_shown(rt.alloc(), SERVICE_FAULTS, Status::Faulty)
 }
 
 /// A datagram, and the lines of its frame and of what is in it.
@@ -353,11 +365,15 @@ const FRAMES: &[(&str, &str, &str)] = &[
     ),
 ];
 
+fn is_frame_shown(alloc: Global, datagram: &str, frame: &str, apdu: &str) -> Result<bool, Fail> {
+    let lines = joined(alloc, &[frame, apdu])?;
+    Ok(shows(alloc, datagram, Status::Done, lines.as_str()))
+}
+
 #[test]
 fn decodes_frames(rt: HostRuntime) -> Result<(), Fail> {
     for (datagram, frame, apdu) in FRAMES {
-        let lines = format!(in rt.alloc(); "{frame}{apdu}")?;
-        shows(&rt, rt.alloc(), datagram, Status::Done, lines.as_str());
+        holds(is_frame_shown(rt.alloc(), datagram, frame, apdu)?, datagram)?;
     }
     Ok(())
 }
@@ -387,10 +403,11 @@ const FAULTY: &[(&str, &str)] = &[
 
 /// A layer with a fault prints it after the layers around it.
 #[test]
-fn decodes_up_to_a_fault(rt: HostRuntime) {
+fn decodes_up_to_a_fault(rt: HostRuntime) -> Result<(), Fail> {
     for (datagram, lines) in FAULTY {
-        shows(&rt, rt.alloc(), datagram, Status::Faulty, lines);
+        holds(shows(rt.alloc(), datagram, Status::Faulty, lines), datagram)?;
     }
+    Ok(())
 }
 
 /// An APDU and the number of its fault.
@@ -410,20 +427,17 @@ const APDU_FAULTS: &[(&str, u8)] = &[
     ("50030C91012105", 8),
 ];
 
+fn has_apdu_fault(alloc: Global, apdu: &str, fault: u8) -> Result<bool, Fail> {
+    let npdu = joined(alloc, &["0100", apdu])?;
+    let line = format!(in alloc; "fault apdu {fault}\n")?;
+    shows_npdu(alloc, 0, npdu.as_str(), Status::Faulty, line.as_str())
+}
+
 /// APDUs with hostile octets, and the number of their fault.
 #[test]
 fn names_the_fault_of_an_apdu(rt: HostRuntime) -> Result<(), Fail> {
     for (apdu, fault) in APDU_FAULTS {
-        let npdu = format!(in rt.alloc(); "0100{apdu}")?;
-        let line = format!(in rt.alloc(); "fault apdu {fault}\n")?;
-        shows_npdu(
-            &rt,
-            rt.alloc(),
-            0,
-            npdu.as_str(),
-            Status::Faulty,
-            line.as_str(),
-        )?;
+        holds(has_apdu_fault(rt.alloc(), apdu, *fault)?, apdu)?;
     }
     Ok(())
 }
@@ -489,263 +503,121 @@ const CAPTURES: &[(&str, Status, &str)] = &[
 ];
 
 #[test]
-fn checks_captures(rt: HostRuntime) {
+fn checks_captures(rt: HostRuntime) -> Result<(), Fail> {
     for (capture, status, lines) in CAPTURES {
-        tallies(&rt, rt.alloc(), capture, *status, lines);
+        holds(tallies(rt.alloc(), capture, *status, lines), capture)?;
     }
+    Ok(())
 }
 
 /// A capture line without a fault.
 const LINE: &str = "7 7F000001BAC1 7F000001BAC0 810A000801001013";
 
+/// Whether a line of so many octets beyond the most, with a good one after it, is told so.
+fn tallies_long(alloc: Global, more: &str, status: Status, lines: &str) -> Result<bool, Fail> {
+    let zeros = zeros(alloc, 65_978)?;
+    let capture = joined(alloc, &[more, zeros.as_str(), LINE, "\n", LINE])?;
+    Ok(tallies(alloc, capture.as_str(), status, lines))
+}
+
+/// What is before the longest line, and what is told.
+const LONG_LINES: &[(&str, Status, &str)] = &[
+    ("", Status::Done, "lines=2 good=2 bad=0\n"),
+    (
+        "0",
+        Status::Faulty,
+        "line 1: not a capture line\nlines=2 good=1 bad=1\n",
+    ),
+];
+
 /// A line of one octet too many is no capture line, one of one less is, and the line after it is read as ever.
 #[test]
 fn skips_overlong_lines(rt: HostRuntime) -> Result<(), Fail> {
-    let zeros = zeros(rt.alloc(), 65_978)?;
-    let table = [
-        ("", Status::Done, "lines=2 good=2 bad=0\n"),
-        (
-            "0",
-            Status::Faulty,
-            "line 1: not a capture line\nlines=2 good=1 bad=1\n",
-        ),
-    ];
-    for (more, status, lines) in table {
-        let capture = format!(in rt.alloc(); "{more}{zeros}{LINE}\n{LINE}")?;
-        tallies(&rt, rt.alloc(), capture.as_str(), status, lines);
+    for (more, status, lines) in LONG_LINES {
+        holds(tallies_long(rt.alloc(), more, *status, lines)?, lines)?;
     }
     Ok(())
+}
+
+fn two_thousand_lines(alloc: Global) -> Result<String, Fail> {
+    let mut capture = String::new(alloc);
+    for _ in 0..2_000 {
+        capture.push_str(LINE)?;
+        capture.push_str("\n")?;
+    }
+    Ok(capture)
+}
+
+fn counts(alloc: Global, lines: &str) -> Result<bool, Fail> {
+    let capture = two_thousand_lines(alloc)?;
+    Ok(tallies(alloc, capture.as_str(), Status::Done, lines))
 }
 
 /// Each line is counted, however many there are.
 #[test]
 fn counts_two_thousand_lines(rt: HostRuntime) -> Result<(), Fail> {
-    let mut capture = String::new(rt.alloc());
-    for _ in 0..2_000 {
-        capture.push_str(LINE)?;
-        capture.push_str("\n")?;
+    holds(
+        counts(rt.alloc(), "lines=2000 good=2000 bad=0\n")?,
+        "2,000 lines",
+    )
+}
+
+fn is_longest_read(alloc: Global) -> Result<bool, Fail> {
+    let zeros = zeros(alloc, 65_535)?;
+    let line = joined(alloc, &["1 7F000001BAC1 7F000001BAC0 ", zeros.as_str()])?;
+    match read_capture_line(alloc, line.as_bytes())? {
+        Some(captured) => Ok(captured.moment == 1 && captured.datagram.len() == 65_535),
+        None => Ok(false),
     }
-    tallies(
-        &rt,
-        rt.alloc(),
-        capture.as_str(),
-        Status::Done,
-        "lines=2000 good=2000 bad=0\n",
-    );
-    Ok(())
 }
 
 #[test]
 fn reads_the_longest_datagram(rt: HostRuntime) -> Result<(), Fail> {
-    let zeros = zeros(rt.alloc(), 65_535)?;
-    let line = format!(in rt.alloc(); "1 7F000001BAC1 7F000001BAC0 {zeros}")?;
-    let Some(captured) = read_capture_line(rt.alloc(), line.as_bytes())? else {
-        return Err(Fail::from("no capture line"));
-    };
-    assert_eq!(rt; captured.moment, 1);
-    assert_eq!(rt; captured.datagram.len(), 65_535);
-    Ok(())
+    holds(is_longest_read(rt.alloc())?, "the longest datagram")
 }
+
+fn is_bad_hex(alloc: Global, text: &str) -> bool {
+    complains(&decoded(alloc, text), Status::CommandLine, b"bad hex\n")
+}
+
+/// Texts that are no octets.
+const NOT_HEXADECIMAL: &[&str] = &["8", "8G", "81 0A", "0x81"];
 
 #[test]
-fn refuses_what_is_not_hexadecimal(rt: HostRuntime) {
-    for text in ["8", "8G", "81 0A", "0x81"] {
-        let printed = decoded(rt.alloc(), text);
-        complains(&rt, &printed, Status::CommandLine, b"bad hex\n");
-    }
-}
-
-#[test]
-fn tells_that_output_failed(rt: HostRuntime) {
-    let mut room = [0u8; 3];
-    let mut out = room.as_mut_slice();
-    let mut err = Vec::new(rt.alloc());
-    let decoded = decode_over(rt.alloc(), "", &mut out, &mut err);
-    assert_eq!(rt; decoded.code(), 3);
-    let mut input: &[u8] = b"x\n";
-    let mut room = [0u8; 30];
-    let mut out = room.as_mut_slice();
-    let checked = check_over(rt.alloc(), &mut input, &mut out, &mut err);
-    assert_eq!(rt; checked.code(), 3);
-    assert_eq!(rt; err.len(), 0);
-}
-
-/// A writer whose memory is refused.
-#[derive(Drop)]
-struct Full;
-
-impl Write for Full {
-    fn write(&mut self, _octets: &[u8]) -> io::Result<usize> {
-        Err(io::Error::from(io::ErrorKind::OutOfMemory))
-    }
-
-    fn flush(&mut self) -> io::Result<()> {
-        Ok(())
-    }
-}
-
-#[test]
-fn tells_that_the_output_lacks_memory(rt: HostRuntime) {
-    let mut out = Full;
-    let mut err = Vec::new(rt.alloc());
-    let status = decode_over(rt.alloc(), "", &mut out, &mut err);
-    assert_eq!(rt; status, Status::Memory);
-    assert_eq!(rt; err.as_slice(), b"no memory\n".as_slice());
-}
-
-/// A file that gives one line and then fails.
-#[derive(Drop)]
-struct Broken {
-    has_given: bool,
-}
-
-impl Read for Broken {
-    fn read(&mut self, octets: &mut [u8]) -> io::Result<usize> {
-        let line = b"x\n";
-        if self.has_given || octets.len() < line.len() {
-            return Err(io::Error::from(io::ErrorKind::PermissionDenied));
-        }
-        self.has_given = true;
-        octets[..line.len()].copy_from_slice(line);
-        Ok(line.len())
-    }
-}
-
-/// What was found before the input failed is printed, without the counts.
-#[test]
-fn tells_that_the_input_failed(rt: HostRuntime) -> Result<(), Fail> {
-    let table = [(true, ""), (false, "line 1: not a capture line\n")];
-    for (has_given, lines) in table {
-        let mut input = BufReader::new(rt.alloc(), Broken { has_given })?;
-        let mut out = Vec::new(rt.alloc());
-        let mut err = Vec::new(rt.alloc());
-        let status = check_over(rt.alloc(), &mut input, &mut out, &mut err);
-        assert_eq!(rt; out.as_slice(), lines.as_bytes());
-        assert_eq!(rt; status, Status::CommandLine);
-        assert_eq!(rt; err.as_slice(), b"cannot read\n".as_slice());
+fn refuses_what_is_not_hexadecimal(rt: HostRuntime) -> Result<(), Fail> {
+    for text in NOT_HEXADECIMAL {
+        holds(is_bad_hex(rt.alloc(), text), text)?;
     }
     Ok(())
 }
 
-/// What was found before the input lacked memory is printed, and the rest is not passed over.
-#[test]
-fn tells_that_the_input_lacks_memory(rt: HostRuntime) -> Result<(), Fail> {
-    let mut input = BufReader::new(rt.alloc(), Starved { has_given: false })?;
-    let mut out = Vec::new(rt.alloc());
-    let mut err = Vec::new(rt.alloc());
-    let status = check_over(rt.alloc(), &mut input, &mut out, &mut err);
-    assert_eq!(rt; status, Status::Memory);
-    assert_eq!(rt; out.as_slice(), b"line 1: not a capture line\n".as_slice());
-    assert_eq!(rt; err.as_slice(), b"no memory\n".as_slice());
-    Ok(())
+/// An unconfirmed request whose datagram is as long as a BVLL can be.
+fn longest_npdu(alloc: Global, zeros: &str) -> Result<String, Fail> {
+    joined(alloc, &["01001008", zeros])
 }
 
-/// A file that gives one line, and whose memory is refused then.
-#[derive(Drop)]
-struct Starved {
-    has_given: bool,
+fn is_longest_decoded(alloc: Global, npdu: &str, zeros: &str) -> Result<bool, Fail> {
+    let lines = joined(alloc, &["unconfirmed-request choice=8 data=", zeros, "\n"])?;
+    shows_npdu(alloc, 0, npdu, Status::Done, lines.as_str())
 }
 
-impl Read for Starved {
-    fn read(&mut self, octets: &mut [u8]) -> io::Result<usize> {
-        let line = b"x\n";
-        if self.has_given || octets.len() < line.len() {
-            return Err(io::Error::from(io::ErrorKind::OutOfMemory));
-        }
-        self.has_given = true;
-        octets[..line.len()].copy_from_slice(line);
-        Ok(line.len())
-    }
+fn is_longest_checked(alloc: Global, npdu: &str) -> Result<bool, Fail> {
+    let line = joined(alloc, &["1 7F000001BAC1 7F000001BAC0 810AFFFF", npdu])?;
+    let lines = "lines=1 good=1 bad=0\n";
+    Ok(tallies(alloc, line.as_str(), Status::Done, lines))
 }
 
-/// A writer that takes so many writes, and then fails; it may fail where it is flushed.
-#[derive(Drop)]
-struct Weak {
-    writes: u32,
-    can_flush: bool,
-    flushed: u32,
-}
-
-impl Write for Weak {
-    fn write(&mut self, octets: &[u8]) -> io::Result<usize> {
-        if self.writes == 0 {
-            return Err(io::Error::from(io::ErrorKind::PermissionDenied));
-        }
-        self.writes -= 1;
-        Ok(octets.len())
-    }
-
-    fn flush(&mut self) -> io::Result<()> {
-        if !self.can_flush {
-            return Err(io::Error::from(io::ErrorKind::PermissionDenied));
-        }
-        self.flushed = self.flushed.saturating_add(1);
-        Ok(())
-    }
-}
-
-const DATAGRAM: &str = "810A000F0122FFFF009C10643B6B04";
-
-const CAPTURE: &[u8] = b"x\n1 7F000001BAC1 7F000001BAC0 00\n";
-
-/// What `decode` and `check` end with where the output takes so many writes, and whether each has flushed it.
-fn statuses(alloc: Global, writes: u32, can_flush: bool) -> [(u8, bool); 2] {
-    let mut err = Vec::new(alloc);
-    let mut out = Weak {
-        writes,
-        can_flush,
-        flushed: 0,
-    };
-    let decoded = decode_over(alloc, DATAGRAM, &mut out, &mut err).code();
-    let is_decode_flushed = out.flushed > 0;
-    let mut out = Weak {
-        writes,
-        can_flush,
-        flushed: 0,
-    };
-    let mut input = CAPTURE;
-    let checked = check_over(alloc, &mut input, &mut out, &mut err).code();
-    [(decoded, is_decode_flushed), (checked, out.flushed > 0)]
-}
-
-/// Whichever write fails, and where the flush fails, the status tells it; with enough writes it does not, and the output is flushed.
-#[test]
-fn tells_each_failure_of_the_output(rt: HostRuntime) {
-    let mut ended = [false, false];
-    for writes in 0..100u32 {
-        let failed = statuses(rt.alloc(), writes, false);
-        assert_eq!(rt; failed, [(3, false), (3, false)], "{writes}");
-        let [(decoded, is_decoded), (checked, is_checked)] = statuses(rt.alloc(), writes, true);
-        ended[0] = ended[0] || decoded == 0;
-        ended[1] = ended[1] || checked == 1;
-        assert_eq!(rt; decoded, if ended[0] { 0 } else { 3 }, "{writes}");
-        assert_eq!(rt; checked, if ended[1] { 1 } else { 3 }, "{writes}");
-        assert_eq!(rt; (is_decoded, is_checked), (true, true), "{writes}");
-    }
-    assert_eq!(rt; ended, [true, true]);
+fn takes_longest(alloc: Global) -> Result<bool, Fail> {
+    let zeros = zeros(alloc, 65_527)?;
+    let npdu = longest_npdu(alloc, zeros.as_str())?;
+    Ok(
+        is_longest_decoded(alloc, npdu.as_str(), zeros.as_str())?
+            && is_longest_checked(alloc, npdu.as_str())?,
+    )
 }
 
 /// The longest datagram of a BVLL is decoded and checked.
 #[test]
 fn takes_the_longest_datagram(rt: HostRuntime) -> Result<(), Fail> {
-    let zeros = zeros(rt.alloc(), 65_527)?;
-    let npdu = format!(in rt.alloc(); "01001008{zeros}")?;
-    let lines = format!(in rt.alloc(); "unconfirmed-request choice=8 data={zeros}\n")?;
-    shows_npdu(
-        &rt,
-        rt.alloc(),
-        0,
-        npdu.as_str(),
-        Status::Done,
-        lines.as_str(),
-    )?;
-    let line = format!(in rt.alloc(); "1 7F000001BAC1 7F000001BAC0 810AFFFF{npdu}")?;
-    tallies(
-        &rt,
-        rt.alloc(),
-        line.as_str(),
-        Status::Done,
-        "lines=1 good=1 bad=0\n",
-    );
-    Ok(())
+    holds(takes_longest(rt.alloc())?, "the longest datagram")
 }
