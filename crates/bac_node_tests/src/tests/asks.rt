@@ -183,6 +183,19 @@ fn an_answer_of_no_octets(rt: HostRuntime) -> Result<(), Fail> {
     client_plays(rt.alloc(), 12, READING, EMPTY)
 }
 
+/// An answer whose service data begin with no tag that can be read.
+const UNREADABLE: &[ClientRow] = &[(
+    0,
+    "810A000A 0100 30000CFF",
+    "810A0009 0100 700000",
+    End::Aborted(0),
+)];
+
+#[test]
+fn an_answer_that_can_not_be_read(rt: HostRuntime) -> Result<(), Fail> {
+    client_plays(rt.alloc(), 12, READING, UNREADABLE)
+}
+
 /// The number of the fault, 0 where the ask was accepted.
 fn fault(came: Result<Asked, AskFault>) -> u8 {
     match came {
