@@ -52,6 +52,17 @@ fn read_request_of_input(alloc: Global) -> Result<OwnedRequest, Fail> {
     request(alloc, 12, "0C000000051955")
 }
 
+/// The client and the server on one medium.
+fn two_stations<'a>(
+    alloc: Global,
+    medium: &'a RefCell<Medium>,
+    moment: &'a Cell<u64>,
+) -> Result<(Station<'a>, Station<'a>), Fail> {
+    let client = Station::new(alloc, medium, moment, CLIENT)?;
+    let server = Station::new(alloc, medium, moment, SERVER)?;
+    Ok((client, server))
+}
+
 /// A question for the server.
 fn question(request: OwnedRequest) -> Question {
     Question {

@@ -67,18 +67,26 @@ fn ask_by_hand(
     Ok(())
 }
 
+/// The append and the read, one after the other.
+fn ask_both(
+    alloc: Global,
+    client: &mut Station<'_>,
+    server: &mut Station<'_>,
+    moment: &Cell<u64>,
+    journal: &mut Journal,
+) -> Result<(), Fail> {
+    let append = append(alloc)?;
+    ask_by_hand(alloc, client, server, moment, &append, journal)?;
+    let read = read(alloc)?;
+    ask_by_hand(alloc, client, server, moment, &read, journal)
+}
+
 /// The log of turns by hand where that send fails.
-fn by_hand(alloc: Global, number: u64) -> Result<Journal, Fail> {
+fn by_hand(alloc: Global, number: u64, journal: &mut Journal) -> Result<(), Fail> {
     let medium = RefCell::new(Medium::new(alloc, Failing::to_send(number)));
     let moment = Cell::new(0);
-    let mut client = Station::new(alloc, &medium, &moment, CLIENT)?;
-    let mut server = Station::new(alloc, &medium, &moment, SERVER)?;
-    let mut journal = Journal::new(alloc);
-    let append = append(alloc)?;
-    ask_by_hand(alloc, &mut client, &mut server, &moment, &append, &mut journal)?;
-    let read = read(alloc)?;
-    ask_by_hand(alloc, &mut client, &mut server, &moment, &read, &mut journal)?;
-    Ok(journal)
+    let (mut client, mut server) = two_stations(alloc, &medium, &moment)?;
+    ask_both(alloc, &mut client, &mut server, &moment, journal)
 }
 
 // ---- in a world
@@ -180,7 +188,8 @@ fn in_world(alloc: Global, lost: usize) -> Result<Journal, Fail> {
 #[test]
 fn turns_and_worlds_log_the_same(rt: HostRuntime) -> Result<(), Fail> {
     for number in 0..5usize {
-        let journal = by_hand(rt.alloc(), number as u64 + 1)?;
+        let mut journal = Journal::new(rt.alloc());
+        by_hand(rt.alloc(), number as u64 + 1, &mut journal)?;
         assert_eq!(&rt; journal.text(), LOG.as_bytes(), "{number}");
         let journal = in_world(rt.alloc(), number)?;
         assert_eq!(&rt; journal.text(), LOG.as_bytes(), "{number}");

@@ -45,24 +45,47 @@ fn ask_other<'a>(
     )
 }
 
+/// An append and then a read, each for at most so many turns.
+fn ask_both<'a>(
+    alloc: Global,
+    client: &mut Station<'a>,
+    server: &mut Station<'a>,
+    clock: &mut MemoryClock<'_>,
+    turns: u64,
+) -> Result<(String, String), Fail> {
+    let appending = append(alloc)?;
+    let appended = ask_other(alloc, client, server, clock, &appending, turns);
+    let first = told_end(alloc, appended)?;
+    let reading = read(alloc)?;
+    let was_read = ask_other(alloc, client, server, clock, &reading, turns);
+    let second = told_end(alloc, was_read)?;
+    Ok((first, second))
+}
+
+/// What comes of both asks.
+fn tell_both<'a>(
+    alloc: Global,
+    client: &mut Station<'a>,
+    server: &mut Station<'a>,
+    clock: &mut MemoryClock<'_>,
+    turns: u64,
+) -> Result<Story, Fail> {
+    let (first, second) = ask_both(alloc, client, server, clock, turns)?;
+    Ok(Story {
+        first,
+        second,
+        failures: client.link.failures().saturating_add(server.link.failures()),
+        file: file_of(alloc, &server.node)?,
+    })
+}
+
 /// An append and then a read, each for at most so many turns, over a medium of which a call may fail.
 pub(super) fn run_pair(alloc: Global, failing: Failing, turns: u64) -> Result<Story, Fail> {
     let medium = RefCell::new(Medium::new(alloc, failing));
     let moment = Cell::new(0);
     let mut clock = MemoryClock { moment: &moment };
-    let mut client = Station::new(alloc, &medium, &moment, CLIENT)?;
-    let mut server = Station::new(alloc, &medium, &moment, SERVER)?;
-    let appending = append(alloc)?;
-    let appended = ask_other(alloc, &mut client, &mut server, &mut clock, &appending, turns);
-    let reading = read(alloc)?;
-    let was_read = ask_other(alloc, &mut client, &mut server, &mut clock, &reading, turns);
-    let failures = client.link.failures().saturating_add(server.link.failures());
-    Ok(Story {
-        first: told_end(alloc, appended)?,
-        second: told_end(alloc, was_read)?,
-        failures,
-        file: file_of(alloc, &server.node)?,
-    })
+    let (mut client, mut server) = two_stations(alloc, &medium, &moment)?;
+    tell_both(alloc, &mut client, &mut server, &mut clock, turns)
 }
 
 /// How the asks end where each has at most so many turns.
@@ -88,16 +111,17 @@ fn ask_alone(
     alloc: Global,
     client: &mut Station<'_>,
     clock: &mut MemoryClock<'_>,
-    question: &Question,
-) -> Result<AskEnd, RunFault> {
-    ask_over(
+) -> Result<String, Fail> {
+    let question = read(alloc)?;
+    let end = ask_over(
         alloc,
         &mut client.node,
         &mut client.link,
         clock,
-        question,
+        &question,
         100_000,
-    )
+    );
+    told_end(alloc, end)
 }
 
 /// A node asks, and nobody answers. Answers how the ask ended, and the moment.
@@ -106,9 +130,8 @@ fn ask_nobody(alloc: Global) -> Result<(String, u64), Fail> {
     let moment = Cell::new(0);
     let mut clock = MemoryClock { moment: &moment };
     let mut client = Station::new(alloc, &medium, &moment, CLIENT)?;
-    let question = read(alloc)?;
-    let end = ask_alone(alloc, &mut client, &mut clock, &question);
-    Ok((told_end(alloc, end)?, moment.get()))
+    let how = ask_alone(alloc, &mut client, &mut clock)?;
+    Ok((how, moment.get()))
 }
 
 #[test]

@@ -14,26 +14,29 @@ fn serve(
     serve_over(alloc, &mut server.node, &mut server.link, &mut clock, turns)
 }
 
-/// Whether a node is as it was made.
-fn is_fresh(alloc: Global, station: &Station<'_>) -> Result<bool, Fail> {
-    let fresh = house_node(alloc, SERVER)?;
-    Ok(station.node.same(&fresh))
+/// How the server serves a datagram that the client sends.
+fn serve_read(
+    alloc: Global,
+    client: &mut Station<'_>,
+    server: &mut Station<'_>,
+    moment: &Cell<u64>,
+) -> Result<Served, Fail> {
+    client.send(alloc, SERVER, READ)?;
+    let served = serve(alloc, server, moment, 2);
+    let failures = server.link.failures();
+    let fresh = server.node.same(&house_node(alloc, SERVER)?);
+    Ok(match served {
+        Ok(effects) => (Some(effects), None, failures, fresh),
+        Err(fault) => (None, Some(fault.number()), failures, fresh),
+    })
 }
 
 /// Two turns with one datagram, where a call may fail.
 fn serve_one(alloc: Global, failing: Failing) -> Result<Served, Fail> {
     let medium = RefCell::new(Medium::new(alloc, failing));
     let moment = Cell::new(0);
-    let mut client = Station::new(alloc, &medium, &moment, CLIENT)?;
-    let mut server = Station::new(alloc, &medium, &moment, SERVER)?;
-    client.send(alloc, SERVER, READ)?;
-    let served = serve(alloc, &mut server, &moment, 2);
-    let failures = server.link.failures();
-    let fresh = is_fresh(alloc, &server)?;
-    Ok(match served {
-        Ok(effects) => (Some(effects), None, failures, fresh),
-        Err(fault) => (None, Some(fault.number()), failures, fresh),
-    })
+    let (mut client, mut server) = two_stations(alloc, &medium, &moment)?;
+    serve_read(alloc, &mut client, &mut server, &moment)
 }
 
 fn serves(rt: &impl Abort, alloc: Global, failing: Failing, want: Served) -> Result<(), Fail> {

@@ -2,25 +2,38 @@
 use super::*;
 use bac_link::{MonotonicClock, UdpLink};
 
+/// What a link has received next, in hexadecimal.
+fn received(alloc: Global, link: &mut UdpLink) -> Result<String, Fail> {
+    let mut buffer = [0u8; 2_048];
+    match link.receive(&mut buffer) {
+        Ok(Some(received)) => Ok(hex::encode_upper(alloc, &buffer[..received.1])?),
+        _ => Err(Fail::from("no answer")),
+    }
+}
+
 /// A client's socket sends a request, a node takes one turn on its own, and the client's socket receives the answer.
+fn serve_socket<R: std::time::Clock>(
+    alloc: Global,
+    client: &mut UdpLink,
+    link: &mut UdpLink,
+    clock: &mut MonotonicClock<'_, R>,
+) -> Result<(Option<u64>, String), Fail> {
+    let mut node = house_node(alloc, link.address())?;
+    let sent = client.send(link.address(), &hex::decode(alloc, READ)?);
+    if sent.is_err() {
+        return Err(Fail::from("not sent"));
+    }
+    let served = serve_over(alloc, &mut node, link, clock, 1).ok();
+    Ok((served, received(alloc, client)?))
+}
+
 #[test]
 fn a_socket_is_served(rt: HostRuntime) -> Result<(), Fail> {
-    let alloc = rt.alloc();
     let mut client = UdpLink::bind(&rt, 0)?;
     let mut link = UdpLink::bind(&rt, 0)?;
     let mut clock = MonotonicClock::new(&rt)?;
-    let address = link.address();
-    let mut node = house_node(alloc, address)?;
-    assert_eq!(&rt; client.send(address, &hex::decode(alloc, READ)?), Ok(()));
-    let served = serve_over(alloc, &mut node, &mut link, &mut clock, 1)?;
-    assert_eq!(&rt; served, 1);
-    let mut buffer = [0u8; 2_048];
-    let Ok(Some(received)) = client.receive(&mut buffer) else {
-        panic!(&rt; "no answer");
-    };
-    let from = received.0;
-    assert_eq!(&rt; from, address);
-    let answer = hex::encode_upper(alloc, &buffer[..received.1])?;
+    let (served, answer) = serve_socket(rt.alloc(), &mut client, &mut link, &mut clock)?;
+    assert!(&rt; served == Some(1));
     assert_eq!(&rt; answer.as_str(), VALUE);
     Ok(())
 }

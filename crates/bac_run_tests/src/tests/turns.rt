@@ -1,54 +1,96 @@
 //! Single turns.
 use super::*;
 
-#[test]
-fn a_turn_hears_and_answers(rt: HostRuntime) -> Result<(), Fail> {
-    let alloc = rt.alloc();
+/// What a turn is seen to do: who sent how many octets, failed sends, skipped steps, whether something was performed, and how many tickets ended by the
+/// datagram and by the tick.
+type Seen = (Option<([u8; 6], usize)>, u64, u8, bool, usize, usize);
+
+fn see(alloc: Global, station: &mut Station<'_>, now: u64) -> Result<Seen, TurnFault> {
+    let turn = station.turn(alloc, now)?;
+    Ok((
+        turn.received,
+        turn.lost,
+        turn.skipped,
+        turn.effect.is_some(),
+        turn.ended.len(),
+        turn.tick_ended.len(),
+    ))
+}
+
+/// The client sends a request, and the server takes a turn at that moment. Answers what the client then receives.
+fn serve(
+    alloc: Global,
+    client: &mut Station<'_>,
+    server: &mut Station<'_>,
+    now: u64,
+) -> Result<(Seen, String), Fail> {
+    client.send(alloc, SERVER, READ)?;
+    let seen = see(alloc, server, now)?;
+    Ok((seen, client.received(alloc)?))
+}
+
+fn served(alloc: Global) -> Result<(Seen, String), Fail> {
     let medium = RefCell::new(Medium::new(alloc, Failing::NOTHING));
     let moment = Cell::new(0);
-    let mut client = Station::new(alloc, &medium, &moment, CLIENT)?;
-    let mut server = Station::new(alloc, &medium, &moment, SERVER)?;
-    assert!(&rt; client.send(alloc, SERVER, READ)?);
-    let turn = server.turn(alloc, 5)?;
-    assert_eq!(&rt; turn.received, Some((CLIENT, 17)));
-    assert_eq!(&rt; (turn.lost, turn.skipped), (0, 0));
-    assert!(&rt; turn.effect.is_some());
-    let answer = client.received(alloc)?;
+    let (mut client, mut server) = two_stations(alloc, &medium, &moment)?;
+    serve(alloc, &mut client, &mut server, 5)
+}
+
+#[test]
+fn a_turn_hears_and_answers(rt: HostRuntime) -> Result<(), Fail> {
+    let (seen, answer) = served(rt.alloc())?;
+    assert!(&rt; seen == (Some((CLIENT, 17)), 0, 0, true, 0, 0));
     assert_eq!(&rt; answer.as_str(), VALUE);
-    assert_eq!(&rt; server.node.latest(), 5);
     Ok(())
+}
+
+/// A server takes a turn, and after a request was sent to it one at an earlier moment. Answers the fault, and what still waits for it.
+fn go_back(
+    alloc: Global,
+    client: &mut Station<'_>,
+    server: &mut Station<'_>,
+) -> Result<(Option<TurnFault>, String), Fail> {
+    see(alloc, server, 5)?;
+    client.send(alloc, SERVER, READ)?;
+    let late = see(alloc, server, 4).err();
+    Ok((late, server.received(alloc)?))
+}
+
+fn gone_back(alloc: Global) -> Result<(Option<TurnFault>, String), Fail> {
+    let medium = RefCell::new(Medium::new(alloc, Failing::NOTHING));
+    let moment = Cell::new(0);
+    let (mut client, mut server) = two_stations(alloc, &medium, &moment)?;
+    go_back(alloc, &mut client, &mut server)
 }
 
 #[test]
 fn a_clock_that_goes_back_receives_nothing(rt: HostRuntime) -> Result<(), Fail> {
-    let alloc = rt.alloc();
+    let (late, waiting) = gone_back(rt.alloc())?;
+    assert!(&rt; late == Some(TurnFault::ClockBack));
+    assert_eq!(&rt; waiting.as_str(), READ);
+    Ok(())
+}
+
+/// A node asks, and takes a turn when the life of its ticket is over.
+fn expire(alloc: Global, client: &mut Station<'_>) -> Result<Seen, Fail> {
+    let question = read(alloc)?;
+    if client.ask(0, &question) != Some(0) {
+        return Err(Fail::from("refused"));
+    }
+    Ok(see(alloc, client, 60_001)?)
+}
+
+fn expired(alloc: Global) -> Result<Seen, Fail> {
     let medium = RefCell::new(Medium::new(alloc, Failing::NOTHING));
     let moment = Cell::new(0);
     let mut client = Station::new(alloc, &medium, &moment, CLIENT)?;
-    let mut server = Station::new(alloc, &medium, &moment, SERVER)?;
-    let turn = server.turn(alloc, 5)?;
-    assert_eq!(&rt; turn.received, None);
-    assert!(&rt; client.send(alloc, SERVER, READ)?);
-    let late = server.turn(alloc, 4);
-    assert_eq!(&rt; late.err(), Some(TurnFault::ClockBack));
-    let waiting = server.received(alloc)?;
-    assert_eq!(&rt; waiting.as_str(), READ);
-    Ok(())
+    expire(alloc, &mut client)
 }
 
 /// A ticket that nobody answers ends in a tick.
 #[test]
 fn a_tick_ends_a_ticket(rt: HostRuntime) -> Result<(), Fail> {
-    let alloc = rt.alloc();
-    let medium = RefCell::new(Medium::new(alloc, Failing::NOTHING));
-    let moment = Cell::new(0);
-    let mut client = Station::new(alloc, &medium, &moment, CLIENT)?;
-    assert_eq!(&rt; client.ask(0, &read(alloc)?), Some(0));
-    let turn = client.turn(alloc, 60_001)?;
-    assert_eq!(&rt; (turn.ended.len(), turn.tick_ended.len()), (0, 1));
-    for finish in &turn.tick_ended {
-        let how = told(alloc, &finish.how)?;
-        assert_eq!(&rt; how.as_str(), "expired");
-    }
+    let seen = expired(rt.alloc())?;
+    assert!(&rt; seen == (None, 0, 0, false, 0, 1));
     Ok(())
 }
