@@ -1,5 +1,5 @@
 -- What is told of new facts and copies, one after the other.
-use Rattle.std.proofs.Common.{◌≡◌, ℕ, ◌+◌, ◌≤◌, false, List, ◌++◌, length, map, drop, reverse, Option, Some, Result, OnOk, sym, ap, subst, ◌∙◌, slice_get}
+use Rattle.std.proofs.Common.{◌≡◌, ℕ, ◌+◌, ◌≤◌, false, List, length, map, drop, reverse, Option, Some, Result, OnOk, sym, ap, subst, ◌∙◌, slice_get}
 use Rattle.std.proofs.lemmas.List.{drop_all, length-map, length-reverse, reverse-reverse}
 use Rattle.std.specs.Io.KnownBytes.{Appends}
 use Rattle.bac_simulation.specs.Notes.{note_view, notes_view}

@@ -1,5 +1,5 @@
 -- What the status says of a script, and of the octets of an input.
-use Rattle.std.proofs.Common.{◌≡◌, ℕ, true, false, Bool, List, ◌++◌, Option, Some, None, IfOk, IfSome, Result, Ok, Err, inl, inr, refl, sym, subst, ◌∙◌}
+use Rattle.std.proofs.Common.{◌≡◌, ℕ, true, false, Bool, List, Option, Some, None, IfOk, IfSome, Result, Ok, Err, inl, inr, refl, sym, subst, ◌∙◌}
 use Rattle.std.specs.Io.KnownBytes.{Appends, Keeps}
 use Rattle.bac_network.specs.Histories.{WorldView}
 use Rattle.bac_world.specs.World.{Event}

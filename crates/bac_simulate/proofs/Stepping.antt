@@ -1,6 +1,6 @@
 -- Events, one after the other, and what is told of them.
-use Rattle.std.proofs.Common.{◌≡◌, ◌↔◌, ℕ, ◌+◌, true, false, Bool, List, [], ◌∷◌, ◌++◌, length, map, drop, Option, Some, None, Result, Ok, Err, IsErrOf, inl, inr}
-use Rattle.std.proofs.Common.{refl, sym, ap, subst, ◌∙◌, slice_get, OnOk, IfOk}
+use Rattle.std.proofs.Common.{◌≡◌, ◌↔◌, ℕ, ◌+◌, true, false, Bool, List, ◌∷◌, ◌++◌, length, map, drop, Option, Some, Result, Err, IsErrOf, inl, inr}
+use Rattle.std.proofs.Common.{refl, sym, ap, subst, ◌∙◌, slice_get}
 use Rattle.std.specs.Io.KnownBytes.{Appends}
 use Rattle.bac_requester.specs.declared.ask_fault.AskFault.{AskFault}
 use Rattle.bac_world.specs.World as world
@@ -15,7 +15,7 @@ use Rattle.bac_network.specs.declared.fault.WorldFault.TheVariants as fault
 use Rattle.bac_facts.specs.Texts.{fault_line}
 use Rattle.bac_text.specs.Texts.{AppendsText}
 use Rattle.bac_simulate.specs.Told.{outcome_text}
-use Rattle.bac_simulate.specs.Runs.{Happened, Stopped, IsStep, IsRun}
+use Rattle.bac_simulate.specs.Runs.{Happened, IsStep, IsRun}
 use Rattle.bac_simulate.proofs.Appending.{drop_seen, joined}
 
 -- ---- one event

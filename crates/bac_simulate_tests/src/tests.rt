@@ -19,7 +19,7 @@ struct Printed {
     status: u8,
 }
 
-fn printed(alloc: Global, script: &str) -> Printed {
+fn run_script(alloc: Global, script: &str) -> Printed {
     let mut input = script.as_bytes();
     let mut out = Vec::new(alloc);
     let mut err = Vec::new(alloc);
@@ -29,7 +29,7 @@ fn printed(alloc: Global, script: &str) -> Printed {
 
 /// A script prints these lines and nothing else, and ends with that status.
 fn prints(rt: &impl Abort, alloc: Global, script: &str, lines: &str, status: u8) {
-    let printed = printed(alloc, script);
+    let printed = run_script(alloc, script);
     assert_eq!(rt; printed.out.as_slice(), lines.as_bytes(), "{script}");
     assert_eq!(rt; printed.err.len(), 0, "{script}");
     assert_eq!(rt; printed.status, status, "{script}");

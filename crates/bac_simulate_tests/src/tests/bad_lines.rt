@@ -3,7 +3,7 @@ use super::*;
 
 /// A script is told to have a bad line of that number, before anything happens.
 fn is_refused(rt: &impl Abort, alloc: Global, script: &str, number: u64) -> Result<(), Fail> {
-    let printed = printed(alloc, script);
+    let printed = run_script(alloc, script);
     let complaint = format!(in alloc; "line {number}: not a script line\n")?;
     assert_eq!(rt; printed.out.len(), 0, "{script}");
     assert_eq!(rt; printed.err.as_slice(), complaint.as_bytes(), "{script}");
