@@ -1,7 +1,9 @@
 //! Octets of ill will. Here is what the tests share.
 use bac_apdu::Limits;
-use bac_node::{Config, NewNodeFault, Node};
+use bac_ends::Datagram;
+use bac_node::{Config, NewNodeFault, Node, Outcome};
 use bac_store::house;
+use bac_value::NoMemory;
 use std::alloc::Global;
 use std::test::Fail;
 
@@ -58,20 +60,41 @@ struct Told {
     performed: bool,
 }
 
+/// What is sent, the cause and whether a request is performed, as a row says them.
+type Wanted = (&'static [u8], u8, bool);
+
+impl Told {
+    fn is(&self, wanted: &Wanted) -> bool {
+        self.sent.as_slice() == wanted.0 && self.cause == wanted.1 && self.performed == wanted.2
+    }
+}
+
+/// The octets of datagrams, one after the other.
+fn joined(alloc: Global, sends: &[Datagram]) -> Result<Vec<u8>, NoMemory> {
+    let mut octets = Vec::new(alloc);
+    for datagram in sends {
+        octets.extend_from_slice(datagram.octets())?;
+    }
+    Ok(octets)
+}
+
+fn cause_of(outcome: &Outcome) -> u8 {
+    match &outcome.dropped {
+        Some(cause) => cause.number(),
+        None => 0,
+    }
+}
+
+fn told_of(alloc: Global, outcome: &Outcome) -> Result<Told, NoMemory> {
+    Ok(Told {
+        sent: joined(alloc, &outcome.sends)?,
+        cause: cause_of(outcome),
+        performed: outcome.effect.is_some(),
+    })
+}
+
 /// What a node makes of a datagram of link 2.
 fn hears(alloc: Global, node: &mut Node, now: u64, octets: &[u8]) -> Result<Told, Fail> {
     let outcome = node.on(now, link(2), octets)?;
-    let mut sent = Vec::new(alloc);
-    for datagram in &outcome.sends {
-        sent.extend_from_slice(datagram.octets())?;
-    }
-    let cause = match &outcome.dropped {
-        Some(cause) => cause.number(),
-        None => 0,
-    };
-    Ok(Told {
-        sent,
-        cause,
-        performed: outcome.effect.is_some(),
-    })
+    Ok(told_of(alloc, &outcome)?)
 }

@@ -1,17 +1,22 @@
 //! Fronts of datagrams that come between the datagrams themselves.
 use super::*;
 use bac_client::Ending;
-use bac_network::{Event, Fact, World};
-use bac_service::{
-    AnyReply, AnyRequest, OwnedReply, OwnedRequest, ReadAccess, ReadFile, WriteAccess, WriteFile,
-    WriteStream, write_reply, write_request,
-};
-use bac_value::{ObjectIdentifier, OctetString};
+use bac_network::{Copy, Event, Fact, World};
+use bac_service::{AnyReply, OwnedReply, OwnedRequest, read_request, write_reply, write_request};
+use bac_store::Store;
 
-const LOG: ObjectIdentifier = ObjectIdentifier {
-    kind: 10,
-    instance: 1,
-};
+/// AtomicReadFile and AtomicWriteFile: their service choices (clause 21).
+const GET: u8 = 6;
+
+const PUT: u8 = 7;
+
+/// The service data of a write at position 0 of file 1, up to the octets: of 100 and of 4,004 octets.
+const PUT_100: &[u8] = b"\xC4\x02\x80\x00\x01\x0E\x31\x00\x65\x64";
+
+const PUT_4004: &[u8] = b"\xC4\x02\x80\x00\x01\x0E\x31\x00\x65\xFE\x0F\xA4";
+
+/// The service data of a read of 4,004 octets of file 1.
+const GET_4004: &[u8] = b"\xC4\x02\x80\x00\x01\x0E\x31\x00\x22\x0F\xA4\x0F";
 
 /// What happens.
 #[derive(Clone, Copy)]
@@ -49,25 +54,32 @@ const READ_LONG: &[Do] = &[
     Do::Deliver(197, 198),
 ];
 
-/// A write of so many octets at position 0 of file 1.
-fn write(alloc: Global, len: usize) -> Result<OwnedRequest, Fail> {
-    let Some(content) = OctetString::new(vec![in alloc; 0xABu8; len]?) else {
-        return Err(Fail::from("no octets"));
+/// The service data of a write of so many octets.
+fn put(alloc: Global, head: &[u8], len: usize) -> Result<Vec<u8>, NoMemory> {
+    let mut octets = Vec::from_slice(alloc, head)?;
+    octets.resize(head.len().saturating_add(len), 0xAB)?;
+    octets.push(0x0F)?;
+    Ok(octets)
+}
+
+/// The request that service data spell; what spells none counts as out of memory.
+fn request(alloc: Global, choice: u8, service: &[u8]) -> Result<OwnedRequest, NoMemory> {
+    let Ok(request) = read_request(choice, service) else {
+        return Err(NoMemory);
     };
-    let access = WriteAccess::Stream(WriteStream { start: 0, content });
-    Ok(AnyRequest::WriteFile(WriteFile { file: LOG, access }))
+    request.to_owned(alloc)
 }
 
-/// A read of so many octets of file 1.
-fn read(count: u64) -> OwnedRequest {
-    let access = ReadAccess::Stream { start: 0, count };
-    AnyRequest::ReadFile(ReadFile { file: LOG, access })
-}
-
-/// A client that takes APDUs of 50 octets, and a server whose file 1 has so many octets.
-fn world(alloc: Global, len: usize, max_apdu: u8) -> Result<World, Fail> {
+/// A house whose file 1 has 4,004 octets.
+fn filled_house(alloc: Global) -> Result<Store, NoMemory> {
     let mut store = house(alloc)?;
-    let _reply = store.perform(alloc, &write(alloc, len)?.as_request())?;
+    let request = request(alloc, PUT, &put(alloc, PUT_4004, 4_004)?)?;
+    let _reply = store.perform(alloc, &request.as_request())?;
+    Ok(store)
+}
+
+/// A client that takes APDUs of 50 octets, and a server with that store.
+fn world(alloc: Global, store: Store, max_apdu: u8) -> Result<World, Fail> {
     let mut nodes = Vec::new(alloc);
     nodes.push((config(0, 0, 1), house(alloc)?))?;
     nodes.push((config(1, max_apdu, 1), store))?;
@@ -92,12 +104,17 @@ fn octets_of(alloc: Global, world: &World, number: usize) -> Result<Vec<u8>, Fai
     }
 }
 
-/// Each proper front of these octets comes to a node, from a link of no node.
+/// Octets come to a node from a link of no node.
+fn comes(world: &mut World, node: usize, octets: Vec<u8>) -> Result<(), Fail> {
+    let from = link(9);
+    step(world, &Event::Noise { node, from, octets })
+}
+
+/// Each proper front of these octets comes to a node.
 fn fronts(alloc: Global, world: &mut World, node: usize, whole: &[u8]) -> Result<(), Fail> {
     for len in 0..whole.len() {
-        let octets = Vec::from_slice(alloc, whole.get(..len).unwrap_or(&[]))?;
-        let from = link(9);
-        step(world, &Event::Noise { node, from, octets })?;
+        let front = Vec::from_slice(alloc, whole.get(..len).unwrap_or(&[]))?;
+        comes(world, node, front)?;
     }
     Ok(())
 }
@@ -116,11 +133,10 @@ fn noise(alloc: Global, world: &mut World) -> Result<(), Fail> {
 fn delivers(
     alloc: Global,
     world: &mut World,
-    from: usize,
-    to: usize,
+    range: (usize, usize),
     noisy: bool,
 ) -> Result<(), Fail> {
-    for number in from..to {
+    for number in range.0..range.1 {
         if noisy {
             noise(alloc, world)?;
         }
@@ -129,18 +145,17 @@ fn delivers(
     Ok(())
 }
 
-/// Client 0 asks server 1, which takes that; then all this happens.
-fn plays(
-    alloc: Global,
-    world: &mut World,
-    request: OwnedRequest,
-    all: &[Do],
-    noisy: bool,
-) -> Result<(), Fail> {
-    let Some(server) = world.nodes().get(1) else {
-        return Err(Fail::from("no server"));
-    };
-    let limits = server.settings().limits;
+fn happens(alloc: Global, world: &mut World, what: Do, noisy: bool) -> Result<(), Fail> {
+    match what {
+        Do::Deliver(from, to) => delivers(alloc, world, (from, to), noisy),
+        Do::Tick(node) => step(world, &Event::Tick { node }),
+        Do::Advance(by) => step(world, &Event::Advance { by }),
+    }
+}
+
+/// Client 0 asks server 1, which takes APDUs of that size code.
+fn ask(world: &mut World, max_apdu: u8, request: OwnedRequest) -> Result<(), Fail> {
+    let limits = takes(max_apdu);
     step(
         world,
         &Event::Ask {
@@ -149,53 +164,66 @@ fn plays(
             limits,
             request,
         },
-    )?;
+    )
+}
+
+/// All this happens, one after the other.
+fn plays(alloc: Global, world: &mut World, all: &[Do], noisy: bool) -> Result<(), Fail> {
     for what in all {
-        match *what {
-            Do::Deliver(from, to) => delivers(alloc, world, from, to, noisy)?,
-            Do::Tick(node) => step(world, &Event::Tick { node })?,
-            Do::Advance(by) => step(world, &Event::Advance { by })?,
-        }
+        happens(alloc, world, *what, noisy)?;
     }
     Ok(())
 }
 
-/// A number, in eight octets.
-fn add(number: usize, octets: &mut Vec<u8>) -> Result<(), Fail> {
-    Ok(octets.extend_from_slice(&(number as u64).to_be_bytes())?)
+/// The world after a write of 100 octets to a node that takes APDUs of 50 octets.
+fn written(alloc: Global, noisy: bool) -> Result<World, Fail> {
+    let mut world = world(alloc, house(alloc)?, 0)?;
+    ask(
+        &mut world,
+        0,
+        request(alloc, PUT, &put(alloc, PUT_100, 100)?)?,
+    )?;
+    plays(alloc, &mut world, WRITE, noisy)?;
+    Ok(world)
 }
 
-/// A reply in octets, of which no other reply has the same.
+/// The world after a read of 4,004 octets of a node that takes APDUs of 1,476 octets.
+fn read(alloc: Global, noisy: bool) -> Result<World, Fail> {
+    let mut world = world(alloc, filled_house(alloc)?, 5)?;
+    ask(&mut world, 5, request(alloc, GET, GET_4004)?)?;
+    plays(alloc, &mut world, READ_LONG, noisy)?;
+    Ok(world)
+}
+
+/// Numbers, in eight octets each.
+fn add(numbers: &[usize], octets: &mut Vec<u8>) -> Result<(), Fail> {
+    for number in numbers {
+        octets.extend_from_slice(&(*number as u64).to_be_bytes())?;
+    }
+    Ok(())
+}
+
+/// The service data of a reply; no other reply comes here.
 fn add_reply(reply: &OwnedReply, octets: &mut Vec<u8>) -> Result<(), Fail> {
-    match reply {
-        AnyReply::Simple => octets.push(0)?,
-        AnyReply::Complex(complex) => {
-            octets.push(1)?;
-            write_reply(complex.as_complex(), octets)?;
-        }
-        AnyReply::Error { class, code } => {
-            octets.push(2)?;
-            add(*class as usize, octets)?;
-            add(*code as usize, octets)?;
-        }
-        AnyReply::Reject(reason) => octets.extend_from_slice(&[3, *reason])?,
-    }
-    Ok(())
+    let AnyReply::Complex(complex) = reply else {
+        return Err(Fail::from("no ComplexACK"));
+    };
+    Ok(write_reply(complex.as_complex(), octets)?)
 }
 
-/// How an ask ended, in octets.
+/// The reply that ended an ask; none ends otherwise here.
 fn add_ending(how: &Ending, octets: &mut Vec<u8>) -> Result<(), Fail> {
-    match how {
-        Ending::Answered(reply) => add_reply(reply, octets)?,
-        Ending::Rejected(reason) => octets.extend_from_slice(&[4, *reason])?,
-        Ending::Aborted(reason) => octets.extend_from_slice(&[5, *reason])?,
-        Ending::TimedOut => octets.push(6)?,
-        Ending::Expired => octets.push(7)?,
-    }
-    Ok(())
+    let Ending::Answered(reply) = how else {
+        return Err(Fail::from("no answer"));
+    };
+    add_reply(reply, octets)
 }
 
-/// A fact in octets.
+fn add_request(request: &OwnedRequest, octets: &mut Vec<u8>) -> Result<(), Fail> {
+    Ok(write_request(request.as_request(), octets)?)
+}
+
+/// A fact in octets: what it is, its numbers, and its service data.
 fn add_fact(fact: &Fact, octets: &mut Vec<u8>) -> Result<(), Fail> {
     match fact {
         Fact::Asked {
@@ -204,28 +232,23 @@ fn add_fact(fact: &Fact, octets: &mut Vec<u8>) -> Result<(), Fail> {
             server,
             request,
         } => {
-            for number in [0, *number, *client, *server] {
-                add(number, octets)?;
-            }
-            write_request(request.as_request(), octets)?;
+            add(&[0, *number, *client, *server], octets)?;
+            add_request(request, octets)
         }
         Fact::Performed {
             number,
             request,
             reply,
         } => {
-            add(1, octets)?;
-            add(*number, octets)?;
-            write_request(request.as_request(), octets)?;
-            add_reply(reply, octets)?;
+            add(&[1, *number], octets)?;
+            add_request(request, octets)?;
+            add_reply(reply, octets)
         }
         Fact::Ended { number, how } => {
-            add(2, octets)?;
-            add(*number, octets)?;
-            add_ending(how, octets)?;
+            add(&[2, *number], octets)?;
+            add_ending(how, octets)
         }
     }
-    Ok(())
 }
 
 /// A log in octets.
@@ -237,18 +260,27 @@ fn log_of(alloc: Global, world: &World) -> Result<Vec<u8>, Fail> {
     Ok(octets)
 }
 
-/// Whether both worlds have the same copies, sent at the same moments by the same nodes.
+fn have_same_logs(alloc: Global, world: &World, other: &World) -> Result<bool, Fail> {
+    Ok(log_of(alloc, world)? == log_of(alloc, other)?)
+}
+
+/// Whether the same octets were sent at the same moment by the same node to the same one.
+fn is_same(copy: &Copy, twin: &Copy) -> bool {
+    copy.moment == twin.moment
+        && copy.from == twin.from
+        && copy.to == twin.to
+        && copy.octets.as_slice() == twin.octets.as_slice()
+}
+
 fn have_same_copies(world: &World, other: &World) -> bool {
     for (copy, twin) in world.copies().iter().zip(other.copies()) {
-        let is_same = (copy.moment, copy.from, copy.to) == (twin.moment, twin.from, twin.to);
-        if !is_same || copy.octets != twin.octets {
+        if !is_same(copy, twin) {
             return false;
         }
     }
     world.copies().len() == other.copies().len()
 }
 
-/// Whether the nodes of both worlds have the same stores.
 fn have_same_stores(world: &World, other: &World) -> bool {
     for (node, twin) in world.nodes().iter().zip(other.nodes()) {
         if !node.store().same(twin.store()) {
@@ -258,61 +290,40 @@ fn have_same_stores(world: &World, other: &World) -> bool {
     true
 }
 
-/// An ask of such a world, and the numbers of facts and copies after it.
-struct Run {
-    len: usize,
-    max_apdu: u8,
-    all: &'static [Do],
+/// Whether both worlds have so many facts and copies, and the same.
+fn are_same(
+    alloc: Global,
+    world: &World,
+    other: &World,
     facts: usize,
     copies: usize,
+) -> Result<bool, Fail> {
+    Ok(
+        world.log().len() == facts
+            && world.copies().len() == copies
+            && have_same_copies(world, other)
+            && have_same_stores(world, other)
+            && have_same_logs(alloc, world, other)?,
+    )
 }
 
-/// The long read of what the file has, or where it has nothing more, a write of 100 octets.
-fn request(alloc: Global, len: usize) -> Result<OwnedRequest, Fail> {
-    if len > 0 {
-        Ok(read(len as u64))
-    } else {
-        write(alloc, 100)
-    }
+fn write_is_the_same(alloc: Global) -> Result<bool, Fail> {
+    are_same(alloc, &written(alloc, false)?, &written(alloc, true)?, 3, 9)
 }
 
-/// The world after such a run.
-fn after(alloc: Global, run: &Run, noisy: bool) -> Result<World, Fail> {
-    let mut world = world(alloc, run.len, run.max_apdu)?;
-    let request = request(alloc, run.len)?;
-    plays(alloc, &mut world, request, run.all, noisy)?;
-    Ok(world)
+fn read_is_the_same(alloc: Global) -> Result<bool, Fail> {
+    are_same(alloc, &read(alloc, false)?, &read(alloc, true)?, 2, 230)
 }
 
 /// Log, copies and stores are the same with noise and without.
 #[test]
-fn noise_changes_nothing(rt: HostRuntime) -> Result<(), Fail> {
-    const RUNS: &[Run] = &[
-        Run {
-            len: 0,
-            max_apdu: 0,
-            all: WRITE,
-            facts: 3,
-            copies: 9,
-        },
-        Run {
-            len: 4_004,
-            max_apdu: 5,
-            all: READ_LONG,
-            facts: 2,
-            copies: 230,
-        },
-    ];
-    let alloc = rt.alloc();
-    for run in RUNS {
-        let quiet = after(alloc, run, false)?;
-        let noisy = after(alloc, run, true)?;
-        assert_eq!(rt;
-            (quiet.log().len(), quiet.copies().len()),
-            (run.facts, run.copies)
-        );
-        assert!(rt; log_of(alloc, &quiet)? == log_of(alloc, &noisy)?);
-        assert!(rt; have_same_copies(&quiet, &noisy) && have_same_stores(&quiet, &noisy));
-    }
+fn noise_around_a_write(rt: HostRuntime) -> Result<(), Fail> {
+    assert!(rt; write_is_the_same(rt.alloc())?);
+    Ok(())
+}
+
+#[test]
+fn noise_around_a_long_read(rt: HostRuntime) -> Result<(), Fail> {
+    assert!(rt; read_is_the_same(rt.alloc())?);
     Ok(())
 }
