@@ -23,6 +23,7 @@ pub(crate) fn window(octets: &[u8]) -> Result<(Window, &[u8]), ApduFault>
 
 /// The number and the window of a segment, where it is one.
 #[tactic(auto, unfolding(crate::specs::Reading::segment_at))]
+#[inline(always)]
 pub(crate) fn segment(
     octets: &[u8],
     is_segment: bool,

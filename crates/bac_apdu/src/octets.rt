@@ -10,6 +10,7 @@ use crate::apdu::Apdu;
 use crate::fault::ApduFault;
 
 /// The first octet, and what is left after it.
+#[inline(always)]
 pub(crate) fn octet(octets: &[u8]) -> Result<(u8, &[u8]), ApduFault>
     ensures { Reads (λ x. x) (λ r. r.now) octets.now result (octet_at Truncated) }
 {

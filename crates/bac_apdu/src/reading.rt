@@ -15,6 +15,7 @@ use crate::limits_reading::{limits, segment, window};
 use crate::octets::{ended, octet};
 
 #[tactic(auto, unfolding(crate::specs::Reading::confirmed_at))]
+#[inline(always)]
 fn confirmed_request(octets: &[u8], bits: u8) -> Result<Apdu<'_>, ApduFault>
     ensures { ReadsAll apdu_view result (confirmed_at bits octets.now) }
 {
@@ -49,6 +50,7 @@ fn simple_ack(octets: &[u8]) -> Result<Apdu<'_>, ApduFault>
 }
 
 #[tactic(auto, unfolding(crate::specs::Reading::complex_ack_at))]
+#[inline(always)]
 fn complex_ack(octets: &[u8], bits: u8) -> Result<Apdu<'_>, ApduFault>
     ensures { ReadsAll apdu_view result (complex_ack_at bits octets.now) }
 {

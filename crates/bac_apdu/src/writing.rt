@@ -30,6 +30,7 @@ fn weight(is_set: bool, weight: u8) -> u8
 }
 
 /// Appends both, or changes nothing.
+#[inline(always)]
 fn append(head: &[u8], service: &[u8], out: &mut Vec<u8>) -> Result<(), NoMemory>
     ensures ok { Appends result out.old out.new (head.now ++ service.now) }
     ensures err { Keeps result out.old out.new }
@@ -65,6 +66,7 @@ fn put_enumerated(number: u32, out: &mut Vec<u8>) -> Result<(), NoMemory>
 }
 
 /// Appends a Confirmed-Request: four or six octets, then its service data; or changes nothing.
+#[inline(always)]
 fn append_request(
     first: u8,
     codes: u8,
@@ -97,6 +99,7 @@ fn append_request(
 }
 
 /// The same of a ComplexACK: three or five octets, then its service data.
+#[inline(always)]
 fn append_answer(
     first: u8,
     invoke_id: u8,

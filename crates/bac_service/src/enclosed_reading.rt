@@ -10,6 +10,7 @@ use bac_value::{Class, Octets, kinds, take_data};
 
 /// Where a file is read, and how much of it, between a pair of tags of that number.
 #[tactic(auto, unfolding(crate::specs::Reading::enclosed_at))]
+#[inline(always)]
 pub(crate) fn extent<O: Octets>(octets: O, number: u8) -> Result<((i64, u64), O), Stop>
     ensures { Reads (λ t. t) O.octets (O.octets octets) result (enclosed_at number extent_at) }
 {
@@ -22,6 +23,7 @@ pub(crate) fn extent<O: Octets>(octets: O, number: u8) -> Result<((i64, u64), O)
 
 /// Where a file's octets are written, and which, between tags of number 0.
 #[tactic(auto, unfolding(crate::specs::Reading::enclosed_at))]
+#[inline(always)]
 pub(crate) fn content<O: Octets>(octets: O) -> Result<((i64, O), O), Stop>
     ensures { Reads (λ t. (t.0, O.octets t.1)) O.octets (O.octets octets) result (enclosed_at 0 content_at) }
 {
@@ -46,6 +48,7 @@ fn values<O: Octets>(octets: O) -> Result<(O, O), Stop>
 
 /// Data between a pair of tags of number 3.
 #[tactic(auto, unfolding(crate::specs::Reading::enclosed_at))]
+#[inline(always)]
 pub(crate) fn enclosed_values<O: Octets>(octets: O) -> Result<(O, O), Stop>
     ensures { Reads O.octets O.octets (O.octets octets) result (enclosed_at 3 values_at) }
 {

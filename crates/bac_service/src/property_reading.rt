@@ -25,6 +25,7 @@ fn index<O: Octets>(octets: O) -> Result<(Option<u32>, O), Stop>
 
 /// What names a property: an object, a property, and an index where one is given.
 #[tactic(auto, unfolding(crate::specs::Reading::reference_at))]
+#[inline(always)]
 pub(crate) fn property_reference<O: Octets>(octets: O) -> Result<(PropertyReference, O), Stop>
     ensures { Reads property_reference_view O.octets (O.octets octets) result reference_at }
 {

@@ -58,6 +58,7 @@ fn put_index(index: Option<u32>, out: &mut Vec<u8>) -> Result<(), NoMemory>
 }
 
 /// Appends what names a property.
+#[inline(always)]
 pub(crate) fn put_reference(to: PropertyReference, out: &mut Vec<u8>) -> Result<(), NoMemory>
     ensures ok { Appends result out.old out.new (reference_spelling (property_reference_view to)) }
     ensures len { Lengthens result out.old out.new (reference_spelling (property_reference_view to)) }
@@ -82,6 +83,7 @@ pub(crate) fn put_values(values: &[u8], out: &mut Vec<u8>) -> Result<(), NoMemor
 }
 
 /// Appends a Signed and an OctetString with application tags, between a pair of tags of number 0.
+#[inline(always)]
 pub(crate) fn put_content(
     start: i64,
     content: Content<'_>,

@@ -9,6 +9,7 @@ use bac_value::{Class, Form, Octets, Tag, take_tag};
 
 /// The next tag.
 #[tactic(auto, unfolding(crate::specs::Reading::next_tag))]
+#[inline(always)]
 pub(crate) fn tag<O: Octets>(octets: O) -> Result<(Tag, O), Stop>
     ensures reads { Reads tag_view O.octets (O.octets octets) result next_tag }
     ensures onward { IfOk result (λ r. length (O.octets r.1) < length (O.octets octets)) }
@@ -39,6 +40,7 @@ pub(crate) fn announced_by(tag: Tag, class: Class, number: u8) -> Option<usize>
 
 /// The tag of a class and number: how many octets of contents it announces.
 #[tactic(auto, unfolding(crate::specs::Reading::head_at))]
+#[inline(always)]
 pub(crate) fn head<O: Octets>(octets: O, class: Class, number: u8) -> Result<(usize, O), Stop>
     ensures reads { Reads (λ k. k) O.octets (O.octets octets) result (head_at class number) }
     ensures onward { IfOk result (λ r. length (O.octets r.1) < length (O.octets octets)) }
@@ -53,6 +55,7 @@ pub(crate) fn head<O: Octets>(octets: O, class: Class, number: u8) -> Result<(us
 
 /// Whether the next tag is that of an optional member; at the end none comes.
 #[tactic(auto, unfolding(crate::specs::Reading::is_next))]
+#[inline(always)]
 pub(crate) fn comes_next<O: Octets>(octets: O, number: u8) -> Result<bool, Stop>
     ensures { result ≡ is_next number (O.octets octets) }
 {
@@ -65,6 +68,7 @@ pub(crate) fn comes_next<O: Octets>(octets: O, number: u8) -> Result<bool, Stop>
 
 /// Whether the next tag is the opening tag of a number.
 #[tactic(auto, unfolding(crate::specs::Reading::is_opened))]
+#[inline(always)]
 pub(crate) fn opens_next<O: Octets>(octets: O, number: u8) -> Result<bool, Stop>
     ensures { result ≡ is_opened number (O.octets octets) }
 {
@@ -74,6 +78,7 @@ pub(crate) fn opens_next<O: Octets>(octets: O, number: u8) -> Result<bool, Stop>
 
 /// What comes after the opening tag of a number.
 #[tactic(auto, unfolding(crate::specs::Reading::tag_that))]
+#[inline(always)]
 pub(crate) fn opening<O: Octets>(octets: O, number: u8) -> Result<O, Stop>
     ensures { MatchResult result (λ rest. (length (O.octets rest) ≤ length (O.octets octets)) × (opening_at number (O.octets octets) ≡ Ok (O.octets rest)))
         (λ e. opening_at number (O.octets octets) ≡ Err e) }
@@ -88,6 +93,7 @@ pub(crate) fn opening<O: Octets>(octets: O, number: u8) -> Result<O, Stop>
 
 /// What comes after the closing tag of a number.
 #[tactic(auto, unfolding(crate::specs::Reading::tag_that))]
+#[inline(always)]
 pub(crate) fn closing<O: Octets>(octets: O, number: u8) -> Result<O, Stop>
     ensures { MatchResult result (λ rest. (length (O.octets rest) ≤ length (O.octets octets)) × (closing_at number (O.octets octets) ≡ Ok (O.octets rest)))
         (λ e. closing_at number (O.octets octets) ≡ Err e) }

@@ -14,6 +14,7 @@ use bac_value::{
 
 /// An ObjectIdentifier after a tag of that class and number.
 #[tactic(auto, unfolding(crate::specs::Reading::member_at))]
+#[inline(always)]
 pub(crate) fn object<O: Octets>(
     octets: O,
     class: Class,
@@ -31,6 +32,7 @@ pub(crate) fn object<O: Octets>(
 
 /// A number of at most 4 octets after a context tag: an Enumerated, or the index of an array.
 #[tactic(auto, unfolding(crate::specs::Reading::member_at))]
+#[inline(always)]
 pub(crate) fn short<O: Octets>(octets: O, number: u8) -> Result<(u32, O), Stop>
     ensures { Reads (λ n. n) O.octets (O.octets octets) result (member_at Class.Context number (number_at 9)) }
 {
@@ -44,6 +46,7 @@ pub(crate) fn short<O: Octets>(octets: O, number: u8) -> Result<(u32, O), Stop>
 
 /// An Unsigned after a tag of that class and number.
 #[tactic(auto, unfolding(crate::specs::Reading::member_at))]
+#[inline(always)]
 pub(crate) fn unsigned<O: Octets>(octets: O, class: Class, number: u8) -> Result<(u64, O), Stop>
     ensures { Reads (λ n. n) O.octets (O.octets octets) result (member_at class number (number_at 2)) }
 {
@@ -57,6 +60,7 @@ pub(crate) fn unsigned<O: Octets>(octets: O, class: Class, number: u8) -> Result
 
 /// A Signed after a tag of that class and number.
 #[tactic(auto, unfolding(crate::specs::Reading::member_at))]
+#[inline(always)]
 pub(crate) fn signed<O: Octets>(octets: O, class: Class, number: u8) -> Result<(i64, O), Stop>
     ensures { Reads (λ z. z) O.octets (O.octets octets) result (member_at class number signed_at) }
 {
@@ -70,6 +74,7 @@ pub(crate) fn signed<O: Octets>(octets: O, class: Class, number: u8) -> Result<(
 
 /// The octets of an application OctetString.
 #[tactic(auto, unfolding(crate::specs::Reading::member_at))]
+#[inline(always)]
 pub(crate) fn string<O: Octets>(octets: O) -> Result<(O, O), Stop>
     ensures reads { Reads O.octets O.octets (O.octets octets) result (member_at Class.Application 6 (kind_at 6)) }
     ensures onward { IfOk result (λ r. length (O.octets r.1) < length (O.octets octets)) }

@@ -124,6 +124,7 @@ fn take_raw<O: Octets>(octets: O, len: usize) -> Result<(O, O), FaultKind>
 /// This is how the contents of a context tag are read whose type is known. The length is tested first (`BadLength`), then that
 /// the octets are there (`Truncated`), then the octets themselves (`NotShortest`, `ReservedBits`).
 #[tactic(auto, unfolding(crate::specs::Reading::kind_at))]
+#[inline(always)]
 pub fn take_contents<O: Octets>(octets: O, kind: u8, len: usize) -> Result<(O, O), FaultKind>
     requires { kind < 13 }
     ensures reads { Reads O.octets O.octets (O.octets octets) result (kind_at kind len) }
@@ -169,6 +170,7 @@ fn contents_of_class<O: Octets>(
 
 /// The contents after a tag, and what is left after them.
 #[tactic(auto, unfolding(crate::specs::Reading::contents_at))]
+#[inline(always)]
 pub(crate) fn contents_after<O: Octets>(octets: O, tag: Tag) -> Result<(O, O), FaultKind>
     ensures { Reads O.octets O.octets (O.octets octets) result (contents_at (tag_view tag) tag.form) }
 {

@@ -16,6 +16,7 @@ use crate::tag_reading::take_tag;
 /// The whole tag is read first; then a fault in the length of its contents is found, then that they are not there, then faults
 /// in them.
 #[tactic(auto, unfolding(crate::specs::Reading::element_at))]
+#[inline(always)]
 pub fn take_element<O: Octets>(octets: O) -> Result<(Element<O>, O), FaultKind>
     ensures reads { Reads (element_view O.octets) O.octets (O.octets octets) result element_at }
     ensures onward { IfOk result (λ r. length (O.octets r.1) < length (O.octets octets)) }

@@ -163,6 +163,7 @@ fn is_context(first: u8) -> bool
 
 /// The tag at the front, and what is left after it.
 #[tactic(auto, unfolding(crate::specs::Reading::tag_at))]
+#[inline(always)]
 pub fn take_tag<O: Octets>(octets: O) -> Result<(Tag, O), FaultKind>
     ensures reads { Reads tag_view O.octets (O.octets octets) result tag_at }
     ensures onward { IfOk result (λ r. length (O.octets r.1) < length (O.octets octets)) }

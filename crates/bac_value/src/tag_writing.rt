@@ -45,6 +45,7 @@ fn put_length(len: u32, out: &mut Vec<u8>) -> Result<(), NoMemory>
 
 /// Appends the one spelling of a tag. After an `Err` the old octets are a front of what is there.
 #[tactic(auto, unfolding(crate::specs::Spelling::tag_spelling))]
+#[inline(always)]
 pub fn put_tag(tag: &Tag, out: &mut Vec<u8>) -> Result<(), NoMemory>
     ensures spelled { SpellsTag (tag_view tag.now) (tag_spelling (tag_view tag.now)) }
     ensures ok { Appends result out.old out.new (tag_spelling (tag_view tag.now)) }

@@ -21,6 +21,7 @@ use byteorder::{BigEndian, ByteOrder};
 /// Appends a tag with the length of some contents, and the contents. After an `Err` the old octets are a front of what is there.
 ///
 /// Tag numbers: application 0 to 12 but 1, context 0 to 254. That the contents are of the tag's kind is the caller's to know.
+#[inline(always)]
 pub fn put_primitive(
     class: Class,
     number: u8,
@@ -47,6 +48,7 @@ pub fn put_primitive(
 }
 
 /// Appends a tag, and a number in so many octets.
+#[inline(always)]
 fn put_number(
     class: Class,
     tag: u8,
@@ -74,6 +76,7 @@ fn put_number(
 /// Tag numbers: application 0 to 12 but 1, context 0 to 254; that an Enumerated has at most 32 bits is the caller's to know.
 /// After an `Err` the old octets are a front of what is there.
 #[tactic(auto, unfolding(crate::specs::Number::unsigned_octets))]
+#[inline(always)]
 pub fn put_unsigned(class: Class, tag: u8, number: u64, out: &mut Vec<u8>) -> Result<(), NoMemory>
     requires { IsTrue (length_tag_fits tag class) }
     ensures ok { Appends result out.old out.new (primitive class tag (unsigned_octets number)) }
@@ -89,6 +92,7 @@ pub fn put_unsigned(class: Class, tag: u8, number: u64, out: &mut Vec<u8>) -> Re
 ///
 /// Tag numbers: application 0 to 12 but 1, context 0 to 254. After an `Err` the old octets are a front of what is there.
 #[tactic(auto, unfolding(crate::specs::Number::signed_octets))]
+#[inline(always)]
 pub fn put_signed(class: Class, tag: u8, number: i64, out: &mut Vec<u8>) -> Result<(), NoMemory>
     requires { IsTrue (length_tag_fits tag class) }
     ensures ok { Appends result out.old out.new (primitive class tag (signed_octets number)) }
@@ -104,6 +108,7 @@ pub fn put_signed(class: Class, tag: u8, number: i64, out: &mut Vec<u8>) -> Resu
 /// Appends a tag, and the octets of an object's type and instance (clause 20.2.14).
 ///
 /// Tag numbers: application 0 to 12 but 1, context 0 to 254. After an `Err` the old octets are a front of what is there.
+#[inline(always)]
 pub fn put_object_identifier(
     class: Class,
     tag: u8,
