@@ -46,14 +46,12 @@ const SEGMENTS: &[Do] = &[
     Do::Deliver(10),
 ];
 
-/// A reply in 90 segments, one of which is lost; the window is sent again three times, and the transfer stops until the request comes again.
+/// A reply in two segments, the second of which is lost: it is sent again, and once more for another copy of the request after the transfer has stopped.
 const REPLY: &[Do] = &[
     Do::Ask(0, 1, READ, "0C00000007 191C"),
-    Do::Each(0, 35),
-    Do::Deliver(35),
-    Do::Each(36, 44),
-    Do::Deliver(45),
-    Do::Deliver(68),
+    Do::Deliver(0),
+    Do::Deliver(1),
+    Do::Deliver(2),
     Do::Advance(2_000),
     Do::Tick(1),
     Do::Advance(2_000),
@@ -63,16 +61,18 @@ const REPLY: &[Do] = &[
     Do::Advance(2_000),
     Do::Tick(1),
     Do::Tick(0),
-    Do::Deliver(197),
+    Do::Deliver(7),
+    Do::Deliver(8),
+    Do::Deliver(9),
 ];
 
-/// Three nodes with these limits and the house store, or where a tag is named two, the second of which has a description of 4,000 octets.
+/// Three nodes with these limits and the house store, or where a tag is named two, the second of which has a description of 79 octets.
 fn nodes(alloc: Global, limits: Limits, tag: &str) -> Result<Vec<(Config, Store)>, NoMemory> {
     if tag.is_empty() {
         let configs = [config(0, limits), config(1, limits), config(2, limits)];
         housed(alloc, &configs)
     } else {
-        readers(alloc, limits, tag, 4_000)
+        readers(alloc, limits, tag, 79)
     }
 }
 
@@ -202,5 +202,5 @@ fn segments_with_refused_memory(rt: HostRuntime) {
 
 #[test]
 fn replies_with_refused_memory(rt: HostRuntime) {
-    assert!(rt; outlasts(rt.alloc(), SMALL, "75FE0FA0", REPLY));
+    assert!(rt; outlasts(rt.alloc(), SMALL, "754F", REPLY));
 }
