@@ -74,7 +74,10 @@ fn tell_both<'a>(
     Ok(Story {
         first,
         second,
-        failures: client.link.failures().saturating_add(server.link.failures()),
+        failures: client
+            .link
+            .failures()
+            .saturating_add(server.link.failures()),
         file: file_of(alloc, &server.node)?,
     })
 }
