@@ -1,5 +1,5 @@
 -- One copy more was delivered.
-use Rattle.std.proofs.Common.{◌-◌, arith}
+use Rattle.std.proofs.Common.{arith}
 use Rattle.bac_straight_runs.specs.Going.{IsStuck}
 use Rattle.bac_straight_runs.proofs.Going.{gone_none, gone_more, stopped_at, stuck_at, told_why, when_false, when_true}
 use Rattle.bac_straight_runs.proofs.running.deliver_each.Goals as goal
