@@ -1,4 +1,5 @@
 -- The server takes what it takes, and the run goes as far as it goes.
+use Rattle.std.proofs.Common.{refl, inl}
 use Rattle.std.specs.Option.{option_map}
 use Rattle.bac_apdu.specs.Views.{limits_view}
 use Rattle.bac_service.specs.Views.{owned_request_view}
@@ -53,3 +54,6 @@ returns-clause-answered c = λ a b can.
     (option_map ending_view s.ending) s.deliveries g) a b can)
     (λ f g. tt)
     c.ask_and_deliver-run.ensures.goes
+
+pub returns-in_default-clause-stopped : goal.returns-in_default-clause-stopped
+returns-in_default-clause-stopped c = inl (record { fault_is = refl; lacks = c.in_default.ensures; same = refl })
