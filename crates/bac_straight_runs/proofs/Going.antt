@@ -1,6 +1,6 @@
 -- How far the deliveries of an ask have gone.
-use Rattle.std.proofs.Common.{◌≡◌, ℕ, ◌+◌, ◌-◌, ◌≤◌, List, length, map, Option, Some, None, slice_get, refl, sym, ap, subst, inl, inr, ◌∙◌, arith}
-use Rattle.std.specs.Prelude.{Result, Ok, Err, IfOk, IsErrAnd, MatchResult}
+use Rattle.std.proofs.Common.{◌≡◌, ℕ, ◌+◌, ◌-◌, ◌<◌, ◌≤◌, Bool, true, false, List, length, map, Option, Some, None, slice_get, refl, sym, ap, subst, inl, inr, ◌∙◌, arith}
+use Rattle.std.specs.Prelude.{Result, Ok, Err, IsErrAnd, MatchBool, MatchResult}
 use Rattle.std.proofs.lemmas.List.{length-map, length-reverse}
 use Rattle.bac_apdu.specs.Apdu.{Limits}
 use Rattle.bac_service.specs.Values.{Request}
@@ -14,15 +14,18 @@ use Rattle.bac_simulation.specs.declared.noting.Note as note
 use Rattle.bac_simulation.specs.Notes.{note_view, notes_view}
 use Rattle.bac_simulation.specs.Views.{copy_view}
 use Rattle.bac_network.specs.declared.fact.Fact as code
+use Rattle.bac_network.specs.declared.fault.WorldFault.{WorldFault}
 use Rattle.bac_network.specs.Histories.{WorldView, HasHistory}
+use Rattle.bac_network.specs.Steps.{IsFault}
 use Rattle.bac_network.specs.Views.{fact_view, log_view}
 use Rattle.bac_straight.specs.Straight.{IsStraight, ending_in}
 use Rattle.bac_straight.proofs.Loops.{is_run}
-use Rattle.bac_straight_runs.specs.Going.{HasGone, HasStopped}
+use Rattle.bac_straight_runs.specs.Faults.{DeliveryFails, EndingFails, Fails, StopsShort}
+use Rattle.bac_straight_runs.specs.Going.{HasGone, HasStopped, IsCutShort, IsStuck, IsUntold}
 use Rattle.bac_straight_runs.specs.Logs.{IsSince, DeliverUnended, Stops}
 use Rattle.bac_straight_runs.specs.Runs.{Goes, GoesAt, WentBy, WentSoFar}
 use Rattle.bac_straight_runs.specs.Tells.{LogTells}
-use Rattle.bac_straight_runs.proofs.Deliveries.{none_yet, one_more}
+use Rattle.bac_straight_runs.proofs.Deliveries.{none_yet, one_more, run_of}
 use Rattle.bac_straight_runs.proofs.Grown.{since_grows, delivered_grows}
 use Rattle.bac_straight_runs.proofs.Tells.{log_tells}
 
@@ -47,6 +50,19 @@ stopped_at ask since first number w u le h stops =
     let at : number ≡ first + (number - first) = omega (arith, le) in
     record { gone = h; stops = subst (λ k. Stops ask k u.world) at stops }
 
+pub stuck_at : (f : WorldFault) (ask since first number : ℕ) (w u v : WorldView) → first ≤ number → HasGone ask since first w u (number - first)
+    → ending_in ask u.world.log ≡ None → number < length u.world.copies → IsFault f u.overtake u.world (Deliver number) → v ≡ u
+    → IsStuck f ask since first w v
+stuck_at f ask since first number w u v le h none left why is =
+    let at : number ≡ first + (number - first) = omega (arith, le) in
+    subst (λ y. IsStuck f ask since first w y) (sym is) (record {
+      count = number - first;
+      gone = h;
+      unended = none;
+      left = subst (λ k. k < length u.world.copies) at left;
+      why = subst (λ k. IsFault f w.overtake u.world (Deliver k)) at (subst (λ k. IsFault f k u.world (Deliver number)) h.overtake why);
+    })
+
 -- what the log of a world with a history tells
 pub tells : (w : WorldView) → HasHistory w → LogTells w.overtake w.world
 tells w h = log_tells h.0 w.overtake h.1.first w.world h.1.fresh h.1.bounded h.1.events h.1.run
@@ -61,17 +77,42 @@ module _ (w asked new : WorldView) (h : HasHistory w) (client server : ℕ) (lim
       (subst (λ k. DeliverUnended asked.overtake k count (length w.world.copies) asked.world new.world) ask_is
       (subst (λ k. DeliverUnended asked.overtake ask count k asked.world new.world) first_is g.each))
 
-  pub gone_went : (count : ℕ) → HasGone ask since first asked new count → WentBy w.overtake w.world client server limits r new.world
-  gone_went count g = (tells w h).run client server limits r asked.world new.world asks count (each_of count g)
-
-  pub stopped_goes : (count : ℕ) (ending : Option Ending) → HasStopped ask since first asked new count → ending ≡ ending_in ask new.world.log
-      → Goes w.overtake w.world client server limits r ending count new.world
-  stopped_goes count ending g is =
+  was_straight : (count : ℕ) (ending : Option Ending) → HasStopped ask since first asked new count → ending ≡ ending_in ask new.world.log
+      → IsStraight w.overtake w.world client server limits r ending count new.world
+  was_straight count ending g is =
       let stops : Stops (length w.world.notes) (length w.world.copies + count) new.world =
       subst (λ k. Stops k (length w.world.copies + count) new.world) ask_is (subst (λ k. Stops ask (k + count) new.world) first_is g.stops) in
       let same : ending_in (length w.world.notes) new.world.log ≡ ending = sym (is ∙ ap (λ k. ending_in k new.world.log) ask_is) in
-      inl (subst (λ e. IsStraight w.overtake w.world client server limits r e count new.world) same
-      ((tells w h).straight client server limits r asked.world new.world asks count (each_of count g.gone) stops))
+      subst (λ e. IsStraight w.overtake w.world client server limits r e count new.world) same
+      ((tells w h).straight client server limits r asked.world new.world asks count (each_of count g.gone) stops)
+
+  pub stopped_goes : (count : ℕ) (ending : Option Ending) → HasStopped ask since first asked new count → ending ≡ ending_in ask new.world.log
+      → Goes w.overtake w.world client server limits r ending count new.world
+  stopped_goes count ending g is = inl (was_straight count ending g is)
+
+  -- a fault of a delivery, or of the ending
+  module _ (f : WorldFault) where
+    stuck : IsStuck f ask since first asked new → DeliveryFails f w.overtake w.world client server limits r new.world
+    stuck s = record {
+      count = s.count;
+      asked = asked.world;
+      asks = asks;
+      done = run_of w.overtake (length w.world.notes) s.count (length w.world.copies) asked.world new.world (each_of s.count s.gone);
+      unended = subst (λ k. ending_in k new.world.log ≡ None) ask_is s.unended;
+      left = subst (λ k. k + s.count < length new.world.copies) first_is s.left;
+      why = subst (λ k. IsFault f k new.world (Deliver (length w.world.copies + s.count))) overtake
+          (subst (λ k. IsFault f asked.overtake new.world (Deliver (k + s.count))) first_is s.why);
+    }
+
+    untold : (s : IsUntold f ask since first asked new) (ending : Option Ending) → ending_in ask new.world.log ≡ ending
+        → EndingFails f w.overtake w.world client server limits r new.world
+    untold s None is = absurd (s.ended is)
+    untold s (Some ending) is =
+        record { fault_is = s.fault_is; ending = ending; count = s.count; run = was_straight s.count (Some ending) s.stopped (sym is) }
+
+    pub cut_fails : IsCutShort f ask since first asked new → Fails f w.overtake w.world client server limits r new.world
+    cut_fails (inl s) = inr (inl (stuck s))
+    cut_fails (inr s) = inr (inr (untold s (ending_in ask new.world.log) refl))
 
 -- the facts before an accepted ask are the oldest
 pub asked_since : (w asked : WorldView) → HasHistory w → (client server : ℕ) (limits : Limits) (r : Request)
@@ -88,6 +129,12 @@ module _ (overtake : ℕ) (old : World) (client server : ℕ) (limits : Limits) 
   goes_went ending count (inl s) = inr (count, is_run overtake old client server limits r ending count new s)
   goes_went ending count (inr x) = inl x.refused.same
 
+  -- so it did where it met a fault
+  pub fails_went : (f : WorldFault) → Fails f overtake old client server limits r new → WentBy overtake old client server limits r new
+  fails_went f (inl ask) = inl ask.1
+  fails_went f (inr (inl d)) = inr (d.count, (d.asked, inl d.asks, d.done))
+  fails_went f (inr (inr e)) = inr (e.count, is_run overtake old client server limits r (Some e.ending) e.count new e.run)
+
   module _ (node : Node) (at : slice_get old.nodes server ≡ Some node) (same : limits ≡ node.settings.limits) where
     pub went_at : WentBy overtake old client server limits r new → WentSoFar overtake old client server r new
     went_at g = inr (record { node = node; at = at; went = subst (λ l. WentBy overtake old client server l r new) same g })
@@ -95,6 +142,9 @@ module _ (overtake : ℕ) (old : World) (client server : ℕ) (limits : Limits) 
     pub goes_at : (ending : Option Ending) (count : ℕ) → Goes overtake old client server limits r ending count new
         → GoesAt overtake old client server r ending count new
     goes_at ending count g = record { node = node; at = at; goes = subst (λ l. Goes overtake old client server l r ending count new) same g }
+
+    pub fails_at : (f : WorldFault) → Fails f overtake old client server limits r new → StopsShort f overtake old client server r new
+    fails_at f g = inr (record { node = node; at = at; fails = subst (λ l. Fails f overtake old client server l r new) same g })
 
 pub some_none : {A : Type 0} (x : A) → Some x ≡ None → ⊥
 some_none x e = absurd cc
@@ -106,18 +156,27 @@ pub told_on : {T E R : Type 0} (P : T → Type 0) (Q : E → Type 0) (q : Result
 told_on P Q (Ok x) h p = absurd h
 told_on P Q (Err y) h p = p
 
-pub either_way : {T E R : Type 0} {P : T → Type 0} (q : Result T E) → ((x : T) → P x → R) → MatchResult q P (λ _. R) → R
-either_way (Ok x) f h = f x h
-either_way (Err y) f h = h
+pub told_why : {T E : Type 0} (P : T → Type 0) (Q : E → Type 0) (e : E) (q : Result T E) → IsErrAnd q (λ y. y ≡ e) → Q e → MatchResult q P Q
+told_why P Q e (Ok x) h p = absurd h
+told_why P Q e (Err y) h p = subst Q (sym h) p
 
-pub when_ok : {T E : Type 0} {P Q : T → Type 0} (R : Type 0) (q : Result T E) → ((x : T) → P x → Q x) → MatchResult q P (λ _. R) → IfOk q Q
-when_ok R (Ok x) f h = f x h
-when_ok R (Err y) f h = tt
+-- a test's outcome
+pub when_true : (P Q : Type 0) (b : Bool) → MatchBool b P Q → b ≡ true → P
+when_true P Q true h e = h
+when_true P Q false h e = absurd cc
 
-pub told_as : {T E R S : Type 0} {P Q : T → Type 0} (q : Result T E) → ((x : T) → P x → Q x) → (R → S) → MatchResult q P (λ _. R)
-    → MatchResult q Q (λ _. S)
+pub when_false : (P Q : Type 0) (b : Bool) → MatchBool b P Q → b ≡ false → Q
+when_false P Q true h e = absurd cc
+when_false P Q false h e = h
+
+pub either_way : {T E R : Type 0} {P : T → Type 0} {Q : E → Type 0} (q : Result T E) → ((x : T) → P x → R) → ((y : E) → Q y → R) → MatchResult q P Q → R
+either_way (Ok x) f g h = f x h
+either_way (Err y) f g h = g y h
+
+pub told_as : {T E : Type 0} {P R : T → Type 0} {Q S : E → Type 0} (q : Result T E) → ((x : T) → P x → R x) → ((y : E) → Q y → S y) → MatchResult q P Q
+    → MatchResult q R S
 told_as (Ok x) f g h = f x h
-told_as (Err y) f g h = g h
+told_as (Err y) f g h = g y h
 
 -- in code: how many facts, asks and copies there are
 pub facts_many : (facts : List code.Fact) (log : List Fact) → log_view facts ≡ log → length facts ≡ length log

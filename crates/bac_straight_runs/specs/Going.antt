@@ -1,6 +1,11 @@
 -- How far the deliveries of an ask have gone, in code.
-use Rattle.std.specs.Prelude.{◌≡◌, ℕ, ◌+◌}
+use Rattle.std.specs.Prelude.{◌≡◌, ◌≢◌, ◌⊎◌, ℕ, ◌+◌, ◌<◌, length, None}
+use Rattle.bac_world.specs.World.Event.{Deliver}
 use Rattle.bac_network.specs.Histories.{WorldView}
+use Rattle.bac_network.specs.Steps.{IsFault}
+use Rattle.bac_network.specs.declared.fault.WorldFault.{WorldFault}
+use Rattle.bac_network.specs.declared.fault.WorldFault.TheVariants as fault
+use Rattle.bac_straight.specs.Straight.{ending_in}
 use Rattle.bac_straight_runs.specs.Logs.{IsSince, DeliverUnended, Stops}
 
 -- so many copies were delivered, from the first of the ask on
@@ -14,3 +19,21 @@ pub record HasGone (ask since first : ℕ) (old new : WorldView) (count : ℕ) :
 pub record HasStopped (ask since first : ℕ) (old new : WorldView) (count : ℕ) : Type 0 where
   pub gone : HasGone ask since first old new count
   pub stops : Stops ask (first + count) new.world
+
+-- the delivery of the next copy met that fault: that copy is there, and the ask has not ended
+pub record IsStuck (f : WorldFault) (ask since first : ℕ) (old new : WorldView) : Type 0 where
+  pub count : ℕ
+  pub gone : HasGone ask since first old new count
+  pub unended : ending_in ask new.world.log ≡ None
+  pub left : first + count < length new.world.copies
+  pub why : IsFault f old.overtake new.world (Deliver (first + count))
+
+-- that was all, and memory was refused for a copy of the ending
+pub record IsUntold (f : WorldFault) (ask since first : ℕ) (old new : WorldView) : Type 0 where
+  pub fault_is : f ≡ fault.NoMemory
+  pub count : ℕ
+  pub stopped : HasStopped ask since first old new count
+  pub ended : ending_in ask new.world.log ≢ None
+
+abbrev pub IsCutShort : WorldFault → (ask since first : ℕ) → (old new : WorldView) → Type 0
+IsCutShort f ask since first old new = IsStuck f ask since first old new ⊎ IsUntold f ask since first old new

@@ -3,3 +3,4 @@ pub mod Logs
 pub mod Runs
 pub mod Tells
 pub mod Going
+pub mod Faults

@@ -1,17 +1,19 @@
 //! The straight run.
-ghost use Rattle.std.specs.Prelude.{◌≡◌, ℕ, IfOk, OnErr, OnOk, MatchBool, MatchOption, MatchResult, None, Some, slice_get};
+ghost use Rattle.std.specs.Prelude.{◌≡◌, ◌≢◌, ◌+◌, ◌<◌, ◌^◌, IfErr, IfOk, OnErr, OnOk, MatchBool, MatchOption, MatchResult, None, Some, length, slice_get};
 ghost use Rattle.std.specs.Option.{option_map};
 ghost use Rattle.bac_apdu.specs.Views.{limits_view};
 ghost use Rattle.bac_service.specs.Views.{owned_request_view};
 ghost use Rattle.bac_client.specs.Views.{ending_view};
 ghost use Rattle.bac_world.specs.Node.{Node};
 ghost use Rattle.bac_world.specs.World.{WorldStep};
-ghost use Rattle.bac_world.specs.World.Event.{Deliver};
+ghost use Rattle.bac_world.specs.World.Event.{Ask, Deliver};
 ghost use Rattle.bac_network.specs.Histories.{HasHistory, IsOnceNow};
+ghost use Rattle.bac_network.specs.Steps.{IsFault};
 ghost use Rattle.bac_straight.specs.Straight.{ending_in};
-ghost use Rattle.bac_straight_runs.specs.Going.{HasGone, HasStopped};
+ghost use Rattle.bac_straight_runs.specs.Faults.{Fails, StopsShort};
+ghost use Rattle.bac_straight_runs.specs.Going.{HasStopped, IsCutShort, IsStuck};
 ghost use Rattle.bac_straight_runs.specs.Logs.{IsSince, Stops};
-ghost use Rattle.bac_straight_runs.specs.Runs.{AsksIf, CanBeAnswered, Goes, GoesAt, IsAnsweredSoon, WentBy, WentSoFar};
+ghost use Rattle.bac_straight_runs.specs.Runs.{AsksIf, CanBeAnswered, Goes, GoesAt, IsAnsweredSoon, WentSoFar};
 
 use crate::ended::{copied, ending_of};
 use bac_apdu::Limits;
@@ -50,6 +52,7 @@ fn ask(
     request: OwnedRequest,
 ) -> Result<bool, WorldFault>
     ensures asked { IfOk result (λ accepted. AsksIf accepted world.old.world client server (limits_view limits) (owned_request_view request) world.new.world) }
+    ensures fault { IfErr result (λ f. IsFault f world.old.overtake world.old.world (Ask client server (limits_view limits) (owned_request_view request))) }
     ensures err { OnErr result (world.new ≡ world.old) }
     ensures overtake { world.new.overtake ≡ world.old.overtake }
     ensures opening { world.new.opening ≡ world.old.opening }
@@ -66,10 +69,11 @@ fn ask(
     }
 }
 
-/// Whether the ask has ended, or no copy is left from that number on.
+/// Whether the ask has ended, or no copy is left from that number on. Where one is left, there is a number after its own.
 fn is_over(world: &World, ask: usize, since: usize, number: usize) -> bool
     requires { IsSince since ask world.now.world.log }
-    ensures { MatchBool result (Stops ask number world.now.world) (ending_in ask world.now.world.log ≡ None) }
+    ensures { MatchBool result (Stops ask number world.now.world)
+        ((ending_in ask world.now.world.log ≡ None) × (number < length world.now.world.copies) × (number + 1 < 2 ^ 64)) }
 {
     if number >= world.copies().len() {
         return true;
@@ -83,6 +87,7 @@ fn is_over(world: &World, ask: usize, since: usize, number: usize) -> bool
 /// Delivers a copy. After an Err the world is as before.
 fn deliver(world: &mut World, number: usize) -> Result<(), WorldFault>
     ensures went { OnOk result (WorldStep world.old.overtake world.old.world (Deliver number) world.new.world) }
+    ensures fault { IfErr result (λ f. IsFault f world.old.overtake world.old.world (Deliver number)) }
     ensures err { OnErr result (world.new ≡ world.old) }
     ensures overtake { world.new.overtake ≡ world.old.overtake }
     ensures opening { world.new.opening ≡ world.old.opening }
@@ -99,20 +104,17 @@ fn deliver_each(
     first: usize,
 ) -> Result<usize, WorldFault>
     requires { IsSince since ask world.old.world.log }
-    ensures { MatchResult result (λ count. HasStopped ask since first world.old world.new count)
-        (λ _. (count : ℕ) × HasGone ask since first world.old world.new count) }
+    ensures { MatchResult result (λ count. HasStopped ask since first world.old world.new count) (λ f. IsStuck f ask since first world.old world.new) }
 {
-    for number in first..usize::MAX {
-        if is_over(world, ask, since, number) {
-            return Ok(number - first);
-        }
+    let mut number = first;
+    while !is_over(world, ask, since, number) {
         deliver(world, number)?;
+        number += 1;
     }
-    // As many copies as numbers: no memory holds them.
-    Err(WorldFault::NoMemory)
+    Ok(number - first)
 }
 
-/// How the ask has ended, if it has.
+/// How the ask has ended, if it has. An Err is for an ending alone.
 fn ending_now(
     alloc: Global,
     world: &World,
@@ -120,7 +122,8 @@ fn ending_now(
     since: usize,
 ) -> Result<Option<Ending>, NoMemory>
     requires { IsSince since ask world.now.world.log }
-    ensures { IfOk result (λ ending. option_map ending_view ending ≡ ending_in ask world.now.world.log) }
+    ensures told { IfOk result (λ ending. option_map ending_view ending ≡ ending_in ask world.now.world.log) }
+    ensures err { OnErr result (ending_in ask world.now.world.log ≢ None) }
 {
     match ending_of(world.log(), since, ask) {
         Some(ending) => Ok(Some(copied(alloc, ending)?)),
@@ -139,7 +142,7 @@ fn deliver_all(
     requires { IsSince since ask world.old.world.log }
     ensures { MatchResult result (λ s. HasStopped ask since first world.old world.new s.deliveries
         × (option_map ending_view s.ending ≡ ending_in ask world.new.world.log))
-        (λ _. (count : ℕ) × HasGone ask since first world.old world.new count) }
+        (λ f. IsCutShort f ask since first world.old world.new) }
 {
     let deliveries = deliver_each(world, ask, since, first)?;
     let ending = ending_now(alloc, world, ask, since)?;
@@ -158,7 +161,7 @@ fn ask_and_deliver(
     requires { HasHistory world.old }
     ensures goes { MatchResult result (λ s. Goes world.old.overtake world.old.world client server (limits_view limits) (owned_request_view request)
         (option_map ending_view s.ending) s.deliveries world.new.world)
-        (λ _. WentBy world.old.overtake world.old.world client server (limits_view limits) (owned_request_view request) world.new.world) }
+        (λ f. Fails f world.old.overtake world.old.world client server (limits_view limits) (owned_request_view request) world.new.world) }
     ensures overtake { world.new.overtake ≡ world.old.overtake }
     ensures opening { world.new.opening ≡ world.old.opening }
 {
@@ -178,8 +181,8 @@ fn ask_and_deliver(
 /// A straight run: asks with what the server takes of APDUs, and delivers each copy that arises from it once, in order of sending, at one moment, until the
 /// ask has ended or no copy is left. A refused ask changes nothing.
 ///
-/// It stops at the first fault of an event, and tells it; what was done before stands. `NoSuchNode` where either node is not there; `NoMemory` also where there
-/// is none for the ending, after all was done.
+/// It stops at the first fault of an event, and tells it; what was done before stands. `NoSuchNode` where either node is not there, and then nothing changed;
+/// `NoMemory` also where there is none for the ending, after all was done. It tells no other fault: each copy that it delivers is there.
 pub fn straight(
     alloc: Global,
     world: &mut World,
@@ -190,6 +193,7 @@ pub fn straight(
     ensures run { WentSoFar world.old.overtake world.old.world client server (owned_request_view request) world.new.world }
     ensures goes { IfOk result (λ s. GoesAt world.old.overtake world.old.world client server (owned_request_view request)
         (option_map ending_view s.ending) s.deliveries world.new.world) }
+    ensures stopped { IfErr result (λ f. StopsShort f world.old.overtake world.old.world client server (owned_request_view request) world.new.world) }
     ensures answered { (a b : Node) → CanBeAnswered world.old.overtake world.old.world client server a b (owned_request_view request)
         → IfOk result (λ s. IsAnsweredSoon world.old.world client server a b (owned_request_view request)
         (option_map ending_view s.ending) s.deliveries world.new.world) }

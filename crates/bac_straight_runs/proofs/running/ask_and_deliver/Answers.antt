@@ -4,12 +4,17 @@ use Rattle.std.specs.Option.{option_map}
 use Rattle.bac_apdu.specs.Views.{limits_view}
 use Rattle.bac_service.specs.Views.{owned_request_view}
 use Rattle.bac_client.specs.Views.{ending_view}
+use Rattle.bac_straight_runs.specs.Faults.{Fails}
 use Rattle.bac_straight_runs.specs.Runs.{AsksIf}
-use Rattle.bac_straight_runs.proofs.Going.{asked_since, copies_many, facts_many, gone_went, notes_many, stopped_goes, told_as, told_on}
+use Rattle.bac_straight_runs.proofs.Going.{asked_since, copies_many, cut_fails, facts_many, notes_many, stopped_goes, told_as, told_why}
 use Rattle.bac_straight_runs.proofs.running.ask_and_deliver.Goals as goal
 
 pub returns-in_err-ask-clause-goes : goal.returns-in_err-ask-clause-goes
-returns-in_err-ask-clause-goes c = told_on _ _ c.from_residual.result c.from_residual.ensures.1 (inl (ap (λ w. w.world) c.in_err-ask.ensures.err))
+returns-in_err-ask-clause-goes c =
+    let w = c.args.world.now in
+    told_why _ (λ f. Fails f w.overtake w.world c.args.client c.args.server (limits_view c.args.limits) (owned_request_view c.args.request)
+    c.ask.new.world.world) _ c.from_residual.result c.from_residual.ensures.1
+    (inl (c.in_err-ask.ensures.fault, ap (λ v. v.world) c.in_err-ask.ensures.err))
 
 pub deliver_all-requires : goal.deliver_all-requires
 deliver_all-requires c =
@@ -34,5 +39,5 @@ returns-then-branch-clause-goes c =
     told_as c.deliver_all.result
     (λ s h. stopped_goes w asked new c.requires c.args.client c.args.server limits r asks c.ask.ensures.overtake _ _ _ number first s.deliveries
     (option_map ending_view s.ending) h.0 h.1)
-    (λ h. gone_went w asked new c.requires c.args.client c.args.server limits r asks c.ask.ensures.overtake _ _ _ number first h.0 h.1)
+    (λ f h. cut_fails w asked new c.requires c.args.client c.args.server limits r asks c.ask.ensures.overtake _ _ _ number first f h)
     c.deliver_all.ensures

@@ -1,8 +1,8 @@
 -- The log tells whether the ask has ended.
-use Rattle.std.proofs.Common.{◌∙◌, sym, ap, subst, inl}
+use Rattle.std.proofs.Common.{◌∙◌, sym, ap, subst, inl, arith}
 use Rattle.bac_straight.specs.Straight.{ending_in}
 use Rattle.bac_straight_runs.specs.Logs.{IsSince}
-use Rattle.bac_straight_runs.proofs.Going.{some_none}
+use Rattle.bac_straight_runs.proofs.Going.{copies_many, some_none}
 use Rattle.bac_straight_runs.proofs.running.is_over.Goals as goal
 
 pub ending_of-requires : goal.ending_of-requires
@@ -12,4 +12,6 @@ pub returns-in-Some : goal.returns-in-Some
 returns-in-Some c = inl (λ none. some_none _ (sym c.in-Some.ensures ∙ ap (ending_in c.args.ask) c.log.ensures ∙ none))
 
 pub returns-in-None : goal.returns-in-None
-returns-in-None c = sym (ap (ending_in c.args.ask) c.log.ensures) ∙ c.in-None.ensures
+returns-in-None c =
+    let many = copies_many c.copies.result.now c.args.world.now.world.copies c.copies.ensures in
+    (sym (ap (ending_in c.args.ask) c.log.ensures) ∙ c.in-None.ensures, omega (arith, many), omega arith)
