@@ -119,14 +119,14 @@ segment_limits = (refl, refl, refl, refl, refl, refl)
 pub requests_of_all_sizes : RequestsOfAllSizes
 requests_of_all_sizes = (refl, refl, refl, refl)
 
-pub segmented_request_steps : SegmentedRequestSteps
-segmented_request_steps = (refl, refl, refl)
+pub request_steps : SegmentedRequestSteps
+request_steps = (refl, refl, refl)
 
 pub segmented_entry : SegmentedEntry
 segmented_entry = (refl, refl, refl)
 
-pub segmented_response_steps : SegmentedResponseSteps
-segmented_response_steps = (refl, refl, refl, refl, refl, refl, refl, refl)
+pub response_steps : SegmentedResponseSteps
+response_steps = (refl, refl, refl, refl, refl, refl, refl, refl)
 
 pub refusals : Refusals
 refusals = (refl, refl, refl, refl)

@@ -54,7 +54,7 @@ pub record Reaction : Type 0 where
 abbrev pub Service : Type 0
 Service = ℕ → Octets → Outcome
 
--- an entry is live for KEEP; one that is not live is as none (own rule of this profile)
+-- an entry is live for KEEP; one that is not live counts as no entry (own rule of this profile)
 abbrev pub is_live : ℕ → Entry → Bool
 is_live now e = nat_le (now - e.begin) KEEP
 

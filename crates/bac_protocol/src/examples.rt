@@ -126,7 +126,7 @@ pub fn ends_of_a_ticket()
 {}
 
 /// An entry in SEGMENTED_REQUEST, one whose request came in segments, and one in SEGMENTED_RESPONSE.
-#[tactic(auto, using(crate::proofs::Computed::segmented_request_steps, crate::proofs::Computed::segmented_entry, crate::proofs::Computed::segmented_response_steps))]
+#[tactic(auto, using(crate::proofs::Computed::request_steps, crate::proofs::Computed::segmented_entry, crate::proofs::Computed::response_steps))]
 pub fn states_of_an_entry()
     ensures segmented_request { SegmentedRequestSteps }
     ensures in_segments { SegmentedEntry }

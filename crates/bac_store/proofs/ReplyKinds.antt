@@ -1,16 +1,16 @@
 -- Each reply fits its request's service choice.
-use Rattle.std.proofs.Common.{◌≡◌, ℕ, ℤ, pos, Bool, true, false, not, ◌&&◌, nat_lt, length, List, [], ◌∷◌, Option, Some, None, is_some, if◌then◌else◌, refl}
+use Rattle.std.proofs.Common.{ℕ, pos, Bool, true, false, not, ◌&&◌, nat_lt, length, List, [], ◌∷◌, Option, Some, None, is_some, if◌then◌else◌, refl}
 use Rattle.bac_service.specs.declared.service.TheConstants.{ATOMIC_READ_FILE, ATOMIC_WRITE_FILE, READ_PROPERTY, WRITE_PROPERTY}
 use Rattle.bac_service.specs.Values.{Reference, Request, ReadAccess, WriteAccess, choice_of}
 use Rattle.bac_service.specs.Replies.{Reply}
 use Rattle.bac_service.specs.Values.ReadAccess.{ReadStream, ReadRecords}
 use Rattle.bac_service.specs.Values.WriteAccess.{WriteStream, WriteRecords}
 use Rattle.bac_service.specs.Values.Request.{ReadFile, WriteFile, ReadProperty, WriteProperty}
-use Rattle.bac_service.specs.Replies.Reply.{Simple, Complex, Error}
+use Rattle.bac_service.specs.Replies.Reply.{Simple, Complex}
 use Rattle.bac_service.specs.Values.Complex.{StreamWritten, PropertyRead}
 use Rattle.bac_store.specs.Limits.{VALUE_LIMIT, FILE_LIMIT}
 use Rattle.bac_store.specs.ReplyKinds.{FitsChoice}
-use Rattle.bac_store.specs.Replies.{UNKNOWN_OBJECT, UNKNOWN_PROPERTY, PROPERTY_IS_NOT_AN_ARRAY, WRITE_ACCESS_DENIED, INVALID_DATA_TYPE, VALUE_OUT_OF_RANGE}
+use Rattle.bac_store.specs.Replies.{PROPERTY_IS_NOT_AN_ARRAY, WRITE_ACCESS_DENIED, INVALID_DATA_TYPE, VALUE_OUT_OF_RANGE}
 use Rattle.bac_store.specs.Replies.{NO_SPACE_TO_WRITE, FILE_ACCESS_DENIED, INVALID_FILE_START_POSITION, ◌⟶◌, first_case, at_property, at_object, at_file}
 use Rattle.bac_store.specs.Replies.{read_reply, write_reply, read_file_reply, write_file_reply, file_of, file_read, read_start, is_no_read_start}
 use Rattle.bac_store.specs.Replies.{is_no_write_start, written, write_start, is_of_kind, is_binary_state, reply_to}

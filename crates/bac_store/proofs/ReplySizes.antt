@@ -21,7 +21,7 @@ use Rattle.bac_service.specs.Values.Complex.{PropertyRead, StreamWritten}
 use Rattle.bac_service.specs.Replies.Reply.{Simple, Complex}
 use Rattle.bac_service.specs.Values.Request.{ReadFile, WriteFile, ReadProperty, WriteProperty}
 use Rattle.bac_store.specs.Kept.{IsInOrder, IsKept, IsShort}
-use Rattle.bac_store.specs.Limits.{FILE_LIMIT, VALUE_LIMIT}
+use Rattle.bac_store.specs.Limits.{FILE_LIMIT, VALUE_LIMIT, FILE_ACCESS_METHOD, FILE_SIZE, OBJECT_IDENTIFIER, OBJECT_NAME, OBJECT_TYPE, STREAM_ACCESS}
 use Rattle.bac_store.specs.ReplyLengths.{DATA_LIMIT, reply_length}
 use Rattle.bac_store.specs.Replies.{◌⟶◌, at_file, at_object, at_property, file_of, file_read, first_case, octets_from, read_file_reply, read_reply}
 use Rattle.bac_store.specs.Replies.{read_start, reply_to, is_binary_state, is_no_read_start, is_no_write_start, is_of_kind, write_file_reply, write_reply}
@@ -105,11 +105,11 @@ listed_few o k n p e = let short : IsShort p = All-contains IsShort o.properties
 
 property_few : (o : Object) → IsKept o → (n : ℕ) → AreFew (property_in o n)
 property_few o k n =
-    choose (n == 75) _ _ (few (computed n (object o.id)) (omega (arith, value_most (object o.id))))
-    (choose (n == 77) _ _ (few (computed n (characters 0 o.name)) (omega (arith, value_most (characters 0 o.name), k.named)))
-    (choose (n == 79) _ _ (few (computed n (enumerated o.id.kind)) (number_few o.id.kind))
-    (choose (n == 41) _ _ (few_map o.file access_method (λ f. number_few 1))
-    (choose (n == 42) _ _ (few_map o.file file_size (λ f. size_few (length f.octets))) (listed_few o k n)))))
+    choose (n == OBJECT_IDENTIFIER) _ _ (few (computed n (object o.id)) (omega (arith, value_most (object o.id))))
+    (choose (n == OBJECT_NAME) _ _ (few (computed n (characters 0 o.name)) (omega (arith, value_most (characters 0 o.name), k.named)))
+    (choose (n == OBJECT_TYPE) _ _ (few (computed n (enumerated o.id.kind)) (number_few o.id.kind))
+    (choose (n == FILE_ACCESS_METHOD) _ _ (few_map o.file access_method (λ f. number_few STREAM_ACCESS))
+    (choose (n == FILE_SIZE) _ _ (few_map o.file file_size (λ f. size_few (length f.octets))) (listed_few o k n)))))
 
 -- ---- replies
 

@@ -8,6 +8,8 @@ use Rattle.bac_value.specs.Spelling.{SpellsTag, tag_spelling, length_octets}
 use Rattle.bac_value.specs.Writing.{value_spelling}
 use Rattle.bac_value.specs.Value.{Datum, null, boolean, unsigned, signed, real, double, octets, characters, bits, enumerated, date, time, object}
 use Rattle.bac_value.specs.Value.{mark_for, IsContents, SpellsValue}
+use Rattle.bac_store.specs.declared.checking.TheConstants.{NAME_OVERHEAD}
+use Rattle.bac_store.specs.Limits.{VALUE_LIMIT}
 
 abbrev pub part_of : Datum → List ℕ → Part
 part_of d xs = record { mark = mark_for d (length xs); contents = xs }
@@ -86,8 +88,8 @@ length_octets_of k p q = grind (arith, nat_tests)
 length_octets_some : (k : ℕ) → 254 ≤ k → 3 ≤ length (length_octets k)
 length_octets_some k p = grind (arith, nat_tests)
 
-pub name_fits : (xs : List ℕ) → length xs ≤ 4091 → length (value_spelling (characters 0 xs)) ≤ 4096
+pub name_fits : (xs : List ℕ) → length xs + NAME_OVERHEAD ≤ VALUE_LIMIT → length (value_spelling (characters 0 xs)) ≤ VALUE_LIMIT
 name_fits xs l = grind (arith, length-name xs, length_octets_of (suc (length xs)), length_octets_most (suc (length xs)))
 
-pub fits_name : (xs : List ℕ) → length (value_spelling (characters 0 xs)) ≤ 4096 → length xs ≤ 4091
+pub fits_name : (xs : List ℕ) → length (value_spelling (characters 0 xs)) ≤ VALUE_LIMIT → length xs + NAME_OVERHEAD ≤ VALUE_LIMIT
 fits_name xs l = grind (arith, length-name xs, length_octets_some (suc (length xs)))

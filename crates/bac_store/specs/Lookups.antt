@@ -7,7 +7,7 @@ use Rattle.bac_store.specs.declared.lookups.Computed.{Computed}
 use Rattle.bac_store.specs.declared.lookups.Computed.TheVariants as own
 use Rattle.bac_store.specs.declared.lookups.Found.{Found}
 use Rattle.bac_store.specs.declared.lookups.Found.TheVariants as found
-use Rattle.bac_store.specs.Limits.{FILE_ACCESS_METHOD, FILE_SIZE, OBJECT_IDENTIFIER, OBJECT_NAME, OBJECT_TYPE}
+use Rattle.bac_store.specs.Limits.{FILE_ACCESS_METHOD, FILE_SIZE, OBJECT_IDENTIFIER, OBJECT_NAME, OBJECT_TYPE, STREAM_ACCESS}
 use Rattle.bac_store.specs.Stores.{Object, Property, computed}
 
 -- seen by a view, the element at a place passes the test, and no other does
@@ -32,7 +32,7 @@ abbrev pub computed_value : Object → Computed → Datum
 computed_value o own.Identifier = object o.id
 computed_value o own.Name = characters 0 o.name
 computed_value o own.Type = enumerated o.id.kind
-computed_value o own.AccessMethod = enumerated 1
+computed_value o own.AccessMethod = enumerated STREAM_ACCESS
 computed_value o (own.Size len) = unsigned len
 
 -- the property that code found in an object

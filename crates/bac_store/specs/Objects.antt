@@ -4,7 +4,7 @@ use Rattle.std.specs.Prelude.{if◌then◌else◌}
 use Rattle.std.specs.List.{All, AllPairs}
 use Rattle.bac_value.specs.Value.{ObjectId, characters}
 use Rattle.bac_value.specs.Writing.{value_spelling}
-use Rattle.bac_store.specs.Limits.{ANALOG_INPUT, ANALOG_VALUE, BINARY_VALUE, DEVICE, FILE, DESCRIPTION, PRESENT_VALUE, REAL, CHARACTERS, VALUE_LIMIT}
+use Rattle.bac_store.specs.Limits.{ANALOG_INPUT, ANALOG_VALUE, BINARY_VALUE, DEVICE, FILE, DESCRIPTION, PRESENT_VALUE, REAL, CHARACTER_STRING, VALUE_LIMIT}
 use Rattle.bac_store.specs.Limits.{FILE_LIMIT, ANY_INSTANCE, FIRST_VENDOR_TYPE, LAST_VENDOR_TYPE, FIRST_VENDOR_PROPERTY, LAST_VENDOR_PROPERTY}
 use Rattle.bac_store.specs.Stores.{Store, Object, Property, File, object_in, listed_in, is_state}
 use Rattle.bac_store.specs.Replies.{is_of_kind}
@@ -32,7 +32,7 @@ is_right_number n = (n == DESCRIPTION) || (n == PRESENT_VALUE) || (nat_le FIRST_
 -- a description is a CharacterString; the present-value is a Real of the analog types, a state of a binary-value
 abbrev pub are_right_values : (kind number : ℕ) → List ℕ → Bool
 are_right_values k n values =
-    if n == DESCRIPTION then is_of_kind (Some CHARACTERS) values else
+    if n == DESCRIPTION then is_of_kind (Some CHARACTER_STRING) values else
     (if (n == PRESENT_VALUE) && ((k == ANALOG_INPUT) || (k == ANALOG_VALUE)) then is_of_kind (Some REAL) values else
     (if (n == PRESENT_VALUE) && (k == BINARY_VALUE) then is_state values else true))
 

@@ -1,12 +1,13 @@
 -- How many octets of service data a reply has.
 use Rattle.std.specs.Prelude.{ℕ}
+use Rattle.bac_segment.specs.Limits.{DATA}
 use Rattle.bac_service.specs.Lengths.{complex_length}
 use Rattle.bac_service.specs.Replies.{Reply}
 use Rattle.bac_service.specs.Replies.Reply.{Simple, Complex, Error, Reject}
 
 -- the most octets of service data that can be sent, in one APDU or in segments
 abbrev pub DATA_LIMIT : ℕ
-DATA_LIMIT = 65535
+DATA_LIMIT = DATA
 
 abbrev pub reply_length : Reply → ℕ
 reply_length Simple = 0

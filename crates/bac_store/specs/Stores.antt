@@ -8,7 +8,7 @@ use Rattle.bac_value.specs.Element.{Part}
 use Rattle.bac_value.specs.Reading.{element_at}
 use Rattle.bac_value.specs.Value.{ObjectId, Datum, kind_number, object, characters, enumerated, unsigned}
 use Rattle.bac_value.specs.Writing.{value_spelling}
-use Rattle.bac_store.specs.Limits.{FILE_ACCESS_METHOD, FILE_SIZE, OBJECT_IDENTIFIER, OBJECT_NAME, OBJECT_TYPE}
+use Rattle.bac_store.specs.Limits.{FILE_ACCESS_METHOD, FILE_SIZE, OBJECT_IDENTIFIER, OBJECT_NAME, OBJECT_TYPE, STREAM_ACCESS, STATE_TAG}
 
 -- values are octets of data; the kind is the application tag that they must have, or None where any data will do
 pub record Property : Type 0 where
@@ -58,9 +58,9 @@ listed_in o n = first_that (is_number n) o.properties
 abbrev pub computed : ℕ → Datum → Property
 computed n d = record { number = n; values = value_spelling d; writable = false; kind = Some (kind_number d) }
 
--- the access method of every file is a stream of octets (BACnetFileAccessMethod 1)
+-- the access method of every file is a stream of octets (BACnetFileAccessMethod)
 abbrev pub access_method : File → Property
-access_method f = computed FILE_ACCESS_METHOD (enumerated 1)
+access_method f = computed FILE_ACCESS_METHOD (enumerated STREAM_ACCESS)
 
 abbrev pub file_size : File → Property
 file_size f = computed FILE_SIZE (unsigned (length f.octets))
@@ -94,5 +94,5 @@ kind_of values = kind_read (element_at values)
 
 -- Enumerated 0 or 1, the states of a binary object
 abbrev pub is_state : List ℕ → Bool
-is_state (tag ∷ n ∷ []) = (tag == 0x91) && nat_lt n 2
+is_state (tag ∷ n ∷ []) = (tag == STATE_TAG) && nat_lt n 2
 is_state _ = false

@@ -1,5 +1,6 @@
 -- Hexadecimal digits that are read in vectors, lane by lane, and what they decode to.
-use Rattle.std.proofs.Common.{◌≡◌, ◌+◌, ◌*◌, ◌%◌, ◌^◌, ◌<◌, ◌≤◌, ◌++◌, ◌&&◌, ℕ, zero, suc, Bool, true, false, cond, eqb, ltb, leb, List, [], ◌∷◌, map, length, get_or}
+use Rattle.std.proofs.Common.{◌≡◌, ◌+◌, ◌*◌, ◌%◌, ◌^◌, ◌<◌, ◌≤◌, ◌++◌, ◌&&◌, ℕ, zero, suc, Bool, true, false, cond, eqb, ltb, leb}
+use Rattle.std.proofs.Common.{List, [], ◌∷◌, map, length, get_or}
 use Rattle.std.proofs.Common.{replicate, bit_and, Fits, w8, refl, sym, ap, ◌∙◌, arith, eqb-true, nat_lt, inl, inr, take, drop, length-drop}
 use Rattle.std.proofs.Common.{Option, Some, None, is_some, unwrap_or, Result, Ok, Err, length-append, append_assoc, take_at, length-take-le}
 use Rattle.std.proofs.lemmas.Bool.{and_parts, cases_lt, false≢true}
@@ -225,7 +226,8 @@ join (Some front) rest = onto front rest
 
 pub decoded_append : (xs ys : List ℕ) → length xs % 2 ≡ 0 → decoded_at (xs ++ ys) ≡ join (decoded_at xs) (decoded_at ys)
 decoded_append xs ys even = go (list_all is_value (map value_of xs)) refl (list_all is_value (map value_of ys)) refl where
-  both : (a b : Bool) → list_all is_value (map value_of xs) ≡ a → list_all is_value (map value_of ys) ≡ b → list_all is_value (map value_of (xs ++ ys)) ≡ (a && b)
+  both : (a b : Bool) → list_all is_value (map value_of xs) ≡ a → list_all is_value (map value_of ys) ≡ b
+      → list_all is_value (map value_of (xs ++ ys)) ≡ (a && b)
   both a b p q = all_append xs ys ∙ rw (p, q) refl
 
   parity : (n : ℕ) → length ys % 2 ≡ n → length (xs ++ ys) % 2 ≡ n
@@ -286,7 +288,7 @@ pub two_parts : (place : ℕ) (text : List ℕ) → take 16 (drop place text) ++
 two_parts place text =
     ap (λ (l : List ℕ). take 16 (drop place text) ++ take 16 l) (sym (drop-drop 16 place text)) ∙ take_two 16 16 32 (drop place text) refl
 
--- ---- the last digits, with zeros behind them
+-- ---- the last digits, with zeros after them
 
 all_zeros : (n m : ℕ) → list_all is_value (map value_of (drop n (replicate m 48))) ≡ true
 all_zeros zero zero = refl

@@ -2,6 +2,7 @@
 use Rattle.std.specs.Prelude.{◌≡◌, ℕ, suc, nat_lt, ◌==◌, Bool, true, false, List, [], ◌∷◌, length, if◌then◌else◌, Option, Some, None}
 use Rattle.bac_text.specs.declared.fault.LineFault.{LineFault}
 use Rattle.bac_text.specs.declared.fault.LineFault.TheVariants.{NoCaptureLine, MomentGoesBack, Datagram}
+use Rattle.bac_text.specs.declared.lines.TheConstants as code
 use Rattle.bac_text.specs.Capture.{capture_at}
 use Rattle.bac_text.specs.Layers.{IsFine, IsAtFault}
 
@@ -14,9 +15,9 @@ LINE_END = 10
 abbrev pub is_line_end : ℕ → Bool
 is_line_end octet = octet == LINE_END
 
--- most octets of a capture line, without its end
+-- most octets of a capture line, without its end, as the code states them
 abbrev pub LINE_LIMIT : ℕ
-LINE_LIMIT = 132000
+LINE_LIMIT = code.LINE_LIMIT
 
 -- the octets of the first line
 abbrev pub line_in : List ℕ → List ℕ

@@ -66,7 +66,7 @@ fn block_at(text: &[u8], place: usize) -> Option<[u8; 16]>
     )
 }
 
-/// Fewer than 32 octets, and behind them as many digits `0` as a step lacks.
+/// Fewer than 32 octets, and after them as many digits `0` as a step lacks.
 #[inline(always)]
 fn filled(text: &[u8]) -> [u8; BLOCK]
     requires { length text.now < 32 }
@@ -77,7 +77,7 @@ fn filled(text: &[u8]) -> [u8; BLOCK]
     block
 }
 
-/// Reads fewer than 32 digits behind the octets that were read; false where they stand for none.
+/// Reads fewer than 32 digits and appends their octets to those that were read; false where they stand for none.
 fn read_last(text: &[u8], octets: &mut Vec<u8>) -> Result<bool, AllocError>
     requires { length text.now < 32 }
     ensures { IfOk result (λ found. onto octets.old.items (decoded_at text.now) ≡ (if found then Some octets.new.items else None)) }

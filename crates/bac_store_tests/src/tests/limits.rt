@@ -192,14 +192,19 @@ fn finds_all(alloc: Global, store: &Store) -> Result<(), Fail> {
     Ok(())
 }
 
+fn finds_all_and_copies(alloc: Global, store: &Store) -> Result<(), Fail> {
+    finds_all(alloc, store)?;
+    holds(is_copied_as(alloc, store, store)?, "another copy")
+}
+
 fn finds_descending(alloc: Global) -> Result<(), Fail> {
     match Store::new(alloc, descending(alloc)?) {
-        Ok(store) => finds_all(alloc, &store),
+        Ok(store) => finds_all_and_copies(alloc, &store),
         Err(_) => Err(Fail::from("no store")),
     }
 }
 
-/// Each is found by its object-identifier, and one more is not.
+/// Each is found by its object-identifier, and one more is not; the copy has all of them.
 #[test]
 fn finds_each_of_twenty_thousand_objects(rt: HostRuntime) -> Result<(), Fail> {
     finds_descending(rt.alloc())

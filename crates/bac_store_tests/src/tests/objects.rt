@@ -119,6 +119,45 @@ fn lists_a_property_once(rt: HostRuntime) -> Result<(), Fail> {
     holds(!is_listed_twice(rt.alloc())?, "600 twice")
 }
 
+/// Reads of an object that lists properties 600, 28 and 512, and of one that it has not.
+const READS_OF_THREE: &[Row] = &[
+    (
+        12,
+        "0C00000001191C",
+        Want::Complex("0C00000001191C3E71003F"),
+    ),
+    (
+        12,
+        "0C000000011A0200",
+        Want::Complex("0C000000011A02003E0E0F3F"),
+    ),
+    (
+        12,
+        "0C000000011A0258",
+        Want::Complex("0C000000011A02583E21073F"),
+    ),
+    (12, "0C000000011A0259", Want::Error(2, 32)),
+];
+
+fn with_three_properties(alloc: Global) -> Result<Object, Fail> {
+    let mut object = with_property(alloc, 0, 600, b"\x21\x07")?;
+    object.properties.push(property(alloc, 28, b"\x71\x00")?)?;
+    object.properties.push(property(alloc, 512, b"\x0E\x0F")?)?;
+    Ok(object)
+}
+
+fn reads_three_properties(alloc: Global) -> Result<(), Fail> {
+    let store = store_of(alloc, with_three_properties(alloc)?)?;
+    let differs = copy_differs(alloc, &store, READS_OF_THREE)?;
+    holds(!differs, "another copy")
+}
+
+/// Properties that are listed in no order are each found, and copied.
+#[test]
+fn finds_each_listed_property(rt: HostRuntime) -> Result<(), Fail> {
+    reads_three_properties(rt.alloc())
+}
+
 /// First values of property 512, writes, and a read after them. Values that are no single application value take any others.
 const KINDS: &[(&[u8], &[Row])] = &[
     (

@@ -1,12 +1,14 @@
 use Rattle.std.proofs.Common.{◌≡◌, ◌≢◌, ℕ, arith, ◌∙◌}
 use Rattle.std.proofs.lemmas.Bool.Decides.{nat_tests}
+use Rattle.bac_store.specs.Limits.{FILE_ACCESS_METHOD, FILE_SIZE, OBJECT_IDENTIFIER, OBJECT_NAME, OBJECT_TYPE}
 use Rattle.bac_store.specs.Stores.{Object, is_number, listed_in, property_in}
 use Rattle.bac_store.specs.Views.{slot_view, entry_view}
 use Rattle.bac_store.proofs.Places.{first_that-none, first_that-place}
 use Rattle.bac_store.proofs.lookups.find.Goals as goal
 
 -- any other number is listed
-listed_by : (o : Object) (n : ℕ) → n ≢ 75 → n ≢ 77 → n ≢ 79 → n ≢ 41 → n ≢ 42 → property_in o n ≡ listed_in o n
+listed_by : (o : Object) (n : ℕ) → n ≢ OBJECT_IDENTIFIER → n ≢ OBJECT_NAME → n ≢ OBJECT_TYPE → n ≢ FILE_ACCESS_METHOD → n ≢ FILE_SIZE
+    → property_in o n ≡ listed_in o n
 listed_by o n a b c d e = grind (arith, nat_tests)
 
 pub returns-in-Some-slot_place : goal.returns-in-Some-slot_place
