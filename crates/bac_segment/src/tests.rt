@@ -1,6 +1,7 @@
 //! Worked transfers: numbers that were worked out by hand.
 ghost use Rattle.std.specs.Prelude.{◌≤◌};
 
+use crate::chunks::append;
 use crate::{DATA, Incoming, Outgoing, Progress, SegmentFault, Step, Timeout};
 use bac_apdu::Window;
 use bac_value::Octets;
@@ -181,6 +182,46 @@ fn takes_the_most_octets(rt: HostRuntime) -> Result<(), Fail> {
     octets.truncate(65_535);
     assert_eq!(rt; inc.on_segment(0, false, &octets), Ok(Step::Whole));
     assert_eq!(rt; inc.len(), DATA);
+    Ok(())
+}
+
+/// Octets of two segments in turn, how many segments, and the vectors that they are kept in: how many, and their room. They are as many
+/// octets or segments as a transfer may have, or almost; in the last row each segment needs a vector of its own.
+const ROOMS: &[(usize, usize, usize, usize, usize)] = &[
+    (0, 0, 65_535, 1, 1_024),
+    (1, 1, 65_535, 64, 65_536),
+    (44, 44, 1_489, 65, 66_560),
+    (200, 200, 327, 66, 67_584),
+    (474, 474, 138, 69, 70_656),
+    (1_018, 1_018, 64, 64, 65_536),
+    (1_470, 1_470, 44, 44, 64_680),
+    (1, 1_024, 127, 127, 130_048),
+];
+
+/// How many vectors such segments are kept in, and their room.
+fn rooms(alloc: Global, first: usize, second: usize, count: usize) -> Option<(usize, usize)> {
+    let mut octets = Vec::new(alloc);
+    octets.resize(first.max(second), 7u8).ok()?;
+    let mut chunks = Vec::new(alloc);
+    for n in 0..count {
+        let len = if n % 2 == 0 { first } else { second };
+        append(alloc, &mut chunks, octets.get(..len)?).ok()?;
+    }
+    let mut room = 0usize;
+    for chunk in &chunks {
+        room = room.wrapping_add(chunk.capacity());
+    }
+    Some((chunks.len(), room))
+}
+
+/// With ample memory, how much of it the octets of segments hold.
+#[test]
+fn short_segments_share_vectors(rt: HostRuntime) -> Result<(), Fail> {
+    for (first, second, count, vectors, room) in ROOMS {
+        if rooms(rt.alloc(), *first, *second, *count) != Some((*vectors, *room)) {
+            return Err(Fail::from(*room));
+        }
+    }
     Ok(())
 }
 
