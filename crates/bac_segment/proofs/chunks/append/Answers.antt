@@ -15,7 +15,9 @@ pub returns-clause-ok : goal.returns-clause-ok
 returns-clause-ok c =
     let same : joined c.match-last_mut.chunks.items ≡ joined c.args.chunks.now.items =
     elim c.match-last_mut.branch [
-      | in-Some+else-octets-capacity w ↦ ap (λ v. joined v.items) w.chunks-is ∙ joined-set_same c.args.chunks.now.items w.in-Some.last.now (vec_len c.args.chunks.now - 1) w.in-Some.ensures.value
+      | in-Some+else-octets-capacity w ↦
+          let chunks = c.args.chunks.now in
+          ap (λ v. joined v.items) w.chunks-is ∙ joined-set_same chunks.items w.in-Some.last.now (vec_len chunks - 1) w.in-Some.ensures.value
       | in_default w ↦ ap (λ v. joined v.items) w.chunks-is
     ] in
     ap joined c.in_ok-push.ensures.items ∙ joined-push c.match-last_mut.chunks.items c.in_ok-begun.field-0
