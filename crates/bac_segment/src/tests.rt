@@ -10,6 +10,9 @@ use std::test::Fail;
 
 const THIRTY_TWO: Window = Window { size: 32 };
 
+/// A segment that fills a vector.
+const LONG: [u8; 1_024] = [7; 1_024];
+
 /// A sender of octets that tell their places.
 fn sender(alloc: Global, len: usize, size: usize) -> Result<Outgoing, Fail>
     requires { 1 ≤ size }
@@ -225,18 +228,20 @@ fn short_segments_share_vectors(rt: HostRuntime) -> Result<(), Fail> {
     Ok(())
 }
 
-/// Run with each allocation refused in turn, too: a refused segment changes nothing, and is taken when it comes again.
+/// Segments by turns of three octets and of 1,024. Run with each allocation refused in turn, too: a refused segment changes nothing, and is
+/// taken when it comes again.
 #[test]
 fn takes_a_segment_that_was_refused(rt: HostRuntime) {
     let mut inc = Incoming::new(rt.alloc(), THIRTY_TWO, THIRTY_TWO);
     for n in 0..12u8 {
+        let octets = if n % 2 == 0 { b"abc".as_slice() } else { &LONG };
         let before = inc.taken();
-        let mut step = inc.on_segment(n, true, b"abc");
+        let mut step = inc.on_segment(n, true, octets);
         if step == Err(SegmentFault::NoMemory) {
             assert_eq!(rt; inc.taken(), before, "segment {n}");
-            step = inc.on_segment(n, true, b"abc");
+            step = inc.on_segment(n, true, octets);
         }
         assert_eq!(rt; step, Ok(Step::Taken { ack: n == 0 }), "segment {n}");
     }
-    assert_eq!(rt; inc.parts().len(), 36);
+    assert_eq!(rt; inc.parts().len(), 6_162);
 }
