@@ -23,6 +23,7 @@ FLOODS = [
     (['beginnings'], ENTRIES * 4_096),
     (['long', '1024'], ENTRIES * (DATA + 4_096)),
     (['short', '256'], 256 * (DATA + LENGTHS + 8_192)),
+    (['mixed', '256'], 256 * (2 * DATA + 8_192)),
     (['empty', '256'], 256 * (LENGTHS + 8_192)),
 ]
 
