@@ -11,20 +11,20 @@ from pathlib import Path
 
 # Octets of the program itself, with what its allocator keeps back.
 PROGRAM = 8 << 20
-# A vector of Rust: pointer, length and capacity. Where it grows one by one its capacity may be twice its length.
-VECTOR = 24
-# The least piece that the allocator of the C library hands out.
-LEAST = 32
 ENTRIES = 1_024
+# The most octets of a request, and its most segments.
 DATA = 65_535
+# Two octets for each segment; where a list grows one by one its room may be twice its length.
+LENGTHS = 2 * (DATA + 1)
 
 # The words of each flood, and the most octets that the tables can hold in it.
 FLOODS = [
     (['generated'], 2 * ENTRIES * 4_096),
     (['beginnings'], ENTRIES * 4_096),
     (['long', '1024'], ENTRIES * (DATA + 4_096)),
-    (['short', '16'], 16 * DATA * (2 * VECTOR + LEAST)),
-    (['empty', '16'], 16 * DATA * 2 * VECTOR),
+    (['short', '256'], 256 * (DATA + LENGTHS + 8_192)),
+    (['mixed', '256'], 256 * (2 * DATA + 8_192)),
+    (['empty', '256'], 256 * (LENGTHS + 8_192)),
 ]
 
 

@@ -1,17 +1,17 @@
-# For gdb's Python: runs a program of tests again and again, each time with one allocation more refused, until a run asks for fewer.
+# For gdb's Python: runs a program of tests once, and then once for each allocation that it asked for, with that one refused.
 #     gdb -batch -nx -x tests/memory/refuse.py --args PROGRAM TEST
 # An allocation is a call of malloc or realloc after main began. It ends with a status other than 0 where a run does not pass.
 import gdb
 
-seen = 0
-wanted = 0
+asked = []
 
 
 class Allocation(gdb.Breakpoint):
+    """Notes which function is asked, and goes on."""
+
     def stop(self):
-        global seen
-        seen += 1
-        return seen == wanted
+        asked.append(self.location)
+        return False
 
 
 def caller():
@@ -32,42 +32,57 @@ def refuse():
     gdb.execute("set $rsp = $rsp + 8")
 
 
-def run(number):
-    """Runs the program with that allocation refused: who asked for it, or None where there are fewer, and the status."""
-    global seen, wanted
-    seen, wanted = 0, number
+def begin():
     gdb.execute("tbreak main", to_string=True)
     gdb.execute("run %s > /dev/null" % arguments, to_string=True)
-    points = [Allocation("*malloc", internal=True), Allocation("*realloc", internal=True)]
-    gdb.execute("continue", to_string=True)
-    who = None
-    if gdb.selected_inferior().pid != 0 and seen == wanted:
-        who = caller()
-        refuse()
-        gdb.execute("continue", to_string=True)
+
+
+def end():
+    """The status of the run, and 255 where it stands still though it should have ended."""
     crashed = gdb.selected_inferior().pid != 0
     if crashed:
         gdb.execute("kill")
+    return 255 if crashed else int(gdb.parse_and_eval("$_exitcode"))
+
+
+def note_all():
+    """Runs the program and refuses nothing: the status."""
+    begin()
+    points = [Allocation("*malloc", internal=True), Allocation("*realloc", internal=True)]
+    gdb.execute("continue", to_string=True)
     for point in points:
         point.delete()
-    status = 255 if crashed else int(gdb.parse_and_eval("$_exitcode"))
-    return who, status
+    return end()
+
+
+def run(number):
+    """Runs the program with that allocation refused: who asked for it, or None where no such one came, and the status."""
+    begin()
+    point = gdb.Breakpoint(asked[number - 1], internal=True)
+    point.ignore_count = asked[:number].count(asked[number - 1]) - 1
+    gdb.execute("continue", to_string=True)
+    is_there = gdb.selected_inferior().pid != 0
+    who = caller() if is_there else None
+    point.delete()
+    if is_there:
+        refuse()
+        gdb.execute("continue", to_string=True)
+    return who, end()
 
 
 arguments = gdb.execute("show args", to_string=True).split('"')[1]
 gdb.execute("set pagination off")
 gdb.execute("set confirm off")
 gdb.execute("set print inferior-events off")
-number = 1
 failed = 0
-while True:
+if note_all() != 0:
+    print("0 allocations refused: the test does not pass")
+    failed += 1
+for number in range(1, len(asked) + 1):
     who, status = run(number)
-    if status != 0:
+    if status != 0 or who is None:
         print("allocation %d refused: status %d, %s" % (number, status, who))
         failed += 1
-    if who is None:
-        break
     print("%d: %s" % (number, who))
-    number += 1
-print("%d allocations were refused, one in each run; %d runs did not pass" % (number - 1, failed))
+print("%d allocations were refused, one in each run; %d runs did not pass" % (len(asked), failed))
 gdb.execute("quit %d" % (1 if failed else 0))

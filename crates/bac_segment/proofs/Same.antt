@@ -1,28 +1,38 @@
 -- What decides that two sides are the same.
-use Rattle.std.proofs.Common.{◌≡◌, ℕ, zero, suc, ◌*◌, ◌<◌, ◌≤◌, ◌⊎◌, inl, inr, Bool, false, not}
+use Rattle.std.proofs.Common.{◌≡◌, ℕ, zero, suc, ◌*◌, ◌<◌, ◌≤◌, ◌⊎◌, inl, inr, Bool, true, false, not}
 use Rattle.std.proofs.Common.{◌&&◌, eqb, List, [], ◌∷◌, length, map, Decides, refl, ap, sym, ◌∙◌, arith}
-use Rattle.std.specs.Global.{Vec}
-use Rattle.std.specs.Str.{bytes_eq}
+use Rattle.std.specs.List.{sum}
 use Rattle.std.specs.Cmp.Lexicographic.{pointwise}
-use Rattle.std.proofs.lemmas.Slice.Eq.{slice_eq-Decides, bytes_eq-Decides}
+use Rattle.std.proofs.lemmas.Slice.Eq.{slice_eq-Decides}
+use Rattle.std.proofs.lemmas.Bool.Decides.{Decides-eqb}
 use Rattle.std.proofs.lemmas.List.{take_all}
 use Rattle.std.proofs.lemmas.Bool.Decides.{nat_tests}
-use Rattle.bac_segment.specs.Pieces.{join, count_of, cut, pieces_of}
+use Rattle.bac_segment.specs.Pieces.{join, count_of, cut, pieces_of, split}
 use Rattle.bac_segment.specs.Window.{Outgoing, Incoming}
+use Rattle.bac_segment.proofs.Joined.{join-split, lengths-split}
 use Rattle.bac_segment.proofs.Cut.{length-pieces_of, length-le-count, join-pieces_of}
 use Rattle.bac_segment.proofs.Unique.{pieces_are}
 
-pointwise-items : (vs ws : List (Vec ℕ))
-    → pointwise (λ v w. bytes_eq v.items w.items) vs ws ≡ pointwise bytes_eq (map (λ v. v.items) vs) (map (λ v. v.items) ws)
-pointwise-items [] [] = refl
-pointwise-items [] (w ∷ ws) = refl
-pointwise-items (v ∷ vs) [] = refl
-pointwise-items (v ∷ vs) (w ∷ ws) = ap (λ b. bytes_eq v.items w.items && b) (pointwise-items vs ws)
+-- the same parts are the same lengths and the same octets
+pub parts_are_same : (ours theirs octets other : List ℕ) → sum ours ≡ length octets → sum theirs ≡ length other
+    → split ours octets ≡ split theirs other → (ours ≡ theirs) × (octets ≡ other)
+parts_are_same ours theirs octets other whole all same = (
+  sym (lengths-split ours octets whole) ∙ ap (map length) same ∙ lengths-split theirs other all,
+  sym (join-split ours octets whole) ∙ ap join same ∙ join-split theirs other all,
+)
 
--- vectors of vectors that are alike, element by element, have the same parts
-pub parts_are_same : (vs ws : List (Vec ℕ)) (r : Bool) → r ≡ pointwise (λ v w. bytes_eq v.items w.items) vs ws
-    → Decides r (map (λ v. v.items) vs ≡ map (λ v. v.items) ws)
-parts_are_same vs ws r is = slice_eq-Decides bytes_eq-Decides (map (λ v. v.items) vs) (map (λ v. v.items) ws) r (is ∙ pointwise-items vs ws)
+pub parts_from_same : (ours theirs octets other : List ℕ) → sum ours ≡ length octets → sum theirs ≡ length other → ours ≡ theirs
+    → join (split ours octets) ≡ join (split theirs other) → split ours octets ≡ split theirs other
+parts_from_same ours theirs octets other whole all lengths same =
+    ap (λ l. split l octets) lengths ∙ ap (split theirs) (sym (join-split ours octets whole) ∙ same ∙ join-split theirs other all)
+
+-- what a test by `!=` says of numbers
+pub lengths_differ : (ours theirs : List ℕ) (r : Bool) → r ≡ not (pointwise eqb ours theirs) → Decides (not r) (ours ≡ theirs)
+lengths_differ ours theirs r is = slice_eq-Decides Decides-eqb ours theirs (not r) (ap not is ∙ not-not (pointwise eqb ours theirs))
+  where
+    not-not : (b : Bool) → not (not b) ≡ b
+    not-not true = refl
+    not-not false = refl
 
 whole_front : (count size : ℕ) (octets : List ℕ) → count < 2 → length octets ≤ count * size
     → cut count size octets ≡ cut count (length octets) octets

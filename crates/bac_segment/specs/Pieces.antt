@@ -31,3 +31,8 @@ cut (suc count) size octets = take size octets ∷ cut count size (drop size oct
 -- the pieces of that size of the octets
 abbrev pub pieces_of : ℕ → List ℕ → List (List ℕ)
 pieces_of size octets = cut (count_of size octets) size octets
+
+-- the octets split into parts of these lengths, in their order
+abbrev pub split : List ℕ → List ℕ → List (List ℕ)
+split [] octets = []
+split (n ∷ lengths) octets = take n octets ∷ split lengths (drop n octets)

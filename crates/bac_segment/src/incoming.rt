@@ -1,4 +1,4 @@
-//! The receiver of a transfer. It keeps the octets of each segment in a vector of their own, and joins nothing.
+//! The receiver of a transfer. The octets of short segments share a vector; beside them it keeps how long each segment was.
 ghost use Rattle.std.specs.Prelude.{◌≡◌, ◌+◌, ◌<◌, ◌≤◌, ◌↔◌, ◌∷◌, ◌++◌, [], length, min, IsTrue, OnOk, OnErr, IsOkUnless};
 ghost use Rattle.bac_value.specs.Octets.{IsBytes};
 ghost use Rattle.bac_value.specs.Views.{parts_view};
@@ -6,6 +6,7 @@ ghost use Rattle.bac_segment.specs.Answers.{Takes, answer_of};
 ghost use Rattle.bac_segment.specs.Pieces.{join};
 ghost use Rattle.bac_segment.specs.Window.{incoming, takes, taken_back};
 
+use crate::chunks::{append, cut_back, same_octets};
 use crate::limits::DATA;
 use bac_apdu::Window;
 use bac_value::{Octets, Parts};
@@ -28,7 +29,7 @@ pub enum Step {
 pub enum SegmentFault {
     /// With it the octets or the segments would be more than 65,535.
     TooLong,
-    /// The memory for its octets was refused. This is tested last.
+    /// The memory for it was refused. This is tested last.
     NoMemory,
 }
 
@@ -36,7 +37,8 @@ pub enum SegmentFault {
 #[derive(Drop)]
 pub struct Incoming {
     alloc: Global,
-    parts: Vec<Vec<u8>>,
+    chunks: Vec<Vec<u8>>,
+    lengths: Vec<u16>,
     total: usize,
     unacknowledged: usize,
     window: Window,
@@ -47,12 +49,13 @@ impl Model for Incoming {
 
     ghost Value = { spec.Incoming };
 
-    ghost use Rattle.std.specs.Prelude.{map};
+    ghost use Rattle.bac_value.specs.Octets.{joined};
+    ghost use Rattle.bac_segment.specs.Pieces.{split};
     ghost use Rattle.bac_segment.specs.Kept.{CountsOctets};
 
-    ghost view = { λ i. record { parts = map (λ p. p.items) i.parts.items; unacknowledged = i.unacknowledged; window = i.window.size } };
+    ghost view = { λ i. record { parts = split i.lengths.items (joined i.chunks.items); unacknowledged = i.unacknowledged; window = i.window.size } };
 
-    ghost invariant = { λ i. CountsOctets i.total i.unacknowledged (map (λ p. p.items) i.parts.items) };
+    ghost invariant = { λ i. CountsOctets i.total i.unacknowledged i.lengths.items (joined i.chunks.items) };
 }
 
 impl Incoming {
@@ -63,7 +66,8 @@ impl Incoming {
     {
         Incoming {
             alloc,
-            parts: Vec::new(alloc),
+            chunks: Vec::new(alloc),
+            lengths: Vec::new(alloc),
             total: 0,
             unacknowledged: 0,
             window: lesser(proposed, own),
@@ -71,14 +75,16 @@ impl Incoming {
     }
 
     /// How many segments were taken.
+    #[tactic(auto, using(crate::proofs::Joined::parts_are_as_many))]
     pub fn taken(&self) -> usize
         ensures number { result ≡ length self.now.parts }
         ensures few { result ≤ DATA }
     {
-        self.parts.len()
+        self.lengths.len()
     }
 
     /// How many octets were taken.
+    #[tactic(auto, using(crate::proofs::Joined::parts_have_all))]
     pub fn len(&self) -> usize
         ensures number { result ≡ length (join self.now.parts) }
         ensures few { result ≤ DATA }
@@ -86,12 +92,12 @@ impl Incoming {
         self.total
     }
 
-    /// The octets that were taken, joined; nothing is copied. It goes over the segments once.
+    /// The octets that were taken, joined; nothing is copied. It goes once over the vectors that they are in.
     pub fn parts(&self) -> Parts<'_>
         ensures joined { parts_view result ≡ join self.now.parts }
         ensures each { IsBytes (join self.now.parts) }
     {
-        let parts = Parts::new(&self.parts);
+        let parts = Parts::new(&self.chunks);
         let len = parts.len();
         prove!(len == self.total);
         parts
@@ -106,10 +112,11 @@ impl Incoming {
 
     /// What a segment would do: its number on the wire, whether more follow, and its octets. It changes nothing,
     /// takes no memory, and never answers `NoMemory`.
+    #[tactic(auto, using(crate::proofs::Joined::parts_are_as_many, crate::proofs::Joined::parts_have_all))]
     pub fn answer(&self, number: u8, more: bool, octets: &[u8]) -> Result<Step, SegmentFault>
         ensures { result ≡ answer_of (takes self.now number more octets.now) }
     {
-        let taken = self.parts.len();
+        let taken = self.lengths.len();
         if number as usize != taken % 256 {
             return Ok(Step::Nak);
         }
@@ -148,6 +155,7 @@ impl Incoming {
     }
 
     /// How many segments were taken since the last SegmentACK of either kind.
+    #[tactic(auto, using(crate::proofs::Joined::parts_are_as_many))]
     pub fn unacknowledged(&self) -> usize
         ensures number { result ≡ self.now.unacknowledged }
         ensures few { result ≤ length self.now.parts }
@@ -161,10 +169,11 @@ impl Incoming {
         requires { unacknowledged < length self.old.parts }
         ensures { self.new ≡ taken_back unacknowledged self.old }
     {
-        let Some(part) = self.parts.pop() else {
+        let Some(length) = self.lengths.pop() else {
             return;
         };
-        self.total -= part.len();
+        cut_back(&mut self.chunks, length as usize);
+        self.total -= length as usize;
         self.unacknowledged = unacknowledged;
     }
 
@@ -178,7 +187,10 @@ impl Incoming {
         if self.window.size != other.window.size {
             return false;
         }
-        self.parts == other.parts
+        if self.lengths != other.lengths {
+            return false;
+        }
+        same_octets(self.parts(), other.parts())
     }
 
     /// Keeps the octets of one more segment.
@@ -189,12 +201,13 @@ impl Incoming {
         ensures err { OnErr result (self.new ≡ self.old) }
         ensures only { IsOkUnless result SegmentFault.NoMemory }
     {
-        let Ok(part) = Vec::from_slice(self.alloc, octets) else {
+        let Ok(()) = self.lengths.reserve(1) else {
             return Err(SegmentFault::NoMemory);
         };
-        let Ok(()) = self.parts.push(part) else {
+        let Ok(()) = append(self.alloc, &mut self.chunks, octets) else {
             return Err(SegmentFault::NoMemory);
         };
+        self.lengths.push_reserved(octets.len() as u16);
         self.total += octets.len();
         Ok(())
     }

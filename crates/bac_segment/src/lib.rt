@@ -5,6 +5,7 @@
 //! a number of the wire know of it. Windows are those of bac_apdu: 1 to 127 segments.
 #![tactic(auto)]
 
+mod chunks;
 mod incoming;
 mod laws;
 mod limits;

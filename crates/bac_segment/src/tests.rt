@@ -1,6 +1,7 @@
 //! Worked transfers: numbers that were worked out by hand.
 ghost use Rattle.std.specs.Prelude.{◌≤◌};
 
+use crate::chunks::append;
 use crate::{DATA, Incoming, Outgoing, Progress, SegmentFault, Step, Timeout};
 use bac_apdu::Window;
 use bac_value::Octets;
@@ -8,6 +9,9 @@ use std::alloc::Global;
 use std::test::Fail;
 
 const THIRTY_TWO: Window = Window { size: 32 };
+
+/// A segment that fills a vector.
+const LONG: [u8; 1_024] = [7; 1_024];
 
 /// A sender of octets that tell their places.
 fn sender(alloc: Global, len: usize, size: usize) -> Result<Outgoing, Fail>
@@ -184,18 +188,60 @@ fn takes_the_most_octets(rt: HostRuntime) -> Result<(), Fail> {
     Ok(())
 }
 
-/// Run with each allocation refused in turn, too: a refused segment changes nothing, and is taken when it comes again.
+/// Octets of two segments in turn, how many segments, and the vectors that they are kept in: how many, and their room. They are as many
+/// octets or segments as a transfer may have, or almost; in the last row each segment needs a vector of its own.
+const ROOMS: &[(usize, usize, usize, usize, usize)] = &[
+    (0, 0, 65_535, 1, 1_024),
+    (1, 1, 65_535, 64, 65_536),
+    (44, 44, 1_489, 65, 66_560),
+    (200, 200, 327, 66, 67_584),
+    (474, 474, 138, 69, 70_656),
+    (1_018, 1_018, 64, 64, 65_536),
+    (1_470, 1_470, 44, 44, 64_680),
+    (1, 1_024, 127, 127, 130_048),
+];
+
+/// How many vectors such segments are kept in, and their room.
+fn rooms(alloc: Global, first: usize, second: usize, count: usize) -> Option<(usize, usize)> {
+    let mut octets = Vec::new(alloc);
+    octets.resize(first.max(second), 7u8).ok()?;
+    let mut chunks = Vec::new(alloc);
+    for n in 0..count {
+        let len = if n % 2 == 0 { first } else { second };
+        append(alloc, &mut chunks, octets.get(..len)?).ok()?;
+    }
+    let mut room = 0usize;
+    for chunk in &chunks {
+        room = room.wrapping_add(chunk.capacity());
+    }
+    Some((chunks.len(), room))
+}
+
+/// With ample memory, how much of it the octets of segments hold.
+#[test]
+fn short_segments_share_vectors(rt: HostRuntime) -> Result<(), Fail> {
+    for (first, second, count, vectors, room) in ROOMS {
+        if rooms(rt.alloc(), *first, *second, *count) != Some((*vectors, *room)) {
+            return Err(Fail::from(*room));
+        }
+    }
+    Ok(())
+}
+
+/// Segments by turns of three octets and of 1,024. Run with each allocation refused in turn, too: a refused segment changes nothing, and is
+/// taken when it comes again.
 #[test]
 fn takes_a_segment_that_was_refused(rt: HostRuntime) {
     let mut inc = Incoming::new(rt.alloc(), THIRTY_TWO, THIRTY_TWO);
     for n in 0..12u8 {
+        let octets = if n % 2 == 0 { b"abc".as_slice() } else { &LONG };
         let before = inc.taken();
-        let mut step = inc.on_segment(n, true, b"abc");
+        let mut step = inc.on_segment(n, true, octets);
         if step == Err(SegmentFault::NoMemory) {
             assert_eq!(rt; inc.taken(), before, "segment {n}");
-            step = inc.on_segment(n, true, b"abc");
+            step = inc.on_segment(n, true, octets);
         }
         assert_eq!(rt; step, Ok(Step::Taken { ack: n == 0 }), "segment {n}");
     }
-    assert_eq!(rt; inc.parts().len(), 36);
+    assert_eq!(rt; inc.parts().len(), 6_162);
 }
