@@ -7,18 +7,20 @@ use crate::slot::Slot;
 use crate::slot_table::{Count, SlotTable};
 use std::alloc::{AllocError, Global};
 use std::cmp::Ordering;
+use std::collections::VecDeque;
 use std::marker::Model;
 
 /// A table whose slots stand in order of putting, with an index of their places that is sorted by key: a key is found by halving the index.
 #[derive(Drop)]
 pub struct IndexSlots<K: Ord, T> {
-    slots: Vec<Slot<K, T>>,
+    slots: VecDeque<Slot<K, T>>,
     places: Vec<usize>,
     capacity: usize,
 }
 
 impl<K: Ord, T> Model for IndexSlots<K, T> {
     ghost use Rattle.std.specs.Prelude.{◌≡◌, ℕ, ◌≤◌, List, length, vec_capacity};
+    ghost use Rattle.std.specs.VecDeque.{deque_capacity};
     ghost use Rattle.bac_slots.specs.declared.slot.Slot.{Slot};
     ghost use Rattle.bac_slots.specs.Slots.{IsDistinct};
     ghost use Rattle.bac_slots.specs.Indexes.{IsIndex};
@@ -27,7 +29,7 @@ impl<K: Ord, T> Model for IndexSlots<K, T> {
 
     ghost view = { λ t. (t.slots.items, t.capacity) };
 
-    ghost invariant = { λ t. (t.capacity ≤ vec_capacity t.slots) × (t.capacity ≤ vec_capacity t.places) × (length t.slots.items ≤ t.capacity)
+    ghost invariant = { λ t. (t.capacity ≤ deque_capacity t.slots) × (t.capacity ≤ vec_capacity t.places) × (length t.slots.items ≤ t.capacity)
         × IsDistinct K.eq t.slots.items × IsIndex K.cmp t.places.items t.slots.items };
 }
 
@@ -38,7 +40,7 @@ impl<K: Ord + Copy + Drop, T: Drop> SlotTable<K, T> for IndexSlots<K, T> {
 
     fn new(alloc: Global, room: usize) -> Result<Self, AllocError> {
         Ok(IndexSlots {
-            slots: Vec::with_capacity(alloc, room)?,
+            slots: VecDeque::with_capacity(alloc, room)?,
             places: Vec::with_capacity(alloc, room)?,
             capacity: room,
         })
@@ -102,10 +104,8 @@ impl<K: Ord + Copy + Drop, T: Drop> SlotTable<K, T> for IndexSlots<K, T> {
             Ok(()) => {}
             Err(_) => unreachable!(),
         }
-        match self.slots.push(Slot { key, begin, value }) {
-            Ok(()) => Ok(()),
-            Err(_) => unreachable!(),
-        }
+        self.slots.push_back_reserved(Slot { key, begin, value });
+        Ok(())
     }
 
     fn set(&mut self, key: &K, value: T) -> Option<T> {
@@ -122,12 +122,10 @@ impl<K: Ord + Copy + Drop, T: Drop> SlotTable<K, T> for IndexSlots<K, T> {
         };
         self.places.remove(found.rank);
         lower(&mut self.places, found.place);
-        let Slot {
-            key: _,
-            begin: _,
-            value,
-        } = self.slots.remove(found.place);
-        Some(value)
+        match self.slots.remove(found.place) {
+            Some(slot) => Some(slot.value),
+            None => unreachable!(),
+        }
     }
 }
 
@@ -139,7 +137,11 @@ struct Found {
 }
 
 /// The n-th slot in the order of the keys.
-fn nth<'a, K: Ord, T>(slots: &'a Vec<Slot<K, T>>, places: &Vec<usize>, n: usize) -> &'a Slot<K, T>
+fn nth<'a, K: Ord, T>(
+    slots: &'a VecDeque<Slot<K, T>>,
+    places: &Vec<usize>,
+    n: usize,
+) -> &'a Slot<K, T>
     requires distinct { IsDistinct K.eq slots.now.items }
     requires index { IsIndex K.cmp places.now.items slots.now.items }
     requires within { n < length places.now.items }
@@ -159,7 +161,7 @@ fn compare<K: Ord>(one: &K, other: &K, count: &mut Count) -> Ordering
 
 /// Halves the part of the index where the key can be, until it is found or the part is empty.
 fn search<K: Ord, T>(
-    slots: &Vec<Slot<K, T>>,
+    slots: &VecDeque<Slot<K, T>>,
     places: &Vec<usize>,
     key: &K,
     count: &mut Count,
@@ -189,7 +191,7 @@ fn search<K: Ord, T>(
 }
 
 /// Where the key stands, or None where it is absent.
-fn look_up<K: Ord, T>(slots: &Vec<Slot<K, T>>, places: &Vec<usize>, key: &K) -> Option<Found>
+fn look_up<K: Ord, T>(slots: &VecDeque<Slot<K, T>>, places: &Vec<usize>, key: &K) -> Option<Found>
     requires distinct { IsDistinct K.eq slots.now.items }
     requires index { IsIndex K.cmp places.now.items slots.now.items }
     ensures { MatchOption result (value_at K.eq key.now slots.now.items ≡ None) (λ found. IsSearched K.eq K.cmp key.now slots.now.items (Ok found)) }
@@ -202,7 +204,7 @@ fn look_up<K: Ord, T>(slots: &Vec<Slot<K, T>>, places: &Vec<usize>, key: &K) -> 
 }
 
 /// Where a key that is absent would stand in the order of the keys.
-fn gap<K: Ord, T>(slots: &Vec<Slot<K, T>>, places: &Vec<usize>, key: &K) -> usize
+fn gap<K: Ord, T>(slots: &VecDeque<Slot<K, T>>, places: &Vec<usize>, key: &K) -> usize
     requires distinct { IsDistinct K.eq slots.now.items }
     requires index { IsIndex K.cmp places.now.items slots.now.items }
     requires absent { value_at K.eq key.now slots.now.items ≡ None }

@@ -25,14 +25,14 @@ invariant_of-self g c =
     let x : Slot _ _ = record { key = c.args.key; begin = c.args.begin; value = c.args.value } in
     let slots : List (Slot _ _) = c.self.inside.slots.items in
     let places : List ℕ = c.self.inside.places.items in
-    let items = c.in-Ok-push.ensures.items in
+    let items = c.push_back_reserved.ensures.items in
     let len = ap length items ∙ length-append slots (x ∷ []) in
     let absent = rw (← c.self.view_is) at c.requires in
     let long : c.len-len.result ≡ length slots = omega (arith, c.len-len.ensures, c.self.inside.slots.ok.0) in
     let named : c.insert.new.self.items ≡ insert places (rank g.K.Ord.cmp c.args.key slots) (length slots) =
     c.in-Ok.ensures.items ∙ ap (λ n. insert places n c.len-len.result) c.gap-n.ensures.rank
     ∙ ap (λ n. insert places (rank g.K.Ord.cmp c.args.key slots) n) long in (
-      omega (arith, c.push.ensures.capacity, c.self.invariant.0),
+      omega (arith, c.push_back_reserved.ensures.capacity, c.self.invariant.0),
       omega (arith, c.insert.ensures.capacity, c.self.invariant.1),
       omega (arith, len, c.if-len-self.false, long),
       subst (λ (l : List (Slot _ _)). IsDistinct g.K.PartialEq.eq l) (sym items)
