@@ -4,3 +4,5 @@ pub mod KeyOrder
 pub mod Indexes
 pub mod Swept
 pub mod Values
+pub mod Ages
+pub mod Numbers

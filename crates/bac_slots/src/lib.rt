@@ -4,6 +4,7 @@
 mod comparing;
 mod index_slots;
 mod laws;
+mod places;
 mod plain_slots;
 mod slot;
 mod slot_table;
@@ -12,9 +13,10 @@ mod sweeping;
 pub use comparing::{Same, same_tables};
 pub use index_slots::IndexSlots;
 pub use laws::{
-    putting_a_slot, removing_a_slot, setting_a_value, setting_again, slots_in_order, sweeping_slots,
+    ascending_slots, putting_a_slot, removing_a_slot, setting_a_value, setting_again,
+    slots_in_order, sweeping_slots,
 };
 pub use plain_slots::PlainSlots;
 pub use slot::Slot;
 pub use slot_table::{Count, SlotTable};
-pub use sweeping::{Test, count_passing, sweep};
+pub use sweeping::{Test, count_passing, has_room_once_swept, sweep, sweep_oldest};
