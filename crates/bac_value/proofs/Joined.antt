@@ -4,7 +4,7 @@ use Rattle.std.proofs.Common.{◌∙◌, append_assoc, arith, subst, inl, inr}
 use Rattle.std.specs.Global.{Vec}
 use Rattle.std.proofs.lemmas.Bool.{cases_lt}
 use Rattle.std.proofs.lemmas.List.{take_more, drop_more, append-nil, get_or_append_left, get_or-append_right, take_all, length-drop}
-use Rattle.std.proofs.lemmas.List.{drop-append-le, take-append-le, drop_at, length-append, drop-take, drop-drop, take_at, length-take}
+use Rattle.std.proofs.lemmas.List.{drop-append-le, take-append-le, drop_at, length-append, drop-take, drop-drop}
 use Rattle.bac_value.specs.Octets.{IsBytes, joined}
 use Rattle.bac_value.proofs.Steps.{IsBytes-drop}
 
@@ -117,13 +117,3 @@ pub after_front : (xs : List ℕ) (skip len count : ℕ) → count ≤ len → d
 after_front xs skip len count le =
     let whole : len ≡ count + (len - count) = omega arith in
     ap (λ n. drop count (take n (drop skip xs))) whole ∙ drop-take count (len - count) (drop skip xs) ∙ ap (take (len - count)) (drop-drop count skip xs)
-
--- what the first piece has of some octets
-pub run_of : (ps behind : List (Vec ℕ)) (v : Vec ℕ) (skip len here : ℕ) → ps ≡ v ∷ behind → skip ≤ length v.items → here ≡ min len (length v.items - skip)
-    → take here (take len (drop skip (joined ps))) ≡ take here (drop skip v.items)
-run_of ps behind v skip len here is le count =
-    let part = take here (drop skip v.items) in
-    let whole : length part ≡ here = omega (arith, count, length-take here (drop skip v.items), length-drop skip v.items) in
-    ap (λ (l : List ℕ). take here (take len (drop skip l))) (ap joined is)
-    ∙ ap (take here) (taken_part v.items (joined behind) skip len here le count)
-    ∙ take_at part (take (len - here) (joined behind)) here whole
