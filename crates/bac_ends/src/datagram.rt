@@ -5,8 +5,8 @@ ghost use Rattle.bac_npdu.specs.Views.{peer_view};
 ghost use Rattle.bac_protocol.specs.Short.{IsShort};
 ghost use Rattle.bac_ends.specs.Sends.{to_peer, IsSent};
 
-use bac_apdu::{Apdu, write};
-use bac_npdu::{Peer, write_datagram};
+use bac_apdu::{Apdu, apdu_len, write};
+use bac_npdu::{Peer, write_frame_head};
 use bac_value::NoMemory;
 use std::alloc::Global;
 use std::marker::Model;
@@ -49,15 +49,15 @@ impl Datagram {
     }
 }
 
-/// The datagram that carries an APDU to a peer, as the one frame of it.
+/// The datagram that carries an APDU to a peer, as the one frame of it, in one allocation.
+#[tactic(auto, using(bac_npdu::proofs::Writing::frame_headed))]
 pub fn datagram_of(alloc: Global, peer: &Peer, apdu: &Apdu<'_>) -> Result<Datagram, NoMemory>
     requires { IsShort (apdu_view apdu.now) }
     ensures { IfOk result (IsSent (to_peer (peer_view peer.now) (apdu_view apdu.now))) }
 {
-    let mut spelled = Vec::new(alloc);
-    write(apdu, &mut spelled)?;
     let mut octets = Vec::new(alloc);
-    write_datagram(peer, apdu.expects_reply(), &spelled, &mut octets)?;
+    write_frame_head(peer, apdu.expects_reply(), apdu_len(apdu), &mut octets)?;
+    write(apdu, &mut octets)?;
     Ok(Datagram {
         to: peer.link,
         octets,

@@ -1,19 +1,15 @@
 -- The parts of the frame to a peer, as they are written.
-use Rattle.std.proofs.Common.{IsTrue, ◌≤◌, ◌≡◌, ℕ, ◌+◌, Bool, true, List, [], ◌∷◌, ◌++◌, length, Option, Some, None, refl, ap, ◌∙◌, append_assoc, arith}
+use Rattle.std.proofs.Common.{IsTrue, ◌≤◌, ◌≡◌, ℕ, ◌+◌, Bool, true, List, [], ◌∷◌, ◌++◌, length, Option, Some, None, refl, sym, ap, ◌∙◌, append_assoc, arith}
 use Rattle.std.specs.Int.{w16, to_be_bytes}
 use Rattle.std.proofs.lemmas.List.{length-append}
 use Rattle.bac_npdu.specs.Peers.{RouteView, PeerView, route_fits}
 use Rattle.bac_npdu.specs.Npdu.{all_of, npdu_spelling, members_spelling, bvll_spelling}
-use Rattle.bac_npdu.specs.Datagram.{npdu_to, frame, IsFrameOf}
+use Rattle.bac_npdu.specs.Datagram.{npdu_to, frame, frame_head, IsFrameOf}
 use Rattle.bac_npdu.specs.Views.{route_view, peer_view}
 use Rattle.bac_npdu.specs.declared.route.Route.{Route}
 use Rattle.bac_npdu.specs.declared.peer.Peer.{Peer}
 use Rattle.bac_npdu.proofs.Datagrams.{peer_at, frame_is}
 use Rattle.std.specs.Option.{option_map}
-
--- what stands in front of the contents
-abbrev head : PeerView → Bool → List ℕ
-head p e = npdu_spelling (npdu_to p e [])
 
 head_then : (link : List ℕ) (route : Option RouteView) (e : Bool) (apdu : List ℕ)
     → npdu_spelling (npdu_to (peer_at link route) e apdu) ≡ npdu_spelling (npdu_to (peer_at link route) e []) ++ apdu
@@ -21,37 +17,41 @@ unfolding npdu_spelling members_spelling
 head_then link None e apdu = refl
 head_then link (Some r) e apdu = simp append_assoc
 
-head_length : (link : List ℕ) (route : Option RouteView) (e : Bool)
+npdu_head_length : (link : List ℕ) (route : Option RouteView) (e : Bool)
     → length (npdu_spelling (npdu_to (peer_at link route) e [])) ≡ length (npdu_spelling (npdu_to (peer_at link route) true []))
 unfolding npdu_spelling members_spelling
-head_length link None e = refl
-head_length link (Some r) e = refl
+npdu_head_length link None e = refl
+npdu_head_length link (Some r) e = refl
 
 pub same_head : (p : PeerView) (e : Bool) → length (npdu_spelling (npdu_to p e [])) ≡ length (npdu_spelling (npdu_to p true []))
-same_head p e = head_length p.link p.route e
+same_head p e = npdu_head_length p.link p.route e
 
-pub frame_length : (p : PeerView) (e : Bool) (apdu : List ℕ) → length (frame p e apdu) ≡ 4 + length (npdu_spelling (npdu_to p true [])) + length apdu
-unfolding frame bvll_spelling
-frame_length p e apdu = rw (head_then p.link p.route e apdu) (omega (arith, length-append (npdu_spelling (npdu_to p e [])) apdu, same_head p e))
+-- how many octets stand in front of the APDU
+pub head_length : (p : PeerView) (e : Bool) (count : ℕ) → length (frame_head p e count) ≡ 4 + length (npdu_spelling (npdu_to p true []))
+unfolding frame_head
+head_length p e count = omega (arith, same_head p e)
 
-pub frame_parts : (p : PeerView) (e : Bool) (apdu : List ℕ)
-    → frame p e apdu ≡ 0x81 ∷ 0x0A ∷ (to_be_bytes w16 (4 + length (npdu_spelling (npdu_to p true [])) + length apdu) ++
-    (npdu_spelling (npdu_to p e []) ++ apdu))
-unfolding frame bvll_spelling
-frame_parts p e apdu =
-    let len : length (npdu_spelling (npdu_to p e apdu)) + 4 ≡ 4 + length (npdu_spelling (npdu_to p true [])) + length apdu =
-    rw (head_then p.link p.route e apdu) (omega (arith, length-append (npdu_spelling (npdu_to p e [])) apdu, same_head p e)) in
-    rw (len, head_then p.link p.route e apdu) refl
+-- a frame is what stands in front of the APDU, and the APDU
+pub frame_headed : (p : PeerView) (e : Bool) (apdu : List ℕ) → frame p e apdu ≡ frame_head p e (length apdu) ++ apdu
+unfolding frame frame_head bvll_spelling
+frame_headed p e apdu =
+    let len : length (npdu_spelling (npdu_to p e apdu)) + 4 ≡ 4 + length (npdu_spelling (npdu_to p e [])) + length apdu =
+    rw (head_then p.link p.route e apdu) (omega (arith, length-append (npdu_spelling (npdu_to p e [])) apdu)) in
+    rw (len, head_then p.link p.route e apdu) (simp append_assoc)
 
--- written one after the other, they are the frame
-pub written : (p : PeerView) (e : Bool) (apdu old first second third all bytes : List ℕ) (n : ℕ) → n ≡ length (npdu_spelling (npdu_to p true []))
-    → bytes ≡ to_be_bytes w16 (4 + n + length apdu)
-    → first ≡ old ++ 0x81 ∷ 0x0A ∷ [] → second ≡ first ++ bytes → third ≡ second ++ npdu_spelling (npdu_to p e []) → all ≡ third ++ apdu
-    → all ≡ old ++ frame p e apdu
-written p e apdu old first second third all bytes n is-n is-bytes one two three four =
-    let octets : bytes ≡ to_be_bytes w16 (4 + length (npdu_spelling (npdu_to p true [])) + length apdu) = rw is-n at is-bytes in
-    let joined : all ≡ (((old ++ 0x81 ∷ 0x0A ∷ []) ++ bytes) ++ npdu_spelling (npdu_to p e [])) ++ apdu = rw (four, three, two, one) refl in
-    rw frame_parts (joined ∙ ap (λ (x : List ℕ). (((old ++ 0x81 ∷ 0x0A ∷ []) ++ x) ++ npdu_spelling (npdu_to p e [])) ++ apdu) octets ∙ simp append_assoc)
+pub frame_length : (p : PeerView) (e : Bool) (apdu : List ℕ) → length (frame p e apdu) ≡ length (frame_head p e (length apdu)) + length apdu
+frame_length p e apdu = rw (frame_headed p e apdu) (length-append (frame_head p e (length apdu)) apdu)
+
+-- its parts, written one after the other, are what stands in front of the APDU
+pub head_written : (p : PeerView) (e : Bool) (old first second all bytes : List ℕ) (n count : ℕ) → n ≡ length (npdu_spelling (npdu_to p true []))
+    → bytes ≡ to_be_bytes w16 (4 + n + count)
+    → first ≡ old ++ 0x81 ∷ 0x0A ∷ [] → second ≡ first ++ bytes → all ≡ second ++ npdu_spelling (npdu_to p e []) → all ≡ old ++ frame_head p e count
+unfolding frame_head
+head_written p e old first second all bytes n count is-n is-bytes one two three =
+    let octets : bytes ≡ to_be_bytes w16 (4 + length (npdu_spelling (npdu_to p e [])) + count) =
+    is-bytes ∙ ap (λ (x : ℕ). to_be_bytes w16 (4 + x + count)) (is-n ∙ sym (same_head p e)) in
+    let joined : all ≡ ((old ++ 0x81 ∷ 0x0A ∷ []) ++ bytes) ++ npdu_spelling (npdu_to p e []) = rw (three, two, one) refl in
+    joined ∙ ap (λ (x : List ℕ). ((old ++ 0x81 ∷ 0x0A ∷ []) ++ x) ++ npdu_spelling (npdu_to p e [])) octets ∙ simp append_assoc
 
 -- a peer's route keeps the limits of one
 peer_fits : (route : Option Route) → IsTrue (all_of route_fits (option_map route_view route))

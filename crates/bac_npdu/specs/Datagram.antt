@@ -1,5 +1,6 @@
 -- Which peer and APDU a datagram means, and which frame is sent to a peer.
-use Rattle.std.specs.Prelude.{◌≡◌, ℕ, Bool, List, Option, Some, None}
+use Rattle.std.specs.Prelude.{◌≡◌, ℕ, ◌+◌, Bool, List, [], ◌∷◌, ◌++◌, length, Option, Some, None}
+use Rattle.std.specs.Int.{w16, to_be_bytes}
 use Rattle.bac_npdu.specs.Peers.{PeerView, RouteView}
 use Rattle.bac_npdu.specs.Npdu.{NpduView, DestinationView, npdu_spelling, bvll_spelling, SpellsNpdu, SpellsBvll}
 
@@ -37,6 +38,12 @@ npdu_to peer expecting apdu = record { destination = towards peer.route; source 
 -- the one frame that carries an APDU's octets to a peer
 unfoldable pub frame : PeerView → Bool → List ℕ → List ℕ
 frame peer expecting apdu = bvll_spelling (npdu_spelling (npdu_to peer expecting apdu))
+
+-- what that frame has in front of the octets of the APDU, of which there are so many
+unfoldable pub frame_head : PeerView → Bool → ℕ → List ℕ
+frame_head peer expecting count =
+    let npdu_head = npdu_spelling (npdu_to peer expecting []) in
+    0x81 ∷ 0x0A ∷ (to_be_bytes w16 (4 + length npdu_head + count) ++ npdu_head)
 
 -- the one frame that a node sends: a reply is expected of those APDUs that the test names, Confirmed-Requests alone
 pub record IsFrameTo {A : Type 0} (Spells : A → List ℕ → Type 0) (expects : A → Bool) (peer : PeerView) (apdu : A) (octets : List ℕ) : Type 0 where

@@ -2,7 +2,7 @@
 ghost use Rattle.std.specs.Prelude.{◌≡◌, ◌+◌, ◌≤◌, ◌<◌, ◌++◌, ◌∷◌, [], length, OnOk, OnErr, vec_len, vec_capacity, true};
 ghost use Rattle.bac_value.specs.Appending.{Appends, Lengthens, Keeps, NeedsRoom};
 ghost use Rattle.bac_npdu.specs.Npdu.{address_spelling, npdu_spelling};
-ghost use Rattle.bac_npdu.specs.Datagram.{frame, npdu_to, IsFrameOf};
+ghost use Rattle.bac_npdu.specs.Datagram.{frame, frame_head, npdu_to, IsFrameOf};
 ghost use Rattle.bac_npdu.specs.Views.{peer_view};
 ghost use Rattle.bac_npdu.specs.Addresses.{address_view};
 
@@ -63,9 +63,32 @@ fn put_head(peer: &Peer, expecting: bool, out: &mut Vec<u8>) -> Result<(), NoMem
     Ok(())
 }
 
+/// Appends what the one frame to a peer has in front of the octets of an APDU, of which there are so many, at most 1,476; and makes room for
+/// these too. `expecting` says that a reply is expected. Nothing is changed where memory is lacking.
+#[tactic(auto, using(crate::proofs::Writing::head_length, crate::proofs::Writing::same_head))]
+pub fn write_frame_head(
+    peer: &Peer,
+    expecting: bool,
+    apdu_len: usize,
+    out: &mut Vec<u8>,
+) -> Result<(), NoMemory>
+    requires { apdu_len ≤ 1476 }
+    ensures ok { Appends result out.old out.new (frame_head (peer_view peer.now) expecting apdu_len) }
+    ensures room { OnOk result (vec_len out.new + apdu_len ≤ vec_capacity out.new) }
+    ensures err { Keeps result out.old out.new }
+    ensures full { OnErr result (vec_capacity out.old < vec_len out.old + length (frame_head (peer_view peer.now) expecting apdu_len) + apdu_len) }
+{
+    let len = 4 + head_len(peer) + apdu_len;
+    out.reserve(len)?;
+    out.extend_from_slice(&[TYPE, ORIGINAL_UNICAST_NPDU])?;
+    out.extend_from_slice(&(len as u16).to_be_bytes())?;
+    put_head(peer, expecting, out)?;
+    Ok(())
+}
+
 /// Appends the one frame that carries the octets of an APDU, at most 1,476, to a peer; `expecting` says that a reply is expected,
 /// as it is of Confirmed-Requests alone. Nothing is changed where memory is lacking.
-#[tactic(auto, using(crate::proofs::Writing::frame_length, crate::proofs::Writing::same_head, crate::proofs::Writing::frame_parts))]
+#[tactic(auto, using(crate::proofs::Writing::frame_length))]
 pub fn write_datagram(
     peer: &Peer,
     expecting: bool,
@@ -78,11 +101,7 @@ pub fn write_datagram(
     ensures err { Keeps result out.old out.new }
     ensures full { NeedsRoom result out.old (frame (peer_view peer.now) expecting apdu.now) }
 {
-    let len = 4 + head_len(peer) + apdu.len();
-    out.reserve(len)?;
-    out.extend_from_slice(&[TYPE, ORIGINAL_UNICAST_NPDU])?;
-    out.extend_from_slice(&(len as u16).to_be_bytes())?;
-    put_head(peer, expecting, out)?;
+    write_frame_head(peer, expecting, apdu.len(), out)?;
     out.extend_from_slice(apdu)?;
     Ok(())
 }

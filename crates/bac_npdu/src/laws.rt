@@ -1,10 +1,10 @@
 //! Laws of the definitions: each function's contract is one or two of them.
-ghost use Rattle.std.specs.Prelude.{◌≡◌, ℕ, List, ◌≤◌, length, Some, None, Bool, IsTrue};
+ghost use Rattle.std.specs.Prelude.{◌≡◌, ◌++◌, ℕ, List, ◌≤◌, length, Some, None, Bool, IsTrue};
 ghost use Rattle.std.specs.Cmp.{IsTotalOrder};
 ghost use Rattle.std.specs.declared.cmp.Ordering.TheVariants.{Equal};
 ghost use Rattle.bac_npdu.specs.Peers.{PeerView, RouteView, peer_cmp, route_fits};
 ghost use Rattle.bac_npdu.specs.Npdu.{NpduView, SpellsNpdu, SpellsBvll};
-ghost use Rattle.bac_npdu.specs.Datagram.{Carries, frame};
+ghost use Rattle.bac_npdu.specs.Datagram.{Carries, frame, frame_head};
 
 /// No octets are a BVLL of two NPDUs.
 pub fn one_bvll_spelling()
@@ -19,6 +19,12 @@ pub fn one_npdu_spelling()
 /// A datagram from a link carries the octets of at most one APDU, of one peer.
 pub fn one_meaning()
     ensures { (link octets : List ℕ) (p q : PeerView) (a b : List ℕ) → Carries link octets p a → Carries link octets q b → (p ≡ q) × (a ≡ b) }
+{}
+
+/// A frame is what stands in front of the APDU's octets, and then these.
+#[tactic(auto, using(crate::proofs::Writing::frame_headed))]
+pub fn frame_is_its_head_and_the_apdu()
+    ensures { (p : PeerView) (expecting : Bool) (apdu : List ℕ) → frame p expecting apdu ≡ frame_head p expecting (length apdu) ++ apdu }
 {}
 
 /// What is sent to a peer without a route carries that APDU, of the sender's link.

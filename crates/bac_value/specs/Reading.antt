@@ -1,6 +1,6 @@
 -- Reading from left to right, on lists alone: what a reader answers, and which fault it finds first.
 -- That these answers are exactly the spellings are laws beside the readers in code.
-use Rattle.std.specs.Prelude.{◌≡◌, ℕ, zero, suc, ◌-◌, ◌/◌, ◌%◌, ◌≤◌, ◌^◌, ℤ, slice_index, List, [], ◌∷◌, ◌++◌, length, take, drop, Option, Some}
+use Rattle.std.specs.Prelude.{◌≡◌, ℕ, zero, suc, ◌-◌, ◌/◌, ◌%◌, ◌<◌, ◌≤◌, ◌^◌, ℤ, slice_index, List, [], ◌∷◌, ◌++◌, length, take, drop, Option, Some}
 use Rattle.std.specs.Prelude.{None, Result, Ok, Err, Bool, true, false, nat_lt, ◌==◌, ◌&&◌, ◌||◌, if◌then◌else◌}
 use Rattle.std.specs.Int.{Width, w16, w32, byte_len, from_be_bytes}
 use Rattle.bac_value.specs.declared.fault.FaultKind.{FaultKind}
@@ -193,11 +193,33 @@ Turns new (Ok true) t = t ≡ Ok (Some new)
 Turns new (Ok false) t = t ≡ Ok None
 Turns new (Err e) t = t ≡ Err e
 
+-- where it opened or closed no tag, the open tags stay
+abbrev pub StaysUnlessTurned : Result Bool FaultKind → List ℕ → List ℕ → Type 0
+StaysUnlessTurned (Ok true) old new = Unit {0}
+StaysUnlessTurned (Ok false) old new = new ≡ old
+StaysUnlessTurned (Err e) old new = new ≡ old
+
 -- what a step of the code did
 abbrev pub Steps : {R : Type 0} → (R → List ℕ) → List ℕ → Result (Option R) FaultKind → Result (Option (List ℕ × List ℕ)) FaultKind → Type 0
 Steps rest new (Ok (Some next)) r = r ≡ Ok (Some (new, rest next))
 Steps rest new (Ok None) r = r ≡ Ok None
 Steps rest new (Err e) r = r ≡ Err e
+
+-- with these tags open, reading the rest gives what reading all the octets gave, so that it lies some elements further on
+abbrev pub Onward : List ℕ → List ℕ → List ℕ → List ℕ → Type 0
+Onward old bytes new rest =
+    (steps : ℕ) → length bytes < steps
+    → (m : ℕ) × (length rest < m) × (data_at m new rest ≡ data_at steps old bytes) × (fault_rest m new rest ≡ fault_rest steps old bytes)
+
+-- the data end before the first of these octets, which begin with a closing tag
+abbrev pub IsOver : List ℕ → List ℕ → Type 0
+IsOver opened bytes = (0 < length bytes) × (step_at opened bytes ≡ Ok None)
+
+-- what is left of a run of octets after some elements at its front, whatever comes behind it
+pub record IsPassed (old run new left : List ℕ) : Type 0 where
+  pub within : length left ≤ length run
+  pub end : drop (length run - length left) run ≡ left
+  pub onward : (behind : List ℕ) → Onward old (run ++ behind) new (left ++ behind)
 
 -- what reading data answered, with a place among the octets
 abbrev pub ReadsData : {R : Type 0} → (R → List ℕ) → List ℕ → Result R Fault → Result (List ℕ) FaultKind → Type 0

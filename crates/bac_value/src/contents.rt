@@ -153,6 +153,7 @@ pub fn exact_contents()
 {}
 
 #[tactic(auto, unfolding(crate::specs::Reading::class_at))]
+#[inline(always)]
 fn contents_of_class<O: Octets>(
     octets: O,
     class: Class,

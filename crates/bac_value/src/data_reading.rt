@@ -1,7 +1,7 @@
 //! Reading data, up to their end or a closing tag (clauses 20.2.1.3.2 and 20.2.19).
-ghost use Rattle.std.specs.Prelude.{◌≡◌, ◌<◌, ◌≤◌, ◌+◌, ◌-◌, length, drop, take, reverse, IfOk, IfErr, IfSome, Err, ℕ, List};
+ghost use Rattle.std.specs.Prelude.{◌≡◌, ◌<◌, ◌≤◌, ◌+◌, ◌-◌, ◌++◌, length, drop, take, reverse, IfOk, IfErr, IfSome, Err, IsTrue, ℕ, List};
 ghost use Rattle.arrayvec.specs.ArrayVec.{array_vec_len};
-ghost use Rattle.bac_value.specs.Reading.{turn, Turns, ReadsData, Steps, step_at, data_of, fault_place, IsDataTaken, IsDataRefused};
+ghost use Rattle.bac_value.specs.Reading.{turn, Turns, StaysUnlessTurned, IsPassed, Onward, IsOver, ReadsData, Steps, step_at, data_of, fault_place, IsDataTaken, IsDataRefused};
 ghost use Rattle.bac_value.specs.Data.{IsDataFront};
 
 use crate::data::Data;
@@ -11,10 +11,11 @@ use crate::octets::Octets;
 use crate::tag::Form;
 use arrayvec::ArrayVec;
 
-/// Opens or closes a tag; false where the data end before this tag.
+/// Opens or closes a tag; false where the data end before this tag. A fault changes nothing.
 #[tactic(auto, unfolding(crate::specs::Reading::turn))]
 fn turn_at(opened: &mut ArrayVec<u8, 8>, form: Form, number: u8) -> Result<bool, FaultKind>
-    ensures { Turns (reverse opened.new.items) result (turn form number (reverse opened.old.items)) }
+    ensures turned { Turns (reverse opened.new.items) result (turn form number (reverse opened.old.items)) }
+    ensures stays { StaysUnlessTurned result opened.old.items opened.new.items }
 {
     match form {
         Form::Length(_) | Form::Boolean(_) => Ok(true),
@@ -25,15 +26,13 @@ fn turn_at(opened: &mut ArrayVec<u8, 8>, form: Form, number: u8) -> Result<bool,
             opened.push(number);
             Ok(true)
         }
-        Form::Closing => match opened.pop() {
+        Form::Closing => match opened.as_slice().last().copied() {
             None => Ok(false),
-            Some(last) => {
-                if last == number {
-                    Ok(true)
-                } else {
-                    Err(FaultKind::Unbalanced)
-                }
+            Some(last) if last == number => {
+                opened.pop();
+                Ok(true)
             }
+            Some(_) => Err(FaultKind::Unbalanced),
         },
     }
 }
@@ -49,16 +48,47 @@ fn step<O: Octets>(octets: O, opened: &mut ArrayVec<u8, 8>) -> Result<Option<O>,
     if goes_on { Ok(Some(next)) } else { Ok(None) }
 }
 
+/// Goes over the elements at the front of a run of octets that lie whole in it: what is left of it, and whether the data end there.
+fn pass_run<'a>(run: &'a [u8], opened: &mut ArrayVec<u8, 8>) -> (&'a [u8], bool)
+    ensures passed { IsPassed (reverse opened.old.items) run.now (reverse opened.new.items) result.0.now }
+    ensures over { IsTrue result.1 → (behind : List ℕ) → IsOver (reverse opened.new.items) (result.0.now ++ behind) }
+{
+    let mut rest = run;
+    while let Ok((element, next)) = take_element(rest) {
+        match turn_at(opened, element.tag.form, element.tag.number) {
+            Ok(true) => rest = next,
+            Ok(false) => return (rest, true),
+            Err(_) => return (rest, false),
+        }
+    }
+    (rest, false)
+}
+
+/// Goes over elements at the front as far as they lie in one piece: what is left after them, and whether the data end there.
+fn pass<O: Octets>(octets: O, opened: &mut ArrayVec<u8, 8>) -> (O, bool)
+    ensures fewer { length (O.octets result.0) ≤ length (O.octets octets) }
+    ensures onward { Onward (reverse opened.old.items) (O.octets octets) (reverse opened.new.items) (O.octets result.0) }
+    ensures over { IsTrue result.1 → IsOver (reverse opened.new.items) (O.octets result.0) }
+{
+    let run = octets.run();
+    let (left, is_over) = pass_run(run, opened);
+    let (_, rest) = octets.split(run.len() - left.len());
+    (rest, is_over)
+}
+
 /// What is left after the data at the front.
 fn data_end<O: Octets>(octets: O) -> Result<O, Fault>
     ensures { ReadsData O.octets (O.octets octets) result (data_of (O.octets octets)) }
 {
     let all = octets.len();
     let mut opened: ArrayVec<u8, 8> = ArrayVec::new();
-    let mut rest = octets;
+    let (mut rest, mut is_over) = pass(octets, &mut opened);
     while rest.len() > 0 {
+        if is_over {
+            return Ok(rest);
+        }
         match step(rest, &mut opened) {
-            Ok(Some(next)) => rest = next,
+            Ok(Some(next)) => (rest, is_over) = pass(next, &mut opened),
             Ok(None) => return Ok(rest),
             Err(kind) => {
                 return Err(Fault {

@@ -18,6 +18,10 @@ pub trait Octets: Copy {
         ensures count { result ≡ length (octets self) }
         ensures each { IsBytes (octets self) };
 
+    /// Octets at the front that lie in one piece.
+    fn run(&self) -> &[u8]
+        ensures { result.now ≡ take (length result.now) (octets self.now) };
+
     /// The first octet, and what is left after it.
     fn first(self) -> Option<(u8, Self)>
         ensures { MatchOption result (octets self ≡ []) (λ r. octets self ≡ r.0 ∷ octets r.1) };
@@ -45,6 +49,10 @@ impl Octets for &[u8] {
 
     fn len(self) -> usize {
         slice_len(self)
+    }
+
+    fn run(&self) -> &[u8] {
+        self
     }
 
     fn first(self) -> Option<(u8, Self)> {

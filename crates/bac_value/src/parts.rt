@@ -133,6 +133,16 @@ impl Octets for Parts<'_> {
         self.len
     }
 
+    fn run(&self) -> &[u8] {
+        match self.parts.split_first() {
+            Some((part, _)) => {
+                let here = self.len.min(part.len() - self.skip);
+                &part[self.skip..self.skip + here]
+            }
+            None => &[],
+        }
+    }
+
     fn first(self) -> Option<(u8, Self)> {
         if self.len == 0 {
             return None;

@@ -1,6 +1,6 @@
 //! APDUs: tables of octets whose readings and writings were worked out by hand.
 use super::{holds, holds_of};
-use bac_apdu::{ApduFault, read, write};
+use bac_apdu::{ApduFault, apdu_len, read, write};
 use bac_value::NoMemory;
 use std::alloc::Global;
 use std::test::Fail;
@@ -90,7 +90,7 @@ fn is_written_back(alloc: Global, octets: &[u8]) -> Result<bool, NoMemory> {
     };
     let mut out = Vec::new(alloc);
     write(&apdu, &mut out)?;
-    Ok(out.as_slice() == octets)
+    Ok(out.as_slice() == octets && apdu_len(&apdu) == octets.len())
 }
 
 #[test]

@@ -2,6 +2,7 @@
 use super::{holds, holds_of};
 use bac_npdu::{
     Dropped, FrameFault, Peer, Route, read_bvll, read_datagram, read_npdu, write_datagram,
+    write_frame_head,
 };
 use bac_value::NoMemory;
 use std::alloc::Global;
@@ -230,10 +231,24 @@ fn appends(
     Ok(out.get(before..) == Some(*frame))
 }
 
+/// Whether what is written in front of the APDU is the frame without it.
+fn begins(
+    out: &mut Vec<u8>,
+    (is_routed, expecting, apdu, frame): &(bool, bool, &[u8], &[u8]),
+) -> Result<bool, NoMemory> {
+    if apdu.len() > 1_476 {
+        return Ok(false);
+    }
+    let before = out.len();
+    write_frame_head(&peer(*is_routed), *expecting, apdu.len(), out)?;
+    Ok(out.get(before..) == frame.strip_suffix(*apdu))
+}
+
 fn all_appended(alloc: Global) -> Result<(), Fail> {
     let mut out = Vec::new(alloc);
     for row in FRAMES {
         holds_of(appends(&mut out, row)?, row.3)?;
+        holds_of(begins(&mut out, row)?, row.3)?;
     }
     Ok(())
 }

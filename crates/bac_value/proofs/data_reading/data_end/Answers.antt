@@ -1,4 +1,4 @@
-use Rattle.std.proofs.Common.{arith, reverse, sym, ap, length}
+use Rattle.std.proofs.Common.{arith, reverse, sym, ap, length, ◌∙◌}
 use Rattle.std.proofs.lemmas.Bool.{eqb-true, eqb-false}
 use Rattle.std.proofs.lemmas.List.{length-reverse}
 use Rattle.bac_value.specs.Reading.{data_of}
@@ -10,11 +10,24 @@ loop-opened-preserved g c =
     let octets = g.O.Octets.octets in
     let inv = c.loop-opened.invariant in
     let e = rw c.in-Ok-Some.field-0-is at c.in-Ok-Some.ensures in
+    let s = on_more inv.same.0 (reverse c.loop-opened.opened.items) (octets c.loop-opened.rest) (reverse c.step.new.opened.items)
+    (octets c.in-Ok-Some.next) (data_of (octets c.args.octets)) _ e.onward inv.same.1 e.reads inv.same.2 inv.same.3 in
+    let t = c.pass.ensures.onward s.0 s.1 in
     record {
-      fewer = omega (arith, e.onward, inv.fewer);
-      same = on_more inv.same.0 (reverse c.loop-opened.opened.items) (octets c.loop-opened.rest) (reverse c.step.new.opened.items)
-          (octets c.in-Ok-Some.next) (data_of (octets c.args.octets)) _ e.onward inv.same.1 e.reads inv.same.2 inv.same.3;
+      fewer = omega (arith, e.onward, inv.fewer, c.pass.ensures.fewer);
+      same = (t.0, t.1, t.2 ∙ s.2, t.3 ∙ s.3);
+      over = c.pass.ensures.over;
     }
+
+pub returns-then-is_over : goal.returns-then-is_over
+returns-then-is_over g c =
+    let octets = g.O.Octets.octets in
+    let inv = c.loop-opened.invariant in
+    let s = inv.same in
+    let over = inv.over c.if-is_over.true in (
+      inv.fewer,
+      at_stop s.0 (reverse c.loop-opened.opened.items) (octets c.loop-opened.rest) (data_of (octets c.args.octets)) over.0 s.1 over.1 s.2,
+    )
 
 pub returns-in-Ok-None : goal.returns-in-Ok-None
 returns-in-Ok-None g c =
