@@ -2,6 +2,7 @@
 #![tactic(auto)]
 
 ghost use Rattle.std.specs.Prelude.{◌≡◌};
+ghost use Rattle.bac_link.specs.Clocks.{latest_told};
 ghost use Rattle.bac_link.specs.Udp.{bound_port, udp_address};
 
 mod command;
@@ -46,6 +47,8 @@ impl<'a, R: Net + std::time::Clock> Machine for Sockets<'a, R> {
     type Timer = MonotonicClock<'a, R>;
 
     ghost is_bound = { λ port l address. (bound_port l ≡ port) × (udp_address l ≡ address) };
+
+    ghost is_made = { λ c. latest_told c ≡ 0 };
 
     fn bind(&self, port: u16) -> Option<(UdpLink, [u8; 6])> {
         let link = UdpLink::bind(self.runtime, port).ok()?;

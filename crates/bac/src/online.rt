@@ -2,7 +2,7 @@
 ghost use Rattle.std.specs.Prelude.{◌≡◌, ℕ, map, IfSome};
 ghost use Rattle.bac_protocol.specs.Service.{Octets};
 ghost use Rattle.bac_online.specs.Questions.{ReadsQuestion, local};
-ghost use Rattle.bac.specs.Online.{IsAsked, IsPair, IsServed, OnPort};
+ghost use Rattle.bac.specs.Online.{IsAsked, IsPair, IsServed, OnClock, OnPort};
 
 use bac_link::{Clock, Link};
 use bac_online::{clock_fault, link_fault, local, read_question};
@@ -20,12 +20,15 @@ pub(crate) trait Machine {
 
     ghost is_bound: { (port : ℕ) → Self.Link → (address : Octets) → Type 0 };
 
+    ghost is_made: { Self.Timer → Type 0 };
+
     /// A link at that port of 127.0.0.1, and its address; port 0 is any free one. None where the system refuses it.
     fn bind(&self, port: u16) -> Option<(Self::Link, [u8; 6])>
         ensures { IfSome result (λ b. Self.is_bound port b.0 b.1) };
 
     /// A clock; None where it can't be read.
-    fn timer(&self) -> Option<Self::Timer>;
+    fn timer(&self) -> Option<Self::Timer>
+        ensures { IfSome result Self.is_made };
 }
 
 /// A node at a port takes so many turns.
@@ -37,7 +40,8 @@ pub(crate) fn serve<M: Machine, O: Write, E: Write>(
     out: &mut O,
     err: &mut E,
 ) -> Status
-    ensures { IsServed (OnPort M.is_bound M.Link.failures M.Link.calls) result port turns (O.contents out.old) (O.contents out.new) }
+    ensures { IsServed (OnPort M.is_bound M.Link.failures M.Link.calls) (OnClock M.is_made M.Timer.told) result port turns
+        (O.contents out.old) (O.contents out.new) }
 {
     let Some(bound) = machine.bind(port) else {
         return link_fault(err);
@@ -72,7 +76,8 @@ pub(crate) fn ask<M: Machine, O: Write, E: Write>(
     out: &mut O,
     err: &mut E,
 ) -> Status
-    ensures { IsAsked (OnPort M.is_bound M.Link.failures M.Link.calls) result port (map (λ w. w.now) words.now) (O.contents out.old) (O.contents out.new) }
+    ensures { IsAsked (OnPort M.is_bound M.Link.failures M.Link.calls) (OnClock M.is_made M.Timer.told) result port (map (λ w. w.now) words.now)
+        (O.contents out.old) (O.contents out.new) }
 {
     let question = match question_in(alloc, port, words) {
         Ok(question) => question,
@@ -97,7 +102,8 @@ pub(crate) fn pair<M: Machine, O: Write, E: Write>(
     out: &mut O,
     err: &mut E,
 ) -> Status
-    ensures { IsPair (OnPort M.is_bound M.Link.failures M.Link.calls) result (O.contents out.old) (O.contents out.new) }
+    ensures { IsPair (OnPort M.is_bound M.Link.failures M.Link.calls) (OnClock M.is_made M.Timer.told) result
+        (O.contents out.old) (O.contents out.new) }
 {
     let Some(bound) = machine.bind(0) else {
         return link_fault(err);

@@ -1,4 +1,6 @@
 //! What `bac answer` prints.
+ghost use Rattle.std.specs.Prelude.{None, ⊤};
+
 use crate::command::{OpenFiles, run};
 use crate::online::Machine;
 use bac_answer::answer_over;
@@ -9,6 +11,7 @@ use std::io;
 use std::process::Abort;
 use std::test::Fail;
 
+mod links;
 mod online;
 mod scripts;
 
@@ -310,6 +313,8 @@ impl OpenFiles for OneFile {
 struct Still;
 
 impl Clock for Still {
+    ghost told = { λ _. record { last = 0; all = None } };
+
     fn now(&mut self) -> u64 {
         0
     }
@@ -326,6 +331,8 @@ impl Machine for Refusing {
 
     ghost is_bound = { λ _ _ _. ⊥ };
 
+    ghost is_made = { λ _. ⊤ };
+
     fn bind(&self, _port: u16) -> Option<(UdpLink, [u8; 6])> {
         None
     }
@@ -340,6 +347,17 @@ fn runs(alloc: Global, line: &str, files: OneFile) -> Result<Printed, Fail> {
     runs_on(alloc, line, files, &Refusing)
 }
 
+/// The words of a command line, after the name of the program.
+fn words_of(alloc: Global, line: &str) -> Result<Vec<String>, Fail> {
+    let mut words = vec![in alloc; String::from_str(alloc, "bac")?]?;
+    for word in line.split(' ') {
+        if !word.is_empty() {
+            words.push(String::from_str(alloc, word)?)?;
+        }
+    }
+    Ok(words)
+}
+
 /// What the program prints for these words, and how it ends.
 fn runs_on<M: Machine>(
     alloc: Global,
@@ -347,12 +365,7 @@ fn runs_on<M: Machine>(
     files: OneFile,
     machine: &M,
 ) -> Result<Printed, Fail> {
-    let mut words = vec![in alloc; String::from_str(alloc, "bac")?]?;
-    for word in line.split(' ') {
-        if !word.is_empty() {
-            words.push(String::from_str(alloc, word)?)?;
-        }
-    }
+    let words = words_of(alloc, line)?;
     let mut out = Vec::new(alloc);
     let mut err = Vec::new(alloc);
     let status = run(alloc, &words, &files, machine, &mut out, &mut err);

@@ -1,11 +1,20 @@
-//! Clocks that never go back.
+//! Clocks that tell a node the moment.
+ghost use Rattle.std.specs.Prelude.{◌≡◌, ◌≤◌, IfOk};
+ghost use Rattle.bac_link.specs.Moments.{Told, with_moment};
+ghost use Rattle.bac_link.specs.Clocks.{latest_told, told_by};
+
 use std::io;
 use std::time::Instant;
 
-/// What tells a node the moment.
+/// What tells a node the moment. A clock may go back.
+///
+/// It knows the moment that it told last, and may tell all of them.
 pub trait Clock {
+    ghost told: { Self → Told };
+
     /// The moment, in milliseconds from any beginning.
-    fn now(&mut self) -> u64;
+    fn now(&mut self) -> u64
+        ensures tells { Self.told self.new ≡ with_moment (Self.told self.old) result };
 }
 
 /// The milliseconds since it was made, by the machine's clock that never goes back. Where that can't be read, the latest moment that it told.
@@ -18,7 +27,9 @@ pub struct MonotonicClock<'a, R> {
 
 impl<'a, R: std::time::Clock> MonotonicClock<'a, R> {
     /// A clock that begins at 0; an Err where the machine's clock can't be read.
-    pub fn new(runtime: &'a R) -> io::Result<MonotonicClock<'a, R>> {
+    pub fn new(runtime: &'a R) -> io::Result<MonotonicClock<'a, R>>
+        ensures { IfOk result (λ c. latest_told c ≡ 0) }
+    {
         let start = Instant::now(runtime)?;
         Ok(MonotonicClock {
             runtime,
@@ -29,7 +40,13 @@ impl<'a, R: std::time::Clock> MonotonicClock<'a, R> {
 }
 
 impl<'a, R: std::time::Clock> Clock for MonotonicClock<'a, R> {
-    fn now(&mut self) -> u64 {
+    ghost told = { told_by };
+
+    fn now(&mut self) -> u64
+        ensures tells { told_by self.new ≡ with_moment (told_by self.old) result }
+        ensures onward { latest_told self.old ≤ result }
+        ensures latest { latest_told self.new ≡ result }
+    {
         if let Ok(now) = Instant::now(self.runtime) {
             let passed = now.duration_since(self.start).as_millis();
             self.latest = self.latest.max(u64::try_from(passed).unwrap_or(u64::MAX));

@@ -3,6 +3,7 @@ use Rattle.std.proofs.Common.{◌≡◌, ℕ, Bool, List, Option, ◌&&◌, subs
 use Rattle.std.specs.Io.KnownBytes.{Appends}
 use Rattle.bac_protocol.specs.Service.{Octets}
 use Rattle.bac_link.specs.Calls.{Calls}
+use Rattle.bac_link.specs.Moments.{Told}
 use Rattle.bac_world.specs.Node.{Node}
 use Rattle.bac_turns.specs.Turns.{on_link}
 use Rattle.bac_text.specs.Statuses.{IsFailure}
@@ -16,46 +17,46 @@ use Rattle.bac_run.specs.declared.question.AskEnd.{AskEnd}
 use Rattle.bac_online.specs.Houses.{house_node}
 use Rattle.bac_online.specs.Pairs.{PairText, ReportsPair, TwoTexts, append_request, read_request}
 use Rattle.bac_online.specs.Questions.{question_for}
-use Rattle.bac_online.specs.Reports.{AskedText, ReportsAsking, ReportsServing, ServedText, end_line, is_answered, served_line}
+use Rattle.bac_online.specs.Reports.{AskedText, Beside, ReportsAsking, ReportsServing, ServedText, end_line, is_answered, node_beside, served_line}
 
-pub served_text : (address : Octets) (turns f g effects : ℕ) (k l : Calls) (node new : Node) (old after : Option (List ℕ))
-    → node ≡ house_node address → Serves turns effects (on_link node f k) (on_link new g l) → Appends old after (served_line effects)
-    → ServedText address turns f g k l old after
-served_text address turns f g effects k l node new old after is serves printed =
+pub served_text : (address : Octets) (turns effects : ℕ) (b c : Beside) (node new : Node) (old after : Option (List ℕ))
+    → node ≡ house_node address → Serves turns effects (node_beside node b) (node_beside new c) → Appends old after (served_line effects)
+    → ServedText address turns b c old after
+served_text address turns effects b c node new old after is serves printed =
     record {
       node = new;
       effects = effects;
-      serves = subst (λ (n : Node). Serves turns effects (on_link n f k) (on_link new g l)) is serves;
+      serves = subst (λ (n : Node). Serves turns effects (node_beside n b) (node_beside new c)) is serves;
       printed = printed;
     }
 
-pub asked_text : (answered : Bool) (address : Octets) (q : Question) (end : AskEnd) (f g : ℕ) (k l : Calls) (node new : Node) (old after : Option (List ℕ))
-    → node ≡ house_node address → AskingEnds q end 100000 (on_link node f k) (on_link new g l) → Appends old after (end_line end)
-    → answered ≡ is_answered end → AskedText answered address q f g k l old after
-asked_text answered address q end f g k l node new old after is ends printed told =
+pub asked_text : (answered : Bool) (address : Octets) (q : Question) (end : AskEnd) (b c : Beside) (node new : Node) (old after : Option (List ℕ))
+    → node ≡ house_node address → AskingEnds q end 100000 (node_beside node b) (node_beside new c) → Appends old after (end_line end)
+    → answered ≡ is_answered end → AskedText answered address q b c old after
+asked_text answered address q end b c node new old after is ends printed told =
     record {
       node = new;
       end = end;
-      ends = subst (λ (n : Node). AskingEnds q end 100000 (on_link n f k) (on_link new g l)) is ends;
+      ends = subst (λ (n : Node). AskingEnds q end 100000 (node_beside n b) (node_beside new c)) is ends;
       printed = printed;
       is = sym told;
     }
 
-pub serving_failed : (s : Status) (address : Octets) (turns f g : ℕ) (k l : Calls) (old after : Option (List ℕ)) → IsFailure s
-    → ReportsServing s address turns f g k l old after
-serving_failed status.Done address turns f g k l old after failed = absurd failed
-serving_failed status.Faulty address turns f g k l old after failed = absurd failed
-serving_failed status.CommandLine address turns f g k l old after failed = absurd failed
-serving_failed status.Output address turns f g k l old after failed = tt
-serving_failed status.Memory address turns f g k l old after failed = tt
+pub serving_failed : (s : Status) (address : Octets) (turns : ℕ) (b c : Beside) (old after : Option (List ℕ)) → IsFailure s
+    → ReportsServing s address turns b c old after
+serving_failed status.Done address turns b c old after failed = absurd failed
+serving_failed status.Faulty address turns b c old after failed = absurd failed
+serving_failed status.CommandLine address turns b c old after failed = absurd failed
+serving_failed status.Output address turns b c old after failed = tt
+serving_failed status.Memory address turns b c old after failed = tt
 
-pub asking_failed : (s : Status) (address : Octets) (q : Question) (f g : ℕ) (k l : Calls) (old after : Option (List ℕ)) → IsFailure s
-    → ReportsAsking s address q f g k l old after
-asking_failed status.Done address q f g k l old after failed = absurd failed
-asking_failed status.Faulty address q f g k l old after failed = absurd failed
-asking_failed status.CommandLine address q f g k l old after failed = absurd failed
-asking_failed status.Output address q f g k l old after failed = tt
-asking_failed status.Memory address q f g k l old after failed = tt
+pub asking_failed : (s : Status) (address : Octets) (q : Question) (b c : Beside) (old after : Option (List ℕ)) → IsFailure s
+    → ReportsAsking s address q b c old after
+asking_failed status.Done address q b c old after failed = absurd failed
+asking_failed status.Faulty address q b c old after failed = absurd failed
+asking_failed status.CommandLine address q b c old after failed = absurd failed
+asking_failed status.Output address q b c old after failed = tt
+asking_failed status.Memory address q b c old after failed = tt
 
 pub pair_failed : (s : Status) (address other : Octets) (p : Pair) (old after : Option (List ℕ)) → IsFailure s → ReportsPair s address other p old after
 pair_failed status.Done address other p old after failed = absurd failed
@@ -85,10 +86,10 @@ both_texts answered appended read address other old middle new text between afte
       both = both;
     }
 
-pub at_houses : (answered : Bool) (address other : Octets) (node peer : Node) (f g : ℕ) (k l : Calls) (text after : Option (List ℕ))
+pub at_houses : (answered : Bool) (address other : Octets) (node peer : Node) (f g : ℕ) (k l : Calls) (t : Told) (text after : Option (List ℕ))
     → node ≡ house_node address → peer ≡ house_node other
-    → ((a : Octets) → TwoTexts answered a other (pair (on_link node f k) (on_link peer g l)) text after)
-    → TwoTexts answered address other (pair (on_link (house_node address) f k) (on_link (house_node other) g l)) text after
-at_houses answered address other node peer f g k l text after is is_peer told =
-    subst (λ (n : Node). TwoTexts answered address other (pair (on_link n f k) (on_link (house_node other) g l)) text after) is
-    (subst (λ (n : Node). TwoTexts answered address other (pair (on_link node f k) (on_link n g l)) text after) is_peer (told address))
+    → ((a : Octets) → TwoTexts answered a other (pair (on_link node f k) (on_link peer g l) t) text after)
+    → TwoTexts answered address other (pair (on_link (house_node address) f k) (on_link (house_node other) g l) t) text after
+at_houses answered address other node peer f g k l t text after is is_peer told =
+    subst (λ (n : Node). TwoTexts answered address other (pair (on_link n f k) (on_link (house_node other) g l) t) text after) is
+    (subst (λ (n : Node). TwoTexts answered address other (pair (on_link node f k) (on_link n g l) t) text after) is_peer (told address))

@@ -3,20 +3,34 @@ use Rattle.std.specs.Prelude.{◌≡◌, ℕ, Bool, true, false, List, ◌++◌,
 use Rattle.std.specs.Io.KnownBytes.{Appends}
 use Rattle.bac_protocol.specs.Service.{Octets}
 use Rattle.bac_link.specs.Calls.{Calls}
+use Rattle.bac_link.specs.Moments.{Told}
 use Rattle.bac_requester.specs.Faults.{ask_fault_number}
 use Rattle.bac_client.specs.Views.{ending_view}
 use Rattle.bac_client.specs.declared.ending.Ending.{Ending}
 use Rattle.bac_client.specs.declared.ending.Ending.TheVariants as ending
 use Rattle.bac_world.specs.Node.{Node}
-use Rattle.bac_turns.specs.Turns.{on_link}
 use Rattle.bac_facts.specs.Texts.{ending_text, line_end, refused_line}
 use Rattle.bac_text.specs.declared.status.Status.{Status}
 use Rattle.bac_text.specs.declared.status.Status.TheVariants as status
 use Rattle.bac_run.specs.Asking.{AskingEnds, Question}
+use Rattle.bac_run.specs.Runs.{Timed, timed}
 use Rattle.bac_run.specs.Serving.{Serves}
 use Rattle.bac_run.specs.declared.question.AskEnd.{AskEnd}
 use Rattle.bac_run.specs.declared.question.AskEnd.TheVariants as end
 use Rattle.bac_online.specs.Houses.{house_node}
+
+-- the link and the clock beside a node: how many calls of the link failed, and which were made; what the clock has told
+pub record Beside : Type 0 where
+  pub failures : ℕ
+  pub calls : Calls
+  pub told : Told
+
+abbrev pub beside : (failures : ℕ) → Calls → Told → Beside
+beside failures calls told = record { failures = failures; calls = calls; told = told }
+
+-- a node with them
+abbrev pub node_beside : Node → Beside → Timed
+node_beside node b = timed node b.failures b.calls b.told
 
 -- ---- serving
 
@@ -24,19 +38,19 @@ abbrev pub served_line : (effects : ℕ) → List ℕ
 served_line effects = codes "served " ++ decimal effects ++ line_end
 
 -- a node of that address with the house store took so many turns, and how many requests it performed was printed
-pub record ServedText (address : Octets) (turns failures failures_after : ℕ) (calls calls_after : Calls) (old new : Option (List ℕ)) : Type 0 where
+pub record ServedText (address : Octets) (turns : ℕ) (before after : Beside) (old new : Option (List ℕ)) : Type 0 where
   pub node : Node
   pub effects : ℕ
-  pub serves : Serves turns effects (on_link (house_node address) failures calls) (on_link node failures_after calls_after)
+  pub serves : Serves turns effects (node_beside (house_node address) before) (node_beside node after)
   pub printed : Appends old new (served_line effects)
 
 -- by the status; where the link, the clock, the output or the memory failed it says nothing
-abbrev pub ReportsServing : Status → (address : Octets) → (turns failures failures_after : ℕ) → (calls calls_after : Calls) → (old new : Option (List ℕ)) → Type 0
-ReportsServing status.Done address turns f g k l old new = ServedText address turns f g k l old new
-ReportsServing status.Faulty address turns f g k l old new = ⊥
-ReportsServing status.CommandLine address turns f g k l old new = ⊥
-ReportsServing status.Output address turns f g k l old new = ⊤
-ReportsServing status.Memory address turns f g k l old new = ⊤
+abbrev pub ReportsServing : Status → (address : Octets) → (turns : ℕ) → (before after : Beside) → (old new : Option (List ℕ)) → Type 0
+ReportsServing status.Done address turns before after old new = ServedText address turns before after old new
+ReportsServing status.Faulty address turns before after old new = ⊥
+ReportsServing status.CommandLine address turns before after old new = ⊥
+ReportsServing status.Output address turns before after old new = ⊤
+ReportsServing status.Memory address turns before after old new = ⊤
 
 -- ---- asking
 
@@ -59,17 +73,16 @@ is_answered (end.Refused why) = false
 is_answered end.NoEnding = false
 
 -- a node of that address with the house store asked, for at most so many turns, and how that ended was printed
-pub record AskedText (answered : Bool) (address : Octets) (q : Question) (failures failures_after : ℕ) (calls calls_after : Calls)
-    (old new : Option (List ℕ)) : Type 0 where
+pub record AskedText (answered : Bool) (address : Octets) (q : Question) (before after : Beside) (old new : Option (List ℕ)) : Type 0 where
   pub node : Node
   pub end : AskEnd
-  pub ends : AskingEnds q end 100000 (on_link (house_node address) failures calls) (on_link node failures_after calls_after)
+  pub ends : AskingEnds q end 100000 (node_beside (house_node address) before) (node_beside node after)
   pub printed : Appends old new (end_line end)
   pub is : is_answered end ≡ answered
 
-abbrev pub ReportsAsking : Status → (address : Octets) → Question → (failures failures_after : ℕ) → (calls calls_after : Calls) → (old new : Option (List ℕ)) → Type 0
-ReportsAsking status.Done address q f g k l old new = AskedText true address q f g k l old new
-ReportsAsking status.Faulty address q f g k l old new = AskedText false address q f g k l old new
-ReportsAsking status.CommandLine address q f g k l old new = ⊥
-ReportsAsking status.Output address q f g k l old new = ⊤
-ReportsAsking status.Memory address q f g k l old new = ⊤
+abbrev pub ReportsAsking : Status → (address : Octets) → Question → (before after : Beside) → (old new : Option (List ℕ)) → Type 0
+ReportsAsking status.Done address q before after old new = AskedText true address q before after old new
+ReportsAsking status.Faulty address q before after old new = AskedText false address q before after old new
+ReportsAsking status.CommandLine address q before after old new = ⊥
+ReportsAsking status.Output address q before after old new = ⊤
+ReportsAsking status.Memory address q before after old new = ⊤

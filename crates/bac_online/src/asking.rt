@@ -2,7 +2,7 @@
 ghost use Rattle.std.specs.Prelude.{◌≡◌, IfOk, OnOk};
 ghost use Rattle.std.specs.Io.KnownBytes.{Appends};
 ghost use Rattle.bac_run.specs.Views.{question_view};
-ghost use Rattle.bac_online.specs.Reports.{AskedText, ReportsAsking, end_line, is_answer, is_answered};
+ghost use Rattle.bac_online.specs.Reports.{AskedText, ReportsAsking, beside, end_line, is_answer, is_answered};
 
 use crate::house_node::house_node;
 use crate::trouble::Trouble;
@@ -62,7 +62,8 @@ fn ask_and_print<L: Link, C: Clock, O: Write>(
     out: &mut O,
 ) -> Result<bool, Trouble>
     ensures { IfOk result (λ answered. AskedText answered address (question_view question.now)
-        (L.failures link.old) (L.failures link.new) (L.calls link.old) (L.calls link.new) (O.contents out.old) (O.contents out.new)) }
+        (beside (L.failures link.old) (L.calls link.old) (C.told clock.old)) (beside (L.failures link.new) (L.calls link.new) (C.told clock.new))
+        (O.contents out.old) (O.contents out.new)) }
 {
     let mut node = house_node(alloc, address)?;
     let end = ask_over(alloc, &mut node, link, clock, question, TURNS)?;
@@ -86,7 +87,8 @@ pub fn ask<L: Link, C: Clock, O: Write, E: Write>(
     err: &mut E,
 ) -> Status
     ensures { ReportsAsking result address (question_view question.now)
-        (L.failures link.old) (L.failures link.new) (L.calls link.old) (L.calls link.new) (O.contents out.old) (O.contents out.new) }
+        (beside (L.failures link.old) (L.calls link.old) (C.told clock.old)) (beside (L.failures link.new) (L.calls link.new) (C.told clock.new))
+        (O.contents out.old) (O.contents out.new) }
 {
     match ask_and_print(alloc, link, address, clock, question, out) {
         Ok(true) => Status::Done,

@@ -73,8 +73,10 @@ fn ask_other<L: Link, C: Clock, O: Write>(
     out: &mut O,
 ) -> Result<bool, Trouble>
     ensures { IfOk result (λ answered. PairText answered (question_view question.now)
-        (pair (on_link node.old (L.failures link.old) (L.calls link.old)) (on_link other.old (L.failures other_link.old) (L.calls other_link.old)))
-        (pair (on_link node.new (L.failures link.new) (L.calls link.new)) (on_link other.new (L.failures other_link.new) (L.calls other_link.new)))
+        (pair (on_link node.old (L.failures link.old) (L.calls link.old))
+        (on_link other.old (L.failures other_link.old) (L.calls other_link.old)) (C.told clock.old))
+        (pair (on_link node.new (L.failures link.new) (L.calls link.new))
+        (on_link other.new (L.failures other_link.new) (L.calls other_link.new)) (C.told clock.new))
         (O.contents out.old) (O.contents out.new)) }
 {
     let end = pair_over(alloc, node, link, other, other_link, clock, question, TURNS)?;
@@ -101,8 +103,10 @@ fn ask_append<L: Link, C: Clock, O: Write>(
     out: &mut O,
 ) -> Result<bool, Trouble>
     ensures { IfOk result (λ answered. PairText answered (question_for other_address append_request)
-        (pair (on_link node.old (L.failures link.old) (L.calls link.old)) (on_link other.old (L.failures other_link.old) (L.calls other_link.old)))
-        (pair (on_link node.new (L.failures link.new) (L.calls link.new)) (on_link other.new (L.failures other_link.new) (L.calls other_link.new)))
+        (pair (on_link node.old (L.failures link.old) (L.calls link.old))
+        (on_link other.old (L.failures other_link.old) (L.calls other_link.old)) (C.told clock.old))
+        (pair (on_link node.new (L.failures link.new) (L.calls link.new))
+        (on_link other.new (L.failures other_link.new) (L.calls other_link.new)) (C.told clock.new))
         (O.contents out.old) (O.contents out.new)) }
 {
     let question = question_for(other_address, append_request(alloc)?);
@@ -122,8 +126,10 @@ fn ask_read<L: Link, C: Clock, O: Write>(
     out: &mut O,
 ) -> Result<bool, Trouble>
     ensures { IfOk result (λ answered. PairText answered (question_for other_address read_request)
-        (pair (on_link node.old (L.failures link.old) (L.calls link.old)) (on_link other.old (L.failures other_link.old) (L.calls other_link.old)))
-        (pair (on_link node.new (L.failures link.new) (L.calls link.new)) (on_link other.new (L.failures other_link.new) (L.calls other_link.new)))
+        (pair (on_link node.old (L.failures link.old) (L.calls link.old))
+        (on_link other.old (L.failures other_link.old) (L.calls other_link.old)) (C.told clock.old))
+        (pair (on_link node.new (L.failures link.new) (L.calls link.new))
+        (on_link other.new (L.failures other_link.new) (L.calls other_link.new)) (C.told clock.new))
         (O.contents out.old) (O.contents out.new)) }
 {
     let question = question_for(other_address, read_request());
@@ -143,7 +149,8 @@ fn ask_both<L: Link, C: Clock, O: Write>(
     out: &mut O,
 ) -> Result<bool, Trouble>
     ensures { IfOk result (λ answered. (address : Octets) → TwoTexts answered address other_address
-        (pair (on_link node.old (L.failures link.old) (L.calls link.old)) (on_link other.old (L.failures other_link.old) (L.calls other_link.old)))
+        (pair (on_link node.old (L.failures link.old) (L.calls link.old))
+        (on_link other.old (L.failures other_link.old) (L.calls other_link.old)) (C.told clock.old))
         (O.contents out.old) (O.contents out.new)) }
 {
     let first = ask_append(
@@ -181,7 +188,7 @@ fn ask_twice<L: Link, C: Clock, O: Write>(
 ) -> Result<bool, Trouble>
     ensures { IfOk result (λ answered. TwoTexts answered address other_address
         (pair (on_link (house_node address) (L.failures link.old) (L.calls link.old))
-        (on_link (house_node other_address) (L.failures other_link.old) (L.calls other_link.old)))
+        (on_link (house_node other_address) (L.failures other_link.old) (L.calls other_link.old)) (C.told clock.old))
         (O.contents out.old) (O.contents out.new)) }
 {
     let mut node = house_node(alloc, address)?;
@@ -216,7 +223,7 @@ pub fn pair<L: Link, C: Clock, O: Write, E: Write>(
 ) -> Status
     ensures { ReportsPair result address other_address
         (pair (on_link (house_node address) (L.failures link.old) (L.calls link.old))
-        (on_link (house_node other_address) (L.failures other_link.old) (L.calls other_link.old)))
+        (on_link (house_node other_address) (L.failures other_link.old) (L.calls other_link.old)) (C.told clock.old))
         (O.contents out.old) (O.contents out.new) }
 {
     match ask_twice(alloc, link, address, other_link, other_address, clock, out) {

@@ -1,6 +1,6 @@
 //! `bac serve`: a node that serves.
 ghost use Rattle.std.specs.Prelude.{IfOk};
-ghost use Rattle.bac_online.specs.Reports.{ReportsServing, ServedText};
+ghost use Rattle.bac_online.specs.Reports.{ReportsServing, ServedText, beside};
 
 use crate::house_node::house_node;
 use crate::trouble::Trouble;
@@ -18,8 +18,8 @@ fn serve_and_print<L: Link, C: Clock, O: Write>(
     turns: u64,
     out: &mut O,
 ) -> Result<(), Trouble>
-    ensures { IfOk result (λ _. ServedText address turns (L.failures link.old) (L.failures link.new) (L.calls link.old) (L.calls link.new)
-        (O.contents out.old) (O.contents out.new)) }
+    ensures { IfOk result (λ _. ServedText address turns (beside (L.failures link.old) (L.calls link.old) (C.told clock.old))
+        (beside (L.failures link.new) (L.calls link.new) (C.told clock.new)) (O.contents out.old) (O.contents out.new)) }
 {
     let mut node = house_node(alloc, address)?;
     let effects = serve_over(alloc, &mut node, link, clock, turns)?;
@@ -41,8 +41,8 @@ pub fn serve<L: Link, C: Clock, O: Write, E: Write>(
     out: &mut O,
     err: &mut E,
 ) -> Status
-    ensures { ReportsServing result address turns (L.failures link.old) (L.failures link.new) (L.calls link.old) (L.calls link.new)
-        (O.contents out.old) (O.contents out.new) }
+    ensures { ReportsServing result address turns (beside (L.failures link.old) (L.calls link.old) (C.told clock.old))
+        (beside (L.failures link.new) (L.calls link.new) (C.told clock.new)) (O.contents out.old) (O.contents out.new) }
 {
     match serve_and_print(alloc, link, address, clock, turns, out) {
         Ok(()) => Status::Done,

@@ -2,6 +2,8 @@
 ghost use Rattle.std.specs.Prelude.{◌≡◌};
 ghost use Rattle.bac_text.specs.Statuses.{IsFailure};
 ghost use Rattle.bac_text.specs.declared.status.Status.TheVariants as status;
+ghost use Rattle.bac_online.specs.Troubles.{IsToldBy, trouble_of};
+ghost use Rattle.bac_online.specs.declared.trouble.Trouble.TheVariants as trouble;
 
 use bac_run::RunFault;
 use bac_text::{Status, complain, no_memory, output_failed};
@@ -35,7 +37,8 @@ pub fn clock_fault<E: Write>(err: &mut E) -> Status
 impl Trouble {
     /// Complains of it.
     pub(crate) fn tell<E: Write>(self, err: &mut E) -> Status
-        ensures { IsFailure result }
+        ensures told { IsToldBy self result }
+        ensures failed { IsFailure result }
     {
         match self {
             Trouble::Link => link_fault(err),
@@ -47,6 +50,8 @@ impl Trouble {
 }
 
 impl From<RunFault> for Trouble {
+    ghost from_gives = { λ f t. t ≡ trouble_of f };
+
     fn from(fault: RunFault) -> Trouble {
         match fault {
             RunFault::Link => Trouble::Link,
@@ -57,12 +62,16 @@ impl From<RunFault> for Trouble {
 }
 
 impl From<NoMemory> for Trouble {
+    ghost from_gives = { λ _ t. t ≡ trouble.Memory };
+
     fn from(_error: NoMemory) -> Trouble {
         Trouble::Memory
     }
 }
 
 impl From<io::Error> for Trouble {
+    ghost from_gives = { λ e t. t ≡ trouble.Output e };
+
     fn from(error: io::Error) -> Trouble {
         Trouble::Output(error)
     }

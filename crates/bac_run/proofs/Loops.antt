@@ -1,17 +1,19 @@
 -- What a loop over turns keeps, and what follows where it ends.
-use Rattle.std.proofs.Common.{◌≡◌, ℕ, suc, ◌+◌, ◌<◌, Bool, true, false, ◌==◌, if◌then◌else◌, List, [], ◌∷◌, ◌++◌, Option, Some, None, refl, ap, sym, arith, add-one}
+use Rattle.std.proofs.Common.{◌≡◌, ℕ, suc, ◌+◌, ◌<◌, Bool, true, false, ◌==◌, if◌then◌else◌, List, [], ◌∷◌, ◌++◌, Option, Some, None}
+use Rattle.std.proofs.Common.{refl, ap, sym, arith, add-one}
 use Rattle.std.specs.Option.{option_map}
 use Rattle.bac_ends.specs.Meanings.{Ending, Finish}
-use Rattle.bac_turns.specs.Turns.{OnLink, Turn}
+use Rattle.bac_turns.specs.Turns.{Turn}
+use Rattle.bac_run.specs.Runs.{Timed}
 use Rattle.bac_run.specs.Serving.{Serves, ServesOnce, StopsServing}
 use Rattle.bac_run.specs.Asking.{EndsIn, NeverEnds, Stops, ending_in, ending_of}
 
 -- ---- serving
 
-pub none_served : (old : OnLink) → Serves 0 0 old old
+pub none_served : (old : Timed) → Serves 0 0 old old
 none_served old = record { taken = []; all = refl; run = refl; counted = refl }
 
-pub one_more_served : (turns effects more : ℕ) (old middle new : OnLink) → Serves turns effects old middle → ServesOnce more middle new
+pub one_more_served : (turns effects more : ℕ) (old middle new : Timed) → Serves turns effects old middle → ServesOnce more middle new
     → Serves (turns + 1) (effects + more) old new
 one_more_served turns effects more old middle new before once =
     record {
@@ -21,7 +23,7 @@ one_more_served turns effects more old middle new before once =
       counted = let a = before.counted in let b = once.counted in omega arith;
     }
 
-pub stops_serving : (turns all effects : ℕ) (fails : OnLink → OnLink → Type 0) (old middle new : OnLink) → turns < all → Serves turns effects old middle
+pub stops_serving : (turns all effects : ℕ) (fails : Timed → Timed → Type 0) (old middle new : Timed) → turns < all → Serves turns effects old middle
     → fails middle new → StopsServing all fails old new
 stops_serving turns all effects fails old middle new fewer before failed =
     record { taken = before.taken; fewer = let is = before.all in omega arith; middle = middle; run = before.run; failed = failed }

@@ -8,14 +8,15 @@ use Rattle.bac_requester.specs.declared.ask_fault.AskFault.TheVariants as ask_fa
 use Rattle.bac_ends.specs.Ends.{Accepted}
 use Rattle.bac_ends.specs.Meanings.{Ending, Finish}
 use Rattle.bac_ends.specs.Sends.{Datagram}
-use Rattle.bac_world.specs.Node.{Node, NodeAsks}
+use Rattle.bac_world.specs.Node.{NodeAsks}
 use Rattle.bac_node.specs.Calls.{Refuses}
-use Rattle.bac_turns.specs.Turns.{OnLink, Turn, call_of, counted, with_calls}
+use Rattle.bac_link.specs.Moments.{with_moment}
+use Rattle.bac_turns.specs.Turns.{Turn, call_of, counted, with_calls}
 use Rattle.bac_client.specs.Views.{ending_view}
 use Rattle.bac_client.specs.declared.ending.Ending as how
 use Rattle.bac_turns.specs.declared.turn.TurnFault.{TurnFault}
 use Rattle.bac_turns.specs.declared.turn.TurnFault.TheVariants as turn_fault
-use Rattle.bac_run.specs.Runs.{CannotReceive, GoesBack, Run, TakesTurn}
+use Rattle.bac_run.specs.Runs.{CannotReceive, GoesBack, Run, TakesTurn, Timed}
 use Rattle.bac_run.specs.declared.fault.RunFault.{RunFault}
 use Rattle.bac_run.specs.declared.fault.RunFault.TheVariants as fault
 use Rattle.bac_run.specs.declared.question.AskEnd.{AskEnd}
@@ -29,23 +30,28 @@ pub record Question : Type 0 where
 
 -- ---- the ask
 
--- the ask was accepted, and what it sends went to the link
-pub record Asks (q : Question) (old : OnLink) (ticket : ℕ) (new : OnLink) : Type 0 where
+-- the ask was accepted at the moment that the clock told, and what it sends went to the link
+pub record Asks (q : Question) (old : Timed) (ticket : ℕ) (new : Timed) : Type 0 where
   pub now : ℕ
+  pub told : new.told ≡ with_moment old.told now
+  pub timely : old.on.node.latest ≤ now
   pub accepted : Accepted
   pub sends : List Datagram
-  pub asks : NodeAsks now q.peer q.limits q.request old.node new.node accepted sends
+  pub asks : NodeAsks now q.peer q.limits q.request old.on.node new.on.node accepted sends
   pub ticket_is : ticket ≡ accepted.ticket
-  pub order : new.calls ≡ with_calls old.calls (map call_of sends)
+  pub order : new.on.calls ≡ with_calls old.on.calls (map call_of sends)
   pub lost : ℕ
-  pub count : new.failures ≡ counted old.failures lost
+  pub count : new.on.failures ≡ counted old.on.failures lost
   pub most : lost ≤ length sends
 
--- the node refused it, at some moment; a clock that goes back is no refusal
-pub record IsRefused (q : Question) (why : AskFault) (old : Node) : Type 0 where
+-- the node refused it at that moment, and nothing else has changed; a clock that goes back is no refusal
+pub record IsRefused (q : Question) (why : AskFault) (old new : Timed) : Type 0 where
   pub now : ℕ
+  pub told : new.told ≡ with_moment old.told now
+  pub timely : old.on.node.latest ≤ now
   pub other : why ≢ ask_fault.ClockBack
-  pub refuses : Refuses why now q.peer q.limits q.request old
+  pub refuses : Refuses why now q.peer q.limits q.request old.on.node
+  pub same : new.on ≡ old.on
 
 -- ---- the turns
 
@@ -112,18 +118,18 @@ abbrev pub own_turn : Turn → Turn
 own_turn turn = turn
 
 -- why waiting stopped
-abbrev pub WaitingFails : TurnFault → (turns ticket : ℕ) → (old new : OnLink) → Type 0
+abbrev pub WaitingFails : TurnFault → (turns ticket : ℕ) → (old new : Timed) → Type 0
 WaitingFails turn_fault.Link turns ticket old new = Stops TakesTurn own_turn turns CannotReceive ticket old new
 WaitingFails turn_fault.ClockBack turns ticket old new = Stops TakesTurn own_turn turns GoesBack ticket old new
 
 -- how asking ended
-abbrev pub AskingEnds : Question → AskEnd → (turns : ℕ) → (old new : OnLink) → Type 0
+abbrev pub AskingEnds : Question → AskEnd → (turns : ℕ) → (old new : Timed) → Type 0
 AskingEnds q (end.Ended how) turns old new = Begins (Asks q) (EndsIn TakesTurn own_turn turns (ending_view how)) old new
-AskingEnds q (end.Refused why) turns old new = IsRefused q why old.node × (new ≡ old)
+AskingEnds q (end.Refused why) turns old new = IsRefused q why old new
 AskingEnds q end.NoEnding turns old new = Begins (Asks q) (NeverEnds TakesTurn own_turn turns) old new
 
 -- why asking stopped
-abbrev pub AskingFails : Question → RunFault → (turns : ℕ) → (old new : OnLink) → Type 0
+abbrev pub AskingFails : Question → RunFault → (turns : ℕ) → (old new : Timed) → Type 0
 AskingFails q fault.Link turns old new = Begins (Asks q) (Stops TakesTurn own_turn turns CannotReceive) old new
 AskingFails q fault.ClockBack turns old new = GoesBack old new ⊎ Begins (Asks q) (Stops TakesTurn own_turn turns GoesBack) old new
 AskingFails q fault.NoMemory turns old new = new ≡ old

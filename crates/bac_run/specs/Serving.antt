@@ -1,10 +1,10 @@
 -- A node serves: it takes so many turns.
 use Rattle.std.specs.Prelude.{◌≡◌, ◌<◌, ◌+◌, ℕ, List, [], ◌∷◌, length, Option, Some, None}
 use Rattle.bac_world.specs.Services.{Performed}
-use Rattle.bac_turns.specs.Turns.{OnLink, Turn}
+use Rattle.bac_turns.specs.Turns.{Turn}
 use Rattle.bac_turns.specs.declared.turn.TurnFault.{TurnFault}
 use Rattle.bac_turns.specs.declared.turn.TurnFault.TheVariants as turn_fault
-use Rattle.bac_run.specs.Runs.{CannotReceive, GoesBack, Run, TakesTurn}
+use Rattle.bac_run.specs.Runs.{CannotReceive, GoesBack, Run, TakesTurn, Timed}
 use Rattle.bac_run.specs.declared.fault.RunFault.{RunFault}
 use Rattle.bac_run.specs.declared.fault.RunFault.TheVariants as fault
 
@@ -19,33 +19,33 @@ performed_in [] = 0
 performed_in (turn ∷ turns) = performed_in turns + count_of turn.performed
 
 -- one turn, in which so many requests were performed
-pub record ServesOnce (effects : ℕ) (old new : OnLink) : Type 0 where
+pub record ServesOnce (effects : ℕ) (old new : Timed) : Type 0 where
   pub turn : Turn
   pub takes : TakesTurn old turn new
   pub counted : effects ≡ count_of turn.performed
 
 -- so many turns were taken, and so many requests performed
-pub record Serves (turns effects : ℕ) (old new : OnLink) : Type 0 where
+pub record Serves (turns effects : ℕ) (old new : Timed) : Type 0 where
   pub taken : List Turn
   pub all : length taken ≡ turns
   pub run : Run TakesTurn taken old new
   pub counted : effects ≡ performed_in taken
 
 -- after fewer turns, this happened
-pub record StopsServing (turns : ℕ) (fails : OnLink → OnLink → Type 0) (old new : OnLink) : Type 0 where
+pub record StopsServing (turns : ℕ) (fails : Timed → Timed → Type 0) (old new : Timed) : Type 0 where
   pub taken : List Turn
   pub fewer : length taken < turns
-  pub middle : OnLink
+  pub middle : Timed
   pub run : Run TakesTurn taken old middle
   pub failed : fails middle new
 
 -- why a turn was not taken
-abbrev pub TurnsFail : TurnFault → (turns : ℕ) → (old new : OnLink) → Type 0
+abbrev pub TurnsFail : TurnFault → (turns : ℕ) → (old new : Timed) → Type 0
 TurnsFail turn_fault.Link turns old new = StopsServing turns CannotReceive old new
 TurnsFail turn_fault.ClockBack turns old new = StopsServing turns GoesBack old new
 
 -- why serving stopped
-abbrev pub ServingFails : RunFault → (turns : ℕ) → (old new : OnLink) → Type 0
+abbrev pub ServingFails : RunFault → (turns : ℕ) → (old new : Timed) → Type 0
 ServingFails fault.Link turns old new = StopsServing turns CannotReceive old new
 ServingFails fault.ClockBack turns old new = StopsServing turns GoesBack old new
 ServingFails fault.NoMemory turns old new = new ≡ old

@@ -1,13 +1,8 @@
 //! A node that asks.
-ghost use Rattle.std.specs.Prelude.{◌≡◌, ◌↔◌, ◌<◌, IfOk, IfErr, IsErrOf, OnErr, length};
-ghost use Rattle.bac_npdu.specs.Views.{peer_view};
-ghost use Rattle.bac_apdu.specs.Views.{limits_view};
-ghost use Rattle.bac_service.specs.Views.{owned_request_view};
-ghost use Rattle.bac_node.specs.Calls.{Refuses};
-ghost use Rattle.bac_turns.specs.Turns.{on_link};
+ghost use Rattle.std.specs.Prelude.{◌≡◌, ◌≢◌, IfOk, IfErr, IsErrOf, length};
 ghost use Rattle.bac_turns.specs.Views.{turn_view};
-ghost use Rattle.bac_run.specs.Runs.{BUFFER, TakesTurn, TurnFails};
-ghost use Rattle.bac_run.specs.Asking.{Asks, AskingEnds, AskingFails, WaitingFails, Waits, own_turn};
+ghost use Rattle.bac_run.specs.Runs.{BUFFER, GoesBack, TakesTurn, TurnFails, timed};
+ghost use Rattle.bac_run.specs.Asking.{Asks, AskingEnds, AskingFails, IsRefused, WaitingFails, Waits, own_turn};
 ghost use Rattle.bac_run.specs.Views.{question_view};
 
 use crate::buffer::buffer;
@@ -21,21 +16,24 @@ use bac_requester::AskFault;
 use bac_turns::{Turn, TurnFault, send_all, take_turn};
 use std::alloc::Global;
 
-/// The node asks, and what it sends goes to the link. Answers the ticket's number.
-pub(crate) fn begin<L: Link>(
+/// The node asks at the moment that a clock tells, and what it sends goes to the link. Answers the ticket's number.
+pub(crate) fn begin<L: Link, C: Clock>(
     node: &mut Node,
     link: &mut L,
-    now: u64,
+    clock: &mut C,
     question: &Question,
 ) -> Result<u64, AskFault>
     ensures begun { IfOk result (λ ticket. Asks (question_view question.now)
-        (on_link node.old (L.failures link.old) (L.calls link.old)) ticket (on_link node.new (L.failures link.new) (L.calls link.new))) }
-    ensures refused { IfErr result (λ e. Refuses e now (peer_view question.now.peer) (limits_view question.now.limits)
-        (owned_request_view question.now.request) node.old) }
-    ensures early { IsErrOf result AskFault.ClockBack ↔ (now < node.old.latest) }
-    ensures err { OnErr result (node.new ≡ node.old) }
-    ensures unsent { OnErr result (link.new ≡ link.old) }
+        (timed node.old (L.failures link.old) (L.calls link.old) (C.told clock.old)) ticket
+        (timed node.new (L.failures link.new) (L.calls link.new) (C.told clock.new))) }
+    ensures refused { IfErr result (λ e. e ≢ AskFault.ClockBack → IsRefused (question_view question.now) e
+        (timed node.old (L.failures link.old) (L.calls link.old) (C.told clock.old))
+        (timed node.new (L.failures link.new) (L.calls link.new) (C.told clock.new))) }
+    ensures back { IsErrOf result AskFault.ClockBack → GoesBack
+        (timed node.old (L.failures link.old) (L.calls link.old) (C.told clock.old))
+        (timed node.new (L.failures link.new) (L.calls link.new) (C.told clock.new)) }
 {
+    let now = clock.now();
     match node.ask(now, &question.peer, &question.limits, &question.request) {
         Ok(asked) => {
             send_all(link, &asked.sends);
@@ -46,20 +44,22 @@ pub(crate) fn begin<L: Link>(
 }
 
 /// One turn, at the moment that a clock tells.
-pub(crate) fn take_one<L: Link>(
+pub(crate) fn take_one<L: Link, C: Clock>(
     alloc: Global,
     node: &mut Node,
     link: &mut L,
-    now: u64,
+    clock: &mut C,
     buffer: &mut [u8],
 ) -> Result<Turn, TurnFault>
     requires { length buffer.old ≡ BUFFER }
     ensures taken { IfOk result (λ t. TakesTurn
-        (on_link node.old (L.failures link.old) (L.calls link.old)) (turn_view t) (on_link node.new (L.failures link.new) (L.calls link.new))) }
+        (timed node.old (L.failures link.old) (L.calls link.old) (C.told clock.old)) (turn_view t)
+        (timed node.new (L.failures link.new) (L.calls link.new) (C.told clock.new))) }
     ensures failed { IfErr result (λ e. TurnFails e
-        (on_link node.old (L.failures link.old) (L.calls link.old)) (on_link node.new (L.failures link.new) (L.calls link.new))) }
+        (timed node.old (L.failures link.old) (L.calls link.old) (C.told clock.old))
+        (timed node.new (L.failures link.new) (L.calls link.new) (C.told clock.new))) }
 {
-    take_turn(alloc, node, link, now, buffer)
+    take_turn(alloc, node, link, clock.now(), buffer)
 }
 
 /// Takes turns until the ticket has ended, but no more than so many.
@@ -74,12 +74,14 @@ fn wait<L: Link, C: Clock>(
 ) -> Result<Option<Ending>, TurnFault>
     requires { length buffer.old ≡ BUFFER }
     ensures waited { IfOk result (Waits TakesTurn own_turn turns ticket
-        (on_link node.old (L.failures link.old) (L.calls link.old)) (on_link node.new (L.failures link.new) (L.calls link.new))) }
+        (timed node.old (L.failures link.old) (L.calls link.old) (C.told clock.old))
+        (timed node.new (L.failures link.new) (L.calls link.new) (C.told clock.new))) }
     ensures failed { IfErr result (λ e. WaitingFails e turns ticket
-        (on_link node.old (L.failures link.old) (L.calls link.old)) (on_link node.new (L.failures link.new) (L.calls link.new))) }
+        (timed node.old (L.failures link.old) (L.calls link.old) (C.told clock.old))
+        (timed node.new (L.failures link.new) (L.calls link.new) (C.told clock.new))) }
 {
     for _ in 0..turns {
-        let turn = take_one(alloc, node, link, clock.now(), buffer)?;
+        let turn = take_one(alloc, node, link, clock, buffer)?;
         if let Some(ending) = ending_in(turn, ticket) {
             return Ok(Some(ending));
         }
@@ -100,12 +102,14 @@ pub fn ask_over<L: Link, C: Clock>(
     turns: u64,
 ) -> Result<AskEnd, RunFault>
     ensures ended { IfOk result (λ end. AskingEnds (question_view question.now) end turns
-        (on_link node.old (L.failures link.old) (L.calls link.old)) (on_link node.new (L.failures link.new) (L.calls link.new))) }
+        (timed node.old (L.failures link.old) (L.calls link.old) (C.told clock.old))
+        (timed node.new (L.failures link.new) (L.calls link.new) (C.told clock.new))) }
     ensures failed { IfErr result (λ e. AskingFails (question_view question.now) e turns
-        (on_link node.old (L.failures link.old) (L.calls link.old)) (on_link node.new (L.failures link.new) (L.calls link.new))) }
+        (timed node.old (L.failures link.old) (L.calls link.old) (C.told clock.old))
+        (timed node.new (L.failures link.new) (L.calls link.new) (C.told clock.new))) }
 {
     let mut buffer = buffer(alloc)?;
-    let ticket = match begin(node, link, clock.now(), question) {
+    let ticket = match begin(node, link, clock, question) {
         Ok(ticket) => ticket,
         Err(AskFault::ClockBack) => return Err(RunFault::ClockBack),
         Err(fault) => return Ok(AskEnd::Refused(fault)),

@@ -31,14 +31,18 @@ fn take_round<L: Link, C: Clock>(
 ) -> Result<Turn, TurnFault>
     requires { length buffer.old ≡ BUFFER }
     ensures taken { IfOk result (λ t. RoundGives (turn_view t)
-        (pair (on_link node.old (L.failures link.old) (L.calls link.old)) (on_link other.old (L.failures other_link.old) (L.calls other_link.old)))
-        (pair (on_link node.new (L.failures link.new) (L.calls link.new)) (on_link other.new (L.failures other_link.new) (L.calls other_link.new)))) }
+        (pair (on_link node.old (L.failures link.old) (L.calls link.old)) (on_link other.old (L.failures other_link.old) (L.calls other_link.old))
+        (C.told clock.old))
+        (pair (on_link node.new (L.failures link.new) (L.calls link.new)) (on_link other.new (L.failures other_link.new) (L.calls other_link.new))
+        (C.told clock.new))) }
     ensures failed { IfErr result (λ e. RoundFails e
-        (pair (on_link node.old (L.failures link.old) (L.calls link.old)) (on_link other.old (L.failures other_link.old) (L.calls other_link.old)))
-        (pair (on_link node.new (L.failures link.new) (L.calls link.new)) (on_link other.new (L.failures other_link.new) (L.calls other_link.new)))) }
+        (pair (on_link node.old (L.failures link.old) (L.calls link.old)) (on_link other.old (L.failures other_link.old) (L.calls other_link.old))
+        (C.told clock.old))
+        (pair (on_link node.new (L.failures link.new) (L.calls link.new)) (on_link other.new (L.failures other_link.new) (L.calls other_link.new))
+        (C.told clock.new))) }
 {
-    let turn = take_one(alloc, node, link, clock.now(), buffer)?;
-    take_one(alloc, other, other_link, clock.now(), buffer)?;
+    let turn = take_one(alloc, node, link, clock, buffer)?;
+    take_one(alloc, other, other_link, clock, buffer)?;
     Ok(turn)
 }
 
@@ -56,11 +60,15 @@ fn wait<L: Link, C: Clock>(
 ) -> Result<Option<Ending>, TurnFault>
     requires { length buffer.old ≡ BUFFER }
     ensures waited { IfOk result (Waits TakesRound turn_of_first turns ticket
-        (pair (on_link node.old (L.failures link.old) (L.calls link.old)) (on_link other.old (L.failures other_link.old) (L.calls other_link.old)))
-        (pair (on_link node.new (L.failures link.new) (L.calls link.new)) (on_link other.new (L.failures other_link.new) (L.calls other_link.new)))) }
+        (pair (on_link node.old (L.failures link.old) (L.calls link.old)) (on_link other.old (L.failures other_link.old) (L.calls other_link.old))
+        (C.told clock.old))
+        (pair (on_link node.new (L.failures link.new) (L.calls link.new)) (on_link other.new (L.failures other_link.new) (L.calls other_link.new))
+        (C.told clock.new))) }
     ensures failed { IfErr result (λ e. RoundsFail e turns ticket
-        (pair (on_link node.old (L.failures link.old) (L.calls link.old)) (on_link other.old (L.failures other_link.old) (L.calls other_link.old)))
-        (pair (on_link node.new (L.failures link.new) (L.calls link.new)) (on_link other.new (L.failures other_link.new) (L.calls other_link.new)))) }
+        (pair (on_link node.old (L.failures link.old) (L.calls link.old)) (on_link other.old (L.failures other_link.old) (L.calls other_link.old))
+        (C.told clock.old))
+        (pair (on_link node.new (L.failures link.new) (L.calls link.new)) (on_link other.new (L.failures other_link.new) (L.calls other_link.new))
+        (C.told clock.new))) }
 {
     for _ in 0..turns {
         let turn = take_round(alloc, node, link, other, other_link, clock, buffer)?;
@@ -83,14 +91,18 @@ pub fn pair_over<L: Link, C: Clock>(
     turns: u64,
 ) -> Result<AskEnd, RunFault>
     ensures ended { IfOk result (λ end. PairEnds (question_view question.now) end turns
-        (pair (on_link node.old (L.failures link.old) (L.calls link.old)) (on_link other.old (L.failures other_link.old) (L.calls other_link.old)))
-        (pair (on_link node.new (L.failures link.new) (L.calls link.new)) (on_link other.new (L.failures other_link.new) (L.calls other_link.new)))) }
+        (pair (on_link node.old (L.failures link.old) (L.calls link.old)) (on_link other.old (L.failures other_link.old) (L.calls other_link.old))
+        (C.told clock.old))
+        (pair (on_link node.new (L.failures link.new) (L.calls link.new)) (on_link other.new (L.failures other_link.new) (L.calls other_link.new))
+        (C.told clock.new))) }
     ensures failed { IfErr result (λ e. PairFails (question_view question.now) e turns
-        (pair (on_link node.old (L.failures link.old) (L.calls link.old)) (on_link other.old (L.failures other_link.old) (L.calls other_link.old)))
-        (pair (on_link node.new (L.failures link.new) (L.calls link.new)) (on_link other.new (L.failures other_link.new) (L.calls other_link.new)))) }
+        (pair (on_link node.old (L.failures link.old) (L.calls link.old)) (on_link other.old (L.failures other_link.old) (L.calls other_link.old))
+        (C.told clock.old))
+        (pair (on_link node.new (L.failures link.new) (L.calls link.new)) (on_link other.new (L.failures other_link.new) (L.calls other_link.new))
+        (C.told clock.new))) }
 {
     let mut buffer = buffer(alloc)?;
-    let ticket = match begin(node, link, clock.now(), question) {
+    let ticket = match begin(node, link, clock, question) {
         Ok(ticket) => ticket,
         Err(AskFault::ClockBack) => return Err(RunFault::ClockBack),
         Err(fault) => return Ok(AskEnd::Refused(fault)),

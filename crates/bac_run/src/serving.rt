@@ -1,7 +1,6 @@
 //! A node that serves.
 ghost use Rattle.std.specs.Prelude.{◌≡◌, ◌≤◌, IfOk, IfErr, length};
-ghost use Rattle.bac_turns.specs.Turns.{on_link};
-ghost use Rattle.bac_run.specs.Runs.{BUFFER, TurnFails};
+ghost use Rattle.bac_run.specs.Runs.{BUFFER, TurnFails, timed};
 ghost use Rattle.bac_run.specs.Serving.{Serves, ServesOnce, ServingFails, TurnsFail};
 
 use crate::buffer::buffer;
@@ -11,22 +10,24 @@ use bac_node::Node;
 use bac_turns::{TurnFault, take_turn};
 use std::alloc::Global;
 
-/// One turn; how many requests were performed: 0 or 1.
-fn serve_once<L: Link>(
+/// One turn at the moment that a clock tells; how many requests were performed: 0 or 1.
+fn serve_once<L: Link, C: Clock>(
     alloc: Global,
     node: &mut Node,
     link: &mut L,
-    now: u64,
+    clock: &mut C,
     buffer: &mut [u8],
 ) -> Result<u64, TurnFault>
     requires { length buffer.old ≡ BUFFER }
     ensures served { IfOk result (λ effects. ServesOnce effects
-        (on_link node.old (L.failures link.old) (L.calls link.old)) (on_link node.new (L.failures link.new) (L.calls link.new))) }
+        (timed node.old (L.failures link.old) (L.calls link.old) (C.told clock.old))
+        (timed node.new (L.failures link.new) (L.calls link.new) (C.told clock.new))) }
     ensures most { IfOk result (λ effects. effects ≤ 1) }
     ensures failed { IfErr result (λ e. TurnFails e
-        (on_link node.old (L.failures link.old) (L.calls link.old)) (on_link node.new (L.failures link.new) (L.calls link.new))) }
+        (timed node.old (L.failures link.old) (L.calls link.old) (C.told clock.old))
+        (timed node.new (L.failures link.new) (L.calls link.new) (C.told clock.new))) }
 {
-    let turn = take_turn(alloc, node, link, now, buffer)?;
+    let turn = take_turn(alloc, node, link, clock.now(), buffer)?;
     match turn.effect {
         Some(_) => Ok(1),
         None => Ok(0),
@@ -44,13 +45,15 @@ fn serve_turns<L: Link, C: Clock>(
 ) -> Result<u64, TurnFault>
     requires { length buffer.old ≡ BUFFER }
     ensures served { IfOk result (λ effects. Serves turns effects
-        (on_link node.old (L.failures link.old) (L.calls link.old)) (on_link node.new (L.failures link.new) (L.calls link.new))) }
+        (timed node.old (L.failures link.old) (L.calls link.old) (C.told clock.old))
+        (timed node.new (L.failures link.new) (L.calls link.new) (C.told clock.new))) }
     ensures failed { IfErr result (λ e. TurnsFail e turns
-        (on_link node.old (L.failures link.old) (L.calls link.old)) (on_link node.new (L.failures link.new) (L.calls link.new))) }
+        (timed node.old (L.failures link.old) (L.calls link.old) (C.told clock.old))
+        (timed node.new (L.failures link.new) (L.calls link.new) (C.told clock.new))) }
 {
     let mut effects = 0;
     for _ in 0..turns {
-        effects += serve_once(alloc, node, link, clock.now(), buffer)?;
+        effects += serve_once(alloc, node, link, clock, buffer)?;
     }
     Ok(effects)
 }
@@ -67,9 +70,11 @@ pub fn serve_over<L: Link, C: Clock>(
     turns: u64,
 ) -> Result<u64, RunFault>
     ensures served { IfOk result (λ effects. Serves turns effects
-        (on_link node.old (L.failures link.old) (L.calls link.old)) (on_link node.new (L.failures link.new) (L.calls link.new))) }
+        (timed node.old (L.failures link.old) (L.calls link.old) (C.told clock.old))
+        (timed node.new (L.failures link.new) (L.calls link.new) (C.told clock.new))) }
     ensures failed { IfErr result (λ e. ServingFails e turns
-        (on_link node.old (L.failures link.old) (L.calls link.old)) (on_link node.new (L.failures link.new) (L.calls link.new))) }
+        (timed node.old (L.failures link.old) (L.calls link.old) (C.told clock.old))
+        (timed node.new (L.failures link.new) (L.calls link.new) (C.told clock.new))) }
 {
     let mut buffer = buffer(alloc)?;
     let effects = serve_turns(alloc, node, link, clock, turns, &mut buffer)?;

@@ -6,10 +6,15 @@
 #[cfg(test)]
 mod journal;
 #[cfg(test)]
+mod listed_clock;
+#[cfg(test)]
 mod medium;
 #[cfg(test)]
 mod memory_link;
+pub mod noted_call;
 #[cfg(test)]
 mod station;
+#[cfg(test)]
+mod telling_link;
 #[cfg(test)]
 mod tests;

@@ -16,6 +16,18 @@ impl Failing {
         receive: 0,
     };
 
+    /// The second send: of one request the answer.
+    pub(crate) const ANSWER: Failing = Failing {
+        send: 2,
+        receive: 0,
+    };
+
+    /// The first call to receive.
+    pub(crate) const RECEIVING: Failing = Failing {
+        send: 0,
+        receive: 1,
+    };
+
     pub(crate) fn to_send(send: u64) -> Failing {
         Failing { send, receive: 0 }
     }
@@ -77,6 +89,11 @@ impl Medium {
             octets: copy,
         };
         self.mail.push(mail).ok()
+    }
+
+    /// How many calls to receive were made.
+    pub(crate) fn receives(&self) -> u64 {
+        self.receives
     }
 
     /// Whether this call to receive fails.

@@ -80,11 +80,21 @@ impl Link for MemoryLink<'_> {
 /// A clock that stands at that moment until a link moves it.
 #[derive(Clone, Copy)]
 pub(crate) struct MemoryClock<'a> {
-    pub(crate) moment: &'a Cell<u64>,
+    moment: &'a Cell<u64>,
+    last: u64,
+}
+
+impl<'a> MemoryClock<'a> {
+    pub(crate) fn new(moment: &'a Cell<u64>) -> MemoryClock<'a> {
+        MemoryClock { moment, last: 0 }
+    }
 }
 
 impl Clock for MemoryClock<'_> {
+    ghost told = { λ c. record { last = c.last; all = None } };
+
     fn now(&mut self) -> u64 {
-        self.moment.get()
+        self.last = self.moment.get();
+        self.last
     }
 }

@@ -6,6 +6,7 @@ use crate::station::{LIMITS, Station, config, file_of, house_node};
 use bac_client::Ending;
 use bac_facts::print_ending;
 use bac_link::Link;
+use bac_node::Node;
 use bac_npdu::Peer;
 use bac_run::{AskEnd, Question, RunFault, ask_over, pair_over, serve_over};
 use bac_service::{OwnedRequest, read_request};
@@ -15,11 +16,13 @@ use std::cell::{Cell, RefCell};
 use std::process::Abort;
 use std::test::Fail;
 
+mod clocks;
 mod failing;
 mod logs;
 mod pairs;
 mod serving;
 mod sockets;
+mod telling;
 mod turns;
 
 /// The node that asks, and the one that is asked.

@@ -1,10 +1,12 @@
 -- The nodes of a script can make a network: nothing but memory speaks against it.
-use Rattle.std.proofs.Common.{◌≡◌, ℕ, zero, suc, ◌+◌, ◌-◌, ◌*◌, ◌<◌, ◌≤◌, true, false, List, [], ◌∷◌, ◌++◌, Some, slice_get, refl, sym, ap, subst, ◌∙◌, arith, append_assoc}
+use Rattle.std.proofs.Common.{◌≡◌, ℕ, zero, suc, ◌+◌, ◌-◌, ◌*◌, ◌<◌, ◌≤◌, true, false, List, [], ◌∷◌, ◌++◌, Some, slice_get}
+use Rattle.std.proofs.Common.{refl, sym, ap, subst, ◌∙◌, arith, append_assoc}
 use Rattle.std.proofs.lemmas.Bool.Decides.{nat_tests}
 use Rattle.bac_apdu.specs.Apdu as plain
 use Rattle.bac_apdu.specs.Views.{limits_view}
 use Rattle.bac_apdu.specs.declared.limits.Limits.{Limits}
-use Rattle.bac_network.specs.Fresh.{fresh_world, nodes_of, opening_of, Maker, HaveSameLink, HasBadSlots, HasBadWindow, IsRefusedFor, PassesBound, greatest_window}
+use Rattle.bac_network.specs.Fresh.{fresh_world, nodes_of, opening_of, Maker, HaveSameLink, HasBadSlots, HasBadWindow, IsRefusedFor, PassesBound}
+use Rattle.bac_network.specs.Fresh.{greatest_window}
 use Rattle.bac_network.specs.declared.fault.NewWorldFault.{NewWorldFault}
 use Rattle.bac_network.specs.declared.fault.NewWorldFault.TheVariants as fault
 use Rattle.bac_node.specs.Fresh.{has_slots, window_fits}
@@ -19,9 +21,11 @@ use Rattle.bac_simulate.specs.Scripts.{most_limits}
 some_is : (x y : Maker) → Some x ≡ Some y → x ≡ y
 some_is x y e = cc
 
-at : (limits : Limits) (window first count i : ℕ) (m : Maker) → slice_get (makers_from limits window first count) i ≡ Some m → maker_at limits window (first + i) ≡ m
+at : (limits : Limits) (window first count i : ℕ) (m : Maker) → slice_get (makers_from limits window first count) i ≡ Some m
+    → maker_at limits window (first + i) ≡ m
 at limits window first zero i m e = absurd cc
-at limits window first (suc count) zero m e = let none : first + 0 ≡ first = omega arith in ap (maker_at limits window) none ∙ some_is (maker_at limits window first) m e
+at limits window first (suc count) zero m e =
+    let none : first + 0 ≡ first = omega arith in ap (maker_at limits window) none ∙ some_is (maker_at limits window first) m e
 at limits window first (suc count) (suc i) m e =
     let on : first + suc i ≡ first + 1 + i = omega arith in ap (maker_at limits window) on ∙ at limits window (first + 1) count i m e
 
@@ -53,7 +57,8 @@ greatest_is limits window first zero least = least
 greatest_is limits window first (suc count) least =
     let others = greatest_is limits window (first + 1) count least in grind (arith, others)
 
-pub bound_fits : (limits : Limits) (overtake window count : ℕ) → 1 ≤ window → overtake + 2 * window ≤ 255 → PassesBound overtake (makers_from limits window 0 count) → ⊥
+pub bound_fits : (limits : Limits) (overtake window count : ℕ) → 1 ≤ window → overtake + 2 * window ≤ 255
+    → PassesBound overtake (makers_from limits window 0 count) → ⊥
 bound_fits limits overtake window count least bound h =
     let greatest = greatest_is limits window 0 count least in
     let passes : 255 < overtake + 2 * greatest_window (makers_from limits window 0 count) = h in
@@ -61,7 +66,8 @@ bound_fits limits overtake window count least bound h =
 
 -- ---- one node after the other
 
-pub one_made : (limits : Limits) (window first count : ℕ) (made all : List Maker) → first < count → made ++ makers_from limits window first (count - first) ≡ all
+pub one_made : (limits : Limits) (window first count : ℕ) (made all : List Maker) → first < count
+    → made ++ makers_from limits window first (count - first) ≡ all
     → (made ++ maker_at limits window first ∷ []) ++ makers_from limits window (first + 1) (count - (first + 1)) ≡ all
 one_made limits window first count made all more before =
     let left : count - first ≡ suc (count - (first + 1)) = omega arith in
@@ -82,7 +88,8 @@ memory_alone limits f overtake window count makers is least most bound refused =
 
 -- ---- the network that is made
 
-nodes_are : (limits : Limits) (window first count : ℕ) → limits_view limits ≡ most_limits → nodes_of (makers_from limits window first count) ≡ house_nodes window first count
+nodes_are : (limits : Limits) (window first count : ℕ) → limits_view limits ≡ most_limits
+    → nodes_of (makers_from limits window first count) ≡ house_nodes window first count
 nodes_are limits window first zero e = refl
 nodes_are limits window first (suc count) e =
     ap (λ (l : plain.Limits). house_node l window first ∷ nodes_of (makers_from limits window (first + 1) count)) e

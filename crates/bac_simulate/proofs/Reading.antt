@@ -18,7 +18,8 @@ joined events e number (Ok others) = ap Ok (sym (append_assoc events (e ∷ []) 
 joined events e number (Err bad) = refl
 
 parted : (events : List Event) (number : ℕ) (lines : List (List ℕ)) (line : List ℕ) (others : List (List ℕ)) (o : Option Event)
-    → lines ≡ line ∷ others → event_at line ≡ o → after events (before_others o number (events_from (number + 1) others)) ≡ after events (events_from number lines)
+    → lines ≡ line ∷ others → event_at line ≡ o
+    → after events (before_others o number (events_from (number + 1) others)) ≡ after events (events_from number lines)
 parted events number lines line others o is at =
     sym (ap (λ (p : Option Event). after events (before_others p number (events_from (number + 1) others))) at)
     ∙ sym (ap (λ (l : List (List ℕ)). after events (events_from number l)) is)

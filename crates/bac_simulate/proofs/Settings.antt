@@ -1,5 +1,6 @@
 -- What a first line can set.
-use Rattle.std.proofs.Common.{◌≡◌, ℕ, ◌+◌, ◌*◌, ◌≤◌, nat_le, Bool, true, false, List, [], ◌∷◌, Option, Some, None, Result, Ok, Err, if◌then◌else◌, refl, subst, arith}
+use Rattle.std.proofs.Common.{◌≡◌, ℕ, ◌+◌, ◌*◌, ◌≤◌, nat_le, Bool, true, false, List, [], ◌∷◌, Option, Some, None, Result, Ok, Err}
+use Rattle.std.proofs.Common.{if◌then◌else◌, refl, subst, arith}
 use Rattle.std.proofs.lemmas.Bool.Decides.{nat_tests}
 use Rattle.bac_world.specs.World.{Event}
 use Rattle.bac_script.specs.Words.{◌>>=◌, number_of, number_up_to, at_most, words_of}
@@ -64,7 +65,8 @@ setting_is_modest (a ∷ nodes ∷ []) s e = let is = then_is _ (usual_setting n
 setting_is_modest (a ∷ nodes ∷ b ∷ []) s e = absurd cc
 setting_is_modest (a ∷ nodes ∷ b ∷ window ∷ []) s e = absurd cc
 setting_is_modest (a ∷ nodes ∷ b ∷ window ∷ c ∷ []) s e = absurd cc
-setting_is_modest (a ∷ nodes ∷ b ∷ window ∷ c ∷ overtake ∷ []) s e = let is = then_is _ (setting_with nodes window overtake) s e in given_is_modest nodes window overtake s is.1
+setting_is_modest (a ∷ nodes ∷ b ∷ window ∷ c ∷ overtake ∷ []) s e =
+    let is = then_is _ (setting_with nodes window overtake) s e in given_is_modest nodes window overtake s is.1
 setting_is_modest (a ∷ nodes ∷ b ∷ window ∷ c ∷ overtake ∷ d ∷ more) s e = absurd cc
 
 -- ---- a whole script
@@ -75,7 +77,8 @@ the_script s = Ok s
 ok_is : (s t : Script) → the_script s ≡ the_script t → s ≡ t
 ok_is s t e = cc
 
-set : (o : Option Setting) (events : Result (List Event) ℕ) (first : List ℕ) (s : Script) → setting_of (words_of first) ≡ o → with_setting o events ≡ Ok s → IsModest s.setting
+set : (o : Option Setting) (events : Result (List Event) ℕ) (first : List ℕ) (s : Script) → setting_of (words_of first) ≡ o
+    → with_setting o events ≡ Ok s → IsModest s.setting
 set None events first s at e = absurd cc
 set (Some x) (Err bad) first s at e = absurd cc
 set (Some x) (Ok events) first s at e =

@@ -7,8 +7,9 @@ use Rattle.bac_world.specs.World as world
 use Rattle.bac_world.specs.World.{WorldStep}
 use Rattle.bac_network.specs.Faults.{fault_number}
 use Rattle.bac_network.specs.Histories.{WorldView}
-use Rattle.bac_network.specs.Steps.{IsFault, NamesNoCopy, NamesNoNode, PassesClock, TakesMemory, Tells}
+use Rattle.bac_network.specs.Steps.{NamesNoCopy, NamesNoNode, PassesClock, TakesMemory, Tells}
 use Rattle.bac_network.specs.Views.{event_view}
+use Rattle.bac_network.proofs.Running.{fault_is}
 use Rattle.bac_network.specs.declared.event.Event as event
 use Rattle.bac_network.specs.declared.fault.WorldFault.{WorldFault}
 use Rattle.bac_network.specs.declared.fault.WorldFault.TheVariants as fault
@@ -35,20 +36,6 @@ happened line e told old new facts copies a b fs cs went tells same printed = (
     },
     printed,
   ),
-)
-
-clash : (r : Result (Option AskFault) WorldFault) → r ≡ Err fault.NoMemory → r ≡ Err fault.NoSuchNode → ⊥
-clash r a b = cc
-
-fault_is : (f : WorldFault) (overtake : ℕ) (w : world.World) (e : world.Event) (r : Result (Option AskFault) WorldFault) → r ≡ Err f
-    → (IsErrOf r fault.NoSuchNode ↔ NamesNoNode w e) → (IsErrOf r fault.NoSuchDatagram ↔ NamesNoCopy w e) → (IsErrOf r fault.ClockEnd ↔ PassesClock w e)
-    → (IsErrOf r fault.NoMemory → TakesMemory overtake w e) → IsFault f overtake w e
-fault_is fault.NoSuchNode overtake w e r is node copy clock memory = node.0 is
-fault_is fault.NoSuchDatagram overtake w e r is node copy clock memory = copy.0 is
-fault_is fault.ClockEnd overtake w e r is node copy clock memory = clock.0 is
-fault_is fault.NoMemory overtake w e r is node copy clock memory = (
-  memory is,
-  λ n. clash r is (node.1 n),
 )
 
 abbrev pub the_err : WorldFault → Result (Option AskFault) WorldFault

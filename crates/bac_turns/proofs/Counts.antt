@@ -34,7 +34,8 @@ counted_up_to failures n = go (nat_le n MOST) refl where
       rw same (counted_full failures n over ∙ sym (counted_full failures MOST (omega arith)))
 
 -- two counts, and their sum, which stays at its last value
-pub counted_both : (failures a b sum middle last : ℕ) → middle ≡ counted failures a → last ≡ counted middle b → sum ≡ min (a + b) MOST → last ≡ counted failures sum
+pub counted_both : (failures a b sum middle last : ℕ) → middle ≡ counted failures a → last ≡ counted middle b
+    → sum ≡ min (a + b) MOST → last ≡ counted failures sum
 counted_both failures a b sum middle last first second is =
     counted_next failures a b middle last first second ∙ counted_up_to failures (a + b) ∙ ap (counted failures) (sym is)
 

@@ -1,5 +1,5 @@
 -- One turn of a node on a link: what has come is heard, all that is due is done, and what the node sends goes out.
-use Rattle.std.specs.Prelude.{◌≡◌, ◌⊎◌, ℕ, zero, suc, ◌+◌, ◌≤◌, List, [], ◌∷◌, ◌++◌, map, length, take, Option, Some, None, Ok}
+use Rattle.std.specs.Prelude.{◌≡◌, ◌⊎◌, ℕ, zero, suc, ◌+◌, ◌≤◌, List, [], ◌∷◌, ◌++◌, map, length, take, Option, Some, None, Ok, IfSome}
 use Rattle.std.specs.Option.{option_map}
 use Rattle.bac_protocol.specs.Service.{Octets}
 use Rattle.bac_ends.specs.Sends.{Datagram}
@@ -8,6 +8,7 @@ use Rattle.bac_link.specs.Calls.{Call, Calls, one_more, received}
 use Rattle.bac_link.specs.Calls.Call.{Send}
 use Rattle.bac_world.specs.Node.{Node, Outcome, NodeOn, NodeTick}
 use Rattle.bac_world.specs.Services.{Performed}
+use Rattle.bac_node.specs.Calls.{IsNotHeard}
 
 -- a node and its link: how many calls of the link failed, and which calls were made, where the link tells
 pub record OnLink : Type 0 where
@@ -54,13 +55,23 @@ pub record IsSkipped (old new : Node) (part : Part) : Type 0 where
   pub same : new ≡ old
   pub gives : part ≡ nothing 1
 
-abbrev pub Goes : (step : Node → Node → Outcome → Type 0) → (old new : Node) → Part → Type 0
-Goes step old new part = IsDone step old new part ⊎ IsSkipped old new part
+-- so it may be with a datagram that the node does not drop
+pub record IsUnheard (from octets : Octets) (old new : Node) (part : Part) : Type 0 where
+  pub kept : IsNotHeard old.link from octets → ⊥
+  pub skipped : IsSkipped old new part
 
--- the datagram that came, if one did, is heard; its octets are the first of the buffer
+-- a datagram is heard, or dropped, as the node does
+abbrev pub HearsOne : (now : ℕ) → (from octets : Octets) → (old new : Node) → Part → Type 0
+HearsOne now from octets old new part = IsDone (NodeOn now from octets) old new part ⊎ IsUnheard from octets old new part
+
+-- the one that came, if one did; its octets are the first of the buffer
 abbrev pub Hears : (now : ℕ) → (buffer : Octets) → Option (Octets × ℕ) → (old new : Node) → Part → Type 0
 Hears now buffer None old new part = (new ≡ old) × (part ≡ nothing 0)
-Hears now buffer (Some d) old new part = Goes (NodeOn now d.0 (take d.1 buffer)) old new part
+Hears now buffer (Some d) old new part = HearsOne now d.0 (take d.1 buffer) old new part
+
+-- all that is due is done
+abbrev pub Ticks : (now : ℕ) → (old new : Node) → Part → Type 0
+Ticks now old new part = IsDone (NodeTick now) old new part ⊎ IsSkipped old new part
 
 -- ---- what the link is asked to do
 
@@ -81,7 +92,7 @@ counted failures (suc lost) = one_more (counted failures lost)
 pub record Steps (now : ℕ) (buffer : Octets) (old new : Node) (turn : Turn) (first second : Part) : Type 0 where
   pub middle : Node
   pub hears : Hears now buffer turn.received old middle first
-  pub ticks : Goes (NodeTick now) middle new second
+  pub ticks : Ticks now middle new second
   pub performed : turn.performed ≡ first.performed
   pub ended : turn.ended ≡ first.ended
   pub tick_ended : turn.tick_ended ≡ second.ended
@@ -93,7 +104,9 @@ pub record IsCarried (first : Call) (sends : List Datagram) (lost : ℕ) (old ne
   pub count : new.failures ≡ counted old.failures lost
   pub most : lost ≤ length sends
 
+-- the datagram that came, if one did, stands in the buffer
 pub record IsTurn (now : ℕ) (buffer : Octets) (old new : OnLink) (turn : Turn) : Type 0 where
+  pub within : IfSome turn.received (λ d. d.1 ≤ length buffer)
   pub first : Part
   pub second : Part
   pub steps : Steps now buffer old.node new.node turn first second

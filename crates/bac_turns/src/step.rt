@@ -3,13 +3,12 @@ ghost use Rattle.std.specs.Prelude.{◌≡◌, ◌≤◌, length, map, IfSome};
 ghost use Rattle.std.specs.Option.{option_map};
 ghost use Rattle.bac_requester.specs.Views.{finish_view};
 ghost use Rattle.bac_node.specs.Views.{performed_view};
-ghost use Rattle.bac_world.specs.Node.{NodeOn, NodeTick};
-ghost use Rattle.bac_turns.specs.Turns.{Goes, Hears, counted, call_of, with_calls};
+ghost use Rattle.bac_turns.specs.Turns.{Hears, HearsOne, Ticks, counted, call_of, with_calls};
 ghost use Rattle.bac_turns.specs.Views.{part_view};
 
 use crate::sending::send_all;
 use bac_link::Link;
-use bac_node::{Node, Outcome};
+use bac_node::{Node, NodeFault, Outcome};
 use bac_requester::Finish;
 use bac_responder::Act;
 use std::alloc::Global;
@@ -22,24 +21,27 @@ pub(crate) enum Step {
     Nothing,
 }
 
-/// The node hears a datagram.
+/// The node hears a datagram, at a moment that is not before its latest one.
 fn hear(node: &mut Node, now: u64, from: [u8; 6], octets: &[u8]) -> Step
-    ensures { Goes (NodeOn now from octets.now) node.old node.new (part_view result) }
+    requires { node.old.latest ≤ now }
+    ensures { HearsOne now from octets.now node.old node.new (part_view result) }
 {
     match node.on(now, from, octets) {
         Ok(outcome) => Step::Done(outcome),
-        Err(_) => Step::Skipped,
+        Err(NodeFault::NoMemory) => Step::Skipped,
+        Err(NodeFault::ClockBack) => unreachable!(),
     }
 }
 
-/// The node hears what came, if a datagram did: the first octets of the buffer.
+/// The node hears what came, if a datagram did: the first octets of the buffer. The moment is not before its latest one.
 pub(crate) fn hear_received(
     node: &mut Node,
     now: u64,
     received: Option<([u8; 6], usize)>,
     buffer: &[u8],
 ) -> Step
-    requires { IfSome received (λ d. d.1 ≤ length buffer.now) }
+    requires within { IfSome received (λ d. d.1 ≤ length buffer.now) }
+    requires timely { node.old.latest ≤ now }
     ensures { Hears now buffer.now received node.old node.new (part_view result) }
 {
     match received {
@@ -53,7 +55,7 @@ pub(crate) fn hear_received(
 
 /// The node does all that is due.
 pub(crate) fn tick(node: &mut Node, now: u64) -> Step
-    ensures { Goes (NodeTick now) node.old node.new (part_view result) }
+    ensures { Ticks now node.old node.new (part_view result) }
 {
     match node.tick(now) {
         Ok(outcome) => Step::Done(outcome),

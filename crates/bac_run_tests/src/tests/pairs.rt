@@ -86,7 +86,7 @@ fn tell_both<'a>(
 pub(super) fn run_pair(alloc: Global, failing: Failing, turns: u64) -> Result<Story, Fail> {
     let medium = RefCell::new(Medium::new(alloc, failing));
     let moment = Cell::new(0);
-    let mut clock = MemoryClock { moment: &moment };
+    let mut clock = MemoryClock::new(&moment);
     let (mut client, mut server) = two_stations(alloc, &medium, &moment)?;
     tell_both(alloc, &mut client, &mut server, &mut clock, turns)
 }
@@ -131,7 +131,7 @@ fn ask_alone(
 fn ask_nobody(alloc: Global) -> Result<(String, u64), Fail> {
     let medium = RefCell::new(Medium::new(alloc, Failing::NOTHING));
     let moment = Cell::new(0);
-    let mut clock = MemoryClock { moment: &moment };
+    let mut clock = MemoryClock::new(&moment);
     let mut client = Station::new(alloc, &medium, &moment, CLIENT)?;
     let how = ask_alone(alloc, &mut client, &mut clock)?;
     Ok((how, moment.get()))

@@ -1,7 +1,8 @@
 //! A node that serves.
 use super::*;
 
-/// How a node served: how many requests were performed, or the number of the fault; how many calls of its link failed; and whether the node is still as it was made.
+/// How a node served: how many requests were performed, or the number of the fault; how many calls of its link failed; and whether the node is still as it was
+/// made.
 type Served = (Option<u64>, Option<u8>, u64, bool);
 
 fn serve(
@@ -10,7 +11,7 @@ fn serve(
     moment: &Cell<u64>,
     turns: u64,
 ) -> Result<u64, RunFault> {
-    let mut clock = MemoryClock { moment };
+    let mut clock = MemoryClock::new(moment);
     serve_over(alloc, &mut server.node, &mut server.link, &mut clock, turns)
 }
 

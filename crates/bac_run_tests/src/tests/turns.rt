@@ -94,3 +94,40 @@ fn a_tick_ends_a_ticket(rt: HostRuntime) -> Result<(), Fail> {
     assert!(&rt; seen == (None, 0, 0, false, 0, 1));
     Ok(())
 }
+
+/// A server hears a request at moment 5, and has a second turn at moment 9, which may fail to receive. Answers its node, and the fault.
+fn heard_and(alloc: Global, failing: Failing) -> Result<(Node, Option<TurnFault>), Fail> {
+    let medium = RefCell::new(Medium::new(alloc, failing));
+    let moment = Cell::new(0);
+    let (mut client, mut server) = two_stations(alloc, &medium, &moment)?;
+    client.send(alloc, SERVER, READ)?;
+    see(alloc, &mut server, 5)?;
+    let fault = see(alloc, &mut server, 9).err();
+    Ok((server.node, fault))
+}
+
+/// A server that has heard a request at moment 5 alone.
+fn heard(alloc: Global) -> Result<Node, Fail> {
+    let medium = RefCell::new(Medium::new(alloc, Failing::NOTHING));
+    let moment = Cell::new(0);
+    let (mut client, mut server) = two_stations(alloc, &medium, &moment)?;
+    client.send(alloc, SERVER, READ)?;
+    see(alloc, &mut server, 5)?;
+    Ok(server.node)
+}
+
+/// Whether a second turn leaves the server's node as it was, and how that turn failed.
+fn second_turn(alloc: Global, failing: Failing) -> Result<(bool, Option<TurnFault>), Fail> {
+    let (node, fault) = heard_and(alloc, failing)?;
+    Ok((node.same(&heard(alloc)?), fault))
+}
+
+/// After a turn that could not receive the node is as before it; a turn in which nothing came sets its latest moment.
+#[test]
+fn a_failed_receive_changes_nothing(rt: HostRuntime) -> Result<(), Fail> {
+    let failed = second_turn(rt.alloc(), Failing::to_receive(2))?;
+    assert!(&rt; failed == (true, Some(TurnFault::Link)));
+    let taken = second_turn(rt.alloc(), Failing::NOTHING)?;
+    assert!(&rt; taken == (false, None));
+    Ok(())
+}

@@ -3,4 +3,4 @@ use Rattle.bac_online.proofs.Reported.{served_text}
 use Rattle.bac_online.proofs.serving.serve_and_print.Goals as goal
 
 pub returns : goal.returns
-returns g c = served_text _ _ _ _ c.in_ok-effects.effects _ _ _ _ _ _ c.in_ok-node.ensures c.in_ok-effects.ensures.served (search rules)
+returns g c = served_text _ _ c.in_ok-effects.effects _ _ _ _ _ _ c.in_ok-node.ensures c.in_ok-effects.ensures.served (search rules)

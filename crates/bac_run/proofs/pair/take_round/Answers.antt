@@ -7,5 +7,5 @@ returns-clause-taken g c =
     record {
       round = record { of_first = turn_view c.in_ok-turn.turn; of_second = turn_view c.in_ok-take_one.field-0 };
       is = refl;
-      takes = record { first = c.in_ok-turn.ensures.taken; second = c.in_ok-take_one.ensures.taken };
+      takes = record { told = _; first = c.in_ok-turn.ensures.taken; second = c.in_ok-take_one.ensures.taken };
     }

@@ -5,4 +5,5 @@ use Rattle.bac_simulate.proofs.world_of.nodes_of.Given as goal
 
 abbrev pub invariant-loop-node : goal.invariant-loop-node
 invariant-loop-node l =
-    l.nodes.items ++ makers_from l.fn.limits l.fn.setting.window l.node (l.fn.setting.nodes - l.node) ≡ makers_from l.fn.limits l.fn.setting.window 0 l.fn.setting.nodes
+    l.nodes.items ++ makers_from l.fn.limits l.fn.setting.window l.node (l.fn.setting.nodes - l.node)
+    ≡ makers_from l.fn.limits l.fn.setting.window 0 l.fn.setting.nodes

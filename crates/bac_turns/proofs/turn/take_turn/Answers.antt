@@ -6,6 +6,7 @@ use Rattle.bac_turns.proofs.turn.take_turn.Goals as goal
 pub returns-clause-turned : goal.returns-clause-turned
 returns-clause-turned g c =
     record {
+      within = c.in-Ok.ensures.within;
       first = part_view c.hear_received-first.result;
       second = part_view c.tick-second.result;
       steps =

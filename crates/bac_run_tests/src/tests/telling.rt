@@ -1,0 +1,108 @@
+//! A turn on a link that tells its calls.
+use super::*;
+use crate::noted_call::NotedCall;
+use crate::telling_link::TellingLink;
+use bac_turns::take_turn;
+
+/// A call as a line: what was done, the port of the other address, and the octets.
+fn line(alloc: Global, word: &str, address: [u8; 6], octets: &[u8]) -> Result<String, Fail> {
+    let port = u16::from_be_bytes([address[4], address[5]]);
+    let octets = hex::encode_upper(alloc, octets)?;
+    Ok(format!(in alloc; "{word} {port} {octets}")?)
+}
+
+fn told_call(alloc: Global, call: &NotedCall) -> Result<String, Fail> {
+    match call {
+        NotedCall::Sent(to, octets) => line(alloc, "sent", *to, octets),
+        NotedCall::Received(from, octets) => line(alloc, "received", *from, octets),
+        NotedCall::Nothing => Ok(String::from_str(alloc, "nothing")?),
+        NotedCall::Failed => Ok(String::from_str(alloc, "failed")?),
+    }
+}
+
+/// Two turns of the server, of which the second may not come to its end; what its link was asked to do.
+fn calls_of<R: Abort>(
+    alloc: Global,
+    link: &mut TellingLink<'_, R>,
+    now: u64,
+) -> Result<String, Fail> {
+    let mut node = house_node(alloc, SERVER)?;
+    let mut buffer = [0u8; 64];
+    for _ in 0..2u8 {
+        let _ = take_turn(alloc, &mut node, link, now, &mut buffer).is_ok();
+    }
+    let mut lines = String::new(alloc);
+    for call in link.noted() {
+        lines.push_str(&told_call(alloc, call)?)?;
+        lines.push_str("\n")?;
+    }
+    Ok(lines)
+}
+
+/// The client sends a request, and the server takes two turns.
+fn calls<R: Abort>(rt: &R, alloc: Global, failing: Failing) -> Result<String, Fail> {
+    let medium = RefCell::new(Medium::new(alloc, failing));
+    let moment = Cell::new(0);
+    let mut client = Station::new(alloc, &medium, &moment, CLIENT)?;
+    client.send(alloc, SERVER, READ)?;
+    let mut link = TellingLink::new(rt, alloc, &medium, &moment, SERVER);
+    calls_of(alloc, &mut link, 5)
+}
+
+/// Calls that fail, and the calls that are told, one a line.
+const CALLS: &[(Failing, &[&str])] = &[
+    (
+        Failing::NOTHING,
+        &[
+            "received 47808 ",
+            READ,
+            "\nsent 47808 ",
+            VALUE,
+            "\nnothing\n",
+        ],
+    ),
+    // the answer is lost
+    (
+        Failing::ANSWER,
+        &[
+            "received 47808 ",
+            READ,
+            "\nsent 47808 ",
+            VALUE,
+            "\nnothing\n",
+        ],
+    ),
+    // the first call to receive fails
+    (
+        Failing::RECEIVING,
+        &[
+            "failed\nreceived 47808 ",
+            READ,
+            "\nsent 47808 ",
+            VALUE,
+            "\n",
+        ],
+    ),
+];
+
+fn tells<R: Abort>(rt: &R, alloc: Global, failing: Failing, lines: &[&str]) -> Result<bool, Fail> {
+    let mut want = String::new(alloc);
+    for line in lines {
+        want.push_str(line)?;
+    }
+    let told = calls(rt, alloc, failing)?;
+    Ok(told.as_str() == want.as_str())
+}
+
+/// What is received comes first, then what the node sends; a call that fails is told too.
+#[test]
+fn calls_of_turns_are_told(rt: HostRuntime) -> Result<(), Fail> {
+    for (failing, lines) in CALLS {
+        assert!(&rt;
+            tells(&rt, rt.alloc(), *failing, lines)?,
+            "{}",
+            failing.send
+        );
+    }
+    Ok(())
+}
