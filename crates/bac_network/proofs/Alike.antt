@@ -1,5 +1,5 @@
 -- What two worlds in code are to contracts, from their parts.
-use Rattle.std.proofs.Common.{◌≡◌, ℕ, zero, suc, List, [], ◌∷◌, map, None, Some, slice_get, refl, sym, ap, ◌∙◌}
+use Rattle.std.proofs.Common.{◌≡◌, ℕ, suc, List, [], ◌∷◌, map, None, Some, slice_get, refl, sym, ap, ◌∙◌}
 use Rattle.std.proofs.lemmas.List.{map-id, reverse-reverse}
 use Rattle.std.specs.Prelude.{reverse}
 use Rattle.bac_protocol.specs.Service.{Octets}
@@ -10,7 +10,6 @@ use Rattle.bac_simulation.specs.Journals.{AreSame}
 use Rattle.bac_simulation.specs.Views.{AreLinks}
 use Rattle.bac_network.specs.Histories.{WorldView, view_of}
 use Rattle.bac_network.specs.Views.{fact_view}
-use Rattle.bac_network.specs.declared.fact.Fact.{Fact}
 use Rattle.bac_network.specs.declared.network.Network.{Network}
 
 -- Lists are one where they are so at each place.

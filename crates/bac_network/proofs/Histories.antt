@@ -5,10 +5,12 @@ use Rattle.bac_store.specs.Stores.{Store}
 use Rattle.bac_requester.specs.declared.ask_fault.AskFault.{AskFault}
 use Rattle.bac_world.specs.Once.{Fact, Stores, IsOnce}
 use Rattle.bac_world.specs.World.{World, Event, WorldStep, WorldRun, IsFresh, IsBounded, link_at, stores_of}
+use Rattle.bac_world.proofs.Claims.{ended_once, performed_once, replayed}
 use Rattle.bac_world.proofs.Headline.{run_over, rules_of, rules_bounded, fresh_over, headline}
 use Rattle.bac_simulation.specs.Views.{AreLinks}
 use Rattle.bac_simulation.proofs.GoingOn.{runs_can_go_on}
-use Rattle.bac_network.specs.Histories.{WorldView, HasRun, IsKept, IsOnceNow, opening_stores, view_of}
+use Rattle.bac_network.specs.Histories.{WorldView, HasRun, IsKept, IsOnceNow, ArePerformedOnceNow, AreEndedOnceNow, AreReplayedNow}
+use Rattle.bac_network.specs.Histories.{opening_stores, view_of}
 use Rattle.bac_network.specs.Networks.{world_of, IsReady}
 use Rattle.bac_network.specs.Steps.{HappensTelling}
 use Rattle.bac_network.specs.declared.fault.WorldFault.{WorldFault}
@@ -39,6 +41,17 @@ once_from opening other (f ∷ log) stores same h = (h.0, h.1, once_from opening
 pub once_now : (W : ℕ) (w : WorldView) → HasRun W w → IsOnceNow w
 once_now W w h = once_from (stores_of h.first.nodes) (opening_stores w) w.world.log (stores_of w.world.nodes) h.opening
     (headline W w.overtake h.first w.world h.fresh h.bounded h.events h.run)
+
+-- claim by claim
+module _ (w : WorldView) (once : IsOnceNow w) where
+  pub performed_now : ArePerformedOnceNow w
+  performed_now = performed_once (opening_stores w) w.world.log (stores_of w.world.nodes) once
+
+  pub ended_now : AreEndedOnceNow w
+  ended_now = ended_once (opening_stores w) w.world.log (stores_of w.world.nodes) once
+
+  pub replayed_now : AreReplayedNow w
+  replayed_now = replayed (opening_stores w) w.world.log (stores_of w.world.nodes) once
 
 pub ready_now : (window overtake : ℕ) (opening : List Store) (n : Network) → IsKept window n.journal.links (view_of overtake opening n)
     → IsReady window overtake n

@@ -2,6 +2,7 @@
 use Rattle.std.specs.Prelude.{◌≡◌, ℕ, List, slice_get}
 use Rattle.bac_protocol.specs.Service.{Octets}
 use Rattle.bac_store.specs.Stores.{Store}
+use Rattle.bac_world.specs.Claims.{AreEndedOnce, ArePerformedOnce, AreReplayed}
 use Rattle.bac_world.specs.Once.{Stores, IsOnce}
 use Rattle.bac_world.specs.World.{World, Event, WorldRun, IsFresh, IsBounded, stores_of}
 use Rattle.bac_simulation.specs.Views.{AreLinks}
@@ -24,6 +25,19 @@ opening_stores w i = slice_get w.opening i
 -- the log is right with the stores: every accepted ask was performed at most once
 abbrev pub IsOnceNow : WorldView → Type 0
 IsOnceNow w = IsOnce (opening_stores w) w.world.log (stores_of w.world.nodes)
+
+-- what that says of what was performed: each performed request is the one asked, and was not performed before; its reply is that of its server's store as it
+-- then was
+abbrev pub ArePerformedOnceNow : WorldView → Type 0
+ArePerformedOnceNow w = ArePerformedOnce (opening_stores w) w.world.log
+
+-- of what was asked, and how it ended: each ask has the next number, and ended at most once, answered with the reply with which it was performed
+abbrev pub AreEndedOnceNow : WorldView → Type 0
+AreEndedOnceNow w = AreEndedOnce w.world.log
+
+-- of the stores: they are the opening ones after the performed requests, in their order
+abbrev pub AreReplayedNow : WorldView → Type 0
+AreReplayedNow w = AreReplayed (opening_stores w) w.world.log (stores_of w.world.nodes)
 
 -- a run of a fresh world with those stores, whose windows are at most W, led to it
 pub record HasRun (W : ℕ) (w : WorldView) : Type 0 where

@@ -69,9 +69,10 @@ pub(crate) fn due(node: &Node, now: u64) -> Result<Outcome, NoMemory>
     }
 }
 
-/// A node ticks. It takes no memory.
+/// A node ticks, at a moment that is not before its latest. It takes no memory.
 pub(crate) fn commit(nodes: &mut [Node], i: usize, now: u64)
-    requires { i < length nodes.old }
+    requires there { i < length nodes.old }
+    requires punctual { ArePunctual nodes.old now }
     ensures { Goes nodes.old i (λ a b. b ≡ ticked now a) nodes.new }
 {
     let node = &mut nodes[i];

@@ -3,7 +3,7 @@ ghost use Rattle.std.specs.Prelude.{◌≡◌, ◌↔◌, ℕ, IsErrOf, IsTrue, 
 ghost use Rattle.bac_world.specs.World.{WorldRun, WorldStep, stores_of};
 ghost use Rattle.bac_simulation.specs.Notes.{notes_view};
 ghost use Rattle.bac_simulation.specs.Views.{copy_view};
-ghost use Rattle.bac_network.specs.Histories.{HasHistory, IsOnceNow};
+ghost use Rattle.bac_network.specs.Histories.{AreEndedOnceNow, ArePerformedOnceNow, AreReplayedNow, HasHistory, IsOnceNow};
 ghost use Rattle.bac_network.specs.Steps.{NamesNoCopy, NamesNoNode, PassesClock, TakesMemory, Tells};
 ghost use Rattle.bac_network.specs.Runs.{StopsAt};
 ghost use Rattle.bac_network.specs.Views.{event_view, log_view};
@@ -104,11 +104,14 @@ impl World {
     }
 
     /// A run of a fresh world with the opening stores led to it, and its log is right with the stores: every accepted ask was performed at most once, as it
-    /// was asked, with the reply of its server's store as it then was; it ended at most once, and was answered with that reply alone; and stores were changed
-    /// by performed requests alone.
+    /// was asked, with the reply of its server's store as it then was (`performed`); it ended at most once, and was answered with that reply alone (`ended`);
+    /// and stores were changed by performed requests alone (`stores`).
     pub fn is_once(&self)
         ensures history { HasHistory self.now }
         ensures once { IsOnceNow self.now }
+        ensures performed { ArePerformedOnceNow self.now }
+        ensures ended { AreEndedOnceNow self.now }
+        ensures stores { AreReplayedNow self.now }
     {
         let _network = &self.network;
     }
@@ -128,6 +131,9 @@ impl World {
         ensures err { OnErr result (self.new ≡ self.old) }
         ensures settings { (self.new.overtake ≡ self.old.overtake) × (self.new.opening ≡ self.old.opening) }
         ensures once { IsOnceNow self.new }
+        ensures performed { ArePerformedOnceNow self.new }
+        ensures ended { AreEndedOnceNow self.new }
+        ensures stores { AreReplayedNow self.new }
     {
         self.network
             .step(self.alloc, self.overtake, self.window, event)
@@ -139,6 +145,9 @@ impl World {
         ensures stopped { IfErr result (λ f. StopsAt f self.old (map event_view events.now) self.new) }
         ensures settings { (self.new.overtake ≡ self.old.overtake) × (self.new.opening ≡ self.old.opening) }
         ensures once { IsOnceNow self.new }
+        ensures performed { ArePerformedOnceNow self.new }
+        ensures ended { AreEndedOnceNow self.new }
+        ensures stores { AreReplayedNow self.new }
     {
         for (place, event) in events.iter().enumerate() {
             if let Err(fault) = self.step(event) {

@@ -2,7 +2,10 @@
 ghost use Rattle.std.specs.Prelude.{◌≡◌, ◌≢◌, ◌↔◌, ◌<◌, ◌≤◌, [], true, false, map, IfErr, IfOk, IsErrOf, IsSome, IfSome, IsTrue, OnErr, MatchOption, vec_capacity};
 ghost use Rattle.bac_apdu.specs.Views.{apdu_view, limits_view};
 ghost use Rattle.bac_npdu.specs.Views.{peer_view};
+ghost use Rattle.bac_service.specs.Values.{Request};
 ghost use Rattle.bac_service.specs.Views.{owned_request_view};
+ghost use Rattle.bac_store.specs.Replies.{reply_to};
+ghost use Rattle.bac_store.specs.ReplyLengths.{DATA_LIMIT, reply_length};
 ghost use Rattle.bac_ends.specs.Views.{settings_view};
 ghost use Rattle.bac_requester.specs.Views.{finish_view, finishes_of};
 ghost use Rattle.bac_world.specs.Node.{NodeOn, NodeTick, IsHeardBy, dropped_for};
@@ -23,7 +26,7 @@ use bac_responder::{Responder, Served};
 use bac_server::Entry;
 use bac_service::OwnedRequest;
 use bac_slots::IndexSlots;
-use bac_store::Store;
+use bac_store::{Store, replies_can_be_sent};
 use bac_value::NoMemory;
 use std::alloc::Global;
 use std::marker::Model;
@@ -154,6 +157,15 @@ impl Node {
         &self.store
     }
 
+    /// What holds of each node: its window is 1 at least, and each reply of its store can be sent, in one APDU or in segments.
+    pub fn can_reply(&self)
+        ensures window { 1 ≤ self.now.settings.window }
+        ensures replies { (r : Request) → reply_length (reply_to self.now.store r) ≤ DATA_LIMIT }
+    {
+        let _window = self.settings.window.size;
+        replies_can_be_sent(&self.store);
+    }
+
     /// Whether a moment is before the latest one.
     fn is_before(&self, now: u64) -> bool
         ensures { IsTrue result ↔ (now < self.now.latest) }
@@ -268,8 +280,9 @@ impl Node {
         Ok(Due { sends, ended })
     }
 
-    /// The node after a tick, of which `prepare_tick` says what comes. It takes no memory.
+    /// The node after a tick, of which `prepare_tick` says what comes; the moment is not before the latest one. It takes no memory.
     pub fn commit_tick(&mut self, now: u64)
+        requires { self.old.latest ≤ now }
         ensures { self.new ≡ ticked now self.old }
     {
         self.clients.commit_tick(now);

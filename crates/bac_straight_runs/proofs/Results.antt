@@ -14,7 +14,7 @@ use Rattle.bac_straight.specs.Straight.{IsStraight, ending_in}
 use Rattle.bac_straight.specs.Answers.{CanAnswer, IsAnswered, datagrams, way_between}
 use Rattle.bac_straight.proofs.Reached.{straight_answers}
 use Rattle.bac_straight_runs.specs.Logs.{IsSince, DeliverUnended, Stops}
-use Rattle.bac_straight_runs.specs.Runs.{CanBeAnswered, Goes, GoesAt, IsAnsweredSoon, IsNoRun, WentBy}
+use Rattle.bac_straight_runs.specs.Runs.{CanBeAnswered, Goes, GoesAt, IsAnsweredSoon, IsNoRun, IsWellMadeAt, WentBy}
 use Rattle.bac_straight_runs.proofs.Open.{open_until_ended, none_ended}
 use Rattle.bac_straight_runs.proofs.Deliveries.{run_of, was_straight}
 
@@ -44,7 +44,17 @@ module _ (W overtake : ℕ) (first old : World) (fresh : IsFresh first) (bounded
 
   -- where it can be answered it is
   module _ (client server : ℕ) (r : Request) (ending : Option Ending) (count : ℕ) (new : World) (g : GoesAt overtake old client server r ending count new)
-      (a b : Node) (can : CanBeAnswered overtake old client server a b r) where
+      (well : IsWellMadeAt old client) (well_too : IsWellMadeAt old server) (a b : Node) (can : CanBeAnswered overtake old client server a b r) where
+    can_answer : CanAnswer overtake old.now a b r
+    can_answer = record {
+      slot = can.can.slot;
+      short = (well_too b can.server_at).replies r;
+      goes = can.can.goes;
+      client_window = (well a can.client_at).window;
+      server_window = (well_too b can.server_at).window;
+      room = can.can.room;
+    }
+
     server_is : g.node ≡ b
     server_is = let e : Some g.node ≡ Some b = sym g.at ∙ can.server_at in cc
 
@@ -53,7 +63,7 @@ module _ (W overtake : ℕ) (first old : World) (fresh : IsFresh first) (bounded
         let before : it.asks.before ≡ a = let e : Some it.asks.before ≡ Some a = sym it.asks.at ∙ can.client_at in cc in
         let answers = straight_answers W overtake first old fresh bounded events run in
         let answered = answers client server g.node.settings.limits r ending count new it b can.server_at
-        (subst (λ (x : Node). CanAnswer overtake old.now x b r) (sym before) can.can) in
+        (subst (λ (x : Node). CanAnswer overtake old.now x b r) (sym before) can_answer) in
         record {
           octets = it.asks.asks.octets;
           spelled = it.asks.asks.spelled;

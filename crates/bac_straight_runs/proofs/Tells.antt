@@ -21,6 +21,6 @@ log_tells W overtake first old fresh bounded events run = record {
       delivered_run W overtake first old fresh bounded events run client server limits r asked new asks count each;
   straight = λ client server limits r asked new asks count each stops.
       delivered_straight W overtake first old fresh bounded events run client server limits r asked new asks count each stops;
-  answers = λ client server r ending count new g a b can.
-      soon W overtake first old fresh bounded events run client server r ending count new g a b can;
+  answers = λ client server r ending count new g well well_too a b can.
+      soon W overtake first old fresh bounded events run client server r ending count new g well well_too a b can;
 }

@@ -1,17 +1,19 @@
 -- What a straight run makes of a world.
-use Rattle.std.specs.Prelude.{◌≡◌, ◌⊎◌, ℕ, Bool, true, false, ◌∷◌, length, Option, Some, None, slice_get}
+use Rattle.std.specs.Prelude.{◌≡◌, ◌⊎◌, ℕ, ◌≤◌, Bool, true, false, ◌∷◌, length, Option, Some, None, slice_get}
 use Rattle.bac_apdu.specs.Apdu.{Limits}
 use Rattle.bac_service.specs.Requests.{SpellsRequest}
 use Rattle.bac_service.specs.Values.{Request, choice_of}
 use Rattle.bac_store.specs.Replies.{reply_to}
+use Rattle.bac_store.specs.ReplyLengths.{DATA_LIMIT, reply_length}
 use Rattle.bac_protocol.specs.Service.{Octets}
 use Rattle.bac_protocol.specs.Sizes.{request_way_of}
+use Rattle.bac_ends.specs.Ends.{is_free}
 use Rattle.bac_ends.specs.Meanings.{Ending}
 use Rattle.bac_world.specs.Node.{Node, Refusal, NodeRefuses}
 use Rattle.bac_world.specs.World.{World, WorldRun, IsAsked, IsRefused, peer_at}
 use Rattle.bac_world.specs.World.Event.{Ask}
 use Rattle.bac_straight.specs.Straight.{IsStraight, deliveries}
-use Rattle.bac_straight.specs.Answers.{CanAnswer, IsAnswered, datagrams, way_between}
+use Rattle.bac_straight.specs.Answers.{CanGo, IsAnswered, datagrams, way_between}
 
 -- an ask is accepted, or refused
 abbrev pub AsksIf : Bool → (old : World) → (client server : ℕ) → Limits → Request → (new : World) → Type 0
@@ -49,12 +51,28 @@ pub record GoesAt (overtake : ℕ) (old : World) (client server : ℕ) (r : Requ
   pub at : slice_get old.nodes server ≡ Some node
   pub goes : Goes overtake old client server node.settings.limits r ending count new
 
+-- the server has a slot without a live entry; its store's reply goes in one APDU or in segments that the client takes; and the client's window is no greater
+-- than the number of copies that may overtake one
+pub record CanReply (overtake now : ℕ) (client server : Node) (r : Request) : Type 0 where
+  pub slot : is_free now server.servers ≡ true
+  pub goes : CanGo (way_between client.settings server.settings (reply_to server.store r))
+  pub room : client.settings.window ≤ overtake
+
 -- both nodes are there, nothing speaks against the ask, and it can be answered
 pub record CanBeAnswered (overtake : ℕ) (old : World) (client server : ℕ) (a b : Node) (r : Request) : Type 0 where
   pub client_at : slice_get old.nodes client ≡ Some a
   pub server_at : slice_get old.nodes server ≡ Some b
   pub may_ask : (why : Refusal) → NodeRefuses old.now (peer_at b.link) b.settings.limits r a why → ⊥
-  pub can : CanAnswer overtake old.now a b r
+  pub can : CanReply overtake old.now a b r
+
+-- what holds of each node in code: a window of 1 at least, and replies that can be sent
+pub record IsWellMade (n : Node) : Type 0 where
+  pub window : 1 ≤ n.settings.window
+  pub replies : (r : Request) → reply_length (reply_to n.store r) ≤ DATA_LIMIT
+
+-- it holds of the node of that number
+abbrev pub IsWellMadeAt : World → ℕ → Type 0
+IsWellMadeAt w i = (n : Node) → slice_get w.nodes i ≡ Some n → IsWellMade n
 
 -- it was answered, with few deliveries for the datagrams of the request, which those octets spell, and of the reply
 pub record IsAnsweredSoon (old : World) (client server : ℕ) (a b : Node) (r : Request) (ending : Option Ending) (count : ℕ) (new : World) : Type 0 where

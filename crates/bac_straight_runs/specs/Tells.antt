@@ -8,7 +8,7 @@ use Rattle.bac_world.specs.World.{World, WorldStep, IsAsked}
 use Rattle.bac_world.specs.World.Event.{Deliver}
 use Rattle.bac_straight.specs.Straight.{IsStraight, ending_in}
 use Rattle.bac_straight_runs.specs.Logs.{IsSince, DeliverUnended, Stops}
-use Rattle.bac_straight_runs.specs.Runs.{CanBeAnswered, GoesAt, IsAnsweredSoon, WentBy}
+use Rattle.bac_straight_runs.specs.Runs.{CanBeAnswered, GoesAt, IsAnsweredSoon, IsWellMadeAt, WentBy}
 
 -- in each world: where `number` is that of the next copy, none was delivered yet, or one more is; and the facts before the ask stay as they were
 pub record LoopGoesOn : Type 0 where
@@ -18,7 +18,7 @@ pub record LoopGoesOn : Type 0 where
   pub since : (overtake ask since number : ℕ) (u v : World) → IsSince since ask u.log → WorldStep overtake u (Deliver number) v → IsSince since ask v.log
 
 -- in this world: an ask is newer than the facts before it; as many deliveries as there were are a run; where they stop they were a straight run; and a
--- straight run answers where it can be answered
+-- straight run between nodes that are well made answers where it can be answered
 pub record LogTells (overtake : ℕ) (old : World) : Type 0 where
   pub since : (client server : ℕ) (limits : Limits) (r : Request) (asked : World) → IsAsked old client server limits r asked
       → IsSince (length old.log) (length old.notes) asked.log
@@ -29,5 +29,5 @@ pub record LogTells (overtake : ℕ) (old : World) : Type 0 where
       → Stops (length old.notes) (length old.copies + count) new
       → IsStraight overtake old client server limits r (ending_in (length old.notes) new.log) count new
   pub answers : (client server : ℕ) (r : Request) (ending : Option Ending) (count : ℕ) (new : World)
-      → GoesAt overtake old client server r ending count new → (a b : Node) → CanBeAnswered overtake old client server a b r
-      → IsAnsweredSoon old client server a b r ending count new
+      → GoesAt overtake old client server r ending count new → IsWellMadeAt old client → IsWellMadeAt old server
+      → (a b : Node) → CanBeAnswered overtake old client server a b r → IsAnsweredSoon old client server a b r ending count new

@@ -13,7 +13,7 @@ ghost use Rattle.bac_straight.specs.Straight.{ending_in};
 ghost use Rattle.bac_straight_runs.specs.Faults.{Fails, StopsShort};
 ghost use Rattle.bac_straight_runs.specs.Going.{HasStopped, IsCutShort, IsStuck};
 ghost use Rattle.bac_straight_runs.specs.Logs.{IsSince, Stops};
-ghost use Rattle.bac_straight_runs.specs.Runs.{AsksIf, CanBeAnswered, Goes, GoesAt, IsAnsweredSoon, WentSoFar};
+ghost use Rattle.bac_straight_runs.specs.Runs.{AsksIf, CanBeAnswered, Goes, GoesAt, IsAnsweredSoon, IsWellMadeAt, WentSoFar};
 
 use crate::ended::{copied, ending_of};
 use bac_apdu::Limits;
@@ -40,6 +40,15 @@ fn limits_of(world: &World, node: usize) -> Option<Limits>
     match world.nodes().get(node) {
         Some(node) => Some(node.settings().limits),
         None => None,
+    }
+}
+
+/// What holds of each node: its window is 1 at least, and each reply of its store can be sent.
+fn is_well_made(world: &World, node: usize)
+    ensures { IsWellMadeAt world.now.world node }
+{
+    if let Some(node) = world.nodes().get(node) {
+        node.can_reply();
     }
 }
 
@@ -202,6 +211,8 @@ pub fn straight(
     ensures once { IsOnceNow world.new }
 {
     world.is_once();
+    is_well_made(world, client);
+    is_well_made(world, server);
     let Some(limits) = limits_of(world, server) else {
         return Err(WorldFault::NoSuchNode);
     };

@@ -13,6 +13,22 @@ use bac_value::{ObjectIdentifier, OctetString, read_data};
 use std::alloc::Global;
 use std::test::Fail;
 
+mod large_client;
+
+/// A node that takes APDUs of 50 octets and any number of segments.
+const SMALL: Limits = Limits {
+    max_apdu: 0,
+    takes_segments: true,
+    max_segments: 7,
+};
+
+/// A node that takes APDUs of 1,476 octets and any number of segments.
+const LARGE: Limits = Limits {
+    max_apdu: 5,
+    takes_segments: true,
+    max_segments: 7,
+};
+
 /// The octets of the long write and the long read.
 const LONG: usize = 60_000;
 
@@ -29,20 +45,19 @@ const LOG: ObjectIdentifier = ObjectIdentifier {
 /// Nodes 0 and 1, of which node 1 has that store. Both take any number of segments of 50 octets.
 fn world(alloc: Global, store: Store) -> Result<World, Fail> {
     let mut nodes = Vec::new(alloc);
-    nodes.push((config(0xC0), house(alloc)?))?;
-    nodes.push((config(0xC1), store))?;
+    nodes.push((config(0xC0, SMALL), house(alloc)?))?;
+    nodes.push((config(0xC1, SMALL), store))?;
+    world_of(alloc, nodes)
+}
+
+fn world_of(alloc: Global, nodes: Vec<(Config, Store)>) -> Result<World, Fail> {
     match World::new(alloc, nodes, 128) {
         Ok(world) => Ok(world),
         Err(_) => Err(Fail::from("no world")),
     }
 }
 
-fn config(port: u8) -> Config {
-    let limits = Limits {
-        max_apdu: 0,
-        takes_segments: true,
-        max_segments: 7,
-    };
+fn config(port: u8, limits: Limits) -> Config {
     Config {
         link: [127, 0, 0, 1, 0xBA, port],
         limits,
@@ -95,16 +110,25 @@ fn reads(rt: HostRuntime) -> Result<(), Fail> {
     Ok(())
 }
 
+/// A write of 60,000 octets at position 0 of file 1.
+fn write(alloc: Global) -> Result<OwnedRequest, Fail> {
+    let octets = vec![in alloc; 0xABu8; LONG]?;
+    let Some(content) = OctetString::new(octets) else {
+        return Err(Fail::from("no octets of a file"));
+    };
+    let access = WriteAccess::Stream(WriteStream { start: 0, content });
+    Ok(AnyRequest::WriteFile(WriteFile { file: LOG, access }))
+}
+
 /// A file of 60,000 octets is written, 1,364 segments with 44 SegmentACKs and one answer, and read, one request and 1,334 segments with 42 SegmentACKs.
 #[test]
 fn long_file(rt: HostRuntime) -> Result<(), Fail> {
     let alloc = rt.alloc();
     let mut world = world(alloc, house(alloc)?)?;
-    let octets = vec![in alloc; 0xABu8; LONG]?;
-    let content = OctetString::new(octets).expect(&rt, "octets of a file");
-    let access = WriteAccess::Stream(WriteStream { start: 0, content });
-    let write = AnyRequest::WriteFile(WriteFile { file: LOG, access });
-    assert_eq!(&rt; answered(alloc, &mut world, 0, 1, write), Ok(Some(1_409)));
+    assert_eq!(&rt;
+        answered(alloc, &mut world, 0, 1, write(alloc)?),
+        Ok(Some(1_409))
+    );
     let access = ReadAccess::Stream {
         start: 0,
         count: 60_000,

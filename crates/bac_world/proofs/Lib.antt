@@ -19,3 +19,6 @@ pub mod NodeLaws
 pub mod Apart
 pub mod TickLaws
 pub mod Answered
+pub mod RepeatsFall
+pub mod RetriesFall
+pub mod Claims

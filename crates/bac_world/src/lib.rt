@@ -7,7 +7,8 @@ pub mod examples;
 pub mod node;
 
 ghost use Rattle.std.specs.Prelude.{ℕ, List};
-ghost use Rattle.bac_world.specs.Once.{IsOnce};
+ghost use Rattle.bac_world.specs.Claims.{AreEndedOnce, ArePerformedOnce, AreReplayed};
+ghost use Rattle.bac_world.specs.Once.{Fact, IsOnce, Stores};
 ghost use Rattle.bac_world.specs.World.{World, Event, WorldRun, IsFresh, IsBounded, stores_of};
 
 /// After every run of a fresh world each accepted ask takes effect at most once, and exactly once where a service answer reached its client; the
@@ -15,4 +16,16 @@ ghost use Rattle.bac_world.specs.World.{World, Event, WorldRun, IsFresh, IsBound
 pub fn at_most_once()
     ensures { (W overtake : ℕ) (w w' : World) → IsFresh w → IsBounded W overtake w → (events : List Event) → WorldRun overtake w events w'
         → IsOnce (stores_of w.nodes) w'.log (stores_of w'.nodes) }
+{}
+
+/// A log is right with the stores exactly where three claims hold of it, each of which can be read by itself: of what was performed, of what was asked and how
+/// it ended, and of what the stores are.
+#[tactic(auto, using(crate::proofs::Claims::performed_once, crate::proofs::Claims::ended_once, crate::proofs::Claims::replayed,
+    crate::proofs::Claims::together))]
+pub fn once_is_its_claims()
+    ensures performed { (opening : Stores) (log : List Fact) (stores : Stores) → IsOnce opening log stores → ArePerformedOnce opening log }
+    ensures ended { (opening : Stores) (log : List Fact) (stores : Stores) → IsOnce opening log stores → AreEndedOnce log }
+    ensures stores { (opening : Stores) (log : List Fact) (stores : Stores) → IsOnce opening log stores → AreReplayed opening log stores }
+    ensures together { (opening : Stores) (log : List Fact) (stores : Stores) → ArePerformedOnce opening log → AreEndedOnce log
+        → AreReplayed opening log stores → IsOnce opening log stores }
 {}

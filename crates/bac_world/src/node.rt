@@ -1,4 +1,5 @@
 //! What a node does with a datagram and with a tick.
+ghost use Rattle.bac_world.specs.Counts.{RepeatsFall, RetriesFall};
 ghost use Rattle.bac_world.specs.Laws.{DropsExactly, NewIsPerformed, RepeatGetsKeptReply, StoppedIsResumed, StoresReply};
 ghost use Rattle.bac_world.specs.Keys.{KeysStayApart};
 ghost use Rattle.bac_world.specs.Ticks.{TickRepeats};
@@ -46,4 +47,18 @@ pub fn keys_stay_apart()
 #[tactic(auto, using(crate::proofs::TickLaws::tick_repeats))]
 pub fn tick_repeats_what_is_due()
     ensures { TickRepeats }
+{}
+
+/// The repeats of an open ticket fall by one where a tick sends its request again, and its retries where a tick sends its window again. A datagram leaves both,
+/// but where it acknowledges more of the window, whose retries are full then; an ask leaves both of all others, and its own ticket has all of them.
+#[tactic(auto, using(crate::proofs::RepeatsFall::repeats_fall))]
+pub fn repeats_fall()
+    ensures { RepeatsFall }
+{}
+
+/// The retries of a reply in segments fall by one where a tick sends its window again. A datagram leaves them, but where it acknowledges more of the window or
+/// resumes a transfer that had stopped: they are full then, as those of a reply that begins.
+#[tactic(auto, using(crate::proofs::RetriesFall::retries_fall))]
+pub fn retries_fall()
+    ensures { RetriesFall }
 {}

@@ -51,7 +51,7 @@ returns-clause-answered c = λ a b can.
     told_as c.ask_and_deliver-run.result
     (λ s g. (tells w c.is_once.ensures.history).answers c.args.client c.args.server r (option_map ending_view s.ending) s.deliveries new
     (goes_at w.overtake w.world c.args.client c.args.server limits r new (c.in-Some.ensures).0 (c.in-Some.ensures).1 (c.in-Some.ensures).2
-    (option_map ending_view s.ending) s.deliveries g) a b can)
+    (option_map ending_view s.ending) s.deliveries g) c.is_well_made.ensures c.is_well_made-2.ensures a b can)
     (λ f g. tt)
     c.ask_and_deliver-run.ensures.goes
 

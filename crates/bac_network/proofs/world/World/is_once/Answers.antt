@@ -1,8 +1,23 @@
 -- What is known of how it came to be.
 use Rattle.std.proofs.Common.{subst}
-use Rattle.bac_network.specs.Histories.{IsOnceNow}
-use Rattle.bac_network.proofs.Histories.{once_now}
+use Rattle.bac_network.specs.Histories.{AreEndedOnceNow, ArePerformedOnceNow, AreReplayedNow, IsOnceNow, view_of}
+use Rattle.bac_network.proofs.Histories.{ended_now, once_now, performed_now, replayed_now}
 use Rattle.bac_network.proofs.world.World.is_once.Goals as goal
 
 pub returns-clause-once : goal.returns-clause-once
 returns-clause-once c = subst IsOnceNow c.self.view_is (once_now c.self.inside.window _ c.self.invariant.history)
+
+pub returns-clause-performed : goal.returns-clause-performed
+returns-clause-performed c =
+    let w = view_of c.self.inside.overtake c.self.inside.opening.items c.self.inside.network in
+    subst ArePerformedOnceNow c.self.view_is (performed_now w (once_now c.self.inside.window w c.self.invariant.history))
+
+pub returns-clause-ended : goal.returns-clause-ended
+returns-clause-ended c =
+    let w = view_of c.self.inside.overtake c.self.inside.opening.items c.self.inside.network in
+    subst AreEndedOnceNow c.self.view_is (ended_now w (once_now c.self.inside.window w c.self.invariant.history))
+
+pub returns-clause-stores : goal.returns-clause-stores
+returns-clause-stores c =
+    let w = view_of c.self.inside.overtake c.self.inside.opening.items c.self.inside.network in
+    subst AreReplayedNow c.self.view_is (replayed_now w (once_now c.self.inside.window w c.self.invariant.history))

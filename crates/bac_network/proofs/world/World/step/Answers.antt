@@ -4,7 +4,7 @@ use Rattle.bac_network.specs.Histories.{view_of}
 use Rattle.bac_network.specs.Networks.{world_of}
 use Rattle.bac_network.specs.Views.{event_view}
 use Rattle.bac_network.proofs.Happening.{node_exactly, copy_exactly, clock_exactly, memory_only, step_is, told_is, same_seen}
-use Rattle.bac_network.proofs.Histories.{kept_after, once_now, ready_now}
+use Rattle.bac_network.proofs.Histories.{ended_now, kept_after, once_now, performed_now, ready_now, replayed_now}
 use Rattle.bac_network.proofs.world.World.step.Goals as goal
 
 pub step-requires : goal.step-requires
@@ -20,6 +20,27 @@ returns-clause-once c =
     let kept = kept_after c.self.inside.window c.self.inside.overtake c.self.inside.opening.items c.self.inside.network c.step.new.self c.step.ensures.links
     c.self.invariant (event_view c.args.event.now) c.step.result c.step.ensures.happens in
     once_now c.self.inside.window (view_of c.self.inside.overtake c.self.inside.opening.items c.step.new.self) kept.history
+
+pub returns-clause-performed : goal.returns-clause-performed
+returns-clause-performed c =
+    let kept = kept_after c.self.inside.window c.self.inside.overtake c.self.inside.opening.items c.self.inside.network c.step.new.self c.step.ensures.links
+    c.self.invariant (event_view c.args.event.now) c.step.result c.step.ensures.happens in
+    let w = view_of c.self.inside.overtake c.self.inside.opening.items c.step.new.self in
+    performed_now w (once_now c.self.inside.window w kept.history)
+
+pub returns-clause-ended : goal.returns-clause-ended
+returns-clause-ended c =
+    let kept = kept_after c.self.inside.window c.self.inside.overtake c.self.inside.opening.items c.self.inside.network c.step.new.self c.step.ensures.links
+    c.self.invariant (event_view c.args.event.now) c.step.result c.step.ensures.happens in
+    let w = view_of c.self.inside.overtake c.self.inside.opening.items c.step.new.self in
+    ended_now w (once_now c.self.inside.window w kept.history)
+
+pub returns-clause-stores : goal.returns-clause-stores
+returns-clause-stores c =
+    let kept = kept_after c.self.inside.window c.self.inside.overtake c.self.inside.opening.items c.self.inside.network c.step.new.self c.step.ensures.links
+    c.self.invariant (event_view c.args.event.now) c.step.result c.step.ensures.happens in
+    let w = view_of c.self.inside.overtake c.self.inside.opening.items c.step.new.self in
+    replayed_now w (once_now c.self.inside.window w kept.history)
 
 pub returns-clause-went : goal.returns-clause-went
 returns-clause-went c =
