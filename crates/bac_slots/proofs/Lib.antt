@@ -4,3 +4,4 @@ pub mod KeyOrder
 pub mod Indexes
 pub mod Swept
 pub mod Values
+pub mod Ages

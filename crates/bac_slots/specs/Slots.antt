@@ -1,5 +1,5 @@
 -- A table of slots as the list of them in order of putting, and what its calls make of that list.
-use Rattle.std.specs.Prelude.{◌≡◌, ℕ, zero, suc, Bool, true, false, List, [], ◌∷◌, Option, Some, None, length, if◌then◌else◌, nat_eq, count_by}
+use Rattle.std.specs.Prelude.{◌≡◌, ℕ, zero, suc, ◌<◌, ◌≤◌, Bool, true, false, List, [], ◌∷◌, Option, Some, None, length, if◌then◌else◌, nat_eq, count_by}
 use Rattle.std.specs.Ordering.{is_gt}
 use Rattle.std.specs.Int.Digits.{digits_of}
 use Rattle.std.specs.declared.cmp.Ordering.{Ordering}
@@ -52,6 +52,20 @@ IsApart eq key (s ∷ slots) = (eq key s.key ≡ false) × IsApart eq key slots
 abbrev pub IsDistinct : {K T : Type 0} → (K → K → Bool) → List (Slot K T) → Type 0
 IsDistinct eq [] = Unit {0}
 IsDistinct eq (s ∷ slots) = IsApart eq s.key slots × IsDistinct eq slots
+
+-- the fact holds of each slot
+abbrev pub EachSlot : {K T : Type 0} → (Slot K T → Type 0) → List (Slot K T) → Type 0
+EachSlot P [] = Unit {0}
+EachSlot P (s ∷ slots) = P s × EachSlot P slots
+
+-- none began after one that was put later
+abbrev pub Ascends : {K T : Type 0} → List (Slot K T) → Type 0
+Ascends [] = Unit {0}
+Ascends (s ∷ slots) = EachSlot (λ t. s.begin ≤ t.begin) slots × Ascends slots
+
+-- each that began after that moment has a value that passes
+abbrev pub YoungPass : {K T : Type 0} → (T → Bool) → ℕ → List (Slot K T) → Type 0
+YoungPass test bound slots = EachSlot (λ s. bound < s.begin → test s.value ≡ true) slots
 
 -- the n-th slot in order of putting is the first with that key
 abbrev pub IsAt : {K T : Type 0} → (K → K → Bool) → K → ℕ → List (Slot K T) → Type 0

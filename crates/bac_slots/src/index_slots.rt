@@ -85,6 +85,13 @@ impl<K: Ord + Copy + Drop, T: Drop> SlotTable<K, T> for IndexSlots<K, T> {
         Some(&self.slots[found.place].value)
     }
 
+    fn get_mut(&mut self, key: &K) -> Option<&mut T> {
+        let Some(found) = look_up(&self.slots, &self.places, key) else {
+            return None;
+        };
+        Some(&mut self.slots[found.place].value)
+    }
+
     fn put(&mut self, key: K, begin: u64, value: T) -> Result<(), (K, T)> {
         let len = self.slots.len();
         if len >= self.capacity {

@@ -1,8 +1,8 @@
 //! Laws of the lists of slots: each function's contract is one.
-ghost use Rattle.std.specs.Prelude.{◌≡◌, ℕ, ◌+◌, Bool, true, false, List, [], ◌∷◌, ◌++◌, length, map, filter, count_by, Some, None, slice_get};
+ghost use Rattle.std.specs.Prelude.{◌≡◌, ℕ, ◌+◌, ◌≤◌, Bool, true, false, List, [], ◌∷◌, ◌++◌, length, map, filter, count_by, Some, None, slice_get};
 ghost use Rattle.std.specs.declared.cmp.Ordering.TheVariants.{Less};
 ghost use Rattle.bac_slots.specs.declared.slot.Slot.{Slot};
-ghost use Rattle.bac_slots.specs.Slots.{value_at, with_value, without, nth_by_key, in_order, keep, IsDistinct};
+ghost use Rattle.bac_slots.specs.Slots.{value_at, with_value, without, nth_by_key, in_order, keep, EachSlot, Ascends, IsDistinct};
 
 /// The slots in order of their keys are as many, ascend strictly, and have the same values; the n-th slot by key is the n-th of them.
 pub fn slots_in_order<K: Ord, T>()
@@ -53,4 +53,13 @@ pub fn sweeping_slots<K: Ord, T>()
     ensures values { (slots : List (Slot K T)) (test : T → Bool) (key : K) → IsDistinct K.eq slots
         → value_at K.eq key (filter (λ s. test s.value) slots) ≡ keep test (value_at K.eq key slots) }
     ensures length { (slots : List (Slot K T)) (test : T → Bool) → length (filter (λ s. test s.value) slots) ≡ count_by (λ s. test s.value) slots }
+{}
+
+/// Slots of which none began after one that was put later stay so where one is put that began before none, where one is set or
+/// taken out, and after a sweep.
+pub fn ascending_slots<K: Ord, T>()
+    ensures put { (slots : List (Slot K T)) (x : Slot K T) → Ascends slots → EachSlot (λ s. s.begin ≤ x.begin) slots → Ascends (slots ++ x ∷ []) }
+    ensures set { (slots : List (Slot K T)) (key : K) (v : T) → Ascends slots → Ascends (with_value K.eq key v slots) }
+    ensures removed { (slots : List (Slot K T)) (key : K) → Ascends slots → Ascends (without K.eq key slots) }
+    ensures swept { (slots : List (Slot K T)) (test : T → Bool) → Ascends slots → Ascends (filter (λ s. test s.value) slots) }
 {}

@@ -12,9 +12,10 @@ mod sweeping;
 pub use comparing::{Same, same_tables};
 pub use index_slots::IndexSlots;
 pub use laws::{
-    putting_a_slot, removing_a_slot, setting_a_value, setting_again, slots_in_order, sweeping_slots,
+    ascending_slots, putting_a_slot, removing_a_slot, setting_a_value, setting_again,
+    slots_in_order, sweeping_slots,
 };
 pub use plain_slots::PlainSlots;
 pub use slot::Slot;
 pub use slot_table::{Count, SlotTable};
-pub use sweeping::{Test, count_passing, sweep};
+pub use sweeping::{Test, count_passing, has_room_once_swept, sweep, sweep_oldest};

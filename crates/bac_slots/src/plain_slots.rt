@@ -77,6 +77,13 @@ impl<K: Ord + Copy + Drop, T: Drop> SlotTable<K, T> for PlainSlots<K, T> {
         Some(&self.slots[at].value)
     }
 
+    fn get_mut(&mut self, key: &K) -> Option<&mut T> {
+        let Some(at) = place(&self.slots, key) else {
+            return None;
+        };
+        Some(&mut self.slots[at].value)
+    }
+
     fn put(&mut self, key: K, begin: u64, value: T) -> Result<(), (K, T)> {
         if self.slots.len() >= self.capacity {
             return Err((key, value));

@@ -1,4 +1,6 @@
 //! What a table of slots does, seen as the list of its slots in order of putting.
+ghost use Rattle.std.specs.Borrow.{LendsSo, sem};
+ghost use Rattle.std.specs.Option.{option_copied_mut};
 ghost use Rattle.std.specs.Prelude.{◌≡◌, ◌≢◌, ℕ, ◌+◌, ◌<◌, ◌≤◌, List, [], ◌∷◌, ◌++◌, length, Some, None, MatchOption, MatchResult, IfOk, slice_get, min};
 ghost use Rattle.bac_slots.specs.declared.slot.Slot.{Slot};
 ghost use Rattle.bac_slots.specs.Slots.{value_at, with_value, without, nth_by_key, rank, IsDistinct};
@@ -60,6 +62,13 @@ pub trait SlotTable<K: Ord + Copy, T> {
     /// The value at a key; None where it is absent.
     fn get(&self, key: &K) -> Option<&T>
         ensures { MatchOption result (value_at K.eq key.now (slots self.now) ≡ None) (λ x. value_at K.eq key.now (slots self.now) ≡ Some x.now) };
+
+    /// The value at a key, lent to be changed in its slot; None, with nothing changed, where it is absent.
+    fn get_mut(&mut self, key: &K) -> Option<&mut T>
+        ensures* writes_back { sem 𝓛 (LendsSo Self.row T.row self.entry result
+            (λ t w. (slots t ≡ with_value K.eq key.now w (slots self.old)) × (capacity t ≡ capacity self.old))
+            (λ t. (slots t ≡ slots self.old) × (capacity t ≡ capacity self.old))) }
+        ensures value { option_copied_mut result ≡ value_at K.eq key.now (slots self.old) };
 
     /// Adds a slot last, whose key is absent; key and value are handed back exactly where the table is full.
     fn put(&mut self, key: K, begin: u64, value: T) -> Result<(), (K, T)>

@@ -1,7 +1,7 @@
 //! Slots whose value passes a test: how many there are, and taking out the others.
-ghost use Rattle.std.specs.Prelude.{◌≡◌, ◌<◌, Bool, true, false, filter, count_by, length, MatchOption, Some, slice_get};
+ghost use Rattle.std.specs.Prelude.{◌≡◌, ◌<◌, Bool, true, false, filter, count_by, length, MatchOption, Some, nat_lt, slice_get};
 ghost use Rattle.bac_slots.specs.declared.slot.Slot.{Slot};
-ghost use Rattle.bac_slots.specs.Slots.{without};
+ghost use Rattle.bac_slots.specs.Slots.{without, Ascends, YoungPass};
 
 use crate::slot_table::SlotTable;
 
@@ -26,6 +26,77 @@ pub fn sweep<K: Ord + Copy + Drop, T: Drop, S: SlotTable<K, T>, P: Test<T>>(tabl
         };
         take_out(table, &key);
     }
+}
+
+/// Does what `sweep` does, looking only at the slots that began at the bound or before: none began after one that was put later,
+/// and each that began after the bound passes.
+pub fn sweep_oldest<K: Ord + Copy + Drop, T: Drop, S: SlotTable<K, T>, P: Test<T>>(
+    table: &mut S,
+    test: &P,
+    bound: u64,
+)
+    requires ascending { Ascends (S.slots table.old) }
+    requires young { YoungPass (P.passes test.now) bound (S.slots table.old) }
+    ensures slots { S.slots table.new ≡ filter (λ s. P.passes test.now s.value) (S.slots table.old) }
+    ensures same { S.capacity table.new ≡ S.capacity table.old }
+{
+    let mut kept = 0;
+    while kept < table.len() {
+        if is_young(table, kept, bound) {
+            return;
+        }
+        let Some(key) = failing_at(table, kept, test) else {
+            kept += 1;
+            continue;
+        };
+        take_out(table, &key);
+    }
+}
+
+/// Whether a slot is free, or would be after a sweep; in a full table it looks from the oldest slot on, no further than the first that
+/// fails the test or began after the bound. None began after one that was put later, and each that began after the bound passes.
+pub fn has_room_once_swept<K: Ord + Copy + Drop, T, S: SlotTable<K, T>, P: Test<T>>(
+    table: &S,
+    test: &P,
+    bound: u64,
+) -> bool
+    requires ascending { Ascends (S.slots table.now) }
+    requires young { YoungPass (P.passes test.now) bound (S.slots table.now) }
+    ensures { result ≡ nat_lt (count_by (λ s. P.passes test.now s.value) (S.slots table.now)) (S.capacity table.now) }
+{
+    table.len() < table.room() || has_failing(table, test, bound)
+}
+
+// Whether a slot has a value that fails the test.
+fn has_failing<K: Ord + Copy + Drop, T, S: SlotTable<K, T>, P: Test<T>>(
+    table: &S,
+    test: &P,
+    bound: u64,
+) -> bool
+    requires ascending { Ascends (S.slots table.now) }
+    requires young { YoungPass (P.passes test.now) bound (S.slots table.now) }
+    ensures { result ≡ nat_lt (count_by (λ s. P.passes test.now s.value) (S.slots table.now)) (length (S.slots table.now)) }
+{
+    for n in 0..table.len() {
+        if is_young(table, n, bound) {
+            return false;
+        }
+        let Some(_key) = failing_at(table, n, test) else {
+            continue;
+        };
+        return true;
+    }
+    false
+}
+
+// Whether the n-th slot in order of putting began after the bound, or there is none.
+fn is_young<K: Ord + Copy + Drop, T, S: SlotTable<K, T>>(table: &S, n: usize, bound: u64) -> bool
+    ensures { MatchOption (slice_get (S.slots table.now) n) (result ≡ true) (λ s. result ≡ nat_lt bound s.begin) }
+{
+    let Some(slot) = table.by_age(n) else {
+        return true;
+    };
+    bound < slot.1
 }
 
 /// How many slots have a value that passes the test: as many as a sweep leaves.
