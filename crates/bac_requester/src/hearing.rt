@@ -59,7 +59,8 @@ pub(crate) fn hears<S: SlotTable<PeerKey, Client>>(
     let Some(slot) = table.get_mut(&context.key) else {
         return Ok(nothing(alloc));
     };
-    let Client { number, held } = std::mem::replace(slot, Client::stand_in());
+    let client = std::mem::replace(slot, Client::stand_in());
+    let Client { number, held } = client;
     match held {
         Held::Closed { first } => {
             let held = Held::Closed { first };

@@ -53,7 +53,8 @@ fn tick_at<S: SlotTable<PeerKey, Client>>(table: &mut S, context: &Context)
     let Some(slot) = table.get_mut(&context.key) else {
         return;
     };
-    let Client { number, held } = std::mem::replace(slot, Client::stand_in());
+    let client = std::mem::replace(slot, Client::stand_in());
+    let Client { number, held } = client;
     let held = ticked(context, held);
     *slot = Client { number, held };
 }

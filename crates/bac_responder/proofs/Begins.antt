@@ -1,6 +1,6 @@
 -- Slots stay in order of their begins, whatever comes or is due; so those that are not live stand first.
 use Rattle.std.proofs.Common.{◌≡◌, ℕ, ◌+◌, ◌-◌, ◌<◌, ◌≤◌, Bool, true, false, nat_le, if◌then◌else◌, List, [], ◌∷◌, ◌++◌, map, filter}
-use Rattle.std.proofs.Common.{Option, Some, None, refl, ap, sym, subst, ◌∙◌, arith}
+use Rattle.std.proofs.Common.{Option, Some, None, refl, ap, sym, ◌∙◌, arith}
 use Rattle.std.proofs.lemmas.Bool.Decides.{nat_tests}
 use Rattle.bac_slots.specs.Slots.{Ascends, EachSlot, YoungPass, value_at, with_value}
 use Rattle.bac_slots.proofs.Ages.{ascends_kept, ascends_put, ascends_set, each_kept, each_more, each_put, each_set}

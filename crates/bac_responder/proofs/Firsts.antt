@@ -1,11 +1,12 @@
 -- The first slots of a table, each with another value.
-use Rattle.std.proofs.Common.{◌≡◌, ℕ, zero, suc, ◌+◌, true, false, List, [], ◌∷◌, map, length, Some, None, slice_get, refl, ap, sym, subst, ◌∙◌, arith, rules}
+use Rattle.std.proofs.Common.{◌≡◌, ℕ, zero, suc, ◌+◌, true, false, List, [], ◌∷◌, map, length, Some, slice_get, refl, ap, sym, subst, ◌∙◌, arith, rules}
 use Rattle.std.specs.Ordering.{is_eq, ordering_reverse}
 use Rattle.std.specs.Cmp.{IsEquivalence}
 use Rattle.std.specs.Cmp.Rules.{comparing}
 use Rattle.std.specs.declared.cmp.Ordering.{Ordering}
 use Rattle.std.specs.declared.cmp.Ordering.TheVariants.{Less, Equal, Greater}
 use Rattle.bac_slots.specs.Slots.{value_at, with_value, IsApart, IsDistinct}
+use Rattle.bac_slots.proofs.Values.{set_back}
 use Rattle.bac_protocol.specs.Server.{Entry}
 use Rattle.bac_protocol.specs.Context.{Settings}
 use Rattle.bac_ends.specs.Ends.{server_ticked}
@@ -24,6 +25,12 @@ self_equal Greater e = absurd cc
 
 pub same_self : (k : PeerKey) → code_same_key k k ≡ true
 same_self k = self_equal (peer_key_cmp (peer_key_view k) (peer_key_view k)) (peer_key_cmp_total.antisymm (peer_key_view k) (peer_key_view k))
+
+-- the value that was there is back
+pub set_back_at : (key : PeerKey) (d x : Entry) (old new : List TableSlot) → value_at code_same_key key old ≡ Some d → x ≡ d
+    → new ≡ with_value code_same_key key x old → new ≡ old
+set_back_at key d x old new at same set =
+    set ∙ ap (λ (y : Entry). with_value code_same_key key y old) same ∙ set_back PeerKey Entry code_same_key key_equivalence key d old at
 
 apart_at : (key : PeerKey) (n : ℕ) (slots : List TableSlot) (s : TableSlot) → IsApart code_same_key key slots → slice_get slots n ≡ Some s
     → code_same_key key s.key ≡ false
