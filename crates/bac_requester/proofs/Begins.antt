@@ -1,5 +1,5 @@
 -- Slots stay in order of their first sendings, whatever comes, is asked or is due; so those that are not held are not young.
-use Rattle.std.proofs.Common.{◌≡◌, ℕ, ◌+◌, ◌-◌, ◌<◌, ◌≤◌, Bool, true, false, nat_le, if◌then◌else◌, List, [], ◌∷◌, ◌++◌, map, filter}
+use Rattle.std.proofs.Common.{◌≡◌, ℕ, ◌+◌, ◌-◌, ◌<◌, ◌≤◌, Bool, true, false, nat_le, if◌then◌else◌, List, [], ◌∷◌, map, filter}
 use Rattle.std.proofs.Common.{Option, Some, None, Result, Ok, Err, refl, ap, sym, subst, ◌∙◌, arith}
 use Rattle.std.proofs.lemmas.Bool.Decides.{nat_tests}
 use Rattle.bac_apdu.specs.Apdu.{Apdu}
@@ -118,7 +118,9 @@ module _ (c : Settings) (l now : ℕ) (le : l ≤ now) where
       go : (b : Bool) → (if b then AskOutcome.Refused ends.AskRefusal.NoSlot else AskOutcome.Asked (accepts c now key ask e)) ≡ AskOutcome.Asked a
           → AreInOrder now a.end.slots
       go true is = absurd cc
-      go false is = let same : accepts c now key ask e ≡ a = cc in subst (λ (y : Accepted). AreInOrder now y.end.slots) same (accepts_in_order key ask e first h)
+      go false is =
+          let same : accepts c now key ask e ≡ a = cc in
+          subst (λ (y : Accepted). AreInOrder now y.end.slots) same (accepts_in_order key ask e first h)
 
   outcome_in_order : (outcome : AskOutcome) (old new : ClientEnd) (result : Result Asked AskFault)
       → ((a : Accepted) → outcome ≡ AskOutcome.Asked a → AreInOrder now a.end.slots)

@@ -10,14 +10,8 @@ pub(crate) fn later(latest: Option<u64>, moment: u64) -> Option<u64>
     ensures { result ≡ later_of latest moment }
 {
     match latest {
-        Some(latest) => {
-            if latest <= moment {
-                Some(moment)
-            } else {
-                None
-            }
-        }
-        None => None,
+        Some(latest) if latest <= moment => Some(moment),
+        _ => None,
     }
 }
 

@@ -74,7 +74,8 @@ module _ (f : TableSlot → Entry) where
   get_after (suc n) (x ∷ slots) = get_after n slots
 
   -- it stays as it is, if it is there
-  same_more : (n : ℕ) (slots : List TableSlot) → ((s : TableSlot) → slice_get slots n ≡ Some s → f s ≡ s.value) → with_first f (suc n) slots ≡ with_first f n slots
+  same_more : (n : ℕ) (slots : List TableSlot) → ((s : TableSlot) → slice_get slots n ≡ Some s → f s ≡ s.value)
+      → with_first f (suc n) slots ≡ with_first f n slots
   same_more zero [] e = refl
   same_more (suc n) [] e = refl
   same_more zero (x ∷ slots) e = ap (λ v. record x { value = v } ∷ slots) (e x refl)

@@ -109,14 +109,7 @@ impl<S: SlotTable<PeerKey, Entry> + Drop> Responder<S> {
             key,
             moment,
         };
-        let served = hears(
-            alloc,
-            &context,
-            &mut self.table,
-            self.latest,
-            apdu,
-            store,
-        );
+        let served = hears(alloc, &context, &mut self.table, self.latest, apdu, store);
         self.latest = later(self.latest, moment);
         self.due = at_the_earliest(self.due, moment);
         served

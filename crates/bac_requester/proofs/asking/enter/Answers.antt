@@ -16,4 +16,5 @@ put-requires-clause-room g c =
 
 pub returns-clause-slots : goal.returns-clause-slots
 returns-clause-slots g c =
-    entered c.args.context.now.moment c.args.context.now.key c.args.client (g.S.SlotTable.slots c.args.table.now) _ _ c.sweep_unheld.ensures.slots c.put.ensures.slots
+    entered c.args.context.now.moment c.args.context.now.key c.args.client (g.S.SlotTable.slots c.args.table.now) _ _
+    c.sweep_unheld.ensures.slots c.put.ensures.slots
