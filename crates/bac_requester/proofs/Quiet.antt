@@ -87,7 +87,7 @@ module _ (c : Settings) (now due : ℕ) (before : now < due) where
       ∙ ap (λ b. if b then Ends [] Expired else open_ticks (context_of c now key) t t.phase) in_time
       ∙ waits t key t.phase q.unended q.timer
 
-  held_stays : (key : keys.PeerKey) (number : ℕ) (h : Held) → IsHeldQuiet due h
+  pub held_stays : (key : keys.PeerKey) (number : ℕ) (h : Held) → IsHeldQuiet due h
       → held_ticked (context_of c now key) number h ≡ record { number = number; held = h }
   held_stays key number (Held.Open t) q =
       ap (λ r. client_after now number t r) (stays key t q) ∙ ap (λ b. let v : Client = record { number = number; held = open_unless b t } in v) q.unended

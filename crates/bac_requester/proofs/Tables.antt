@@ -33,10 +33,11 @@ module _ (K T : Type 0) (eq : K → K → Bool) (equal : IsEquivalence eq) where
     front_at (suc n) [] = refl
     front_at (suc n) (s ∷ slots) = front_at n slots
 
-    pub front_past : (n : ℕ) (slots : List (Slot K T)) → slice_get slots n ≡ None → front (suc n) slots ≡ front n slots
+    -- it stays as it is, if it is there
+    pub front_past : (n : ℕ) (slots : List (Slot K T)) → ((s : Slot K T) → slice_get slots n ≡ Some s → h s ≡ s.value) → front (suc n) slots ≡ front n slots
     front_past zero [] e = refl
     front_past (suc n) [] e = refl
-    front_past zero (s ∷ slots) e = absurd cc
+    front_past zero (s ∷ slots) e = ap (λ v. record s { value = v } ∷ slots) (e s refl)
     front_past (suc n) (s ∷ slots) e = ap (λ l. changed h s ∷ l) (front_past n slots e)
 
     -- a slot further on has another key

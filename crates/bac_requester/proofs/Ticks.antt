@@ -6,8 +6,6 @@ use Rattle.std.proofs.lemmas.List.{append-nil, length-map, take_all}
 use Rattle.std.proofs.lemmas.Option.{slice_get-map}
 use Rattle.bac_slots.specs.declared.slot.Slot.{Slot}
 use Rattle.bac_slots.specs.Slots.{value_at, with_value, in_order, nth_by_key, IsDistinct}
-use Rattle.bac_slots.proofs.Slots.{with_value-none}
-use Rattle.bac_slots.proofs.Values.{set_twice}
 use Rattle.bac_protocol.specs.Context.{Settings}
 use Rattle.bac_ends.specs.Ends.{Client, ClientSlot, client_ticked, context_of, from_each, held_ticked}
 use Rattle.bac_ends.specs.Keys.{peer_key_cmp}
@@ -15,8 +13,10 @@ use Rattle.bac_ends.specs.Sends.{Pairwise}
 use Rattle.bac_ends.specs.Views.{code_key_cmp, code_same_key, peer_key_view, slot_view, slots_view}
 use Rattle.bac_ends.specs.declared.peer_key.PeerKey.{PeerKey}
 use Rattle.bac_ends.proofs.Keyed.{in_order_viewed}
+use Rattle.bac_client.specs.Timers.{IsHeldQuiet}
 use Rattle.bac_requester.specs.Turns.{changed, ticked_at, ticked_there, value_ticked}
 use Rattle.bac_requester.specs.Views.{Requester, end_of}
+use Rattle.bac_requester.proofs.Quiet.{held_stays}
 use Rattle.bac_requester.proofs.Tables.{key_equal, front, front_at, front_past, front_value, front_more, take_more, take_past}
 
 abbrev Slots : Type 0
@@ -24,17 +24,13 @@ Slots = List (Slot PeerKey Client)
 
 -- One slot goes on.
 
-pub ticked_none : (c : Settings) (now : ℕ) (key : PeerKey) (v : Client) (old new : Slots) → value_at code_same_key key old ≡ None
-    → new ≡ with_value code_same_key key v old → new ≡ ticked_at c now key old
-ticked_none c now key v old new is set =
-    set ∙ with_value-none code_same_key key v old is ∙ sym (ap (λ o. ticked_there c now key old o) is)
+pub ticked_none : (c : Settings) (now : ℕ) (key : PeerKey) (old new : Slots) → value_at code_same_key key old ≡ None → new ≡ old → new ≡ ticked_at c now key old
+ticked_none c now key old new is stays = stays ∙ sym (ap (λ o. ticked_there c now key old o) is)
 
-pub ticked_some : (c : Settings) (now : ℕ) (key : PeerKey) (u v w : Client) (old mid new : Slots) → value_at code_same_key key old ≡ Some u
-    → mid ≡ with_value code_same_key key v old → w ≡ held_ticked (context_of c now (peer_key_view key)) u.number u.held
-    → new ≡ with_value code_same_key key w mid → new ≡ ticked_at c now key old
-ticked_some c now key u v w old mid new is out value set =
-    set ∙ ap (λ l. with_value code_same_key key w l) out ∙ set_twice PeerKey Client code_same_key key_equal key v w old
-    ∙ ap (λ y. with_value code_same_key key y old) value ∙ sym (ap (λ o. ticked_there c now key old o) is)
+pub ticked_some : (c : Settings) (now : ℕ) (key : PeerKey) (u w : Client) (old new : Slots) → value_at code_same_key key old ≡ Some u
+    → w ≡ held_ticked (context_of c now (peer_key_view key)) u.number u.held → new ≡ with_value code_same_key key w old → new ≡ ticked_at c now key old
+ticked_some c now key u w old new is value set =
+    set ∙ ap (λ y. with_value code_same_key key y old) value ∙ sym (ap (λ o. ticked_there c now key old o) is)
 
 module _ (c : Settings) (now : ℕ) where
   abbrev pub after : ℕ → Slots → Slots
@@ -43,11 +39,14 @@ module _ (c : Settings) (now : ℕ) where
   next : (n : ℕ) → suc n ≡ n + 1
   next n = omega arith
 
-  pub commit_past : (n : ℕ) (old a : Slots) → a ≡ after n old → slice_get a n ≡ None → a ≡ after (n + 1) old
-  commit_past n old a e f =
-      let past : slice_get old n ≡ None =
-      sym (front_at PeerKey Client code_same_key key_equal (value_ticked c now) n old) ∙ ap (λ l. slice_get l n) (sym e) ∙ f in
-      e ∙ sym (front_past PeerKey Client code_same_key key_equal (value_ticked c now) n old past) ∙ ap (λ k. after k old) (next n)
+  -- a tick finds nothing to do for the n-th, if it is there
+  pub commit_past : (n : ℕ) (old a : Slots) → a ≡ after n old → ((s : Slot PeerKey Client) → slice_get a n ≡ Some s → IsHeldQuiet (now + 1) s.value.held)
+      → a ≡ after (n + 1) old
+  commit_past n old a e quiet =
+      let stays : (s : Slot PeerKey Client) → slice_get old n ≡ Some s → value_ticked c now s ≡ s.value =
+      λ s at. held_stays c now (now + 1) (omega arith) (peer_key_view s.key) s.value.number s.value.held
+      (quiet s (ap (λ l. slice_get l n) e ∙ front_at PeerKey Client code_same_key key_equal (value_ticked c now) n old ∙ at)) in
+      e ∙ sym (front_past PeerKey Client code_same_key key_equal (value_ticked c now) n old stays) ∙ ap (λ k. after k old) (next n)
 
   pub commit_more : (n : ℕ) (old a b : Slots) (s : Slot PeerKey Client) → IsDistinct code_same_key old → a ≡ after n old → slice_get a n ≡ Some s
       → b ≡ ticked_at c now s.key a → b ≡ after (n + 1) old

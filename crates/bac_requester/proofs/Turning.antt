@@ -5,8 +5,7 @@ use Rattle.bac_apdu.specs.Apdu.{Apdu}
 use Rattle.bac_service.specs.Services.{reads_reply}
 use Rattle.bac_slots.specs.declared.slot.Slot.{Slot}
 use Rattle.bac_slots.specs.Slots.{value_at, with_value}
-use Rattle.bac_slots.proofs.Slots.{with_value-none}
-use Rattle.bac_slots.proofs.Values.{set_twice, set_back}
+use Rattle.bac_slots.proofs.Values.{set_back}
 use Rattle.bac_protocol.specs.Service as machine
 use Rattle.bac_protocol.specs.Client.{Ticket, client_gets, ending_of, sends_of}
 use Rattle.bac_ends.specs.Ends.{Client, ClientEnd, ClientTurn, client_hears, client_hears_at, key_of, client_after, ended_with}
@@ -63,54 +62,46 @@ nothing_told e x f g = record {
 }
 
 -- the key has no slot
-pub heard_nothing : (c : Context) (a : Apdu) (old new : Slots) (v : Client) (capacity room asked : ℕ) (x : Turn)
-    → value_at code_same_key c.key old ≡ None → new ≡ with_value code_same_key c.key v old → room ≡ capacity
-    → x.sends.items ≡ [] → finishes_of x.ended ≡ []
+pub heard_nothing : (c : Context) (a : Apdu) (old new : Slots) (capacity room asked : ℕ) (x : Turn)
+    → value_at code_same_key c.key old ≡ None → new ≡ old → room ≡ capacity → x.sends.items ≡ [] → finishes_of x.ended ≡ []
     → HearsTable (turn_of c a (end_of old capacity asked)) (end_of old capacity asked) (Ok x) (end_of new room asked)
-heard_nothing c a old new v capacity room asked x is set same sent ended =
+heard_nothing c a old new capacity room asked x is stays same sent ended =
     let e : ClientEnd = end_of old capacity asked in
-    let kept = same_end old new capacity room asked (set ∙ with_value-none code_same_key c.key v old is) same in
-    subst (λ (t : ClientTurn). HearsTable t e (Ok x) (end_of new room asked)) (sym (turn_at c a old capacity asked None is)) (kept, nothing_told e x sent ended)
+    subst (λ (t : ClientTurn). HearsTable t e (Ok x) (end_of new room asked)) (sym (turn_at c a old capacity asked None is))
+    (same_end old new capacity room asked stays same, nothing_told e x sent ended)
 
 -- what was out is back
-back : (key : PeerKey) (old mid new : Slots) (u v w : Client) → value_at code_same_key key old ≡ Some u → mid ≡ with_value code_same_key key v old
-    → w ≡ u → new ≡ with_value code_same_key key w mid → new ≡ old
-back key old mid new u v w is out same set =
-    set ∙ ap (λ l. with_value code_same_key key w l) out ∙ set_twice PeerKey Client code_same_key key_equal key v w old
-    ∙ ap (λ y. with_value code_same_key key y old) same ∙ set_back PeerKey Client code_same_key key_equal key u old is
+back : (key : PeerKey) (old new : Slots) (u w : Client) → value_at code_same_key key old ≡ Some u → w ≡ u → new ≡ with_value code_same_key key w old → new ≡ old
+back key old new u w is same set =
+    set ∙ ap (λ y. with_value code_same_key key y old) same ∙ set_back PeerKey Client code_same_key key_equal key u old is
 
 -- its ticket has ended
-pub heard_closed : (c : Context) (a : Apdu) (old mid new : Slots) (v w : Client) (capacity room asked number first : ℕ) (x : Turn)
-    → value_at code_same_key c.key old ≡ Some (record { number = number; held = Closed first }) → mid ≡ with_value code_same_key c.key v old
-    → w ≡ record { number = number; held = Closed first } → new ≡ with_value code_same_key c.key w mid → room ≡ capacity
-    → x.sends.items ≡ [] → finishes_of x.ended ≡ []
+pub heard_closed : (c : Context) (a : Apdu) (old new : Slots) (w : Client) (capacity room asked number first : ℕ) (x : Turn)
+    → value_at code_same_key c.key old ≡ Some (record { number = number; held = Closed first }) → w ≡ record { number = number; held = Closed first }
+    → new ≡ with_value code_same_key c.key w old → room ≡ capacity → x.sends.items ≡ [] → finishes_of x.ended ≡ []
     → HearsTable (turn_of c a (end_of old capacity asked)) (end_of old capacity asked) (Ok x) (end_of new room asked)
-heard_closed c a old mid new v w capacity room asked number first x is out same set kept sent ended =
+heard_closed c a old new w capacity room asked number first x is same set kept sent ended =
     let e : ClientEnd = end_of old capacity asked in
     subst (λ (t : ClientTurn). HearsTable t e (Ok x) (end_of new room asked)) (sym (turn_at c a old capacity asked _ is))
-    (same_end old new capacity room asked (back c.key old mid new _ v w is out same set) kept, nothing_told e x sent ended)
+    (same_end old new capacity room asked (back c.key old new _ w is same set) kept, nothing_told e x sent ended)
 
 -- out of memory
-pub heard_unchanged : (key : PeerKey) (old mid new : Slots) (u v w : Client) (capacity room asked : ℕ) → value_at code_same_key key old ≡ Some u
-    → mid ≡ with_value code_same_key key v old → w ≡ u → new ≡ with_value code_same_key key w mid → room ≡ capacity
-    → end_of new room asked ≡ end_of old capacity asked
-heard_unchanged key old mid new u v w capacity room asked is out same set kept =
-    same_end old new capacity room asked (back key old mid new u v w is out same set) kept
+pub heard_unchanged : (key : PeerKey) (old new : Slots) (u w : Client) (capacity room asked : ℕ) → value_at code_same_key key old ≡ Some u
+    → w ≡ u → new ≡ with_value code_same_key key w old → room ≡ capacity → end_of new room asked ≡ end_of old capacity asked
+heard_unchanged key old new u w capacity room asked is same set kept = same_end old new capacity room asked (back key old new u w is same set) kept
 
 -- its ticket goes on
-pub heard_open : (c : Context) (a : Apdu) (old mid new : Slots) (v w : Client) (capacity room asked number : ℕ) (t : Ticket) (r : Reaction) (x : Turn)
-    → value_at code_same_key c.key old ≡ Some (record { number = number; held = Open t }) → mid ≡ with_value code_same_key c.key v old
+pub heard_open : (c : Context) (a : Apdu) (old new : Slots) (w : Client) (capacity room asked number : ℕ) (t : Ticket) (r : Reaction) (x : Turn)
+    → value_at code_same_key c.key old ≡ Some (record { number = number; held = Open t })
     → IsReaction c t (client_gets (context_view c) reads_reply t a) r
-    → w ≡ record { number = number; held = held_view r.held } → new ≡ with_value code_same_key c.key w mid → room ≡ capacity
+    → w ≡ record { number = number; held = held_view r.held } → new ≡ with_value code_same_key c.key w old → room ≡ capacity
     → x.sends.items ≡ r.sends.items → finishes_of x.ended ≡ finishes_with number (option_map ending_view r.ended)
     → HearsTable (turn_of c a (end_of old capacity asked)) (end_of old capacity asked) (Ok x) (end_of new room asked)
-heard_open c a old mid new v w capacity room asked number t r x is out did same set kept sent ended =
+heard_open c a old new w capacity room asked number t r x is did same set kept sent ended =
     let e : ClientEnd = end_of old capacity asked in
     let next : Client = client_after c.moment number t (client_gets (context_view c) reads_reply t a) in
     let value : w ≡ next = same ∙ ap (λ h. record { number = number; held = h }) did.held in
-    let slots : new ≡ with_value code_same_key c.key next old =
-    set ∙ ap (λ l. with_value code_same_key c.key w l) out ∙ set_twice PeerKey Client code_same_key key_equal c.key v w old
-    ∙ ap (λ y. with_value code_same_key c.key y old) value in
+    let slots : new ≡ with_value code_same_key c.key next old = set ∙ ap (λ y. with_value code_same_key c.key y old) value in
     let viewed : slots_view new ≡ with_value same_key (peer_key_view c.key) next (slots_view old) =
     ap (λ l. slots_view l) slots ∙ with_value_viewed Client c.key next old in
     let after : end_of new room asked ≡ record e { slots = with_value same_key (peer_key_view c.key) next (slots_view old) } =

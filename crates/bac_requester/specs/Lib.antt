@@ -3,3 +3,4 @@ pub mod Views
 pub mod Faults
 pub mod Turns
 pub mod Timers
+pub mod Begins

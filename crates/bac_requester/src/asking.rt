@@ -1,5 +1,5 @@
 //! An ask.
-ghost use Rattle.std.specs.Prelude.{◌≡◌, ℕ, ◌+◌, ◌-◌, ◌<◌, ◌∷◌, [], ◌++◌, ◌||◌, IfOk, Some, None, false, filter, count_by, length, nat_le, not};
+ghost use Rattle.std.specs.Prelude.{◌≡◌, ℕ, ◌+◌, ◌-◌, ◌<◌, ◌∷◌, [], ◌++◌, ◌||◌, IfOk, Some, None, false, filter, count_by, length, nat_le, nat_lt, not};
 ghost use Rattle.bac_npdu.specs.Views.{peer_view};
 ghost use Rattle.bac_slots.specs.declared.slot.Slot.{Slot};
 ghost use Rattle.bac_slots.specs.Slots.{value_at};
@@ -12,16 +12,20 @@ ghost use Rattle.bac_service.specs.Views.{request_view};
 ghost use Rattle.bac_client.specs.Fits.{IsWayFor};
 ghost use Rattle.bac_client.specs.Reacts.{IsBegun};
 ghost use Rattle.bac_client.specs.Requests.{ask_at, request_by};
+ghost use Rattle.bac_requester.specs.Begins.{AreInOrderIf};
 ghost use Rattle.bac_requester.specs.Turns.{AsksTable};
 ghost use Rattle.bac_requester.specs.Views.{end_of};
 
 use crate::ask_fault::AskFault;
 use crate::client::{Client, HeldAt};
+use crate::order::last_unheld;
 use bac_client::{Begun, Held, OutgoingRequest, RequestWay, Ticket};
 use bac_ends::{Context, Datagram, PeerKey, Settings};
 use bac_npdu::Peer;
 use bac_service::{AnyRequest, Request, Service, write_request};
-use bac_slots::{SlotTable, count_passing, sweep, sweeping_slots};
+use bac_slots::{
+    SlotTable, count_passing, has_room_once_swept, sweep, sweep_oldest, sweeping_slots,
+};
 use bac_value::NoMemory;
 use std::alloc::Global;
 
@@ -75,11 +79,28 @@ pub(crate) fn held_count<S: SlotTable<PeerKey, Client>>(table: &S, now: u64) -> 
     count_passing(table, &HeldAt { moment: now })
 }
 
+/// Whether a slot is not held. Where the slots are in order, the young ones are not looked at, and none where a slot is unused.
+fn has_room<S: SlotTable<PeerKey, Client>>(table: &S, latest: Option<u64>, now: u64) -> bool
+    requires order { AreInOrderIf latest (slots_view (S.slots table.now)) }
+    ensures { result ≡ nat_lt (count_by (is_slot_held now) (slots_view (S.slots table.now))) (S.capacity table.now) }
+{
+    match latest {
+        Some(_) => has_room_once_swept(table, &HeldAt { moment: now }, last_unheld(now)),
+        None => held_count(table, now) < table.room(),
+    }
+}
+
 /// Whether all slots are held, or no further ticket has a number.
-fn has_no_slot<S: SlotTable<PeerKey, Client>>(table: &S, asked: u64, now: u64) -> bool
+fn has_no_slot<S: SlotTable<PeerKey, Client>>(
+    table: &S,
+    latest: Option<u64>,
+    asked: u64,
+    now: u64,
+) -> bool
+    requires order { AreInOrderIf latest (slots_view (S.slots table.now)) }
     ensures { result ≡ has_no_slot now (end_of (S.slots table.now) (S.capacity table.now) asked) }
 {
-    table.room() <= held_count(table, now) || asked == u64::MAX
+    !has_room(table, latest, now) || asked == u64::MAX
 }
 
 fn put<S: SlotTable<PeerKey, Client>>(table: &mut S, key: PeerKey, now: u64, client: Client)
@@ -94,8 +115,27 @@ fn put<S: SlotTable<PeerKey, Client>>(table: &mut S, key: PeerKey, now: u64, cli
     }
 }
 
+/// The slots that are not held go. Where the slots are in order, the young ones are not looked at.
+fn sweep_unheld<S: SlotTable<PeerKey, Client>>(table: &mut S, latest: Option<u64>, now: u64)
+    requires order { AreInOrderIf latest (slots_view (S.slots table.old)) }
+    ensures slots { S.slots table.new ≡ filter (λ s. is_held now s.value.held) (S.slots table.old) }
+    ensures same { S.capacity table.new ≡ S.capacity table.old }
+{
+    let held = HeldAt { moment: now };
+    match latest {
+        Some(_) => sweep_oldest(table, &held, last_unheld(now)),
+        None => sweep(table, &held),
+    }
+}
+
 /// The slots that are not held go, and a new one comes.
-fn enter<S: SlotTable<PeerKey, Client>>(table: &mut S, context: &Context, client: Client)
+fn enter<S: SlotTable<PeerKey, Client>>(
+    table: &mut S,
+    latest: Option<u64>,
+    context: &Context,
+    client: Client,
+)
+    requires order { AreInOrderIf latest (slots_view (S.slots table.old)) }
     requires free { is_id_held context.now.moment (slots_view (S.slots table.old)) (peer_key_view context.now.key).peer context.now.key.invoke_id ≡ false }
     requires room { count_by (is_slot_held context.now.moment) (slots_view (S.slots table.old)) < S.capacity table.old }
     ensures slots { slots_view (S.slots table.new) ≡ filter (is_slot_held context.now.moment) (slots_view (S.slots table.old))
@@ -106,7 +146,7 @@ fn enter<S: SlotTable<PeerKey, Client>>(table: &mut S, context: &Context, client
     // that the key is absent after the sweep, and how many slots are left
     sweeping_slots::<PeerKey, Client>();
     let _slots = table.len();
-    sweep(table, &HeldAt { moment: now });
+    sweep_unheld(table, latest, now);
     put(table, context.key, now, client);
 }
 
@@ -145,13 +185,15 @@ pub(crate) fn ask<S: SlotTable<PeerKey, Client>>(
     alloc: Global,
     settings: &Settings,
     table: &mut S,
+    latest: Option<u64>,
     asked: &mut u64,
     now: u64,
     peer: &Peer,
     way: RequestWay,
     request: Request<'_>,
 ) -> Result<Asked, AskFault>
-    requires { IsWayFor way (length (request_spelling (request_view request))) }
+    requires order { AreInOrderIf latest (slots_view (S.slots table.old)) }
+    requires way { IsWayFor way (length (request_spelling (request_view request))) }
     ensures { AsksTable (asks_for (settings_view settings.now) now (peer_view peer.now)
         (ask_at now (request_by (choice_of (request_view request.entry)) (request_spelling (request_view request.entry)) way))
         (end_of (S.slots table.old) (S.capacity table.old) asked.old)) (end_of (S.slots table.old) (S.capacity table.old) asked.old) result
@@ -160,7 +202,7 @@ pub(crate) fn ask<S: SlotTable<PeerKey, Client>>(
     let Some(invoke_id) = least_id(table, peer, now) else {
         return Err(AskFault::NoInvokeId);
     };
-    if has_no_slot(table, *asked, now) {
+    if has_no_slot(table, latest, *asked, now) {
         return Err(AskFault::NoSlot);
     }
     let context = Context {
@@ -179,7 +221,7 @@ pub(crate) fn ask<S: SlotTable<PeerKey, Client>>(
         number: *asked,
         held: Held::Open(ticket),
     };
-    enter(table, &context, client);
+    enter(table, latest, &context, client);
     let ticket = *asked;
     *asked += 1;
     Ok(Asked {

@@ -3,8 +3,7 @@ ghost use Rattle.std.specs.Prelude.{◌≡◌, ℕ, []};
 ghost use Rattle.std.specs.Option.{option_map};
 ghost use Rattle.bac_client.specs.Views.{ending_view};
 ghost use Rattle.bac_apdu.specs.Views.{apdu_view};
-ghost use Rattle.bac_ends.specs.Views.{code_same_key, peer_key_view, settings_view};
-ghost use Rattle.bac_slots.specs.Slots.{with_value};
+ghost use Rattle.bac_ends.specs.Views.{peer_key_view, settings_view};
 ghost use Rattle.bac_requester.specs.Turns.{HearsTable, finishes_with, hears_key};
 ghost use Rattle.bac_requester.specs.Views.{end_of, finishes_of};
 
@@ -16,14 +15,6 @@ use bac_ends::{Context, Datagram, PeerKey};
 use bac_slots::SlotTable;
 use bac_value::NoMemory;
 use std::alloc::Global;
-
-/// Sets the value back that was out.
-pub(crate) fn put_back<S: SlotTable<PeerKey, Client>>(table: &mut S, key: &PeerKey, client: Client)
-    ensures slots { S.slots table.new ≡ with_value code_same_key key.now client (S.slots table.old) }
-    ensures same { S.capacity table.new ≡ S.capacity table.old }
-{
-    let _ = table.set(key, client);
-}
 
 /// Nothing is sent or ended.
 pub(crate) fn nothing(alloc: Global) -> Turn
@@ -53,7 +44,8 @@ pub(crate) fn turn_of(number: u64, sends: Vec<Datagram>, ended: Option<Ending>) 
     }
 }
 
-/// An APDU comes for a key. Where memory is refused, the slots are as they were.
+/// An APDU comes for a key, which is looked up once; an open ticket goes on in its slot, where a value stands in for it meanwhile. Where memory is
+/// refused, the slots are as they were.
 pub(crate) fn hears<S: SlotTable<PeerKey, Client>>(
     alloc: Global,
     context: &Context,
@@ -64,26 +56,26 @@ pub(crate) fn hears<S: SlotTable<PeerKey, Client>>(
         (end_of (S.slots table.old) (S.capacity table.old) asked)) (end_of (S.slots table.old) (S.capacity table.old) asked) result
         (end_of (S.slots table.new) (S.capacity table.new) asked) }
 {
-    let key = &context.key;
-    let Some(client) = table.set(key, Client::stand_in()) else {
+    let Some(slot) = table.get_mut(&context.key) else {
         return Ok(nothing(alloc));
     };
+    let client = std::mem::replace(slot, Client::stand_in());
     let Client { number, held } = client;
     match held {
         Held::Closed { first } => {
             let held = Held::Closed { first };
-            put_back(table, key, Client { number, held });
+            *slot = Client { number, held };
             Ok(nothing(alloc))
         }
         Held::Open(ticket) => match ticket.gets(alloc, context, apdu) {
             Ok(reaction) => {
                 let Reaction { held, sends, ended } = reaction;
-                put_back(table, key, Client { number, held });
+                *slot = Client { number, held };
                 Ok(turn_of(number, sends, ended))
             }
             Err(ticket) => {
                 let held = Held::Open(ticket);
-                put_back(table, key, Client { number, held });
+                *slot = Client { number, held };
                 Err(NoMemory)
             }
         },

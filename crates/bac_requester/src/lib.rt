@@ -7,6 +7,7 @@ mod ask_fault;
 mod asking;
 mod client;
 mod hearing;
+mod order;
 mod requester;
 mod ticking;
 mod turn;

@@ -19,6 +19,7 @@ use crate::ask_fault::AskFault;
 use crate::asking::{Asked, ask, held_count};
 use crate::client::Client;
 use crate::hearing::hears;
+use crate::order::later;
 use crate::ticking::{at_the_earliest, commit, first_due, nothing_due, prepare};
 use crate::turn::{Due, Turn};
 use bac_apdu::{Apdu, Limits};
@@ -41,6 +42,8 @@ pub struct Requester<S: SlotTable<PeerKey, Client> + Drop> {
     asked: u64,
     /// A tick before this moment finds nothing to do.
     due: u64,
+    /// The latest moment of an ask, while none was at an earlier moment than one before it: the slots stand in the order of their first sendings then.
+    latest: Option<u64>,
 }
 
 impl<S: SlotTable<PeerKey, Client> + Drop> Model for Requester<S> {
@@ -49,12 +52,13 @@ impl<S: SlotTable<PeerKey, Client> + Drop> Model for Requester<S> {
     ghost Value = { views.Requester };
 
     ghost use Rattle.bac_ends.specs.Views.{settings_view, slots_view};
+    ghost use Rattle.bac_requester.specs.Begins.{AreInOrderIf};
     ghost use Rattle.bac_requester.specs.Timers.{AreQuiet};
     ghost use Rattle.bac_requester.specs.Views.{end_of};
 
     ghost view = { λ r. record { link = r.link; settings = settings_view r.settings; end = end_of (S.slots r.table) (S.capacity r.table) r.asked } };
 
-    ghost invariant = { λ r. AreQuiet r.due (slots_view (S.slots r.table)) };
+    ghost invariant = { λ r. AreQuiet r.due (slots_view (S.slots r.table)) × AreInOrderIf r.latest (slots_view (S.slots r.table)) };
 }
 
 /// A request that can't go, as the fault of its ask.
@@ -87,6 +91,7 @@ impl<S: SlotTable<PeerKey, Client> + Drop> Requester<S> {
             table,
             asked: 0,
             due: u64::MAX,
+            latest: Some(0),
         })
     }
 
@@ -133,12 +138,14 @@ impl<S: SlotTable<PeerKey, Client> + Drop> Requester<S> {
             self.alloc,
             &self.settings,
             &mut self.table,
+            self.latest,
             &mut self.asked,
             now,
             peer,
             way,
             request,
         );
+        self.latest = later(self.latest, now);
         self.due = at_the_earliest(self.due, now);
         asked
     }

@@ -12,7 +12,7 @@ ghost use Rattle.bac_requester.specs.Turns.{IsDue, IsSlotTold, changed, ticked_a
 ghost use Rattle.bac_requester.specs.Views.{end_of, finish_view, finishes_of};
 
 use crate::client::Client;
-use crate::hearing::{nothing, put_back, turn_of};
+use crate::hearing::{nothing, turn_of};
 use crate::turn::{Due, Turn};
 use bac_client::Held;
 use bac_ends::{Context, PeerKey, Settings};
@@ -21,15 +21,18 @@ use bac_slots::{SlotTable, slots_in_order};
 use bac_value::NoMemory;
 use std::alloc::Global;
 
-/// The key of the n-th slot in order of putting.
-fn key_at<S: SlotTable<PeerKey, Client>>(table: &S, n: usize) -> Option<PeerKey>
-    ensures { MatchOption result (slice_get (S.slots table.now) n ≡ None)
+/// The key of the n-th slot in order of putting, where a tick at that moment finds something to do for its ticket.
+fn due_key_at<S: SlotTable<PeerKey, Client>>(table: &S, now: u64, n: usize) -> Option<PeerKey>
+    ensures { MatchOption result ((s : Slot PeerKey ends.Client) → slice_get (S.slots table.now) n ≡ Some s → IsHeldQuiet (now + 1) s.value.held)
         (λ k. (s : Slot PeerKey ends.Client) × (slice_get (S.slots table.now) n ≡ Some s) × (s.key ≡ k)) }
 {
-    match table.by_age(n) {
-        Some((key, _, _)) => Some(key),
-        None => None,
+    let Some((key, _, client)) = table.by_age(n) else {
+        return None;
+    };
+    if now < client.due() {
+        return None;
     }
+    Some(key)
 }
 
 /// What is kept of a ticket after a tick.
@@ -42,27 +45,27 @@ fn ticked(context: &Context, held: Held) -> Held
     }
 }
 
-/// The slot of a key after a tick.
+/// The ticket of the context's key goes on in its slot.
 fn tick_at<S: SlotTable<PeerKey, Client>>(table: &mut S, context: &Context)
     ensures slots { S.slots table.new ≡ ticked_at (settings_view context.now.settings) context.now.moment context.now.key (S.slots table.old) }
     ensures same { S.capacity table.new ≡ S.capacity table.old }
 {
-    let key = &context.key;
-    let Some(client) = table.set(key, Client::stand_in()) else {
+    let Some(slot) = table.get_mut(&context.key) else {
         return;
     };
+    let client = std::mem::replace(slot, Client::stand_in());
     let Client { number, held } = client;
     let held = ticked(context, held);
-    put_back(table, key, Client { number, held });
+    *slot = Client { number, held };
 }
 
-/// All slots go on.
+/// All slots go on; those for which a tick finds nothing to do are left alone.
 pub(crate) fn commit<S: SlotTable<PeerKey, Client>>(settings: &Settings, table: &mut S, now: u64)
     ensures slots { S.slots table.new ≡ map (changed (value_ticked (settings_view settings.now) now)) (S.slots table.old) }
     ensures same { S.capacity table.new ≡ S.capacity table.old }
 {
     for n in 0..table.len() {
-        let Some(key) = key_at(table, n) else {
+        let Some(key) = due_key_at(table, now, n) else {
             continue;
         };
         let context = Context {

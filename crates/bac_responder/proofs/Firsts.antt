@@ -1,12 +1,12 @@
 -- The first slots of a table, each with another value.
-use Rattle.std.proofs.Common.{◌≡◌, ℕ, zero, suc, ◌+◌, true, false, List, [], ◌∷◌, map, length, Some, None, slice_get, refl, ap, sym, subst, ◌∙◌, arith, rules}
+use Rattle.std.proofs.Common.{◌≡◌, ℕ, zero, suc, ◌+◌, true, false, List, [], ◌∷◌, map, length, Some, slice_get, refl, ap, sym, subst, ◌∙◌, arith, rules}
 use Rattle.std.specs.Ordering.{is_eq, ordering_reverse}
 use Rattle.std.specs.Cmp.{IsEquivalence}
 use Rattle.std.specs.Cmp.Rules.{comparing}
 use Rattle.std.specs.declared.cmp.Ordering.{Ordering}
 use Rattle.std.specs.declared.cmp.Ordering.TheVariants.{Less, Equal, Greater}
 use Rattle.bac_slots.specs.Slots.{value_at, with_value, IsApart, IsDistinct}
-use Rattle.bac_slots.proofs.Values.{set_twice}
+use Rattle.bac_slots.proofs.Values.{set_back}
 use Rattle.bac_protocol.specs.Server.{Entry}
 use Rattle.bac_protocol.specs.Context.{Settings}
 use Rattle.bac_ends.specs.Ends.{server_ticked}
@@ -26,9 +26,11 @@ self_equal Greater e = absurd cc
 pub same_self : (k : PeerKey) → code_same_key k k ≡ true
 same_self k = self_equal (peer_key_cmp (peer_key_view k) (peer_key_view k)) (peer_key_cmp_total.antisymm (peer_key_view k) (peer_key_view k))
 
-pub set_again : (key : PeerKey) (a b : Entry) (slots : List TableSlot)
-    → with_value code_same_key key b (with_value code_same_key key a slots) ≡ with_value code_same_key key b slots
-set_again key a b slots = set_twice PeerKey Entry code_same_key key_equivalence key a b slots
+-- the value that was there is back
+pub set_back_at : (key : PeerKey) (d x : Entry) (old new : List TableSlot) → value_at code_same_key key old ≡ Some d → x ≡ d
+    → new ≡ with_value code_same_key key x old → new ≡ old
+set_back_at key d x old new at same set =
+    set ∙ ap (λ (y : Entry). with_value code_same_key key y old) same ∙ set_back PeerKey Entry code_same_key key_equivalence key d old at
 
 apart_at : (key : PeerKey) (n : ℕ) (slots : List TableSlot) (s : TableSlot) → IsApart code_same_key key slots → slice_get slots n ≡ Some s
     → code_same_key key s.key ≡ false
@@ -71,11 +73,13 @@ module _ (f : TableSlot → Entry) where
   get_after (suc n) [] = refl
   get_after (suc n) (x ∷ slots) = get_after n slots
 
-  none_more : (n : ℕ) (slots : List TableSlot) → slice_get slots n ≡ None → with_first f (suc n) slots ≡ with_first f n slots
-  none_more zero [] e = refl
-  none_more (suc n) [] e = refl
-  none_more zero (x ∷ slots) e = absurd cc
-  none_more (suc n) (x ∷ slots) e = ap (λ l. record x { value = f x } ∷ l) (none_more n slots e)
+  -- it stays as it is, if it is there
+  same_more : (n : ℕ) (slots : List TableSlot) → ((s : TableSlot) → slice_get slots n ≡ Some s → f s ≡ s.value)
+      → with_first f (suc n) slots ≡ with_first f n slots
+  same_more zero [] e = refl
+  same_more (suc n) [] e = refl
+  same_more zero (x ∷ slots) e = ap (λ v. record x { value = v } ∷ slots) (e x refl)
+  same_more (suc n) (x ∷ slots) e = ap (λ l. record x { value = f x } ∷ l) (same_more n slots e)
 
   apart_first : (key : PeerKey) (n : ℕ) (slots : List TableSlot) → IsApart code_same_key key slots → IsApart code_same_key key (with_first f n slots)
   apart_first key zero slots a = a
@@ -90,28 +94,18 @@ module _ (f : TableSlot → Entry) where
   next : (n : ℕ) → suc n ≡ n + 1
   next n = omega arith
 
-  pub first_set : (n : ℕ) (old : List TableSlot) (s : TableSlot) (t u p : Entry) (x y z : List TableSlot) → IsDistinct code_same_key old
-      → x ≡ with_first f n old → slice_get x n ≡ Some s → Some t ≡ value_at code_same_key s.key x → y ≡ with_value code_same_key s.key p x
-      → u ≡ f (record s { value = t }) → z ≡ with_value code_same_key s.key u y → z ≡ with_first f (n + 1) old
-  first_set n old s t u p x y z d e g h i k m =
+  pub first_set : (n : ℕ) (old : List TableSlot) (s : TableSlot) (x z : List TableSlot) → IsDistinct code_same_key old → x ≡ with_first f n old
+      → slice_get x n ≡ Some s → (value_at code_same_key s.key x ≡ Some s.value → z ≡ with_value code_same_key s.key (f s) x) → z ≡ with_first f (n + 1) old
+  first_set n old s x z d e g set =
       let old_s : slice_get old n ≡ Some s = sym (get_after n old) ∙ ap (λ l. slice_get l n) (sym e) ∙ g in
       let apart : IsDistinct code_same_key x = subst (λ (l : List TableSlot). IsDistinct code_same_key l) (sym e) (distinct_first n old d) in
-      let same : t ≡ s.value = (let q : Some t ≡ Some s.value = h ∙ value_at-nth n x s apart g in cc) in
-      let us : u ≡ f s = k ∙ ap (λ (w : Entry). f (record s { value = w })) same in
-      m ∙ ap (with_value code_same_key s.key u) i ∙ set_again s.key p u x ∙ ap (λ (w : Entry). with_value code_same_key s.key w x) us
-      ∙ ap (with_value code_same_key s.key (f s)) e ∙ one_more n old s d old_s ∙ ap (λ k. with_first f k old) (next n)
+      set (value_at-nth n x s apart g) ∙ ap (with_value code_same_key s.key (f s)) e ∙ one_more n old s d old_s ∙ ap (λ k. with_first f k old) (next n)
 
-  pub first_none : (n : ℕ) (old x : List TableSlot) → x ≡ with_first f n old → slice_get x n ≡ None → x ≡ with_first f (n + 1) old
-  first_none n old x e g =
-      let past : slice_get old n ≡ None = sym (get_after n old) ∙ ap (λ l. slice_get l n) (sym e) ∙ g in
-      e ∙ sym (none_more n old past) ∙ ap (λ k. with_first f k old) (next n)
-
-  pub never_lost : (n : ℕ) (old x : List TableSlot) (s : TableSlot) → IsDistinct code_same_key old → x ≡ with_first f n old → slice_get x n ≡ Some s
-      → None ≡ value_at code_same_key s.key x → ⊥
-  never_lost n old x s d e g h =
-      let apart : IsDistinct code_same_key x = subst (λ (l : List TableSlot). IsDistinct code_same_key l) (sym e) (distinct_first n old d) in
-      let q : None ≡ Some s.value = h ∙ value_at-nth n x s apart g in
-      cc
+  pub first_same : (n : ℕ) (old x : List TableSlot) → x ≡ with_first f n old → ((s : TableSlot) → slice_get x n ≡ Some s → f s ≡ s.value)
+      → x ≡ with_first f (n + 1) old
+  first_same n old x e same =
+      let stays : (s : TableSlot) → slice_get old n ≡ Some s → f s ≡ s.value = λ s at. same s (ap (λ l. slice_get l n) e ∙ get_after n old ∙ at) in
+      e ∙ sym (same_more n old stays) ∙ ap (λ k. with_first f k old) (next n)
 
 pub all_ticked : (c : Settings) (now : ℕ) (slots : List TableSlot)
     → slots_view (map (given (ticked c now)) slots) ≡ map (server_ticked c now) (slots_view slots)

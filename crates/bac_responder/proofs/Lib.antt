@@ -4,3 +4,4 @@ pub mod Sweeps
 pub mod Orders
 pub mod Quiet
 pub mod Timed
+pub mod Begins

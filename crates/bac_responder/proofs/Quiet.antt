@@ -70,7 +70,7 @@ module _ (c : Settings) (from due now : ℕ) (within : (from ≤ now) × (now < 
   state_stays key x (State.SegmentedResponse out Transfer.Finished since) q = refl
   state_stays key x State.Dropped q = refl
 
-  stays : (key : PeerKey) (x : Entry) → IsQuiet from due x → server_ticks (context_of c now key) (Some x) ≡ rests (Some x) []
+  pub stays : (key : PeerKey) (x : Entry) → IsQuiet from due x → server_ticks (context_of c now key) (Some x) ≡ rests (Some x) []
   stays key x (inl dead) =
       let started : from ≤ now = within.0 in
       let no : nat_le (now - x.begin) KEEP ≡ false = grind (arith, nat_tests) in

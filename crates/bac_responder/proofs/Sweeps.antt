@@ -14,7 +14,7 @@ use Rattle.bac_ends.specs.declared.peer_key.PeerKey.{PeerKey as CodeKey}
 use Rattle.bac_ends.proofs.Keyed.{put_viewed, filter_viewed, with_value_viewed}
 use Rattle.bac_responder.specs.Views.{end_of}
 use Rattle.bac_responder.specs.Tables.{TableSlot, is_live_in}
-use Rattle.bac_responder.proofs.Firsts.{key_equivalence, set_again}
+use Rattle.bac_responder.proofs.Firsts.{key_equivalence}
 
 pub count_viewed : (now : ℕ) (slots : List TableSlot) → count_by (is_slot_live now) (slots_view slots) ≡ count_by (is_live_in now) slots
 count_viewed now [] = refl
@@ -52,10 +52,9 @@ entered now key d old new is =
     ap slots_view is ∙ put_viewed Entry (filter (is_live_in now) old) (record { key = key; begin = d.begin; value = d })
     ∙ ap (λ l. l ++ record { key = peer_key_view key; begin = d.begin; value = d } ∷ []) (filter_viewed Entry (is_live now) old)
 
-pub set_there : (now : ℕ) (key : CodeKey) (p d : Entry) (old mid new : List TableSlot) → mid ≡ with_value code_same_key key p old
-    → new ≡ with_value code_same_key key d mid → slots_view new ≡ set_or_put now (peer_key_view key) d (slots_view old) false
-set_there now key p d old mid new out back =
-    ap slots_view (back ∙ ap (with_value code_same_key key d) out ∙ set_again key p d old) ∙ with_value_viewed Entry key d old
+pub set_there : (now : ℕ) (key : CodeKey) (d : Entry) (old new : List TableSlot) → new ≡ with_value code_same_key key d old
+    → slots_view new ≡ set_or_put now (peer_key_view key) d (slots_view old) false
+set_there now key d old new set = ap slots_view set ∙ with_value_viewed Entry key d old
 
 -- a slot is free after the sweep
 pub room_after : (now capacity : ℕ) (slots swept : List TableSlot) → is_free now (end_of slots capacity) ≡ true → swept ≡ filter (is_live_in now) slots

@@ -103,12 +103,15 @@ same_begin : (e : Entry) (o : Option Entry) (d : Entry) → StaysIn e o → o �
 same_begin e None d h is = absurd cc
 same_begin e (Some x) d h is = let same : x ≡ d = cc in ap (λ (y : Entry). y.begin) (sym same) ∙ h.0.begin
 
+pub live_begun : (c : Context) (service : Service) (e d : Entry) (a : Apdu) → is_live c.now e ≡ true → (live_gets c service e e.state a).entry ≡ Some d
+    → d.begin ≡ e.begin
+live_begun c service e d a live is =
+    let gets = ap (λ (b : Bool). (if b then live_gets c service e e.state a else idle_gets c service (Some e) true a).entry) live ∙ is in
+    same_begin e _ d (live_stays_law.gets c service e true a live) gets
+
 pub stays_live : (c : Context) (service : Service) (e d : Entry) (a : Apdu) → is_live c.now e ≡ true → (live_gets c service e e.state a).entry ≡ Some d
     → is_live c.now d ≡ true
-stays_live c service e d a live is =
-    let gets = ap (λ (b : Bool). (if b then live_gets c service e e.state a else idle_gets c service (Some e) true a).entry) live ∙ is in
-    let begin = same_begin e _ d (live_stays_law.gets c service e true a live) gets in
-    ap (λ k. nat_le (c.now - k) KEEP) begin ∙ live
+stays_live c service e d a live is = ap (λ k. nat_le (c.now - k) KEEP) (live_begun c service e d a live is) ∙ live
 
 -- The turn after a reaction.
 

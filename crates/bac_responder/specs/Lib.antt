@@ -2,3 +2,4 @@ pub mod Turns
 pub mod Views
 pub mod Tables
 pub mod Timers
+pub mod Begins

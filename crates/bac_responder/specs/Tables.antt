@@ -1,15 +1,13 @@
 -- What a table's slots are to the server's end.
-use Rattle.std.specs.Prelude.{ℕ, zero, suc, List, [], ◌∷◌, Bool, true, false, Option, Some, None, nat_eq}
+use Rattle.std.specs.Prelude.{ℕ, zero, suc, List, [], ◌∷◌, Bool, true, false, Some, None, nat_eq}
 use Rattle.bac_apdu.specs.Apdu.{Apdu}
 use Rattle.bac_apdu.specs.Apdu.Apdu.{ConfirmedRequest}
 use Rattle.bac_slots.specs.declared.slot.Slot.{Slot}
-use Rattle.bac_slots.specs.Slots.{with_value}
 use Rattle.bac_protocol.specs.Context.{Settings}
 use Rattle.bac_protocol.specs.Server.{Entry, is_live, server_ticks}
 use Rattle.bac_ends.specs.Ends.{context_of, entry_or}
-use Rattle.bac_ends.specs.Views.{code_same_key, peer_key_view}
+use Rattle.bac_ends.specs.Views.{peer_key_view}
 use Rattle.bac_ends.specs.declared.peer_key.PeerKey.{PeerKey}
-use Rattle.bac_server.specs.Views.{no_entry}
 
 abbrev pub TableSlot : Type 0
 TableSlot = Slot PeerKey Entry
@@ -30,11 +28,6 @@ abbrev pub with_first : (TableSlot → Entry) → ℕ → List TableSlot → Lis
 with_first f zero slots = slots
 with_first f (suc n) [] = []
 with_first f (suc n) (s ∷ slots) = given f s ∷ with_first f n slots
-
--- the slots once the entry of a key is out, if it was taken
-abbrev pub taken_out : PeerKey → Option Entry → List TableSlot → List TableSlot
-taken_out key None slots = slots
-taken_out key (Some e) slots = with_value code_same_key key no_entry slots
 
 -- an APDU that begins a request: one without SEG, or its segment 0
 abbrev pub begins_request : Apdu → Bool

@@ -1,17 +1,18 @@
 //! An APDU comes for one transaction.
-ghost use Rattle.std.specs.Prelude.{◌≡◌, ◌&&◌, true};
+ghost use Rattle.std.specs.Prelude.{◌≡◌, ◌≤◌, ◌&&◌, ℕ, true};
 ghost use Rattle.bac_apdu.specs.Views.{apdu_view};
 ghost use Rattle.bac_slots.specs.Slots.{value_at};
 ghost use Rattle.bac_protocol.specs.Server.{is_none_live};
 ghost use Rattle.bac_ends.specs.Ends.{is_free as is_free_in};
 ghost use Rattle.bac_ends.specs.Views.{code_same_key, peer_key_view};
 ghost use Rattle.bac_server.specs.Views.{performed_view};
+ghost use Rattle.bac_responder.specs.Begins.{AreInOrder, AreInOrderIf};
 ghost use Rattle.bac_responder.specs.Tables.{begins_request};
 ghost use Rattle.bac_responder.specs.Turns.{acted_of};
 ghost use Rattle.bac_responder.specs.Views.{acted_view, end_of, turn_of, Serves};
 
 use crate::served::{Act, Served};
-use crate::table::{enter, is_free, put_back, take_live};
+use crate::table::{enter, is_free};
 use bac_apdu::Apdu;
 use bac_ends::{Context, Datagram, PeerKey};
 use bac_server::{Effect, Entry, IdleReaction, Reaction, idle_gets, live_gets};
@@ -48,26 +49,35 @@ fn begins_request(apdu: &Apdu<'_>) -> bool
     }
 }
 
-/// Whether an APDU begins a request and a slot has no live entry. For any other APDU the entries are not counted.
-fn has_place<S: SlotTable<PeerKey, Entry>>(table: &S, moment: u64, apdu: &Apdu<'_>) -> bool
+/// Whether an APDU begins a request and a slot has no live entry. For any other APDU no entry is looked at.
+fn has_place<S: SlotTable<PeerKey, Entry>>(
+    table: &S,
+    latest: Option<u64>,
+    moment: u64,
+    apdu: &Apdu<'_>,
+) -> bool
+    requires order { AreInOrderIf latest (S.slots table.now) }
     ensures { result ≡ (begins_request (apdu_view apdu.now) && is_free_in moment (end_of (S.slots table.now) (S.capacity table.now))) }
 {
-    begins_request(apdu) && is_free(table, moment)
+    begins_request(apdu) && is_free(table, latest, moment)
 }
 
-/// No entry of the context's key is live. The live entries are counted where the APDU begins a request.
+/// No entry of the context's key is live. Whether a slot is free is asked where the APDU begins a request.
 fn idle_hears<S: SlotTable<PeerKey, Entry>>(
     alloc: Global,
     context: &Context,
     table: &mut S,
+    latest: Option<u64>,
     apdu: &Apdu<'_>,
     store: &mut Store,
 ) -> Result<Served, NoMemory>
-    requires { is_none_live context.now.moment (value_at code_same_key context.now.key (S.slots table.old)) ≡ true }
-    ensures { Serves (turn_of context.now store.old (apdu_view apdu.now) (end_of (S.slots table.old) (S.capacity table.old)))
+    requires dead { is_none_live context.now.moment (value_at code_same_key context.now.key (S.slots table.old)) ≡ true }
+    requires order { AreInOrderIf latest (S.slots table.old) }
+    ensures turn { Serves (turn_of context.now store.old (apdu_view apdu.now) (end_of (S.slots table.old) (S.capacity table.old)))
         (end_of (S.slots table.old) (S.capacity table.old)) store.old result (end_of (S.slots table.new) (S.capacity table.new)) store.new }
+    ensures order { (l : ℕ) → l ≤ context.now.moment → AreInOrder l (S.slots table.old) → AreInOrder context.now.moment (S.slots table.new) }
 {
-    let free = has_place(table, context.moment, apdu);
+    let free = has_place(table, latest, context.moment, apdu);
     match idle_gets(alloc, context, free, apdu, store)? {
         IdleReaction::Stays(sends) => Ok(Served { sends, act: None }),
         IdleReaction::Begins(reaction) => {
@@ -76,26 +86,33 @@ fn idle_hears<S: SlotTable<PeerKey, Entry>>(
                 sends,
                 effect,
             } = reaction;
-            enter(table, context.moment, context.key, entry);
+            enter(table, latest, context.moment, context.key, entry);
             Ok(served(context.key, sends, effect))
         }
     }
 }
 
-/// An APDU comes for the context's transaction. A live entry is out of its slot while it goes on.
+/// An APDU comes for the context's transaction. Its key is looked up once; a live entry goes on in its slot, where a placeholder stands meanwhile.
 pub(crate) fn hears<S: SlotTable<PeerKey, Entry>>(
     alloc: Global,
     context: &Context,
     table: &mut S,
+    latest: Option<u64>,
     apdu: &Apdu<'_>,
     store: &mut Store,
 ) -> Result<Served, NoMemory>
-    ensures { Serves (turn_of context.now store.old (apdu_view apdu.now) (end_of (S.slots table.old) (S.capacity table.old)))
+    requires order { AreInOrderIf latest (S.slots table.old) }
+    ensures turn { Serves (turn_of context.now store.old (apdu_view apdu.now) (end_of (S.slots table.old) (S.capacity table.old)))
         (end_of (S.slots table.old) (S.capacity table.old)) store.old result (end_of (S.slots table.new) (S.capacity table.new)) store.new }
+    ensures order { (l : ℕ) → l ≤ context.now.moment → AreInOrder l (S.slots table.old) → AreInOrder context.now.moment (S.slots table.new) }
 {
-    let Some(entry) = take_live(table, context.moment, &context.key) else {
-        return idle_hears(alloc, context, table, apdu, store);
+    let Some(slot) = table.get_mut(&context.key) else {
+        return idle_hears(alloc, context, table, latest, apdu, store);
     };
+    if !slot.is_live(context.moment) {
+        return idle_hears(alloc, context, table, latest, apdu, store);
+    }
+    let entry = std::mem::replace(slot, Entry::placeholder());
     match live_gets(alloc, context, entry, apdu, store) {
         Ok(reaction) => {
             let Reaction {
@@ -103,11 +120,11 @@ pub(crate) fn hears<S: SlotTable<PeerKey, Entry>>(
                 sends,
                 effect,
             } = reaction;
-            put_back(table, &context.key, entry);
+            *slot = entry;
             Ok(served(context.key, sends, effect))
         }
         Err(entry) => {
-            put_back(table, &context.key, entry);
+            *slot = entry;
             Err(NoMemory)
         }
     }

@@ -5,6 +5,7 @@
 
 mod hearing;
 mod live_at;
+mod order;
 mod responder;
 mod served;
 mod table;

@@ -11,6 +11,7 @@ ghost use Rattle.bac_responder.specs.Views.{end_of, Serves};
 
 use crate::hearing::hears;
 use crate::live_at::LiveAt;
+use crate::order::later;
 use crate::served::Served;
 use crate::ticking::{at_the_earliest, commit_all, first_due, is_quiet, nothing_due, prepare_all};
 use bac_apdu::Apdu;
@@ -32,6 +33,8 @@ pub struct Responder<S: SlotTable<PeerKey, Entry> + Drop> {
     from: u64,
     /// and before this one.
     due: u64,
+    /// The latest moment of an APDU, while none came at an earlier moment than one before it: the slots stand in the order of their begins then.
+    latest: Option<u64>,
 }
 
 impl<S: SlotTable<PeerKey, Entry> + Drop> Model for Responder<S> {
@@ -40,12 +43,13 @@ impl<S: SlotTable<PeerKey, Entry> + Drop> Model for Responder<S> {
     ghost Value = { Serving };
 
     ghost use Rattle.bac_ends.specs.Views.{settings_view, slots_view};
+    ghost use Rattle.bac_responder.specs.Begins.{AreInOrderIf};
     ghost use Rattle.bac_responder.specs.Timers.{AreQuiet};
     ghost use Rattle.bac_responder.specs.Views.{end_of};
 
     ghost view = { λ r. record { settings = settings_view r.settings; end = end_of (S.slots r.table) (S.capacity r.table) } };
 
-    ghost invariant = { λ r. AreQuiet r.from r.due (slots_view (S.slots r.table)) };
+    ghost invariant = { λ r. AreQuiet r.from r.due (slots_view (S.slots r.table)) × AreInOrderIf r.latest (S.slots r.table) };
 }
 
 impl<S: SlotTable<PeerKey, Entry> + Drop> Responder<S> {
@@ -59,6 +63,7 @@ impl<S: SlotTable<PeerKey, Entry> + Drop> Responder<S> {
             table,
             from: 0,
             due: u64::MAX,
+            latest: Some(0),
         })
     }
 
@@ -104,7 +109,8 @@ impl<S: SlotTable<PeerKey, Entry> + Drop> Responder<S> {
             key,
             moment,
         };
-        let served = hears(alloc, &context, &mut self.table, apdu, store);
+        let served = hears(alloc, &context, &mut self.table, self.latest, apdu, store);
+        self.latest = later(self.latest, moment);
         self.due = at_the_earliest(self.due, moment);
         served
     }

@@ -1,16 +1,16 @@
 //! A tick of the table, in two steps: what it sends, and what it changes.
 ghost use Rattle.std.specs.Prelude.{◌≡◌, ◌≤◌, ◌+◌, ◌&&◌, [], map, nat_le, nat_lt, IfOk, MatchOption, Some, None, slice_get};
-ghost use Rattle.bac_slots.specs.Slots.{nth_by_key};
-ghost use Rattle.bac_ends.specs.Ends.{server_tick_sends, servers_tick};
+ghost use Rattle.bac_slots.specs.Slots.{nth_by_key, value_at, with_value};
+ghost use Rattle.bac_protocol.specs.Server.{Entry as ServerEntry, server_ticks};
+ghost use Rattle.bac_ends.specs.Ends.{entry_or, server_tick_sends, servers_tick};
 ghost use Rattle.bac_ends.specs.Sends.{Pairwise, IsSent};
-ghost use Rattle.bac_ends.specs.Views.{settings_view, slot_view, slots_view, code_key_cmp};
+ghost use Rattle.bac_ends.specs.Views.{context_view, settings_view, slot_view, slots_view, code_key_cmp, code_same_key};
 ghost use Rattle.bac_protocol.specs.declared.times.TheConstants.{T_SEG as SHORTEST_WAIT};
 ghost use Rattle.bac_server.specs.Timers.{IsQuiet};
 ghost use Rattle.bac_responder.specs.Tables.{TableSlot, given, ticked};
 ghost use Rattle.bac_responder.specs.Timers.{AreQuiet};
 ghost use Rattle.bac_responder.specs.Views.{end_of};
 
-use crate::table::put_back;
 use bac_ends::{Context, Datagram, PeerKey, Settings};
 use bac_protocol::times::T_SEG;
 use bac_server::Entry;
@@ -18,27 +18,40 @@ use bac_slots::SlotTable;
 use bac_value::NoMemory;
 use std::alloc::Global;
 
-/// The key of the n-th slot in order of putting.
-fn key_at<S: SlotTable<PeerKey, Entry>>(table: &S, n: usize) -> Option<PeerKey>
-    ensures { MatchOption result (slice_get (S.slots table.now) n ≡ None)
+/// The key of the n-th slot in order of putting, where a tick at that moment finds something to do for its entry.
+fn due_key_at<S: SlotTable<PeerKey, Entry>>(table: &S, moment: u64, n: usize) -> Option<PeerKey>
+    ensures { MatchOption result ((s : TableSlot) → slice_get (S.slots table.now) n ≡ Some s → IsQuiet moment (moment + 1) s.value)
         (λ k. (s : TableSlot) × (slice_get (S.slots table.now) n ≡ Some s) × (s.key ≡ k)) }
 {
-    match table.by_age(n) {
-        Some((key, _, _)) => Some(key),
-        None => None,
+    let Some((key, _, entry)) = table.by_age(n) else {
+        return None;
+    };
+    if moment < entry.due(moment) {
+        return None;
     }
+    Some(key)
 }
 
-/// Each entry goes on. It takes no memory.
+/// The entry of the context's key goes on in its slot. It takes no memory.
+fn tick_at<S: SlotTable<PeerKey, Entry>>(table: &mut S, context: &Context)
+    ensures slots { (e : ServerEntry) → value_at code_same_key context.now.key (S.slots table.old) ≡ Some e → S.slots table.new
+        ≡ with_value code_same_key context.now.key (entry_or e (server_ticks (context_view context.now) (Some e)).entry) (S.slots table.old) }
+    ensures same { S.capacity table.new ≡ S.capacity table.old }
+{
+    let Some(slot) = table.get_mut(&context.key) else {
+        return;
+    };
+    let entry = std::mem::replace(slot, Entry::placeholder());
+    *slot = entry.commit_tick(context);
+}
+
+/// Each entry goes on; those for which a tick finds nothing to do are left alone. It takes no memory.
 fn commit_each<S: SlotTable<PeerKey, Entry>>(settings: &Settings, table: &mut S, moment: u64)
     ensures slots { S.slots table.new ≡ map (given (ticked (settings_view settings.now) moment)) (S.slots table.old) }
     ensures same { S.capacity table.new ≡ S.capacity table.old }
 {
     for n in 0..table.len() {
-        let Some(key) = key_at(table, n) else {
-            continue;
-        };
-        let Some(entry) = table.set(&key, Entry::placeholder()) else {
+        let Some(key) = due_key_at(table, moment, n) else {
             continue;
         };
         let context = Context {
@@ -46,7 +59,7 @@ fn commit_each<S: SlotTable<PeerKey, Entry>>(settings: &Settings, table: &mut S,
             key,
             moment,
         };
-        put_back(table, &key, entry.commit_tick(&context));
+        tick_at(table, &context);
     }
 }
 
@@ -56,8 +69,9 @@ pub(crate) fn commit_all<S: SlotTable<PeerKey, Entry>>(
     table: &mut S,
     moment: u64,
 )
-    ensures { end_of (S.slots table.new) (S.capacity table.new)
+    ensures end { end_of (S.slots table.new) (S.capacity table.new)
         ≡ (servers_tick (settings_view settings.now) moment (end_of (S.slots table.old) (S.capacity table.old))).end }
+    ensures slots { S.slots table.new ≡ map (given (ticked (settings_view settings.now) moment)) (S.slots table.old) }
 {
     commit_each(settings, table, moment);
 }

@@ -192,6 +192,25 @@ fn slots_are_held(rt: HostRuntime) -> Result<(), Fail> {
     Ok(())
 }
 
+/// Where the clock went back, a slot makes room that stands after one whose request was first sent later.
+fn makes_room_out_of_order(alloc: Global) -> Result<bool, NoMemory> {
+    const BEFORE: &[Read] = &[(100_000, 3, Ok((0, 0))), (1_000, 2, Ok((1, 0)))];
+    const AFTER: &[Read] = &[
+        (136_000, 2, Err(AskFault::NoSlot)),
+        (136_001, 2, Ok((2, 0))),
+    ];
+    let mut end: Indexed = requester(alloc, &LARGE, 2)?;
+    let before = all_read_so(alloc, &mut end, BEFORE)?;
+    let (_, ended) = meets(&mut end, 3_000, b"\x60\x00\x09")?;
+    Ok(before && ended == End::Rejected(9) && all_read_so(alloc, &mut end, AFTER)?)
+}
+
+#[test]
+fn slots_out_of_order(rt: HostRuntime) -> Result<(), Fail> {
+    assert!(rt; makes_room_out_of_order(rt.alloc())?);
+    Ok(())
+}
+
 /// To which peers a tick sends: the octets of their links that differ.
 fn sends_to(alloc: Global, end: &Indexed, now: u64) -> Result<Vec<u8>, NoMemory> {
     let mut links = Vec::new(alloc);

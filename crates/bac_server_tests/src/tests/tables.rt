@@ -57,6 +57,19 @@ fn table_of_one_slot(rt: HostRuntime) -> Result<(), Fail> {
     played(rt.alloc(), 1, WINDOW, ROWS)
 }
 
+/// Where the clock went back, an entry makes room that stands after one that began later.
+#[test]
+fn entries_out_of_order(rt: HostRuntime) -> Result<(), Fail> {
+    const ROWS: &[Row] = &[
+        (70_000, 2, READ, ANSWER, true),
+        (4_000, 3, READ, ANSWER, true),
+        (69_000, 4, READ, "710000", false),
+        (69_001, 4, READ, ANSWER, true),
+        (70_000, 2, READ, ANSWER, false),
+    ];
+    played(rt.alloc(), 2, WINDOW, ROWS)
+}
+
 /// The same service choice with other service data, and the kept answer after it.
 #[test]
 fn another_request_with_the_invoke_id(rt: HostRuntime) -> Result<(), Fail> {

@@ -1,8 +1,7 @@
--- A live entry was taken out, goes on, and is put back; without one, the slots are as before.
-use Rattle.std.proofs.Common.{◌≡◌, ◌∙◌, sym, ap, ℕ, List, Some, false, true}
+-- A live entry goes on in its slot; without one, the slots are as before.
+use Rattle.std.proofs.Common.{◌≡◌, ◌∙◌, refl, sym, subst, ap, ℕ, List, Some, false, true, not}
 use Rattle.bac_apdu.specs.Views.{apdu_view}
-use Rattle.bac_slots.specs.Slots.{value_at, with_value}
-use Rattle.bac_slots.proofs.Values.{set_back}
+use Rattle.bac_slots.specs.Slots.{value_at}
 use Rattle.bac_protocol.specs.Context.{Context}
 use Rattle.bac_protocol.specs.Server.{Entry, is_live, is_none_live}
 use Rattle.bac_ends.specs.Ends.{ServerEnd, is_free}
@@ -11,53 +10,117 @@ use Rattle.bac_ends.specs.Views.{peer_key_view, code_same_key}
 use Rattle.bac_ends.specs.declared.peer_key.PeerKey.{PeerKey as CodeKey}
 use Rattle.bac_ends.proofs.Keyed.{value_viewed}
 use Rattle.bac_server.specs.Services.{service_of}
-use Rattle.bac_server.specs.Views.{no_entry}
 use Rattle.bac_ends.specs.Views.{context_view}
+use Rattle.bac_responder.specs.Begins.{AreInOrder, AreInOrderIf}
 use Rattle.bac_responder.specs.Tables.{TableSlot}
 use Rattle.bac_responder.specs.Views.{end_of}
-use Rattle.bac_responder.proofs.Turned.{served_so, served_with, live_is, live_one, stays_live, serves_as}
-use Rattle.bac_responder.proofs.Firsts.{key_equivalence, set_again}
-use Rattle.bac_responder.proofs.Sweeps.{set_there}
+use Rattle.bac_responder.proofs.Begins.{later, set_in_order}
+use Rattle.bac_responder.proofs.Turned.{served_so, served_with, live_begun, live_is, stays_live, serves_as}
+use Rattle.bac_responder.proofs.Firsts.{set_back_at}
+use Rattle.bac_responder.proofs.Sweeps.{none_live, set_there}
 use Rattle.bac_responder.proofs.hearing.hears.Goals as goal
 
-pub returns-in_default : goal.returns-in_default
-returns-in_default g c =
-    let slots : List TableSlot = g.S.SlotTable.slots c.args.table.now in
-    let same =
-    ap (λ (n : ℕ). end_of (g.S.SlotTable.slots c.take_live.new.table) n) c.in_default.ensures.same
-    ∙ ap (λ (l : List TableSlot). end_of l (g.S.SlotTable.capacity c.args.table.now)) c.in_default.ensures.slots in
-    serves_as c.args.context.now c.args.store.now (apdu_view c.args.apdu.now) _ _ _ _ _ same c.idle_hears.ensures
+-- No slot has the key.
 
-pub returns-in-Ok : goal.returns-in-Ok
-returns-in-Ok g c =
+pub returns-in_default-clause-turn : goal.returns-in_default-clause-turn
+returns-in_default-clause-turn g c =
+    let same =
+    ap (λ (n : ℕ). end_of (g.S.SlotTable.slots c.get_mut.follows.lender-at-none) n) c.get_mut.follows.holds-at-none.1
+    ∙ ap (λ (l : List TableSlot). end_of l (g.S.SlotTable.capacity c.args.table.now)) c.get_mut.follows.holds-at-none.0 in
+    serves_as c.args.context.now c.args.store.now (apdu_view c.args.apdu.now) _ _ _ _ _ same c.idle_hears.ensures.turn
+
+pub returns-in_default-clause-order : goal.returns-in_default-clause-order
+returns-in_default-clause-order g c = λ l le h.
+    c.idle_hears.ensures.order l le (subst (λ (x : List TableSlot). AreInOrder l x) (sym c.get_mut.follows.holds-at-none.0) h)
+
+-- Its entry is not live.
+
+pub idle_hears-requires-then-not-is_live-clause-dead : goal.idle_hears-requires-then-not-is_live-clause-dead
+idle_hears-requires-then-not-is_live-clause-dead g c =
+    let d : Entry = c.in-Some.slot.now in
+    let now : ℕ = c.args.context.now.moment in
+    let unchanged = set_back_at c.args.context.now.key d d (g.S.SlotTable.slots c.args.table.now) _ (sym c.in-Some.ensures.value) refl
+    (c.get_mut.follows.holds d).0 in
+    ap (λ (l : List TableSlot). is_none_live now (value_at code_same_key c.args.context.now.key l)) unchanged
+    ∙ ap (is_none_live now) (sym c.in-Some.ensures.value) ∙ none_live now d ∙ ap not (sym c.is_live.ensures ∙ c.if-not-is_live.true)
+
+pub idle_hears-requires-then-not-is_live-clause-order : goal.idle_hears-requires-then-not-is_live-clause-order
+idle_hears-requires-then-not-is_live-clause-order g c =
+    let d : Entry = c.in-Some.slot.now in
+    let unchanged = set_back_at c.args.context.now.key d d (g.S.SlotTable.slots c.args.table.now) _ (sym c.in-Some.ensures.value) refl
+    (c.get_mut.follows.holds d).0 in
+    subst (λ (l : List TableSlot). AreInOrderIf c.args.latest l) (sym unchanged) c.requires.order
+
+pub returns-then-not-is_live-clause-turn : goal.returns-then-not-is_live-clause-turn
+returns-then-not-is_live-clause-turn g c =
+    let d : Entry = c.in-Some.slot.now in
+    let unchanged = set_back_at c.args.context.now.key d d (g.S.SlotTable.slots c.args.table.now) _ (sym c.in-Some.ensures.value) refl
+    (c.get_mut.follows.holds d).0 in
+    let same =
+    ap (λ (n : ℕ). end_of (g.S.SlotTable.slots (c.get_mut.follows.lender d)) n) (c.get_mut.follows.holds d).1
+    ∙ ap (λ (l : List TableSlot). end_of l (g.S.SlotTable.capacity c.args.table.now)) unchanged in
+    serves_as c.args.context.now c.args.store.now (apdu_view c.args.apdu.now) _ _ _ _ _ same c.idle_hears-then-not-is_live.ensures.turn
+
+pub returns-then-not-is_live-clause-order : goal.returns-then-not-is_live-clause-order
+returns-then-not-is_live-clause-order g c = λ l le h.
+    let d : Entry = c.in-Some.slot.now in
+    let unchanged = set_back_at c.args.context.now.key d d (g.S.SlotTable.slots c.args.table.now) _ (sym c.in-Some.ensures.value) refl
+    (c.get_mut.follows.holds d).0 in
+    c.idle_hears-then-not-is_live.ensures.order l le (subst (λ (x : List TableSlot). AreInOrder l x) (sym unchanged) h)
+
+-- It is live and goes on.
+
+pub returns-in-Ok-clause-turn : goal.returns-in-Ok-clause-turn
+returns-in-Ok-clause-turn g c =
     let key : CodeKey = c.args.context.now.key in
     let now : ℕ = c.args.context.now.moment in
     let slots : List TableSlot = g.S.SlotTable.slots c.args.table.now in
     let e : ServerEnd = end_of slots (g.S.SlotTable.capacity c.args.table.now) in
     let k : PeerKey = peer_key_view key in
     let set : Context = context_view c.args.context.now in
-    let d : Entry = c.in-Some.entry in
+    let d : Entry = c.replace-entry.result in
     let x : Entry = c.in-Ok.reaction.entry in
-    let seen : value_at same_key k e.slots ≡ Some d = sym (value_viewed Entry key slots) ∙ c.in-Some.ensures.live.1 in
-    let live : is_none_live now (value_at same_key k e.slots) ≡ false = ap (is_none_live now) (sym (value_viewed Entry key slots)) ∙ c.in-Some.ensures.live.0 in
-    let alive : is_live now d ≡ true = live_one now (value_at same_key k e.slots) d seen live in
+    let was : d ≡ c.in-Some.slot.now = c.replace-entry.ensures.value in
+    let alive : is_live now d ≡ true = ap (is_live now) was ∙ sym c.is_live.ensures ∙ c.if-not-is_live.false in
+    let seen : value_at same_key k e.slots ≡ Some d = sym (value_viewed Entry key slots) ∙ sym c.in-Some.ensures.value ∙ ap (λ (y : Entry). Some y) (sym was) in
+    let live : is_none_live now (value_at same_key k e.slots) ≡ false = ap (is_none_live now) seen ∙ none_live now d ∙ ap not alive in
     let same = live_is set (service_of c.args.store.now) (value_at same_key k e.slots) d (is_free now e) (apdu_view c.args.apdu.now) seen live in
     let stays = stays_live set (service_of c.args.store.now) d x (apdu_view c.args.apdu.now) alive c.in-Ok.ensures.entry_is in
-    let put = set_there now key no_entry x slots _ _ c.in-Some.ensures.slots c.put_back.ensures.slots in
+    let put = set_there now key x slots _ (c.get_mut.follows.holds x).0 in
     let r = served_so now e k _ _ c.args.store.now _ x false _ _ _ same c.in-Ok.ensures stays live put in
     served_with _ c.args.store.now _ _ _ _ _ _ _ r c.served.ensures.sends c.served.ensures.act
-    (ap (λ (n : ℕ). end_of (g.S.SlotTable.slots c.put_back.new.table) n) (c.put_back.ensures.same ∙ c.in-Some.ensures.same))
+    (ap (λ (n : ℕ). end_of (g.S.SlotTable.slots (c.get_mut.follows.lender x)) n) (c.get_mut.follows.holds x).1)
 
-pub returns-in-Err : goal.returns-in-Err
-returns-in-Err g c =
+pub returns-in-Ok-clause-order : goal.returns-in-Ok-clause-order
+returns-in-Ok-clause-order g c = λ l le h.
     let key : CodeKey = c.args.context.now.key in
+    let now : ℕ = c.args.context.now.moment in
     let slots : List TableSlot = g.S.SlotTable.slots c.args.table.now in
-    let back =
-    c.put_back-in-Err.ensures.slots ∙ ap (with_value code_same_key key c.in-Err.entry) c.in-Some.ensures.slots
-    ∙ set_again key no_entry c.in-Err.entry slots
-    ∙ ap (λ (d : Entry). with_value code_same_key key d slots) c.in-Err.ensures.0
-    ∙ set_back CodeKey Entry code_same_key key_equivalence key c.in-Some.entry slots c.in-Some.ensures.live.1 in (
-      ap (λ (n : ℕ). end_of (g.S.SlotTable.slots c.put_back-in-Err.new.table) n) (c.put_back-in-Err.ensures.same ∙ c.in-Some.ensures.same)
-          ∙ ap (λ (l : List TableSlot). end_of l (g.S.SlotTable.capacity c.args.table.now)) back,
+    let d : Entry = c.replace-entry.result in
+    let x : Entry = c.in-Ok.reaction.entry in
+    let was : d ≡ c.in-Some.slot.now = c.replace-entry.ensures.value in
+    let alive : is_live now d ≡ true = ap (is_live now) was ∙ sym c.is_live.ensures ∙ c.if-not-is_live.false in
+    let at : value_at code_same_key key slots ≡ Some d = sym c.in-Some.ensures.value ∙ ap (λ (y : Entry). Some y) (sym was) in
+    let begun = live_begun (context_view c.args.context.now) (service_of c.args.store.now) d x (apdu_view c.args.apdu.now) alive c.in-Ok.ensures.entry_is in
+    later l now _ le (subst (λ (y : List TableSlot). AreInOrder l y) (sym (c.get_mut.follows.holds x).0) (set_in_order l key d x slots at begun h))
+
+-- Memory was refused.
+
+pub returns-in-Err-clause-turn : goal.returns-in-Err-clause-turn
+returns-in-Err-clause-turn g c =
+    let d : Entry = c.in-Some.slot.now in
+    let x : Entry = c.in-Err.entry in
+    let unchanged = set_back_at c.args.context.now.key d x (g.S.SlotTable.slots c.args.table.now) _ (sym c.in-Some.ensures.value)
+    (c.in-Err.ensures.0 ∙ c.replace-entry.ensures.value) (c.get_mut.follows.holds x).0 in (
+      ap (λ (n : ℕ). end_of (g.S.SlotTable.slots (c.get_mut.follows.lender x)) n) (c.get_mut.follows.holds x).1
+          ∙ ap (λ (l : List TableSlot). end_of l (g.S.SlotTable.capacity c.args.table.now)) unchanged,
       c.in-Err.ensures.1,
     )
+
+pub returns-in-Err-clause-order : goal.returns-in-Err-clause-order
+returns-in-Err-clause-order g c = λ l le h.
+    let d : Entry = c.in-Some.slot.now in
+    let x : Entry = c.in-Err.entry in
+    let unchanged = set_back_at c.args.context.now.key d x (g.S.SlotTable.slots c.args.table.now) _ (sym c.in-Some.ensures.value)
+    (c.in-Err.ensures.0 ∙ c.replace-entry.ensures.value) (c.get_mut.follows.holds x).0 in
+    later l c.args.context.now.moment _ le (subst (λ (y : List TableSlot). AreInOrder l y) (sym unchanged) h)

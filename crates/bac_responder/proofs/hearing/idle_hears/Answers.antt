@@ -1,5 +1,5 @@
 -- No entry is live.
-use Rattle.std.proofs.Common.{◌≡◌, ◌∙◌, sym, ap, ℕ, List, Option, Bool, true}
+use Rattle.std.proofs.Common.{◌≡◌, ◌∙◌, sym, subst, ap, ℕ, List, Option, Bool, true}
 use Rattle.bac_apdu.specs.Views.{apdu_view}
 use Rattle.bac_slots.specs.Slots.{value_at}
 use Rattle.bac_protocol.specs.Context.{Context}
@@ -11,14 +11,16 @@ use Rattle.bac_ends.specs.declared.peer_key.PeerKey.{PeerKey as CodeKey}
 use Rattle.bac_ends.proofs.Keyed.{value_viewed}
 use Rattle.bac_server.specs.Services.{service_of}
 use Rattle.bac_ends.specs.Views.{context_view}
+use Rattle.bac_responder.specs.Begins.{AreInOrder}
 use Rattle.bac_responder.specs.Tables.{TableSlot}
 use Rattle.bac_responder.specs.Views.{end_of}
+use Rattle.bac_responder.proofs.Begins.{entered_in_order, later}
 use Rattle.bac_responder.proofs.Turned.{served_so, served_still, served_with, idle_is, begun_live, where_it_begins, its_place}
 use Rattle.bac_responder.proofs.Sweeps.{entered}
 use Rattle.bac_responder.proofs.hearing.idle_hears.Goals as goal
 
-pub returns-in-Stays : goal.returns-in-Stays
-returns-in-Stays g c =
+pub returns-in-Stays-clause-turn : goal.returns-in-Stays-clause-turn
+returns-in-Stays-clause-turn g c =
     let key : CodeKey = c.args.context.now.key in
     let now : ℕ = c.args.context.now.moment in
     let slots : List TableSlot = g.S.SlotTable.slots c.args.table.now in
@@ -27,7 +29,7 @@ returns-in-Stays g c =
     let set : Context = context_view c.args.context.now in
     let o : Option Entry = value_at same_key k e.slots in
     let dead : is_none_live now o ≡ true =
-    ap (is_none_live now) (sym (value_viewed Entry key slots)) ∙ c.requires in
+    ap (is_none_live now) (sym (value_viewed Entry key slots)) ∙ c.requires.dead in
     let same =
     idle_is set (service_of c.args.store.now) o (is_free now e) (apdu_view c.args.apdu.now) dead
     ∙ where_it_begins set (service_of c.args.store.now) o (is_free now e) (apdu_view c.args.apdu.now)
@@ -35,8 +37,8 @@ returns-in-Stays g c =
     let did = rw c.in-Stays.is at c.in_ok-sends.ensures.does in
     served_still now e k _ _ c.args.store.now _ o _ same (did o) dead
 
-pub returns-in-Begins : goal.returns-in-Begins
-returns-in-Begins g c =
+pub returns-in-Begins-clause-turn : goal.returns-in-Begins-clause-turn
+returns-in-Begins-clause-turn g c =
     let key : CodeKey = c.args.context.now.key in
     let now : ℕ = c.args.context.now.moment in
     let slots : List TableSlot = g.S.SlotTable.slots c.args.table.now in
@@ -46,7 +48,7 @@ returns-in-Begins g c =
     let o : Option Entry = value_at same_key k e.slots in
     let x : Entry = c.in-Begins.reaction.entry in
     let dead : is_none_live now o ≡ true =
-    ap (is_none_live now) (sym (value_viewed Entry key slots)) ∙ c.requires in
+    ap (is_none_live now) (sym (value_viewed Entry key slots)) ∙ c.requires.dead in
     let same =
     idle_is set (service_of c.args.store.now) o (is_free now e) (apdu_view c.args.apdu.now) dead
     ∙ where_it_begins set (service_of c.args.store.now) o (is_free now e) (apdu_view c.args.apdu.now)
@@ -57,6 +59,15 @@ returns-in-Begins g c =
     (entered now key x slots _ c.enter.ensures.slots) in
     served_with _ c.args.store.now _ _ _ _ _ _ _ r c.served.ensures.sends c.served.ensures.act
     (ap (λ (n : ℕ). end_of (g.S.SlotTable.slots c.enter.new.table) n) c.enter.ensures.same)
+
+pub returns-in-Stays-clause-order : goal.returns-in-Stays-clause-order
+returns-in-Stays-clause-order g c = λ l le h. later l c.args.context.now.moment (g.S.SlotTable.slots c.args.table.now) le h
+
+pub returns-in-Begins-clause-order : goal.returns-in-Begins-clause-order
+returns-in-Begins-clause-order g c = λ l le h.
+    let begin = rw c.in-Begins.is at c.in_ok-sends.ensures.begin in
+    subst (λ (x : List TableSlot). AreInOrder c.args.context.now.moment x) (sym c.enter.ensures.slots)
+    (entered_in_order c.args.context.now.moment l c.args.context.now.key c.in-Begins.reaction.entry (g.S.SlotTable.slots c.args.table.now) le begin h)
 
 pub enter-requires-clause-room : goal.enter-requires-clause-room
 enter-requires-clause-room g c =

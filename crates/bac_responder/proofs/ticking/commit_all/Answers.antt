@@ -5,8 +5,8 @@ use Rattle.bac_responder.specs.Tables.{TableSlot}
 use Rattle.bac_responder.proofs.Firsts.{all_ticked}
 use Rattle.bac_responder.proofs.ticking.commit_all.Goals as goal
 
-pub returns : goal.returns
-returns g c =
+pub returns-clause-end : goal.returns-clause-end
+returns-clause-end g c =
     let slots =
     ap (λ (l : List TableSlot). slots_view l) c.commit_each.ensures.slots
     ∙ all_ticked (settings_view c.args.settings.now) c.args.moment (g.S.SlotTable.slots c.args.table.now) in

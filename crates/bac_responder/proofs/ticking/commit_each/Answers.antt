@@ -1,27 +1,24 @@
 -- One more slot is ticked.
-use Rattle.std.proofs.Common.{arith, ◌≡◌, ◌∙◌, sym, ap, Some, slice_get, length}
-use Rattle.bac_ends.specs.Views.{settings_view}
+use Rattle.std.proofs.Common.{arith, ◌≡◌, ◌+◌, ◌∙◌, ap, Some, slice_get, length}
+use Rattle.bac_protocol.specs.Server.{Reaction}
+use Rattle.bac_ends.specs.Ends.{entry_or}
+use Rattle.bac_ends.specs.Views.{peer_key_view, settings_view}
 use Rattle.bac_responder.specs.Tables.{TableSlot, ticked, with_first}
-use Rattle.bac_responder.proofs.Firsts.{all_first, first_set, first_none, never_lost}
+use Rattle.bac_responder.proofs.Firsts.{all_first, first_set, first_same}
+use Rattle.bac_responder.proofs.Quiet.{stays}
 use Rattle.bac_responder.proofs.ticking.commit_each.Goals as goal
 
+-- a tick finds nothing to do for it, or it is not there
 pub loop-n-preserved-in_default : goal.loop-n-preserved-in_default
 loop-n-preserved-in_default g c =
     record {
-      slots = first_none (ticked (settings_view c.args.settings.now) c.args.moment) c.loop-n.n _ _ c.loop-n.invariant.slots c.in_default.ensures;
+      slots = first_same (ticked (settings_view c.args.settings.now) c.args.moment) c.loop-n.n _ _ c.loop-n.invariant.slots (λ s at.
+          ap (λ (r : Reaction). entry_or s.value r.entry) (stays (settings_view c.args.settings.now) c.args.moment (c.args.moment + 1) c.args.moment
+          (omega arith, omega arith) (peer_key_view s.key) s.value (c.in_default.ensures s at)));
       same = c.loop-n.invariant.same;
       ends = c.loop-n.invariant.ends;
       distinct = c.loop-n.invariant.distinct;
     }
-
-pub loop-n-preserved-in_default-set : goal.loop-n-preserved-in_default-set
-loop-n-preserved-in_default-set g c =
-    let found = c.in-Some.ensures in
-    let s : TableSlot = record { key = c.in-Some.key; begin = found.0.begin; value = found.0.value } in
-    let at : slice_get (g.S.SlotTable.slots c.loop-n.table) c.loop-n.n ≡ Some s =
-    found.1 ∙ (λ i. Some (record { key = found.2 i; begin = found.0.begin; value = found.0.value })) in
-    absurd (never_lost (ticked (settings_view c.args.settings.now) c.args.moment) c.loop-n.n _ _ s c.loop-n.invariant.distinct c.loop-n.invariant.slots at
-    (sym c.in_default-set.is ∙ c.set.ensures.value))
 
 pub loop-n-preserved : goal.loop-n-preserved
 loop-n-preserved g c =
@@ -30,10 +27,9 @@ loop-n-preserved g c =
     let at : slice_get (g.S.SlotTable.slots c.loop-n.table) c.loop-n.n ≡ Some s =
     found.1 ∙ (λ i. Some (record { key = found.2 i; begin = found.0.begin; value = found.0.value })) in
     record {
-      slots = first_set (ticked (settings_view c.args.settings.now) c.args.moment) c.loop-n.n _ s c.in-Some-set.entry c.commit_tick.result c.placeholder.result
-          _ _ _ c.loop-n.invariant.distinct c.loop-n.invariant.slots at (sym c.in-Some-set.is ∙ c.set.ensures.value) c.set.ensures.slots c.commit_tick.ensures
-          c.put_back.ensures.slots;
-      same = c.put_back.ensures.same ∙ c.set.ensures.same ∙ c.loop-n.invariant.same;
+      slots = first_set (ticked (settings_view c.args.settings.now) c.args.moment) c.loop-n.n _ s _ _ c.loop-n.invariant.distinct c.loop-n.invariant.slots at
+          (c.tick_at.ensures.slots s.value);
+      same = c.tick_at.ensures.same ∙ c.loop-n.invariant.same;
       ends = c.loop-n.invariant.ends;
       distinct = c.loop-n.invariant.distinct;
     }

@@ -1,16 +1,19 @@
--- The ask of the table is that of the end.
-use Rattle.std.proofs.Common.{◌∙◌, ap, refl, sym}
+-- The ask of the table is that of the end; the slots stay in order, where they are.
+use Rattle.std.proofs.Common.{◌∙◌, ℕ, Option, ap, refl, subst, sym}
 use Rattle.bac_apdu.specs.Views.{limits_view}
 use Rattle.bac_npdu.specs.Views.{peer_view}
 use Rattle.bac_service.specs.Spellings.{request_spelling}
 use Rattle.bac_service.specs.Values.{choice_of}
 use Rattle.bac_service.specs.Views.{request_view}
+use Rattle.bac_protocol.specs.Client.{Ask}
 use Rattle.bac_protocol.specs.Context.{Settings}
 use Rattle.bac_protocol.specs.Service.{Octets}
 use Rattle.bac_ends.specs.Ends.{ClientEnd, asks_by_way, asks_for, client_asks}
 use Rattle.bac_ends.specs.Views.{settings_view}
+use Rattle.bac_requester.specs.Begins.{AreInOrderIf}
 use Rattle.bac_requester.specs.Views.{Requester, end_of}
 use Rattle.bac_requester.proofs.Accepting.{asked_by, asked_so, by_result, by_way}
+use Rattle.bac_requester.proofs.Begins.{asked_in_order}
 use Rattle.bac_requester.proofs.Quiet.{asked_quiet}
 use Rattle.bac_requester.proofs.requester.Requester.ask_other.Goals as goal
 
@@ -31,9 +34,13 @@ returns-clause-asks g c =
 
 pub invariant_of-self : goal.invariant_of-self
 invariant_of-self g c =
-    asked_quiet c.args.now c.self.inside.due c.at_the_earliest-self-inside.result c.at_the_earliest-self-inside.ensures.within
-    c.at_the_earliest-self-inside.ensures.soon (settings_view c.self.inside.settings) (peer_view c.args.peer.now)
-    (asked_by c.args.now (request_view c.args.request) c.in-Ok.way)
-    (end_of (g.S.SlotTable.slots c.self.inside.table) (g.S.SlotTable.capacity c.self.inside.table) c.self.inside.asked)
-    (end_of (g.S.SlotTable.slots c.ask-asked.new.table) (g.S.SlotTable.capacity c.ask-asked.new.table) c.ask-asked.new.asked)
-    c.ask-asked.result refl c.ask-asked.ensures c.self.invariant
+    let before : ClientEnd = end_of (g.S.SlotTable.slots c.self.inside.table) (g.S.SlotTable.capacity c.self.inside.table) c.self.inside.asked in
+    let after : ClientEnd = end_of (g.S.SlotTable.slots c.ask-asked.new.table) (g.S.SlotTable.capacity c.ask-asked.new.table) c.ask-asked.new.asked in
+    let ask : Ask = asked_by c.args.now (request_view c.args.request) c.in-Ok.way in (
+      asked_quiet c.args.now c.self.inside.due c.at_the_earliest-self-inside.result c.at_the_earliest-self-inside.ensures.within
+          c.at_the_earliest-self-inside.ensures.soon (settings_view c.self.inside.settings) (peer_view c.args.peer.now) ask before after c.ask-asked.result refl
+          c.ask-asked.ensures c.self.invariant.0,
+      subst (λ (o : Option ℕ). AreInOrderIf o after.slots) (sym c.later-self-inside.ensures)
+          (asked_in_order c.self.inside.latest c.args.now (settings_view c.self.inside.settings) (peer_view c.args.peer.now) ask before after
+          c.ask-asked.result refl c.ask-asked.ensures c.self.invariant.1),
+    )

@@ -1,10 +1,13 @@
--- The turn at the APDU's key.
+-- The turn at the APDU's key; the slots stay in order, where they are.
 use Rattle.std.proofs.Common.{ap}
 use Rattle.bac_apdu.specs.Views.{apdu_view}
 use Rattle.bac_npdu.specs.Views.{peer_view}
 use Rattle.bac_service.specs.Services.{reads_reply}
+use Rattle.bac_ends.specs.Ends.{ClientEnd}
+use Rattle.bac_ends.specs.Keys.{PeerKey}
 use Rattle.bac_ends.specs.Views.{settings_view}
 use Rattle.bac_requester.specs.Views.{Requester, end_of}
+use Rattle.bac_requester.proofs.Begins.{heard_in_order}
 use Rattle.bac_requester.proofs.Quiet.{heard_quiet}
 use Rattle.bac_requester.proofs.Turning.{heard}
 use Rattle.bac_requester.proofs.requester.Requester.on.Goals as goal
@@ -23,9 +26,12 @@ returns g c =
 
 pub invariant_of-self : goal.invariant_of-self
 invariant_of-self g c =
-    heard_quiet c.args.now c.self.inside.due c.at_the_earliest-self-inside.result c.at_the_earliest-self-inside.ensures.within
-    c.at_the_earliest-self-inside.ensures.soon (settings_view c.self.inside.settings) reads_reply (apdu_view c.args.apdu.now)
-    (end_of (g.S.SlotTable.slots c.self.inside.table) (g.S.SlotTable.capacity c.self.inside.table) c.self.inside.asked)
-    (end_of (g.S.SlotTable.slots c.hears-turn.new.table) (g.S.SlotTable.capacity c.hears-turn.new.table) c.self.inside.asked)
-    (record { peer = peer_view c.args.peer.now; invoke_id = c.invoke_id_of.result }) c.hears-turn.result (c.hears-turn.ensures c.self.inside.asked)
-    c.self.invariant
+    let before : ClientEnd = end_of (g.S.SlotTable.slots c.self.inside.table) (g.S.SlotTable.capacity c.self.inside.table) c.self.inside.asked in
+    let after : ClientEnd = end_of (g.S.SlotTable.slots c.hears-turn.new.table) (g.S.SlotTable.capacity c.hears-turn.new.table) c.self.inside.asked in
+    let key : PeerKey = record { peer = peer_view c.args.peer.now; invoke_id = c.invoke_id_of.result } in (
+      heard_quiet c.args.now c.self.inside.due c.at_the_earliest-self-inside.result c.at_the_earliest-self-inside.ensures.within
+          c.at_the_earliest-self-inside.ensures.soon (settings_view c.self.inside.settings) reads_reply (apdu_view c.args.apdu.now) before after key
+          c.hears-turn.result (c.hears-turn.ensures c.self.inside.asked) c.self.invariant.0,
+      heard_in_order c.self.inside.latest c.args.now (settings_view c.self.inside.settings) reads_reply (apdu_view c.args.apdu.now) before after key
+          c.hears-turn.result (c.hears-turn.ensures c.self.inside.asked) c.self.invariant.1,
+    )

@@ -9,5 +9,5 @@ pub returns-then-is_quiet : goal.returns-then-is_quiet
 returns-then-is_quiet g c =
     rw (← c.self.view_is) (nothing_due (settings_view c.self.inside.settings) c.self.inside.from c.self.inside.due c.args.moment
     (between c.self.inside.from c.self.inside.due c.args.moment (sym c.is_quiet.ensures ∙ c.if-is_quiet.true))
-    (end_of (g.S.SlotTable.slots c.self.inside.table) (g.S.SlotTable.capacity c.self.inside.table)) c.nothing_due.result.items c.self.invariant
+    (end_of (g.S.SlotTable.slots c.self.inside.table) (g.S.SlotTable.capacity c.self.inside.table)) c.nothing_due.result.items c.self.invariant.0
     c.nothing_due.ensures)
