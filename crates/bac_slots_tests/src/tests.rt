@@ -513,3 +513,43 @@ fn is_swept_at_its_begin(alloc: Global) -> bool {
 fn swept_from_the_oldest_on(rt: HostRuntime) {
     assert!(rt; is_swept_at_its_begin(rt.alloc()));
 }
+
+// The same test, which counts the values that it looks at.
+struct Looking<'a> {
+    least: u32,
+    looks: &'a Cell<u64>,
+}
+
+impl Test<Number> for Looking<'_> {
+    ghost passes = { λ t v. nat_le t.least v.0 };
+
+    fn passes(&self, value: &Number) -> bool {
+        self.looks.set(self.looks.get().saturating_add(1));
+        self.least <= value.0
+    }
+}
+
+// Whether a sweep of two slots takes out the older one, which fails, and looks at no value of the younger one.
+fn looks_once(alloc: Global) -> bool {
+    let looks = Cell::new(0u64);
+    let Ok(mut table) = IndexSlots::<Number, Number>::new(alloc, 2) else {
+        return false;
+    };
+    if table.put(Number(1), 5, Number(10)).is_err() {
+        return false;
+    }
+    if table.put(Number(2), 6, Number(20)).is_err() {
+        return false;
+    }
+    let test = Looking {
+        least: 11,
+        looks: &looks,
+    };
+    sweep_oldest(&mut table, &test, 5);
+    looks.get() == 1 && table.len() == 1
+}
+
+#[test]
+fn a_sweep_looks_at_no_young_slot(rt: HostRuntime) {
+    assert!(rt; looks_once(rt.alloc()));
+}
