@@ -28,8 +28,8 @@ pub fn sweep<K: Ord + Copy + Drop, T: Drop, S: SlotTable<K, T>, P: Test<T>>(tabl
     }
 }
 
-/// Does what `sweep` does, looking only at the slots that began at the bound or before, a moment in milliseconds: none began after one
-/// that was put later, and each that began after the bound passes.
+/// Does what `sweep` does, looking only at the slots that began at the bound or before: none began after one that was put later,
+/// and each that began after the bound passes.
 pub fn sweep_oldest<K: Ord + Copy + Drop, T: Drop, S: SlotTable<K, T>, P: Test<T>>(
     table: &mut S,
     test: &P,
