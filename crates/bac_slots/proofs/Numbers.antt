@@ -60,7 +60,8 @@ lowered_first k ne = go (nat_lt 0 k) refl
     go true e = refl
     go false e = let l : k ≤ 0 = grind (arith, nat_tests) in absurd (ne (omega (arith, l)))
 
-pub places_next : (first : ℕ) (numbers : List ℕ) → Avoids 0 (places_of first numbers) → places_of (first + 1) numbers ≡ map (lowered 0) (places_of first numbers)
+pub places_next : (first : ℕ) (numbers : List ℕ) → Avoids 0 (places_of first numbers)
+    → places_of (first + 1) numbers ≡ map (lowered 0) (places_of first numbers)
 places_next first [] v = refl
 places_next first (m ∷ numbers) v =
     let e : m - (first + 1) ≡ m - first - 1 = omega arith in

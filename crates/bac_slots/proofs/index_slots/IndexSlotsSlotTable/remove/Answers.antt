@@ -1,9 +1,9 @@
 -- The slot is taken out, and its place out of the index.
-use Rattle.std.proofs.Common.{◌≡◌, ◌∙◌, ap, sym, subst, ℕ, List, map, arith, Some}
+use Rattle.std.proofs.Common.{◌∙◌, ap, sym, subst, ℕ, List, arith, Some}
 use Rattle.std.specs.List.{remove}
 use Rattle.bac_slots.specs.declared.slot.Slot.{Slot}
 use Rattle.bac_slots.specs.Slots.{IsDistinct}
-use Rattle.bac_slots.specs.Indexes.{IsIndex, lowered}
+use Rattle.bac_slots.specs.Indexes.{IsIndex}
 use Rattle.bac_slots.proofs.Slots.{without-none, without-IsAt, value_at-IsAt, IsDistinct-without}
 use Rattle.bac_slots.proofs.Indexes.{index_length, index_avoids, index_remove}
 use Rattle.bac_slots.proofs.index_slots.IndexSlotsSlotTable.remove.Goals as goal
