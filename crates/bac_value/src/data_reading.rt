@@ -1,7 +1,8 @@
 //! Reading data, up to their end or a closing tag (clauses 20.2.1.3.2 and 20.2.19).
 ghost use Rattle.std.specs.Prelude.{◌≡◌, ◌<◌, ◌≤◌, ◌+◌, ◌-◌, ◌++◌, length, drop, take, reverse, IfOk, IfErr, IfSome, Err, IsTrue, ℕ, List};
 ghost use Rattle.arrayvec.specs.ArrayVec.{array_vec_len};
-ghost use Rattle.bac_value.specs.Reading.{turn, Turns, StaysUnlessTurned, IsPassed, Onward, IsOver, ReadsData, Steps, step_at, data_of, fault_place, IsDataTaken, IsDataRefused};
+ghost use Rattle.bac_value.specs.Reading.{turn, Turns, StaysUnlessTurned, ReadsData, Steps, step_at, data_of, fault_place, IsDataTaken, IsDataRefused};
+ghost use Rattle.bac_value.specs.Reading.{IsPassed, Onward, IsOver};
 ghost use Rattle.bac_value.specs.Data.{IsDataFront};
 
 use crate::data::Data;
