@@ -22,9 +22,10 @@ sum_push lengths n = sum_by_push (λ k. k) lengths n
 sum_rest : (n : ℕ) (lengths octets : List ℕ) → sum (n ∷ lengths) ≡ length octets → (n ≤ length octets) × (sum lengths ≡ length (drop n octets))
 sum_rest n lengths octets whole = omega (arith, sum-cons n lengths, length-drop n octets)
 
-pub length-split : (lengths octets : List ℕ) → length (split lengths octets) ≡ length lengths
-length-split [] octets = refl
-length-split (n ∷ lengths) octets = ap suc (length-split lengths (drop n octets))
+-- there are as many parts as lengths
+pub parts_are_as_many : (lengths octets : List ℕ) → length (split lengths octets) ≡ length lengths
+parts_are_as_many [] octets = refl
+parts_are_as_many (n ∷ lengths) octets = ap suc (parts_are_as_many lengths (drop n octets))
 
 pub join-split : (lengths octets : List ℕ) → sum lengths ≡ length octets → join (split lengths octets) ≡ octets
 join-split [] [] whole = refl
@@ -49,10 +50,6 @@ split-push (k ∷ lengths) octets more n whole is =
     ∙ ap (λ l. take k octets ∷ split (lengths ++ n ∷ []) l) (drop-append-le k octets more rest.0)
     ∙ ap (λ l. take k octets ∷ l) (split-push lengths (drop k octets) more n rest.1 is)
 
--- there are as many parts as lengths
-pub parts_are_as_many : (lengths octets : List ℕ) → length (split lengths octets) ≡ length lengths
-parts_are_as_many lengths octets = length-split lengths octets
-
 -- the parts have all the octets
 pub parts_have_all : (lengths octets : List ℕ) → sum lengths ≡ length octets → length (join (split lengths octets)) ≡ length octets
 parts_have_all lengths octets whole = ap length (join-split lengths octets whole)
@@ -71,7 +68,7 @@ CountsOctets-push lengths octets more then_lengths then_octets n total fresh cou
       counted = omega (arith, long, is, counts.counted);
       whole = omega (arith, long, sums, is, counts.whole);
       short = omega (arith, all, is, counts.counted);
-      few = omega (arith, many, length-split lengths octets);
+      few = omega (arith, many, parts_are_as_many lengths octets);
       fresh = omega (arith, many, counts.fresh);
     }
 
@@ -89,14 +86,8 @@ CountsOctets-pop lengths octets then_lengths then_octets n total fresh then coun
       whole = omega (arith, long, sums, within, counts.whole);
       short = omega (arith, counts.short);
       few = omega (arith, many, counts.few);
-      fresh = omega (arith, many, fewer, length-split lengths octets);
+      fresh = omega (arith, many, fewer, parts_are_as_many lengths octets);
     }
-
--- the last length is counted
-pub within_whole : (lengths octets then_lengths : List ℕ) (n : ℕ) → lengths ≡ then_lengths ++ n ∷ [] → sum lengths ≡ length octets → n ≤ length octets
-within_whole lengths octets then_lengths n are whole =
-    let sums = ap sum are ∙ sum_push then_lengths n in
-    omega (arith, sums, whole)
 
 -- without the last segment the parts are those before it
 pub split-pop : (lengths octets then_lengths then_octets : List ℕ) (n : ℕ) → lengths ≡ then_lengths ++ n ∷ []
