@@ -207,16 +207,22 @@ module _ (now : ℕ) (p : PeerKey) (slots : List ServerSlot) (distinct : IsDisti
       → value_at same_key q (set_or_put now p d slots b) ≡ Some v → Was (Some d)
   set_found d true dead (inl same) e =
       let gone = passing_value Entry (is_live now) p slots distinct ∙ none_kept now (value_at same_key p slots) dead in
-      inr (same, sym (put_same Entry p d.begin d (passing Entry (is_live now) slots) gone)
-      ∙ subst (λ (z : PeerKey). value_at same_key z (set_or_put now p d slots true) ≡ Some v) (sym same) e)
+      inr (
+        same,
+        sym (put_same Entry p d.begin d (passing Entry (is_live now) slots) gone)
+            ∙ subst (λ (z : PeerKey). value_at same_key z (set_or_put now p d slots true) ≡ Some v) (sym same) e,
+      )
   set_found d true dead (inr ne) e = inl (kept_there now (value_at same_key q slots) v
       (sym (put_other Entry p q d.begin d (passing Entry (is_live now) slots) ne ∙ passing_value Entry (is_live now) q slots distinct) ∙ e))
   set_found d false live (inl same) e = go (value_at same_key p slots) refl live
     where
       go : (o : Option Entry) → value_at same_key p slots ≡ o → is_none_live now o ≡ false → Was (Some d)
       go None is f = absurd cc
-      go (Some old) is f = inr (same, sym (with_same Entry p d old slots is)
-          ∙ subst (λ (z : PeerKey). value_at same_key z (set_or_put now p d slots false) ≡ Some v) (sym same) e)
+      go (Some old) is f = inr (
+        same,
+        sym (with_same Entry p d old slots is)
+            ∙ subst (λ (z : PeerKey). value_at same_key z (set_or_put now p d slots false) ≡ Some v) (sym same) e,
+      )
   set_found d false live (inr ne) e = inl (sym (with_other Entry p q d slots ne) ∙ e)
 
   put_found : (o : Option Entry) → value_at same_key q (put_entry now p o slots) ≡ Some v → Was o

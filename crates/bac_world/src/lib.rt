@@ -20,8 +20,7 @@ pub fn at_most_once()
 
 /// A log is right with the stores exactly where three claims hold of it, each of which can be read by itself: of what was performed, of what was asked and how
 /// it ended, and of what the stores are.
-#[tactic(auto, using(crate::proofs::Claims::performed_once, crate::proofs::Claims::ended_once, crate::proofs::Claims::replayed,
-    crate::proofs::Claims::together))]
+#[tactic(auto, using(crate::proofs::Claims::performed_once, crate::proofs::Claims::ended_once, crate::proofs::Claims::replayed, crate::proofs::Claims::together))]
 pub fn once_is_its_claims()
     ensures performed { (opening : Stores) (log : List Fact) (stores : Stores) → IsOnce opening log stores → ArePerformedOnce opening log }
     ensures ended { (opening : Stores) (log : List Fact) (stores : Stores) → IsOnce opening log stores → AreEndedOnce log }
