@@ -16,7 +16,7 @@ use Rattle.std.proofs.lemmas.List.{length-map}
 use Rattle.std.proofs.lemmas.Option.{slice_get-map, slice_get_within, slice_get_past}
 use Rattle.bac_slots.specs.declared.slot.Slot.{Slot}
 use Rattle.bac_slots.specs.Slots.{is_less, rank, nth_by_key, in_order, value_at, with_value, digits, IsDistinct, IsAt}
-use Rattle.bac_slots.specs.Indexes.{IsIndex, lowered}
+use Rattle.bac_slots.specs.Indexes.{IsIndex, Avoids, lowered}
 use Rattle.bac_slots.proofs.Slots.{without-IsAt}
 use Rattle.bac_slots.proofs.KeyOrder.{Each, IsSorted, IsIn, each_at, sorted_in_order, length_in_order, rank_in_order, rank_more, rank_sorted}
 use Rattle.bac_slots.proofs.KeyOrder.{reversed, in_in_order, place_in, in_place, are_apart, sorted_distinct, place_ranked, apart_away}
@@ -138,11 +138,6 @@ module _ (X : Type 0) where
           let l : n ≤ gone = grind (arith, nat_tests) in
           get_below xs gone n (omega (arith, l, ne))
 
-  -- no place is that one
-  abbrev pub Avoids : ℕ → List ℕ → Type 0
-  Avoids gone [] = Unit {0}
-  Avoids gone (p ∷ places) = (p ≡ gone → ⊥) × Avoids gone places
-
   names_lowered : (xs ys : List X) (places : List ℕ) (gone : ℕ) → Avoids gone places → Names xs places ys
       → Names (remove xs gone) (map (lowered gone) places) ys
   names_lowered xs [] [] gone a e = refl
@@ -208,7 +203,7 @@ module _ (K T : Type 0) (cmp : K → K → Ordering) (total : IsTotalOrder cmp) 
       ∙ ap (λ l. map Some l) (sym (in_order_changed K T cmp total eq matches key v slots)))
 
   apart_names : (key : K) (slots os : List Item) (places : List ℕ) (gone : ℕ) (s : Item) → Names Item slots places os
-      → Each K T cmp total (λ k. eq k key ≡ false) os → slice_get slots gone ≡ Some s → eq s.key key ≡ true → Avoids Item gone places
+      → Each K T cmp total (λ k. eq k key ≡ false) os → slice_get slots gone ≡ Some s → eq s.key key ≡ true → Avoids gone places
   apart_names key slots os [] gone s e a f g = tt
   apart_names key slots [] (p ∷ places) gone s e a f g = absurd cc
   apart_names key slots (o ∷ os) (p ∷ places) gone s e a f g = (
@@ -239,9 +234,10 @@ module _ (K T : Type 0) (cmp : K → K → Ordering) (total : IsTotalOrder cmp) 
       ∙ ap (λ n. cond (is_less (cmp s.key j)) 1 0 + n) (rank_alike k j slots e)
       ∙ sym (rank_more K T cmp total j s slots)
 
-  pub index_remove : (key : K) (slots : List Item) (places : List ℕ) (n p : ℕ) → IsDistinct eq slots → IsIndex cmp places slots
-      → n ≡ rank cmp key slots → IsAt eq key p slots → IsIndex cmp (map (lowered p) (remove places n)) (remove slots p)
-  index_remove key slots places n p d i ranked at =
+  -- the slot at a key is the one at its place by key, and none of the others
+  key_in_order : (key : K) (slots : List Item) (n p : ℕ) → IsDistinct eq slots → n ≡ rank cmp key slots → IsAt eq key p slots
+      → IsDistinct eq (in_order cmp slots) × IsAt eq key n (in_order cmp slots)
+  key_in_order key slots n p d ranked at =
       let os : List Item = in_order cmp slots in
       let found = at_some key slots p at in
       let s : Item = found.0 in
@@ -250,13 +246,26 @@ module _ (K T : Type 0) (cmp : K → K → Ordering) (total : IsTotalOrder cmp) 
       let same : rank cmp s.key slots ≡ n = rank_alike s.key key slots (tied K T cmp total eq matches s.key key found.2) ∙ sym ranked in
       let here : slice_get os n ≡ Some s = ap (λ k. slice_get os k) (sym same)
       ∙ place_ranked K T cmp total slots s apart (in_place K T cmp total slots p s found.1) in
-      let there : IsAt eq key n os = first_with K T cmp total eq matches key os n s os_distinct here found.2 in
-      let others = apart_removed key os n os_distinct there in
+      (os_distinct, first_with K T cmp total eq matches key os n s os_distinct here found.2)
+
+  pub index_avoids : (key : K) (slots : List Item) (places : List ℕ) (n p : ℕ) → IsDistinct eq slots → IsIndex cmp places slots
+      → n ≡ rank cmp key slots → IsAt eq key p slots → Avoids p (remove places n)
+  index_avoids key slots places n p d i ranked at =
+      let os : List Item = in_order cmp slots in
+      let found = at_some key slots p at in
+      let there = key_in_order key slots n p d ranked at in
+      apart_names key slots (remove os n) (remove places n) p found.0 (names_remove Item slots os places n i)
+      (apart_removed key os n there.0 there.1) found.1 found.2
+
+  pub index_remove : (key : K) (slots : List Item) (places : List ℕ) (n p : ℕ) → IsDistinct eq slots → IsIndex cmp places slots
+      → n ≡ rank cmp key slots → IsAt eq key p slots → IsIndex cmp (map (lowered p) (remove places n)) (remove slots p)
+  index_remove key slots places n p d i ranked at =
+      let os : List Item = in_order cmp slots in
+      let there = key_in_order key slots n p d ranked at in
       let rest : in_order cmp (remove slots p) ≡ remove os n =
       ap (λ l. in_order cmp l) (sym (without-IsAt eq key p slots at))
-      ∙ in_order_without K T cmp total eq matches key slots d ∙ without-IsAt eq key n os there in
-      let avoids = apart_names key slots (remove os n) (remove places n) p s (names_remove Item slots os places n i) others found.1 found.2 in
-      names_taken Item slots os places n p avoids i
+      ∙ in_order_without K T cmp total eq matches key slots d ∙ without-IsAt eq key n os there.1 in
+      names_taken Item slots os places n p (index_avoids key slots places n p d i ranked at) i
       ∙ ap (λ l. map Some l) (sym rest)
 
   -- ---- the search

@@ -5,3 +5,4 @@ pub mod Indexes
 pub mod Swept
 pub mod Values
 pub mod Ages
+pub mod Numbers

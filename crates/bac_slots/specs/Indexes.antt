@@ -1,5 +1,5 @@
 -- The index of a table: the places of its slots in order of putting, sorted by key.
-use Rattle.std.specs.Prelude.{◌≡◌, ℕ, ◌-◌, ◌<◌, ◌≤◌, Bool, List, map, length, slice_get, Some, None, Result, Ok, Err, if◌then◌else◌, nat_lt}
+use Rattle.std.specs.Prelude.{◌≡◌, ℕ, ◌-◌, ◌<◌, ◌≤◌, Bool, List, [], ◌∷◌, map, length, slice_get, Some, None, Result, Ok, Err, if◌then◌else◌, nat_lt}
 use Rattle.std.specs.declared.cmp.Ordering.{Ordering}
 use Rattle.bac_slots.specs.declared.slot.Slot.{Slot}
 use Rattle.bac_slots.specs.declared.index_slots.Found.{Found}
@@ -12,6 +12,20 @@ IsIndex cmp places slots = map (λ n. slice_get slots n) places ≡ map Some (in
 -- a place once the slot at `gone` was taken out
 abbrev pub lowered : ℕ → ℕ → ℕ
 lowered gone n = if nat_lt gone n then n - 1 else n
+
+-- the places that numbers stand for, from one number on
+abbrev pub places_of : ℕ → List ℕ → List ℕ
+places_of first numbers = map (λ n. n - first) numbers
+
+-- no number is less than that one
+abbrev pub AllFrom : ℕ → List ℕ → Type 0
+AllFrom first [] = Unit {0}
+AllFrom first (n ∷ numbers) = (first ≤ n) × AllFrom first numbers
+
+-- no place is that one
+abbrev pub Avoids : ℕ → List ℕ → Type 0
+Avoids gone [] = Unit {0}
+Avoids gone (p ∷ places) = (p ≡ gone → ⊥) × Avoids gone places
 
 -- what a search answers: the key's place in order of keys, and its slot's place in order of putting; or where it would stand
 abbrev pub IsSearched : {K T : Type 0} → (K → K → Bool) → (K → K → Ordering) → K → List (Slot K T) → Result Found ℕ → Type 0

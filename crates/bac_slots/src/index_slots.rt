@@ -1,24 +1,27 @@
 //! A table with an index that is sorted by key.
-ghost use Rattle.std.specs.Prelude.{◌≡◌, ◌≢◌, ℕ, ◌+◌, ◌<◌, ◌≤◌, List, length, Some, None, MatchOption, map, slice_get, min, vec_capacity};
+ghost use Rattle.std.specs.Prelude.{◌≡◌, ◌≢◌, ℕ, ◌+◌, ◌<◌, ◌≤◌, List, length, Some, None, MatchOption, slice_get, min};
 ghost use Rattle.bac_slots.specs.Slots.{rank, value_at, in_order, digits, IsDistinct};
-ghost use Rattle.bac_slots.specs.Indexes.{lowered, IsIndex, IsSearched};
+ghost use Rattle.bac_slots.specs.Indexes.{IsIndex, IsSearched};
 
+use crate::places::Places;
 use crate::slot::Slot;
 use crate::slot_table::{Count, SlotTable};
 use std::alloc::{AllocError, Global};
 use std::cmp::Ordering;
+use std::collections::VecDeque;
 use std::marker::Model;
 
 /// A table whose slots stand in order of putting, with an index of their places that is sorted by key: a key is found by halving the index.
 #[derive(Drop)]
 pub struct IndexSlots<K: Ord, T> {
-    slots: Vec<Slot<K, T>>,
-    places: Vec<usize>,
+    slots: VecDeque<Slot<K, T>>,
+    places: Places,
     capacity: usize,
 }
 
 impl<K: Ord, T> Model for IndexSlots<K, T> {
-    ghost use Rattle.std.specs.Prelude.{◌≡◌, ℕ, ◌≤◌, List, length, vec_capacity};
+    ghost use Rattle.std.specs.Prelude.{◌≡◌, ℕ, ◌≤◌, List, length};
+    ghost use Rattle.std.specs.VecDeque.{deque_capacity};
     ghost use Rattle.bac_slots.specs.declared.slot.Slot.{Slot};
     ghost use Rattle.bac_slots.specs.Slots.{IsDistinct};
     ghost use Rattle.bac_slots.specs.Indexes.{IsIndex};
@@ -27,8 +30,8 @@ impl<K: Ord, T> Model for IndexSlots<K, T> {
 
     ghost view = { λ t. (t.slots.items, t.capacity) };
 
-    ghost invariant = { λ t. (t.capacity ≤ vec_capacity t.slots) × (t.capacity ≤ vec_capacity t.places) × (length t.slots.items ≤ t.capacity)
-        × IsDistinct K.eq t.slots.items × IsIndex K.cmp t.places.items t.slots.items };
+    ghost invariant = { λ t. (t.capacity ≤ deque_capacity t.slots) × (t.capacity ≤ t.places.1) × (length t.slots.items ≤ t.capacity)
+        × IsDistinct K.eq t.slots.items × IsIndex K.cmp t.places.0 t.slots.items };
 }
 
 impl<K: Ord + Copy + Drop, T: Drop> SlotTable<K, T> for IndexSlots<K, T> {
@@ -38,8 +41,8 @@ impl<K: Ord + Copy + Drop, T: Drop> SlotTable<K, T> for IndexSlots<K, T> {
 
     fn new(alloc: Global, room: usize) -> Result<Self, AllocError> {
         Ok(IndexSlots {
-            slots: Vec::with_capacity(alloc, room)?,
-            places: Vec::with_capacity(alloc, room)?,
+            slots: VecDeque::with_capacity(alloc, room)?,
+            places: Places::new(alloc, room)?,
             capacity: room,
         })
     }
@@ -98,14 +101,9 @@ impl<K: Ord + Copy + Drop, T: Drop> SlotTable<K, T> for IndexSlots<K, T> {
             return Err((key, value));
         }
         let n = gap(&self.slots, &self.places, &key);
-        match self.places.insert(n, len) {
-            Ok(()) => {}
-            Err(_) => unreachable!(),
-        }
-        match self.slots.push(Slot { key, begin, value }) {
-            Ok(()) => Ok(()),
-            Err(_) => unreachable!(),
-        }
+        self.places.insert(n, len);
+        self.slots.push_back_reserved(Slot { key, begin, value });
+        Ok(())
     }
 
     fn set(&mut self, key: &K, value: T) -> Option<T> {
@@ -120,14 +118,11 @@ impl<K: Ord + Copy + Drop, T: Drop> SlotTable<K, T> for IndexSlots<K, T> {
         let Some(found) = look_up(&self.slots, &self.places, key) else {
             return None;
         };
-        self.places.remove(found.rank);
-        lower(&mut self.places, found.place);
-        let Slot {
-            key: _,
-            begin: _,
-            value,
-        } = self.slots.remove(found.place);
-        Some(value)
+        self.places.take(found.rank, found.place);
+        match self.slots.remove(found.place) {
+            Some(slot) => Some(slot.value),
+            None => unreachable!(),
+        }
     }
 }
 
@@ -139,13 +134,13 @@ struct Found {
 }
 
 /// The n-th slot in the order of the keys.
-fn nth<'a, K: Ord, T>(slots: &'a Vec<Slot<K, T>>, places: &Vec<usize>, n: usize) -> &'a Slot<K, T>
+fn nth<'a, K: Ord, T>(slots: &'a VecDeque<Slot<K, T>>, places: &Places, n: usize) -> &'a Slot<K, T>
     requires distinct { IsDistinct K.eq slots.now.items }
-    requires index { IsIndex K.cmp places.now.items slots.now.items }
-    requires within { n < length places.now.items }
+    requires index { IsIndex K.cmp places.now.0 slots.now.items }
+    requires within { n < length places.now.0 }
     ensures { slice_get (in_order K.cmp slots.now.items) n ≡ Some result.now }
 {
-    &slots[places[n]]
+    &slots[places.at(n)]
 }
 
 /// Compares two keys and counts it.
@@ -159,13 +154,13 @@ fn compare<K: Ord>(one: &K, other: &K, count: &mut Count) -> Ordering
 
 /// Halves the part of the index where the key can be, until it is found or the part is empty.
 fn search<K: Ord, T>(
-    slots: &Vec<Slot<K, T>>,
-    places: &Vec<usize>,
+    slots: &VecDeque<Slot<K, T>>,
+    places: &Places,
     key: &K,
     count: &mut Count,
 ) -> Result<Found, usize>
     requires distinct { IsDistinct K.eq slots.now.items }
-    requires index { IsIndex K.cmp places.now.items slots.now.items }
+    requires index { IsIndex K.cmp places.now.0 slots.now.items }
     ensures place { IsSearched K.eq K.cmp key.now slots.now.items result }
     ensures counted { count.old.comparisons ≤ count.new.comparisons }
     ensures few { count.new.comparisons ≤ count.old.comparisons + digits (length slots.now.items) }
@@ -179,7 +174,7 @@ fn search<K: Ord, T>(
             Ordering::Equal => {
                 return Ok(Found {
                     rank: middle,
-                    place: places[middle],
+                    place: places.at(middle),
                 });
             }
             Ordering::Greater => end = middle,
@@ -189,9 +184,9 @@ fn search<K: Ord, T>(
 }
 
 /// Where the key stands, or None where it is absent.
-fn look_up<K: Ord, T>(slots: &Vec<Slot<K, T>>, places: &Vec<usize>, key: &K) -> Option<Found>
+fn look_up<K: Ord, T>(slots: &VecDeque<Slot<K, T>>, places: &Places, key: &K) -> Option<Found>
     requires distinct { IsDistinct K.eq slots.now.items }
-    requires index { IsIndex K.cmp places.now.items slots.now.items }
+    requires index { IsIndex K.cmp places.now.0 slots.now.items }
     ensures { MatchOption result (value_at K.eq key.now slots.now.items ≡ None) (λ found. IsSearched K.eq K.cmp key.now slots.now.items (Ok found)) }
 {
     let mut count = Count { comparisons: 0 };
@@ -202,9 +197,9 @@ fn look_up<K: Ord, T>(slots: &Vec<Slot<K, T>>, places: &Vec<usize>, key: &K) -> 
 }
 
 /// Where a key that is absent would stand in the order of the keys.
-fn gap<K: Ord, T>(slots: &Vec<Slot<K, T>>, places: &Vec<usize>, key: &K) -> usize
+fn gap<K: Ord, T>(slots: &VecDeque<Slot<K, T>>, places: &Places, key: &K) -> usize
     requires distinct { IsDistinct K.eq slots.now.items }
-    requires index { IsIndex K.cmp places.now.items slots.now.items }
+    requires index { IsIndex K.cmp places.now.0 slots.now.items }
     requires absent { value_at K.eq key.now slots.now.items ≡ None }
     ensures rank { result ≡ rank K.cmp key.now slots.now.items }
     ensures within { result ≤ length slots.now.items }
@@ -214,20 +209,4 @@ fn gap<K: Ord, T>(slots: &Vec<Slot<K, T>>, places: &Vec<usize>, key: &K) -> usiz
         Ok(_) => unreachable!(),
         Err(n) => n,
     }
-}
-
-/// The slots after one that is taken out move down by one place.
-fn lower(places: &mut Vec<usize>, gone: usize)
-    ensures places { places.new.items ≡ map (lowered gone) places.old.items }
-    ensures capacity { vec_capacity places.new ≡ vec_capacity places.old }
-{
-    for place in places.iter_mut() {
-        *place = lowered(*place, gone);
-    }
-}
-
-fn lowered(place: usize, gone: usize) -> usize
-    ensures { result ≡ lowered gone place }
-{
-    if gone < place { place - 1 } else { place }
 }

@@ -4,6 +4,7 @@
 mod comparing;
 mod index_slots;
 mod laws;
+mod places;
 mod plain_slots;
 mod slot;
 mod slot_table;

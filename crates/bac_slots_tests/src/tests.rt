@@ -6,7 +6,8 @@ ghost use Rattle.std.specs.Cmp.{nat_cmp_total, partial_order_from_own_ties};
 ghost use Rattle.std.specs.Cmp.Rules.{comparing};
 
 use bac_slots::{
-    Count, IndexSlots, PlainSlots, Same, SlotTable, Test, count_passing, same_tables, sweep,
+    Count, IndexSlots, PlainSlots, Same, SlotTable, Test, count_passing, has_room_once_swept,
+    same_tables, sweep, sweep_oldest,
 };
 use std::alloc::Global;
 use std::cell::Cell;
@@ -26,6 +27,7 @@ enum Call {
     BeginByAge,
     ValueByAge,
     Get,
+    GetMut,
     Set,
     Remove,
     Put,
@@ -44,6 +46,7 @@ fn call_of(number: u64) -> Call {
         8 => Call::Get,
         9 => Call::Set,
         10 => Call::Remove,
+        11 => Call::GetMut,
         _ => Call::Put,
     }
 }
@@ -66,6 +69,12 @@ fn value_in(slot: Option<(u32, u64, &u8)>) -> Option<u64> {
 fn number_of(value: Option<u8>) -> Option<u64> {
     let value = value?;
     Some(u64::from(value))
+}
+
+// The value behind a loan, in place of which another is left.
+fn replaced(value: Option<&mut u8>, other: u8) -> Option<u64> {
+    let value = value?;
+    Some(u64::from(std::mem::replace(value, other)))
 }
 
 fn place<S: SlotTable<u32, u8>>(table: &S, key: u32) -> Option<u64> {
@@ -97,6 +106,7 @@ fn called<S: SlotTable<u32, u8>>(table: &mut S, call: Call, key: u32, value: u8)
         Call::BeginByAge => begin_in(table.by_age(n)),
         Call::ValueByAge => value_in(table.by_age(n)),
         Call::Get => number_of(table.get(&key).copied()),
+        Call::GetMut => replaced(table.get_mut(&key), value),
         Call::Set => number_of(table.set(&key, value)),
         Call::Remove => number_of(table.remove(&key)),
         Call::Put => put(table, key, value),
@@ -124,14 +134,17 @@ const THREE: &[Row] = &[
     Row(Call::KeyAt, 3, 0, None),
     Row(Call::Set, 3, 31, Some(30)),
     Row(Call::Set, 4, 40, None),
+    Row(Call::GetMut, 3, 32, Some(31)),
+    Row(Call::GetMut, 4, 40, None),
+    Row(Call::GetMut, 5, 51, Some(50)),
     Row(Call::Remove, 7, 0, Some(70)),
     Row(Call::Remove, 7, 0, None),
     Row(Call::KeyByAge, 0, 0, Some(3)),
     Row(Call::BeginByAge, 0, 0, Some(30)),
-    Row(Call::ValueByAge, 0, 0, Some(31)),
+    Row(Call::ValueByAge, 0, 0, Some(32)),
     Row(Call::Put, 9, 90, None),
     Row(Call::KeyAt, 2, 0, Some(9)),
-    Row(Call::Get, 5, 0, Some(50)),
+    Row(Call::Get, 5, 0, Some(51)),
     Row(Call::Get, 7, 0, None),
 ];
 
@@ -196,7 +209,7 @@ fn both_kinds_answer_alike(rt: HostRuntime) -> Result<(), Fail> {
     let mut was_full = false;
     for step in 0..10_000u32 {
         state = next(state);
-        let call = call_of((state >> 33) % 16);
+        let call = call_of((state >> 33) % 17);
         state = next(state);
         let key = ((state >> 33) % 48) as u32;
         let value = (state >> 56) as u8;
@@ -291,7 +304,12 @@ fn scattered<'a>(alloc: Global, keys: u32, comparisons: &'a Cell<u64>) -> Option
 }
 
 // Whether a key is found where it is with so many comparisons at most, all of which are counted.
-fn is_found_by(table: &Counted<'_>, number: u32, comparisons: &Cell<u64>, most: u64) -> bool {
+fn is_found_by<'a>(
+    table: &Counted<'a>,
+    number: u32,
+    comparisons: &'a Cell<u64>,
+    most: u64,
+) -> bool {
     let mut count = Count { comparisons: 0 };
     comparisons.set(0);
     let found = table.find(&counted(number, comparisons), &mut count) == Some(number as usize);
@@ -320,6 +338,90 @@ fn an_index_counts_every_comparison(rt: HostRuntime) {
     assert!(rt; are_found_by(rt.alloc(), 1_024, 11));
     assert!(rt; are_found_by(rt.alloc(), 1_023, 10));
     assert!(rt; are_found_by(rt.alloc(), 0, 0));
+}
+
+// How many keys a call compares that finds its key.
+fn compared<'a>(
+    table: &mut Counted<'a>,
+    call: Call,
+    number: u32,
+    comparisons: &'a Cell<u64>,
+) -> Option<u64> {
+    let key = counted(number, comparisons);
+    comparisons.set(0);
+    let is_found = match call {
+        Call::Get => table.get(&key).is_some(),
+        Call::GetMut => table.get_mut(&key).is_some(),
+        Call::Set => table.set(&key, 1).is_some(),
+        Call::Remove => table.remove(&key).is_some(),
+        _ => false,
+    };
+    if is_found {
+        Some(comparisons.get())
+    } else {
+        None
+    }
+}
+
+// Whether a call finds each of 1,024 keys, and compares so many at most.
+fn compares_few(alloc: Global, call: Call, most: u64) -> bool {
+    let comparisons = Cell::new(0);
+    let Some(mut table) = scattered(alloc, 1_024, &comparisons) else {
+        return false;
+    };
+    for number in 0..1_024u32 {
+        match compared(&mut table, call, number, &comparisons) {
+            Some(many) if many <= most => {}
+            _ => return false,
+        }
+    }
+    true
+}
+
+// A call that finds its key compares no more keys than a search does, also one that takes the slot out.
+#[test]
+fn each_call_of_an_index_compares_few(rt: HostRuntime) {
+    for call in [Call::Get, Call::GetMut, Call::Set, Call::Remove] {
+        assert!(rt; compares_few(rt.alloc(), call, 11));
+    }
+}
+
+// How many keys are compared where a slot is put whose key was taken out.
+fn compared_by_put<'a>(
+    table: &mut Counted<'a>,
+    number: u32,
+    comparisons: &'a Cell<u64>,
+) -> Option<u64> {
+    let key = counted(number, comparisons);
+    let value = table.remove(&key)?;
+    if table.get(&key).is_some() {
+        return None;
+    }
+    comparisons.set(0);
+    match table.put(key, 0, value) {
+        Ok(()) => Some(comparisons.get()),
+        Err(_) => None,
+    }
+}
+
+// Whether a slot is put among 1,023 others with 10 comparisons at most, for each of 1,024 keys.
+fn puts_by_few(alloc: Global) -> bool {
+    let comparisons = Cell::new(0);
+    let Some(mut table) = scattered(alloc, 1_024, &comparisons) else {
+        return false;
+    };
+    for number in 0..1_024u32 {
+        match compared_by_put(&mut table, number, &comparisons) {
+            Some(many) if many <= 10 => {}
+            _ => return false,
+        }
+    }
+    true
+}
+
+#[test]
+fn a_slot_is_put_with_few_comparisons(rt: HostRuntime) {
+    assert!(rt; puts_by_few(rt.alloc()));
 }
 
 #[test]
@@ -387,4 +489,27 @@ fn swept_and_compared(rt: HostRuntime) -> Result<(), Fail> {
     sweep(&mut one, &AtLeast(30));
     assert!(rt; same_tables(&one, &other));
     Ok(())
+}
+
+// Whether a table that is full with one slot has room once it is swept, up to the moment at which the slot began, and the slot goes.
+fn is_swept_at_its_begin(alloc: Global) -> bool {
+    let Ok(mut table) = IndexSlots::<Number, Number>::new(alloc, 1) else {
+        return false;
+    };
+    if table.put(Number(1), 5, Number(10)).is_err() {
+        return false;
+    }
+    if has_room_once_swept(&table, &AtLeast(10), 5) {
+        return false;
+    }
+    if !has_room_once_swept(&table, &AtLeast(11), 5) {
+        return false;
+    }
+    sweep_oldest(&mut table, &AtLeast(11), 5);
+    table.len() == 0
+}
+
+#[test]
+fn swept_from_the_oldest_on(rt: HostRuntime) {
+    assert!(rt; is_swept_at_its_begin(rt.alloc()));
 }

@@ -1,6 +1,5 @@
 -- The n-th key of the index is less, equal or greater.
 use Rattle.std.proofs.Common.{◌≡◌, ◌+◌, ◌-◌, ◌/◌, ◌<◌, ◌≤◌, ℕ, length, ◌∙◌, sym, subst, refl, arith}
-use Rattle.std.proofs.lemmas.Option.{slice_get_read}
 use Rattle.bac_slots.specs.Slots.{in_order}
 use Rattle.bac_slots.proofs.Indexes.{AllAbove, index_length, index_at, index_within, above_end, below_more, above_more, not_found, found_is}
 use Rattle.bac_slots.proofs.Indexes.{few_first, few_above, few_below, few_found, few_left}
@@ -8,15 +7,15 @@ use Rattle.bac_slots.proofs.index_slots.search.Goals as goal
 
 pub loop-first-init : goal.loop-first-init
 loop-first-init g c =
-    let long : c.len-end.result ≡ length c.args.places.now.items = omega (arith, c.len-end.ensures, c.args.places.now.ok.0) in
+    let long : c.len-end.result ≡ length c.args.places.now.0 = c.len-end.ensures in
     record {
       ordered = omega arith;
       within = omega (arith, long);
       below = λ k s l f. absurd (omega arith);
       above = λ k s l f. above_end _ _ g.K.Ord.cmp g.met.K.Ord.total g.K.PartialEq.eq g.met.K.Ord.matches_eq c.args.key.now c.args.slots.now.items
-          c.args.places.now.items c.requires.index k s (omega (arith, l, long)) f;
+          c.args.places.now.0 c.requires.index k s (omega (arith, l, long)) f;
       counted = omega arith;
-      few = few_first c.args.count.now.comparisons c.len-end.result (length c.args.places.now.items) long;
+      few = few_first c.args.count.now.comparisons c.len-end.result (length c.args.places.now.0) long;
     }
 
 pub nth-requires-clause-within : goal.nth-requires-clause-within
@@ -34,35 +33,34 @@ loop-first-preserved-in-Less g c =
       above = i.above;
       counted = omega (arith, i.counted, counted);
       few = few_above c.loop-first.count.comparisons c.compare.new.count.comparisons c.loop-first.first c.loop-first.end c.args.count.now.comparisons
-          (length c.args.places.now.items) c.loop-first-test.true (omega (arith, counted)) i.few;
+          (length c.args.places.now.0) c.loop-first-test.true (omega (arith, counted)) i.few;
     }
 
-pub index-requires : goal.index-requires
-index-requires g c = omega (arith, c.loop-first-test.true, c.loop-first.invariant.within, c.args.places.now.ok.0)
+pub at-requires : goal.at-requires
+at-requires g c = omega (arith, c.loop-first-test.true, c.loop-first.invariant.within)
 
 pub returns-in-Equal-clause-place : goal.returns-in-Equal-clause-place
 returns-in-Equal-clause-place g c =
     let n : ℕ = c.loop-first.first + (c.loop-first.end - c.loop-first.first) / 2 in
-    let within : n < length c.args.places.now.items = omega (arith, c.loop-first-test.true, c.loop-first.invariant.within) in
-    let place = slice_get_read c.args.places.now.items _ n c.index.result.now refl within c.index.ensures in
+    let within : n < length c.args.places.now.0 = omega (arith, c.loop-first-test.true, c.loop-first.invariant.within) in
     let here = sym (index_at _ _ g.K.Ord.cmp g.met.K.Ord.total g.K.PartialEq.eq g.met.K.Ord.matches_eq
-    c.args.slots.now.items c.args.places.now.items n c.index.result.now c.requires.index place)
+    c.args.slots.now.items c.args.places.now.0 n c.at.result c.requires.index c.at.ensures)
     ∙ c.nth.ensures in
     let found = found_is _ _ g.K.Ord.cmp g.met.K.Ord.total g.K.PartialEq.eq g.met.K.Ord.matches_eq
-    c.args.key.now c.args.slots.now.items n c.index.result.now c.nth.result.now
+    c.args.key.now c.args.slots.now.items n c.at.result c.nth.result.now
     c.requires.distinct c.nth.ensures here (sym c.compare.ensures.value ∙ c.in-Equal.is) in
     let long = index_length _ _ g.K.Ord.cmp g.met.K.Ord.total g.K.PartialEq.eq g.met.K.Ord.matches_eq
-    c.args.slots.now.items c.args.places.now.items c.requires.index in
+    c.args.slots.now.items c.args.places.now.0 c.requires.index in
     let inside = index_within _ _ g.K.Ord.cmp g.met.K.Ord.total g.K.PartialEq.eq g.met.K.Ord.matches_eq
-    c.args.slots.now.items c.args.places.now.items n c.index.result.now c.requires.index place in
+    c.args.slots.now.items c.args.places.now.0 n c.at.result c.requires.index c.at.ensures in
     (found.0, omega (arith, within, long), inside, found.1)
 
 pub returns-in-Equal-clause-few : goal.returns-in-Equal-clause-few
 returns-in-Equal-clause-few g c =
     let long = index_length _ _ g.K.Ord.cmp g.met.K.Ord.total g.K.PartialEq.eq g.met.K.Ord.matches_eq
-    c.args.slots.now.items c.args.places.now.items c.requires.index in
+    c.args.slots.now.items c.args.places.now.0 c.requires.index in
     few_found c.loop-first.count.comparisons c.compare.new.count.comparisons c.loop-first.first c.loop-first.end c.args.count.now.comparisons
-    (length c.args.places.now.items) (length c.args.slots.now.items) c.loop-first-test.true (omega (arith, c.compare.ensures.counted))
+    (length c.args.places.now.0) (length c.args.slots.now.items) c.loop-first-test.true (omega (arith, c.compare.ensures.counted))
     c.loop-first.invariant.few long
 
 pub loop-first-preserved : goal.loop-first-preserved
@@ -77,14 +75,14 @@ loop-first-preserved g c =
           c.requires.distinct c.nth.ensures (sym c.compare.ensures.value ∙ c.in-Greater.is);
       counted = omega (arith, i.counted, counted);
       few = few_below c.loop-first.count.comparisons c.compare.new.count.comparisons c.loop-first.first c.loop-first.end c.args.count.now.comparisons
-          (length c.args.places.now.items) c.loop-first-test.true (omega (arith, counted)) i.few;
+          (length c.args.places.now.0) c.loop-first-test.true (omega (arith, counted)) i.few;
     }
 
 pub returns-clause-place : goal.returns-clause-place
 returns-clause-place g c =
     let i = c.loop-first.invariant in
     let long = index_length _ _ g.K.Ord.cmp g.met.K.Ord.total g.K.PartialEq.eq g.met.K.Ord.matches_eq
-    c.args.slots.now.items c.args.places.now.items c.requires.index in
+    c.args.slots.now.items c.args.places.now.0 c.requires.index in
     let met : c.loop-first.end ≡ c.loop-first.first = omega (arith, c.loop-first-test.false, i.ordered) in
     let within : c.loop-first.first ≤ length c.args.slots.now.items = omega (arith, met, i.within, long) in
     let gone = not_found _ _ g.K.Ord.cmp g.met.K.Ord.total g.K.PartialEq.eq g.met.K.Ord.matches_eq
@@ -95,6 +93,6 @@ returns-clause-place g c =
 pub returns-clause-few : goal.returns-clause-few
 returns-clause-few g c =
     let long = index_length _ _ g.K.Ord.cmp g.met.K.Ord.total g.K.PartialEq.eq g.met.K.Ord.matches_eq
-    c.args.slots.now.items c.args.places.now.items c.requires.index in
-    few_left c.loop-first.count.comparisons (c.loop-first.end - c.loop-first.first) c.args.count.now.comparisons (length c.args.places.now.items)
+    c.args.slots.now.items c.args.places.now.0 c.requires.index in
+    few_left c.loop-first.count.comparisons (c.loop-first.end - c.loop-first.first) c.args.count.now.comparisons (length c.args.places.now.0)
     (length c.args.slots.now.items) c.loop-first.invariant.few long

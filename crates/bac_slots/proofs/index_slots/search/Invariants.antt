@@ -8,11 +8,11 @@ abbrev pub invariant-loop-first : goal.invariant-loop-first
 invariant-loop-first g l =
     record {
       ordered : l.first ≤ l.end;
-      within : l.end ≤ length l.places.items;
+      within : l.end ≤ length l.places.0;
       below : AllBelow g.K.Ord.cmp l.key l.first (in_order g.K.Ord.cmp l.slots.items);
       above : AllAbove g.K.Ord.cmp l.key l.end (in_order g.K.Ord.cmp l.slots.items);
       counted : l.initial.count.comparisons ≤ l.count.comparisons;
-      few : l.count.comparisons + digits (l.end - l.first) ≤ l.initial.count.comparisons + digits (length l.places.items);
+      few : l.count.comparisons + digits (l.end - l.first) ≤ l.initial.count.comparisons + digits (length l.places.0);
     }
 
 abbrev pub decreases-loop-first : goal.decreases-loop-first

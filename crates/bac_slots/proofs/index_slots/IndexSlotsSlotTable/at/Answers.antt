@@ -6,7 +6,7 @@ use Rattle.bac_slots.proofs.index_slots.IndexSlotsSlotTable.at.Goals as goal
 pub returns-then-n-len : goal.returns-then-n-len
 returns-then-n-len g c =
     rw (← c.self.view_is) (nth_past _ _ g.K.Ord.cmp g.met.K.Ord.total g.K.PartialEq.eq g.met.K.Ord.matches_eq c.self.inside.slots.items
-    c.self.inside.places.items c.args.n c.self.invariant.3 c.self.invariant.4 (omega (arith, c.if-n-len.true, c.len.ensures)))
+    c.self.inside.places.0 c.args.n c.self.invariant.3 c.self.invariant.4 (omega (arith, c.if-n-len.true, c.len.ensures)))
 
 pub returns : goal.returns
 returns g c =

@@ -29,8 +29,8 @@ invariant_of-self g c =
       simp length-set (c.self.invariant.2),
       subst (λ (l : List (Slot _ _)). IsDistinct g.K.PartialEq.eq l) (sym items)
           (IsDistinct-with_value g.K.PartialEq.eq c.args.key.now c.args.value c.self.inside.slots.items c.self.invariant.3),
-      subst (λ (l : List (Slot _ _)). IsIndex g.K.Ord.cmp c.self.inside.places.items l) (sym items)
+      subst (λ (l : List (Slot _ _)). IsIndex g.K.Ord.cmp c.self.inside.places.0 l) (sym items)
           (index_set _ _ g.K.Ord.cmp g.met.K.Ord.total g.K.PartialEq.eq g.met.K.Ord.matches_eq
-          c.args.key.now c.args.value c.self.inside.slots.items c.self.inside.places.items
+          c.args.key.now c.args.value c.self.inside.slots.items c.self.inside.places.0
           c.self.invariant.3 c.self.invariant.4),
     )
