@@ -68,7 +68,8 @@ fn is_reply(octets: &[u8], segments: usize) -> bool {
         return segments == 1_364;
     }
     let number = (segments.saturating_sub(1) % 256) as u8;
-    octets == [0x81, 0x0A, 0x00, 0x0A, 0x01, 0x00, 0x41, 0x00, number, 0x20]
+    let wanted = [0x81, 0x0A, 0x00, 0x0A, 0x01, 0x00, 0x41, 0x00, number, 0x20];
+    octets == wanted.as_slice()
 }
 
 /// Whether the copies are 1,364 segments, and what comes of each window and of all of them.
