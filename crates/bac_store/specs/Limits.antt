@@ -1,14 +1,89 @@
 -- Numbers of the store's tables (clauses 12 and 21), and its own limits, as the code states them.
+use Rattle.std.specs.Prelude.{ℕ}
+use Rattle.bac_value.specs.declared.kinds.TheConstants as kinds
+use Rattle.bac_store.specs.declared.limits.TheConstants as code
 
--- own limits: the most octets of a property's values, and of a file; the greatest of 22 bits, which stands for any instance (clause 20.2.14)
-pub use Rattle.bac_store.specs.declared.limits.TheConstants.{VALUE_LIMIT, FILE_LIMIT, ANY_INSTANCE}
--- object types (BACnetObjectType), and the first and the last of vendors' own (clause 23.1)
-pub use Rattle.bac_store.specs.declared.limits.TheConstants.{ANALOG_INPUT, ANALOG_VALUE, BINARY_VALUE, DEVICE, FILE}
-pub use Rattle.bac_store.specs.declared.limits.TheConstants.{FIRST_VENDOR_TYPE, LAST_VENDOR_TYPE}
--- properties (BACnetPropertyIdentifier), and the first and the last of vendors' own (clause 23.1)
-pub use Rattle.bac_store.specs.declared.limits.TheConstants.{DESCRIPTION, FILE_ACCESS_METHOD, FILE_SIZE, OBJECT_IDENTIFIER, OBJECT_NAME}
-pub use Rattle.bac_store.specs.declared.limits.TheConstants.{OBJECT_TYPE, PRESENT_VALUE, FIRST_VENDOR_PROPERTY, LAST_VENDOR_PROPERTY}
--- the access method of every file (BACnetFileAccessMethod), and the octet of a tag for an Enumerated of one octet of contents
-pub use Rattle.bac_store.specs.declared.limits.TheConstants.{STREAM_ACCESS, STATE_TAG}
--- the kinds of application values (clause 20.2.1.4)
-pub use Rattle.bac_value.specs.declared.kinds.TheConstants.{REAL, CHARACTER_STRING, ENUMERATED}
+-- own limit: the most octets of a property's values
+abbrev pub VALUE_LIMIT : ℕ
+VALUE_LIMIT = code.VALUE_LIMIT
+
+-- own limit: the most octets of a file
+abbrev pub FILE_LIMIT : ℕ
+FILE_LIMIT = code.FILE_LIMIT
+
+-- clause 20.2.14: the greatest of 22 bits, which stands for any instance
+abbrev pub ANY_INSTANCE : ℕ
+ANY_INSTANCE = code.ANY_INSTANCE
+
+-- ---- object types (BACnetObjectType)
+
+-- vendors' own (clause 23.1)
+abbrev pub FIRST_VENDOR_TYPE : ℕ
+FIRST_VENDOR_TYPE = code.FIRST_VENDOR_TYPE
+
+abbrev pub LAST_VENDOR_TYPE : ℕ
+LAST_VENDOR_TYPE = code.LAST_VENDOR_TYPE
+
+abbrev pub ANALOG_INPUT : ℕ
+ANALOG_INPUT = code.ANALOG_INPUT
+
+abbrev pub ANALOG_VALUE : ℕ
+ANALOG_VALUE = code.ANALOG_VALUE
+
+abbrev pub BINARY_VALUE : ℕ
+BINARY_VALUE = code.BINARY_VALUE
+
+abbrev pub DEVICE : ℕ
+DEVICE = code.DEVICE
+
+abbrev pub FILE : ℕ
+FILE = code.FILE
+
+-- ---- properties (BACnetPropertyIdentifier)
+
+-- vendors' own (clause 23.1)
+abbrev pub FIRST_VENDOR_PROPERTY : ℕ
+FIRST_VENDOR_PROPERTY = code.FIRST_VENDOR_PROPERTY
+
+abbrev pub LAST_VENDOR_PROPERTY : ℕ
+LAST_VENDOR_PROPERTY = code.LAST_VENDOR_PROPERTY
+
+abbrev pub DESCRIPTION : ℕ
+DESCRIPTION = code.DESCRIPTION
+
+abbrev pub FILE_ACCESS_METHOD : ℕ
+FILE_ACCESS_METHOD = code.FILE_ACCESS_METHOD
+
+abbrev pub FILE_SIZE : ℕ
+FILE_SIZE = code.FILE_SIZE
+
+abbrev pub OBJECT_IDENTIFIER : ℕ
+OBJECT_IDENTIFIER = code.OBJECT_IDENTIFIER
+
+abbrev pub OBJECT_NAME : ℕ
+OBJECT_NAME = code.OBJECT_NAME
+
+abbrev pub OBJECT_TYPE : ℕ
+OBJECT_TYPE = code.OBJECT_TYPE
+
+abbrev pub PRESENT_VALUE : ℕ
+PRESENT_VALUE = code.PRESENT_VALUE
+
+-- the access method of every file (BACnetFileAccessMethod)
+abbrev pub STREAM_ACCESS : ℕ
+STREAM_ACCESS = code.STREAM_ACCESS
+
+-- ---- application tags (clause 20.2.1.4)
+
+abbrev pub REAL : ℕ
+REAL = kinds.REAL
+
+abbrev pub CHARACTER_STRING : ℕ
+CHARACTER_STRING = kinds.CHARACTER_STRING
+
+abbrev pub ENUMERATED : ℕ
+ENUMERATED = kinds.ENUMERATED
+
+-- the octet of a tag for an Enumerated of one octet of contents
+abbrev pub STATE_TAG : ℕ
+STATE_TAG = code.STATE_TAG
