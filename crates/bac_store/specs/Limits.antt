@@ -3,18 +3,26 @@ use Rattle.std.specs.Prelude.{ℕ}
 use Rattle.bac_value.specs.declared.kinds.TheConstants as kinds
 use Rattle.bac_store.specs.declared.limits.TheConstants as code
 
--- ---- own limits: the most octets of a property's values, and of a file; the greatest of 22 bits, which stands for any instance (clause 20.2.14)
-
+-- own limit: the most octets of a property's values
 abbrev pub VALUE_LIMIT : ℕ
 VALUE_LIMIT = code.VALUE_LIMIT
 
+-- own limit: the most octets of a file
 abbrev pub FILE_LIMIT : ℕ
 FILE_LIMIT = code.FILE_LIMIT
 
+-- clause 20.2.14: the greatest of 22 bits, which stands for any instance
 abbrev pub ANY_INSTANCE : ℕ
 ANY_INSTANCE = code.ANY_INSTANCE
 
--- ---- object types (BACnetObjectType), and the first and the last of vendors' own (clause 23.1)
+-- ---- object types (BACnetObjectType)
+
+-- vendors' own (clause 23.1)
+abbrev pub FIRST_VENDOR_TYPE : ℕ
+FIRST_VENDOR_TYPE = code.FIRST_VENDOR_TYPE
+
+abbrev pub LAST_VENDOR_TYPE : ℕ
+LAST_VENDOR_TYPE = code.LAST_VENDOR_TYPE
 
 abbrev pub ANALOG_INPUT : ℕ
 ANALOG_INPUT = code.ANALOG_INPUT
@@ -31,13 +39,14 @@ DEVICE = code.DEVICE
 abbrev pub FILE : ℕ
 FILE = code.FILE
 
-abbrev pub FIRST_VENDOR_TYPE : ℕ
-FIRST_VENDOR_TYPE = code.FIRST_VENDOR_TYPE
+-- ---- properties (BACnetPropertyIdentifier)
 
-abbrev pub LAST_VENDOR_TYPE : ℕ
-LAST_VENDOR_TYPE = code.LAST_VENDOR_TYPE
+-- vendors' own (clause 23.1)
+abbrev pub FIRST_VENDOR_PROPERTY : ℕ
+FIRST_VENDOR_PROPERTY = code.FIRST_VENDOR_PROPERTY
 
--- ---- properties (BACnetPropertyIdentifier), and the first and the last of vendors' own (clause 23.1)
+abbrev pub LAST_VENDOR_PROPERTY : ℕ
+LAST_VENDOR_PROPERTY = code.LAST_VENDOR_PROPERTY
 
 abbrev pub DESCRIPTION : ℕ
 DESCRIPTION = code.DESCRIPTION
@@ -60,21 +69,11 @@ OBJECT_TYPE = code.OBJECT_TYPE
 abbrev pub PRESENT_VALUE : ℕ
 PRESENT_VALUE = code.PRESENT_VALUE
 
-abbrev pub FIRST_VENDOR_PROPERTY : ℕ
-FIRST_VENDOR_PROPERTY = code.FIRST_VENDOR_PROPERTY
-
-abbrev pub LAST_VENDOR_PROPERTY : ℕ
-LAST_VENDOR_PROPERTY = code.LAST_VENDOR_PROPERTY
-
--- ---- the access method of every file (BACnetFileAccessMethod), and the octet of a tag for an Enumerated of one octet of contents
-
+-- the access method of every file (BACnetFileAccessMethod)
 abbrev pub STREAM_ACCESS : ℕ
 STREAM_ACCESS = code.STREAM_ACCESS
 
-abbrev pub STATE_TAG : ℕ
-STATE_TAG = code.STATE_TAG
-
--- ---- the kinds of application values (clause 20.2.1.4)
+-- ---- application tags (clause 20.2.1.4)
 
 abbrev pub REAL : ℕ
 REAL = kinds.REAL
@@ -84,3 +83,7 @@ CHARACTER_STRING = kinds.CHARACTER_STRING
 
 abbrev pub ENUMERATED : ℕ
 ENUMERATED = kinds.ENUMERATED
+
+-- the octet of a tag for an Enumerated of one octet of contents
+abbrev pub STATE_TAG : ℕ
+STATE_TAG = code.STATE_TAG
