@@ -4,7 +4,8 @@ use Rattle.bac_protocol.specs.Server.{Entry, is_live, live_entry, is_none_live}
 use Rattle.bac_slots.specs.Slots.{value_at, keep, IsDistinct}
 use Rattle.bac_ends.specs.Keys.{PeerKey, same_key}
 use Rattle.bac_ends.specs.Ends.{ServerSlot, set_or_put, put_entry}
-use Rattle.bac_ends.proofs.KeyedSlots.{EachSlot, passing, passing_value, passing_distinct, with_same, with_other, with_distinct, put_same, put_other, put_distinct}
+use Rattle.bac_ends.proofs.KeyedSlots.{EachSlot, passing, passing_value, passing_distinct, with_same}
+use Rattle.bac_ends.proofs.KeyedSlots.{with_other, with_distinct, put_same, put_other, put_distinct}
 use Rattle.bac_ends.proofs.KeyedSlots.{each_with, each_passing, each_put}
 
 live_kept : (now : ℕ) (o : Option Entry) → live_entry now (keep (is_live now) o) ≡ live_entry now o

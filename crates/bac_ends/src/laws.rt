@@ -34,8 +34,8 @@ pub fn client_tables_stay_in_order()
     ensures others { ClientOthersStay }
 {}
 
-/// An accepted ask has the least invoke ID that is not held for its peer. An ask whose request can go is refused for want of an invoke ID exactly where
-/// all 256 are held, and for want of a slot exactly where one is free, but all slots are held or no number is left for a further ticket.
+/// An accepted ask has the least invoke ID that is not held for its peer. An ask whose request can go is refused for lack of an invoke ID exactly where
+/// all 256 are held, and for lack of a slot exactly where one is free, but all slots are held or no number is left for a further ticket.
 pub fn asks_take_the_least_invoke_id()
     ensures least { TakesLeastFree }
     ensures refused { (c : Settings) (now : ℕ) (peer : PeerView) (limits : Limits) (choice : ℕ) (octets : Octets) (e : ClientEnd)

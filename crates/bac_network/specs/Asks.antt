@@ -45,7 +45,7 @@ pub record IsNotedAsk (nodes : List Node) (client server : ℕ) (r : Request) (i
   pub moment : new.moment ≡ old.moment
   pub links : new.links ≡ old.links
 
--- the fault of a refused ask is told, but for want of memory, which is the event's
+-- the fault of a refused ask is told, but where memory was refused, which is the event's
 abbrev pub TellsFault : AskFault → Result (Option AskFault) WorldFault → Type 0
 TellsFault ask_fault.ClockBack r = r ≡ Ok (Some ask_fault.ClockBack)
 TellsFault ask_fault.SelfPeer r = r ≡ Ok (Some ask_fault.SelfPeer)

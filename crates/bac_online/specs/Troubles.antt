@@ -13,7 +13,7 @@ trouble_of fault.Link = trouble.Link
 trouble_of fault.ClockBack = trouble.Clock
 trouble_of fault.NoMemory = trouble.Memory
 
--- the status that tells it; of a failed output it may also be want of memory
+-- the status that tells it; of a failed output it may also be that memory was refused
 abbrev pub IsToldBy : Trouble → Status → Type 0
 IsToldBy trouble.Link s = s ≡ status.Output
 IsToldBy trouble.Clock s = s ≡ status.Output

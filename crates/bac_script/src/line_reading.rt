@@ -4,7 +4,8 @@ ghost use Rattle.std.specs.Str.{bytes_eq};
 ghost use Rattle.std.specs.Option.{option_map};
 ghost use Rattle.bac_script.specs.Reading.{Reads};
 ghost use Rattle.bac_script.specs.Words.{number_of};
-ghost use Rattle.bac_script.specs.Lines.{number_from_one, bounded, setting_with, usual_setting, setting_of, setting_at, ask_of, noise_of, numbered, step_of, step_at};
+ghost use Rattle.bac_script.specs.Lines.{number_from_one, bounded, setting_with, usual_setting, setting_of};
+ghost use Rattle.bac_script.specs.Lines.{setting_at, ask_of, noise_of, numbered, step_of, step_at};
 ghost use Rattle.bac_script.specs.Views.{setting_view, step_view};
 
 use crate::form_fault::FormFault;

@@ -5,7 +5,8 @@ ghost use Rattle.bac_value.specs.Views.{object_identifier_view};
 ghost use Rattle.bac_service.specs.Views.{owned_request_view, property_reference_view};
 ghost use Rattle.bac_script.specs.Reading.{Reads};
 ghost use Rattle.bac_script.specs.Words.{object_of};
-ghost use Rattle.bac_script.specs.Requests.{data_in, content_in, reference_of, read_of, write_of, written_at, append_of, put_of, get_of, one_more, two_more, request_of};
+ghost use Rattle.bac_script.specs.Requests.{data_in, content_in, reference_of, read_of, write_of, written_at};
+ghost use Rattle.bac_script.specs.Requests.{append_of, put_of, get_of, one_more, two_more, request_of};
 
 use crate::form_fault::FormFault;
 use crate::words::{number_in, number_up_to, object_in, octets_in, position_in};

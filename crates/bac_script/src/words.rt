@@ -5,7 +5,8 @@ ghost use Rattle.std.specs.List.{list_all, position};
 ghost use Rattle.std.specs.Char.{is_ascii_digit};
 ghost use Rattle.bac_value.specs.Views.{object_identifier_view};
 ghost use Rattle.bac_script.specs.Reading.{Reads};
-ghost use Rattle.bac_script.specs.Words.{is_space, is_colon, words_of, number_of, number_up_to, is_minus, negative_of, positive_of, position_of, octets_of, object_of};
+ghost use Rattle.bac_script.specs.Words.{is_space, is_colon, words_of, number_of, number_up_to};
+ghost use Rattle.bac_script.specs.Words.{is_minus, negative_of, positive_of, position_of, octets_of, object_of};
 
 use crate::form_fault::FormFault;
 use bac_value::ObjectIdentifier;

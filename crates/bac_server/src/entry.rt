@@ -103,7 +103,7 @@ impl Entry {
         self.origin.begin
     }
 
-    /// Whether it is live: for 65,000 ms from its beginning on, the last of them too (own rule of this profile). One that is not live is as none.
+    /// Whether it is live: for 65,000 ms from its beginning on, the last of them too (own rule of this profile). One that is not live counts as no entry.
     pub fn is_live(&self, now: u64) -> bool
         ensures { result ≡ is_live now self.now }
     {

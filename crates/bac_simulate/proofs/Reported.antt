@@ -54,7 +54,7 @@ reported (Err e) flushed s events first last a b c end all_events is ends printe
 pub as_read : (read : Result Script ℕ) (s : Script) (a b : Option (List ℕ)) (end : Status) → read ≡ Ok s → Reports (Ok s) a b end → Reports read a b end
 as_read read s a b end is reports = subst (λ (r : Result Script ℕ). Reports r a b end) (sym is) reports
 
--- ---- octets that are no script, and want of memory
+-- ---- octets that are no script, and memory that was refused
 
 refused : (read : Result Script ℕ) (bad : ℕ) (a : Option (List ℕ)) → read ≡ Err bad → Reports read a a status.CommandLine
 refused read bad a is = subst (λ (r : Result Script ℕ). Reports r a a status.CommandLine) (sym is) (keeps_itself a)

@@ -66,7 +66,7 @@ IsEnd (Ok all) (Ok flushed) end = end ≡ status_of all
 IsEnd (Ok all) (Err e) end = IsFailure end
 IsEnd (Err e) flushed end = IsFailure end
 
--- of octets that are no script, and of want of memory
+-- of octets that are no script, and of memory that was refused
 abbrev pub status_for : ScriptFault → Status
 status_for (fault.Line number) = status.CommandLine
 status_for fault.NoMemory = status.Memory

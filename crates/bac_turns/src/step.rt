@@ -13,7 +13,7 @@ use bac_requester::Finish;
 use bac_responder::Act;
 use std::alloc::Global;
 
-/// A step of a node: done, skipped for want of memory, or none, as no datagram came.
+/// A step of a node: done, skipped as memory was refused, or none, as no datagram came.
 #[derive(Drop)]
 pub(crate) enum Step {
     Done(Outcome),

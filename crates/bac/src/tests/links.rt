@@ -285,7 +285,7 @@ fn tells_of_flush(alloc: Global, line: &str) -> Result<bool, Fail> {
     Ok(ended == 3 && err.is_empty())
 }
 
-/// The output fails at each write, for want of room or of memory, and where it is flushed.
+/// The output fails at each write, where it has no room or memory is refused, and where it is flushed.
 #[test]
 fn tells_that_output_failed(rt: HostRuntime) -> Result<(), Fail> {
     for line in [

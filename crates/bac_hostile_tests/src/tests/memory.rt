@@ -19,7 +19,7 @@ enum Written {
     Request,
     Reply,
     Apdu,
-    /// To link 2, of an APDU that begins behind six octets.
+    /// To link 2, of an APDU that begins after six octets.
     Datagram,
 }
 
@@ -137,7 +137,7 @@ fn objects_at_last(alloc: Global) -> Result<Vec<Object>, NoMemory> {
     }
 }
 
-/// The store of these objects; where one was refused that was for want of memory alone, and it is made when the call comes again.
+/// The store of these objects; where one was refused that was because memory was refused, and for nothing else, and it is made when the call comes again.
 fn store_at_last(alloc: Global) -> Result<Store, Fail> {
     match Store::new(alloc, objects_at_last(alloc)?) {
         Ok(store) => Ok(store),
@@ -222,7 +222,7 @@ fn sent_again(alloc: Global, node: &mut Node, place: usize, row: &Row) -> Result
     Ok(happens(node, row)?.sends.len())
 }
 
-/// How many datagrams a row makes a node send that `place` rows happened to; where it was refused, that was for want of memory alone.
+/// How many datagrams a row makes a node send that `place` rows happened to; where it was refused, that was because memory was refused, and for nothing else.
 fn sent_at_last(alloc: Global, node: &mut Node, place: usize, row: &Row) -> Result<usize, Fail> {
     match happens(node, row) {
         Ok(outcome) => Ok(outcome.sends.len()),

@@ -57,7 +57,7 @@ fn writes_of(alloc: Global, fault: ErrorKind, status: u8) -> Option<u32> {
     None
 }
 
-/// The output fails at each write, for want of room or of memory, and where it is flushed.
+/// The output fails at each write, where it has no room or memory is refused, and where it is flushed.
 #[test]
 fn tells_that_output_failed(rt: HostRuntime) {
     let writes = writes_of(rt.alloc(), ErrorKind::PermissionDenied, 3).unwrap_or(0);
