@@ -1,15 +1,15 @@
 -- How often what a node sends may still be sent again, from call to call: the repeats of a request, and the retries of a window.
-use Rattle.std.specs.Prelude.{◌≡◌, ◌⊎◌, ℕ, ◌+◌, ◌-◌, ◌<◌, ◌≤◌, Bool, true, List, Some, if◌then◌else◌}
+use Rattle.std.specs.Prelude.{◌≡◌, ◌⊎◌, ℕ, ◌+◌, ◌-◌, ◌<◌, ◌≤◌, Bool, true, List, Option, Some, None, if◌then◌else◌}
 use Rattle.bac_apdu.specs.Apdu.{Limits}
 use Rattle.bac_npdu.specs.Peers.{PeerView}
 use Rattle.bac_segment.specs.Limits.{RETRIES}
-use Rattle.bac_segment.specs.Window.{Outgoing, outgoing, resume}
+use Rattle.bac_segment.specs.Window.{Outgoing, outgoing, resume, Incoming}
 use Rattle.bac_service.specs.Values.{Request}
-use Rattle.bac_protocol.specs.declared.times.TheConstants.{T_SEG}
+use Rattle.bac_protocol.specs.declared.times.TheConstants.{DEADLINE, T_SEG}
 use Rattle.bac_protocol.specs.Service.{Octets}
 use Rattle.bac_protocol.specs.Client.{Ticket, Phase}
 use Rattle.bac_protocol.specs.Client.Phase.{SegmentedRequest, AwaitConfirmation, SegmentedConf, Idle}
-use Rattle.bac_protocol.specs.Server.{Entry, Transfer, is_live}
+use Rattle.bac_protocol.specs.Server.{State, Entry, Transfer, is_live, live_entry}
 use Rattle.bac_protocol.specs.Server.State.{SegmentedResponse}
 use Rattle.bac_protocol.specs.Server.Transfer.{Running, Stopped}
 use Rattle.bac_slots.specs.Slots.{value_at}
@@ -61,10 +61,11 @@ IsUsed t next (SegmentedRequest out all_sent) =
 IsUsed t next (SegmentedConf inc) = (next.repeats + 1 ≡ t.repeats) × (next.phase ≡ SegmentedConf inc)
 IsUsed t next Idle = ⊥
 
--- what a tick leaves of a ticket that is open after it: one that is not due is as it was
+-- what a tick leaves of a ticket that is open after it: one that is not due is as it was, and one that is due is no later than 60,000 ms after its first sending
 pub record IsTicked (now : ℕ) (old : Node) (key : PeerKey) (number : ℕ) (next : Ticket) : Type 0 where
   pub ticket : Ticket
   pub at : IsTicket old key number ticket
+  pub in_time : IsDue now ticket ticket.phase → now - ticket.ask.first ≤ DEADLINE
   pub goes : (IsDue now ticket ticket.phase × IsUsed ticket next ticket.phase) ⊎ ((IsDue now ticket ticket.phase → ⊥) × (next ≡ ticket))
 
 -- nothing was sent again
@@ -107,6 +108,23 @@ pub record IsReplyLeft (old : Node) (key : PeerKey) (next : Outgoing) : Type 0 w
   pub was : IsReply old key out transfer
   pub retries : MovesOn out next ⊎ ((transfer ≡ Stopped) × (next ≡ resume out))
 
+-- an entry gathers the segments of a request
+pub record IsInSegments (o : Option Entry) : Type 0 where
+  pub entry : Entry
+  pub is : o ≡ Some entry
+  pub inc : Incoming
+  pub since : ℕ
+  pub state : entry.state ≡ State.SegmentedRequest inc since
+
+-- the request that a datagram completes is new: no entry is live, or the entry gathers its segments
+abbrev pub IsNewRequest : (now : ℕ) → Option Entry → Type 0
+IsNewRequest now o = (live_entry now o ≡ None) ⊎ IsInSegments o
+
+-- a reply begins with all retries, to a new request alone
+pub record IsReplyNew (now : ℕ) (old : Node) (key : PeerKey) (next : Outgoing) : Type 0 where
+  pub request : IsNewRequest now (value_at same_key key old.servers.slots)
+  pub all : next ≡ outgoing next.pieces
+
 -- the reply of a live entry runs, its timer is due, and a retry is left
 pub record IsReplyDue (now : ℕ) (e : Entry) (out : Outgoing) (transfer : Transfer) (since : ℕ) : Type 0 where
   pub live : is_live now e ≡ true
@@ -122,11 +140,12 @@ pub record IsReplyTicked (now : ℕ) (old : Node) (key : PeerKey) (next : Outgoi
   pub goes : (IsReplyDue now was.entry out transfer was.since × (next ≡ record out { retries = out.retries - 1 }))
       ⊎ ((IsReplyDue now was.entry out transfer was.since → ⊥) × (next ≡ out))
 
--- the retries of a reply fall by one where a tick sends its window again, and nowhere else; one that begins has all of them
+-- the retries of a reply fall by one where a tick sends its window again, and nowhere else; one that begins has all of them, and answers a new
+-- request
 pub record RetriesFall : Type 0 where
   pub on : (now : ℕ) (from octets : Octets) (old new : Node) (o : Outcome) → NodeOn now from octets old new o → HasKeysApart old
       → (key : PeerKey) (next : Outgoing) (transfer : Transfer) → IsReply new key next transfer
-      → IsReplyLeft old key next ⊎ (next ≡ outgoing next.pieces)
+      → IsReplyLeft old key next ⊎ IsReplyNew now old key next
   pub tick : (now : ℕ) (old new : Node) (o : Outcome) → NodeTick now old new o
       → (key : PeerKey) (next : Outgoing) (transfer : Transfer) → IsReply new key next transfer → IsReplyTicked now old key next
   pub asks : (now : ℕ) (peer : PeerView) (limits : Limits) (r : Request) (old new : Node) (a : Accepted) (sends : List Datagram)
