@@ -7,7 +7,7 @@ ghost use Rattle.bac_client.specs.Views.{ending_view};
 ghost use Rattle.bac_world.specs.Node.{Node};
 ghost use Rattle.bac_world.specs.World.{WorldStep};
 ghost use Rattle.bac_world.specs.World.Event.{Ask, Deliver};
-ghost use Rattle.bac_network.specs.Histories.{HasHistory, IsOnceNow};
+ghost use Rattle.bac_network.specs.Histories.{AreEndedOnceNow, ArePerformedOnceNow, AreReplayedNow, HasHistory, IsOnceNow};
 ghost use Rattle.bac_network.specs.Steps.{IsFault};
 ghost use Rattle.bac_straight.specs.Straight.{ending_in};
 ghost use Rattle.bac_straight_runs.specs.Faults.{Fails, StopsShort};
@@ -209,6 +209,9 @@ pub fn straight(
     ensures overtake { world.new.overtake ≡ world.old.overtake }
     ensures opening { world.new.opening ≡ world.old.opening }
     ensures once { IsOnceNow world.new }
+    ensures performed { ArePerformedOnceNow world.new }
+    ensures ended { AreEndedOnceNow world.new }
+    ensures stores { AreReplayedNow world.new }
 {
     world.is_once();
     is_well_made(world, client);

@@ -24,7 +24,7 @@ use Rattle.bac_ends.specs.Ends.{ServerEnd, ServerSlot, context_of, entry_or, is_
 use Rattle.bac_server.specs.Services.{service_of}
 use Rattle.bac_world.specs.Node.{Node, Outcome, NodeOn, NodeTick, IsHeardBy}
 use Rattle.bac_world.specs.Keys.{HasKeysApart}
-use Rattle.bac_world.specs.Counts.{MovesOn, IsReply, IsReplyLeft, IsReplyDue, IsReplyTicked, RetriesFall}
+use Rattle.bac_world.specs.Counts.{MovesOn, IsReply, IsReplyLeft, IsNewRequest, IsReplyNew, IsReplyDue, IsReplyTicked, RetriesFall}
 use Rattle.bac_ends.proofs.KeyedSlots.{decide_slot_key, passing, passing_value, with_same, with_other, put_same, put_other, value_changed, changed_value}
 use Rattle.bac_world.proofs.RepeatsFall.{moves_on}
 use Rattle.bac_world.proofs.ServerTick.{entry_tick}
@@ -38,48 +38,51 @@ WasReply next (State.SegmentedRequest inc since) = ⊥
 WasReply next (Done kept) = ⊥
 WasReply next Dropped = ⊥
 
-abbrev Follows : (before next : State) → Type 0
-Follows before (SegmentedResponse next transfer since) = WasReply next before ⊎ (next ≡ outgoing next.pieces)
-Follows before (State.SegmentedRequest inc since) = Unit {0}
-Follows before (Done kept) = Unit {0}
-Follows before Dropped = Unit {0}
+module _ (Fresh : Type 0) where
+  -- one begins only where a request is new
+  abbrev Follows : (before next : State) → Type 0
+  Follows before (SegmentedResponse next transfer since) = WasReply next before ⊎ (Fresh × (next ≡ outgoing next.pieces))
+  Follows before (State.SegmentedRequest inc since) = Unit {0}
+  Follows before (Done kept) = Unit {0}
+  Follows before Dropped = Unit {0}
 
-abbrev Comes : (before : State) → Option Entry → Type 0
-Comes before None = Unit {0}
-Comes before (Some e) = Follows before e.state
+  abbrev Comes : (before : State) → Option Entry → Type 0
+  Comes before None = Unit {0}
+  Comes before (Some e) = Follows before e.state
 
-same_reply : (st : State) → Follows st st
-same_reply (SegmentedResponse out transfer since) = inl (inl (inl refl))
-same_reply (State.SegmentedRequest inc since) = tt
-same_reply (Done kept) = tt
-same_reply Dropped = tt
+  same_reply : (st : State) → Follows st st
+  same_reply (SegmentedResponse out transfer since) = inl (inl (inl refl))
+  same_reply (State.SegmentedRequest inc since) = tt
+  same_reply (Done kept) = tt
+  same_reply Dropped = tt
 
-module _ (c : Context) (service : Service) (before : State) where
+module _ (c : Context) (service : Service) (Fresh : Type 0) (before : State) where
   abbrev Leaves : server.Reaction → Type 0
-  Leaves v = Comes before v.entry
+  Leaves v = Comes Fresh before v.entry
 
-  sends_reply_leaves : (e : Entry) (acks : List Apdu) (octets : Octets) (p : Reply) (way : Way ℕ) → Leaves (server.sends_reply c e acks octets p way)
-  sends_reply_leaves e acks octets p InOne = tt
-  sends_reply_leaves e acks octets p (InSegments ps) = inr refl
-  sends_reply_leaves e acks octets p (Refused reason) = tt
+  module _ (fresh : Fresh) where
+    sends_reply_leaves : (e : Entry) (acks : List Apdu) (octets : Octets) (p : Reply) (way : Way ℕ) → Leaves (server.sends_reply c e acks octets p way)
+    sends_reply_leaves e acks octets p InOne = tt
+    sends_reply_leaves e acks octets p (InSegments ps) = inr (fresh, refl)
+    sends_reply_leaves e acks octets p (Refused reason) = tt
 
-  so_leaves : (e : Entry) (acks : List Apdu) (octets : Octets) (o : outcome) → Leaves (server.performs_so c e acks octets o)
-  so_leaves e acks octets (Replies p) = sends_reply_leaves e acks octets p (reply_way_of c.settings e.limits p)
-  so_leaves e acks octets (Rejects reason) = tt
+    so_leaves : (e : Entry) (acks : List Apdu) (octets : Octets) (o : outcome) → Leaves (server.performs_so c e acks octets o)
+    so_leaves e acks octets (Replies p) = sends_reply_leaves e acks octets p (reply_way_of c.settings e.limits p)
+    so_leaves e acks octets (Rejects reason) = tt
 
-  request_segment_leaves : (e : Entry) (number window : ℕ) (y : Taking) → Leaves (server.request_segment_taken c service e number window y)
-  request_segment_leaves e number window (Taken true inc) = tt
-  request_segment_leaves e number window (Taken false inc) = tt
-  request_segment_leaves e number window (Whole parts) =
-      so_leaves e (server.server_ack c false number window ∷ []) (join parts) (service e.choice (join parts))
-  request_segment_leaves e number window (Nak inc) = tt
-  request_segment_leaves e number window TooLong = tt
+    request_segment_leaves : (e : Entry) (number window : ℕ) (y : Taking) → Leaves (server.request_segment_taken c service e number window y)
+    request_segment_leaves e number window (Taken true inc) = tt
+    request_segment_leaves e number window (Taken false inc) = tt
+    request_segment_leaves e number window (Whole parts) =
+        so_leaves e (server.server_ack c false number window ∷ []) (join parts) (service e.choice (join parts))
+    request_segment_leaves e number window (Nak inc) = tt
+    request_segment_leaves e number window TooLong = tt
 
   -- where no entry is live
-  module _ (o : Option Entry) (h : Comes before o) where
+  module _ (o : Option Entry) (fresh : Fresh) (h : Comes Fresh before o) where
     request_leaves : (free : Bool) (choice : ℕ) (limits : Limits) (octets : Octets)
         → Leaves (server.idle_gets_request c service o free choice limits octets)
-    request_leaves true choice limits octets = so_leaves (server.begins c choice limits (Some octets)) [] octets (service choice octets)
+    request_leaves true choice limits octets = so_leaves fresh (server.begins c choice limits (Some octets)) [] octets (service choice octets)
     request_leaves false choice limits octets = h
 
     segment_leaves : (free : Bool) (choice : ℕ) (limits : Limits) (g : Segment) (octets : Octets)
@@ -92,7 +95,7 @@ module _ (c : Context) (service : Service) (before : State) where
             (server.server_abort c OTHER ∷ []))
         go true true =
             let inc = incoming c.settings.window g.window in
-            request_segment_leaves (server.begins c choice limits None) g.number inc.window (takes inc g.number g.more octets)
+            request_segment_leaves fresh (server.begins c choice limits None) g.number inc.window (takes inc g.number g.more octets)
         go true false = h
         go false d = h
 
@@ -102,17 +105,17 @@ module _ (c : Context) (service : Service) (before : State) where
     idle_leaves free _ = h
 
   -- a live entry
-  module _ (e : Entry) (h : Follows before e.state) where
-    request_in_segments_leaves : (inc : Incoming) (since : ℕ) (a : Apdu) → Leaves (server.segmented_request_gets c service e inc since a)
-    request_in_segments_leaves inc since (ConfirmedRequest limits i (Some g) choice octets) = go (nat_le WAIT_SEG (c.now - since))
+  module _ (e : Entry) (h : Follows Fresh before e.state) where
+    request_in_segments_leaves : Fresh → (inc : Incoming) (since : ℕ) (a : Apdu) → Leaves (server.segmented_request_gets c service e inc since a)
+    request_in_segments_leaves fresh inc since (ConfirmedRequest limits i (Some g) choice octets) = go (nat_le WAIT_SEG (c.now - since))
       where
         go : (b : Bool) → Leaves (if b then server.becomes e Dropped (server.server_abort c OTHER ∷ []) else server.request_segment_taken c service e g.number
             inc.window
             (takes inc g.number g.more octets))
         go true = tt
-        go false = request_segment_leaves e g.number inc.window (takes inc g.number g.more octets)
-    request_in_segments_leaves inc since (Abort false i reason) = tt
-    request_in_segments_leaves inc since _ = h
+        go false = request_segment_leaves fresh e g.number inc.window (takes inc g.number g.more octets)
+    request_in_segments_leaves fresh inc since (Abort false i reason) = tt
+    request_in_segments_leaves fresh inc since _ = h
 
     done_leaves : (kept : Apdu) (a : Apdu) → Leaves (server.done_gets c e kept a)
     done_leaves kept (ConfirmedRequest limits i None choice octets) = h
@@ -161,24 +164,31 @@ module _ (c : Context) (service : Service) (before : State) where
       response_leaves transfer run since (Abort false i reason) = inl (there out (inl (inl refl)))
       response_leaves transfer run since _ = h
 
-    live_leaves : (st : State) → before ≡ st → (a : Apdu) → Leaves (server.live_gets c service e st a)
-    live_leaves (State.SegmentedRequest inc since) is a = request_in_segments_leaves inc since a
-    live_leaves (Done kept) is a = done_leaves kept a
-    live_leaves (SegmentedResponse out transfer since) is a = response_leaves out transfer since is transfer refl since a
-    live_leaves Dropped is a = dropped_leaves a
+    live_leaves : ((inc : Incoming) (since : ℕ) → before ≡ State.SegmentedRequest inc since → Fresh) → (st : State) → before ≡ st → (a : Apdu)
+        → Leaves (server.live_gets c service e st a)
+    live_leaves fresh (State.SegmentedRequest inc since) is a = request_in_segments_leaves (fresh inc since is) inc since a
+    live_leaves fresh (Done kept) is a = done_leaves kept a
+    live_leaves fresh (SegmentedResponse out transfer since) is a = response_leaves out transfer since is transfer refl since a
+    live_leaves fresh Dropped is a = dropped_leaves a
 
 -- the state that was there
 abbrev state_in : Option Entry → State
 state_in None = Dropped
 state_in (Some e) = e.state
 
-gets_leaves : (c : Context) (service : Service) (o : Option Entry) (free : Bool) (a : Apdu) → Comes (state_in o) (server_gets c service o free a).entry
-gets_leaves c service None free a = idle_leaves c service Dropped None tt free a
-gets_leaves c service (Some e) free a = go (is_live c.now e)
+gets_leaves : (c : Context) (service : Service) (o : Option Entry) (free : Bool) (a : Apdu)
+    → Comes (IsNewRequest c.now o) (state_in o) (server_gets c service o free a).entry
+gets_leaves c service None free a = idle_leaves c service (IsNewRequest c.now None) Dropped None (inl refl) tt free a
+gets_leaves c service (Some e) free a = go (is_live c.now e) refl
   where
-    go : (b : Bool) → Comes e.state (if b then server.live_gets c service e e.state a else server.idle_gets c service (Some e) free a).entry
-    go true = live_leaves c service e.state e (same_reply e.state) e.state refl a
-    go false = idle_leaves c service e.state (Some e) (same_reply e.state) free a
+    New : Type 0
+    New = IsNewRequest c.now (Some e)
+
+    go : (b : Bool) → is_live c.now e ≡ b
+        → Comes New e.state (if b then server.live_gets c service e e.state a else server.idle_gets c service (Some e) free a).entry
+    go true live = live_leaves c service New e.state e (same_reply New e.state)
+        (λ inc since is. inr (record { entry = e; is = refl; inc = inc; since = since; state = is })) e.state refl a
+    go false dead = idle_leaves c service New e.state (Some e) (inl (ap (λ (b : Bool). if b then Some e else None) dead)) (same_reply New e.state) free a
 
 -- What is found after an entry was put.
 
@@ -261,7 +271,7 @@ module _ (old : Node) (key : PeerKey) (next : Outgoing) where
 
 on_falls : (now : ℕ) (from octets : Octets) (old new : Node) (o : Outcome) → NodeOn now from octets old new o → HasKeysApart old
     → (key : PeerKey) (next : Outgoing) (transfer : Transfer) → IsReply new key next transfer
-    → IsReplyLeft old key next ⊎ (next ≡ outgoing next.pieces)
+    → IsReplyLeft old key next ⊎ IsReplyNew now old key next
 on_falls now from octets old new o (inl d) apart key next transfer was =
     inl (stays_left old key next transfer (reply_in old new key next transfer (ap (λ (n : Node). n.servers) d.node) was))
 on_falls now from octets old new o (inr z) apart key next transfer was = go (is_from_client z.apdu) z.heard
@@ -275,21 +285,24 @@ on_falls now from octets old new o (inr z) apart key next transfer was = go (is_
     v : server.Reaction
     v = server_gets (context_of old.settings now p) (service_of old.store) found (is_free now old.servers) z.apdu
 
-    comes : v.entry ≡ Some was.entry → Follows (state_in found) (SegmentedResponse next transfer was.since)
-    comes is = subst (Follows (state_in found)) was.state
-        (subst (Comes (state_in found)) is (gets_leaves (context_of old.settings now p) (service_of old.store) found (is_free now old.servers) z.apdu))
+    New : Type 0
+    New = IsNewRequest now found
 
-    heard : (p ≡ key) → Follows (state_in found) (SegmentedResponse next transfer was.since)
-        → IsReplyLeft old key next ⊎ (next ≡ outgoing next.pieces)
+    comes : v.entry ≡ Some was.entry → Follows New (state_in found) (SegmentedResponse next transfer was.since)
+    comes is = subst (Follows New (state_in found)) was.state
+        (subst (Comes New (state_in found)) is (gets_leaves (context_of old.settings now p) (service_of old.store) found (is_free now old.servers) z.apdu))
+
+    heard : (p ≡ key) → Follows New (state_in found) (SegmentedResponse next transfer was.since)
+        → IsReplyLeft old key next ⊎ IsReplyNew now old key next
     heard same (inl h) = inl (subst (λ (k : PeerKey). IsReplyLeft old k next) same (was_reply old p next found refl (state_in found) refl h))
-    heard same (inr begins) = inr begins
+    heard same (inr begins) = inr (subst (λ (k : PeerKey). IsReplyNew now old k next) same (record { request = begins.0; all = begins.1 }))
 
     served : ((value_at same_key key old.servers.slots ≡ Some was.entry) ⊎ ((p ≡ key) × (v.entry ≡ Some was.entry)))
-        → IsReplyLeft old key next ⊎ (next ≡ outgoing next.pieces)
+        → IsReplyLeft old key next ⊎ IsReplyNew now old key next
     served (inl at) = inl (stays_left old key next transfer (record { entry = was.entry; at = at; since = was.since; state = was.state }))
     served (inr put) = heard put.0 (comes put.1)
 
-    go : (up : Bool) → IsHeardBy up z.peer z.apdu now old new o → IsReplyLeft old key next ⊎ (next ≡ outgoing next.pieces)
+    go : (up : Bool) → IsHeardBy up z.peer z.apdu now old new o → IsReplyLeft old key next ⊎ IsReplyNew now old key next
     go true turn = served (put_found now p old.servers.slots apart.servers key was.entry v.entry
         (subst (λ (n : Node). value_at same_key key n.servers.slots ≡ Some was.entry) turn.node was.at))
     go false turn = inl (stays_left old key next transfer (reply_in old new key next transfer (ap (λ (n : Node). n.servers) turn.node) was))

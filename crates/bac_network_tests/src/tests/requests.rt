@@ -109,6 +109,9 @@ const IN_TWO: &[Row] = &[
     (Do::Deliver(1), Seen::Nothing, 1, "0A70000120"),
 ];
 
+/// Those of 111 go as 44, 44 and 23.
+const IN_THREE: &[Row] = &[FIRST, GRANTED, REST];
+
 /// The front and the length of the last APDU that the client sends.
 fn last_sent(alloc: Global, rows: &[Row]) -> Result<(u64, usize), Fail> {
     let mut scene = Scene::house(alloc, SMALL)?.headed(SMALL);
@@ -125,6 +128,12 @@ fn write_that_goes_whole(rt: HostRuntime) -> Result<(), Fail> {
 #[test]
 fn write_in_two_segments(rt: HostRuntime) -> Result<(), Fail> {
     assert!(rt; last_sent(rt.alloc(), IN_TWO)? == (0x0A_7000_0120, 9));
+    Ok(())
+}
+
+#[test]
+fn write_in_three_segments(rt: HostRuntime) -> Result<(), Fail> {
+    assert!(rt; last_sent(rt.alloc(), IN_THREE)? == (0x0A_7000_0220, 29));
     Ok(())
 }
 

@@ -103,6 +103,23 @@ fn rows_of_one_node(rt: HostRuntime) -> Result<(), Fail> {
     house_plays(rt.alloc(), ROWS)
 }
 
+/// A device behind the client's link is heard first, and then the client with the same invoke ID: both are performed.
+const ROUTED_FIRST: &[Row] = &[
+    (
+        0,
+        2,
+        "810A0015 010C0005012A 0005010C 0C00000005 1955",
+        "810A001C 01200005012AFF 30010C 0C00000005 1955 3E 444290999A 3F",
+        true,
+    ),
+    (0, 2, READ, VALUE, true),
+];
+
+#[test]
+fn device_behind_a_link_first(rt: HostRuntime) -> Result<(), Fail> {
+    house_plays(rt.alloc(), ROUTED_FIRST)
+}
+
 /// Reads of file 1 as it is at first: all of it, its first octet, none after its last; from too far on, and by records.
 const FILES: &[Row] = &[
     (

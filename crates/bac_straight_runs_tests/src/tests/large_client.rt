@@ -1,7 +1,8 @@
 //! The datagrams of a straight run: a client that takes APDUs of 1,476 octets writes 60,000 octets to a server that takes APDUs of 50.
 use super::{LARGE, SMALL, answered, config, world_of, write};
 use bac_network::World;
-use bac_store::house;
+use bac_node::Config;
+use bac_store::{Store, house};
 use std::alloc::Global;
 use std::test::Fail;
 
@@ -103,5 +104,42 @@ fn is_written(alloc: Global) -> Result<bool, Fail> {
 #[test]
 fn write_to_a_small_server(rt: HostRuntime) -> Result<(), Fail> {
     assert!(rt; is_written(rt.alloc())?);
+    Ok(())
+}
+
+/// A client, and a small server, with these windows.
+fn windowed(alloc: Global, client: u8, server: u8) -> Result<Vec<(Config, Store)>, Fail> {
+    let mut asking = config(0xC0, LARGE);
+    asking.window = client;
+    let mut asked = config(0xC1, SMALL);
+    asked.window = server;
+    let mut nodes = Vec::new(alloc);
+    nodes.push((asking, house(alloc)?))?;
+    nodes.push((asked, house(alloc)?))?;
+    Ok(nodes)
+}
+
+/// How many copies are delivered until the write is answered, where 100 later copies may overtake one.
+fn written(alloc: Global, client: u8, server: u8) -> Result<Option<usize>, Fail> {
+    let Ok(mut world) = World::new(alloc, windowed(alloc, client, server)?, 100) else {
+        return Err(Fail::from("no world"));
+    };
+    let Ok(deliveries) = answered(alloc, &mut world, 0, 1, write(alloc)?) else {
+        return Err(Fail::from("no straight run"));
+    };
+    Ok(deliveries)
+}
+
+/// 1,364 segments, 23 SegmentACKs and one answer.
+#[test]
+fn write_in_windows_of_64(rt: HostRuntime) -> Result<(), Fail> {
+    assert!(rt; written(rt.alloc(), 64, 64)? == Some(1_388));
+    Ok(())
+}
+
+/// 1,364 segments, 87 SegmentACKs and one answer.
+#[test]
+fn write_in_windows_of_16(rt: HostRuntime) -> Result<(), Fail> {
+    assert!(rt; written(rt.alloc(), 64, 16)? == Some(1_452));
     Ok(())
 }
