@@ -32,7 +32,8 @@ module _ (now : ℕ) (p : PeerKey) (slots : List ServerSlot) (distinct : IsDisti
   gone : is_none_live now (value_at same_key p slots) ≡ true → value_at same_key p (passing Entry (is_live now) slots) ≡ None
   gone dead = passing_value Entry (is_live now) p slots distinct ∙ none_kept now (value_at same_key p slots) dead
 
-  set_here : (d : Entry) (b : Bool) → is_none_live now (value_at same_key p slots) ≡ b → value_at same_key p (set_or_put now p d slots b) ≡ Some d
+  -- what is found where a live entry was set or put
+  pub set_here : (d : Entry) (b : Bool) → is_none_live now (value_at same_key p slots) ≡ b → value_at same_key p (set_or_put now p d slots b) ≡ Some d
   set_here d true dead = put_same Entry p d.begin d (passing Entry (is_live now) slots) (gone dead)
   set_here d false live =
       let e = some_there now (value_at same_key p slots) live in with_same Entry p d e.0 slots e.1

@@ -1,12 +1,12 @@
 -- What each call of a server's end keeps of its table.
-use Rattle.std.proofs.Common.{◌≡◌, ℕ, ◌<◌, ◌≤◌, Bool, true, false, not, List, [], ◌∷◌, ◌++◌, filter, count_by, length, Option, Some, None}
-use Rattle.std.proofs.Common.{if◌then◌else◌, nat_eq, nat_lt, refl, ap, sym, inl, inr, ◌∙◌, arith, length-append}
+use Rattle.std.proofs.Common.{◌≡◌, ℕ, ◌<◌, ◌≤◌, Bool, true, false, ◌&&◌, not, List, [], ◌∷◌, ◌++◌, filter, count_by, length, Option, Some, None}
+use Rattle.std.proofs.Common.{if◌then◌else◌, nat_eq, nat_lt, refl, ap, sym, ◌∙◌, arith, length-append}
 use Rattle.std.proofs.lemmas.List.{length-map}
 use Rattle.std.proofs.lemmas.Bool.Decides.{nat_tests}
 use Rattle.std.proofs.lemmas.List.Sums.{length-filter}
 use Rattle.bac_apdu.specs.Apdu.{Apdu}
 use Rattle.bac_apdu.specs.Apdu.Apdu.{ConfirmedRequest}
-use Rattle.bac_slots.specs.Slots.{value_at, IsDistinct}
+use Rattle.bac_slots.specs.Slots.{value_at, keep, IsDistinct}
 use Rattle.bac_slots.proofs.Values.{set_length, set_others, put_others}
 use Rattle.bac_protocol.specs.Context.{Settings, Context}
 use Rattle.bac_protocol.specs.Service.{OTHER}
@@ -15,9 +15,9 @@ use Rattle.bac_protocol.specs.Server.{Entry, Reaction, Service, is_live, is_none
 use Rattle.bac_ends.specs.Keys.{PeerKey, same_key}
 use Rattle.bac_ends.specs.Ends.{ServerSlot, is_slot_live, is_free, set_or_put, put_entry}
 use Rattle.bac_ends.specs.Ends.{context_of, key_of, entry_or}
-use Rattle.bac_ends.specs.Tables.{ServerStaysOrderly, ServerOthersStay, StaysOrGoes, server_ticked_at}
+use Rattle.bac_ends.specs.Tables.{ServerStaysOrderly, ServerOthersStay, comes_new, server_ticked_at}
 use Rattle.bac_ends.proofs.KeyedSlots.{keys_equivalent, passing, passing_value, changed_value, distinct_changed, value_changed}
-use Rattle.bac_ends.proofs.Entries.{entry_distinct}
+use Rattle.bac_ends.proofs.Entries.{set_here, entry_distinct}
 
 dead_of : (b : Bool) → (if b then false else true) ≡ true → b ≡ false
 dead_of true e = absurd cc
@@ -93,20 +93,38 @@ module _ (now : ℕ) (key : PeerKey) (slots : List ServerSlot) (capacity : ℕ) 
       go true live = put (is_none_live now old) refl live
       go false live = within
 
-  entry_others : (q : PeerKey) → IsDistinct same_key slots → same_key key q ≡ false → (o : Option Entry)
-      → StaysOrGoes (is_live now) (value_at same_key q slots) (value_at same_key q (put_entry now key o slots))
-  entry_others q distinct ne None = inl refl
-  entry_others q distinct ne (Some d) = go (is_live now d)
-    where
-      put : (b : Bool) → StaysOrGoes (is_live now) (value_at same_key q slots) (value_at same_key q (set_or_put now key d slots b))
-      put true = inr (put_others PeerKey Entry same_key keys_equivalent _ q (passing Entry (is_live now) slots) ne
-          ∙ passing_value Entry (is_live now) q slots distinct)
-      put false = inl (set_others PeerKey Entry same_key keys_equivalent key q d slots ne)
+  -- what is found of another key, where a new entry comes or not
+  abbrev left : (comes : Bool) → Option Entry → Option Entry
+  left comes o = if comes then keep (is_live now) o else o
 
-      go : (b : Bool) → StaysOrGoes (is_live now) (value_at same_key q slots)
-          (value_at same_key q (if b then set_or_put now key d slots (is_none_live now old) else slots))
-      go true = put (is_none_live now old)
-      go false = inl refl
+  -- where the slots are as they were, no new entry comes
+  none_comes : (o : Option Entry) → o ≡ left (comes_new now key slots slots) o
+  none_comes o = go (is_none_live now old)
+    where
+      go : (b : Bool) → o ≡ left (b && not b) o
+      go true = refl
+      go false = refl
+
+  entry_others : (q : PeerKey) → IsDistinct same_key slots → same_key key q ≡ false → (o : Option Entry)
+      → value_at same_key q (put_entry now key o slots) ≡ left (comes_new now key slots (put_entry now key o slots)) (value_at same_key q slots)
+  entry_others q distinct ne None = none_comes (value_at same_key q slots)
+  entry_others q distinct ne (Some d) = go (is_live now d) refl
+    where
+      put : (b : Bool) → is_none_live now old ≡ b → is_live now d ≡ true
+          → value_at same_key q (set_or_put now key d slots b)
+          ≡ left (b && not (is_none_live now (value_at same_key key (set_or_put now key d slots b)))) (value_at same_key q slots)
+      put true dead live =
+          let comes : is_none_live now (value_at same_key key (set_or_put now key d slots true)) ≡ false =
+          ap (is_none_live now) (set_here now key slots distinct d true dead) ∙ ap (λ x. if x then false else true) live in
+          put_others PeerKey Entry same_key keys_equivalent _ q (passing Entry (is_live now) slots) ne ∙ passing_value Entry (is_live now) q slots distinct
+          ∙ sym (ap (λ x. left (true && not x) (value_at same_key q slots)) comes)
+      put false dead live = set_others PeerKey Entry same_key keys_equivalent key q d slots ne
+
+      go : (b : Bool) → is_live now d ≡ b
+          → value_at same_key q (if b then set_or_put now key d slots (is_none_live now old) else slots)
+          ≡ left (comes_new now key slots (if b then set_or_put now key d slots (is_none_live now old) else slots)) (value_at same_key q slots)
+      go true live = put (is_none_live now old) refl live
+      go false live = none_comes (value_at same_key q slots)
 
 begins_free : (c : Context) (service : Service) (o : Option Entry) (free : Bool) (a : Apdu) (d : Entry) → (server_gets c service o free a).entry ≡ Some d
     → is_live c.now d ≡ true → is_none_live c.now o ≡ true → free ≡ true

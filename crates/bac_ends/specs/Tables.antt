@@ -1,5 +1,5 @@
 -- What each call of an end keeps of its table. Each record here is proved as a law.
-use Rattle.std.specs.Prelude.{◌≡◌, ℕ, ◌<◌, ◌≤◌, ◌⊎◌, ◌↔◌, Bool, true, false, List, [], ◌∷◌, length, Option, Some, None}
+use Rattle.std.specs.Prelude.{◌≡◌, ℕ, ◌<◌, ◌≤◌, ◌↔◌, Bool, true, false, ◌&&◌, not, if◌then◌else◌, List, [], ◌∷◌, length, Option, Some, None}
 use Rattle.std.specs.Option.{option_map}
 use Rattle.bac_apdu.specs.Apdu.{Apdu, Limits}
 use Rattle.bac_apdu.specs.Apdu.Apdu.{ConfirmedRequest, Abort}
@@ -14,7 +14,7 @@ use Rattle.bac_protocol.specs.Service.{Octets, Readable, OTHER}
 use Rattle.bac_protocol.specs.Server.{Service, Entry, is_live, is_none_live, server_ticks}
 use Rattle.bac_ends.specs.Keys.{PeerKey, same_key}
 use Rattle.bac_ends.specs.Sends.{to_peer}
-use Rattle.bac_ends.specs.Ends.{Client, ClientSlot, ClientEnd, Accepted, AskRefusal, AskOutcome, ServerEnd, ServerTurn}
+use Rattle.bac_ends.specs.Ends.{Client, ClientSlot, ClientEnd, Accepted, AskRefusal, AskOutcome, ServerSlot, ServerEnd, ServerTurn}
 use Rattle.bac_ends.specs.Ends.{is_held, is_id_held, has_no_slot, context_of, key_of, held_ticked, entry_or, is_free}
 use Rattle.bac_ends.specs.Ends.{client_hears, clients_tick, client_asks, server_hears, servers_tick}
 
@@ -96,19 +96,21 @@ pub record ServerStaysOrderly : Type 0 where
       → IsOrderlyServer (server_hears c now service peer a e).end
   pub ticks : (c : Settings) (now : ℕ) (e : ServerEnd) → IsOrderlyServer e → IsOrderlyServer (servers_tick c now e).end
 
--- what is there stays, or fails the test and may go
-abbrev pub StaysOrGoes : {T : Type 0} → (T → Bool) → (old new : Option T) → Type 0
-StaysOrGoes test old new = (new ≡ old) ⊎ (new ≡ keep test old)
+-- a new entry comes at that key: none was live there, and now one is
+abbrev pub comes_new : (now : ℕ) → PeerKey → (before after : List ServerSlot) → Bool
+comes_new now key before after = is_none_live now (value_at same_key key before) && not (is_none_live now (value_at same_key key after))
 
 -- an entry after a tick, where there is one
 abbrev pub server_ticked_at : Settings → (now : ℕ) → PeerKey → Option Entry → Option Entry
 server_ticked_at c now q o = option_map (λ (x : Entry). entry_or x (server_ticks (context_of c now q) (Some x)).entry) o
 
--- an APDU touches the entry of its key alone, and one that is not live may go; on a tick each entry goes on by itself
+-- an APDU touches the entry of its key alone; of the others those that are not live leave exactly when a new one comes; on a tick each goes on by itself
 pub record ServerOthersStay : Type 0 where
   pub hears : (c : Settings) (now : ℕ) (service : Service) (peer : PeerView) (a : Apdu) (e : ServerEnd) (q : PeerKey)
       → IsDistinct same_key e.slots → same_key (key_of peer a) q ≡ false
-      → StaysOrGoes (is_live now) (value_at same_key q e.slots) (value_at same_key q (server_hears c now service peer a e).end.slots)
+      → value_at same_key q (server_hears c now service peer a e).end.slots
+      ≡ (if comes_new now (key_of peer a) e.slots (server_hears c now service peer a e).end.slots then keep (is_live now) (value_at same_key q e.slots)
+      else value_at same_key q e.slots)
   pub ticks : (c : Settings) (now : ℕ) (e : ServerEnd) (q : PeerKey)
       → value_at same_key q (servers_tick c now e).end.slots ≡ server_ticked_at c now q (value_at same_key q e.slots)
 

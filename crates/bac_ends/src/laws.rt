@@ -43,7 +43,7 @@ pub fn asks_take_the_least_invoke_id()
 {}
 
 /// In every call of a server's end no two slots get one key, they stay within the capacity, and slots of other keys stay as they are, but those whose
-/// entry is not live, which leave when a new one comes.
+/// entry is not live, which leave exactly when a new one comes.
 #[tactic(auto, using(crate::proofs::ServerTables::server_stays_orderly, crate::proofs::ServerTables::server_others_stay))]
 pub fn server_tables_stay_in_order()
     ensures orderly { ServerStaysOrderly }

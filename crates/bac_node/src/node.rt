@@ -229,7 +229,7 @@ impl Node {
         ensures err { OnErr result (self.new ≡ self.old) }
     {
         let room = Vec::with_capacity(self.alloc, 1)?;
-        let Turn { sends, ended } = self.clients.on(now, peer, apdu)?;
+        let Turn { sends, ended } = self.clients.on(self.alloc, now, peer, apdu)?;
         self.latest = now;
         Ok(Outcome {
             sends,
@@ -274,7 +274,7 @@ impl Node {
     fn due(&self, now: u64) -> Result<Due, NoMemory>
         ensures { IfOk result (IsDue now self.now) }
     {
-        let Due { mut sends, ended } = self.clients.prepare_tick(now)?;
+        let Due { mut sends, ended } = self.clients.prepare_tick(self.alloc, now)?;
         let mut more = self.servers.prepare_tick(self.alloc, now)?;
         sends.append(&mut more)?;
         Ok(Due { sends, ended })
@@ -330,7 +330,7 @@ impl Node {
         ensures early { IsErrOf result AskFault.ClockBack → ⊥ }
         ensures err { OnErr result (self.new ≡ self.old) }
     {
-        match self.clients.ask(now, peer, limits, request) {
+        match self.clients.ask(self.alloc, now, peer, limits, request) {
             Ok(asked) => {
                 self.latest = now;
                 Ok(asked)

@@ -35,7 +35,6 @@ use std::marker::Model;
 /// The client's end of a node: its transactions, in a table that is made once.
 #[derive(Drop)]
 pub struct Requester<S: SlotTable<PeerKey, Client> + Drop> {
-    alloc: Global,
     link: [u8; 6],
     settings: Settings,
     table: S,
@@ -72,7 +71,8 @@ fn fault_of(fault: RequestFault) -> AskFault
 }
 
 impl<S: SlotTable<PeerKey, Client> + Drop> Requester<S> {
-    /// A client's end without transactions, of a node with that link and these settings, with room for so many.
+    /// A client's end without transactions, of a node with that link and these settings, with room for so many; an Err where the memory for them is
+    /// refused.
     pub fn new(
         alloc: Global,
         link: [u8; 6],
@@ -85,7 +85,6 @@ impl<S: SlotTable<PeerKey, Client> + Drop> Requester<S> {
             return Err(NoMemory);
         };
         Ok(Requester {
-            alloc,
             link,
             settings,
             table,
@@ -99,6 +98,7 @@ impl<S: SlotTable<PeerKey, Client> + Drop> Requester<S> {
     /// fault nothing has changed; `ClockBack` is never answered, and memory is taken only where no other fault holds.
     pub fn ask(
         &mut self,
+        alloc: Global,
         now: u64,
         peer: &Peer,
         limits: &Limits,
@@ -115,12 +115,13 @@ impl<S: SlotTable<PeerKey, Client> + Drop> Requester<S> {
         if peer.link == self.link {
             return Err(AskFault::SelfPeer);
         }
-        self.ask_other(now, peer, limits, request.as_request())
+        self.ask_other(alloc, now, peer, limits, request.as_request())
     }
 
     /// Asks a peer of another link.
     fn ask_other(
         &mut self,
+        alloc: Global,
         now: u64,
         peer: &Peer,
         limits: &Limits,
@@ -135,7 +136,7 @@ impl<S: SlotTable<PeerKey, Client> + Drop> Requester<S> {
             Err(fault) => return Err(fault_of(fault)),
         };
         let asked = ask(
-            self.alloc,
+            alloc,
             &self.settings,
             &mut self.table,
             self.latest,
@@ -151,7 +152,13 @@ impl<S: SlotTable<PeerKey, Client> + Drop> Requester<S> {
     }
 
     /// An APDU comes from a peer at a moment, in milliseconds. Where memory is refused, nothing has changed.
-    pub fn on(&mut self, now: u64, peer: &Peer, apdu: &Apdu<'_>) -> Result<Turn, NoMemory>
+    pub fn on(
+        &mut self,
+        alloc: Global,
+        now: u64,
+        peer: &Peer,
+        apdu: &Apdu<'_>,
+    ) -> Result<Turn, NoMemory>
         ensures { Hears (client_hears self.old.settings reads_reply now (peer_view peer.now) (apdu_view apdu.now) self.old.end) self.old result self.new }
     {
         let key = PeerKey {
@@ -163,19 +170,19 @@ impl<S: SlotTable<PeerKey, Client> + Drop> Requester<S> {
             key,
             moment: now,
         };
-        let turn = hears(self.alloc, &context, &mut self.table, apdu);
+        let turn = hears(alloc, &context, &mut self.table, apdu);
         self.due = at_the_earliest(self.due, now);
         turn
     }
 
     /// What a tick sends and ends. Nothing changes. Before the first moment at which anything can be due no slot is looked at.
-    pub fn prepare_tick(&self, now: u64) -> Result<Due, NoMemory>
+    pub fn prepare_tick(&self, alloc: Global, now: u64) -> Result<Due, NoMemory>
         ensures { IfOk result (IsDue (clients_tick self.now.settings now self.now.end)) }
     {
         if now < self.due {
-            return Ok(nothing_due(self.alloc));
+            return Ok(nothing_due(alloc));
         }
-        prepare(self.alloc, &self.settings, &self.table, now)
+        prepare(alloc, &self.settings, &self.table, now)
     }
 
     /// The end after a tick, of which `prepare_tick` says what is sent and ended. It takes no memory. Before the first moment at which anything can be

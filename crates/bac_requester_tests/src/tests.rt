@@ -170,7 +170,7 @@ fn ask(
     limits: &Limits,
     request: &OwnedRequest,
 ) -> Result<Told, NoMemory> {
-    match end.ask(now, &peer(n), limits, request) {
+    match end.ask(alloc, now, &peer(n), limits, request) {
         Ok(asked) => Ok(Told {
             sends: joined(alloc, &asked.sends)?,
             end: End::Open,
@@ -184,9 +184,14 @@ fn ask(
 
 /// An APDU comes from peer 2, or a tick where there is none: what is sent, and how the first ticket ended that did. What is no APDU counts as out
 /// of memory.
-fn meets(end: &mut Indexed, now: u64, octets: &[u8]) -> Result<(Vec<Datagram>, End), NoMemory> {
+fn meets(
+    end: &mut Indexed,
+    alloc: Global,
+    now: u64,
+    octets: &[u8],
+) -> Result<(Vec<Datagram>, End), NoMemory> {
     if octets.is_empty() {
-        let Due { sends, ended } = end.prepare_tick(now)?;
+        let Due { sends, ended } = end.prepare_tick(alloc, now)?;
         end.commit_tick(now);
         return match ended.first() {
             Some(finish) => Ok((sends, end_of(&finish.how))),
@@ -196,7 +201,7 @@ fn meets(end: &mut Indexed, now: u64, octets: &[u8]) -> Result<(Vec<Datagram>, E
     let Ok(apdu) = read(octets) else {
         return Err(NoMemory);
     };
-    let Turn { sends, ended } = end.on(now, &peer(2), &apdu)?;
+    let Turn { sends, ended } = end.on(alloc, now, &peer(2), &apdu)?;
     match ended {
         Some(finish) => Ok((sends, end_of(&finish.how))),
         None => Ok((sends, End::Open)),
@@ -213,7 +218,7 @@ fn is_said(alloc: Global, sends: &[Datagram], ended: End, row: &Row) -> Result<b
 /// Whether a row goes as it says.
 fn goes(end: &mut Indexed, alloc: Global, row: &Row) -> Result<bool, NoMemory> {
     let octets = octets_of(alloc, row.1)?;
-    let (sends, ended) = meets(end, row.0, &octets)?;
+    let (sends, ended) = meets(end, alloc, row.0, &octets)?;
     is_said(alloc, &sends, ended, row)
 }
 

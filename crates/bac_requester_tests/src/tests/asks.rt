@@ -91,8 +91,14 @@ fn puts(rt: HostRuntime) -> Result<(), Fail> {
 }
 
 /// Asks a peer for a property: the ticket and its invoke ID, or the fault.
-fn reads(end: &mut Indexed, now: u64, n: u8, read: &OwnedRequest) -> Result<(u64, u8), AskFault> {
-    let asked = end.ask(now, &peer(n), &ONE_APDU, read)?;
+fn reads(
+    alloc: Global,
+    end: &mut Indexed,
+    now: u64,
+    n: u8,
+    read: &OwnedRequest,
+) -> Result<(u64, u8), AskFault> {
+    let asked = end.ask(alloc, now, &peer(n), &ONE_APDU, read)?;
     Ok((asked.ticket, asked.invoke_id))
 }
 
@@ -102,7 +108,7 @@ type Read = (u64, u8, Result<(u64, u8), AskFault>);
 fn all_read_so(alloc: Global, end: &mut Indexed, rows: &[Read]) -> Result<bool, NoMemory> {
     let read = reading(alloc)?;
     for (now, n, how) in rows {
-        if reads(end, *now, *n, &read) != *how {
+        if reads(alloc, end, *now, *n, &read) != *how {
             return Ok(false);
         }
     }
@@ -114,7 +120,7 @@ fn with_all_ids(alloc: Global, slots: usize) -> Result<Indexed, NoMemory> {
     let mut end: Indexed = requester(alloc, &LARGE, slots)?;
     let read = reading(alloc)?;
     for n in 0..256u64 {
-        if reads(&mut end, 0, 2, &read) != Ok((n, n as u8)) {
+        if reads(alloc, &mut end, 0, 2, &read) != Ok((n, n as u8)) {
             return Err(NoMemory);
         }
     }
@@ -122,8 +128,8 @@ fn with_all_ids(alloc: Global, slots: usize) -> Result<Indexed, NoMemory> {
 }
 
 /// How many are sent and have ended at a tick; none where one has not expired.
-fn expired(end: &mut Indexed, now: u64) -> Result<(usize, usize), NoMemory> {
-    let due = end.prepare_tick(now)?;
+fn expired(alloc: Global, end: &mut Indexed, now: u64) -> Result<(usize, usize), NoMemory> {
+    let due = end.prepare_tick(alloc, now)?;
     end.commit_tick(now);
     for finish in &due.ended {
         if end_of(&finish.how) != End::Expired {
@@ -142,7 +148,7 @@ fn holds_all_ids(alloc: Global) -> Result<bool, NoMemory> {
     ];
     let mut end = with_all_ids(alloc, 1_024)?;
     let before = all_read_so(alloc, &mut end, BEFORE)?;
-    let told = expired(&mut end, 135_000)? == (0, 256);
+    let told = expired(alloc, &mut end, 135_000)? == (0, 256);
     Ok(before && told && all_read_so(alloc, &mut end, AFTER)?)
 }
 
@@ -181,7 +187,7 @@ fn holds_slots(alloc: Global) -> Result<bool, NoMemory> {
     ];
     let mut end: Indexed = requester(alloc, &LARGE, 3)?;
     let before = all_read_so(alloc, &mut end, BEFORE)?;
-    let (_, ended) = meets(&mut end, 3_000, b"\x60\x00\x09")?;
+    let (_, ended) = meets(&mut end, alloc, 3_000, b"\x60\x00\x09")?;
     let held = end.held(3_000) == 3 && end.held(136_001) == 2;
     Ok(before && ended == End::Rejected(9) && held && all_read_so(alloc, &mut end, AFTER)?)
 }
@@ -201,7 +207,7 @@ fn makes_room_out_of_order(alloc: Global) -> Result<bool, NoMemory> {
     ];
     let mut end: Indexed = requester(alloc, &LARGE, 2)?;
     let before = all_read_so(alloc, &mut end, BEFORE)?;
-    let (_, ended) = meets(&mut end, 3_000, b"\x60\x00\x09")?;
+    let (_, ended) = meets(&mut end, alloc, 3_000, b"\x60\x00\x09")?;
     Ok(before && ended == End::Rejected(9) && all_read_so(alloc, &mut end, AFTER)?)
 }
 
@@ -214,7 +220,7 @@ fn slots_out_of_order(rt: HostRuntime) -> Result<(), Fail> {
 /// To which peers a tick sends: the octets of their links that differ.
 fn sends_to(alloc: Global, end: &Indexed, now: u64) -> Result<Vec<u8>, NoMemory> {
     let mut links = Vec::new(alloc);
-    let due = end.prepare_tick(now)?;
+    let due = end.prepare_tick(alloc, now)?;
     for datagram in &due.sends {
         links.push(datagram.to()[3])?;
     }

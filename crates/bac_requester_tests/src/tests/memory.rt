@@ -87,14 +87,14 @@ fn ends_at_last(
     n: usize,
 ) -> Result<Option<End>, NoMemory> {
     let octets = heard(alloc, row)?;
-    if let Ok((_, ended)) = meets(end, row.0, &octets) {
+    if let Ok((_, ended)) = meets(end, alloc, row.0, &octets) {
         return Ok(Some(ended));
     }
     let before = after(alloc, ROWS.get(..n).unwrap_or(ROWS))?;
     if !end.same(&before) {
         return Ok(None);
     }
-    let (_, ended) = meets(end, row.0, &octets)?;
+    let (_, ended) = meets(end, alloc, row.0, &octets)?;
     Ok(Some(ended))
 }
 
@@ -122,12 +122,12 @@ fn rows_with_refused_memory(rt: HostRuntime) -> Result<(), Fail> {
 }
 
 /// Whether an ask is accepted, at the second time at the latest; one that is refused leaves the end like a fresh one.
-fn asks_at_last(end: &mut Indexed, fresh: &Indexed, write: &OwnedRequest) -> bool {
-    match end.ask(0, &peer(2), &SMALL.limits, write) {
+fn asks_at_last(alloc: Global, end: &mut Indexed, fresh: &Indexed, write: &OwnedRequest) -> bool {
+    match end.ask(alloc, 0, &peer(2), &SMALL.limits, write) {
         Ok(_) => !end.same(fresh),
         Err(AskFault::NoMemory) => {
             let unchanged = end.same(fresh);
-            let asked = end.ask(0, &peer(2), &SMALL.limits, write).is_ok();
+            let asked = end.ask(alloc, 0, &peer(2), &SMALL.limits, write).is_ok();
             unchanged && asked && !end.same(fresh)
         }
         Err(_) => false,
@@ -143,7 +143,7 @@ fn asks_in_segments(alloc: Global) -> bool {
     ) else {
         return true;
     };
-    asks_at_last(&mut end, &fresh, &write)
+    asks_at_last(alloc, &mut end, &fresh, &write)
 }
 
 /// A refused ask leaves the end as it was, and is accepted when it comes again.

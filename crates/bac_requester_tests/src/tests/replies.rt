@@ -83,6 +83,7 @@ fn segment(octets: &[u8], number: u8) -> Apdu<'_> {
 
 /// A segment comes: how the ticket ended, if it did.
 fn comes(
+    alloc: Global,
     end: &mut Indexed,
     reply: &[u8],
     number: u8,
@@ -91,7 +92,7 @@ fn comes(
     let Turn {
         sends: mut more,
         ended,
-    } = end.on(0, &peer(2), &segment(reply, number))?;
+    } = end.on(alloc, 0, &peer(2), &segment(reply, number))?;
     sends.append(&mut more)?;
     match ended {
         Some(finish) => Ok(end_of(&finish.how)),
@@ -101,6 +102,7 @@ fn comes(
 
 /// Segments come in order, from one on and up to another: how the last of them ended the ticket, if it did.
 fn come(
+    alloc: Global,
     end: &mut Indexed,
     reply: &[u8],
     from: u8,
@@ -109,7 +111,7 @@ fn come(
 ) -> Result<End, NoMemory> {
     let mut how = End::Open;
     for number in from..to {
-        how = comes(end, reply, number, sends)?;
+        how = comes(alloc, end, reply, number, sends)?;
     }
     Ok(how)
 }
@@ -126,9 +128,9 @@ fn asked(alloc: Global, settings: &Settings) -> Result<Indexed, NoMemory> {
 fn told_of_ninety(alloc: Global, reply: &[u8]) -> Result<Vec<u8>, NoMemory> {
     let mut end = asked(alloc, &SMALL)?;
     let mut sends = Vec::new(alloc);
-    let before = come(&mut end, reply, 0, 41, &mut sends)?;
-    let early = come(&mut end, reply, 42, 43, &mut sends)?;
-    let after = come(&mut end, reply, 41, 90, &mut sends)?;
+    let before = come(alloc, &mut end, reply, 0, 41, &mut sends)?;
+    let early = come(alloc, &mut end, reply, 42, 43, &mut sends)?;
+    let after = come(alloc, &mut end, reply, 41, 90, &mut sends)?;
     if before == End::Open && early == End::Open && after == End::Complex {
         return joined(alloc, &sends);
     }
@@ -156,7 +158,7 @@ fn two_come(alloc: Global, settings: &Settings) -> Result<(End, usize), NoMemory
     let reply = description(alloc, "0C00000007 191C 3E 7525 00", 36)?;
     let mut end = asked(alloc, settings)?;
     let mut sends = Vec::new(alloc);
-    let how = come(&mut end, &reply, 0, 2, &mut sends)?;
+    let how = come(alloc, &mut end, &reply, 0, 2, &mut sends)?;
     Ok((how, sends.len()))
 }
 
