@@ -61,8 +61,15 @@ const WORDS_HELP: &str =
     "The request: `read T:I P`, `write T:I P HEX`, `append T:I HEX`, `put T:I POS HEX` or `get T:I POS COUNT`";
 
 /// What stands for what in them.
-const FORMS_HELP: &str =
-    "T:I is an object by its type and instance, P a property's number, HEX octets; a word that begins with `-` is given after `--`";
+const FORMS_HELP: &str = "\
+T:I is an object by its type and instance, P a property's number, HEX octets; in `write` they are the spelling of data
+POS is the position in a file from which on octets are put or got, COUNT how many are got
+A word that begins with `-` is given after `--`";
+
+/// Asks that may be made.
+const ASK_EXAMPLES: &str = "\
+Example: bac ask --port 47808 read 0:5 85
+Example: bac ask --port 47808 -- put 10:1 -1 AA";
 
 fn ask_command<'a>(alloc: Global) -> Result<Command<'a>, clap::Error> {
     let words = Arg::new(alloc, "WORDS")
@@ -73,7 +80,7 @@ fn ask_command<'a>(alloc: Global) -> Result<Command<'a>, clap::Error> {
     let ask = Command::new(alloc, "ask")
         .about("Asks the node at a UDP port of 127.0.0.1, and prints how that ended")
         .before_help(FORMS_HELP)
-        .after_help("Example: bac ask --port 47808 read 0:5 85")
+        .after_help(ASK_EXAMPLES)
         .arg(port(alloc, "The UDP port of the node that is asked, 1 to 65535"))?
         .arg(words)?;
     Ok(ask)

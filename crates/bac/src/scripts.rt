@@ -13,7 +13,7 @@ The first line of a script sets the network: `nodes N`, or `nodes N window W ove
   N  how many nodes there are, 1 to 16, each with a house of its own
   W  the greatest window in segments, 1 to 64; 32 where it is not given
   V  how many later datagrams of its transaction may overtake one; 128 where it is not given; V + 2W is at most 255
-Each later line is an event:
+Each later line is an event; nodes and datagrams count from 0:
   ask C S REQUEST  node C asks node S; the requests are those of `bac ask`
   deliver K        the datagram of that number comes to its node
   noise N HEX      octets that no node sent come to node N

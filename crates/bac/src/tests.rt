@@ -11,6 +11,7 @@ use std::io;
 use std::process::Abort;
 use std::test::Fail;
 
+mod benches;
 mod links;
 mod online;
 mod scripts;
@@ -416,9 +417,27 @@ const COMMANDS: &[(&[u8], &str, &str, &str, u8)] = &[
     (GOOD, "check starved", "", "no memory\n", 4),
     (GOOD, "serve --port 47899 --turns 2", "", "link fault\n", 3),
     (GOOD, "ask --port 47899 read 0:5 85", "", "link fault\n", 3),
+    // the least and the greatest numbers
+    (GOOD, "serve --port 1 --turns 1", "", "link fault\n", 3),
+    (
+        GOOD,
+        "serve --port 65535 --turns 1000000",
+        "",
+        "link fault\n",
+        3,
+    ),
+    (GOOD, "ask --port 1 read 0:5 85", "", "link fault\n", 3),
+    (GOOD, "ask --port 65535 read 0:5 85", "", "link fault\n", 3),
     (
         GOOD,
         "ask --port 47899 get 10:1 -- -1 5",
+        "",
+        "link fault\n",
+        3,
+    ),
+    (
+        GOOD,
+        "ask --port 47899 -- put 10:1 -1 AA",
         "",
         "link fault\n",
         3,
@@ -460,9 +479,12 @@ const WORDS: &[(&str, &str)] = &[
     ("check --help", "Usage: bac check <FILE>"),
     ("serve", "--port <P>"),
     ("serve --port 47899", "--turns <N>"),
-    ("serve --port 0 --turns 2", "0"),
+    ("serve --port 0 --turns 2", "0 is not in 1..=65535"),
     ("serve --port 65536 --turns 2", "65536"),
+    ("serve --port 47899 --turns 0", "0 is not in 1..=1000000"),
     ("serve --port 47899 --turns 1000001", "1000001"),
+    ("ask --port 0 read 0:5 85", "0 is not in 1..=65535"),
+    ("ask --port 65536 read 0:5 85", "65536"),
     ("ask --port 47899", "<WORDS>"),
     ("ask --port 47899 get 10:1 -1 5", "-1"),
     (
@@ -470,6 +492,11 @@ const WORDS: &[(&str, &str)] = &[
         "Example: bac serve --port 47808 --turns 600",
     ),
     ("ask --help", "Example: bac ask --port 47808 read 0:5 85"),
+    (
+        "ask --help",
+        "Example: bac ask --port 47808 -- put 10:1 -1 AA",
+    ),
+    ("ask --help", "COUNT how many are got"),
     ("pair --help", "Example: bac pair"),
 ];
 

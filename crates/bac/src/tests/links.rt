@@ -10,7 +10,10 @@ use std::io::{ErrorKind, Write};
 /// A datagram that waits: who sent it, and its octets.
 type Waiting = ([u8; 6], Vec<u8>);
 
-/// A link behind which a node with the house store answers each datagram at once, or nobody does.
+/// Where a house answers: at port 47,808, and at the second free port.
+const HOUSES: [[u8; 6]; 2] = [[127, 0, 0, 1, 0xBA, 0xC0], [127, 0, 0, 1, 0xC3, 0x52]];
+
+/// A link behind which a node with the house store answers each datagram at once where there is a house, or nobody does.
 #[derive(Drop)]
 struct HouseLink {
     alloc: Global,
@@ -26,7 +29,7 @@ fn answer(alloc: Global, house: [u8; 6], octets: &[u8]) -> Option<Waiting> {
 }
 
 /// Copies the octets to the front of a buffer, as far as they fit; how many that are.
-fn copy_front(octets: &[u8], buffer: &mut [u8]) -> usize
+pub(super) fn copy_front(octets: &[u8], buffer: &mut [u8]) -> usize
     ensures { result ≤ length buffer.new }
 {
     let len = octets.len().min(buffer.len());
@@ -51,7 +54,7 @@ impl Link for HouseLink {
     }
 
     fn send(&mut self, to: [u8; 6], octets: &[u8]) -> Result<(), LinkFault> {
-        if !self.is_silent {
+        if !self.is_silent && HOUSES.contains(&to) {
             self.waiting = answer(self.alloc, to, octets);
         }
         Ok(())
@@ -80,19 +83,15 @@ impl Clock for Steady {
     }
 }
 
-/// A machine of such links, and the free port that it gave last.
+/// The ports of a machine: the free one that it gave last.
 #[derive(Drop)]
-struct Houses {
-    alloc: Global,
-    is_silent: bool,
+pub(super) struct Ports {
     last_free: Cell<u16>,
 }
 
-impl Houses {
-    fn new(alloc: Global, is_silent: bool) -> Houses {
-        Houses {
-            alloc,
-            is_silent,
+impl Ports {
+    pub(super) fn new() -> Ports {
+        Ports {
             last_free: Cell::new(50_000),
         }
     }
@@ -104,6 +103,30 @@ impl Houses {
             self.last_free.get()
         } else {
             port
+        }
+    }
+
+    /// The address of that port, or where it is 0 of a free one.
+    pub(super) fn address(&self, port: u16) -> [u8; 6] {
+        let [high, low] = self.port(port).to_be_bytes();
+        [127, 0, 0, 1, high, low]
+    }
+}
+
+/// A machine of such links.
+#[derive(Drop)]
+struct Houses {
+    alloc: Global,
+    is_silent: bool,
+    ports: Ports,
+}
+
+impl Houses {
+    fn new(alloc: Global, is_silent: bool) -> Houses {
+        Houses {
+            alloc,
+            is_silent,
+            ports: Ports::new(),
         }
     }
 }
@@ -123,8 +146,7 @@ impl Machine for Houses {
             is_silent: self.is_silent,
             waiting: None,
         };
-        let [high, low] = self.port(port).to_be_bytes();
-        Some((link, [127, 0, 0, 1, high, low]))
+        Some((link, self.ports.address(port)))
     }
 
     fn timer(&self) -> Option<Steady> {
@@ -165,6 +187,8 @@ const ROWS: &[(bool, &str, &str, u8)] = &[
         0,
     ),
     (true, "ask --port 47808 read 0:5 85", "timed-out\n", 1),
+    // no house is at that port
+    (false, "ask --port 47809 read 0:5 85", "timed-out\n", 1),
     (
         false,
         "pair",

@@ -45,6 +45,7 @@ const WORDS: &[(&str, &str)] = &[
     ("simulate --help", "Usage: bac simulate <FILE>"),
     ("simulate --help", "Example: bac simulate script.txt"),
     ("simulate --help", "deliver K"),
+    ("simulate --help", "nodes and datagrams count from 0"),
 ];
 
 #[test]
