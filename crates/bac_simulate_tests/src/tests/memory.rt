@@ -45,7 +45,8 @@ fn is_told(printed: &Printed) -> bool {
     match printed.status {
         0 => out == LINES.as_bytes() && printed.err.is_empty(),
         1 => is_stopped(out) && printed.err.is_empty(),
-        4 => LINES.as_bytes().starts_with(out) && printed.err.as_slice() == b"no memory\n".as_slice(),
+        4 => LINES.as_bytes().starts_with(out)
+            && printed.err.as_slice() == b"no memory\n".as_slice(),
         _ => false,
     }
 }
