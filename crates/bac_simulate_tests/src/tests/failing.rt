@@ -91,7 +91,7 @@ fn tells_of_memory(alloc: Global) -> bool {
     ended.status == 4 && ended.err.as_slice() == b"no memory\n".as_slice() && ended.out.is_empty()
 }
 
-/// The output fails at each write, for want of room or of memory, and where it is flushed; what could be written before stays.
+/// The output fails at each write, where it has no room or memory is refused, and where it is flushed; what could be written before stays.
 #[test]
 fn tells_that_output_failed(rt: HostRuntime) {
     let writes = writes_of(rt.alloc(), ErrorKind::PermissionDenied, 3).unwrap_or(0);
