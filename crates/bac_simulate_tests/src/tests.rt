@@ -9,6 +9,7 @@ use std::test::Fail;
 
 mod bad_lines;
 mod failing;
+mod memory;
 mod scripts;
 
 /// What a script printed, what it complained of, and its exit status.

@@ -4,10 +4,21 @@ use super::*;
 /// What a script gives whose every line prints something.
 const SCRIPT: &str = "nodes 2\nask 0 1 read 0:5 85\ndeliver 0\ntick 0\ndeliver 9\n";
 
-/// A writer that takes so many writes and then fails; it may fail where it is flushed.
+/// What it prints.
+const LINES: &str = "\
+asked 0 id 0
+sent 0 0>1 810A001101040275000C0C000000051955
+performed 0
+sent 1 1>0 810A0017010030000C0C0000000519553E444290999A3F
+nothing
+line 5: fault 2
+";
+
+/// A writer that keeps so many writes and then fails; it may fail where it is flushed.
 #[derive(Drop)]
 struct Weak {
-    writes: u32,
+    taken: Vec<u8>,
+    writes: usize,
     can_flush: bool,
     fault: ErrorKind,
 }
@@ -18,6 +29,7 @@ impl Write for Weak {
             return Err(io::Error::from(self.fault));
         }
         self.writes -= 1;
+        self.taken.extend_from_slice(octets)?;
         Ok(octets.len())
     }
 
@@ -30,34 +42,56 @@ impl Write for Weak {
     }
 }
 
-/// How the script ends where the output takes so many writes, and what is complained of.
-fn ends(alloc: Global, writes: u32, can_flush: bool, fault: ErrorKind) -> (u8, Vec<u8>) {
+/// How the script ends where the output takes so many writes, with what it took and what is complained of.
+fn ends(alloc: Global, writes: usize, can_flush: bool, fault: ErrorKind) -> Printed {
     let mut input = SCRIPT.as_bytes();
     let mut err = Vec::new(alloc);
     let mut out = Weak {
+        taken: Vec::new(alloc),
         writes,
         can_flush,
         fault,
     };
     let status = simulate_over(alloc, &mut input, &mut out, &mut err).code();
-    (status, err)
+    Printed {
+        out: out.taken,
+        err,
+        status,
+    }
 }
 
-/// How many writes the script makes, where each number of writes below that ends it with that status; None beyond a thousand.
-fn writes_of(alloc: Global, fault: ErrorKind, status: u8) -> Option<u32> {
-    for writes in 0..1_000u32 {
-        let (ended, _) = ends(alloc, writes, true, fault);
-        if ended == 1 {
+/// Whether so many writes took a front of what the script prints; each takes an octet at least.
+fn is_front(out: &[u8], writes: usize) -> bool {
+    LINES.as_bytes().starts_with(out) && out.len() >= writes
+}
+
+/// How many writes the script makes, where each number of writes below takes a front and ends it with that status; None beyond a thousand.
+fn writes_of(alloc: Global, fault: ErrorKind, status: u8) -> Option<usize> {
+    for writes in 0..1_000usize {
+        let ended = ends(alloc, writes, true, fault);
+        if ended.status == 1 && ended.out.as_slice() == LINES.as_bytes() {
             return Some(writes);
         }
-        if ended != status {
+        if ended.status != status || !is_front(&ended.out, writes) {
             return None;
         }
     }
     None
 }
 
-/// The output fails at each write, where it has no room or memory is refused, and where it is flushed.
+/// Whether the script prints all of it where only flushing fails, and ends with status 3.
+fn tells_of_flush(alloc: Global) -> bool {
+    let ended = ends(alloc, 1_000, false, ErrorKind::PermissionDenied);
+    ended.status == 3 && ended.err.is_empty() && ended.out.as_slice() == LINES.as_bytes()
+}
+
+/// Whether an output without memory for the first write is complained of.
+fn tells_of_memory(alloc: Global) -> bool {
+    let ended = ends(alloc, 0, true, ErrorKind::OutOfMemory);
+    ended.status == 4 && ended.err.as_slice() == b"no memory\n".as_slice() && ended.out.is_empty()
+}
+
+/// The output fails at each write, where it has no room or memory is refused, and where it is flushed; what could be written before stays.
 #[test]
 fn tells_that_output_failed(rt: HostRuntime) {
     let writes = writes_of(rt.alloc(), ErrorKind::PermissionDenied, 3).unwrap_or(0);
@@ -66,12 +100,8 @@ fn tells_that_output_failed(rt: HostRuntime) {
         writes_of(rt.alloc(), ErrorKind::OutOfMemory, 4),
         Some(writes)
     );
-    let (status, err) = ends(rt.alloc(), 1_000, false, ErrorKind::PermissionDenied);
-    assert_eq!(rt; status, 3);
-    assert_eq!(rt; err.len(), 0);
-    let (status, err) = ends(rt.alloc(), 0, true, ErrorKind::OutOfMemory);
-    assert_eq!(rt; status, 4);
-    assert_eq!(rt; err.as_slice(), b"no memory\n".as_slice());
+    assert!(rt; tells_of_flush(rt.alloc()));
+    assert!(rt; tells_of_memory(rt.alloc()));
 }
 
 /// A file that gives a good first line and then fails.
