@@ -78,6 +78,9 @@ failed = 0
 if note_all() != 0:
     print("0 allocations refused: the test does not pass")
     failed += 1
+if not asked:
+    print("the test asked for no memory, or not where this script looks")
+    failed += 1
 for number in range(1, len(asked) + 1):
     who, status = run(number)
     if status != 0 or who is None:
