@@ -81,7 +81,7 @@ fn nodes_before(alloc: Global, number: u64) -> Result<(Node, Node), Fail> {
     Ok((client.node, server.node))
 }
 
-/// Whether both nodes are as before the turn of that number, and the file has been appended to from the second turn on.
+/// Whether both nodes are as before the turn of that number, and the file has been appended to after the second turn.
 fn are_before(alloc: Global, client: &Node, server: &Node, number: u64) -> Result<bool, Fail> {
     let (first, second) = nodes_before(alloc, number)?;
     let file = if number <= 2 { "4F4B" } else { "4F4BAABBCC" };
