@@ -20,23 +20,90 @@ fn each_lost_send_is_made_good(rt: HostRuntime) -> Result<(), Fail> {
     is_made_good(&rt, rt.alloc(), 5, 0)
 }
 
-/// Whether a run with that call to receive failing stops; then the file is as before or has been appended to.
-fn is_stopped(rt: &impl Abort, alloc: Global, number: u64) -> Result<bool, Fail> {
-    let story = pairs::run_pair(alloc, Failing::to_receive(number), 10_000)?;
-    if story.failures == 0 {
-        return Ok(false);
+/// The turns of an append's run, by the client and the server in turns: the read's begins after them.
+const TURNS_OF_APPEND: u64 = 4;
+
+/// The turn of that number, from 1 on: odd ones are the client's.
+fn take_turn_of<'a>(
+    alloc: Global,
+    client: &mut Station<'a>,
+    server: &mut Station<'a>,
+    number: u64,
+    now: u64,
+) -> bool {
+    if number % 2 == 1 {
+        client.turn(alloc, now).is_ok()
+    } else {
+        server.turn(alloc, now).is_ok()
     }
-    assert!(rt; story.first.as_str() == "fault 1" || story.second.as_str() == "fault 1");
-    assert!(rt; story.file.as_str() == "4F4B" || story.file.as_str() == "4F4BAABBCC");
+}
+
+/// The client asks where a turn of that number is the first of a run.
+fn begin_at(
+    alloc: Global,
+    client: &mut Station<'_>,
+    number: u64,
+    now: u64,
+) -> Result<Option<u64>, Fail> {
+    if number == 1 {
+        return Ok(client.ask(now, &append(alloc)?));
+    }
+    if number == TURNS_OF_APPEND + 1 {
+        return Ok(client.ask(now, &read(alloc)?));
+    }
+    Ok(None)
+}
+
+/// An append and then a read by hand, up to the turn of that number, which is not taken.
+fn take_turns_before<'a>(
+    alloc: Global,
+    client: &mut Station<'a>,
+    server: &mut Station<'a>,
+    moment: &'a Cell<u64>,
+    number: u64,
+) -> Result<bool, Fail> {
+    for turn in 1..number {
+        begin_at(alloc, client, turn, moment.get())?;
+        if !take_turn_of(alloc, client, server, turn, moment.get()) {
+            return Ok(false);
+        }
+    }
+    begin_at(alloc, client, number, moment.get())?;
     Ok(true)
+}
+
+/// Both nodes before the turn of that number, which nothing failed for.
+fn nodes_before(alloc: Global, number: u64) -> Result<(Node, Node), Fail> {
+    let medium = RefCell::new(Medium::new(alloc, Failing::NOTHING));
+    let moment = Cell::new(0);
+    let (mut client, mut server) = two_stations(alloc, &medium, &moment)?;
+    take_turns_before(alloc, &mut client, &mut server, &moment, number)?;
+    Ok((client.node, server.node))
+}
+
+/// Whether both nodes are as before the turn of that number, and the file has been appended to after the second turn.
+fn are_before(alloc: Global, client: &Node, server: &Node, number: u64) -> Result<bool, Fail> {
+    let (first, second) = nodes_before(alloc, number)?;
+    let file = if number <= 2 { "4F4B" } else { "4F4BAABBCC" };
+    Ok(client.same(&first) && server.same(&second) && file_of(alloc, server)?.as_str() == file)
+}
+
+/// Whether an append and a read stop at the call to receive of that number, which fails, and both nodes are then as before its turn.
+fn is_stopped(alloc: Global, number: u64) -> Result<bool, Fail> {
+    let medium = RefCell::new(Medium::new(alloc, Failing::to_receive(number)));
+    let moment = Cell::new(0);
+    let mut clock = MemoryClock::new(&moment);
+    let (mut client, mut server) = two_stations(alloc, &medium, &moment)?;
+    let is_stopped = pairs::stops(alloc, &mut client, &mut server, &mut clock)?;
+    Ok(is_stopped && are_before(alloc, &client.node, &server.node, number)?)
 }
 
 /// Each call to receive fails in turn, until a run has none that does: two rounds for the append and two for the read, each with a turn of both nodes.
 #[test]
 fn each_failed_receive_stops_the_run(rt: HostRuntime) -> Result<(), Fail> {
     for number in 1..9u64 {
-        assert!(&rt; is_stopped(&rt, rt.alloc(), number)?, "{number}");
+        assert!(&rt; is_stopped(rt.alloc(), number)?, "{number}");
     }
-    assert!(&rt; !is_stopped(&rt, rt.alloc(), 9)?);
+    assert!(&rt; !is_stopped(rt.alloc(), 9)?);
     Ok(())
 }

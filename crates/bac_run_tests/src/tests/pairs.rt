@@ -45,6 +45,21 @@ fn ask_other<'a>(
     )
 }
 
+/// Whether a link fails to receive in an append or, where that is answered, in a read.
+pub(super) fn stops<'a>(
+    alloc: Global,
+    client: &mut Station<'a>,
+    server: &mut Station<'a>,
+    clock: &mut MemoryClock<'_>,
+) -> Result<bool, Fail> {
+    let appended = ask_other(alloc, client, server, clock, &append(alloc)?, 10_000);
+    if appended.is_err() {
+        return Ok(told_end(alloc, appended)?.as_str() == "fault 1");
+    }
+    let was_read = ask_other(alloc, client, server, clock, &read(alloc)?, 10_000);
+    Ok(told_end(alloc, was_read)?.as_str() == "fault 1")
+}
+
 /// An append and then a read, each for at most so many turns.
 fn ask_both<'a>(
     alloc: Global,
