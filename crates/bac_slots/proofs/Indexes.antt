@@ -226,7 +226,7 @@ module _ (K T : Type 0) (cmp : K → K → Ordering) (total : IsTotalOrder cmp) 
   at_some key (s ∷ slots) zero at = (s, refl, at)
   at_some key (s ∷ slots) (suc n) at = at_some key slots n at.1
 
-  rank_alike : (k j : K) (slots : List Item) → cmp k j ≡ Equal → rank cmp k slots ≡ rank cmp j slots
+  pub rank_alike : (k j : K) (slots : List Item) → cmp k j ≡ Equal → rank cmp k slots ≡ rank cmp j slots
   rank_alike k j [] e = refl
   rank_alike k j (s ∷ slots) e =
       rank_more K T cmp total k s slots

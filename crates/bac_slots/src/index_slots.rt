@@ -68,6 +68,10 @@ impl<K: Ord + Copy + Drop, T: Drop> SlotTable<K, T> for IndexSlots<K, T> {
         }
     }
 
+    fn rank(&self, key: &K) -> usize {
+        rank_of(&self.slots, &self.places, key)
+    }
+
     fn at(&self, n: usize) -> Option<(K, u64, &T)> {
         if n >= self.places.len() {
             return None;
@@ -100,7 +104,7 @@ impl<K: Ord + Copy + Drop, T: Drop> SlotTable<K, T> for IndexSlots<K, T> {
         if len >= self.capacity {
             return Err((key, value));
         }
-        let n = gap(&self.slots, &self.places, &key);
+        let n = rank_of(&self.slots, &self.places, &key);
         self.places.insert(n, len);
         self.slots.push_back_reserved(Slot { key, begin, value });
         Ok(())
@@ -196,17 +200,16 @@ fn look_up<K: Ord, T>(slots: &VecDeque<Slot<K, T>>, places: &Places, key: &K) ->
     }
 }
 
-/// Where a key that is absent would stand in the order of the keys.
-fn gap<K: Ord, T>(slots: &VecDeque<Slot<K, T>>, places: &Places, key: &K) -> usize
+/// How many slots have a lesser key.
+fn rank_of<K: Ord, T>(slots: &VecDeque<Slot<K, T>>, places: &Places, key: &K) -> usize
     requires distinct { IsDistinct K.eq slots.now.items }
     requires index { IsIndex K.cmp places.now.0 slots.now.items }
-    requires absent { value_at K.eq key.now slots.now.items ≡ None }
     ensures rank { result ≡ rank K.cmp key.now slots.now.items }
     ensures within { result ≤ length slots.now.items }
 {
     let mut count = Count { comparisons: 0 };
     match search(slots, places, key, &mut count) {
-        Ok(_) => unreachable!(),
+        Ok(found) => found.rank,
         Err(n) => n,
     }
 }

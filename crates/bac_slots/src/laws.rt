@@ -2,7 +2,7 @@
 ghost use Rattle.std.specs.Prelude.{◌≡◌, ℕ, ◌+◌, ◌≤◌, Bool, true, false, List, [], ◌∷◌, ◌++◌, length, map, filter, count_by, Some, None, slice_get};
 ghost use Rattle.std.specs.declared.cmp.Ordering.TheVariants.{Less};
 ghost use Rattle.bac_slots.specs.declared.slot.Slot.{Slot};
-ghost use Rattle.bac_slots.specs.Slots.{value_at, with_value, without, nth_by_key, in_order, keep, EachSlot, Ascends, IsDistinct};
+ghost use Rattle.bac_slots.specs.Slots.{value_at, with_value, without, rank, nth_by_key, in_order, keep, EachSlot, Ascends, IsDistinct};
 
 /// The slots in order of their keys are as many, ascend strictly, and have the same values; the n-th slot by key is the n-th of them.
 pub fn slots_in_order<K: Ord, T>()
@@ -11,6 +11,22 @@ pub fn slots_in_order<K: Ord, T>()
         → slice_get (in_order K.cmp slots) (n + 1) ≡ Some t → K.cmp s.key t.key ≡ Less }
     ensures length { (slots : List (Slot K T)) → length (in_order K.cmp slots) ≡ length slots }
     ensures values { (slots : List (Slot K T)) (key : K) → IsDistinct K.eq slots → value_at K.eq key (in_order K.cmp slots) ≡ value_at K.eq key slots }
+{}
+
+/// The slot whose place in the order of keys is the rank of a key has that key where it is present, and no other slot has it. Where a
+/// key is present, the rank of the next is one more.
+pub fn ranks_of_keys<K: Ord, T>()
+    ensures present { (slots : List (Slot K T)) (key : K) (v : T) → IsDistinct K.eq slots → value_at K.eq key slots ≡ Some v
+        → (s : Slot K T) × (nth_by_key K.cmp (rank K.cmp key slots) slots ≡ Some s) × (K.eq s.key key ≡ true) × (s.value ≡ v) }
+    ensures here { (slots : List (Slot K T)) (key : K) (n : ℕ) (s : Slot K T) → IsDistinct K.eq slots → nth_by_key K.cmp n slots ≡ Some s
+        → K.eq s.key key ≡ true → value_at K.eq key slots ≡ Some s.value }
+    ensures other { (slots : List (Slot K T)) (key : K) (s : Slot K T) → IsDistinct K.eq slots
+        → nth_by_key K.cmp (rank K.cmp key slots) slots ≡ Some s → K.eq s.key key ≡ false → value_at K.eq key slots ≡ None }
+    ensures past { (slots : List (Slot K T)) (key : K) → IsDistinct K.eq slots → nth_by_key K.cmp (rank K.cmp key slots) slots ≡ None
+        → value_at K.eq key slots ≡ None }
+    ensures next { (slots : List (Slot K T)) (key after : K) (v : T) → IsDistinct K.eq slots → value_at K.eq key slots ≡ Some v
+        → K.cmp key after ≡ Less → ((k : K) → K.cmp key k ≡ Less → K.cmp k after ≡ Less → ⊥)
+        → rank K.cmp after slots ≡ rank K.cmp key slots + 1 }
 {}
 
 /// Setting a value keeps the keys in their places; what is set is found there, and nothing changes at other keys.

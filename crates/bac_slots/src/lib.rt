@@ -13,8 +13,8 @@ mod sweeping;
 pub use comparing::{Same, same_tables};
 pub use index_slots::IndexSlots;
 pub use laws::{
-    ascending_slots, putting_a_slot, removing_a_slot, setting_a_value, setting_again,
-    slots_in_order, sweeping_slots,
+    ascending_slots, putting_a_slot, ranks_of_keys, removing_a_slot, setting_a_value,
+    setting_again, slots_in_order, sweeping_slots,
 };
 pub use plain_slots::PlainSlots;
 pub use slot::Slot;

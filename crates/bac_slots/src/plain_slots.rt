@@ -56,6 +56,10 @@ impl<K: Ord + Copy + Drop, T: Drop> SlotTable<K, T> for PlainSlots<K, T> {
         Some(rank_of(&self.slots, key))
     }
 
+    fn rank(&self, key: &K) -> usize {
+        rank_of(&self.slots, key)
+    }
+
     fn at(&self, n: usize) -> Option<(K, u64, &T)> {
         for slot in &self.slots {
             if rank_of(&self.slots, &slot.key) == n {

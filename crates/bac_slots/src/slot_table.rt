@@ -49,6 +49,10 @@ pub trait SlotTable<K: Ord + Copy, T> {
         ensures place { MatchOption result (value_at K.eq key.now (slots self.now) ≡ None)
             (λ n. (value_at K.eq key.now (slots self.now) ≢ None) × (n ≡ rank K.cmp key.now (slots self.now))) };
 
+    /// How many slots have a lesser key, whether the key is present or not: where it is, its slot is the one of that place in the order of the keys.
+    fn rank(&self, key: &K) -> usize
+        ensures { result ≡ rank K.cmp key.now (slots self.now) };
+
     /// The n-th slot, from 0 on, in the order of the keys: its key, the moment at which its life began, and its value.
     fn at(&self, n: usize) -> Option<(K, u64, &T)>
         ensures { MatchOption result (nth_by_key K.cmp n (slots self.now) ≡ None)

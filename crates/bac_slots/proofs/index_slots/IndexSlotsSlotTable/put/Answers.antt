@@ -12,7 +12,7 @@ pub insert-requires-clause-within : goal.insert-requires-clause-within
 insert-requires-clause-within g c =
     let long = index_length _ _ g.K.Ord.cmp g.met.K.Ord.total g.K.PartialEq.eq g.met.K.Ord.matches_eq
     c.self.inside.slots.items c.self.inside.places.0 c.self.invariant.4 in
-    omega (arith, long, c.gap-n.ensures.within)
+    omega (arith, long, c.rank_of-n.ensures.within)
 
 pub insert-requires-clause-room : goal.insert-requires-clause-room
 insert-requires-clause-room g c =
@@ -34,7 +34,7 @@ invariant_of-self g c =
     let absent = rw (← c.self.view_is) at c.requires in
     let long : c.len-len.result ≡ length slots = omega (arith, c.len-len.ensures, c.self.inside.slots.ok.0) in
     let named : c.insert.new.self.0 ≡ insert places (rank g.K.Ord.cmp c.args.key slots) (length slots) =
-    c.insert.ensures.places ∙ ap (λ n. insert places n c.len-len.result) c.gap-n.ensures.rank
+    c.insert.ensures.places ∙ ap (λ n. insert places n c.len-len.result) c.rank_of-n.ensures.rank
     ∙ ap (λ n. insert places (rank g.K.Ord.cmp c.args.key slots) n) long in (
       omega (arith, c.push_back_reserved.ensures.capacity, c.self.invariant.0),
       omega (arith, c.insert.ensures.room, c.self.invariant.1),
