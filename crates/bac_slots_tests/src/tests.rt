@@ -20,6 +20,7 @@ use std::test::Fail;
 enum Call {
     Len,
     Find,
+    Rank,
     KeyAt,
     BeginAt,
     ValueAt,
@@ -47,6 +48,7 @@ fn call_of(number: u64) -> Call {
         9 => Call::Set,
         10 => Call::Remove,
         11 => Call::GetMut,
+        12 => Call::Rank,
         _ => Call::Put,
     }
 }
@@ -99,6 +101,7 @@ fn called<S: SlotTable<u32, u8>>(table: &mut S, call: Call, key: u32, value: u8)
     match call {
         Call::Len => Some(table.len() as u64),
         Call::Find => place(table, key),
+        Call::Rank => Some(table.rank(&key) as u64),
         Call::KeyAt => key_in(table.at(n)),
         Call::BeginAt => begin_in(table.at(n)),
         Call::ValueAt => value_in(table.at(n)),
@@ -126,6 +129,10 @@ const THREE: &[Row] = &[
     Row(Call::Find, 7, 0, Some(2)),
     Row(Call::Find, 3, 0, Some(0)),
     Row(Call::Find, 4, 0, None),
+    Row(Call::Rank, 3, 0, Some(0)),
+    Row(Call::Rank, 4, 0, Some(1)),
+    Row(Call::Rank, 7, 0, Some(2)),
+    Row(Call::Rank, 8, 0, Some(3)),
     Row(Call::KeyAt, 1, 0, Some(5)),
     Row(Call::BeginAt, 1, 0, Some(50)),
     Row(Call::ValueAt, 1, 0, Some(50)),
@@ -151,6 +158,7 @@ const THREE: &[Row] = &[
 const NONE: &[Row] = &[
     Row(Call::Put, 5, 50, Some(50)),
     Row(Call::Len, 0, 0, Some(0)),
+    Row(Call::Rank, 5, 0, Some(0)),
     Row(Call::Remove, 5, 0, None),
 ];
 
@@ -209,7 +217,7 @@ fn both_kinds_answer_alike(rt: HostRuntime) -> Result<(), Fail> {
     let mut was_full = false;
     for step in 0..10_000u32 {
         state = next(state);
-        let call = call_of((state >> 33) % 17);
+        let call = call_of((state >> 33) % 18);
         state = next(state);
         let key = ((state >> 33) % 48) as u32;
         let value = (state >> 56) as u8;
@@ -350,6 +358,7 @@ fn compared<'a>(
     let key = counted(number, comparisons);
     comparisons.set(0);
     let is_found = match call {
+        Call::Rank => table.rank(&key) == number as usize,
         Call::Get => table.get(&key).is_some(),
         Call::GetMut => table.get_mut(&key).is_some(),
         Call::Set => table.set(&key, 1).is_some(),
@@ -381,7 +390,7 @@ fn compares_few(alloc: Global, call: Call, most: u64) -> bool {
 // A call that finds its key compares no more keys than a search does, also one that takes the slot out.
 #[test]
 fn each_call_of_an_index_compares_few(rt: HostRuntime) {
-    for call in [Call::Get, Call::GetMut, Call::Set, Call::Remove] {
+    for call in [Call::Rank, Call::Get, Call::GetMut, Call::Set, Call::Remove] {
         assert!(rt; compares_few(rt.alloc(), call, 11));
     }
 }
