@@ -1,9 +1,10 @@
 -- Changes keep what a store's fields keep.
-use Rattle.std.proofs.Common.{◌≡◌, ℕ, ◌<◌, ◌≤◌, Bool, true, false, List, length, map, get_or, Option, Some, None}
+use Rattle.std.proofs.Common.{◌≡◌, ℕ, ◌+◌, ◌<◌, ◌≤◌, Bool, true, false, List, length, map, get_or, Option, Some, None}
 use Rattle.std.proofs.Common.{sym, subst, refl, arith, if◌then◌else◌}
 use Rattle.std.specs.List.{All, AllPairs}
 use Rattle.std.specs.Option.{option_map, IfSome}
-use Rattle.std.proofs.lemmas.List.{length-map, get_or-map}
+use Rattle.std.proofs.lemmas.List.{length-map, length-append, length-take, length-drop, get_or-map}
+use Rattle.std.proofs.lemmas.Bool.Decides.{nat_tests}
 use Rattle.std.proofs.lemmas.List.{with_items_is}
 use Rattle.std.specs.Global.{Vec}
 use Rattle.std.specs.Vec.{with_items}
@@ -13,6 +14,7 @@ use Rattle.bac_store.specs.Changes.{where_that, with_own_values, with_values, wi
 use Rattle.bac_store.specs.Kept.{object_number, IsShort, IsKept, IsInOrder, Fits}
 use Rattle.bac_store.specs.Limits.{VALUE_LIMIT, FILE_LIMIT}
 use Rattle.bac_store.specs.Plans.{Change, changed}
+use Rattle.bac_store.specs.Replies.{overwritten}
 use Rattle.bac_store.specs.Stores.{Store, Object, File, is_object, is_number}
 
 module _ {A : Type 0} (change : A → A) (test : A → Bool) where
@@ -56,19 +58,23 @@ values_kept n values short o k = record {
   file_fits = k.file_fits;
 }
 
-octets_fit : (octets : List ℕ) → length octets ≤ FILE_LIMIT → (f : Option File) → IfSome f (λ g. length g.octets ≤ FILE_LIMIT)
-    → IfSome (option_map (with_contents (λ old. octets)) f) (λ g. length g.octets ≤ FILE_LIMIT)
-octets_fit octets short None h = tt
-octets_fit octets short (Some f) h = short
+overwritten_fits : (at : ℕ) (new old : List ℕ) → at + length new ≤ FILE_LIMIT → length old ≤ FILE_LIMIT → length (overwritten at new old) ≤ FILE_LIMIT
+overwritten_fits at new old short fits =
+    rw (length-append, length-append, length-take, length-drop) (grind (arith, nat_tests))
 
-octets_kept : (octets : List ℕ) → length octets ≤ FILE_LIMIT → (o : Object) → IsKept o → IsKept (with_octets (λ old. octets) o)
-octets_kept octets short o k = record {
+octets_fit : (at : ℕ) (new : List ℕ) → at + length new ≤ FILE_LIMIT → (f : Option File) → IfSome f (λ g. length g.octets ≤ FILE_LIMIT)
+    → IfSome (option_map (with_contents (overwritten at new)) f) (λ g. length g.octets ≤ FILE_LIMIT)
+octets_fit at new short None h = tt
+octets_fit at new short (Some f) h = overwritten_fits at new f.octets short h
+
+octets_kept : (at : ℕ) (new : List ℕ) → at + length new ≤ FILE_LIMIT → (o : Object) → IsKept o → IsKept (with_octets (overwritten at new) o)
+octets_kept at new short o k = record {
   kind_fits = k.kind_fits;
   instance_fits = k.instance_fits;
   named = k.named;
   rise = k.rise;
   short = k.short;
-  file_fits = octets_fit octets short o.file k.file_fits;
+  file_fits = octets_fit at new short o.file k.file_fits;
 }
 
 pub changed_in_order : (c : Change) → Fits c → (s : Store) → IsInOrder s → IsInOrder (changed c s)
@@ -77,9 +83,9 @@ changed_in_order (Change.Values id n values) f s o = record {
   rise = rise-where_that (with_values n values) (is_object id) (λ x. object_number x.id) (λ x. refl) s o.rise;
   each = All-where_that (with_values n values) (is_object id) IsKept (values_kept n values f) s o.each;
 }
-changed_in_order (Change.Octets id octets) f s o = record {
-  rise = rise-where_that (with_octets (λ old. octets)) (is_object id) (λ x. object_number x.id) (λ x. refl) s o.rise;
-  each = All-where_that (with_octets (λ old. octets)) (is_object id) IsKept (octets_kept octets f) s o.each;
+changed_in_order (Change.Octets id at new) f s o = record {
+  rise = rise-where_that (with_octets (overwritten at new)) (is_object id) (λ x. object_number x.id) (λ x. refl) s o.rise;
+  each = All-where_that (with_octets (overwritten at new)) (is_object id) IsKept (octets_kept at new f) s o.each;
 }
 
 -- what a change of the objects in their vector leaves

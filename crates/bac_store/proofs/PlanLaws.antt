@@ -11,7 +11,7 @@ use Rattle.bac_service.specs.Values.Request.{WriteFile}
 use Rattle.bac_store.specs.Changes.{where_that, with_contents, with_octets, is_done, after}
 use Rattle.bac_store.specs.Kept.{object_number, IsInOrder}
 use Rattle.bac_store.specs.Plans.{Plan, changed, IsPlanFor, IsStreamPlan}
-use Rattle.bac_store.specs.Replies.{reply_to, file_of, written}
+use Rattle.bac_store.specs.Replies.{reply_to, file_of, overwritten, write_start, written}
 use Rattle.bac_store.specs.Stores.{Store, Object, File, is_object, is_same, object_in}
 
 pub same_numbers : (id a b : ObjectId) → is_same id a ≡ true → is_same id b ≡ true → object_number a < object_number b → ⊥
@@ -26,9 +26,9 @@ module _ (id : ObjectId) (change : Object → Object) where
       go true e rest = absurd (same_numbers id o.id b.id is e (All-head (λ c. object_number o.id < object_number c.id) b s apart))
       go false e rest = ap (λ t. b ∷ t) rest
 
-module _ (id : ObjectId) (write : List ℕ → List ℕ) (f : File) where
+module _ (id : ObjectId) (planned write : List ℕ → List ℕ) (f : File) (same : planned f.octets ≡ write f.octets) where
   same_octets : (s : Store) → AllPairs (λ a b. object_number a.id < object_number b.id) s → file_of (object_in s id) ≡ Some f
-      → where_that (is_object id) (with_octets (λ old. write f.octets)) s ≡ where_that (is_object id) (with_octets write) s
+      → where_that (is_object id) (with_octets planned) s ≡ where_that (is_object id) (with_octets write) s
   same_octets [] rise is = refl
   same_octets (o ∷ s) rise is = go (is_object id o) refl is (same_octets s tail)
     where
@@ -39,15 +39,16 @@ module _ (id : ObjectId) (write : List ℕ → List ℕ) (f : File) where
       tail i j d l within = rise (suc i) (suc j) d (omega arith) (omega arith)
 
       go : (t : Bool) → is_object id o ≡ t → file_of (if t then Some o else object_in s id) ≡ Some f
-          → (file_of (object_in s id) ≡ Some f → where_that (is_object id) (with_octets (λ old. write f.octets)) s ≡ where_that (is_object id)
+          → (file_of (object_in s id) ≡ Some f → where_that (is_object id) (with_octets planned) s ≡ where_that (is_object id)
           (with_octets write) s)
-          → (if t then with_octets (λ old. write f.octets) o else o) ∷ where_that (is_object id) (with_octets (λ old. write f.octets)) s
+          → (if t then with_octets planned o else o) ∷ where_that (is_object id) (with_octets planned) s
           ≡ (if t then with_octets write o else o) ∷ where_that (is_object id) (with_octets write) s
       go true e file rest =
-          ap (λ t. with_octets (λ old. write f.octets) o ∷ t)
-          (alone id (with_octets (λ old. write f.octets)) o s e apart ∙ sym (alone id (with_octets write) o s e apart))
+          ap (λ t. with_octets planned o ∷ t)
+          (alone id (with_octets planned) o s e apart ∙ sym (alone id (with_octets write) o s e apart))
           ∙ ap (λ x. x ∷ where_that (is_object id) (with_octets write) s)
-          (ap (λ g. record o { file = option_map (with_contents (λ old. write f.octets)) g }) file
+          (ap (λ g. record o { file = option_map (with_contents planned) g }) file
+          ∙ ap (λ octets. record o { file = Some (record f { octets = octets }) }) same
           ∙ sym (ap (λ g. record o { file = option_map (with_contents write) g }) file))
       go false e file rest = ap (λ t. o ∷ t) (rest file)
 
@@ -59,7 +60,7 @@ stream_plan s id start new f p o file plan = record { reply = reply; effect = go
     reply = rw file plan.reply
 
     go : (b : Bool) → is_done p.reply ≡ b → changed p.change s ≡ after s (WriteFile id (WriteStream start new))
-    go true e = rw (plan.change, e, ← reply, e) (same_octets id (written start new) f s o.rise file)
+    go true e = rw (plan.change, e, ← reply, e) (same_octets id (overwritten (write_start start f.octets) new) (written start new) f refl s o.rise file)
     go false e = rw (plan.change, e, ← reply, e) refl
 
 pub IfOk-map : {T E : Type 0} (r : Result T E) (P Q : T → Type 0) → ((x : T) → P x → Q x) → IfOk r P → IfOk r Q

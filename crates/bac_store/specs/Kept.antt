@@ -30,4 +30,4 @@ pub record IsInOrder (s : Store) : Type 0 where
 abbrev pub Fits : Change → Type 0
 Fits Change.Nothing = Unit {0}
 Fits (Change.Values id n values) = length values ≤ VALUE_LIMIT
-Fits (Change.Octets id octets) = length octets ≤ FILE_LIMIT
+Fits (Change.Octets id at new) = at + length new ≤ FILE_LIMIT

@@ -44,4 +44,4 @@ entry_view e =
 abbrev pub change_view : code.Change → Change
 change_view variant.Nothing = Change.Nothing
 change_view (variant.Values id n values) = Change.Values (object_identifier_view id) n values.octets.items
-change_view (variant.Octets id octets) = Change.Octets (object_identifier_view id) octets.items
+change_view (variant.Octets id splice) = Change.Octets (object_identifier_view id) splice.at splice.new.items

@@ -1,14 +1,17 @@
 //! Changes, made in place.
-ghost use Rattle.std.specs.Prelude.{◌≡◌, ◌<◌, ◌≤◌, map, length};
+ghost use Rattle.std.specs.Prelude.{◌≡◌, ◌+◌, ◌<◌, ◌≤◌, map, length};
 ghost use Rattle.std.specs.List.{AllPairs};
 ghost use Rattle.bac_value.specs.Views.{object_identifier_view};
 ghost use Rattle.bac_store.specs.Changes.{where_that, with_object, with_octets, with_own_values, with_values};
 ghost use Rattle.bac_store.specs.Kept.{IsInOrder};
+ghost use Rattle.bac_store.specs.Limits.{FILE_LIMIT};
+ghost use Rattle.bac_store.specs.Replies.{overwritten};
 ghost use Rattle.bac_store.specs.Stores.{is_number};
 ghost use Rattle.bac_store.specs.Views.{entry_view, slot_view};
 
 use crate::entry::{Entry, Slot};
 use crate::lookups::{place_of, slot_place};
+use crate::splice::Splice;
 use bac_value::{DataBuf, ObjectIdentifier};
 
 /// Sets the values of a listed property.
@@ -38,14 +41,16 @@ pub(crate) fn set_values(
     }
 }
 
-/// Sets the octets of a file.
-pub(crate) fn set_octets(objects: &mut [Entry], object: ObjectIdentifier, octets: Vec<u8>)
-    requires { IsInOrder (map entry_view objects.old) }
-    ensures { map entry_view objects.new ≡ with_object (object_identifier_view object) (with_octets (λ old. octets.items)) (map entry_view objects.old) }
+/// Writes new octets of a file.
+pub(crate) fn set_octets(objects: &mut [Entry], object: ObjectIdentifier, splice: Splice)
+    requires order { IsInOrder (map entry_view objects.old) }
+    requires short { splice.at + length splice.new.items ≤ FILE_LIMIT }
+    ensures { map entry_view objects.new
+        ≡ with_object (object_identifier_view object) (with_octets (overwritten splice.at splice.new.items)) (map entry_view objects.old) }
 {
     match place_of(objects, object) {
         Some(at) => match &mut objects[at].file {
-            Some(file) => file.octets = octets,
+            Some(file) => splice.write(&mut file.octets),
             None => {}
         },
         None => {}

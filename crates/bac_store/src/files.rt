@@ -7,7 +7,7 @@ ghost use Rattle.bac_service.specs.Views.{owned_reply_view, read_access_view};
 ghost use Rattle.bac_store.specs.Answers.{refused};
 ghost use Rattle.bac_store.specs.Changes.{is_done};
 ghost use Rattle.bac_store.specs.Limits.{FILE_LIMIT as FILE_MOST};
-ghost use Rattle.bac_store.specs.Replies.{file_read, is_no_write_start, octets_from, overwritten as overwritten_by, read_file_reply, write_start};
+ghost use Rattle.bac_store.specs.Replies.{file_read, is_no_write_start, octets_from, read_file_reply, write_start};
 ghost use Rattle.bac_store.specs.Replies.{write_stream_reply};
 ghost use Rattle.bac_store.specs.Views.{file_view};
 
@@ -95,29 +95,4 @@ pub(crate) fn write_place(file: &File, start: i64, new: &[u8]) -> Result<usize, 
         Some(at) if new.len() > FILE_LIMIT - at => Err(Refusal::NoSpaceToWrite),
         Some(at) => Ok(at),
     }
-}
-
-/// Octets with new ones from a place on, and what comes after those.
-pub(crate) fn overwritten(
-    alloc: Global,
-    octets: &[u8],
-    at: usize,
-    new: &[u8],
-) -> Result<Vec<u8>, NoMemory>
-    requires within { at ≤ length octets.now }
-    requires short { at + length new.now ≤ FILE_MOST }
-    ensures told { IfOk result (λ v. v.items ≡ overwritten_by at new.now octets.now) }
-    ensures held { OnErr result (1 ≤ length octets.now + length new.now) }
-{
-    if octets.is_empty() && new.is_empty() {
-        return Ok(Vec::new(alloc));
-    }
-    let end = at + new.len();
-    let mut whole = Vec::with_capacity(alloc, octets.len().max(end))?;
-    whole.extend_from_slice(&octets[..at])?;
-    whole.extend_from_slice(new)?;
-    if end < octets.len() {
-        whole.extend_from_slice(&octets[end..])?;
-    }
-    Ok(whole)
 }

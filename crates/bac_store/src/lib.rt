@@ -23,6 +23,7 @@ mod preparing;
 mod properties;
 mod refusal;
 mod spelled;
+mod splice;
 mod store;
 mod store_fault;
 

@@ -2,11 +2,12 @@
 ghost use Rattle.std.specs.Prelude.{◌≡◌};
 ghost use Rattle.bac_service.specs.Views.{reply_view};
 
+use crate::splice::Splice;
 use bac_service::{OwnedReply, Reply};
 use bac_value::{DataBuf, ObjectIdentifier};
 use std::marker::Model;
 
-/// What a request changes: nothing, the values of one listed property, or the whole octets of one file.
+/// What a request changes: nothing, the values of one listed property, or octets of one file from a place on.
 #[derive(Debug, Drop)]
 pub(crate) enum Change {
     Nothing,
@@ -17,7 +18,7 @@ pub(crate) enum Change {
     },
     Octets {
         object: ObjectIdentifier,
-        octets: Vec<u8>,
+        splice: Splice,
     },
 }
 

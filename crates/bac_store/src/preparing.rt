@@ -15,12 +15,13 @@ ghost use Rattle.bac_store.specs.Views.{entry_view, file_view};
 ghost use Rattle.bac_value.specs.Views.{object_identifier_view};
 
 use crate::entry::Entry;
-use crate::files::{overwritten, read_file, write_place};
+use crate::files::{read_file, write_place};
 use crate::lookups::entry_of;
 use crate::object::File;
 use crate::planned::{Change, Planned};
 use crate::properties::{read_property, write_refusal};
 use crate::refusal::Refusal;
+use crate::splice::Splice;
 use bac_service::{
     AnyComplex, AnyReply, Content, FileWritten, OwnedReply, PropertyReference, ReadFile, Records,
     WriteAccess, WriteFile, WriteProperty, WriteStream,
@@ -138,9 +139,9 @@ fn plan_write_stream(
     match write_place(file, write.start, new) {
         Err(refusal) => Ok(answered(refusal.reply())),
         Ok(at) => {
-            let octets = overwritten(alloc, &file.octets, at, new)?;
+            let splice = Splice::new(alloc, at, new)?;
             let reply = AnyReply::Complex(AnyComplex::FileWritten(FileWritten::Stream(at as i64)));
-            let change = Change::Octets { object: id, octets };
+            let change = Change::Octets { object: id, splice };
             Ok(Planned { reply, change })
         }
     }

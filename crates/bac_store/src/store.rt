@@ -122,7 +122,7 @@ impl Store {
                 property,
                 values,
             } => set_values(&mut self.objects, object, property, values),
-            Change::Octets { object, octets } => set_octets(&mut self.objects, object, octets),
+            Change::Octets { object, splice } => set_octets(&mut self.objects, object, splice),
         }
     }
 

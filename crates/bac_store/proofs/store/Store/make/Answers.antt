@@ -18,7 +18,7 @@ invariant_of-self c =
 
 pub invariant_of-self-in-Octets : goal.invariant_of-self-in-Octets
 invariant_of-self-in-Octets c =
-    let change = Change.Octets (object_identifier_view c.in-Octets.object) c.in-Octets.octets.items in
+    let change = Change.Octets (object_identifier_view c.in-Octets.object) c.in-Octets.splice.at c.in-Octets.splice.new.items in
     vector_in_order c.self.inside.objects c.set_octets.new.objects change
     (subst (λ x. Fits (change_view x)) c.in-Octets.is c.requires)
     c.self.invariant
