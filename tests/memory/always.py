@@ -2,8 +2,9 @@
 """Gives one function after the other a body that always answers that memory was refused, and sees that tests fail:
     python3 tests/memory/always.py [WORD..]
 takes the rows of always.tsv that have one of the words, or all: the crate, the file, the function, the error, and the crate whose tests are run, unproved, by
-`rt try`. A function that tests its arguments first is named by the one that it calls after these tests, which only answers for memory. It prints the tests that
-fail, and ends with a status other than 0 where none does."""
+`rt try`. Where a file has several functions of one name, a row has Type::name. A function that tests its arguments first is named by the one that it calls
+after these tests, which only answers for memory, or as `name before TEXT`: the refusal stands before the line that begins so. It prints the tests that fail,
+and ends with a status other than 0 where none does."""
 
 import re
 import shutil
@@ -15,15 +16,32 @@ from pathlib import Path
 TOP = Path(__file__).resolve().parents[2]
 
 
+def heads(lines, function):
+    """The lines with the head of that function, of the impl of its type where one is named."""
+    owner, _, name = function.rpartition('::')
+    found, kind = [], ''
+    for number, line in enumerate(lines):
+        impl = re.match(r'impl(?:<[^>]*>)? (?:\w+ for )?(\w+)', line)
+        kind = impl[1] if impl else '' if line == '}' else kind
+        if re.match(rf'\s*(pub )?(pub\(crate\) )?fn {name}\b', line) and owner in ('', kind):
+            found.append(number)
+    return found
+
+
 def refusing(text, function, error):
-    """The text of a file in which the body of that function begins with a refusal."""
+    """The text of a file in which that function refuses: where its body begins, or before the line that is named."""
     lines = text.split('\n')
-    heads = [number for number, line in enumerate(lines) if re.match(rf'\s*(pub )?(pub\(crate\) )?fn {function}\b', line)]
-    if len(heads) != 1:
-        raise SystemExit(f'{len(heads)} functions {function}')
-    indent = re.match(r'\s*', lines[heads[0]]).group()
-    body = next(number for number in range(heads[0], len(lines)) if lines[number] in (indent + '{', indent + '}') or lines[number].endswith(' {'))
-    lines.insert(body + 1, f'{indent}    let is_refused = true; if is_refused {{ return Err({error}); }}')
+    function, _, before = function.partition(' before ')
+    found = heads(lines, function)
+    if len(found) != 1:
+        raise SystemExit(f'{len(found)} functions {function}')
+    indent = re.match(r'\s*', lines[found[0]]).group()
+    end = lines.index(indent + '}', found[0])
+    body = next(number for number in range(found[0], end) if lines[number] == indent + '{' or lines[number].endswith(' {'))
+    places = [number for number in range(body + 1, end) if lines[number].lstrip().startswith(before)]
+    if not places:
+        raise SystemExit(f'{function} has no line that begins with {before}')
+    lines.insert(places[0], f'{indent}    let is_refused = true; if is_refused {{ return Err({error}); }}')
     return '\n'.join(lines)
 
 

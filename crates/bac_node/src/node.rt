@@ -1,13 +1,16 @@
 //! A node.
-ghost use Rattle.std.specs.Prelude.{◌≡◌, ◌≢◌, ◌↔◌, ◌<◌, ◌≤◌, [], true, false, map, IfErr, IfOk, IsErrOf, IsSome, IfSome, IsTrue, OnErr, MatchOption, vec_capacity};
+ghost use Rattle.std.specs.Prelude.{◌≡◌, ◌≢◌, ◌↔◌, ◌<◌, ◌≤◌, [], true, false, map, count_by, IfErr, IfOk, IsErrOf, IsSome, IfSome, IsTrue, OnErr, MatchOption, vec_capacity};
 ghost use Rattle.bac_apdu.specs.Views.{apdu_view, limits_view};
 ghost use Rattle.bac_npdu.specs.Views.{peer_view};
 ghost use Rattle.bac_service.specs.Values.{Request};
 ghost use Rattle.bac_service.specs.Views.{owned_request_view};
 ghost use Rattle.bac_store.specs.Replies.{reply_to};
 ghost use Rattle.bac_store.specs.ReplyLengths.{DATA_LIMIT, reply_length};
+ghost use Rattle.bac_ends.specs.Ends.{is_slot_held, is_slot_live};
+ghost use Rattle.bac_ends.specs.Tables.{IsOrderlyClient, IsOrderlyServer};
 ghost use Rattle.bac_ends.specs.Views.{settings_view};
 ghost use Rattle.bac_requester.specs.Views.{finish_view, finishes_of};
+ghost use Rattle.bac_world.specs.Keys.{HasKeysApart};
 ghost use Rattle.bac_world.specs.Node.{NodeOn, NodeTick, IsHeardBy, dropped_for};
 ghost use Rattle.bac_node.specs.Calls.{Hears, IsAsked, IsDue, IsNotHeard, Refuses, ticked};
 ghost use Rattle.bac_node.specs.Fresh.{fresh_node, has_slots, slots_fit, window_fits};
@@ -157,8 +160,38 @@ impl Node {
         &self.store
     }
 
-    /// What holds of each node: its window is 1 at least, and each reply of its store can be sent, in one APDU or in segments.
-    pub fn can_reply(&self)
+    /// How many client slots are held at a moment in milliseconds: their tickets are open, or no more than 135,000 ms have passed since the first sending
+    /// (own rule of this profile). No two slots have one key, and there are no more of them than the node was made with, whether they are held or not.
+    pub fn held(&self, now: u64) -> usize
+        ensures number { result ≡ count_by (is_slot_held now) self.now.clients.slots }
+        ensures within { result ≤ self.now.clients.capacity }
+        ensures orderly { IsOrderlyClient self.now.clients }
+    {
+        self.clients.held(now)
+    }
+
+    /// How many entries of the reply table are live at a moment in milliseconds: no more than 65,000 ms have passed since they began (own rule of
+    /// this profile). No two entries have one key, and there are no more of them than the node was made with, whether they are live or not.
+    pub fn live(&self, now: u64) -> usize
+        ensures number { result ≡ count_by (is_slot_live now) self.now.servers.slots }
+        ensures within { result ≤ self.now.servers.capacity }
+        ensures orderly { IsOrderlyServer self.now.servers }
+    {
+        self.servers.live(now)
+    }
+
+    /// A law of each node, for a caller that was handed one: in each of its tables the slots have different keys. It goes over both tables, and changes
+    /// nothing.
+    pub fn keys_are_apart(&self)
+        ensures { HasKeysApart self.now }
+    {
+        let _held = self.held(self.latest);
+        let _live = self.live(self.latest);
+    }
+
+    /// A law of each node, for a caller that was handed one: its window is 1 at least, and each reply of its store can be sent, in one APDU or in segments.
+    /// It does nothing.
+    pub fn replies_can_be_sent(&self)
         ensures window { 1 ≤ self.now.settings.window }
         ensures replies { (r : Request) → reply_length (reply_to self.now.store r) ≤ DATA_LIMIT }
     {

@@ -51,8 +51,7 @@ type Row = (u64, u8, &'static str, &'static str, bool);
 
 impl Server {
     fn new(alloc: Global, slots: usize, window: Window) -> Result<Server, NoMemory> {
-        let store = house(alloc)?;
-        Server::with_store(alloc, slots, window, store)
+        Server::with_store(alloc, slots, window, house(alloc)?)
     }
 
     fn with_store(
@@ -127,6 +126,12 @@ fn played(alloc: Global, slots: usize, window: Window, rows: &[Row]) -> Result<(
     server.plays(alloc, rows, 50)
 }
 
+/// One with that store, and 64 slots, does.
+fn played_on(alloc: Global, store: Store, rows: &[Row], head: usize) -> Result<(), Fail> {
+    let mut server = Server::with_store(alloc, 64, WINDOW, store)?;
+    server.plays(alloc, rows, head)
+}
+
 /// Whether the first octets of all APDUs, and whether a request is performed, are as a row says.
 fn is_as_said(
     alloc: Global,
@@ -135,19 +140,21 @@ fn is_as_said(
     row: &Row,
     head: usize,
 ) -> Result<bool, NoMemory> {
-    let told = heads(alloc, sends, head)?;
     let wanted = octets_of(alloc, row.3)?;
-    Ok(told == wanted && performed == row.4)
+    Ok(performed == row.4 && begin_with(sends, head, &wanted))
 }
 
-/// The first octets of each APDU, one after the other.
-fn heads(alloc: Global, sends: &[Datagram], head: usize) -> Result<Vec<u8>, NoMemory> {
-    let mut octets = Vec::new(alloc);
+/// Whether the first octets of each APDU, one after the other, are these.
+fn begin_with(sends: &[Datagram], head: usize, wanted: &[u8]) -> bool {
+    let mut rest = wanted;
     for datagram in sends {
         let apdu = datagram.octets().get(FRAME..).unwrap_or(&[]);
-        octets.extend_from_slice(apdu.get(..head).unwrap_or(apdu))?;
+        let Some(left) = rest.strip_prefix(apdu.get(..head).unwrap_or(apdu)) else {
+            return false;
+        };
+        rest = left;
     }
-    Ok(octets)
+    rest.is_empty()
 }
 
 fn digit(character: u8) -> Option<u8> {
@@ -160,7 +167,7 @@ fn digit(character: u8) -> Option<u8> {
 
 /// The octets of hexadecimal digits, which spaces may part.
 fn octets_of(alloc: Global, text: &str) -> Result<Vec<u8>, NoMemory> {
-    let mut octets = Vec::new(alloc);
+    let mut octets = Vec::with_capacity(alloc, text.len())?;
     let mut high = None;
     for character in text.as_bytes() {
         let Some(low) = digit(*character) else {

@@ -48,7 +48,7 @@ fn is_well_made(world: &World, node: usize)
     ensures { IsWellMadeAt world.now.world node }
 {
     if let Some(node) = world.nodes().get(node) {
-        node.can_reply();
+        node.replies_can_be_sent();
     }
 }
 

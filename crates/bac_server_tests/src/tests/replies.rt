@@ -3,13 +3,13 @@ use super::*;
 use bac_store::{Object, Property};
 use bac_value::{ObjectIdentifier, read_data};
 
-/// A store with analog-input 7 alone, whose description has that tag and so many octets, the character set 0 among them.
-fn described(alloc: Global, tag: &str, count: usize) -> Result<Store, Fail> {
+/// A store with analog-input 7 alone, whose description has that tag and so many octets, the character set 0 among them; they have to be data.
+fn described(alloc: Global, tag: &str, count: usize) -> Result<Store, NoMemory> {
     let mut octets = octets_of(alloc, tag)?;
     let text = vec![in alloc; 0u8; count]?;
     octets.extend_from_slice(&text)?;
     let Ok((data, _)) = read_data(&octets) else {
-        return Err(Fail::from("no data"));
+        return Err(NoMemory);
     };
     let mut properties = Vec::new(alloc);
     properties.push(Property {
@@ -27,144 +27,120 @@ fn described(alloc: Global, tag: &str, count: usize) -> Result<Store, Fail> {
         properties,
         file: None,
     })?;
-    match Store::new(alloc, objects) {
-        Ok(store) => Ok(store),
-        Err(_) => Err(Fail::from("no store")),
-    }
-}
-
-/// Whether these are the segments from one number to another, neither the first nor the last of a reply to invoke ID 0.
-fn are_segments(sends: &[Datagram], from: u8, to: u8) -> bool {
-    let mut number = from;
-    for datagram in sends {
-        if datagram.octets().get(FRAME..11) != Some([0x3C, 0, number, 0x20, 0x0C].as_slice()) {
-            return false;
-        }
-        number = number.saturating_add(1);
-    }
-    number == to
+    Store::new(alloc, objects).map_err(|_| NoMemory)
 }
 
 /// Reads the description of analog-input 7; the client takes any number of segments, and APDUs of 50 octets.
 const READ: &str = "0270000C 0C00000007 191C";
 
-const REFUSED: &[Row] = &[
+/// The first octets of segments 1 to 32 of the reply to it, where it goes in 90.
+const FROM_1: &str = "\
+    3C0001200C 3C0002200C 3C0003200C 3C0004200C 3C0005200C 3C0006200C 3C0007200C 3C0008200C 3C0009200C 3C000A200C 3C000B200C 3C000C200C 3C000D200C \
+    3C000E200C 3C000F200C 3C0010200C 3C0011200C 3C0012200C 3C0013200C 3C0014200C 3C0015200C 3C0016200C 3C0017200C 3C0018200C 3C0019200C 3C001A200C \
+    3C001B200C 3C001C200C 3C001D200C 3C001E200C 3C001F200C 3C0020200C";
+
+const FROM_33: &str = "\
+    3C0021200C 3C0022200C 3C0023200C 3C0024200C 3C0025200C 3C0026200C 3C0027200C 3C0028200C 3C0029200C 3C002A200C 3C002B200C 3C002C200C 3C002D200C \
+    3C002E200C 3C002F200C 3C0030200C 3C0031200C 3C0032200C 3C0033200C 3C0034200C 3C0035200C 3C0036200C 3C0037200C 3C0038200C 3C0039200C 3C003A200C \
+    3C003B200C 3C003C200C 3C003D200C 3C003E200C 3C003F200C 3C0040200C";
+
+const FROM_41: &str = "\
+    3C0029200C 3C002A200C 3C002B200C 3C002C200C 3C002D200C 3C002E200C 3C002F200C 3C0030200C 3C0031200C 3C0032200C 3C0033200C 3C0034200C 3C0035200C \
+    3C0036200C 3C0037200C 3C0038200C 3C0039200C 3C003A200C 3C003B200C 3C003C200C 3C003D200C 3C003E200C 3C003F200C 3C0040200C 3C0041200C 3C0042200C \
+    3C0043200C 3C0044200C 3C0045200C 3C0046200C 3C0047200C 3C0048200C";
+
+/// Those from 73 on, with the last.
+const FROM_73: &str = "\
+    3C0049200C 3C004A200C 3C004B200C 3C004C200C 3C004D200C 3C004E200C 3C004F200C 3C0050200C 3C0051200C 3C0052200C 3C0053200C 3C0054200C 3C0055200C \
+    3C0056200C 3C0057200C 3C0058200C 380059200C";
+
+/// A reply in 90 segments. One client takes no segments, and one too few; for the third one segment is lost: the window is sent from it on, three times
+/// more by ticks; then the transfer stops, until the request comes again.
+pub(super) const IN_90_SEGMENTS: &[Row] = &[
     (0, 2, "0005000C 0C00000007 191C", "710004", false),
     (0, 3, "0215000C 0C00000007 191C", "710001", false),
     (0, 4, READ, "3C0000200C", true),
-];
-
-/// The moment, what comes then, and the segments that are sent, from one number to another.
-type Later = (u64, &'static str, u8, u8);
-
-const LATER: &[Later] = &[
-    (0, "40000020", 1, 33),
-    (0, "40002020", 33, 65),
-    (0, "42002820", 41, 73),
-    (1_999, "", 0, 0),
-    (2_000, "", 41, 73),
-    (4_000, "", 41, 73),
-    (6_000, "", 41, 73),
-    (8_000, "", 0, 0),
-    (8_000, "40002820", 0, 0),
-    (10_000, "", 0, 0),
-    (10_000, READ, 41, 73),
-];
-
-const LAST: &[Row] = &[
+    (0, 4, "40000020", FROM_1, false),
+    (0, 4, "40002020", FROM_33, false),
+    // a SegmentACK with NAK 1
+    (0, 4, "42002820", FROM_41, false),
+    (1_999, 0, "", "", false),
+    (2_000, 0, "", FROM_41, false),
+    (4_000, 0, "", FROM_41, false),
+    (6_000, 0, "", FROM_41, false),
+    (8_000, 0, "", "", false),
+    (8_000, 4, "40002820", "", false),
+    (10_000, 0, "", "", false),
+    (10_000, 4, READ, FROM_41, false),
+    (10_000, 4, "40004820", FROM_73, false),
     (10_001, 4, "40005820", "380059200C", false),
     (10_001, 4, "40005920", "", false),
     (10_002, 4, READ, "", false),
 ];
 
-/// Whether these segments are sent then, and nothing is performed.
-fn sends_segments(alloc: Global, server: &mut Server, later: &Later) -> Result<bool, NoMemory> {
-    let (moment, heard, from, to) = *later;
-    let (sends, performed) = server.meets(alloc, &(moment, 4, heard, "", false))?;
-    Ok(are_segments(&sends, from, to) && !performed)
+/// Its store.
+pub(super) fn with_4000_octets(alloc: Global) -> Result<Store, NoMemory> {
+    described(alloc, "75FE0FA0", 4_000)
 }
 
-fn all_are_sent(alloc: Global, server: &mut Server) -> Result<(), Fail> {
-    for later in LATER {
-        if !sends_segments(alloc, server, later)? {
-            return Err(Fail::from(later.1));
-        }
-    }
-    Ok(())
-}
-
-/// How many are sent to a SegmentACK.
-fn sent_to(alloc: Global, server: &mut Server, ack: &'static str) -> Result<usize, NoMemory> {
-    let (sends, _) = server.meets(alloc, &(10_000, 4, ack, "", false))?;
-    Ok(sends.len())
-}
-
-fn goes_in_90(alloc: Global) -> Result<(), Fail> {
-    let mut server = Server::with_store(alloc, 64, WINDOW, described(alloc, "75FE0FA0", 4_000)?)?;
-    server.plays(alloc, REFUSED, 5)?;
-    all_are_sent(alloc, &mut server)?;
-    if sent_to(alloc, &mut server, "40004820")? != 17 {
-        return Err(Fail::from("40004820"));
-    }
-    server.plays(alloc, LAST, 5)
-}
-
-/// A description of 4,000 octets goes in 90 segments. One segment is lost: the window is sent from it on, three times more by ticks; then the transfer
-/// stops, until the request comes again.
 #[test]
 fn reply_in_90_segments(rt: HostRuntime) -> Result<(), Fail> {
-    goes_in_90(rt.alloc())
+    let store = with_4000_octets(rt.alloc())?;
+    played_on(rt.alloc(), store, IN_90_SEGMENTS, 5)
 }
 
-/// What a client reads of a description of that tag and length: its request, the first APDU's head, all its octets, and the segments that come after it.
-type Read = (
-    &'static str,
-    usize,
-    &'static str,
-    &'static str,
-    usize,
-    &'static str,
-);
+/// The reply with a description of 36 octets, zeros all of them.
+const ALL_36: &str =
+    "30000C 0C00000007 191C 3E 7524 000000000000000000000000000000000000000000000000000000000000000000000000 3F";
 
-/// The last 3 octets, and the last 45, of a description of zeros.
-const LAST_3: &str = "380001200C 00 00 3F";
+/// Both segments of one with 37.
+const FIRST_37: &str =
+    "3C0000200C 0C00000007 191C 3E 7525 0000000000000000000000000000000000000000000000000000000000000000000000";
 
-const LAST_45: &str =
+const LAST_37: &str = "380001200C 00 00 3F";
+
+/// Both segments of one with 79.
+const FIRST_79: &str =
+    "3C0000200C 0C00000007 191C 3E 754F 0000000000000000000000000000000000000000000000000000000000000000000000";
+
+const LAST_79: &str =
     "380001200C 0000000000000000000000000000000000000000000000000000000000000000000000000000000000000000 3F";
 
-fn is_read(alloc: Global, store: Store, read: &Read) -> Result<bool, NoMemory> {
-    let (_, _, heard, head, len, second) = *read;
-    let mut server = Server::with_store(alloc, 64, WINDOW, store)?;
-    let (sends, _) = server.meets(alloc, &(0, 2, heard, "", false))?;
-    let told = heads(alloc, &sends, 1_476)?;
-    let head = octets_of(alloc, head)?;
-    let begins = told.get(..head.len()) == Some(head.as_slice());
-    let (rest, _) = server.meets(alloc, &(0, 2, "40000020", "", false))?;
-    let goes_on = heads(alloc, &rest, 1_476)? == octets_of(alloc, second)?;
-    Ok(begins && told.len() == len && goes_on)
-}
+/// The same by a client that takes two segments.
+const READ_IN_2: &str = "0210000C 0C00000007 191C";
+
+/// The same by one that takes none.
+const READ_WHOLE: &str = "0000000C 0C00000007 191C";
+
+/// The tag and the length of a description, and what comes of a request to read it.
+type Read = (&'static str, usize, &'static [Row]);
 
 const READS: &[Read] = &[
-    ("7524", 36, "0000000C 0C00000007 191C", "30000C", 50, ""),
-    ("7525", 37, "0000000C 0C00000007 191C", "710004", 3, ""),
-    ("7525", 37, READ, "3C0000200C", 50, LAST_3),
+    ("7524", 36, &[(0, 2, READ_WHOLE, ALL_36, true)]),
+    ("7525", 37, &[(0, 2, READ_WHOLE, "710004", false)]),
+    (
+        "7525",
+        37,
+        &[
+            (0, 2, READ, FIRST_37, true),
+            (0, 2, "40000020", LAST_37, false),
+        ],
+    ),
     (
         "754F",
         79,
-        "0210000C 0C00000007 191C",
-        "3C0000200C",
-        50,
-        LAST_45,
+        &[
+            (0, 2, READ_IN_2, FIRST_79, true),
+            (0, 2, "40000020", LAST_79, false),
+        ],
     ),
-    ("7550", 80, "0210000C 0C00000007 191C", "710001", 3, ""),
+    ("7550", 80, &[(0, 2, READ_IN_2, "710001", false)]),
 ];
 
+/// All octets are compared.
 fn all_are_read(alloc: Global) -> Result<(), Fail> {
-    for read in READS {
-        let store = described(alloc, read.0, read.1)?;
-        if !is_read(alloc, store, read)? {
-            return Err(Fail::from(read.2));
-        }
+    for (tag, count, rows) in READS {
+        played_on(alloc, described(alloc, tag, *count)?, rows, 1_476)?;
     }
     Ok(())
 }

@@ -17,29 +17,80 @@ const LAST: &str = "41000220 3000070900";
 const DONE: &str = "3000070900";
 
 /// The answer is lost: segments that come again get it, the first one too.
+pub(super) const IN_THREE_SEGMENTS: &[Row] = &[
+    (0, 2, SEGMENT_0, "41000020", false),
+    (0, 2, SEGMENT_1, "", false),
+    (0, 2, SEGMENT_2, LAST, true),
+    (2_000, 2, SEGMENT_1, DONE, false),
+    (2_000, 2, SEGMENT_2, DONE, false),
+    (3_000, 2, SEGMENT_0, DONE, false),
+];
+
 #[test]
 fn request_in_three_segments(rt: HostRuntime) -> Result<(), Fail> {
+    played(rt.alloc(), 64, WINDOW, IN_THREE_SEGMENTS)
+}
+
+/// Segments out of order: each that is not the next one is told the last that was taken.
+pub(super) const OUT_OF_ORDER: &[Row] = &[
+    (0, 2, SEGMENT_0, "41000020", false),
+    (0, 2, SEGMENT_2, "43000020", false),
+    (0, 2, SEGMENT_2, "43000020", false),
+    (0, 2, SEGMENT_1, "", false),
+    (0, 2, SEGMENT_1, "43000120", false),
+    (0, 2, SEGMENT_2, LAST, true),
+];
+
+#[test]
+fn segments_out_of_order(rt: HostRuntime) -> Result<(), Fail> {
+    played(rt.alloc(), 64, WINDOW, OUT_OF_ORDER)
+}
+
+/// Appends AABBCC to file 1, in segment 0 alone, and without SEG.
+const IN_ONE: &str = "0A0500002007 C402800001 0E 31FF 63AABBCC 0F";
+
+const WHOLE: &str = "02050007 C402800001 0E 31FF 63AABBCC 0F";
+
+/// Segment 0 of a request of which no more follows: a SegmentACK, and then what the request without SEG gets. It waits for no segment.
+#[test]
+fn request_in_one_segment(rt: HostRuntime) -> Result<(), Fail> {
     const ROWS: &[Row] = &[
-        (0, 2, SEGMENT_0, "41000020", false),
-        (0, 2, SEGMENT_1, "", false),
-        (0, 2, SEGMENT_2, LAST, true),
-        (2_000, 2, SEGMENT_1, DONE, false),
-        (2_000, 2, SEGMENT_2, DONE, false),
-        (3_000, 2, SEGMENT_0, DONE, false),
+        // a read without service data, in a window of 127
+        (0, 2, "080501007F0C", "41010020 600105", false),
+        (0, 2, "080501007F0C", "600105", false),
+        (0, 2, "0005010C", "710100", false),
+        (0, 3, IN_ONE, "41000020 3000070902", true),
+        (7_999, 3, IN_ONE, "3000070902", false),
+        (8_000, 3, "", "", false),
+        (8_000, 3, IN_ONE, "3000070902", false),
+        (8_000, 3, "0A0500012007 0F", "3000070902", false),
+        (8_000, 3, WHOLE, "710000", false),
+        (65_000, 3, IN_ONE, "3000070902", false),
+        (65_001, 3, IN_ONE, "41000020 3000070905", true),
+        // an entry that began without SEG
+        (65_001, 4, WHOLE, "3000070908", true),
+        (65_001, 4, IN_ONE, "710000", false),
+        // the last segment, and no first one
+        (65_001, 5, "0A0500012007 0F", "", false),
     ];
     played(rt.alloc(), 64, WINDOW, ROWS)
 }
 
-/// Segments out of order: each that is not the next one is told the last that was taken.
+/// A window of 2 segments: each whole one is acknowledged, counted from the last SegmentACK on, which may have said that a segment was not the next.
 #[test]
-fn segments_out_of_order(rt: HostRuntime) -> Result<(), Fail> {
+fn whole_windows(rt: HostRuntime) -> Result<(), Fail> {
     const ROWS: &[Row] = &[
-        (0, 2, SEGMENT_0, "41000020", false),
-        (0, 2, SEGMENT_2, "43000020", false),
-        (0, 2, SEGMENT_2, "43000020", false),
-        (0, 2, SEGMENT_1, "", false),
-        (0, 2, SEGMENT_1, "43000120", false),
-        (0, 2, SEGMENT_2, LAST, true),
+        (0, 2, "0E0500000207 C402800001", "41000002", false),
+        (0, 2, "0E0500010207 0E", "", false),
+        (0, 2, "0E0500020207 31FF", "41000202", false),
+        (0, 2, "0E0500030207 63AABBCC", "", false),
+        (0, 2, "0A0500040207 0F", "41000402 3000070902", true),
+        (0, 3, "0E0500000207 C402800001", "41000002", false),
+        (0, 3, "0E0500010207 0E", "", false),
+        (0, 3, "0E0500010207 0E", "43000102", false),
+        (0, 3, "0E0500020207 31FF", "", false),
+        (0, 3, "0E0500030207 63AABBCC", "41000302", false),
+        (0, 3, "0A0500040207 0F", "41000402 3000070905", true),
     ];
     played(rt.alloc(), 64, WINDOW, ROWS)
 }
@@ -77,8 +128,14 @@ fn segment_of(service: &[u8], number: usize, piece: usize) -> Apdu<'_> {
     }
 }
 
-/// Sends a write of so many octets at position 0 of file 1 in segments of 1,470 octets; what the last one is answered, and whether it is performed.
-fn writes(alloc: Global, tag: &str, count: usize) -> Result<(Vec<u8>, bool), NoMemory> {
+/// Sends a write of so many octets at position 0 of file 1 in segments of 1,470 octets; whether the last one is answered so, and performed or not.
+fn is_written(
+    alloc: Global,
+    tag: &str,
+    count: usize,
+    answer: &'static str,
+    performs: bool,
+) -> Result<bool, NoMemory> {
     let mut service = octets_of(alloc, tag)?;
     let octets = vec![in alloc; 7u8; count]?;
     service.extend_from_slice(&octets)?;
@@ -90,49 +147,18 @@ fn writes(alloc: Global, tag: &str, count: usize) -> Result<(Vec<u8>, bool), NoM
         last = server.hears(alloc, 0, 2, &segment_of(rest, number, 1_470))?;
         rest = rest.get(1_470..).unwrap_or(&[]);
     }
-    Ok((heads(alloc, &last.0, 50)?, last.1))
+    let (sends, performed) = last;
+    is_as_said(alloc, &sends, performed, &(0, 2, "", answer, performs), 50)
 }
 
-/// Whether such a write is answered so, and performed or not.
-fn is_written(
-    alloc: Global,
-    tag: &str,
-    count: usize,
-    answer: &str,
-    performs: bool,
-) -> Result<bool, NoMemory> {
-    let (told, performed) = writes(alloc, tag, count)?;
-    Ok(told == octets_of(alloc, answer)? && performed == performs)
-}
-
-/// 65,535 octets of service data are performed: the file would be too long.
+/// 65,535 octets of service data are performed: the file would be too long. One more ends the reassembly.
 #[test]
 fn longest_request(rt: HostRuntime) -> Result<(), Fail> {
-    const ANSWER: &str = "41002C20 5000079103 9114";
-    assert!(rt;
-        is_written(
-            rt.alloc(),
-            "C402800001 0E 3100 65FEFFF2",
-            65_522,
-            ANSWER,
-            true
-        )?
-    );
-    Ok(())
-}
-
-/// One more ends the reassembly.
-#[test]
-fn request_that_is_too_long(rt: HostRuntime) -> Result<(), Fail> {
-    assert!(rt;
-        is_written(
-            rt.alloc(),
-            "C402800001 0E 3100 65FEFFF3",
-            65_523,
-            "710001",
-            false
-        )?
-    );
+    const FULL: &str = "41002C20 5000079103 9114";
+    const TAG: &str = "C402800001 0E 3100 65FEFFF2";
+    const LONGER: &str = "C402800001 0E 3100 65FEFFF3";
+    assert!(rt; is_written(rt.alloc(), TAG, 65_522, FULL, true)?);
+    assert!(rt; is_written(rt.alloc(), LONGER, 65_523, "710001", false)?);
     Ok(())
 }
 
@@ -154,7 +180,7 @@ fn takes_most(alloc: Global) -> Result<bool, NoMemory> {
         return Ok(false);
     }
     let (sends, performed) = server.hears(alloc, 0, 2, &segment_of(&[], 65_535, 0))?;
-    Ok(heads(alloc, &sends, 50)? == octets_of(alloc, "710001")? && !performed)
+    is_as_said(alloc, &sends, performed, &(0, 2, "", "710001", false), 50)
 }
 
 #[test]

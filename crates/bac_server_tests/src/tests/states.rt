@@ -105,6 +105,53 @@ fn request_in_segments(rt: HostRuntime) -> Result<(), Fail> {
     played(rt.alloc(), 1, SMALL_WINDOW, ROWS)
 }
 
+/// A request without SEG is ignored while segments of one are awaited, however long ago the last one came; it is none of them.
+#[test]
+fn request_without_seg_in_a_reassembly(rt: HostRuntime) -> Result<(), Fail> {
+    const ROWS: &[Row] = &[
+        (0, 2, SEGMENT_0, "41010004", false),
+        (7_999, 2, APPEND, "", false),
+        (7_999, 2, READ, "", false),
+        (8_000, 2, APPEND, "", false),
+        (8_000, 2, READ, "", false),
+        (8_000, 2, SEGMENT_1, "710100", false),
+        (8_000, 2, APPEND, "710100", false),
+        (65_001, 2, SEGMENT_0, "41010004", false),
+        (73_000, 2, APPEND, "", false),
+        (73_001, 2, APPEND, "", false),
+        (73_001, 2, "", "", false),
+        (73_001, 2, APPEND, "710100", false),
+        (130_002, 2, SEGMENT_0, "41010004", false),
+        (138_001, 2, APPEND, "", false),
+        // an Abort and a SegmentACK of a server
+        (138_001, 2, "710100", "", false),
+        (138_001, 2, "41010004", "", false),
+        (138_001, 2, SEGMENT_1, "", false),
+        (138_001, 2, SEGMENT_2, "41010204 30010709 02", true),
+    ];
+    played(rt.alloc(), 1, SMALL_WINDOW, ROWS)
+}
+
+/// The life of an entry ends, whose segments came in time.
+#[test]
+fn reassembly_at_the_end_of_its_life(rt: HostRuntime) -> Result<(), Fail> {
+    const ROWS: &[Row] = &[
+        (0, 2, SEGMENT_0, "41010004", false),
+        (7_999, 2, SEGMENT_0, "43010004", false),
+        (15_998, 2, SEGMENT_0, "43010004", false),
+        (23_997, 2, SEGMENT_0, "43010004", false),
+        (31_996, 2, SEGMENT_0, "43010004", false),
+        (39_995, 2, SEGMENT_0, "43010004", false),
+        (47_994, 2, SEGMENT_0, "43010004", false),
+        (55_993, 2, SEGMENT_0, "43010004", false),
+        (63_992, 2, SEGMENT_0, "43010004", false),
+        (65_000, 2, SEGMENT_1, "", false),
+        (65_001, 2, SEGMENT_2, "", false),
+        (65_001, 2, APPEND, "30010709 02", true),
+    ];
+    played(rt.alloc(), 1, SMALL_WINDOW, ROWS)
+}
+
 /// A reassembly ends 8,000 ms after the last segment, by a segment or by a tick; it is not begun again.
 #[test]
 fn reassembly_that_ends(rt: HostRuntime) -> Result<(), Fail> {
@@ -127,10 +174,12 @@ fn reassembly_that_ends(rt: HostRuntime) -> Result<(), Fail> {
     played(rt.alloc(), 1, SMALL_WINDOW, ROWS)
 }
 
+/// Segments 1 to 4 of the reply to it.
+const WINDOW_1: &str = "3C01010406 3C01020406 3C01030406 3C01040406";
+
 /// The window is sent again three times, the transfer stops, and a copy of the request sets it going where it stood.
 #[test]
 fn reply_in_segments(rt: HostRuntime) -> Result<(), Fail> {
-    const WINDOW_1: &str = "3C01010406 3C01020406 3C01030406 3C01040406";
     const ROWS: &[Row] = &[
         (0, 2, READ_FILE, "3C01000406", true),
         (0, 2, READ_FILE, "", false),
@@ -158,6 +207,66 @@ fn reply_in_segments(rt: HostRuntime) -> Result<(), Fail> {
         (65_001, 2, READ_FILE, "3C01000406", true),
         (65_002, 2, "700100", "", false),
         (65_003, 2, "40010004", "", false),
+    ];
+    played_with_file(rt.alloc(), ROWS, 5)
+}
+
+/// The same read in two segments, and in one.
+const READ_FILE_0: &str = "0E0001000406 C402800001 0E";
+
+const READ_FILE_1: &str = "0A0001010406 3100 22012C 0F";
+
+const READ_FILE_IN_ONE: &str = "0A0001000406 C402800001 0E 3100 22012C 0F";
+
+/// Any segment of the request sets a stopped transfer going again where it stood, and does nothing to one that runs or is finished; the same request
+/// without SEG is another one.
+#[test]
+fn reply_in_segments_to_a_request_in_segments(rt: HostRuntime) -> Result<(), Fail> {
+    const ROWS: &[Row] = &[
+        (0, 2, READ_FILE_0, "41010004", false),
+        (7_999, 2, READ_FILE_1, "41010104 3C01000406", true),
+        (8_000, 2, READ_FILE_0, "", false),
+        (8_000, 2, READ_FILE_1, "", false),
+        (8_000, 2, READ_FILE, "710100", false),
+        (9_998, 2, "", "", false),
+        (9_999, 2, "", "3C01000406", false),
+        (11_999, 2, "", "3C01000406", false),
+        (13_999, 2, "", "3C01000406", false),
+        (15_999, 2, "", "", false),
+        (15_999, 2, READ_FILE, "710100", false),
+        (15_999, 2, "40010004", "", false),
+        (16_000, 2, READ_FILE_0, "3C01000406", false),
+        (16_001, 2, "40010004", WINDOW_1, false),
+        (18_001, 2, "", WINDOW_1, false),
+        (20_001, 2, "", WINDOW_1, false),
+        (22_001, 2, "", WINDOW_1, false),
+        (24_001, 2, "", "", false),
+        (24_001, 2, READ_FILE_1, WINDOW_1, false),
+        (24_002, 2, "40010404", "3C01050406 3801060406", false),
+        (24_003, 2, "40010604", "", false),
+        (24_003, 2, READ_FILE_0, "", false),
+        (24_003, 2, READ_FILE_1, "", false),
+        (24_003, 2, READ_FILE, "710100", false),
+        (65_000, 2, READ_FILE, "710100", false),
+        (65_001, 2, READ_FILE_1, "", false),
+        (65_001, 2, READ_FILE_IN_ONE, "41010004 3C01000406", true),
+        (65_001, 2, READ_FILE_IN_ONE, "", false),
+        (67_001, 2, "", "3C01000406", false),
+    ];
+    played_with_file(rt.alloc(), ROWS, 5)
+}
+
+/// The life of an entry ends while its transfer runs: it hears nothing and sends nothing.
+#[test]
+fn reply_at_the_end_of_its_life(rt: HostRuntime) -> Result<(), Fail> {
+    const ROWS: &[Row] = &[
+        (0, 2, READ_FILE, "3C01000406", true),
+        (0, 2, "40010004", WINDOW_1, false),
+        (63_000, 2, "", WINDOW_1, false),
+        (65_000, 2, "", WINDOW_1, false),
+        (65_001, 2, "40010404", "", false),
+        (67_000, 2, "", "", false),
+        (67_000, 2, READ_FILE, "3C01000406", true),
     ];
     played_with_file(rt.alloc(), ROWS, 5)
 }

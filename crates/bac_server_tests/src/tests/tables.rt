@@ -41,6 +41,7 @@ fn table_of_one_slot(rt: HostRuntime) -> Result<(), Fail> {
         (0, 3, READ, "710000", false),
         // segment 0 of a request, and another one
         (0, 3, "0E0500002007 C402800001", "710000", false),
+        (0, 3, "0A0500002007 C402800001", "710000", false),
         (0, 3, "0E0500012007 C402800001", "", false),
         (0, 2, READ, ANSWER, false),
         (65_000, 3, READ_1, "710100", false),
@@ -132,7 +133,8 @@ fn changes(alloc: Global, server: &mut Server, rows: &[Row]) -> Result<bool, NoM
 /// Servers before and after a request that is performed differ, and those to which the same came don't.
 fn differ_where_it_came(alloc: Global) -> Result<bool, NoMemory> {
     let mut server = Server::new(alloc, 64, WINDOW)?;
-    Ok(changes(alloc, &mut server, ROWS)? && is_same(&server, &after(alloc, ROWS)?))
+    let again = after(alloc, &house(alloc)?, ROWS)?;
+    Ok(changes(alloc, &mut server, ROWS)? && is_same(&server, &again))
 }
 
 fn fresh_are_same(alloc: Global) -> Result<bool, NoMemory> {
