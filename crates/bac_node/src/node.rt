@@ -1,5 +1,6 @@
 //! A node.
-ghost use Rattle.std.specs.Prelude.{◌≡◌, ◌≢◌, ◌↔◌, ◌<◌, ◌≤◌, [], true, false, map, count_by, IfErr, IfOk, IsErrOf, IsSome, IfSome, IsTrue, OnErr, MatchOption, vec_capacity};
+ghost use Rattle.std.specs.Prelude.{◌≡◌, ◌≢◌, ◌↔◌, ◌<◌, ◌≤◌, [], true, false, map, count_by, vec_capacity};
+ghost use Rattle.std.specs.Prelude.{IfErr, IfOk, IsErrOf, IsSome, IfSome, IsTrue, OnErr, MatchOption};
 ghost use Rattle.bac_apdu.specs.Views.{apdu_view, limits_view};
 ghost use Rattle.bac_npdu.specs.Views.{peer_view};
 ghost use Rattle.bac_service.specs.Values.{Request};
