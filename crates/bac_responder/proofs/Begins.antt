@@ -1,6 +1,6 @@
 -- Slots stay in order of their begins, whatever comes or is due; so those that are not live stand first.
 use Rattle.std.proofs.Common.{◌≡◌, ℕ, ◌+◌, ◌-◌, ◌<◌, ◌≤◌, Bool, true, false, nat_le, if◌then◌else◌, List, [], ◌∷◌, ◌++◌, map, filter}
-use Rattle.std.proofs.Common.{Option, Some, None, refl, ap, sym, ◌∙◌, arith}
+use Rattle.std.proofs.Common.{Option, Some, None, refl, ap, sym, subst, ◌∙◌, arith}
 use Rattle.std.proofs.lemmas.Bool.Decides.{nat_tests}
 use Rattle.bac_slots.specs.Slots.{Ascends, EachSlot, YoungPass, value_at, with_value}
 use Rattle.bac_slots.proofs.Ages.{ascends_kept, ascends_put, ascends_set, each_kept, each_more, each_put, each_set}
@@ -15,15 +15,8 @@ use Rattle.bac_ends.specs.declared.peer_key.PeerKey.{PeerKey}
 use Rattle.bac_responder.specs.Begins.{AreInOrder, AreInOrderIf, HasBegun, later_of}
 use Rattle.bac_responder.specs.Tables.{TableSlot, given, is_live_in, ticked}
 
-pub later : (l m : ℕ) (slots : List TableSlot) → l ≤ m → AreInOrder l slots → AreInOrder m slots
-later l m slots le h =
-    record {
-      ascends = h.ascends;
-      begun = each_more (HasBegun l) (HasBegun m) slots (λ s b. (b.0, (let before = b.1 in omega (arith, le, before)))) h.begun;
-    }
-
 -- Another entry at a key, with the same beginning.
-pub set_in_order : (l : ℕ) (key : PeerKey) (x y : Entry) (slots : List TableSlot) → value_at code_same_key key slots ≡ Some x → y.begin ≡ x.begin
+set_in_order : (l : ℕ) (key : PeerKey) (x y : Entry) (slots : List TableSlot) → value_at code_same_key key slots ≡ Some x → y.begin ≡ x.begin
     → AreInOrder l slots → AreInOrder l (with_value code_same_key key y slots)
 set_in_order l key x y slots at same h =
     record {
@@ -34,8 +27,14 @@ set_in_order l key x y slots at same h =
           (b.0 ∙ ap (λ (e : Entry). e.begin) one ∙ sym same, b.1));
     }
 
+pub still_in_order : (o : Option ℕ) (key : PeerKey) (x y : Entry) (slots new : List TableSlot) → value_at code_same_key key slots ≡ Some x
+    → y.begin ≡ x.begin → new ≡ with_value code_same_key key y slots → AreInOrderIf o slots → AreInOrderIf o new
+still_in_order None key x y slots new at same is h = tt
+still_in_order (Some l) key x y slots new at same is h =
+    subst (λ (s : List TableSlot). AreInOrder l s) (sym is) (set_in_order l key x y slots at same h)
+
 -- The slots that are not live go, and a new one comes.
-pub entered_in_order : (now l : ℕ) (key : PeerKey) (x : Entry) (slots : List TableSlot) → l ≤ now → x.begin ≡ now → AreInOrder l slots
+entered_in_order : (now l : ℕ) (key : PeerKey) (x : Entry) (slots : List TableSlot) → l ≤ now → x.begin ≡ now → AreInOrder l slots
     → AreInOrder now (filter (is_live_in now) slots ++ record { key = key; begin = x.begin; value = x } ∷ [])
 entered_in_order now l key x slots le is h =
     let s : TableSlot = record { key = key; begin = x.begin; value = x } in
@@ -79,14 +78,14 @@ module _ (c : Settings) (now : ℕ) where
         begun = each_ticked (HasBegun l) slots (λ s b. (b.0 ∙ sym (ticked_begun (context_of c now (peer_key_view s.key)) s.value), b.1)) h.begun;
       }
 
--- A moment comes.
-pub known_later : (o : Option ℕ) (now : ℕ) (old new : List TableSlot) → ((l : ℕ) → l ≤ now → AreInOrder l old → AreInOrder now new)
-    → AreInOrderIf o old → AreInOrderIf (later_of o now) new
-known_later None now old new step h = tt
-known_later (Some l) now old new step h = go (nat_le l now) refl
+-- An entry begins at a moment.
+pub known_later : (o : Option ℕ) (now : ℕ) (key : PeerKey) (x : Entry) (old new : List TableSlot) → x.begin ≡ now
+    → new ≡ filter (is_live_in now) old ++ record { key = key; begin = x.begin; value = x } ∷ [] → AreInOrderIf o old → AreInOrderIf (later_of o now) new
+known_later None now key x old new is put h = tt
+known_later (Some l) now key x old new is put h = go (nat_le l now) refl
   where
     go : (b : Bool) → nat_le l now ≡ b → AreInOrderIf (if b then Some now else None) new
-    go true le = step l (grind (arith, nat_tests)) h
+    go true le = subst (λ (s : List TableSlot). AreInOrder now s) (sym put) (entered_in_order now l key x old (grind (arith, nat_tests)) is h)
     go false le = tt
 
 -- An entry that began less than its life ago is live.

@@ -32,6 +32,10 @@ pub set_back_at : (key : PeerKey) (d x : Entry) (old new : List TableSlot) → v
 set_back_at key d x old new at same set =
     set ∙ ap (λ (y : Entry). with_value code_same_key key y old) same ∙ set_back PeerKey Entry code_same_key key_equivalence key d old at
 
+pub set_same_at : (key : PeerKey) (d : Entry) (old new : List TableSlot) → Some d ≡ value_at code_same_key key old
+    → new ≡ with_value code_same_key key d old → new ≡ old
+set_same_at key d old new at set = set_back_at key d d old new (sym at) refl set
+
 apart_at : (key : PeerKey) (n : ℕ) (slots : List TableSlot) (s : TableSlot) → IsApart code_same_key key slots → slice_get slots n ≡ Some s
     → code_same_key key s.key ≡ false
 apart_at key n [] s a e = absurd cc

@@ -56,6 +56,9 @@ pub set_there : (now : ℕ) (key : CodeKey) (d : Entry) (old new : List TableSlo
     → slots_view new ≡ set_or_put now (peer_key_view key) d (slots_view old) false
 set_there now key d old new set = ap slots_view set ∙ with_value_viewed Entry key d old
 
+pub same_end : (a b : List TableSlot) (m n : ℕ) → a ≡ b → m ≡ n → end_of a m ≡ end_of b n
+same_end a b m n e f = ap (λ (k : ℕ). end_of a k) f ∙ ap (λ (l : List TableSlot). end_of l n) e
+
 -- a slot is free after the sweep
 pub room_after : (now capacity : ℕ) (slots swept : List TableSlot) → is_free now (end_of slots capacity) ≡ true → swept ≡ filter (is_live_in now) slots
     → length swept < capacity

@@ -1,16 +1,17 @@
 //! An APDU comes for one transaction.
-ghost use Rattle.std.specs.Prelude.{◌≡◌, ◌≤◌, ◌&&◌, ℕ, true};
+ghost use Rattle.std.specs.Prelude.{◌≡◌, ◌&&◌, true};
 ghost use Rattle.bac_apdu.specs.Views.{apdu_view};
 ghost use Rattle.bac_slots.specs.Slots.{value_at};
 ghost use Rattle.bac_protocol.specs.Server.{is_none_live};
 ghost use Rattle.bac_ends.specs.Ends.{is_free as is_free_in};
 ghost use Rattle.bac_ends.specs.Views.{code_same_key, peer_key_view};
 ghost use Rattle.bac_server.specs.Views.{performed_view};
-ghost use Rattle.bac_responder.specs.Begins.{AreInOrder, AreInOrderIf};
+ghost use Rattle.bac_responder.specs.Begins.{AreInOrderIf};
 ghost use Rattle.bac_responder.specs.Tables.{begins_request};
 ghost use Rattle.bac_responder.specs.Turns.{acted_of};
 ghost use Rattle.bac_responder.specs.Views.{acted_view, end_of, turn_of, Serves};
 
+use crate::order::later;
 use crate::served::{Act, Served};
 use crate::table::{enter, is_free};
 use bac_apdu::Apdu;
@@ -63,21 +64,22 @@ fn has_place<S: SlotTable<PeerKey, Entry>>(
 }
 
 /// No entry of the context's key is live. Whether a slot is free is asked where the APDU begins a request.
+/// `latest` is as in a responder.
 fn idle_hears<S: SlotTable<PeerKey, Entry>>(
     alloc: Global,
     context: &Context,
     table: &mut S,
-    latest: Option<u64>,
+    latest: &mut Option<u64>,
     apdu: &Apdu<'_>,
     store: &mut Store,
 ) -> Result<Served, NoMemory>
     requires dead { is_none_live context.now.moment (value_at code_same_key context.now.key (S.slots table.old)) ≡ true }
-    requires order { AreInOrderIf latest (S.slots table.old) }
+    requires order { AreInOrderIf latest.old (S.slots table.old) }
     ensures turn { Serves (turn_of context.now store.old (apdu_view apdu.now) (end_of (S.slots table.old) (S.capacity table.old)))
         (end_of (S.slots table.old) (S.capacity table.old)) store.old result (end_of (S.slots table.new) (S.capacity table.new)) store.new }
-    ensures order { (l : ℕ) → l ≤ context.now.moment → AreInOrder l (S.slots table.old) → AreInOrder context.now.moment (S.slots table.new) }
+    ensures order { AreInOrderIf latest.new (S.slots table.new) }
 {
-    let free = has_place(table, latest, context.moment, apdu);
+    let free = has_place(table, *latest, context.moment, apdu);
     match idle_gets(alloc, context, free, apdu, store)? {
         IdleReaction::Stays(sends) => Ok(Served { sends, act: None }),
         IdleReaction::Begins(reaction) => {
@@ -86,7 +88,8 @@ fn idle_hears<S: SlotTable<PeerKey, Entry>>(
                 sends,
                 effect,
             } = reaction;
-            enter(table, latest, context.moment, context.key, entry);
+            enter(table, *latest, context.moment, context.key, entry);
+            *latest = later(*latest, context.moment);
             Ok(served(context.key, sends, effect))
         }
     }
@@ -97,14 +100,14 @@ pub(crate) fn hears<S: SlotTable<PeerKey, Entry>>(
     alloc: Global,
     context: &Context,
     table: &mut S,
-    latest: Option<u64>,
+    latest: &mut Option<u64>,
     apdu: &Apdu<'_>,
     store: &mut Store,
 ) -> Result<Served, NoMemory>
-    requires order { AreInOrderIf latest (S.slots table.old) }
+    requires order { AreInOrderIf latest.old (S.slots table.old) }
     ensures turn { Serves (turn_of context.now store.old (apdu_view apdu.now) (end_of (S.slots table.old) (S.capacity table.old)))
         (end_of (S.slots table.old) (S.capacity table.old)) store.old result (end_of (S.slots table.new) (S.capacity table.new)) store.new }
-    ensures order { (l : ℕ) → l ≤ context.now.moment → AreInOrder l (S.slots table.old) → AreInOrder context.now.moment (S.slots table.new) }
+    ensures order { AreInOrderIf latest.new (S.slots table.new) }
 {
     let Some(slot) = table.get_mut(&context.key) else {
         return idle_hears(alloc, context, table, latest, apdu, store);

@@ -5,7 +5,7 @@ ghost use Rattle.bac_responder.specs.Begins.{later_of};
 
 use bac_protocol::times::KEEP;
 
-/// The latest moment once another one has come; None from then on, where it is before the latest.
+/// The latest moment at which an entry began, once one has begun at another; None from then on, where that is before the latest.
 pub(crate) fn later(latest: Option<u64>, moment: u64) -> Option<u64>
     ensures { result ≡ later_of latest moment }
 {

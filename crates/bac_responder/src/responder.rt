@@ -11,7 +11,6 @@ ghost use Rattle.bac_responder.specs.Views.{end_of, Serves};
 
 use crate::hearing::hears;
 use crate::live_at::LiveAt;
-use crate::order::later;
 use crate::served::Served;
 use crate::ticking::{at_the_earliest, commit_all, first_due, is_quiet, nothing_due, prepare_all};
 use bac_apdu::Apdu;
@@ -33,7 +32,7 @@ pub struct Responder<S: SlotTable<PeerKey, Entry> + Drop> {
     from: u64,
     /// and before this one.
     due: u64,
-    /// The latest moment of an APDU, while none came at an earlier moment than one before it: the slots stand in the order of their begins then.
+    /// The latest moment at which an entry began, while none began at an earlier moment than one before it: the slots stand in the order of their begins then.
     latest: Option<u64>,
 }
 
@@ -109,10 +108,16 @@ impl<S: SlotTable<PeerKey, Entry> + Drop> Responder<S> {
             key,
             moment,
         };
-        let served = hears(alloc, &context, &mut self.table, self.latest, apdu, store);
-        self.latest = later(self.latest, moment);
+        let served = hears(
+            alloc,
+            &context,
+            &mut self.table,
+            &mut self.latest,
+            apdu,
+            store,
+        )?;
         self.due = at_the_earliest(self.due, moment);
-        served
+        Ok(served)
     }
 
     /// What a tick sends, in ascending order of peer and invoke ID: the windows of replies that no SegmentACK came for in 2,000 ms, while a retry is left.

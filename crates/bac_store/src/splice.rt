@@ -1,5 +1,5 @@
 //! New octets of a file, with all the memory that a write of them takes.
-ghost use Rattle.std.specs.Prelude.{◌≡◌, ◌+◌, ◌*◌, ◌<◌, ◌≤◌, ◌++◌, [], length, take, IfOk, OnErr, vec_capacity};
+ghost use Rattle.std.specs.Prelude.{◌≡◌, ◌+◌, ◌≤◌, ◌++◌, [], length, take, IfOk, OnErr, vec_capacity};
 ghost use Rattle.bac_store.specs.Limits.{FILE_LIMIT as FILE_MOST};
 ghost use Rattle.bac_store.specs.Replies.{overwritten};
 
@@ -7,8 +7,8 @@ use crate::limits::FILE_LIMIT;
 use bac_value::NoMemory;
 use std::alloc::Global;
 
-/// New octets of a file, and the place that they begin at. A file that they make longer may have no room for them: so there is
-/// room for them and for those in front of them, unless they begin the file, whose octets they can be themselves then.
+/// New octets of a file, and the place that they begin at. The file's own vector may have no room for those after its end: so
+/// there is room for the new ones and all in front of them. Where they begin the file none is needed: they can be the file's.
 #[derive(Debug, Drop)]
 pub(crate) struct Splice {
     pub at: usize,

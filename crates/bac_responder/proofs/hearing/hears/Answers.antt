@@ -1,5 +1,5 @@
 -- A live entry goes on in its slot; without one, the slots are as before.
-use Rattle.std.proofs.Common.{◌≡◌, ◌∙◌, refl, sym, subst, ap, ℕ, List, Some, false, true, not}
+use Rattle.std.proofs.Common.{◌≡◌, ◌∙◌, sym, subst, ap, ℕ, List, Some, false, true, not}
 use Rattle.bac_apdu.specs.Views.{apdu_view}
 use Rattle.bac_slots.specs.Slots.{value_at}
 use Rattle.bac_protocol.specs.Context.{Context}
@@ -11,27 +11,21 @@ use Rattle.bac_ends.specs.declared.peer_key.PeerKey.{PeerKey as CodeKey}
 use Rattle.bac_ends.proofs.Keyed.{value_viewed}
 use Rattle.bac_server.specs.Services.{service_of}
 use Rattle.bac_ends.specs.Views.{context_view}
-use Rattle.bac_responder.specs.Begins.{AreInOrder, AreInOrderIf}
+use Rattle.bac_responder.specs.Begins.{AreInOrderIf}
 use Rattle.bac_responder.specs.Tables.{TableSlot}
 use Rattle.bac_responder.specs.Views.{end_of}
-use Rattle.bac_responder.proofs.Begins.{later, set_in_order}
+use Rattle.bac_responder.proofs.Begins.{still_in_order}
 use Rattle.bac_responder.proofs.Turned.{served_so, served_with, live_begun, live_is, stays_live, serves_as}
-use Rattle.bac_responder.proofs.Firsts.{set_back_at}
-use Rattle.bac_responder.proofs.Sweeps.{none_live, set_there}
+use Rattle.bac_responder.proofs.Firsts.{set_back_at, set_same_at}
+use Rattle.bac_responder.proofs.Sweeps.{none_live, same_end, set_there}
 use Rattle.bac_responder.proofs.hearing.hears.Goals as goal
 
 -- No slot has the key.
 
 pub returns-in_default-clause-turn : goal.returns-in_default-clause-turn
 returns-in_default-clause-turn g c =
-    let same =
-    ap (λ (n : ℕ). end_of (g.S.SlotTable.slots c.get_mut.follows.lender-at-none) n) c.get_mut.follows.holds-at-none.1
-    ∙ ap (λ (l : List TableSlot). end_of l (g.S.SlotTable.capacity c.args.table.now)) c.get_mut.follows.holds-at-none.0 in
+    let same = same_end _ _ _ _ c.get_mut.follows.holds-at-none.0 c.get_mut.follows.holds-at-none.1 in
     serves_as c.args.context.now c.args.store.now (apdu_view c.args.apdu.now) _ _ _ _ _ same c.idle_hears.ensures.turn
-
-pub returns-in_default-clause-order : goal.returns-in_default-clause-order
-returns-in_default-clause-order g c = λ l le h.
-    c.idle_hears.ensures.order l le (subst (λ (x : List TableSlot). AreInOrder l x) (sym c.get_mut.follows.holds-at-none.0) h)
 
 -- Its entry is not live.
 
@@ -39,34 +33,22 @@ pub idle_hears-requires-then-not-is_live-clause-dead : goal.idle_hears-requires-
 idle_hears-requires-then-not-is_live-clause-dead g c =
     let d : Entry = c.in-Some.slot.now in
     let now : ℕ = c.args.context.now.moment in
-    let unchanged = set_back_at c.args.context.now.key d d (g.S.SlotTable.slots c.args.table.now) _ (sym c.in-Some.ensures.value) refl
-    (c.get_mut.follows.holds d).0 in
+    let unchanged = set_same_at c.args.context.now.key d (g.S.SlotTable.slots c.args.table.now) _ c.in-Some.ensures.value (c.get_mut.follows.holds d).0 in
     ap (λ (l : List TableSlot). is_none_live now (value_at code_same_key c.args.context.now.key l)) unchanged
     ∙ ap (is_none_live now) (sym c.in-Some.ensures.value) ∙ none_live now d ∙ ap not (sym c.is_live.ensures ∙ c.if-not-is_live.true)
 
 pub idle_hears-requires-then-not-is_live-clause-order : goal.idle_hears-requires-then-not-is_live-clause-order
 idle_hears-requires-then-not-is_live-clause-order g c =
     let d : Entry = c.in-Some.slot.now in
-    let unchanged = set_back_at c.args.context.now.key d d (g.S.SlotTable.slots c.args.table.now) _ (sym c.in-Some.ensures.value) refl
-    (c.get_mut.follows.holds d).0 in
-    subst (λ (l : List TableSlot). AreInOrderIf c.args.latest l) (sym unchanged) c.requires.order
+    let unchanged = set_same_at c.args.context.now.key d (g.S.SlotTable.slots c.args.table.now) _ c.in-Some.ensures.value (c.get_mut.follows.holds d).0 in
+    subst (λ (l : List TableSlot). AreInOrderIf c.args.latest.now l) (sym unchanged) c.requires.order
 
 pub returns-then-not-is_live-clause-turn : goal.returns-then-not-is_live-clause-turn
 returns-then-not-is_live-clause-turn g c =
     let d : Entry = c.in-Some.slot.now in
-    let unchanged = set_back_at c.args.context.now.key d d (g.S.SlotTable.slots c.args.table.now) _ (sym c.in-Some.ensures.value) refl
-    (c.get_mut.follows.holds d).0 in
-    let same =
-    ap (λ (n : ℕ). end_of (g.S.SlotTable.slots (c.get_mut.follows.lender d)) n) (c.get_mut.follows.holds d).1
-    ∙ ap (λ (l : List TableSlot). end_of l (g.S.SlotTable.capacity c.args.table.now)) unchanged in
+    let unchanged = set_same_at c.args.context.now.key d (g.S.SlotTable.slots c.args.table.now) _ c.in-Some.ensures.value (c.get_mut.follows.holds d).0 in
+    let same = same_end _ _ _ _ unchanged (c.get_mut.follows.holds d).1 in
     serves_as c.args.context.now c.args.store.now (apdu_view c.args.apdu.now) _ _ _ _ _ same c.idle_hears-then-not-is_live.ensures.turn
-
-pub returns-then-not-is_live-clause-order : goal.returns-then-not-is_live-clause-order
-returns-then-not-is_live-clause-order g c = λ l le h.
-    let d : Entry = c.in-Some.slot.now in
-    let unchanged = set_back_at c.args.context.now.key d d (g.S.SlotTable.slots c.args.table.now) _ (sym c.in-Some.ensures.value) refl
-    (c.get_mut.follows.holds d).0 in
-    c.idle_hears-then-not-is_live.ensures.order l le (subst (λ (x : List TableSlot). AreInOrder l x) (sym unchanged) h)
 
 -- It is live and goes on.
 
@@ -92,7 +74,7 @@ returns-in-Ok-clause-turn g c =
     (ap (λ (n : ℕ). end_of (g.S.SlotTable.slots (c.get_mut.follows.lender x)) n) (c.get_mut.follows.holds x).1)
 
 pub returns-in-Ok-clause-order : goal.returns-in-Ok-clause-order
-returns-in-Ok-clause-order g c = λ l le h.
+returns-in-Ok-clause-order g c =
     let key : CodeKey = c.args.context.now.key in
     let now : ℕ = c.args.context.now.moment in
     let slots : List TableSlot = g.S.SlotTable.slots c.args.table.now in
@@ -102,7 +84,7 @@ returns-in-Ok-clause-order g c = λ l le h.
     let alive : is_live now d ≡ true = ap (is_live now) was ∙ sym c.is_live.ensures ∙ c.if-not-is_live.false in
     let at : value_at code_same_key key slots ≡ Some d = sym c.in-Some.ensures.value ∙ ap (λ (y : Entry). Some y) (sym was) in
     let begun = live_begun (context_view c.args.context.now) (service_of c.args.store.now) d x (apdu_view c.args.apdu.now) alive c.in-Ok.ensures.entry_is in
-    later l now _ le (subst (λ (y : List TableSlot). AreInOrder l y) (sym (c.get_mut.follows.holds x).0) (set_in_order l key d x slots at begun h))
+    still_in_order c.args.latest.now key d x slots _ at begun (c.get_mut.follows.holds x).0 c.requires.order
 
 -- Memory was refused.
 
@@ -112,15 +94,14 @@ returns-in-Err-clause-turn g c =
     let x : Entry = c.in-Err.entry in
     let unchanged = set_back_at c.args.context.now.key d x (g.S.SlotTable.slots c.args.table.now) _ (sym c.in-Some.ensures.value)
     (c.in-Err.ensures.0 ∙ c.replace-entry.ensures.value) (c.get_mut.follows.holds x).0 in (
-      ap (λ (n : ℕ). end_of (g.S.SlotTable.slots (c.get_mut.follows.lender x)) n) (c.get_mut.follows.holds x).1
-          ∙ ap (λ (l : List TableSlot). end_of l (g.S.SlotTable.capacity c.args.table.now)) unchanged,
+      same_end _ _ _ _ unchanged (c.get_mut.follows.holds x).1,
       c.in-Err.ensures.1,
     )
 
 pub returns-in-Err-clause-order : goal.returns-in-Err-clause-order
-returns-in-Err-clause-order g c = λ l le h.
+returns-in-Err-clause-order g c =
     let d : Entry = c.in-Some.slot.now in
     let x : Entry = c.in-Err.entry in
     let unchanged = set_back_at c.args.context.now.key d x (g.S.SlotTable.slots c.args.table.now) _ (sym c.in-Some.ensures.value)
     (c.in-Err.ensures.0 ∙ c.replace-entry.ensures.value) (c.get_mut.follows.holds x).0 in
-    later l c.args.context.now.moment _ le (subst (λ (y : List TableSlot). AreInOrder l y) (sym unchanged) h)
+    subst (λ (y : List TableSlot). AreInOrderIf c.args.latest.now y) (sym unchanged) c.requires.order

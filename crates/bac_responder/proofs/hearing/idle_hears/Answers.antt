@@ -11,10 +11,10 @@ use Rattle.bac_ends.specs.declared.peer_key.PeerKey.{PeerKey as CodeKey}
 use Rattle.bac_ends.proofs.Keyed.{value_viewed}
 use Rattle.bac_server.specs.Services.{service_of}
 use Rattle.bac_ends.specs.Views.{context_view}
-use Rattle.bac_responder.specs.Begins.{AreInOrder}
+use Rattle.bac_responder.specs.Begins.{AreInOrderIf}
 use Rattle.bac_responder.specs.Tables.{TableSlot}
 use Rattle.bac_responder.specs.Views.{end_of}
-use Rattle.bac_responder.proofs.Begins.{entered_in_order, later}
+use Rattle.bac_responder.proofs.Begins.{known_later}
 use Rattle.bac_responder.proofs.Turned.{served_so, served_still, served_with, idle_is, begun_live, where_it_begins, its_place}
 use Rattle.bac_responder.proofs.Sweeps.{entered}
 use Rattle.bac_responder.proofs.hearing.idle_hears.Goals as goal
@@ -60,14 +60,12 @@ returns-in-Begins-clause-turn g c =
     served_with _ c.args.store.now _ _ _ _ _ _ _ r c.served.ensures.sends c.served.ensures.act
     (ap (λ (n : ℕ). end_of (g.S.SlotTable.slots c.enter.new.table) n) c.enter.ensures.same)
 
-pub returns-in-Stays-clause-order : goal.returns-in-Stays-clause-order
-returns-in-Stays-clause-order g c = λ l le h. later l c.args.context.now.moment (g.S.SlotTable.slots c.args.table.now) le h
-
 pub returns-in-Begins-clause-order : goal.returns-in-Begins-clause-order
-returns-in-Begins-clause-order g c = λ l le h.
+returns-in-Begins-clause-order g c =
     let begin = rw c.in-Begins.is at c.in_ok-sends.ensures.begin in
-    subst (λ (x : List TableSlot). AreInOrder c.args.context.now.moment x) (sym c.enter.ensures.slots)
-    (entered_in_order c.args.context.now.moment l c.args.context.now.key c.in-Begins.reaction.entry (g.S.SlotTable.slots c.args.table.now) le begin h)
+    subst (λ (o : Option ℕ). AreInOrderIf o (g.S.SlotTable.slots c.enter.new.table)) (sym c.later.ensures)
+    (known_later c.args.latest.now c.args.context.now.moment c.args.context.now.key c.in-Begins.reaction.entry (g.S.SlotTable.slots c.args.table.now)
+    (g.S.SlotTable.slots c.enter.new.table) begin c.enter.ensures.slots c.requires.order)
 
 pub enter-requires-clause-room : goal.enter-requires-clause-room
 enter-requires-clause-room g c =
