@@ -1,6 +1,8 @@
 -- Runs that are computed.
-use Rattle.std.proofs.Common.{◌≡◌, ℕ, zero, suc, [], ◌∷◌, Some, None, slice_get, refl, sym, ap, subst, inr, ◌≢◌, IsTrue, arith}
-use Rattle.bac_apdu.specs.Spelling.{apdu_fits, apdu_spelling}
+use Rattle.std.proofs.Common.{◌≡◌, ℕ, zero, suc, List, [], ◌∷◌, Some, None, slice_get, refl, sym, ap, subst, inr, ◌≢◌, IsTrue, arith}
+use Rattle.bac_apdu.specs.Apdu.{Apdu}
+use Rattle.bac_apdu.specs.Spelling.{SpellsApdu, apdu_fits, apdu_spelling}
+use Rattle.bac_npdu.specs.Datagram.{Means}
 use Rattle.bac_service.specs.Services.{reads_reply}
 use Rattle.bac_service.proofs.Wholes.{request_again}
 use Rattle.bac_protocol.specs.Context.{Context}
@@ -14,7 +16,7 @@ use Rattle.bac_ends.specs.Ends.{clients_tick, servers_tick, context_of, server_g
 use Rattle.bac_server.specs.Services.{service_of, outcome_by}
 use Rattle.bac_world.specs.Node.{Node, Outcome, IsServerTurn}
 use Rattle.bac_world.specs.Once.Fact.{Performed, Ended}
-use Rattle.bac_world.specs.World.{World, Copy, Hears, Ticks, IsCopied, peer_at}
+use Rattle.bac_world.specs.World.{World, Copy, Hears, Ticks, IsCopied, link_at, peer_at, transaction_of}
 use Rattle.bac_world.specs.Examples.{REQUEST, REPLY, STORE, ASKED}
 use Rattle.bac_world.specs.AnsweredRun.{LIMITS, SETTINGS, LOG, link, node}
 use Rattle.bac_world.proofs.Answered.{SERVICE_DATA, ASK, ANSWER, apart, spelled, datagram, ASKED_NODE, copy, NOTES, SECOND, THIRD, LAST}
@@ -117,20 +119,30 @@ SECOND_COPY = record (copy 0 1 ASK) { moment = 3000 }
 abbrev AGAIN : World
 AGAIN = record { nodes = ticked_node 3000 ∷ node 1 ∷ []; now = 3000; copies = copy 0 1 ASK ∷ SECOND_COPY ∷ []; log = ASKED; notes = NOTES }
 
-again_copied : IsCopied LATER.nodes 3000 0 (datagram (link 1) ASK) SECOND_COPY
-again_copied = record {
+answer_fits : IsTrue (apdu_fits ANSWER)
+unfolding apdu_fits
+answer_fits = refl
+
+answer_short : IsShort ANSWER
+unfolding apdu_spelling
+answer_short = omega arith
+
+ask_means : Means SpellsApdu (link 0) (datagram (link 1) ASK).octets (peer_at (link 0)) ASK
+ask_means = means (link 0) (link 1) ASK ask_fits ask_short
+
+answer_means : Means SpellsApdu (link 1) (datagram (link 0) ANSWER).octets (peer_at (link 1)) ANSWER
+answer_means = means (link 1) (link 0) ANSWER answer_fits answer_short
+
+-- what node i sends to node j at 3,000 becomes a copy
+copied : (nodes : List Node) (i j : ℕ) (a : Apdu) → link_at nodes i ≡ Some (link i) → link_at nodes j ≡ Some (link j)
+    → (copy i j a).key ≡ transaction_of i j a → Means SpellsApdu (link i) (datagram (link j) a).octets (peer_at (link i)) a
+    → IsCopied nodes 3000 i (datagram (link j) a) (record (copy i j a) { moment = 3000 })
+copied nodes i j a sender receiver key means = record {
   moment = refl;
   from = refl;
-  to = refl;
+  to = receiver;
   octets = refl;
-  transaction = record {
-    link = link 0;
-    sender = refl;
-    peer = peer_at (link 0);
-    apdu = ASK;
-    means = means (link 0) (link 1) ASK ask_fits ask_short;
-    key = refl;
-  };
+  transaction = record { link = link i; sender = sender; peer = peer_at (link i); apdu = a; means = means; key = key };
 }
 
 sends_again : Ticks LATER 0 AGAIN
@@ -146,20 +158,12 @@ sends_again = record {
     notes = refl;
     sent = SECOND_COPY ∷ [];
     copies = refl;
-    copied = (again_copied, tt);
+    copied = (copied LATER.nodes 0 1 ASK refl refl refl ask_means, tt);
     between = ASKED;
     ended = refl;
     logged = refl;
   };
 }
-
-answer_fits : IsTrue (apdu_fits ANSWER)
-unfolding apdu_fits
-answer_fits = refl
-
-answer_short : IsShort ANSWER
-unfolding apdu_spelling
-answer_short = omega arith
 
 others_second : {A : Type 0} (a b c : A) (j : ℕ) → j ≢ 1 → slice_get (c ∷ a ∷ []) j ≡ slice_get (c ∷ b ∷ []) j
 others_second a b c zero ne = refl
@@ -216,22 +220,6 @@ SERVED = record {
   notes = NOTES;
 }
 
-answer_copied : IsCopied AGAIN.nodes 3000 1 (datagram (link 0) ANSWER) ANSWER_COPY
-answer_copied = record {
-  moment = refl;
-  from = refl;
-  to = refl;
-  octets = refl;
-  transaction = record {
-    link = link 1;
-    sender = refl;
-    peer = peer_at (link 1);
-    apdu = ANSWER;
-    means = means (link 1) (link 0) ANSWER answer_fits answer_short;
-    key = refl;
-  };
-}
-
 serves : Hears AGAIN 1 (link 0) SECOND_COPY.octets SERVED
 serves = record {
   before = node 1;
@@ -242,7 +230,7 @@ serves = record {
     peer = peer_at (link 0);
     apdu = ASK;
     foreign = apart;
-    means = means (link 0) (link 1) ASK ask_fits ask_short;
+    means = ask_means;
     heard = subst ServerTurn (sym says) turn;
   });
   acts = record {
@@ -251,7 +239,7 @@ serves = record {
     notes = refl;
     sent = ANSWER_COPY ∷ [];
     copies = refl;
-    copied = (answer_copied, tt);
+    copied = (copied AGAIN.nodes 1 0 ANSWER refl refl refl answer_means, tt);
     between = ASKED;
     ended = refl;
     logged = record { client = 0; number = 0; link = refl; noted = refl; log = refl };
@@ -274,7 +262,7 @@ hears = record {
     peer = peer_at (link 1);
     apdu = ANSWER;
     foreign = λ e. apart (sym e);
-    means = means (link 1) (link 0) ANSWER answer_fits answer_short;
+    means = answer_means;
     heard = record { node = refl; sends = tt; ended = (record { ticket = refl; how = (refl, refl) }, tt); performed = refl; dropped = refl };
   });
   acts = record {
@@ -337,12 +325,12 @@ late_answer = record {
     from = link 1;
     octets = (datagram (link 0) ANSWER).octets;
     foreign = λ e. apart (sym e);
-    means = means (link 1) (link 0) ANSWER answer_fits answer_short;
+    means = answer_means;
     on = inr (record {
       peer = peer_at (link 1);
       apdu = ANSWER;
       foreign = λ e. apart (sym e);
-      means = means (link 1) (link 0) ANSWER answer_fits answer_short;
+      means = answer_means;
       heard = record { node = refl; sends = tt; ended = (record { ticket = refl; how = tt }, tt); performed = refl; dropped = refl };
     });
   };

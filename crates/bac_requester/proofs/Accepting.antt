@@ -12,6 +12,7 @@ use Rattle.bac_protocol.specs.Client.Reaction.{GoesOn}
 use Rattle.bac_protocol.specs.Client.Phase.{AwaitConfirmation}
 use Rattle.bac_segment.specs.Window.{outgoing}
 use Rattle.bac_protocol.specs.Service.{Octets}
+use Rattle.bac_protocol.specs.Sizes as sizes
 use Rattle.bac_ends.specs.Ends.{Client, ClientEnd, ClientSlot, AskOutcome, AskRefusal, CannotGo, Held, MOST_ASKS, context_of, kept, is_held, is_held_there}
 use Rattle.bac_ends.specs.Ends.{is_id_held, is_slot_held, has_no_slot, least_not, accepts, asks_by_way, asks_for, asks_with_id}
 use Rattle.bac_ends.specs.Ends.Held.{Open}
@@ -166,11 +167,18 @@ abbrev pub by_result : Settings → (now : ℕ) → PeerView → (choice : ℕ) 
 by_result c now peer choice octets e (Ok w) = asks_for c now peer (ask_at now (request_by choice octets w)) e
 by_result c now peer choice octets e (Err why) = AskOutcome.Refused (CannotGo (fault_view why))
 
-pub by_way : (c : Settings) (now : ℕ) (peer : PeerView) (choice : ℕ) (octets : Octets) (e : ClientEnd) (r : Result RequestWay RequestFault)
+by_way : (c : Settings) (now : ℕ) (peer : PeerView) (choice : ℕ) (octets : Octets) (e : ClientEnd) (r : Result RequestWay RequestFault)
     → asks_by_way c now peer choice octets e (way_view octets r) ≡ by_result c now peer choice octets e r
 by_way c now peer choice octets e (Ok way.InOne) = refl
 by_way c now peer choice octets e (Ok (way.InSegments size)) = refl
 by_way c now peer choice octets e (Err why) = refl
+
+-- a request that can go is asked by its way
+pub can_go : (c : Settings) (now : ℕ) (peer : PeerView) (choice : ℕ) (octets : Octets) (e : ClientEnd) (w : sizes.Way sizes.RequestFault)
+    (r : Result RequestWay RequestFault) (x : RequestWay) → w ≡ way_view octets r → r ≡ Ok x
+    → asks_by_way c now peer choice octets e w ≡ asks_for c now peer (ask_at now (request_by choice octets x)) e
+can_go c now peer choice octets e w r x is can =
+    ap (λ v. asks_by_way c now peer choice octets e v) is ∙ by_way c now peer choice octets e r ∙ ap (λ q. by_result c now peer choice octets e q) can
 
 -- The end after an ask.
 

@@ -5,3 +5,4 @@ pub mod Ticks
 pub mod Accepting
 pub mod Quiet
 pub mod Begins
+pub mod Ids

@@ -1,11 +1,11 @@
 //! An ask.
-ghost use Rattle.std.specs.Prelude.{◌≡◌, ℕ, ◌+◌, ◌-◌, ◌<◌, ◌∷◌, [], ◌++◌, ◌||◌, IfOk, Some, None, false, filter, count_by, length, nat_le, nat_lt, not};
+ghost use Rattle.std.specs.Prelude.{◌≡◌, ℕ, ◌+◌, ◌-◌, ◌<◌, ◌∷◌, [], ◌++◌, ◌&&◌, ◌||◌, IfOk, Some, None, false, filter, count_by, length, nat_le, nat_lt, not};
 ghost use Rattle.bac_npdu.specs.Views.{peer_view};
 ghost use Rattle.bac_slots.specs.declared.slot.Slot.{Slot};
-ghost use Rattle.bac_slots.specs.Slots.{value_at};
+ghost use Rattle.bac_slots.specs.Slots.{rank, value_at};
 ghost use Rattle.bac_ends.specs.Ends as ends;
 ghost use Rattle.bac_ends.specs.Ends.{asks_for, has_no_slot, is_held, is_id_held, is_slot_held, least_not};
-ghost use Rattle.bac_ends.specs.Views.{code_same_key, peer_key_view, settings_view, slots_view};
+ghost use Rattle.bac_ends.specs.Views.{code_key_cmp, code_same_key, peer_key_view, settings_view, slots_view};
 ghost use Rattle.bac_service.specs.Spellings.{request_spelling};
 ghost use Rattle.bac_service.specs.Values.{choice_of};
 ghost use Rattle.bac_service.specs.Views.{request_view};
@@ -24,7 +24,8 @@ use bac_ends::{Context, Datagram, PeerKey, Settings};
 use bac_npdu::Peer;
 use bac_service::{AnyRequest, Request, Service, write_request};
 use bac_slots::{
-    SlotTable, count_passing, has_room_once_swept, sweep, sweep_oldest, sweeping_slots,
+    SlotTable, count_passing, has_room_once_swept, ranks_of_keys, sweep, sweep_oldest,
+    sweeping_slots,
 };
 use bac_value::NoMemory;
 use std::alloc::Global;
@@ -40,34 +41,55 @@ pub struct Asked {
     pub sends: Vec<Datagram>,
 }
 
-/// Whether a slot that is held has that invoke ID for the peer.
+/// Whether a slot that is found has that key and is held.
+fn is_held_as(found: &PeerKey, client: &Client, key: &PeerKey, now: u64) -> bool
+    ensures { result ≡ (code_same_key found.now key.now && is_held now client.now.held) }
+{
+    found == key && client.is_held(now)
+}
+
+/// Whether a slot that is held has that invoke ID for the peer; only the slot whose place in the order of the keys is the rank of that key can be it.
 fn is_id_held<S: SlotTable<PeerKey, Client>>(
     table: &S,
+    place: usize,
     peer: &Peer,
     invoke_id: u8,
     now: u64,
 ) -> bool
+    requires { place ≡ rank code_key_cmp (record { peer = peer.now; invoke_id = invoke_id }) (S.slots table.now) }
     ensures { result ≡ is_id_held now (slots_view (S.slots table.now)) (peer_view peer.now) invoke_id }
 {
+    // what stands at the rank of a key, where keys are distinct
+    ranks_of_keys::<PeerKey, Client>();
+    let _slots = table.len();
     let key = PeerKey {
         peer: *peer,
         invoke_id,
     };
-    match table.get(&key) {
-        Some(client) => client.is_held(now),
+    match table.at(place) {
+        Some((found, _, client)) => is_held_as(&found, client, &key, now),
         None => false,
     }
 }
 
-/// The least invoke ID that is not held for the peer.
+/// The least invoke ID that is not held for the peer. The peer's slots stand side by side in the order of the keys: the first place is looked up, and those
+/// that are held are walked over.
 fn least_id<S: SlotTable<PeerKey, Client>>(table: &S, peer: &Peer, now: u64) -> Option<u8>
     ensures { result ≡ least_not (is_id_held now (slots_view (S.slots table.now)) (peer_view peer.now)) 256 0 }
 {
+    ranks_of_keys::<PeerKey, Client>();
+    let _slots = table.len();
+    let first = PeerKey {
+        peer: *peer,
+        invoke_id: 0,
+    };
+    let mut place = table.rank(&first);
     for n in 0..256u16 {
         let invoke_id = n as u8;
-        if !is_id_held(table, peer, invoke_id, now) {
+        if !is_id_held(table, place, peer, invoke_id, now) {
             return Some(invoke_id);
         }
+        place += 1;
     }
     None
 }

@@ -41,7 +41,7 @@ pub struct Requester<S: SlotTable<PeerKey, Client> + Drop> {
     asked: u64,
     /// A tick before this moment finds nothing to do.
     due: u64,
-    /// The latest moment of an ask, while none was at an earlier moment than one before it: the slots stand in the order of their first sendings then.
+    /// The latest moment of an accepted ask, while none was at an earlier moment than one before it: the slots stand in the order of their first sendings then.
     latest: Option<u64>,
 }
 
@@ -145,10 +145,10 @@ impl<S: SlotTable<PeerKey, Client> + Drop> Requester<S> {
             peer,
             way,
             request,
-        );
+        )?;
         self.latest = later(self.latest, now);
         self.due = at_the_earliest(self.due, now);
-        asked
+        Ok(asked)
     }
 
     /// An APDU comes from a peer at a moment, in milliseconds. Where memory is refused, nothing has changed.
@@ -170,9 +170,9 @@ impl<S: SlotTable<PeerKey, Client> + Drop> Requester<S> {
             key,
             moment: now,
         };
-        let turn = hears(alloc, &context, &mut self.table, apdu);
+        let turn = hears(alloc, &context, &mut self.table, apdu)?;
         self.due = at_the_earliest(self.due, now);
-        turn
+        Ok(turn)
     }
 
     /// What a tick sends and ends. Nothing changes. Before the first moment at which anything can be due no slot is looked at.

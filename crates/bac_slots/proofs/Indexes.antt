@@ -16,7 +16,7 @@ use Rattle.std.proofs.lemmas.List.{length-map}
 use Rattle.std.proofs.lemmas.Option.{slice_get-map, slice_get_within, slice_get_past}
 use Rattle.bac_slots.specs.declared.slot.Slot.{Slot}
 use Rattle.bac_slots.specs.Slots.{is_less, rank, nth_by_key, in_order, value_at, with_value, digits, IsDistinct, IsAt}
-use Rattle.bac_slots.specs.Indexes.{IsIndex, Avoids, lowered}
+use Rattle.bac_slots.specs.Indexes.{AllAbove, AllBelow, IsIndex, Avoids, lowered}
 use Rattle.bac_slots.proofs.Slots.{without-IsAt}
 use Rattle.bac_slots.proofs.KeyOrder.{Each, IsSorted, IsIn, each_at, sorted_in_order, length_in_order, rank_in_order, rank_more, rank_sorted}
 use Rattle.bac_slots.proofs.KeyOrder.{reversed, in_in_order, place_in, in_place, are_apart, sorted_distinct, place_ranked, apart_away}
@@ -152,13 +152,6 @@ module _ (X : Type 0) where
   names_taken xs ys places n gone a e = names_lowered xs (remove ys n) (remove places n) gone a (names_remove xs ys places n e)
 
 -- ---- the index
-
--- the keys before that place are less than that key; from that place on they are greater
-abbrev pub AllBelow : {K T : Type 0} → (K → K → Ordering) → K → ℕ → List (Slot K T) → Type 0
-AllBelow {K} {T} cmp key n os = (k : ℕ) (s : Slot K T) → k < n → slice_get os k ≡ Some s → cmp s.key key ≡ Less
-
-abbrev pub AllAbove : {K T : Type 0} → (K → K → Ordering) → K → ℕ → List (Slot K T) → Type 0
-AllAbove {K} {T} cmp key n os = (k : ℕ) (s : Slot K T) → n ≤ k → slice_get os k ≡ Some s → cmp s.key key ≡ Greater
 
 module _ (K T : Type 0) (cmp : K → K → Ordering) (total : IsTotalOrder cmp) (eq : K → K → Bool) (matches : (x y : K) → eq x y ≡ is_eq (cmp x y)) where
   abbrev Item : Type 0

@@ -70,32 +70,15 @@ places_next first (m ∷ numbers) v =
 
 -- ---- another place is gone
 
-lowered_number : (first p m : ℕ) → first ≤ m → (first ≤ lowered (p + first) m) × (lowered (p + first) m - first ≡ lowered p (m - first))
-lowered_number first p m l = go (nat_lt (p + first) m) (nat_lt p (m - first)) refl refl
-  where
-    go : (b c : Bool) → nat_lt (p + first) m ≡ b → nat_lt p (m - first) ≡ c
-        → (first ≤ (if b then m - 1 else m)) × ((if b then m - 1 else m) - first ≡ (if c then m - first - 1 else m - first))
-    go true true e f = let more : p + first < m = grind (arith, nat_tests) in (omega (arith, more), omega (arith, more))
-    go true false e f =
-        let more : p + first < m = grind (arith, nat_tests) in
-        let less : m - first ≤ p = grind (arith, nat_tests) in
-        absurd (omega (arith, more, less))
-    go false true e f =
-        let less : m ≤ p + first = grind (arith, nat_tests) in
-        let more : p < m - first = grind (arith, nat_tests) in
-        absurd (omega (arith, more, less))
-    go false false e f = (l, refl)
+pub from_zero : (numbers : List ℕ) → AllFrom 0 numbers
+from_zero [] = tt
+from_zero (m ∷ numbers) = (omega arith, from_zero numbers)
 
-pub from_lowered : (first p : ℕ) (numbers : List ℕ) → AllFrom first numbers → AllFrom first (map (lowered (p + first)) numbers)
-from_lowered first p [] a = tt
-from_lowered first p (m ∷ numbers) a = ((lowered_number first p m a.0).0, from_lowered first p numbers a.1)
-
-pub places_lowered : (first p : ℕ) (numbers : List ℕ) → AllFrom first numbers
-    → places_of first (map (lowered (p + first)) numbers) ≡ map (lowered p) (places_of first numbers)
-places_lowered first p [] a = refl
-places_lowered first p (m ∷ numbers) a =
-    ap (λ k. k ∷ places_of first (map (lowered (p + first)) numbers)) (lowered_number first p m a.0).1
-    ∙ ap (λ l. lowered p (m - first) ∷ l) (places_lowered first p numbers a.1)
+settled : (first p : ℕ) (numbers : List ℕ) → places_of 0 (map (λ n. lowered p (n - first)) numbers) ≡ map (lowered p) (places_of first numbers)
+settled first p [] = refl
+settled first p (m ∷ numbers) =
+    let e : lowered p (m - first) - 0 ≡ lowered p (m - first) = omega arith in
+    ap (λ k. k ∷ places_of 0 (map (λ n. lowered p (n - first)) numbers)) e ∙ ap (λ l. lowered p (m - first) ∷ l) (settled first p numbers)
 
 -- ---- what taking one out makes of all
 
@@ -113,17 +96,12 @@ took_first first numbers after n place a e zero_place v =
           ∙ ap (λ k. map (lowered k) (remove (places_of first numbers) n)) (sym zero_place),
     )
 
-pub took_other : (first : ℕ) (numbers after lower : List ℕ) (n place : ℕ) → AllFrom first numbers → after ≡ remove numbers n
-    → lower ≡ map (lowered (place + first)) after
-    → AllFrom first lower × (places_of first lower ≡ map (lowered place) (remove (places_of first numbers) n))
-took_other first numbers after lower n place a e f =
-    let rest : List ℕ = remove numbers n in
-    let all : AllFrom first rest = from_remove first numbers n a in
-    let is : lower ≡ map (lowered (place + first)) rest = f ∙ ap (λ l. map (lowered (place + first)) l) e in (
-      subst (λ l. AllFrom first l) (sym is) (from_lowered first place rest all),
-      ap (λ l. places_of first l) is ∙ places_lowered first place rest all
-          ∙ ap (λ l. map (lowered place) l) (places_remove first numbers n),
-    )
+pub took_other : (first : ℕ) (numbers after settled_all : List ℕ) (n place : ℕ) → after ≡ remove numbers n
+    → settled_all ≡ map (λ n. lowered place (n - first)) after
+    → places_of 0 settled_all ≡ map (lowered place) (remove (places_of first numbers) n)
+took_other first numbers after settled_all n place e f =
+    ap (λ l. places_of 0 l) f ∙ settled first place after ∙ ap (λ l. map (lowered place) (places_of first l)) e
+    ∙ ap (λ l. map (lowered place) l) (places_remove first numbers n)
 
 pub within_numbers : (first : ℕ) (numbers : List ℕ) (n : ℕ) → n < length (places_of first numbers) → n < length numbers
 within_numbers first numbers n l = let same = length-map numbers (λ k. k - first) in omega (arith, l, same)

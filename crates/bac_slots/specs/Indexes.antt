@@ -1,6 +1,7 @@
 -- The index of a table: the places of its slots in order of putting, sorted by key.
 use Rattle.std.specs.Prelude.{◌≡◌, ℕ, ◌-◌, ◌<◌, ◌≤◌, Bool, List, [], ◌∷◌, map, length, slice_get, Some, None, Result, Ok, Err, if◌then◌else◌, nat_lt}
 use Rattle.std.specs.declared.cmp.Ordering.{Ordering}
+use Rattle.std.specs.declared.cmp.Ordering.TheVariants.{Less, Greater}
 use Rattle.bac_slots.specs.declared.slot.Slot.{Slot}
 use Rattle.bac_slots.specs.declared.index_slots.Found.{Found}
 use Rattle.bac_slots.specs.Slots.{value_at, rank, in_order, IsAt}
@@ -32,3 +33,10 @@ abbrev pub IsSearched : {K T : Type 0} → (K → K → Bool) → (K → K → O
 IsSearched eq cmp key slots (Ok found) =
     (found.rank ≡ rank cmp key slots) × (found.rank < length slots) × (found.place < length slots) × IsAt eq key found.place slots
 IsSearched eq cmp key slots (Err n) = (n ≡ rank cmp key slots) × (n ≤ length slots) × (value_at eq key slots ≡ None)
+
+-- the keys before that place are less than that key; from that place on they are greater
+abbrev pub AllBelow : {K T : Type 0} → (K → K → Ordering) → K → ℕ → List (Slot K T) → Type 0
+AllBelow {K} {T} cmp key n os = (k : ℕ) (s : Slot K T) → k < n → slice_get os k ≡ Some s → cmp s.key key ≡ Less
+
+abbrev pub AllAbove : {K T : Type 0} → (K → K → Ordering) → K → ℕ → List (Slot K T) → Type 0
+AllAbove {K} {T} cmp key n os = (k : ℕ) (s : Slot K T) → n ≤ k → slice_get os k ≡ Some s → cmp s.key key ≡ Greater

@@ -1,9 +1,10 @@
 //! A table with an index that is sorted by key.
-ghost use Rattle.std.specs.Prelude.{◌≡◌, ◌≢◌, ℕ, ◌+◌, ◌<◌, ◌≤◌, List, length, Some, None, MatchOption, slice_get, min};
+ghost use Rattle.std.specs.Prelude.{◌≡◌, ◌≢◌, true, ℕ, ◌+◌, ◌<◌, ◌≤◌, List, length, Some, None, MatchOption, slice_get, min};
+ghost use Rattle.std.specs.Option.{option_map};
 ghost use Rattle.bac_slots.specs.Slots.{rank, value_at, in_order, digits, IsDistinct};
-ghost use Rattle.bac_slots.specs.Indexes.{IsIndex, IsSearched};
+ghost use Rattle.bac_slots.specs.Indexes.{AllAbove, AllBelow, IsIndex, IsSearched, lowered};
 
-use crate::places::Places;
+use crate::places::{MOST_PLACES, Places, lowered};
 use crate::slot::Slot;
 use crate::slot_table::{Count, SlotTable};
 use std::alloc::{AllocError, Global};
@@ -17,10 +18,12 @@ pub struct IndexSlots<K: Ord, T> {
     slots: VecDeque<Slot<K, T>>,
     places: Places,
     capacity: usize,
+    /// Where the last key that a loan was asked for in vain would stand in the order of the keys: the next `put` looks there first.
+    gap: Option<usize>,
 }
 
 impl<K: Ord, T> Model for IndexSlots<K, T> {
-    ghost use Rattle.std.specs.Prelude.{◌≡◌, ℕ, ◌≤◌, List, length};
+    ghost use Rattle.std.specs.Prelude.{◌≡◌, ℕ, ◌^◌, ◌≤◌, List, length};
     ghost use Rattle.std.specs.VecDeque.{deque_capacity};
     ghost use Rattle.bac_slots.specs.declared.slot.Slot.{Slot};
     ghost use Rattle.bac_slots.specs.Slots.{IsDistinct};
@@ -31,7 +34,7 @@ impl<K: Ord, T> Model for IndexSlots<K, T> {
     ghost view = { λ t. (t.slots.items, t.capacity) };
 
     ghost invariant = { λ t. (t.capacity ≤ deque_capacity t.slots) × (t.capacity ≤ t.places.1) × (length t.slots.items ≤ t.capacity)
-        × IsDistinct K.eq t.slots.items × IsIndex K.cmp t.places.0 t.slots.items };
+        × IsDistinct K.eq t.slots.items × IsIndex K.cmp t.places.0 t.slots.items × (t.capacity ≤ 2 ^ 31) };
 }
 
 impl<K: Ord + Copy + Drop, T: Drop> SlotTable<K, T> for IndexSlots<K, T> {
@@ -39,11 +42,16 @@ impl<K: Ord + Copy + Drop, T: Drop> SlotTable<K, T> for IndexSlots<K, T> {
 
     ghost capacity = { λ t. t.1 };
 
+    /// A table has at most 2^31 slots; more are refused as memory is.
     fn new(alloc: Global, room: usize) -> Result<Self, AllocError> {
+        if room > MOST_PLACES as usize {
+            return Err(AllocError);
+        }
         Ok(IndexSlots {
             slots: VecDeque::with_capacity(alloc, room)?,
             places: Places::new(alloc, room)?,
             capacity: room,
+            gap: None,
         })
     }
 
@@ -93,7 +101,7 @@ impl<K: Ord + Copy + Drop, T: Drop> SlotTable<K, T> for IndexSlots<K, T> {
     }
 
     fn get_mut(&mut self, key: &K) -> Option<&mut T> {
-        let Some(found) = look_up(&self.slots, &self.places, key) else {
+        let Some(found) = look_up_or_gap(&self.slots, &self.places, key, &mut self.gap) else {
             return None;
         };
         Some(&mut self.slots[found.place].value)
@@ -104,7 +112,8 @@ impl<K: Ord + Copy + Drop, T: Drop> SlotTable<K, T> for IndexSlots<K, T> {
         if len >= self.capacity {
             return Err((key, value));
         }
-        let n = rank_of(&self.slots, &self.places, &key);
+        let n = rank_near(&self.slots, &self.places, self.gap, &key);
+        self.gap = None;
         self.places.insert(n, len);
         self.slots.push_back_reserved(Slot { key, begin, value });
         Ok(())
@@ -122,6 +131,7 @@ impl<K: Ord + Copy + Drop, T: Drop> SlotTable<K, T> for IndexSlots<K, T> {
         let Some(found) = look_up(&self.slots, &self.places, key) else {
             return None;
         };
+        self.gap = gap_without(self.gap, found.rank);
         self.places.take(found.rank, found.place);
         match self.slots.remove(found.place) {
             Some(slot) => Some(slot.value),
@@ -200,6 +210,27 @@ fn look_up<K: Ord, T>(slots: &VecDeque<Slot<K, T>>, places: &Places, key: &K) ->
     }
 }
 
+/// Where the key stands, or None where it is absent; then the gap is where it would stand in the order of the keys.
+fn look_up_or_gap<K: Ord, T>(
+    slots: &VecDeque<Slot<K, T>>,
+    places: &Places,
+    key: &K,
+    gap: &mut Option<usize>,
+) -> Option<Found>
+    requires distinct { IsDistinct K.eq slots.now.items }
+    requires index { IsIndex K.cmp places.now.0 slots.now.items }
+    ensures { MatchOption result (value_at K.eq key.now slots.now.items ≡ None) (λ found. IsSearched K.eq K.cmp key.now slots.now.items (Ok found)) }
+{
+    let mut count = Count { comparisons: 0 };
+    match search(slots, places, key, &mut count) {
+        Ok(found) => Some(found),
+        Err(n) => {
+            *gap = Some(n);
+            None
+        }
+    }
+}
+
 /// How many slots have a lesser key.
 fn rank_of<K: Ord, T>(slots: &VecDeque<Slot<K, T>>, places: &Places, key: &K) -> usize
     requires distinct { IsDistinct K.eq slots.now.items }
@@ -211,5 +242,79 @@ fn rank_of<K: Ord, T>(slots: &VecDeque<Slot<K, T>>, places: &Places, key: &K) ->
     match search(slots, places, key, &mut count) {
         Ok(found) => found.rank,
         Err(n) => n,
+    }
+}
+
+/// Whether the keys before that place are less; the last of them tells.
+fn is_above<K: Ord, T>(slots: &VecDeque<Slot<K, T>>, places: &Places, n: usize, key: &K) -> bool
+    requires distinct { IsDistinct K.eq slots.now.items }
+    requires index { IsIndex K.cmp places.now.0 slots.now.items }
+    requires within { n ≤ length places.now.0 }
+    ensures { result ≡ true → AllBelow K.cmp key.now n (in_order K.cmp slots.now.items) }
+{
+    if n == 0 {
+        return true;
+    }
+    match nth(slots, places, n - 1).key.cmp(key) {
+        Ordering::Less => true,
+        _ => false,
+    }
+}
+
+/// Whether the keys from that place on are greater; the first of them tells.
+fn is_below<K: Ord, T>(slots: &VecDeque<Slot<K, T>>, places: &Places, n: usize, key: &K) -> bool
+    requires distinct { IsDistinct K.eq slots.now.items }
+    requires index { IsIndex K.cmp places.now.0 slots.now.items }
+    ensures { result ≡ true → AllAbove K.cmp key.now n (in_order K.cmp slots.now.items) }
+{
+    if n >= places.len() {
+        return true;
+    }
+    match nth(slots, places, n).key.cmp(key) {
+        Ordering::Greater => true,
+        _ => false,
+    }
+}
+
+/// Whether the keys before that place are less, and the others greater.
+fn is_gap<K: Ord, T>(slots: &VecDeque<Slot<K, T>>, places: &Places, n: usize, key: &K) -> bool
+    requires distinct { IsDistinct K.eq slots.now.items }
+    requires index { IsIndex K.cmp places.now.0 slots.now.items }
+    ensures { result ≡ true → (n ≡ rank K.cmp key.now slots.now.items) × (n ≤ length slots.now.items) }
+{
+    if n > places.len() {
+        return false;
+    }
+    if !is_above(slots, places, n, key) {
+        return false;
+    }
+    is_below(slots, places, n, key)
+}
+
+/// How many slots have a lesser key; a gap is tried first.
+fn rank_near<K: Ord, T>(
+    slots: &VecDeque<Slot<K, T>>,
+    places: &Places,
+    gap: Option<usize>,
+    key: &K,
+) -> usize
+    requires distinct { IsDistinct K.eq slots.now.items }
+    requires index { IsIndex K.cmp places.now.0 slots.now.items }
+    ensures rank { result ≡ rank K.cmp key.now slots.now.items }
+    ensures within { result ≤ length slots.now.items }
+{
+    match gap {
+        Some(gap) if is_gap(slots, places, gap, key) => gap,
+        _ => rank_of(slots, places, key),
+    }
+}
+
+/// Where a gap is once the slot of that rank has left.
+fn gap_without(gap: Option<usize>, rank: usize) -> Option<usize>
+    ensures { result ≡ option_map (lowered rank) gap }
+{
+    match gap {
+        Some(gap) => Some(lowered(gap, rank)),
+        None => None,
     }
 }

@@ -1,5 +1,5 @@
 //! Places of slots, in an order, of which the first can leave without a walk over the others.
-ghost use Rattle.std.specs.Prelude.{◌≡◌, ◌+◌, ◌^◌, ◌<◌, ◌≤◌, [], length, map, Some, IfOk, slice_get};
+ghost use Rattle.std.specs.Prelude.{◌≡◌, ◌-◌, ◌^◌, ◌+◌, ◌<◌, ◌≤◌, [], length, map, Some, IfOk, slice_get};
 ghost use Rattle.std.specs.Prelude.{vec_capacity};
 ghost use Rattle.std.specs.List.{insert, remove};
 ghost use Rattle.bac_slots.specs.Indexes.{lowered, Avoids};
@@ -7,14 +7,14 @@ ghost use Rattle.bac_slots.specs.Indexes.{lowered, Avoids};
 use std::alloc::{AllocError, Global};
 use std::marker::Model;
 
-/// So often the first place leaves without a walk: 2^62.
-const MOST_GONE: usize = 4_611_686_018_427_387_904;
+/// So many places there are at most, and so often the first one leaves without a walk: 2^31.
+pub(crate) const MOST_PLACES: u32 = 2_147_483_648;
 
 /// Places of slots, and for how many there is room. Each place stands as a number that is greater by how often the first place left.
 #[derive(Drop)]
 pub(crate) struct Places {
-    numbers: Vec<usize>,
-    gone: usize,
+    numbers: Vec<u32>,
+    gone: u32,
 }
 
 impl Model for Places {
@@ -25,7 +25,7 @@ impl Model for Places {
 
     ghost view = { λ p. (places_of p.gone p.numbers.items, vec_capacity p.numbers) };
 
-    ghost invariant = { λ p. (p.gone ≤ 2 ^ 62) × AllFrom p.gone p.numbers.items };
+    ghost invariant = { λ p. (p.gone ≤ 2 ^ 31) × AllFrom p.gone p.numbers.items };
 }
 
 impl Places {
@@ -51,18 +51,18 @@ impl Places {
         requires { n < length self.now.0 }
         ensures { slice_get self.now.0 n ≡ Some result }
     {
-        self.numbers[n] - self.gone
+        (self.numbers[n] - self.gone) as usize
     }
 
     /// Adds a place before the n-th.
     pub(crate) fn insert(&mut self, n: usize, place: usize)
         requires within { n ≤ length self.old.0 }
         requires room { length self.old.0 < self.old.1 }
-        requires small { place < 2 ^ 63 }
+        requires small { place < 2 ^ 31 }
         ensures places { self.new.0 ≡ insert self.old.0 n place }
         ensures room { self.old.1 ≤ self.new.1 }
     {
-        match self.numbers.insert(n, place + self.gone) {
+        match self.numbers.insert(n, place as u32 + self.gone) {
             Ok(()) => {}
             Err(_) => unreachable!(),
         }
@@ -72,30 +72,42 @@ impl Places {
     pub(crate) fn take(&mut self, n: usize, place: usize)
         requires within { n < length self.old.0 }
         requires once { Avoids place (remove self.old.0 n) }
-        requires small { place < 2 ^ 63 }
         ensures places { self.new.0 ≡ map (lowered place) (remove self.old.0 n) }
         ensures room { self.new.1 ≡ self.old.1 }
     {
         self.numbers.remove(n);
-        if place == 0 && self.gone < MOST_GONE {
+        if place == 0 && self.gone < MOST_PLACES {
             self.gone += 1;
         } else {
-            lower(&mut self.numbers, place + self.gone);
+            settle(&mut self.numbers, self.gone, place);
+            self.gone = 0;
         }
     }
 }
 
-/// The numbers that are greater than one are one less then.
-fn lower(numbers: &mut Vec<usize>, gone: usize)
-    ensures numbers { numbers.new.items ≡ map (lowered gone) numbers.old.items }
+/// Each number is its place then, and those of places that are greater than one are one less.
+fn settle(numbers: &mut Vec<u32>, first: u32, gone: usize)
+    ensures numbers { numbers.new.items ≡ map (λ n. lowered gone (n - first)) numbers.old.items }
     ensures capacity { vec_capacity numbers.new ≡ vec_capacity numbers.old }
 {
     for number in numbers.iter_mut() {
-        *number = lowered(*number, gone);
+        *number = settled(*number, first, gone);
     }
 }
 
-fn lowered(number: usize, gone: usize) -> usize
+fn settled(number: u32, first: u32, gone: usize) -> u32
+    ensures { result ≡ lowered gone (number - first) }
+{
+    let place = number.saturating_sub(first);
+    if gone < place as usize {
+        place - 1
+    } else {
+        place
+    }
+}
+
+/// A place, once one is gone.
+pub(crate) fn lowered(number: usize, gone: usize) -> usize
     ensures { result ≡ lowered gone number }
 {
     if gone < number { number - 1 } else { number }

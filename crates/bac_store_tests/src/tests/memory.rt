@@ -1,6 +1,14 @@
 //! Run with each allocation refused in turn, too: `sh tests/memory/refused.sh`.
 use super::*;
-use bac_service::Request;
+use bac_service::{OwnedReply, Request};
+
+/// The house, where one allocation alone is refused.
+fn house_at_last(alloc: Global) -> Result<Store, NoMemory> {
+    match house(alloc) {
+        Ok(store) => Ok(store),
+        Err(NoMemory) => house(alloc),
+    }
+}
 
 /// A copy, where one allocation alone is refused.
 fn copied(alloc: Global, store: &Store) -> Result<Store, NoMemory> {
@@ -10,24 +18,18 @@ fn copied(alloc: Global, store: &Store) -> Result<Store, NoMemory> {
     }
 }
 
-fn is_copied(alloc: Global, store: &Store) -> Result<bool, NoMemory> {
-    Ok(copied(alloc, store)?.same(store))
-}
-
 /// A refused copy leaves the store, which can be copied then.
 #[test]
 fn copies_or_refuses(rt: HostRuntime) -> Result<(), Fail> {
-    match house(rt.alloc()) {
-        Ok(store) => holds(is_copied(rt.alloc(), &store)?, "a copy"),
-        Err(NoMemory) => Ok(()),
-    }
+    let store = house_at_last(rt.alloc())?;
+    holds(copied(rt.alloc(), &store)?.same(&store), "a copy")
 }
 
 /// Whether a reply is the wanted one, where one allocation alone is refused.
-fn is_told(alloc: Global, plan: &Planned, want: Want) -> Result<bool, NoMemory> {
-    match is_wanted(alloc, plan.reply(), want) {
+fn is_told(alloc: Global, reply: Reply<'_>, want: Want) -> Result<bool, NoMemory> {
+    match is_wanted(alloc, reply, want) {
         Ok(is) => Ok(is),
-        Err(NoMemory) => is_wanted(alloc, plan.reply(), want),
+        Err(NoMemory) => is_wanted(alloc, reply, want),
     }
 }
 
@@ -53,7 +55,17 @@ const REQUESTS: &[(u8, &[u8], Want)] = &[
         b"\xC4\x02\x80\x00\x01\x0E\x31\xFF\x61\xAA\x0F",
         Want::Complex("0902"),
     ),
+    (
+        15,
+        b"\x0C\x00\x80\x00\x01\x19\x55\x3E\x44\x43\x34\x00\x00\x3F",
+        Want::Simple,
+    ),
     (12, b"\x0C\x00\x00\x00\x09\x19\x55", Want::Error(1, 31)),
+    (
+        15,
+        b"\x0C\x00\x00\x00\x05\x19\x55\x3E\x44\x00\x00\x00\x00\x3F",
+        Want::Error(2, 40),
+    ),
 ];
 
 /// A plan, where one allocation alone is refused; none where memory was refused for an Error.
@@ -81,7 +93,7 @@ fn is_prepared(
         return Ok(false);
     };
     match planned(alloc, store, &request, want)? {
-        Some(plan) => is_told(alloc, &plan, want),
+        Some(plan) => is_told(alloc, plan.reply(), want),
         None => Ok(false),
     }
 }
@@ -98,8 +110,72 @@ fn all_prepared(alloc: Global, store: &Store) -> Result<(), Fail> {
 /// Each reply is told; where its memory is refused, the next call finds the store as it was. An Error takes no memory.
 #[test]
 fn prepares_or_refuses(rt: HostRuntime) -> Result<(), Fail> {
-    match house(rt.alloc()) {
-        Ok(store) => all_prepared(rt.alloc(), &store),
-        Err(NoMemory) => Ok(()),
+    all_prepared(rt.alloc(), &house_at_last(rt.alloc())?)
+}
+
+/// The reply to a request that is performed, where one allocation alone is refused; a refused call leaves the store as it was. None where an Error was refused
+/// memory.
+fn performed(
+    alloc: Global,
+    store: &mut Store,
+    request: &Request<'_>,
+    want: Want,
+) -> Result<Option<OwnedReply>, NoMemory> {
+    let before = copied(alloc, store)?;
+    match store.perform(alloc, request) {
+        Ok(reply) => Ok(Some(reply)),
+        Err(NoMemory) if matches!(want, Want::Error(_, _)) || !store.same(&before) => Ok(None),
+        Err(NoMemory) => Ok(Some(store.perform(alloc, request)?)),
     }
+}
+
+fn is_performed_at_last(
+    alloc: Global,
+    store: &mut Store,
+    choice: u8,
+    octets: &[u8],
+    want: Want,
+) -> Result<bool, NoMemory> {
+    let Ok(request) = read_request(choice, octets) else {
+        return Ok(false);
+    };
+    match performed(alloc, store, &request, want)? {
+        Some(reply) => is_told(alloc, reply.as_reply(), want),
+        None => Ok(false),
+    }
+}
+
+/// What the requests have written.
+const READS: &[(u8, &[u8], Want)] = &[
+    (
+        12,
+        b"\x0C\x00\x80\x00\x01\x19\x55",
+        Want::Complex("0C0080000119553E44433400003F"),
+    ),
+    (
+        6,
+        b"\xC4\x02\x80\x00\x01\x0E\x31\x00\x21\x0A\x0F",
+        Want::Complex("110E3100634F4BAA0F"),
+    ),
+];
+
+fn all_performed_at_last(
+    alloc: Global,
+    store: &mut Store,
+    rows: &[(u8, &[u8], Want)],
+) -> Result<(), Fail> {
+    for (choice, octets, want) in rows {
+        if !is_performed_at_last(alloc, store, *choice, octets, *want)? {
+            return Err(Fail::from(*octets));
+        }
+    }
+    Ok(())
+}
+
+/// Each request is performed; where its memory is refused, the store is as it was, and the next call performs it.
+#[test]
+fn performs_or_refuses(rt: HostRuntime) -> Result<(), Fail> {
+    let mut store = house_at_last(rt.alloc())?;
+    all_performed_at_last(rt.alloc(), &mut store, REQUESTS)?;
+    all_performed_at_last(rt.alloc(), &mut store, READS)
 }

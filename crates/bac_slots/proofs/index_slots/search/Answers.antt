@@ -1,7 +1,8 @@
 -- The n-th key of the index is less, equal or greater.
 use Rattle.std.proofs.Common.{◌≡◌, ◌+◌, ◌-◌, ◌/◌, ◌<◌, ◌≤◌, ℕ, length, ◌∙◌, sym, subst, arith}
 use Rattle.bac_slots.specs.Slots.{in_order}
-use Rattle.bac_slots.proofs.Indexes.{AllAbove, index_length, index_at, index_within, above_end, below_more, above_more, not_found, found_is}
+use Rattle.bac_slots.specs.Indexes.{AllAbove}
+use Rattle.bac_slots.proofs.Indexes.{index_length, index_at, index_within, above_end, below_more, above_more, not_found, found_is}
 use Rattle.bac_slots.proofs.Indexes.{few_first, few_above, few_below, few_found, few_left}
 use Rattle.bac_slots.proofs.index_slots.search.Goals as goal
 

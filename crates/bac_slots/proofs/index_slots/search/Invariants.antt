@@ -1,7 +1,7 @@
 -- The key is none of those before and none of those from the end on; each step halves what is left.
 use Rattle.std.proofs.Common.{◌-◌, ◌+◌, ◌≤◌, length}
 use Rattle.bac_slots.specs.Slots.{in_order, digits}
-use Rattle.bac_slots.proofs.Indexes.{AllBelow, AllAbove}
+use Rattle.bac_slots.specs.Indexes.{AllBelow, AllAbove}
 use Rattle.bac_slots.proofs.index_slots.search.Given as goal
 
 abbrev pub invariant-loop-first : goal.invariant-loop-first

@@ -15,4 +15,5 @@ pub returns-clause-past : goal.returns-clause-past
 returns-clause-past g c = λ slots key d e. past _ _ g.K.Ord.cmp g.met.K.Ord.total g.K.PartialEq.eq g.met.K.Ord.matches_eq key slots d e
 
 pub returns-clause-next : goal.returns-clause-next
-returns-clause-next g c = λ slots key after v d e less between. next _ _ g.K.Ord.cmp g.met.K.Ord.total g.K.PartialEq.eq g.met.K.Ord.matches_eq key after less between slots v d e
+returns-clause-next g c = λ slots key after v d e less between.
+    next _ _ g.K.Ord.cmp g.met.K.Ord.total g.K.PartialEq.eq g.met.K.Ord.matches_eq key after less between slots v d e

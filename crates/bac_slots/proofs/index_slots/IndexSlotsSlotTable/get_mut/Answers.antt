@@ -26,6 +26,7 @@ invariant_of-self-lent g c = λ w.
       subst (λ (l : List (Slot _ _)). IsIndex g.K.Ord.cmp c.self.inside.places.0 l) (sym items)
           (index_set _ _ g.K.Ord.cmp g.met.K.Ord.total g.K.PartialEq.eq g.met.K.Ord.matches_eq c.args.key.now w c.self.inside.slots.items
           c.self.inside.places.0 c.self.invariant.3 c.self.invariant.4),
+      c.self.invariant.5,
     )
 
 pub returns : goal.returns

@@ -22,10 +22,6 @@ take-requires-clause-once g c =
     index_avoids _ _ g.K.Ord.cmp g.met.K.Ord.total g.K.PartialEq.eq g.met.K.Ord.matches_eq c.args.key.now c.self.inside.slots.items
     c.self.inside.places.0 c.in-Some.found.rank c.in-Some.found.place c.self.invariant.3 c.self.invariant.4 c.in-Some.ensures.0 c.in-Some.ensures.3
 
-pub take-requires-clause-small : goal.take-requires-clause-small
-take-requires-clause-small g c =
-    omega (arith, c.in-Some.ensures.2, c.self.inside.slots.ok.0, c.self.inside.slots.small.0, c.self.inside.slots.small.1)
-
 pub returns-clause-slots : goal.returns-clause-slots
 returns-clause-slots g c = rw (← c.self.view_is)
     (c.in-Some-remove.ensures.items ∙ sym (without-IsAt g.K.PartialEq.eq c.args.key.now c.in-Some.found.place c.self.inside.slots.items c.in-Some.ensures.3))
@@ -50,4 +46,5 @@ invariant_of-self g c =
           (index_remove _ _ g.K.Ord.cmp g.met.K.Ord.total g.K.PartialEq.eq g.met.K.Ord.matches_eq
           c.args.key.now slots places c.in-Some.found.rank c.in-Some.found.place
           c.self.invariant.3 c.self.invariant.4 c.in-Some.ensures.0 c.in-Some.ensures.3)),
+      c.self.invariant.5,
     )

@@ -33,4 +33,5 @@ invariant_of-self g c =
           (index_set _ _ g.K.Ord.cmp g.met.K.Ord.total g.K.PartialEq.eq g.met.K.Ord.matches_eq
           c.args.key.now c.args.value c.self.inside.slots.items c.self.inside.places.0
           c.self.invariant.3 c.self.invariant.4),
+      c.self.invariant.5,
     )

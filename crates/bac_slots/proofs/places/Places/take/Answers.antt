@@ -1,26 +1,22 @@
 -- The first place leaves, or another one.
 use Rattle.std.proofs.Common.{arith}
-use Rattle.bac_slots.proofs.Numbers.{took_first, took_other}
+use Rattle.bac_slots.proofs.Numbers.{from_zero, took_first, took_other}
 use Rattle.bac_slots.proofs.places.Places.take.Goals as goal
 
 pub invariant_of-self : goal.invariant_of-self
 invariant_of-self c =
     let once = rw (← c.self.view_is) at c.requires.once in
     let i = c.self.inside in (
-      omega (arith, c.if-self-lt-MOST_GONE.true),
+      omega (arith, c.if-self-lt-MOST_PLACES.true),
       (took_first i.gone i.numbers.items c.remove.new.self.items c.args.n c.args.place c.self.invariant.1 c.remove.ensures.items c.if-place-eq0.true once).0,
     )
 
 pub invariant_of-self-else-place-eq0 : goal.invariant_of-self-else-place-eq0
 invariant_of-self-else-place-eq0 c =
-    let i = c.self.inside in (
-      c.self.invariant.0,
-      (took_other i.gone i.numbers.items c.remove.new.self.items c.lower.new.numbers.items c.args.n c.args.place c.self.invariant.1 c.remove.ensures.items
-          c.lower.ensures.numbers).0,
-    )
+    (omega arith, from_zero c.settle.new.numbers.items)
 
-pub returns-then-self-lt-MOST_GONE-clause-places : goal.returns-then-self-lt-MOST_GONE-clause-places
-returns-then-self-lt-MOST_GONE-clause-places c =
+pub returns-then-self-lt-MOST_PLACES-clause-places : goal.returns-then-self-lt-MOST_PLACES-clause-places
+returns-then-self-lt-MOST_PLACES-clause-places c =
     let once = rw (← c.self.view_is) at c.requires.once in
     let i = c.self.inside in
     rw (← c.self.view_is)
@@ -30,5 +26,5 @@ pub returns-else-place-eq0-clause-places : goal.returns-else-place-eq0-clause-pl
 returns-else-place-eq0-clause-places c =
     let i = c.self.inside in
     rw (← c.self.view_is)
-    ((took_other i.gone i.numbers.items c.remove.new.self.items c.lower.new.numbers.items c.args.n c.args.place c.self.invariant.1 c.remove.ensures.items
-    c.lower.ensures.numbers).1)
+    (took_other i.gone i.numbers.items c.remove.new.self.items c.settle.new.numbers.items c.args.n c.args.place c.remove.ensures.items
+    c.settle.ensures.numbers)

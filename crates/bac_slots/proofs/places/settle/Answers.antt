@@ -1,9 +1,9 @@
--- One number more is lowered.
-use Rattle.std.proofs.Common.{◌≡◌, ◌∙◌, ℕ, List, length, ap, arith, get_or, set}
+-- One number more is settled.
+use Rattle.std.proofs.Common.{◌≡◌, ◌-◌, ◌∙◌, ℕ, List, length, ap, arith, get_or, set}
 use Rattle.std.proofs.lemmas.List.{get_or_default}
 use Rattle.std.proofs.lemmas.List.Edits.{map_over_more}
 use Rattle.bac_slots.specs.Indexes.{lowered}
-use Rattle.bac_slots.proofs.places.lower.Goals as goal
+use Rattle.bac_slots.proofs.places.settle.Goals as goal
 
 pub loop-number-preserved : goal.loop-number-preserved
 loop-number-preserved c =
@@ -11,6 +11,6 @@ loop-number-preserved c =
     let numbers : List ℕ = c.loop-number.number-items in
     let whole : length c.deref_mut-number-items.result.now ≡ length c.args.numbers.now.items = ap length c.deref_mut-number-items.ensures.value in
     let read = get_or_default numbers i 0 (get_or numbers i 0) (omega (arith, c.loop-number-test.true, c.loop-number.auto.number-items)) in
-    ap (λ v. set numbers i v) c.lowered.ensures
-    ∙ map_over_more (lowered c.args.gone) c.args.numbers.now.items numbers i (get_or numbers i 0) (omega (arith, c.loop-number-test.true, whole))
-    c.loop-number.invariant read
+    ap (λ v. set numbers i v) c.settled.ensures
+    ∙ map_over_more (λ n. lowered c.args.gone (n - c.args.first)) c.args.numbers.now.items numbers i (get_or numbers i 0)
+    (omega (arith, c.loop-number-test.true, whole)) c.loop-number.invariant read
