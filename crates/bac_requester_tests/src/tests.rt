@@ -2,7 +2,7 @@
 ghost use Rattle.std.specs.Prelude.{◌<◌};
 
 use bac_apdu::{Limits, Window, read};
-use bac_client::{Ending, Held};
+use bac_client::Ending;
 use bac_ends::{Datagram, PeerKey, Settings};
 use bac_npdu::Peer;
 use bac_requester::{AskFault, Client, Due, Requester, Turn};
@@ -19,7 +19,6 @@ mod asks;
 mod memory;
 mod replies;
 mod requests;
-mod tickets;
 
 type Indexed = Requester<IndexSlots<PeerKey, Client>>;
 

@@ -53,8 +53,21 @@ const PUTS: &[Put] = &[
         100,
         End::Refused(AskFault::NeedsSegments),
     ),
+    (
+        2,
+        Takes::TwoSegments,
+        78,
+        End::Refused(AskFault::NeedsSegments),
+    ),
     (2, Takes::TwoSegments, 77, End::Open),
     (2, Takes::FourSegments, 100, End::Open),
+    (
+        2,
+        Takes::FourSegments,
+        166,
+        End::Refused(AskFault::NeedsSegments),
+    ),
+    (2, Takes::FourSegments, 165, End::Open),
 ];
 
 /// How a put ends with so many slots.

@@ -21,6 +21,8 @@ const ANSWERS: &[(u8, Row)] = &[
     (12, (2_000, "20010C", "", End::Open)),
     (12, (2_000, "20010F", "", End::Open)),
     (7, (2_000, "300107 0905", "", End::Written(5))),
+    // no octets of a file, from position 2 on, which is its end
+    (6, (2_000, "300106 11 0E 3102 60 0F", "", End::File(2))),
     (15, (2_000, "30010F 0905", "", End::Open)),
     (7, (2_000, "300106 0905", "", End::Open)),
     // service data that can't be read

@@ -1,7 +1,14 @@
-//! One ticket by itself, line by line of the state tables: what comes for it, what it sends, and how it ends.
-use super::*;
-use bac_client::{Begun, OutgoingRequest, RequestWay, Ticket};
-use bac_ends::Context;
+//! One ticket by itself, line by line of the state tables: what comes for it, what it sends, and how it ends. Here is what the tests share.
+ghost use Rattle.std.specs.Prelude.{◌<◌};
+
+use bac_apdu::{Limits, Window, read};
+use bac_client::{Begun, Ending, Held, OutgoingRequest, RequestWay, Ticket};
+use bac_ends::{Context, Datagram, PeerKey, Settings};
+use bac_npdu::Peer;
+use bac_service::{AnyComplex, AnyReply, FileWritten, OwnedReply};
+use bac_value::NoMemory;
+use std::alloc::Global;
+use std::test::Fail;
 
 mod answers;
 mod far;
@@ -21,6 +28,24 @@ const SETTINGS: Settings = Settings {
     window: WINDOW,
 };
 
+/// How a row ends its ticket.
+#[derive(Clone, Copy, PartialEq)]
+enum End {
+    Open,
+    Simple,
+    File(i64),
+    Written(i64),
+    Property,
+    Error(u32, u32),
+    Rejected(u8),
+    Aborted(u8),
+    TimedOut,
+    Expired,
+}
+
+/// The moment, the APDU that comes (none: a tick), the first octets of the datagrams that are sent, and the end.
+type Row = (u64, &'static str, &'static str, End);
+
 /// Service data that fit one APDU.
 const SHORT: &str = "0C00000005 1955";
 
@@ -30,12 +55,76 @@ const REQUEST: &str = "810A0011 0104 02000107 0C00000005 1955";
 /// The moment of each ask.
 const FIRST: u64 = 1_000;
 
+fn digit(character: u8) -> u8
+    ensures { result < 16 }
+{
+    match character {
+        b'0'..=b'9' => character - b'0',
+        b'A'..=b'F' => character - b'A' + 10,
+        _ => 0,
+    }
+}
+
+/// The octets of hexadecimal text with spaces between.
+fn octets_of(alloc: Global, text: &str) -> Result<Vec<u8>, NoMemory> {
+    let mut octets = Vec::new(alloc);
+    let mut high = None;
+    for &character in text.as_bytes() {
+        if character == b' ' {
+            continue;
+        }
+        high = match high {
+            None => Some(digit(character)),
+            Some(high) => {
+                octets.push(high.wrapping_mul(16).wrapping_add(digit(character)))?;
+                None
+            }
+        };
+    }
+    Ok(octets)
+}
+
+/// The end that an answer is.
+fn answer_of(reply: &OwnedReply) -> End {
+    match reply {
+        AnyReply::Simple => End::Simple,
+        AnyReply::Complex(AnyComplex::FileRead(file)) => End::File(file.start),
+        AnyReply::Complex(AnyComplex::FileWritten(FileWritten::Stream(start))) => {
+            End::Written(*start)
+        }
+        AnyReply::Complex(_) => End::Property,
+        AnyReply::Error { class, code } => End::Error(*class, *code),
+        AnyReply::Reject(reason) => End::Rejected(*reason),
+    }
+}
+
+fn end_of(how: &Ending) -> End {
+    match how {
+        Ending::Answered(reply) => answer_of(reply),
+        Ending::Rejected(reason) => End::Rejected(*reason),
+        Ending::Aborted(reason) => End::Aborted(*reason),
+        Ending::TimedOut => End::TimedOut,
+        Ending::Expired => End::Expired,
+    }
+}
+
+/// The datagrams joined, each cut after 24 octets; its length stands in the third and the fourth.
+fn joined(alloc: Global, sends: &[Datagram]) -> Result<Vec<u8>, NoMemory> {
+    let mut joined = Vec::new(alloc);
+    for datagram in sends {
+        let octets = datagram.octets();
+        joined.extend_from_slice(&octets[..octets.len().min(24)])?;
+    }
+    Ok(joined)
+}
+
 /// Invoke ID 1 of peer 2.
 fn context(moment: u64) -> Context {
-    let key = PeerKey {
-        peer: peer(2),
-        invoke_id: 1,
+    let peer = Peer {
+        link: [10, 0, 0, 2, 0xBA, 0xC0],
+        route: None,
     };
+    let key = PeerKey { peer, invoke_id: 1 };
     Context {
         settings: SETTINGS,
         key,
@@ -61,7 +150,14 @@ fn is_as_said(
         Some(how) => end_of(how),
         None => End::Open,
     };
-    is_said(alloc, sends, how, row)
+    let told = joined(alloc, sends)?;
+    let wanted = octets_of(alloc, row.2)?;
+    Ok(told == wanted && how == row.3)
+}
+
+/// A row that went otherwise.
+fn wrong(row: &Row) -> Fail {
+    Fail::from(if row.1.is_empty() { row.2 } else { row.1 })
 }
 
 fn ticks(alloc: Global, row: &Row, ticket: Ticket) -> Result<Played, Fail> {
