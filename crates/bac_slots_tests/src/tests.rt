@@ -395,14 +395,14 @@ fn each_call_of_an_index_compares_few(rt: HostRuntime) {
     }
 }
 
-// How many keys are compared where a slot is put whose key was taken out.
+// How many keys are compared where a slot is put.
 fn compared_by_put<'a>(
     table: &mut Counted<'a>,
     number: u32,
+    value: u8,
     comparisons: &'a Cell<u64>,
 ) -> Option<u64> {
     let key = counted(number, comparisons);
-    let value = table.remove(&key)?;
     if table.get(&key).is_some() {
         return None;
     }
@@ -413,24 +413,57 @@ fn compared_by_put<'a>(
     }
 }
 
-// Whether a slot is put among 1,023 others with 10 comparisons at most, for each of 1,024 keys.
-fn puts_by_few(alloc: Global) -> bool {
+// The same where its key was taken out.
+fn compared_once_taken_out<'a>(
+    table: &mut Counted<'a>,
+    number: u32,
+    comparisons: &'a Cell<u64>,
+) -> Option<u64> {
+    let value = table.remove(&counted(number, comparisons))?;
+    compared_by_put(table, number, value, comparisons)
+}
+
+// The same where a loan at its key was asked for since, and the slot beside it left then.
+fn compared_once_asked_for<'a>(
+    table: &mut Counted<'a>,
+    number: u32,
+    comparisons: &'a Cell<u64>,
+) -> Option<u64> {
+    let value = table.remove(&counted(number, comparisons))?;
+    if table.get_mut(&counted(number, comparisons)).is_some() {
+        return None;
+    }
+    let beside = table.remove(&counted(number ^ 1, comparisons))?;
+    let many = compared_by_put(table, number, value, comparisons)?;
+    compared_by_put(table, number ^ 1, beside, comparisons)?;
+    Some(many)
+}
+
+// Whether a slot is put among 1,023 others with so many comparisons at most, for each of 1,024 keys.
+fn puts_by_few(alloc: Global, is_asked_for: bool, most: u64) -> bool {
     let comparisons = Cell::new(0);
     let Some(mut table) = scattered(alloc, 1_024, &comparisons) else {
         return false;
     };
     for number in 0..1_024u32 {
-        match compared_by_put(&mut table, number, &comparisons) {
-            Some(many) if many <= 10 => {}
+        let many = if is_asked_for {
+            compared_once_asked_for(&mut table, number, &comparisons)
+        } else {
+            compared_once_taken_out(&mut table, number, &comparisons)
+        };
+        match many {
+            Some(many) if many <= most => {}
             _ => return false,
         }
     }
     true
 }
 
+// A key at which a loan was asked for in vain is put beside its neighbours.
 #[test]
 fn a_slot_is_put_with_few_comparisons(rt: HostRuntime) {
-    assert!(rt; puts_by_few(rt.alloc()));
+    assert!(rt; puts_by_few(rt.alloc(), false, 10));
+    assert!(rt; puts_by_few(rt.alloc(), true, 2));
 }
 
 #[test]

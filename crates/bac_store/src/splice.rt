@@ -1,5 +1,5 @@
 //! New octets of a file, with all the memory that a write of them takes.
-ghost use Rattle.std.specs.Prelude.{◌≡◌, ◌+◌, ◌≤◌, ◌++◌, [], length, take, IfOk, OnErr, vec_capacity};
+ghost use Rattle.std.specs.Prelude.{◌≡◌, ◌+◌, ◌*◌, ◌<◌, ◌≤◌, ◌++◌, [], length, take, IfOk, OnErr, vec_capacity};
 ghost use Rattle.bac_store.specs.Limits.{FILE_LIMIT as FILE_MOST};
 ghost use Rattle.bac_store.specs.Replies.{overwritten};
 
