@@ -11,7 +11,7 @@ use Rattle.bac_text.specs.declared.status.Status.{Status}
 use Rattle.bac_text.specs.declared.status.Status.TheVariants as status
 use Rattle.bac_run.specs.Asking.{AskingEnds, Question}
 use Rattle.bac_service.specs.Values.{Request}
-use Rattle.bac_run.specs.Pairs.{Pair, pair}
+use Rattle.bac_run.specs.Pairs.{Pair, PairEnds, pair}
 use Rattle.bac_run.specs.Serving.{Serves}
 use Rattle.bac_run.specs.declared.question.AskEnd.{AskEnd}
 use Rattle.bac_online.specs.Houses.{house_node}
@@ -65,11 +65,16 @@ pair_failed status.CommandLine address other p old after failed = absurd failed
 pair_failed status.Output address other p old after failed = tt
 pair_failed status.Memory address other p old after failed = tt
 
--- an ask of a question, as one of the request that it has
-pub text_of : (answered : Bool) (q : Question) (link : Octets) (a b : Request) (old new : Pair) (text after : Option (List ℕ))
-    → q ≡ question_for link a → a ≡ b → PairText answered q old new text after → PairText answered (question_for link b) old new text after
-text_of answered q link a b old new text after is same told =
-    subst (λ (x : Question). PairText answered x old new text after) (is ∙ ap (question_for link) same) told
+-- how asking the one question ended, and what was printed of it
+pub pair_text : (answered : Bool) (q asked : Question) (end : AskEnd) (old new : Pair) (text after : Option (List ℕ))
+    → asked ≡ q → PairEnds asked end 10000 old new → Appends text after (end_line end) → answered ≡ is_answered end → PairText answered q old new text after
+pair_text answered q asked end old new text after is ends printed told =
+    record { end = end; ends = subst (λ (x : Question). PairEnds x end 10000 old new) is ends; printed = printed; is = sym told }
+
+-- a text of the one request, as of the other
+pub text_of : (answered : Bool) (link : Octets) (a b : Request) (old new : Pair) (text after : Option (List ℕ))
+    → a ≡ b → PairText answered (question_for link a) old new text after → PairText answered (question_for link b) old new text after
+text_of answered link a b old new text after same told = subst (λ (r : Request). PairText answered (question_for link r) old new text after) same told
 
 pub both_texts : (answered appended read : Bool) (address other : Octets) (old middle new : Pair) (text between after : Option (List ℕ))
     → PairText appended (question_for other append_request) old middle text between → PairText read (question_for other read_request) middle new between after

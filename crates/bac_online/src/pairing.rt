@@ -3,7 +3,6 @@ ghost use Rattle.std.specs.Prelude.{◌≡◌, ◌&&◌, IfOk};
 ghost use Rattle.bac_service.specs.Views.{owned_request_view};
 ghost use Rattle.bac_turns.specs.Turns.{on_link};
 ghost use Rattle.bac_run.specs.Pairs.{pair};
-ghost use Rattle.bac_run.specs.Views.{question_view};
 ghost use Rattle.bac_online.specs.Houses.{house_node};
 ghost use Rattle.bac_online.specs.Pairs.{ReportsPair, TwoTexts, PairText, append_request, read_request};
 ghost use Rattle.bac_online.specs.Questions.{question_for};
@@ -15,7 +14,7 @@ use crate::question::question_for;
 use crate::trouble::Trouble;
 use bac_link::{Clock, Link};
 use bac_node::Node;
-use bac_run::{Question, pair_over};
+use bac_run::pair_over;
 use bac_service::{
     AnyRequest, OwnedRequest, PropertyReference, WriteAccess, WriteFile, WriteStream,
 };
@@ -68,18 +67,22 @@ fn ask_other<L: Link, C: Clock, O: Write>(
     link: &mut L,
     other: &mut Node,
     other_link: &mut L,
+    other_address: [u8; 6],
     clock: &mut C,
-    question: &Question,
+    request: OwnedRequest,
     out: &mut O,
 ) -> Result<bool, Trouble>
-    ensures { IfOk result (λ answered. PairText answered (question_view question.now)
+    ensures { IfOk result (λ answered. PairText answered (question_for other_address (owned_request_view request))
         (pair (on_link node.old (L.failures link.old) (L.calls link.old))
         (on_link other.old (L.failures other_link.old) (L.calls other_link.old)) (C.told clock.old))
         (pair (on_link node.new (L.failures link.new) (L.calls link.new))
         (on_link other.new (L.failures other_link.new) (L.calls other_link.new)) (C.told clock.new))
         (O.contents out.old) (O.contents out.new)) }
 {
-    let end = pair_over(alloc, node, link, other, other_link, clock, question, TURNS)?;
+    let question = question_for(other_address, request);
+    let end = pair_over(
+        alloc, node, link, other, other_link, clock, &question, TURNS,
+    )?;
     print_end(alloc, &end, out)?;
     out.flush()?;
     Ok(is_answered(&end))
@@ -91,53 +94,7 @@ fn are_both(first: bool, second: bool) -> bool
     first && second
 }
 
-/// The first node asks the other to append AABBCC to file 1. Answers whether it was answered.
-fn ask_append<L: Link, C: Clock, O: Write>(
-    alloc: Global,
-    node: &mut Node,
-    link: &mut L,
-    other: &mut Node,
-    other_link: &mut L,
-    other_address: [u8; 6],
-    clock: &mut C,
-    out: &mut O,
-) -> Result<bool, Trouble>
-    ensures { IfOk result (λ answered. PairText answered (question_for other_address append_request)
-        (pair (on_link node.old (L.failures link.old) (L.calls link.old))
-        (on_link other.old (L.failures other_link.old) (L.calls other_link.old)) (C.told clock.old))
-        (pair (on_link node.new (L.failures link.new) (L.calls link.new))
-        (on_link other.new (L.failures other_link.new) (L.calls other_link.new)) (C.told clock.new))
-        (O.contents out.old) (O.contents out.new)) }
-{
-    let question = question_for(other_address, append_request(alloc)?);
-    let answered = ask_other(alloc, node, link, other, other_link, clock, &question, out)?;
-    Ok(answered)
-}
-
-/// The first node asks the other for the present-value of analog-input 5. Answers whether it was answered.
-fn ask_read<L: Link, C: Clock, O: Write>(
-    alloc: Global,
-    node: &mut Node,
-    link: &mut L,
-    other: &mut Node,
-    other_link: &mut L,
-    other_address: [u8; 6],
-    clock: &mut C,
-    out: &mut O,
-) -> Result<bool, Trouble>
-    ensures { IfOk result (λ answered. PairText answered (question_for other_address read_request)
-        (pair (on_link node.old (L.failures link.old) (L.calls link.old))
-        (on_link other.old (L.failures other_link.old) (L.calls other_link.old)) (C.told clock.old))
-        (pair (on_link node.new (L.failures link.new) (L.calls link.new))
-        (on_link other.new (L.failures other_link.new) (L.calls other_link.new)) (C.told clock.new))
-        (O.contents out.old) (O.contents out.new)) }
-{
-    let question = question_for(other_address, read_request());
-    let answered = ask_other(alloc, node, link, other, other_link, clock, &question, out)?;
-    Ok(answered)
-}
-
-/// Both asks are made, one after the other. Answers whether both were answered.
+/// The first node asks the other to append AABBCC to file 1, and then for the present-value of analog-input 5. Answers whether both were answered.
 fn ask_both<L: Link, C: Clock, O: Write>(
     alloc: Global,
     node: &mut Node,
@@ -153,7 +110,8 @@ fn ask_both<L: Link, C: Clock, O: Write>(
         (on_link other.old (L.failures other_link.old) (L.calls other_link.old)) (C.told clock.old))
         (O.contents out.old) (O.contents out.new)) }
 {
-    let first = ask_append(
+    let append = append_request(alloc)?;
+    let first = ask_other(
         alloc,
         node,
         link,
@@ -161,9 +119,10 @@ fn ask_both<L: Link, C: Clock, O: Write>(
         other_link,
         other_address,
         clock,
+        append,
         out,
     )?;
-    let second = ask_read(
+    let second = ask_other(
         alloc,
         node,
         link,
@@ -171,6 +130,7 @@ fn ask_both<L: Link, C: Clock, O: Write>(
         other_link,
         other_address,
         clock,
+        read_request(),
         out,
     )?;
     Ok(are_both(first, second))

@@ -11,7 +11,8 @@ first_space = position_or_len is_space
 
 before_step : (b : Bool) (x : ℕ) (xs : List ℕ) (n : ℕ) → (n < length xs → words_of xs ≡ take n xs ∷ words_of (drop (n + 1) xs))
     → cond (not b) (1 + n) 0 < suc (length xs)
-    → (if b then [] ∷ words_of xs else onto_first x (words_of xs)) ≡ take (cond (not b) (1 + n) 0) (x ∷ xs) ∷ words_of (drop (cond (not b) (1 + n) 0 + 1) (x ∷ xs))
+    → (if b then [] ∷ words_of xs else onto_first x (words_of xs))
+    ≡ take (cond (not b) (1 + n) 0) (x ∷ xs) ∷ words_of (drop (cond (not b) (1 + n) 0 + 1) (x ∷ xs))
 before_step true x xs n others within = refl
 before_step false x xs n others within =
     let one : 1 + n ≡ suc n = search arith in

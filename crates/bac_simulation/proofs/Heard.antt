@@ -57,7 +57,8 @@ module _ (links : ℕ → Option Octets) (apart : (i j : ℕ) (l : Octets) → l
 
   -- An APDU of a client, at its server.
 
-  module _ (number : ℕ) (p : Post) (at : slice_get n.posts number ≡ Some p) (a b : Node) (o : Outcome) (node : slice_get w.nodes p.key.server ≡ Some a) (l : Octets)
+  module _ (number : ℕ) (p : Post) (at : slice_get n.posts number ≡ Some p) (a b : Node) (o : Outcome)
+      (node : slice_get w.nodes p.key.server ≡ Some a) (l : Octets)
       (client_at : links p.key.client ≡ Some l) (invoke : invoke_id_of p.copy.apdu ≡ p.key.invoke_id) (service : Service)
       (turn : IsServerTurn (server_hears a.settings w.now service (peer_at l) p.copy.apdu a.servers) w.now a b o) where
     abbrev key : Key

@@ -193,7 +193,8 @@ module _ (old new : List Row) (key : Key) (cell : Cell) (h : IsWithRow old key.c
 
     pub kept_copy : (notes : List Note) → IsKept old copies notes → IsKept new (copies ++ c ∷ []) notes
     kept_copy notes k = record {
-      newest_is = λ q lq. newest_same q lq fits (newest_is ∙ ap (λ (o : Option Cell). option_and_then (λ (e : Cell). e.newest) o) (sym there)) ∙ k.newest_is q lq;
+      newest_is = λ q lq.
+          newest_same q lq fits (newest_is ∙ ap (λ (o : Option Cell). option_and_then (λ (e : Cell). e.newest) o) (sym there)) ∙ k.newest_is q lq;
       number_is = λ d t. numbers_same d t ∙ k.number_is d t;
       counted = λ d r at. numbers_many notes d r at (decide_number d key.client) k.counted;
       places = λ d r at. cells_many d r at (decide_number d key.client) k.places;

@@ -41,8 +41,8 @@ cell_leaves_room old new client place cell h = same_members (map ticket_room new
   where
     at : (j : ℕ) → ((j ≡ client) ⊎ (j ≡ client → ⊥)) → option_map ticket_room (slice_get new j) ≡ option_map ticket_room (slice_get old j)
     at j (inl is) =
-        ap (λ d. option_map ticket_room (slice_get new d)) is ∙ ap (option_map ticket_room) h.here ∙ ap (λ v. Some (vec_capacity v - length v.items)) h.goes.numbers
-        ∙ sym (ap (option_map ticket_room) h.was) ∙ sym (ap (λ d. option_map ticket_room (slice_get old d)) is)
+        ap (λ d. option_map ticket_room (slice_get new d)) is ∙ ap (option_map ticket_room) h.here
+        ∙ ap (λ v. Some (vec_capacity v - length v.items)) h.goes.numbers ∙ sym (ap (option_map ticket_room) h.was) ∙ sym (ap (λ d. option_map ticket_room (slice_get old d)) is)
     at j (inr ne) = ap (option_map ticket_room) (h.others j ne)
 
 pub ticket_room_there : (rows : List Row) (client : ℕ) (j : JournalView) → j.note_room.tickets ≡ map ticket_room rows → HasNoteRoom j client

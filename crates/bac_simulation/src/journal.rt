@@ -148,7 +148,8 @@ impl Journal {
     /// such copy. It takes no memory.
     pub fn is_deliverable(&self, overtake: u8, number: usize) -> Option<bool>
         ensures none { slice_get self.now.copies number ≡ None → result ≡ None }
-        ensures is { (c : world.Copy) → slice_get self.now.copies number ≡ Some c → result ≡ Some (is_deliverable overtake self.now.moment number self.now.copies c) }
+        ensures is { (c : world.Copy) → slice_get self.now.copies number ≡ Some c
+            → result ≡ Some (is_deliverable overtake self.now.moment number self.now.copies c) }
     {
         deliverable(overtake, self.moment, &self.copies, &self.rows, number)
     }

@@ -84,7 +84,7 @@ deliver 1
 ask 1 0 put 10:1 -2 AA
 deliver 2
 deliver 3
-ask 1 0 append 10:1 
+ask 1 0 append 10:1\x20
 ";
 
 const PUT_DONE: &str = "\

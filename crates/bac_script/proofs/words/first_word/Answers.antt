@@ -6,6 +6,7 @@ use Rattle.bac_script.proofs.words.first_word.Goals as goal
 
 pub returns-in-Some : goal.returns-in-Some
 returns-in-Some c =
-    let at : (c.in-Some.end < length c.args.line.now) × (words_of c.args.line.now ≡ take c.in-Some.end c.args.line.now ∷ words_of (drop (c.in-Some.end + 1) c.args.line.now))
+    let at : (c.in-Some.end < length c.args.line.now)
+    × (words_of c.args.line.now ≡ take c.in-Some.end c.args.line.now ∷ words_of (drop (c.in-Some.end + 1) c.args.line.now))
     = at_space c.args.line.now c.in-Some.end (sym c.space_in.ensures ∙ c.in-Some.is) in
     rw (take_rest c.args.line.now (c.in-Some.end + 1)) (search (arith, length-drop, at.0), at.1)

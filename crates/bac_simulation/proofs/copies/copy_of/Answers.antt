@@ -12,5 +12,5 @@ returns-in_err-apdu-clause-none c = λ nodes linked d k none.
 pub returns-clause-some : goal.returns-clause-some
 returns-clause-some c = λ nodes linked.
     becomes_copy nodes c.args.links.now linked c.args.now c.args.sender c.in_ok-to.to _ c.args.datagram _ c.octets.result.now c.into_octets.result.items
-    c.requires.sender (c.in_ok-to.ensures.some ∙ ap Some c.to.ensures) c.octets.ensures c.into_octets.ensures (apdu_view c.in_ok-apdu.apdu) c.in_ok-apdu.ensures.means
-    c.transaction_of-transaction.ensures.is
+    c.requires.sender (c.in_ok-to.ensures.some ∙ ap Some c.to.ensures) c.octets.ensures c.into_octets.ensures
+    (apdu_view c.in_ok-apdu.apdu) c.in_ok-apdu.ensures.means c.transaction_of-transaction.ensures.is

@@ -45,7 +45,8 @@ returns-clause-copies c = λ nodes linked.
     let at = c.loop-datagram in
     let empty : into_iter_items at.datagram-iterator ≡ [] = nothing_left _ (sym at.invariant.left ∙ c.in-None.ensures.steps.0) in
     let all = sym (append-nil at.yielded) ∙ rw empty at at.invariant.all ∙ c.into_iter-datagram-iterator.ensures.into_iter_gives.0 in
-    subst (λ l. BecomeCopies nodes c.args.now c.args.sender l (map copy_view c.args.copies.now.items) (map copy_view at.copies.items)) all (at.invariant.copies nodes linked)
+    subst (λ l. BecomeCopies nodes c.args.now c.args.sender l (map copy_view c.args.copies.now.items) (map copy_view at.copies.items)) all
+    (at.invariant.copies nodes linked)
 
 pub returns-clause-many : goal.returns-clause-many
 returns-clause-many c =
