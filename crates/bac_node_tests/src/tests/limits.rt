@@ -2,40 +2,33 @@
 use super::*;
 
 /// Numbers of slots and a window, and the number of the fault, 0 where a node is made.
-type Limit = (usize, usize, u8, u8);
+struct Limit(usize, usize, u8, u8);
 
 const LIMITS: &[Limit] = &[
-    (1, 1_024, 1, 0),
-    (1_024, 1, 64, 0),
-    (0, 1, 0, 1),
-    (1, 0, 32, 1),
-    (1_025, 1, 32, 1),
-    (1, 1_025, 65, 1),
-    (1, 1, 0, 3),
-    (1, 1, 65, 3),
+    Limit(1, 1_024, 1, 0),
+    Limit(1_024, 1, 64, 0),
+    Limit(0, 1, 0, 1),
+    Limit(1, 0, 32, 1),
+    Limit(1_025, 1, 32, 1),
+    Limit(1, 1_025, 65, 1),
+    Limit(1, 1, 0, 3),
+    Limit(1, 1, 65, 3),
 ];
 
-fn made(alloc: Global, limit: &Limit) -> Result<u8, NoMemory> {
-    let config = config(SERVER, limit.0, limit.1, limit.2);
-    Ok(match Node::new(alloc, config, house(alloc)?) {
-        Ok(_) => 0,
-        Err(fault) => fault.number(),
-    })
-}
-
-fn are_limits(alloc: Global, limits: &[Limit]) -> Result<bool, NoMemory> {
-    for limit in limits {
-        if made(alloc, limit)? != limit.3 {
-            return Ok(false);
-        }
+impl Holds for Limit {
+    fn holds(&self, alloc: Global) -> Result<bool, Fail> {
+        let config = config(SERVER, self.0, self.1, self.2);
+        let number = match Node::new(alloc, config, house(alloc)?) {
+            Ok(_) => 0,
+            Err(fault) => fault.number(),
+        };
+        Ok(number == self.3)
     }
-    Ok(true)
 }
 
 #[test]
 fn limits_of_a_node(rt: HostRuntime) -> Result<(), Fail> {
-    assert!(rt; are_limits(rt.alloc(), LIMITS)?);
-    Ok(())
+    all_hold(rt.alloc(), LIMITS)
 }
 
 #[test]
@@ -52,46 +45,81 @@ fn number(came: Result<Outcome, NodeFault>) -> u8 {
     }
 }
 
-/// The numbers of the faults of a request and of a dropped datagram at one moment.
-fn heard(node: &mut Node, now: u64, read: &[u8]) -> (u8, u8) {
-    let heard = number(node.on(now, link(CLIENT), read));
-    (heard, number(node.on(now, link(SERVER), &[])))
+/// The numbers of the faults of a request and of a dropped datagram, of a tick that is prepared and of one that is made, all at one moment.
+fn came(node: &mut Node, now: u64, read: &[u8]) -> [u8; 4] {
+    [
+        number(node.on(now, link(CLIENT), read)),
+        number(node.on(now, link(SERVER), &[])),
+        number(node.prepare_tick(now)),
+        number(node.tick(now)),
+    ]
 }
 
-/// The numbers of the faults of a tick that is prepared, and of one that is made.
-fn ticked(node: &mut Node, now: u64) -> (u8, u8) {
-    let prepared = number(node.prepare_tick(now));
-    (prepared, number(node.tick(now)))
+/// The number of the fault of an ask of another node.
+fn asked(node: &mut Node, now: u64, request: &OwnedRequest) -> u8 {
+    fault(ask(node, now, CLIENT, &LARGE, request))
 }
 
-/// Whether each call at a moment gets a fault of that number, and whatever comes the latest moment is then another one.
-fn are_faults(node: &mut Node, now: u64, read: &[u8], fault: u8, latest: u64) -> bool {
-    heard(node, now, read) == (fault, fault)
-        && ticked(node, now) == (fault, fault)
-        && node.latest() == latest
+/// Whether each call at a moment is accepted, an ask too, and it is then the latest one.
+fn accepts(node: &mut Node, now: u64, read: &[u8], reading: &OwnedRequest) -> bool {
+    came(node, now, read) == [0; 4] && asked(node, now, reading) == 0 && node.latest() == now
 }
 
-/// The latest moment is 5: each call at 4 is refused, and at 5 and 6 none is.
-fn refuses_earlier(alloc: Global, node: &mut Node) -> Result<bool, NoMemory> {
+/// Whether each is refused, the moment being before the latest one.
+fn refuses(node: &mut Node, now: u64, read: &[u8], reading: &OwnedRequest) -> bool {
+    came(node, now, read) == [1; 4] && asked(node, now, reading) == 6
+}
+
+/// The latest moment is 5: each call is accepted at 5; at 4 it is refused, and the node is as one that did not hear it; at 6 it is accepted again.
+fn goes_back(alloc: Global) -> Result<bool, Fail> {
     let read = octets_of(alloc, READ)?;
+    let reading = request_of(alloc, 12, READING)?;
+    let mut node = house_node(alloc, SERVER)?;
+    let mut other = house_node(alloc, SERVER)?;
     Ok(
-        are_faults(node, 5, &read, 0, 5)
-            && are_faults(node, 4, &read, 1, 5)
-            && are_faults(node, 6, &read, 0, 6),
+        accepts(&mut node, 5, &read, &reading)
+            && accepts(&mut other, 5, &read, &reading)
+            && refuses(&mut node, 4, &read, &reading)
+            && node.same(&other)
+            && accepts(&mut node, 6, &read, &reading),
     )
-}
-
-/// One slot of each kind.
-fn narrow_refuses_earlier(alloc: Global) -> Result<bool, Fail> {
-    let store = house(alloc)?;
-    let mut node = Node::new(alloc, config(SERVER, 1, 1, 32), store)?;
-    Ok(refuses_earlier(alloc, &mut node)?)
 }
 
 #[test]
 fn the_clock_goes_back(rt: HostRuntime) -> Result<(), Fail> {
-    assert!(rt; narrow_refuses_earlier(rt.alloc())?);
+    assert!(rt; goes_back(rt.alloc())?);
     Ok(())
+}
+
+/// A moment, and how many client slots are held and how many entries are live then.
+struct Counts(u64, usize, usize);
+
+/// One request was performed and one ask accepted at moment 0, and the ask expired at 60,001.
+const COUNTS: &[Counts] = &[
+    Counts(60_001, 1, 1),
+    Counts(65_000, 1, 1),
+    Counts(65_001, 1, 0),
+    Counts(135_000, 1, 0),
+    Counts(135_001, 0, 0),
+];
+
+const EXPIRED: &[Row] = &[(60_001, 0, "", "", Expired)];
+
+impl Holds for Counts {
+    fn holds(&self, alloc: Global) -> Result<bool, Fail> {
+        let read = octets_of(alloc, READ)?;
+        let reading = request_of(alloc, 12, READING)?;
+        let mut node = house_node(alloc, SERVER)?;
+        let _ = node.on(0, link(CLIENT), &read)?;
+        let _ = ask(&mut node, 0, CLIENT, &LARGE, &reading)?;
+        let ends = plays(alloc, &mut node, EXPIRED)?;
+        Ok(ends && node.held(self.0) == self.1 && node.live(self.0) == self.2)
+    }
+}
+
+#[test]
+fn slots_held_and_entries_live(rt: HostRuntime) -> Result<(), Fail> {
+    all_hold(rt.alloc(), COUNTS)
 }
 
 fn is_set(node: &Node) -> bool {
@@ -119,21 +147,16 @@ fn is_new(alloc: Global, node: &Node, number: u8) -> Result<(bool, bool), Fail> 
     Ok((node.same(&other), node.store().same(other.store())))
 }
 
-const ROW: &[Row] = &[(0, 2, APPEND, APPENDED, true)];
+const ROW: &[Row] = &[(0, 2, APPEND, APPENDED, Performed)];
 
-/// Whether a server with the house store is as a new one, and no other node is; and none is once it has performed a request.
-fn is_compared(alloc: Global, node: &mut Node) -> Result<bool, Fail> {
-    let new = is_new(alloc, node, SERVER)?;
-    let other = is_new(alloc, node, CLIENT)?;
-    plays(alloc, node, ROW)?;
-    let changed = is_new(alloc, node, SERVER)?;
-    Ok(new == (true, true) && other == (false, true) && changed == (false, false))
-}
-
-/// Two nodes are the same until one of them performs a request; nodes of other links are not.
+/// Whether a server with the house store is as a new one, though its link is not another's, until it has performed a request.
 fn are_compared(alloc: Global) -> Result<bool, Fail> {
     let mut node = house_node(alloc, SERVER)?;
-    is_compared(alloc, &mut node)
+    let new = is_new(alloc, &node, SERVER)?;
+    let other = is_new(alloc, &node, CLIENT)?;
+    plays(alloc, &mut node, ROW)?;
+    let changed = is_new(alloc, &node, SERVER)?;
+    Ok(new == (true, true) && other == (false, true) && changed == (false, false))
 }
 
 #[test]

@@ -7,34 +7,34 @@ const SEGMENT_1: &str = "810A0014 0104 0A0503012007 0E 31FF 63AABBCC 0F";
 
 /// A read that comes twice, another one with its invoke ID, an append, and a request without its members.
 const WHOLE: &[Row] = &[
-    (0, 2, READ, VALUE, true),
-    (0, 2, READ, VALUE, false),
+    (0, 2, READ, VALUE, Performed),
+    (0, 2, READ, VALUE, Nothing),
     (
         0,
         2,
         "810A0011 0104 0005010C 0C00800001 1955",
         "810A0009 0100 710100",
-        false,
+        Nothing,
     ),
-    (0, 2, APPEND, APPENDED, true),
+    (0, 2, APPEND, APPENDED, Performed),
     (
         1,
         2,
         "810A000F 0104 0005040C 0C00000005",
         "810A0009 0100 600405",
-        false,
+        Nothing,
     ),
 ];
 
 /// An append in two segments.
 const SEGMENTS: &[Row] = &[
-    (2, 2, SEGMENT_0, "810A000A 0100 41030020", false),
+    (2, 2, SEGMENT_0, "810A000A 0100 41030020", Nothing),
     (
         2,
         2,
         SEGMENT_1,
         "810A000A 0100 41030120 810A000B 0100 3003070902",
-        true,
+        Performed,
     ),
 ];
 

@@ -10,16 +10,6 @@ const WRITTEN: &str = "810A003D 0100 300906 10 0E 322C20 652C
 const OLD: &str = "810A003D 0100 300906 10 0E 322C20 652C
     0000000000000000000000000000000000000000000000000000000000000000000000000000000000000000 0F";
 
-/// A write of 60,000 octets at position 0 of file 1: octet i is i / 256.
-fn long_write(alloc: Global) -> Result<OwnedRequest, NoMemory> {
-    let mut octets = octets_of(alloc, "C402800001 0E 3100 65FEEA60")?;
-    for i in 0..60_000u16 {
-        octets.push((i / 256) as u8)?;
-    }
-    octets.push(0x0F)?;
-    request(alloc, 7, &octets)
-}
-
 /// Two nodes, a copy of segment 1, how many segments were handed over, how many answers, and how many tickets have ended.
 #[derive(Drop)]
 struct Transfer {
@@ -86,9 +76,9 @@ impl Transfer {
         Ok(sends)
     }
 
-    /// Segment 0 of the long write.
+    /// Segment 0 of a write of 60,000 octets.
     fn begins(&mut self, alloc: Global) -> Result<Vec<Datagram>, Fail> {
-        let write = long_write(alloc)?;
+        let write = long_write(alloc, 60_000)?;
         Ok(ask(&mut self.client, 0, SERVER, &SMALL, &write)?.sends)
     }
 
@@ -108,15 +98,15 @@ impl Transfer {
     }
 }
 
-const TRANSFERS: &[Windows] = &[
-    (32, 32, 44, false, WRITTEN),
-    (64, 64, 23, false, WRITTEN),
-    (64, 16, 87, false, WRITTEN),
-    (32, 32, 44, true, OLD),
-];
-
 /// Windows of both nodes, how many SegmentACKs the server sends, whether segment 1 comes again, late, and what of the file is read then.
-type Windows = (u8, u8, usize, bool, &'static str);
+struct Windows(u8, u8, usize, bool, &'static str);
+
+const TRANSFERS: &[Windows] = &[
+    Windows(32, 32, 44, false, WRITTEN),
+    Windows(64, 64, 23, false, WRITTEN),
+    Windows(64, 16, 87, false, WRITTEN),
+    Windows(32, 32, 44, true, OLD),
+];
 
 /// Whether 1,364 segments go over, with so many SegmentACKs and an answer.
 fn goes_over(alloc: Global, transfer: &mut Transfer, row: &Windows) -> Result<bool, Fail> {
@@ -128,40 +118,32 @@ fn goes_over(alloc: Global, transfer: &mut Transfer, row: &Windows) -> Result<bo
     )
 }
 
-/// Whether that is read of the file then.
-fn is_written(alloc: Global, row: &Windows) -> Result<bool, Fail> {
-    let mut transfer = Transfer::new(alloc, row.0, row.1)?;
-    if !goes_over(alloc, &mut transfer, row)? {
-        return Ok(false);
-    }
-    let sends = transfer.reads(alloc)?;
-    Ok(are_text(alloc, &sends, row.4)?)
-}
-
-fn are_written(alloc: Global, rows: &[Windows]) -> Result<bool, Fail> {
-    for row in rows {
-        if !is_written(alloc, row)? {
+impl Holds for Windows {
+    /// Whether that is read of the file then.
+    fn holds(&self, alloc: Global) -> Result<bool, Fail> {
+        let mut transfer = Transfer::new(alloc, self.0, self.1)?;
+        if !goes_over(alloc, &mut transfer, self)? {
             return Ok(false);
         }
+        let sends = transfer.reads(alloc)?;
+        Ok(are_text(alloc, &sends, self.4)?)
     }
-    Ok(true)
 }
 
 /// Numbers of segments are read modulo 256: a node does not know how old a datagram is. An old copy of segment 1 that comes where 257 is expected, which
 /// no network does that keeps to this profile's limit of overtaking, is taken, and what is written is not what was asked.
 #[test]
 fn writes_in_segments(rt: HostRuntime) -> Result<(), Fail> {
-    assert!(rt; are_written(rt.alloc(), TRANSFERS)?);
-    Ok(())
+    all_hold(rt.alloc(), TRANSFERS)
 }
 
 /// The windows of both nodes, the front of segment 0, and the SegmentACK that it gets.
-type Grant = (u8, u8, &'static str, &'static str);
+struct Grant(u8, u8, &'static str, &'static str);
 
 const FIRST: &[Grant] = &[
-    (32, 32, "0E7500002007 C402800001", "810A000A 0100 41000020"),
-    (64, 64, "0E7500004007 C402800001", "810A000A 0100 41000040"),
-    (64, 16, "0E7500004007 C402800001", "810A000A 0100 41000010"),
+    Grant(32, 32, "0E7500002007 C402800001", "810A000A 0100 41000020"),
+    Grant(64, 64, "0E7500004007 C402800001", "810A000A 0100 41000040"),
+    Grant(64, 16, "0E7500004007 C402800001", "810A000A 0100 41000010"),
 ];
 
 /// Whether one datagram was sent, whose APDU begins with this text.
@@ -183,25 +165,17 @@ fn answers(transfer: &mut Transfer, sends: &[Datagram]) -> Result<Vec<Datagram>,
     }
 }
 
-/// Whether a segment proposes the window of its node, and the answer grants the lesser of both.
-fn is_granted(alloc: Global, row: &Grant) -> Result<bool, Fail> {
-    let mut transfer = Transfer::new(alloc, row.0, row.1)?;
-    let sends = transfer.begins(alloc)?;
-    let answers = answers(&mut transfer, &sends)?;
-    Ok(begins_with(alloc, &sends, row.2)? && are_text(alloc, &answers, row.3)?)
-}
-
-fn are_granted(alloc: Global, rows: &[Grant]) -> Result<bool, Fail> {
-    for row in rows {
-        if !is_granted(alloc, row)? {
-            return Ok(false);
-        }
+impl Holds for Grant {
+    /// Whether a segment proposes the window of its node, and the answer grants the lesser of both.
+    fn holds(&self, alloc: Global) -> Result<bool, Fail> {
+        let mut transfer = Transfer::new(alloc, self.0, self.1)?;
+        let sends = transfer.begins(alloc)?;
+        let answers = answers(&mut transfer, &sends)?;
+        Ok(begins_with(alloc, &sends, self.2)? && are_text(alloc, &answers, self.3)?)
     }
-    Ok(true)
 }
 
 #[test]
 fn first_segments(rt: HostRuntime) -> Result<(), Fail> {
-    assert!(rt; are_granted(rt.alloc(), FIRST)?);
-    Ok(())
+    all_hold(rt.alloc(), FIRST)
 }
