@@ -1,7 +1,7 @@
 //! Worlds, event by event: what each one logs, and what is sent. Here is what the tests share.
 use bac_apdu::Limits;
 use bac_client::Ending;
-use bac_network::{Event, Fact, World, WorldFault};
+use bac_network::{Event, Fact, NewWorldFault, World, WorldFault};
 use bac_node::Config;
 use bac_requester::AskFault;
 use bac_service::{
@@ -173,34 +173,22 @@ fn put(alloc: Global, len: usize) -> Result<OwnedRequest, NoMemory> {
     Ok(AnyRequest::WriteFile(WriteFile { file, access }))
 }
 
-/// Who asks whom, and what.
-fn asked(alloc: Global, what: Do) -> Result<(usize, usize, OwnedRequest), NoMemory> {
-    match what {
+/// What happens, as an event; of several copies the first one comes.
+fn event(alloc: Global, limits: Limits, what: Do) -> Result<Event, NoMemory> {
+    let (client, server, request) = match what {
+        Do::Deliver(number) | Do::Each(number, _) => return Ok(Event::Deliver { number }),
+        Do::Tick(node) => return Ok(Event::Tick { node }),
+        Do::Advance(by) => return Ok(Event::Advance { by }),
+        Do::Put(len) => (0, 1, put(alloc, len)?),
         Do::Ask(client, server, choice, service) => {
-            Ok((client, server, request(alloc, choice, service)?))
+            (client, server, request(alloc, choice, service)?)
         }
-        Do::Put(len) => Ok((0, 1, put(alloc, len)?)),
-        _ => Err(NoMemory),
-    }
-}
-
-fn ask(alloc: Global, limits: Limits, what: Do) -> Result<Event, NoMemory> {
-    let (client, server, request) = asked(alloc, what)?;
+    };
     Ok(Event::Ask {
         client,
         server,
         limits,
         request,
-    })
-}
-
-/// What happens, as an event; of several copies the first one comes.
-fn event(alloc: Global, limits: Limits, what: Do) -> Result<Event, NoMemory> {
-    Ok(match what {
-        Do::Deliver(number) | Do::Each(number, _) => Event::Deliver { number },
-        Do::Tick(node) => Event::Tick { node },
-        Do::Advance(by) => Event::Advance { by },
-        asks => ask(alloc, limits, asks)?,
     })
 }
 
@@ -226,11 +214,6 @@ fn front_of(datagram: &[u8]) -> (u64, usize) {
     let apdu = datagram.get(6..).unwrap_or(&[]);
     let end = apdu.len().min(5);
     (number_of(apdu.get(..end).unwrap_or(&[])), apdu.len())
-}
-
-/// Whether octets are those of the first and then those of the last.
-fn is_pair(first: &[u8], last: &[u8], octets: &[u8]) -> bool {
-    octets.starts_with(first) && octets.get(first.len()..).unwrap_or(&[]) == last
 }
 
 /// What was told, or logged where nothing was told.
@@ -301,12 +284,13 @@ fn seen_of(facts: &[Fact]) -> Seen {
 
 impl Scene {
     /// A world of these nodes with that overtaking limit, of which whole datagrams are compared.
-    fn of(alloc: Global, nodes: Vec<(Config, Store)>, overtake: u64) -> Result<Scene, Fail> {
-        let Ok(world) = World::new(alloc, nodes, overtake) else {
-            return Err(Fail::from("no world"));
-        };
+    fn of(
+        alloc: Global,
+        nodes: Vec<(Config, Store)>,
+        overtake: u64,
+    ) -> Result<Scene, NewWorldFault> {
         Ok(Scene {
-            world,
+            world: World::new(alloc, nodes, overtake)?,
             limits: LARGE,
             from: 0,
             to: 1_500,
@@ -314,7 +298,7 @@ impl Scene {
     }
 
     /// Three nodes with the house store and such limits.
-    fn house(alloc: Global, limits: Limits) -> Result<Scene, Fail> {
+    fn house(alloc: Global, limits: Limits) -> Result<Scene, NewWorldFault> {
         let configs = [config(0, limits), config(1, limits), config(2, limits)];
         Scene::of(alloc, housed(alloc, &configs)?, 128)
     }
@@ -327,6 +311,16 @@ impl Scene {
             from: 6,
             to: 11,
         }
+    }
+
+    /// Three small nodes with the house store; the first five octets of APDUs are compared.
+    fn small(alloc: Global) -> Result<Scene, NewWorldFault> {
+        Ok(Scene::house(alloc, SMALL)?.headed(SMALL))
+    }
+
+    /// The same of large ones.
+    fn large(alloc: Global) -> Result<Scene, NewWorldFault> {
+        Ok(Scene::house(alloc, LARGE)?.headed(LARGE))
     }
 
     fn step(&mut self, event: &Event) -> Seen {
@@ -369,7 +363,7 @@ impl Scene {
         let Some(last) = sent.get(1..).unwrap_or(&[]).last() else {
             return self.part(first) == wanted;
         };
-        is_pair(self.part(first), self.part(last), wanted)
+        wanted.strip_prefix(self.part(first)) == Some(self.part(last))
     }
 
     /// Whether so many copies were sent from that number on, and the first and the last of them have these octets.
@@ -408,26 +402,15 @@ impl Scene {
         Ok(())
     }
 
-    /// How many copies a node sent.
-    fn count_from(&self, node: usize) -> usize {
-        let mut count = 0usize;
+    /// How many copies a node sent, and the front and the length of the APDU of the last one.
+    fn sent_by(&self, node: usize) -> (usize, (u64, usize)) {
+        let mut sent = (0usize, (0, 0));
         for copy in self.world.copies() {
             if copy.from == node {
-                count = count.saturating_add(1);
+                sent = (sent.0.saturating_add(1), front_of(&copy.octets));
             }
         }
-        count
-    }
-
-    /// The front and the length of the last APDU that a node sent.
-    fn last_from(&self, node: usize) -> (u64, usize) {
-        let mut last = (0, 0);
-        for copy in self.world.copies() {
-            if copy.from == node {
-                last = front_of(&copy.octets);
-            }
-        }
-        last
+        sent
     }
 
     /// Whether a node's store is not as it was at first.
@@ -441,17 +424,11 @@ impl Scene {
         }
     }
 
-    fn has_ended(&self) -> bool {
-        match self.world.log().last() {
-            Some(Fact::Ended { number: _, how: _ }) => true,
-            _ => false,
-        }
-    }
-
     /// Delivers each copy from that number on once, in their order, until the ask has ended or no copy is left: how many.
     fn straight(&mut self, first: usize) -> usize {
         for (count, number) in (first..4_000).enumerate() {
-            if self.has_ended() || self.step(&Event::Deliver { number }) != Seen::Nothing {
+            let has_ended = matches!(self.world.log().last(), Some(Fact::Ended { .. }));
+            if has_ended || self.step(&Event::Deliver { number }) != Seen::Nothing {
                 return count;
             }
         }
@@ -465,16 +442,4 @@ impl Scene {
             None => Seen::Nothing,
         }
     }
-}
-
-/// The rows go as they say among three nodes with the house store; whole datagrams are compared.
-fn large_plays(alloc: Global, rows: &[Row]) -> Result<(), Fail> {
-    let mut scene = Scene::house(alloc, LARGE)?;
-    scene.plays(alloc, rows)
-}
-
-/// The rows go as they say among three nodes with the house store and these limits; the first five octets of APDUs are compared.
-fn headed_plays(alloc: Global, limits: Limits, rows: &[Row]) -> Result<(), Fail> {
-    let mut scene = Scene::house(alloc, limits)?.headed(limits);
-    scene.plays(alloc, rows)
 }

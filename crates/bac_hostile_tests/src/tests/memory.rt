@@ -140,13 +140,8 @@ fn objects_at_last(alloc: Global) -> Result<Vec<Object>, NoMemory> {
 /// The store of these objects; where one was refused that was because memory was refused, and for nothing else, and it is made when the call comes again.
 fn store_at_last(alloc: Global) -> Result<Store, Fail> {
     match Store::new(alloc, objects_at_last(alloc)?) {
-        Ok(store) => Ok(store),
-        Err(fault) => {
-            if fault != StoreFault::NoMemory {
-                return Err(Fail::from("a fault of the objects"));
-            }
-            Ok(Store::new(alloc, objects_at_last(alloc)?)?)
-        }
+        Err(StoreFault::NoMemory) => Ok(Store::new(alloc, objects_at_last(alloc)?)?),
+        made => Ok(made?),
     }
 }
 
@@ -161,8 +156,11 @@ fn stores_with_refused_memory(rt: HostRuntime) -> Result<(), Fail> {
     Ok(())
 }
 
-/// A moment, and the datagram that comes from link 2 (no octets: a tick).
-type Row = (u64, &'static [u8]);
+/// A moment, the datagram that comes from link 2 (no octets: a tick), and the one that is sent.
+type Row = (u64, &'static [u8], &'static [u8]);
+
+/// The second of the two segments of the file.
+const SECOND: &[u8] = b"\x81\x0A\x00\x21\x01\x00\x38\x01\x01\x20\x06012345678901234567890\x0F";
 
 /// A write of a property, a write of 60 octets of file 1, a read of them by a client that takes APDUs of 50 octets, its SegmentACK, and a tick that sends
 /// the window again.
@@ -170,18 +168,21 @@ const ROWS: &[Row] = &[
     (
         0,
         b"\x81\x0A\x00\x18\x01\x04\x00\x04\x59\x0F\x0C\x00\x80\x00\x01\x19\x55\x3E\x44\x43\x34\x00\x00\x3F",
+        b"\x81\x0A\x00\x09\x01\x00\x20\x59\x0F",
     ),
     (
         0,
         b"\x81\x0A\x00\x51\x01\x04\x02\x75\x00\x07\xC4\x02\x80\x00\x01\x0E\x31\x00\x65\x3C\
         123456789012345678901234567890123456789012345678901234567890\x0F",
+        b"\x81\x0A\x00\x0B\x01\x00\x30\x00\x07\x09\x00",
     ),
     (
         0,
         b"\x81\x0A\x00\x15\x01\x04\x02\x70\x01\x06\xC4\x02\x80\x00\x01\x0E\x31\x00\x21\x64\x0F",
+        b"\x81\x0A\x00\x38\x01\x00\x3C\x01\x00\x20\x06\x11\x0E\x31\x00\x65\x3C123456789012345678901234567890123456789",
     ),
-    (0, b"\x81\x0A\x00\x0A\x01\x00\x40\x01\x00\x20"),
-    (2_000, b""),
+    (0, b"\x81\x0A\x00\x0A\x01\x00\x40\x01\x00\x20", SECOND),
+    (2_000, b"", SECOND),
 ];
 
 fn happens(node: &mut Node, row: &Row) -> Result<Outcome, NodeFault> {
@@ -192,66 +193,73 @@ fn happens(node: &mut Node, row: &Row) -> Result<Outcome, NodeFault> {
     }
 }
 
-/// A node to which the first rows happened.
-fn after(alloc: Global, count: usize) -> Result<Node, NoMemory> {
-    let Ok(mut node) = server(alloc, 8) else {
-        return Err(NoMemory);
-    };
-    for row in ROWS.get(..count).unwrap_or(ROWS) {
-        if happens(&mut node, row).is_err() {
-            return Err(NoMemory);
-        }
+/// A node, where one allocation alone may be refused.
+fn node_at_last(alloc: Global) -> Result<Node, NewNodeFault> {
+    match server(alloc, 8) {
+        Err(NewNodeFault::NoMemory) => server(alloc, 8),
+        made => made,
+    }
+}
+
+/// A node to which these rows happened; memory is ample, as it was refused before.
+fn after(alloc: Global, rows: &[Row]) -> Result<Node, Fail> {
+    let mut node = server(alloc, 8)?;
+    for row in rows {
+        let _outcome = happens(&mut node, row)?;
     }
     Ok(node)
 }
 
-/// Whether a node is one to which the first rows happened, where one allocation alone may be refused.
-fn is_after(alloc: Global, node: &Node, count: usize) -> Result<bool, NoMemory> {
-    let other = match after(alloc, count) {
-        Ok(other) => other,
-        Err(NoMemory) => after(alloc, count)?,
-    };
-    Ok(node.same(&other))
-}
-
-/// How many datagrams a row makes a node send that `place` rows happened to and that was refused its memory: it was as before.
-fn sent_again(alloc: Global, node: &mut Node, place: usize, row: &Row) -> Result<usize, Fail> {
-    if !is_after(alloc, node, place)? {
+/// What comes of a row that was refused its memory: the node was the one of the rows before it, and becomes the one of ample memory.
+fn happens_again(node: &mut Node, mut twin: Node, row: &Row) -> Result<Outcome, Fail> {
+    if !node.same(&twin) {
         return Err(Fail::from("the node has changed"));
     }
-    Ok(happens(node, row)?.sends.len())
+    let outcome = happens(node, row)?;
+    let _same = happens(&mut twin, row)?;
+    if !node.same(&twin) {
+        return Err(Fail::from("another node"));
+    }
+    Ok(outcome)
 }
 
-/// How many datagrams a row makes a node send that `place` rows happened to; where it was refused, that was because memory was refused, and for nothing else.
-fn sent_at_last(alloc: Global, node: &mut Node, place: usize, row: &Row) -> Result<usize, Fail> {
+/// What comes of the row behind these ones; where it was refused, that was because memory was refused, and for nothing else.
+fn happens_at_last(
+    alloc: Global,
+    node: &mut Node,
+    before: &[Row],
+    row: &Row,
+) -> Result<Outcome, Fail> {
     match happens(node, row) {
-        Ok(outcome) => Ok(outcome.sends.len()),
-        Err(NodeFault::NoMemory) => sent_again(alloc, node, place, row),
+        Ok(outcome) => Ok(outcome),
+        Err(NodeFault::NoMemory) => happens_again(node, after(alloc, before)?, row),
         Err(NodeFault::ClockBack) => Err(Fail::from("the moment")),
     }
 }
 
-/// A node, where one allocation alone may be refused.
-fn node_at_last(alloc: Global) -> Result<Node, NewNodeFault> {
-    match server(alloc, 8) {
-        Ok(node) => Ok(node),
-        Err(_) => server(alloc, 8),
+/// Whether this datagram alone was sent.
+fn is_sent(sends: &[Datagram], wanted: &[u8]) -> bool {
+    match sends {
+        [datagram] => datagram.octets() == wanted,
+        _ => false,
     }
 }
 
-/// Whether each row makes a node send one datagram, and leaves it as it has to be.
-fn all_happen(alloc: Global) -> Result<bool, Fail> {
-    let mut node = node_at_last(alloc)?;
+/// Whether each row makes a node send the datagram beside it.
+fn all_happen(alloc: Global, node: &mut Node) -> Result<bool, Fail> {
     for (place, row) in ROWS.iter().enumerate() {
-        if sent_at_last(alloc, &mut node, place, row)? != 1 {
+        let before = ROWS.get(..place).unwrap_or(&[]);
+        let outcome = happens_at_last(alloc, node, before, row)?;
+        if !is_sent(&outcome.sends, row.2) {
             return Ok(false);
         }
     }
-    Ok(is_after(alloc, &node, ROWS.len())?)
+    Ok(true)
 }
 
 #[test]
 fn datagrams_with_refused_memory(rt: HostRuntime) -> Result<(), Fail> {
-    assert!(rt; all_happen(rt.alloc())?);
+    let mut node = node_at_last(rt.alloc())?;
+    assert!(rt; all_happen(rt.alloc(), &mut node)?);
     Ok(())
 }

@@ -7,7 +7,7 @@ const ASK: Do = Do::Ask(0, 1, READ, INPUT);
 const NO_INVOKE_ID: Seen = Seen::Refused(AskFault::NoInvokeId);
 
 /// A client with 1,024 slots, and a server.
-fn wide_scene(alloc: Global) -> Result<Scene, Fail> {
+fn wide_scene(alloc: Global) -> Result<Scene, NewWorldFault> {
     let mut client = config(0, LARGE);
     client.client_slots = 1_024;
     let nodes = housed(alloc, &[client, config(1, LARGE)])?;
@@ -65,25 +65,22 @@ fn asks_again(alloc: Global, scene: &mut Scene) -> Result<bool, NoMemory> {
     Ok(seen == Seen::Asked(256, 0, 1) && are_in_order(notes))
 }
 
-/// Whether 256 asks get the invoke IDs 0 to 255, and one more is refused.
-fn takes_all(alloc: Global, scene: &mut Scene) -> Result<bool, NoMemory> {
-    Ok(asks_all(alloc, scene)? && are_in_order(scene.world.asks()) && is_refused(alloc, scene)?)
-}
-
-/// Whether all have ended then, and only a millisecond later one is accepted.
-fn holds_all(alloc: Global, scene: &mut Scene) -> Result<bool, NoMemory> {
-    Ok(ends_all(alloc, scene)? && is_refused(alloc, scene)? && asks_again(alloc, scene)?)
-}
-
-/// 256 asks of one peer have the invoke IDs 0 to 255; they are held for 135,000 milliseconds.
-fn takes_and_holds(alloc: Global) -> Result<bool, Fail> {
-    let mut scene = wide_scene(alloc)?;
-    Ok(takes_all(alloc, &mut scene)? && holds_all(alloc, &mut scene)?)
+/// 256 asks get the invoke IDs 0 to 255, and one more is refused; all have ended 135,000 milliseconds later, and a millisecond after that one is accepted.
+fn takes_and_holds(alloc: Global, scene: &mut Scene) -> Result<bool, NoMemory> {
+    Ok(
+        asks_all(alloc, scene)?
+            && are_in_order(scene.world.asks())
+            && is_refused(alloc, scene)?
+            && ends_all(alloc, scene)?
+            && is_refused(alloc, scene)?
+            && asks_again(alloc, scene)?,
+    )
 }
 
 #[test]
 fn asks_for_all_invoke_ids(rt: HostRuntime) -> Result<(), Fail> {
-    assert!(rt; takes_and_holds(rt.alloc())?);
+    let mut scene = wide_scene(rt.alloc())?;
+    assert!(rt; takes_and_holds(rt.alloc(), &mut scene)?);
     Ok(())
 }
 
@@ -124,19 +121,14 @@ const ONE_SLOT: &[Row] = &[
     (Do::Deliver(7), Seen::Read(3, 0x44_4290_999A), 0, ""),
 ];
 
-fn narrow_scene(alloc: Global) -> Result<Scene, Fail> {
+fn narrow_scene(alloc: Global) -> Result<Scene, NewWorldFault> {
     let mut server = config(1, LARGE);
     server.reply_slots = 1;
     let nodes = housed(alloc, &[config(0, LARGE), server, config(2, LARGE)])?;
     Ok(Scene::of(alloc, nodes, 128)?.headed(LARGE))
 }
 
-fn narrow_plays(alloc: Global) -> Result<(), Fail> {
-    let mut scene = narrow_scene(alloc)?;
-    scene.plays(alloc, ONE_SLOT)
-}
-
 #[test]
 fn reply_table_of_one_slot(rt: HostRuntime) -> Result<(), Fail> {
-    narrow_plays(rt.alloc())
+    narrow_scene(rt.alloc())?.plays(rt.alloc(), ONE_SLOT)
 }

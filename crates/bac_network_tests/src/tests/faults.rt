@@ -1,6 +1,6 @@
 //! Worlds that are not made, and events that can't happen.
 use super::*;
-use bac_network::{NewWorldFault, RunFault};
+use bac_network::RunFault;
 
 const MADE: u8 = 0;
 
@@ -64,18 +64,11 @@ fn made(alloc: Global, row: &Made) -> Result<u8, NoMemory> {
     })
 }
 
-fn are_made(alloc: Global, rows: &[Made]) -> Result<bool, NoMemory> {
-    for row in rows {
-        if made(alloc, row)? != row.6 {
-            return Ok(false);
-        }
-    }
-    Ok(true)
-}
-
 #[test]
 fn worlds_that_are_not_made(rt: HostRuntime) -> Result<(), Fail> {
-    assert!(rt; are_made(rt.alloc(), LIMITS)?);
+    for row in LIMITS {
+        assert!(rt; made(rt.alloc(), row)? == row.6);
+    }
     Ok(())
 }
 
@@ -86,18 +79,11 @@ const NUMBERS: &[(WorldFault, u8)] = &[
     (WorldFault::NoMemory, 4),
 ];
 
-fn are_numbers(rows: &[(WorldFault, u8)]) -> bool {
-    for row in rows {
-        if row.0.number() != row.1 {
-            return false;
-        }
-    }
-    true
-}
-
 #[test]
 fn numbers_of_faults(rt: HostRuntime) {
-    assert!(rt; are_numbers(NUMBERS));
+    for (fault, number) in NUMBERS {
+        assert!(rt; fault.number() == *number);
+    }
     assert!(rt; NewWorldFault::NoMemory.number() == 4);
 }
 
@@ -138,7 +124,7 @@ const IMPOSSIBLE: &[Row] = &[
 
 #[test]
 fn events_that_can_not_happen(rt: HostRuntime) -> Result<(), Fail> {
-    headed_plays(rt.alloc(), LARGE, IMPOSSIBLE)
+    Scene::large(rt.alloc())?.plays(rt.alloc(), IMPOSSIBLE)
 }
 
 /// Events of which the third can't happen.
@@ -151,11 +137,11 @@ fn events(alloc: Global) -> Result<Vec<Event>, NoMemory> {
     Ok(events)
 }
 
-/// Whether two events happen, and after them two of four.
-fn runs(alloc: Global, events: &[Event]) -> Result<bool, Fail> {
-    let mut scene = Scene::house(alloc, LARGE)?;
+/// A run stops at the first fault and tells its place: what happened before it stands.
+fn stops(alloc: Global, scene: &mut Scene) -> Result<bool, NoMemory> {
+    let events = events(alloc)?;
     let whole = scene.world.run(events.get(..2).unwrap_or(&[]));
-    let stopped = scene.world.run(events);
+    let stopped = scene.world.run(&events);
     let fault = RunFault {
         place: 2,
         fault: WorldFault::NoSuchNode,
@@ -163,14 +149,9 @@ fn runs(alloc: Global, events: &[Event]) -> Result<bool, Fail> {
     Ok(whole == Ok(()) && stopped == Err(fault) && scene.world.now() == 4)
 }
 
-/// A run stops at the first fault and tells its place: what happened before it stands.
-fn stops(alloc: Global) -> Result<bool, Fail> {
-    let events = events(alloc)?;
-    runs(alloc, &events)
-}
-
 #[test]
 fn run_that_stops(rt: HostRuntime) -> Result<(), Fail> {
-    assert!(rt; stops(rt.alloc())?);
+    let mut scene = Scene::large(rt.alloc())?;
+    assert!(rt; stops(rt.alloc(), &mut scene)?);
     Ok(())
 }

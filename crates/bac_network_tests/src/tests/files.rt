@@ -18,10 +18,7 @@ fn filed(alloc: Global, count: usize) -> Result<Store, Fail> {
         properties: Vec::new(alloc),
         file: Some(file),
     })?;
-    match Store::new(alloc, objects) {
-        Ok(store) => Ok(store),
-        Err(_) => Err(Fail::from("no store")),
-    }
+    Ok(Store::new(alloc, objects)?)
 }
 
 /// A client, and a server whose file 1 has so many octets.
@@ -30,13 +27,6 @@ fn filed_nodes(alloc: Global, count: usize) -> Result<Vec<(Config, Store)>, Fail
     nodes.push((config(0, LARGE), house(alloc)?))?;
     nodes.push((config(1, LARGE), filed(alloc, count)?))?;
     Ok(nodes)
-}
-
-/// The rows go as they say where the server's file 1 has so many octets; whether its store is another one then.
-fn is_appended(alloc: Global, count: usize, rows: &[Row]) -> Result<bool, Fail> {
-    let mut scene = Scene::of(alloc, filed_nodes(alloc, count)?, 128)?;
-    scene.plays(alloc, rows)?;
-    Ok(scene.is_changed(1))
 }
 
 const ASK: Row = (
@@ -58,12 +48,6 @@ const FULL: &[Row] = &[
     (Do::Deliver(1), Seen::Error(0, 3, 20), 0, ""),
 ];
 
-#[test]
-fn append_to_a_full_file(rt: HostRuntime) -> Result<(), Fail> {
-    assert!(rt; !is_appended(rt.alloc(), 59_998, FULL)?);
-    Ok(())
-}
-
 /// They are to 59,997.
 const FITS: &[Row] = &[
     ASK,
@@ -76,8 +60,16 @@ const FITS: &[Row] = &[
     (Do::Deliver(1), Seen::Written(0, 59_997), 0, ""),
 ];
 
+/// The rows go as they say where the server's file 1 has so many octets; whether its store is another one then.
+fn is_appended(alloc: Global, count: usize, rows: &[Row]) -> Result<bool, Fail> {
+    let mut scene = Scene::of(alloc, filed_nodes(alloc, count)?, 128)?;
+    scene.plays(alloc, rows)?;
+    Ok(scene.is_changed(1))
+}
+
 #[test]
-fn append_to_a_long_file(rt: HostRuntime) -> Result<(), Fail> {
+fn appends_to_long_files(rt: HostRuntime) -> Result<(), Fail> {
+    assert!(rt; !is_appended(rt.alloc(), 59_998, FULL)?);
     assert!(rt; is_appended(rt.alloc(), 59_997, FITS)?);
     Ok(())
 }

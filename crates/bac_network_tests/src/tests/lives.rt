@@ -21,13 +21,7 @@ const AGES: &[Row] = &[
 
 #[test]
 fn age_of_a_copy(rt: HostRuntime) -> Result<(), Fail> {
-    headed_plays(rt.alloc(), LARGE, AGES)
-}
-
-/// A client and a server; so many later copies may overtake one.
-fn two_nodes(alloc: Global, overtake: u64) -> Result<Scene, Fail> {
-    let nodes = housed(alloc, &[config(0, LARGE), config(1, LARGE)])?;
-    Scene::of(alloc, nodes, overtake)
+    Scene::large(rt.alloc())?.plays(rt.alloc(), AGES)
 }
 
 /// Whether the first copy is answered.
@@ -49,7 +43,8 @@ fn answers(scene: &mut Scene) -> usize {
 
 /// How often a request can be delivered that is answered each time, where so many later copies may overtake it; other asks don't count.
 fn deliveries(alloc: Global, overtake: u64) -> Result<usize, Fail> {
-    let mut scene = two_nodes(alloc, overtake)?;
+    let nodes = housed(alloc, &[config(0, LARGE), config(1, LARGE)])?;
+    let mut scene = Scene::of(alloc, nodes, overtake)?;
     let _ = scene.happens(alloc, Do::Ask(0, 1, READ, INPUT))?;
     let _ = scene.happens(alloc, Do::Ask(0, 1, READ, INPUT))?;
     Ok(answers(&mut scene))
@@ -58,17 +53,10 @@ fn deliveries(alloc: Global, overtake: u64) -> Result<usize, Fail> {
 /// A copy comes where as many later ones of its transaction overtook it as may, and is lost where one more did.
 const OVERTAKEN: &[(u64, usize)] = &[(0, 1), (5, 6), (128, 129), (191, 192)];
 
-fn are_overtaken(alloc: Global, rows: &[(u64, usize)]) -> Result<bool, Fail> {
-    for row in rows {
-        if deliveries(alloc, row.0)? != row.1 {
-            return Ok(false);
-        }
-    }
-    Ok(true)
-}
-
 #[test]
 fn overtaken_copies(rt: HostRuntime) -> Result<(), Fail> {
-    assert!(rt; are_overtaken(rt.alloc(), OVERTAKEN)?);
+    for (overtake, wanted) in OVERTAKEN {
+        assert!(rt; deliveries(rt.alloc(), *overtake)? == *wanted);
+    }
     Ok(())
 }

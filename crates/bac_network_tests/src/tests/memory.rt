@@ -1,206 +1,195 @@
-//! Run with each allocation refused in turn, too: `sh tests/memory/refused.sh`.
-use super::replies::readers;
+//! Worked rows, run with each allocation refused in turn, too: `sh tests/memory/refused.sh`. An event that is refused its memory is the world's fault 4 and
+//! leaves the world as the events before it make it; when it comes again, world and row are those of ample memory.
+use super::replies::{READS, four_readers};
 use super::*;
 
-/// An append whose answer comes twice, and one whose answer is lost: it is asked again.
-const WHOLE: &[Do] = &[
-    Do::Ask(0, 1, PUT, APPEND),
-    Do::Deliver(0),
-    Do::Deliver(0),
-    Do::Deliver(1),
-    Do::Ask(0, 1, PUT, APPEND),
-    Do::Deliver(3),
-    Do::Advance(3_000),
-    Do::Tick(1),
-    Do::Tick(0),
-    Do::Deliver(5),
-    Do::Deliver(6),
-];
+/// The nodes of worked rows, and what of copies is compared.
+#[derive(Clone, Copy)]
+enum Nodes {
+    /// Three large ones with the house store; whole datagrams.
+    Large,
+    /// Three small ones with the house store; the first five octets of APDUs.
+    Small,
+    /// A server with a description of 4,000 octets and three clients that take replies in segments of any number, in none and in two; the same.
+    Readers,
+}
 
-/// A read before a write by another client, and the read's request once more after it.
-const READS: &[Do] = &[
-    Do::Ask(0, 1, READ, "0C00800001 1955"),
-    Do::Deliver(0),
-    Do::Ask(2, 1, 15, "0C00800001 1955 3E 4443340000 3F"),
-    Do::Deliver(2),
-    Do::Deliver(0),
-    Do::Deliver(4),
-    Do::Deliver(3),
-];
-
-/// A write in three segments, which come in another order and twice; the last ones and the answer are sent again.
-const SEGMENTS: &[Do] = &[
-    Do::Put(100),
-    Do::Deliver(0),
-    Do::Deliver(1),
-    Do::Deliver(3),
-    Do::Deliver(3),
-    Do::Deliver(2),
-    Do::Deliver(2),
-    Do::Deliver(4),
-    Do::Deliver(6),
-    Do::Advance(2_000),
-    Do::Tick(0),
-    Do::Deliver(8),
-    Do::Deliver(7),
-    Do::Deliver(10),
-];
-
-/// A reply in two segments, the second of which is lost: it is sent again, and once more for another copy of the request after the transfer has stopped.
-const REPLY: &[Do] = &[
-    Do::Ask(0, 1, READ, "0C00000007 191C"),
-    Do::Deliver(0),
-    Do::Deliver(1),
-    Do::Deliver(2),
-    Do::Advance(2_000),
-    Do::Tick(1),
-    Do::Advance(2_000),
-    Do::Tick(1),
-    Do::Advance(2_000),
-    Do::Tick(1),
-    Do::Advance(2_000),
-    Do::Tick(1),
-    Do::Tick(0),
-    Do::Deliver(7),
-    Do::Deliver(8),
-    Do::Deliver(9),
-];
-
-/// Three nodes with these limits and the house store, or where a tag is named two, the second of which has a description of 79 octets.
-fn nodes(alloc: Global, limits: Limits, tag: &str) -> Result<Vec<(Config, Store)>, NoMemory> {
-    if tag.is_empty() {
-        let configs = [config(0, limits), config(1, limits), config(2, limits)];
-        housed(alloc, &configs)
-    } else {
-        readers(alloc, limits, tag, 79)
+fn scene(alloc: Global, nodes: Nodes) -> Result<Scene, NewWorldFault> {
+    match nodes {
+        Nodes::Large => Scene::house(alloc, LARGE),
+        Nodes::Small => Scene::small(alloc),
+        Nodes::Readers => four_readers(alloc),
     }
 }
 
-/// A world of those nodes; None where memory was refused.
-fn world(alloc: Global, limits: Limits, tag: &str) -> Option<World> {
-    let Ok(nodes) = nodes(alloc, limits, tag) else {
-        return None;
+/// A scene, where one allocation alone may be refused.
+fn scene_at_last(alloc: Global, nodes: Nodes) -> Result<Scene, NewWorldFault> {
+    match scene(alloc, nodes) {
+        Err(NewWorldFault::NoMemory) => scene(alloc, nodes),
+        made => made,
+    }
+}
+
+/// How many events a row is.
+fn len_of(what: Do) -> usize {
+    match what {
+        Do::Each(from, to) => to.saturating_sub(from),
+        _ => 1,
+    }
+}
+
+/// The events of a row.
+fn add(alloc: Global, limits: Limits, what: Do, events: &mut Vec<Event>) -> Result<(), NoMemory> {
+    let Do::Each(from, to) = what else {
+        return Ok(events.push(event(alloc, limits, what)?)?);
     };
-    match World::new(alloc, nodes, 128) {
-        Ok(world) => Some(world),
-        Err(_) => None,
+    for number in from..to {
+        events.push(Event::Deliver { number })?;
     }
+    Ok(())
 }
 
-/// The events one by one.
-fn events(alloc: Global, limits: Limits, dos: &[Do]) -> Result<Vec<Event>, NoMemory> {
+/// The events of all rows, one by one.
+fn events(alloc: Global, limits: Limits, rows: &[Row]) -> Result<Vec<Event>, NoMemory> {
     let mut events = Vec::new(alloc);
-    for what in dos {
-        if let Do::Each(from, to) = *what {
-            for number in from..to {
-                events.push(Event::Deliver { number })?;
-            }
-        } else {
-            events.push(event(alloc, limits, *what)?)?;
-        }
+    for row in rows {
+        add(alloc, limits, row.0, &mut events)?;
     }
     Ok(events)
 }
 
-/// Whether a world is the one of those nodes in which these events happened; None where memory was refused.
-fn is_after(
+/// What an event tells that was refused its memory: the world is the one of the events before it, and becomes what that one does.
+fn tells_again(
+    scene: &mut Scene,
+    mut twin: Scene,
+    before: &[Event],
+    event: &Event,
+) -> Result<Seen, Fail> {
+    if twin.world.run(before) != Ok(()) || !scene.world.same(&twin.world) {
+        return Err(Fail::from("the world has changed"));
+    }
+    let seen = scene.step(event);
+    if twin.step(event) != seen || !scene.world.same(&twin.world) {
+        return Err(Fail::from("another world"));
+    }
+    Ok(seen)
+}
+
+/// What the event with that place tells, where one allocation alone may be refused.
+fn tells(
     alloc: Global,
-    world: &World,
-    limits: Limits,
-    tag: &str,
+    scene: &mut Scene,
+    nodes: Nodes,
     events: &[Event],
-) -> Option<bool> {
-    let mut other = self::world(alloc, limits, tag)?;
-    match other.run(events) {
-        Ok(()) => Some(world.same(&other)),
-        Err(_) => None,
+    place: usize,
+) -> Result<Seen, Fail> {
+    let Some((event, before)) = events.get(..=place).unwrap_or(&[]).split_last() else {
+        return Err(Fail::from("no event"));
+    };
+    match scene.step(event) {
+        Seen::Fault(WorldFault::NoMemory) => tells_again(
+            scene,
+            self::scene(alloc, nodes)?,
+            before,
+            event,
+        ),
+        seen => Ok(seen),
     }
 }
 
-/// Whether an event that was refused has changed nothing, and happens when it comes again.
-fn happens_again(
+/// What the events between two places tell, up to the first that tells something.
+fn tell(
     alloc: Global,
-    world: &mut World,
-    limits: Limits,
-    tag: &str,
-    before: &[Event],
-    event: &Event,
-) -> bool {
-    is_after(alloc, world, limits, tag, before) == Some(true) && world.step(event) == Ok(None)
-}
-
-/// Whether an event happens, or is refused and then happens.
-fn happens(
-    alloc: Global,
-    world: &mut World,
-    limits: Limits,
-    tag: &str,
-    before: &[Event],
-    event: &Event,
-) -> bool {
-    match world.step(event) {
-        Ok(told) => told.is_none(),
-        Err(WorldFault::NoMemory) => happens_again(alloc, world, limits, tag, before, event),
-        Err(_) => false,
-    }
-}
-
-fn all_happen(
-    alloc: Global,
-    world: &mut World,
-    limits: Limits,
-    tag: &str,
+    scene: &mut Scene,
+    nodes: Nodes,
     events: &[Event],
-) -> bool {
-    for (place, event) in events.iter().enumerate() {
-        let before = events.get(..place).unwrap_or(&[]);
-        if !happens(alloc, world, limits, tag, before, event) {
-            return false;
+    range: (usize, usize),
+) -> Result<Seen, Fail> {
+    for place in range.0..range.1 {
+        let seen = tells(alloc, scene, nodes, events, place)?;
+        if seen != Seen::Nothing {
+            return Ok(seen);
         }
     }
-    true
+    Ok(Seen::Nothing)
 }
 
-/// A world is made, or refused and then made.
-fn made(alloc: Global, limits: Limits, tag: &str) -> Option<World> {
-    match world(alloc, limits, tag) {
-        Some(world) => Some(world),
-        None => world(alloc, limits, tag),
+/// Octets, where one allocation alone may be refused.
+fn octets_at_last(alloc: Global, text: &str) -> Result<Vec<u8>, NoMemory> {
+    match octets_of(alloc, text) {
+        Err(NoMemory) => octets_of(alloc, text),
+        octets => octets,
     }
 }
 
-fn are_done(alloc: Global, limits: Limits, tag: &str, events: &[Event]) -> bool {
-    let Some(mut world) = made(alloc, limits, tag) else {
-        return false;
-    };
-    all_happen(alloc, &mut world, limits, tag, events)
-        && is_after(alloc, &world, limits, tag, events) != Some(false)
+/// Whether the row of these events goes as it says.
+fn goes(
+    alloc: Global,
+    scene: &mut Scene,
+    nodes: Nodes,
+    events: &[Event],
+    first: usize,
+    row: &Row,
+) -> Result<bool, Fail> {
+    let (copies, facts) = (scene.world.copies().len(), scene.world.log().len());
+    let told = tell(
+        alloc,
+        scene,
+        nodes,
+        events,
+        (first, first.saturating_add(len_of(row.0))),
+    )?;
+    let wanted = octets_at_last(alloc, row.3)?;
+    Ok(either(told, scene.logged(facts)) == row.1 && scene.is_sent(copies, row.2, &wanted))
 }
 
-/// Whether the world at the end is that of ample memory, where a world that was refused is made again and so is each event.
-fn outlasts(alloc: Global, limits: Limits, tag: &str, dos: &[Do]) -> bool {
-    match events(alloc, limits, dos) {
-        Ok(events) => are_done(alloc, limits, tag, &events),
-        Err(_) => true,
+/// The rows go as they say, up to the first that does not: an Err that has its octets.
+fn all_go(alloc: Global, nodes: Nodes, events: &[Event], rows: &[Row]) -> Result<(), Fail> {
+    let mut scene = scene_at_last(alloc, nodes)?;
+    let mut first = 0usize;
+    for row in rows {
+        if !goes(alloc, &mut scene, nodes, events, first, row)? {
+            return Err(Fail::from(row.3));
+        }
+        first = first.saturating_add(len_of(row.0));
+    }
+    Ok(())
+}
+
+/// The rows go as they say, whichever allocation is refused.
+fn plays(alloc: Global, nodes: Nodes, limits: Limits, rows: &[Row]) -> Result<(), Fail> {
+    match events(alloc, limits, rows) {
+        Err(NoMemory) => all_go(alloc, nodes, &events(alloc, limits, rows)?, rows),
+        Ok(events) => all_go(alloc, nodes, &events, rows),
     }
 }
 
 #[test]
-fn asks_with_refused_memory(rt: HostRuntime) {
-    assert!(rt; outlasts(rt.alloc(), LARGE, "", WHOLE));
+fn append_that_comes_four_times(rt: HostRuntime) -> Result<(), Fail> {
+    plays(rt.alloc(), Nodes::Large, LARGE, whole::REPEATED)
 }
 
 #[test]
-fn reads_with_refused_memory(rt: HostRuntime) {
-    assert!(rt; outlasts(rt.alloc(), LARGE, "", READS));
+fn append_whose_answer_is_lost(rt: HostRuntime) -> Result<(), Fail> {
+    plays(rt.alloc(), Nodes::Large, LARGE, whole::LOST)
 }
 
 #[test]
-fn segments_with_refused_memory(rt: HostRuntime) {
-    assert!(rt; outlasts(rt.alloc(), SMALL, "", SEGMENTS));
+fn read_before_a_write(rt: HostRuntime) -> Result<(), Fail> {
+    plays(rt.alloc(), Nodes::Large, LARGE, whole::READ_BEFORE)
 }
 
 #[test]
-fn replies_with_refused_memory(rt: HostRuntime) {
-    assert!(rt; outlasts(rt.alloc(), SMALL, "754F", REPLY));
+fn segments_whose_answer_is_lost(rt: HostRuntime) -> Result<(), Fail> {
+    plays(rt.alloc(), Nodes::Small, SMALL, requests::LOST)
+}
+
+#[test]
+fn segments_that_cross(rt: HostRuntime) -> Result<(), Fail> {
+    plays(rt.alloc(), Nodes::Small, SMALL, requests::CROSSED)
+}
+
+#[test]
+fn reply_in_90_segments(rt: HostRuntime) -> Result<(), Fail> {
+    plays(rt.alloc(), Nodes::Readers, LARGE, READS)
 }

@@ -38,51 +38,30 @@ const HEARD: &[Heard] = &[
 
 const REQUEST: &str = "810A0011 0104 0005010C 0C00000005 1955";
 
-fn are_heard(alloc: Global, scene: &mut Scene, rows: &[Heard]) -> Result<(), Fail> {
-    for row in rows {
-        let octets = octets_of(alloc, row.1)?;
-        if is_heard(scene, row.0, octets) != Some(row.2) {
-            return Err(Fail::from(row.1));
-        }
+#[test]
+fn octets_that_no_node_sent(rt: HostRuntime) -> Result<(), Fail> {
+    let mut scene = Scene::large(rt.alloc())?;
+    for (from, text, wanted) in HEARD {
+        let octets = octets_of(rt.alloc(), text)?;
+        assert!(rt;
+            is_heard(&mut scene, *from, octets) == Some(*wanted),
+            "{}",
+            text
+        );
     }
     Ok(())
 }
 
-fn house_hears(alloc: Global) -> Result<(), Fail> {
-    let mut scene = Scene::house(alloc, LARGE)?;
-    are_heard(alloc, &mut scene, HEARD)
-}
-
-#[test]
-fn octets_that_no_node_sent(rt: HostRuntime) -> Result<(), Fail> {
-    house_hears(rt.alloc())
-}
-
-/// Whether the node looks at so many octets of a request.
-fn is_front_heard(alloc: Global, scene: &mut Scene, len: usize) -> Result<bool, NoMemory> {
-    let mut front = octets_of(alloc, REQUEST)?;
-    front.truncate(len);
-    Ok(is_heard(scene, 9, front) == Some(true))
-}
-
-/// Each front of a request, the empty one too, is dropped.
-fn are_fronts_heard(alloc: Global, scene: &mut Scene) -> Result<bool, NoMemory> {
-    for len in 0..17 {
-        if !is_front_heard(alloc, scene, len)? {
-            return Ok(false);
-        }
-    }
-    Ok(true)
-}
-
-fn house_hears_fronts(alloc: Global) -> Result<bool, Fail> {
-    let mut scene = Scene::house(alloc, LARGE)?;
-    Ok(are_fronts_heard(alloc, &mut scene)? && comes_to_none(alloc, &mut scene))
-}
-
+/// Each front of a request, the empty one too, is dropped; octets to a node that there is not are a fault.
 #[test]
 fn fronts_of_a_request(rt: HostRuntime) -> Result<(), Fail> {
-    assert!(rt; house_hears_fronts(rt.alloc())?);
+    let mut scene = Scene::large(rt.alloc())?;
+    for len in 0..17 {
+        let mut front = octets_of(rt.alloc(), REQUEST)?;
+        front.truncate(len);
+        assert!(rt; is_heard(&mut scene, 9, front) == Some(true));
+    }
+    assert!(rt; comes_to_none(rt.alloc(), &mut scene));
     Ok(())
 }
 

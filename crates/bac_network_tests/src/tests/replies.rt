@@ -35,18 +35,15 @@ fn level(alloc: Global, tag: &str, count: usize) -> Result<Object, NoMemory> {
     })
 }
 
-/// A store with that object alone.
+/// A store with that object alone; what is none counts as out of memory.
 fn described(alloc: Global, tag: &str, count: usize) -> Result<Store, NoMemory> {
     let mut objects = Vec::new(alloc);
     objects.push(level(alloc, tag, count)?)?;
-    match Store::new(alloc, objects) {
-        Ok(store) => Ok(store),
-        Err(_) => Err(NoMemory),
-    }
+    Store::new(alloc, objects).map_err(|_| NoMemory)
 }
 
 /// A client with such limits, and a large server that has the description.
-pub(super) fn readers(
+fn readers(
     alloc: Global,
     client: Limits,
     tag: &str,
@@ -58,8 +55,9 @@ pub(super) fn readers(
     Ok(nodes)
 }
 
-/// A reply of 90 segments is refused to a client that takes none and to one that takes two.
-const REFUSED: &[Row] = &[
+/// A reply of 90 segments is refused to a client that takes none and to one that takes two. To a third it is sent: one segment is lost, and the window is sent
+/// again from it on, three times more by ticks; then the transfer stops, until the request comes again.
+pub(super) const READS: &[Row] = &[
     (
         Do::Ask(2, 1, READ, DESCRIPTION),
         Seen::Asked(0, 2, 1),
@@ -76,11 +74,6 @@ const REFUSED: &[Row] = &[
     ),
     (Do::Deliver(2), Seen::Nothing, 1, "710001"),
     (Do::Deliver(3), Seen::Aborted(1, 1), 0, ""),
-];
-
-/// To a third it is sent: one segment is lost, and the window is sent again from it on, three times more by ticks; then the transfer stops, until the request
-/// comes again.
-const SENT: &[Row] = &[
     (
         Do::Ask(0, 1, READ, DESCRIPTION),
         Seen::Asked(2, 0, 1),
@@ -113,7 +106,7 @@ const SENT: &[Row] = &[
     (Do::Deliver(201), Seen::Nothing, 32, "3C0029200C 3C0048200C"),
 ];
 
-/// A node that takes large APDUs and no segments, and one that takes two.
+/// A node that takes large APDUs and no segments, and one that takes two of them.
 const NONE: Limits = Limits {
     max_apdu: 5,
     takes_segments: false,
@@ -134,19 +127,9 @@ fn four_nodes(alloc: Global) -> Result<Vec<(Config, Store)>, NoMemory> {
     Ok(nodes)
 }
 
-fn four_readers(alloc: Global) -> Result<Scene, Fail> {
+/// A world of these; the first five octets of APDUs are compared.
+pub(super) fn four_readers(alloc: Global) -> Result<Scene, NewWorldFault> {
     Ok(Scene::of(alloc, four_nodes(alloc)?, 128)?.headed(LARGE))
-}
-
-fn plays_to_all(alloc: Global) -> Result<(), Fail> {
-    let mut scene = four_readers(alloc)?;
-    scene.plays(alloc, REFUSED)?;
-    scene.plays(alloc, SENT)
-}
-
-#[test]
-fn reply_in_90_segments(rt: HostRuntime) -> Result<(), Fail> {
-    plays_to_all(rt.alloc())
 }
 
 /// A description: the tag of its text, and how many octets that has; whether the client takes segments, and the code of how many.
@@ -156,27 +139,17 @@ type Description = (&'static str, usize, bool, u8);
 /// and how the ask ends.
 type Gets = (usize, (u64, usize), (u64, usize), usize, Seen);
 
-/// A client that takes APDUs of 50 octets, and a server that has the description.
-fn reading(alloc: Global, description: &Description) -> Result<Scene, Fail> {
-    let client = limits(0, description.2, description.3)?;
-    let nodes = readers(alloc, client, description.0, description.1)?;
-    Ok(Scene::of(alloc, nodes, 128)?.headed(LARGE))
-}
-
-/// What a client gets that has asked.
-fn got(scene: &mut Scene) -> Gets {
-    let _ = scene.step(&Event::Deliver { number: 0 });
-    let first = scene.last_from(1);
-    let deliveries = scene.straight(1).saturating_add(1);
-    let facts = scene.world.log().len();
-    (deliveries, first, scene.last_from(1), facts, scene.latest())
-}
-
 /// What a client that takes APDUs of 50 octets gets that reads a description.
 fn gets(alloc: Global, description: &Description) -> Result<Gets, Fail> {
-    let mut scene = reading(alloc, description)?;
+    let client = limits(0, description.2, description.3)?;
+    let nodes = readers(alloc, client, description.0, description.1)?;
+    let mut scene = Scene::of(alloc, nodes, 128)?;
     let _ = scene.happens(alloc, Do::Ask(0, 1, READ, DESCRIPTION))?;
-    Ok(got(&mut scene))
+    let _ = scene.step(&Event::Deliver { number: 0 });
+    let first = scene.sent_by(1).1;
+    let deliveries = scene.straight(1).saturating_add(1);
+    let facts = scene.world.log().len();
+    Ok((deliveries, first, scene.sent_by(1).1, facts, scene.latest()))
 }
 
 const WHOLE: (u64, usize) = (0x30_000C_0C00, 50);
@@ -216,18 +189,16 @@ const REPLIES: &[(Description, Gets)] = &[
     ),
 ];
 
-fn are_got(alloc: Global, rows: &[(Description, Gets)]) -> Result<(), Fail> {
-    for row in rows {
-        if gets(alloc, &row.0)? != row.1 {
-            return Err(Fail::from(row.0.0));
-        }
-    }
-    Ok(())
-}
-
 #[test]
 fn replies_whole_and_in_segments(rt: HostRuntime) -> Result<(), Fail> {
-    are_got(rt.alloc(), REPLIES)
+    for (description, wanted) in REPLIES {
+        assert!(rt;
+            gets(rt.alloc(), description)? == *wanted,
+            "{}",
+            description.0
+        );
+    }
+    Ok(())
 }
 
 /// Reads the whole file 1.
@@ -251,18 +222,13 @@ fn written(alloc: Global) -> Result<Scene, Fail> {
 fn is_read(scene: &mut Scene) -> bool {
     let deliveries = scene.straight(1_409);
     deliveries == 1_377
-        && scene.count_from(1) == 45 + 1_334
-        && scene.last_from(1) == (0x38_0135_2006, 29)
+        && scene.sent_by(1) == (45 + 1_334, (0x38_0135_2006, 29))
         && scene.latest() == Seen::Read(1, 0xABAB_ABAB_ABAB_ABAB)
-}
-
-fn reads_all(alloc: Global) -> Result<bool, Fail> {
-    let mut scene = written(alloc)?;
-    Ok(scene.goes(alloc, &READ_ALL)? && is_read(&mut scene))
 }
 
 #[test]
 fn read_of_60_000_octets(rt: HostRuntime) -> Result<(), Fail> {
-    assert!(rt; reads_all(rt.alloc())?);
+    let mut scene = written(rt.alloc())?;
+    assert!(rt; scene.goes(rt.alloc(), &READ_ALL)? && is_read(&mut scene));
     Ok(())
 }

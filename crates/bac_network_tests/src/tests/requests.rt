@@ -9,7 +9,7 @@ const GRANTED: Row = (Do::Deliver(0), Seen::Nothing, 1, "41000020");
 const REST: Row = (Do::Deliver(1), Seen::Nothing, 2, "0E70000120 0A70000220");
 
 /// The last grant and the answer are lost: the segments after the first grant are sent again.
-const LOST: &[Row] = &[
+pub(super) const LOST: &[Row] = &[
     FIRST,
     GRANTED,
     REST,
@@ -21,13 +21,8 @@ const LOST: &[Row] = &[
     (Do::Deliver(8), Seen::Written(0, 0), 0, ""),
 ];
 
-#[test]
-fn answer_that_is_lost(rt: HostRuntime) -> Result<(), Fail> {
-    headed_plays(rt.alloc(), SMALL, LOST)
-}
-
 /// Segments that come out of order and twice are told so, once, and the missing one is sent again.
-const CROSSED: &[Row] = &[
+pub(super) const CROSSED: &[Row] = &[
     FIRST,
     GRANTED,
     REST,
@@ -41,11 +36,6 @@ const CROSSED: &[Row] = &[
     (Do::Deliver(7), Seen::Performed(0), 2, "41000220 3000070900"),
 ];
 
-#[test]
-fn segments_that_cross(rt: HostRuntime) -> Result<(), Fail> {
-    headed_plays(rt.alloc(), SMALL, CROSSED)
-}
-
 /// The segments after the first come within 8,000 milliseconds.
 const IN_TIME: &[Row] = &[
     FIRST,
@@ -58,11 +48,6 @@ const IN_TIME: &[Row] = &[
     (Do::Deliver(5), Seen::Performed(0), 2, "41000220 3000070900"),
 ];
 
-#[test]
-fn segments_in_time(rt: HostRuntime) -> Result<(), Fail> {
-    headed_plays(rt.alloc(), SMALL, IN_TIME)
-}
-
 /// They come a millisecond later: the server has given up.
 const TOO_LATE: &[Row] = &[
     FIRST,
@@ -74,11 +59,6 @@ const TOO_LATE: &[Row] = &[
     (Do::Deliver(4), Seen::Nothing, 1, "710000"),
     (Do::Deliver(6), Seen::Aborted(0, 0), 0, ""),
 ];
-
-#[test]
-fn segments_too_late(rt: HostRuntime) -> Result<(), Fail> {
-    headed_plays(rt.alloc(), SMALL, TOO_LATE)
-}
 
 /// The answer is lost: the request begins anew, and gets the kept answer.
 const UNANSWERED: &[Row] = &[
@@ -94,9 +74,13 @@ const UNANSWERED: &[Row] = &[
     (Do::Deliver(7), Seen::Written(0, 0), 0, ""),
 ];
 
+/// Each of them in a world of its own.
 #[test]
-fn answer_to_another_sending(rt: HostRuntime) -> Result<(), Fail> {
-    headed_plays(rt.alloc(), SMALL, UNANSWERED)
+fn segments_that_come_late(rt: HostRuntime) -> Result<(), Fail> {
+    for rows in [IN_TIME, TOO_LATE, UNANSWERED] {
+        Scene::small(rt.alloc())?.plays(rt.alloc(), rows)?;
+    }
+    Ok(())
 }
 
 /// Service data of 46 octets go whole in an APDU of 50.
@@ -112,28 +96,24 @@ const IN_TWO: &[Row] = &[
 /// Those of 111 go as 44, 44 and 23.
 const IN_THREE: &[Row] = &[FIRST, GRANTED, REST];
 
-/// The front and the length of the last APDU that the client sends.
+/// What a client sends, and the front and the length of the last APDU.
+const CUT: &[(&[Row], (u64, usize))] = &[
+    (WHOLE, (0x02_7000_07C4, 50)),
+    (IN_TWO, (0x0A_7000_0120, 9)),
+    (IN_THREE, (0x0A_7000_0220, 29)),
+];
+
 fn last_sent(alloc: Global, rows: &[Row]) -> Result<(u64, usize), Fail> {
-    let mut scene = Scene::house(alloc, SMALL)?.headed(SMALL);
+    let mut scene = Scene::small(alloc)?;
     scene.plays(alloc, rows)?;
-    Ok(scene.last_from(0))
+    Ok(scene.sent_by(0).1)
 }
 
 #[test]
-fn write_that_goes_whole(rt: HostRuntime) -> Result<(), Fail> {
-    assert!(rt; last_sent(rt.alloc(), WHOLE)? == (0x02_7000_07C4, 50));
-    Ok(())
-}
-
-#[test]
-fn write_in_two_segments(rt: HostRuntime) -> Result<(), Fail> {
-    assert!(rt; last_sent(rt.alloc(), IN_TWO)? == (0x0A_7000_0120, 9));
-    Ok(())
-}
-
-#[test]
-fn write_in_three_segments(rt: HostRuntime) -> Result<(), Fail> {
-    assert!(rt; last_sent(rt.alloc(), IN_THREE)? == (0x0A_7000_0220, 29));
+fn writes_whole_and_in_segments(rt: HostRuntime) -> Result<(), Fail> {
+    for (rows, last) in CUT {
+        assert!(rt; last_sent(rt.alloc(), rows)? == *last);
+    }
     Ok(())
 }
 
@@ -148,35 +128,22 @@ const LIMITED: &[Limited] = &[
     (5, 7, 65_522, Seen::Asked(0, 0, 1)),
 ];
 
-/// A scene whose clients suppose that.
-fn limited_scene(alloc: Global, max_apdu: u8, max_segments: u8) -> Result<Scene, Fail> {
-    let limits = limits(max_apdu, true, max_segments)?;
-    Ok(Scene::house(alloc, LARGE)?.headed(limits))
-}
-
-fn is_limited(alloc: Global, row: &Limited) -> Result<bool, Fail> {
-    let mut scene = limited_scene(alloc, row.0, row.1)?;
-    Ok(scene.sees(alloc, Do::Put(row.2))? == row.3)
-}
-
-fn are_limited(alloc: Global, rows: &[Limited]) -> Result<bool, Fail> {
-    for row in rows {
-        if !is_limited(alloc, row)? {
-            return Ok(false);
-        }
-    }
-    Ok(true)
+fn ask_tells(alloc: Global, row: &Limited) -> Result<Seen, Fail> {
+    let mut scene = Scene::house(alloc, LARGE)?.headed(limits(row.0, true, row.1)?);
+    Ok(scene.sees(alloc, Do::Put(row.2))?)
 }
 
 #[test]
 fn limits_of_requests(rt: HostRuntime) -> Result<(), Fail> {
-    assert!(rt; are_limited(rt.alloc(), LIMITED)?);
+    for row in LIMITED {
+        assert!(rt; ask_tells(rt.alloc(), row)? == row.3);
+    }
     Ok(())
 }
 
 /// How many copies come of the longest write, and how it ends.
 fn longest_write(alloc: Global) -> Result<(usize, Seen), Fail> {
-    let mut scene = limited_scene(alloc, 5, 7)?;
+    let mut scene = Scene::house(alloc, LARGE)?;
     let _ = scene.happens(alloc, Do::Put(65_522))?;
     let deliveries = scene.straight(0);
     Ok((deliveries, scene.latest()))
@@ -223,59 +190,39 @@ const LONG: &[Long] = &[
     ),
 ];
 
-/// A client, and a small server, with these windows.
-fn long_nodes(alloc: Global, row: &Long) -> Result<Vec<(Config, Store)>, NoMemory> {
+/// A client, and a small server, with these windows; of APDUs the first 18 octets are compared.
+fn long_scene(alloc: Global, row: &Long) -> Result<Scene, NewWorldFault> {
     let mut client = config(0, LARGE);
     client.window = row.0;
     let mut server = config(1, SMALL);
     server.window = row.1;
-    housed(alloc, &[client, server])
+    let mut scene = Scene::of(alloc, housed(alloc, &[client, server])?, row.2)?.headed(SMALL);
+    scene.to = 24;
+    Ok(scene)
 }
 
-/// A scene of them; of APDUs the first 18 octets are compared.
-fn long_scene(alloc: Global, row: &Long) -> Result<Scene, Fail> {
-    let scene = Scene::of(alloc, long_nodes(alloc, row)?, row.2)?;
-    Ok(Scene {
-        world: scene.world,
-        limits: SMALL,
-        from: 6,
-        to: 24,
-    })
-}
-
-/// Segment 0 is asked and granted.
-fn begins(alloc: Global, scene: &mut Scene, row: &Long) -> Result<bool, NoMemory> {
-    let ask = (Do::Put(60_000), Seen::Asked(0, 0, 1), 1, row.3);
-    let grant = (Do::Deliver(0), Seen::Nothing, 1, row.4);
-    Ok(scene.goes(alloc, &ask)? && scene.goes(alloc, &grant)?)
-}
-
-/// Whether the rest is 1,363 segments, the last of which has 41 octets of data, and the answer is a position.
+/// The rest is 1,363 segments, the last of which has 41 octets of data, and the answer is a position.
 fn goes_on(scene: &mut Scene, told: &Told) -> bool {
     let deliveries = scene.straight(1);
     deliveries == told.2
-        && scene.count_from(0) == 1_364
-        && scene.count_from(1) == told.1
-        && scene.last_from(0) == (told.0, 47)
-        && scene.last_from(1) == (0x30_0007_0900, 5)
+        && scene.sent_by(0) == (1_364, (told.0, 47))
+        && scene.sent_by(1) == (told.1, (0x30_0007_0900, 5))
         && scene.latest() == Seen::Written(0, 0)
 }
 
+/// Segment 0 is asked and granted, and the rest comes as it has to.
 fn is_written(alloc: Global, row: &Long) -> Result<bool, Fail> {
     let mut scene = long_scene(alloc, row)?;
-    Ok(begins(alloc, &mut scene, row)? && goes_on(&mut scene, &row.5))
-}
-
-fn are_written(alloc: Global, rows: &[Long]) -> Result<(), Fail> {
-    for row in rows {
-        if !is_written(alloc, row)? {
-            return Err(Fail::from(row.4));
-        }
-    }
-    Ok(())
+    let ask = (Do::Put(60_000), Seen::Asked(0, 0, 1), 1, row.3);
+    let grant = (Do::Deliver(0), Seen::Nothing, 1, row.4);
+    scene.plays(alloc, &[ask, grant])?;
+    Ok(goes_on(&mut scene, &row.5))
 }
 
 #[test]
 fn write_of_60_000_octets(rt: HostRuntime) -> Result<(), Fail> {
-    are_written(rt.alloc(), LONG)
+    for row in LONG {
+        assert!(rt; is_written(rt.alloc(), row)?, "{}", row.4);
+    }
+    Ok(())
 }

@@ -7,35 +7,31 @@ const APPENDS: &str = "810A0017 0104 02750007 C402800001 0E 31FF 63AABBCC 0F";
 const APPENDED: &str = "810A000B 0100 300007 0902";
 
 /// One append is delivered four times: it is performed once, and the file shows it.
-#[test]
-fn append_delivered_four_times(rt: HostRuntime) -> Result<(), Fail> {
-    const ROWS: &[Row] = &[
-        (Do::Ask(0, 1, PUT, APPEND), Seen::Asked(0, 0, 1), 1, APPENDS),
-        (Do::Deliver(0), Seen::Performed(0), 1, APPENDED),
-        (Do::Deliver(0), Seen::Nothing, 1, APPENDED),
-        (Do::Deliver(0), Seen::Nothing, 1, APPENDED),
-        (Do::Deliver(0), Seen::Nothing, 1, APPENDED),
-        (Do::Deliver(1), Seen::Written(0, 2), 0, ""),
-        (Do::Deliver(2), Seen::Nothing, 0, ""),
-        (
-            Do::Ask(0, 1, GET, "C402800001 0E 3100 210A 0F"),
-            Seen::Asked(1, 0, 1),
-            1,
-            "810A0015 0104 02750106 C402800001 0E 3100 210A 0F",
-        ),
-        (
-            Do::Deliver(5),
-            Seen::Performed(1),
-            1,
-            "810A0015 0100 300106 11 0E 3100 65054F4BAABBCC 0F",
-        ),
-        (Do::Deliver(6), Seen::Read(1, 0x4F4B_AABB_CC), 0, ""),
-    ];
-    large_plays(rt.alloc(), ROWS)
-}
+pub(super) const REPEATED: &[Row] = &[
+    (Do::Ask(0, 1, PUT, APPEND), Seen::Asked(0, 0, 1), 1, APPENDS),
+    (Do::Deliver(0), Seen::Performed(0), 1, APPENDED),
+    (Do::Deliver(0), Seen::Nothing, 1, APPENDED),
+    (Do::Deliver(0), Seen::Nothing, 1, APPENDED),
+    (Do::Deliver(0), Seen::Nothing, 1, APPENDED),
+    (Do::Deliver(1), Seen::Written(0, 2), 0, ""),
+    (Do::Deliver(2), Seen::Nothing, 0, ""),
+    (
+        Do::Ask(0, 1, GET, "C402800001 0E 3100 210A 0F"),
+        Seen::Asked(1, 0, 1),
+        1,
+        "810A0015 0104 02750106 C402800001 0E 3100 210A 0F",
+    ),
+    (
+        Do::Deliver(5),
+        Seen::Performed(1),
+        1,
+        "810A0015 0100 300106 11 0E 3100 65054F4BAABBCC 0F",
+    ),
+    (Do::Deliver(6), Seen::Read(1, 0x4F4B_AABB_CC), 0, ""),
+];
 
 /// An answer is lost: a tick after 3,000 milliseconds repeats the request, which is not performed again.
-const LOST: &[Row] = &[
+pub(super) const LOST: &[Row] = &[
     (Do::Ask(0, 1, PUT, APPEND), Seen::Asked(0, 0, 1), 1, APPENDS),
     (Do::Deliver(0), Seen::Performed(0), 1, APPENDED),
     (Do::Advance(2_999), Seen::Nothing, 0, ""),
@@ -50,11 +46,6 @@ const LOST: &[Row] = &[
     (Do::Tick(0), Seen::Nothing, 0, ""),
 ];
 
-#[test]
-fn answer_that_is_lost(rt: HostRuntime) -> Result<(), Fail> {
-    large_plays(rt.alloc(), LOST)
-}
-
 /// Nothing is delivered: three repeats, and the end.
 const UNHEARD: &[Row] = &[
     (Do::Ask(0, 1, PUT, APPEND), Seen::Asked(0, 0, 1), 1, APPENDS),
@@ -68,11 +59,6 @@ const UNHEARD: &[Row] = &[
     (Do::Tick(0), Seen::TimedOut(0), 0, ""),
 ];
 
-#[test]
-fn append_that_is_unheard(rt: HostRuntime) -> Result<(), Fail> {
-    large_plays(rt.alloc(), UNHEARD)
-}
-
 /// The first tick is at 60,000 milliseconds, and repeats the request.
 const AT_DEADLINE: &[Row] = &[
     (Do::Ask(0, 1, PUT, APPEND), Seen::Asked(0, 0, 1), 1, APPENDS),
@@ -82,11 +68,6 @@ const AT_DEADLINE: &[Row] = &[
     (Do::Tick(0), Seen::Expired(0), 0, ""),
 ];
 
-#[test]
-fn tick_at_the_deadline(rt: HostRuntime) -> Result<(), Fail> {
-    large_plays(rt.alloc(), AT_DEADLINE)
-}
-
 /// The first tick is a millisecond later.
 const AFTER_DEADLINE: &[Row] = &[
     (Do::Ask(0, 1, PUT, APPEND), Seen::Asked(0, 0, 1), 1, APPENDS),
@@ -94,13 +75,17 @@ const AFTER_DEADLINE: &[Row] = &[
     (Do::Tick(0), Seen::Expired(0), 0, ""),
 ];
 
+/// Each of them in a world of its own.
 #[test]
-fn tick_after_the_deadline(rt: HostRuntime) -> Result<(), Fail> {
-    large_plays(rt.alloc(), AFTER_DEADLINE)
+fn requests_that_get_no_answer(rt: HostRuntime) -> Result<(), Fail> {
+    for rows in [UNHEARD, AT_DEADLINE, AFTER_DEADLINE] {
+        Scene::house(rt.alloc(), LARGE)?.plays(rt.alloc(), rows)?;
+    }
+    Ok(())
 }
 
 /// A read is performed before a write; the read's request comes again after it, and gets the answer of before.
-const READ_BEFORE: &[Row] = &[
+pub(super) const READ_BEFORE: &[Row] = &[
     (
         Do::Ask(0, 1, READ, "0C00800001 1955"),
         Seen::Asked(0, 0, 1),
@@ -189,21 +174,12 @@ fn are_fresh(alloc: Global, stores: &[Store]) -> Result<bool, NoMemory> {
     Ok(true)
 }
 
-fn read_and_written(alloc: Global) -> Result<Scene, Fail> {
-    let mut scene = Scene::house(alloc, LARGE)?;
-    scene.plays(alloc, READ_BEFORE)?;
-    scene.plays(alloc, REFUSED)?;
-    Ok(scene)
-}
-
-/// Whether the opening stores stay, and the store of the node that was asked is another one.
-fn stores_change(alloc: Global) -> Result<bool, Fail> {
-    let scene = read_and_written(alloc)?;
-    Ok(are_fresh(alloc, scene.world.opening())? && scene.is_changed(1))
-}
-
+/// The opening stores stay, and the store of the node that was asked is another one.
 #[test]
 fn a_read_before_a_write(rt: HostRuntime) -> Result<(), Fail> {
-    assert!(rt; stores_change(rt.alloc())?);
+    let mut scene = Scene::house(rt.alloc(), LARGE)?;
+    scene.plays(rt.alloc(), READ_BEFORE)?;
+    scene.plays(rt.alloc(), REFUSED)?;
+    assert!(rt; are_fresh(rt.alloc(), scene.world.opening())? && scene.is_changed(1));
     Ok(())
 }
