@@ -3,7 +3,7 @@
 use super::*;
 use bac_apdu::{read, write};
 use bac_node::{NodeFault, Outcome};
-use bac_npdu::{Peer, write_datagram};
+use bac_npdu::{Peer, write_datagram, write_frame_head};
 use bac_service::{read_reply, read_request, write_reply, write_request};
 use bac_store::{Object, Property, Store, StoreFault};
 use bac_value::{
@@ -21,6 +21,8 @@ enum Written {
     Apdu,
     /// To link 2, of an APDU that begins after six octets.
     Datagram,
+    /// What that one has in front of its APDU.
+    FrameHead,
 }
 
 /// What is written, and its octets.
@@ -38,6 +40,7 @@ const WRITTEN: &[(Written, &[u8])] = &[
         b"\x00\x05\x01\x0C\x0C\x00\x00\x00\x05\x19\x55",
     ),
     (Written::Datagram, READ),
+    (Written::FrameHead, b"\x81\x0A\x00\x11\x01\x04"),
 ];
 
 /// Octets that spell nothing of the kind.
@@ -60,17 +63,20 @@ fn writes_value(
     })
 }
 
+/// A peer on the own network.
+fn neighbour() -> Peer {
+    Peer {
+        link: link(2),
+        route: None,
+    }
+}
+
 /// Reads an APDU or the one in a datagram from its octets, and writes that.
 fn writes(what: Written, octets: &[u8], out: &mut Vec<u8>) -> Result<Result<(), NoMemory>, Fail> {
     match what {
         Written::Apdu => Ok(write(&read(octets)?, out)),
-        Written::Datagram => {
-            let peer = Peer {
-                link: link(2),
-                route: None,
-            };
-            Ok(write_datagram(&peer, true, &READ[6..17], out))
-        }
+        Written::Datagram => Ok(write_datagram(&neighbour(), true, &READ[6..17], out)),
+        Written::FrameHead => Ok(write_frame_head(&neighbour(), true, 11, out)),
         _ => writes_value(what, octets, out),
     }
 }

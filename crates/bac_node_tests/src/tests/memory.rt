@@ -41,8 +41,8 @@ const SEGMENTS: &[Row] = &[
 /// A node is made, or refused and then made.
 fn made(alloc: Global, number: u8) -> Result<Node, NewNodeFault> {
     match house_node(alloc, number) {
-        Ok(node) => Ok(node),
-        Err(_) => house_node(alloc, number),
+        Err(NewNodeFault::NoMemory) => house_node(alloc, number),
+        made => made,
     }
 }
 
@@ -183,11 +183,25 @@ fn repeats(node: &mut Node, now: u64, wanted: &[u8]) -> Result<bool, NodeFault> 
     Ok(are_octets(&outcome.sends, wanted))
 }
 
-/// Whether it does, the first or the second time; one that was refused has left the latest moment.
-fn repeats_at_last(node: &mut Node, now: u64, wanted: &[u8]) -> Result<bool, NodeFault> {
-    match repeats(node, now, wanted) {
+/// Whether a node has asked for a write, and nothing else has happened to it.
+fn has_asked(alloc: Global, node: &Node, write: &OwnedRequest) -> Result<bool, Fail> {
+    let mut other = house_node(alloc, CLIENT)?;
+    let _ = ask(&mut other, 0, SERVER, &LARGE, write)?;
+    Ok(node.same(&other))
+}
+
+/// Whether it does, the first or the second time; one that was refused has changed nothing.
+fn repeats_at_last(
+    alloc: Global,
+    node: &mut Node,
+    write: &OwnedRequest,
+    wanted: &[u8],
+) -> Result<bool, Fail> {
+    match repeats(node, 3_000, wanted) {
         Ok(sent) => Ok(sent),
-        Err(NodeFault::NoMemory) => Ok(node.latest() == 0 && repeats(node, now, wanted)?),
+        Err(NodeFault::NoMemory) => {
+            Ok(has_asked(alloc, node, write)? && repeats(node, 3_000, wanted)?)
+        }
         Err(_) => Ok(false),
     }
 }
@@ -197,7 +211,7 @@ fn sends_twice(alloc: Global, write: &OwnedRequest, append: &[u8]) -> Result<boo
     let mut node = made(alloc, CLIENT)?;
     Ok(
         sends_at_last(alloc, &mut node, write, append)?
-            && repeats_at_last(&mut node, 3_000, append)?,
+            && repeats_at_last(alloc, &mut node, write, append)?,
     )
 }
 

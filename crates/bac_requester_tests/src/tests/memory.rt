@@ -79,28 +79,46 @@ fn heard(alloc: Global, row: &Row) -> Result<Vec<u8>, NoMemory> {
     }
 }
 
-/// How a row ends that comes after `n` others, made again where memory is refused; none where the refused call has changed anything.
-fn ends_at_last(
+/// Whether that is what a row says, found out twice where memory is refused.
+fn is_said_at_last(
     alloc: Global,
-    end: &mut Indexed,
+    sends: &[Datagram],
+    ended: End,
     row: &Row,
-    n: usize,
-) -> Result<Option<End>, NoMemory> {
-    let octets = heard(alloc, row)?;
-    if let Ok((_, ended)) = meets(end, alloc, row.0, &octets) {
-        return Ok(Some(ended));
+) -> Result<bool, NoMemory> {
+    match is_said(alloc, sends, ended, row) {
+        Ok(said) => Ok(said),
+        Err(_) => is_said(alloc, sends, ended, row),
     }
-    let before = after(alloc, ROWS.get(..n).unwrap_or(ROWS))?;
-    if !end.same(&before) {
-        return Ok(None);
-    }
-    let (_, ended) = meets(end, alloc, row.0, &octets)?;
-    Ok(Some(ended))
 }
 
-fn all_end_at_last(alloc: Global, end: &mut Indexed) -> Result<(), Fail> {
+/// Whether an end is what the first `n` rows make.
+fn is_after(alloc: Global, end: &Indexed, n: usize) -> Result<bool, NoMemory> {
+    let other = after(alloc, ROWS.get(..n).unwrap_or(ROWS))?;
+    Ok(end.same(&other))
+}
+
+/// Whether a row that was refused has changed nothing, and goes as it says when it comes again.
+fn goes_again(alloc: Global, end: &mut Indexed, row: &Row, n: usize) -> Result<bool, NoMemory> {
+    Ok(
+        is_after(alloc, end, n)?
+            && goes(end, alloc, row)?
+            && is_after(alloc, end, n.saturating_add(1))?,
+    )
+}
+
+/// Whether a row that comes after `n` others goes as it says, the first or the second time.
+fn goes_at_last(alloc: Global, end: &mut Indexed, row: &Row, n: usize) -> Result<bool, NoMemory> {
+    let octets = heard(alloc, row)?;
+    match meets(end, alloc, row.0, &octets) {
+        Ok((sends, ended)) => is_said_at_last(alloc, &sends, ended, row),
+        Err(_) => goes_again(alloc, end, row, n),
+    }
+}
+
+fn all_go_at_last(alloc: Global, end: &mut Indexed) -> Result<(), Fail> {
     for (n, row) in ROWS.iter().enumerate() {
-        if ends_at_last(alloc, end, row, n)? != Some(row.3) {
+        if !goes_at_last(alloc, end, row, n)? {
             return Err(wrong(row));
         }
     }
@@ -112,7 +130,7 @@ fn refused_rows(alloc: Global) -> Result<(), Fail> {
         Ok(end) => end,
         Err(_) => begun(alloc)?,
     };
-    all_end_at_last(alloc, &mut end)
+    all_go_at_last(alloc, &mut end)
 }
 
 /// A refused call leaves the end as it was, and is done when it comes again.
@@ -121,33 +139,58 @@ fn rows_with_refused_memory(rt: HostRuntime) -> Result<(), Fail> {
     refused_rows(rt.alloc())
 }
 
-/// Whether an ask is accepted, at the second time at the latest; one that is refused leaves the end like a fresh one.
-fn asks_at_last(alloc: Global, end: &mut Indexed, fresh: &Indexed, write: &OwnedRequest) -> bool {
+/// An ask for a write in three segments, of which segment 0 is sent.
+const ASKED: Row = (
+    0,
+    "",
+    "810A0038 0104 0E7000002007 C402800001 0E 3100 6564 ABAB",
+    End::Open,
+);
+
+/// Whether an ask sends that, the first or the second time; one that was refused leaves the end like a fresh one.
+fn asks_at_last(
+    alloc: Global,
+    end: &mut Indexed,
+    fresh: &Indexed,
+    write: &OwnedRequest,
+) -> Result<bool, Fail> {
     match end.ask(alloc, 0, &peer(2), &SMALL.limits, write) {
-        Ok(_) => !end.same(fresh),
-        Err(AskFault::NoMemory) => {
-            let unchanged = end.same(fresh);
-            let asked = end.ask(alloc, 0, &peer(2), &SMALL.limits, write).is_ok();
-            unchanged && asked && !end.same(fresh)
+        Ok(asked) => Ok(is_said_at_last(alloc, &asked.sends, End::Open, &ASKED)?),
+        Err(AskFault::NoMemory) if end.same(fresh) => {
+            let asked = end.ask(alloc, 0, &peer(2), &SMALL.limits, write)?;
+            Ok(is_said(alloc, &asked.sends, End::Open, &ASKED)?)
         }
-        Err(_) => false,
+        Err(_) => Ok(false),
     }
 }
 
-/// Whether that goes for a write in segments; memory that is refused before it is asked says nothing.
-fn asks_in_segments(alloc: Global) -> bool {
-    let (Ok(mut end), Ok(fresh), Ok(write)) = (
-        requester(alloc, &SMALL, 64),
-        requester(alloc, &SMALL, 64),
-        put(alloc, 100),
-    ) else {
-        return true;
-    };
-    asks_at_last(alloc, &mut end, &fresh, &write)
+/// A client's end without tickets, made again where memory is refused.
+fn fresh(alloc: Global) -> Result<Indexed, NoMemory> {
+    match requester(alloc, &SMALL, 64) {
+        Ok(end) => Ok(end),
+        Err(_) => requester(alloc, &SMALL, 64),
+    }
+}
+
+/// A write of 100 octets, made again where memory is refused.
+fn written(alloc: Global) -> Result<OwnedRequest, NoMemory> {
+    match put(alloc, 100) {
+        Ok(write) => Ok(write),
+        Err(_) => put(alloc, 100),
+    }
+}
+
+/// Whether that goes for a write in segments.
+fn asks_in_segments(alloc: Global) -> Result<bool, Fail> {
+    let mut end = fresh(alloc)?;
+    let other = fresh(alloc)?;
+    let write = written(alloc)?;
+    asks_at_last(alloc, &mut end, &other, &write)
 }
 
 /// A refused ask leaves the end as it was, and is accepted when it comes again.
 #[test]
-fn asks_with_refused_memory(rt: HostRuntime) {
-    assert!(rt; asks_in_segments(rt.alloc()));
+fn asks_with_refused_memory(rt: HostRuntime) -> Result<(), Fail> {
+    assert!(rt; asks_in_segments(rt.alloc())?);
+    Ok(())
 }
