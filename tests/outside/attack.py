@@ -1,9 +1,9 @@
 #!/usr/bin/env python3
 """Attacks `bac serve` with datagrams of ill will, and then asks it: attack.py PROGRAM SEED SECONDS [FILE..]
 
-What it sends: mutated requests, segments, acknowledgements, replies and frames with routes, made from the seed by this script's own generator (tests/flood has
-another one), and altered copies of the datagrams in the files. All that the server sends back has to be well formed, by `bac check`. In the end an honest ask has to be answered: at once, or, where
-the attack holds all places of the reply table, when the life of its entries is over.
+What it sends: mutated requests, segments, acknowledgements, replies and frames with routes, made from the seed by this script's own generator
+(tests/flood has another one), and altered copies of the datagrams in the files. All that the server sends back has to be well formed, by `bac check`.
+In the end an honest ask has to be answered: at once, or, where the attack holds all places of the reply table, when the life of its entries is over.
 """
 
 import random
