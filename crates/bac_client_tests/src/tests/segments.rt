@@ -12,7 +12,7 @@ const RECEIVED: &[Row] = &[
     // of another service choice; in one APDU
     (5_000, "3801030206 05", "", End::Open),
     (5_000, "300107 0905", "", End::Open),
-    // what answers a request before its reply begins
+    // a SimpleACK; an Error
     (5_000, "200107", "", End::Open),
     (5_000, "500107 9102 911F", "", End::Open),
     (
