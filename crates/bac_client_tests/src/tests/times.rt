@@ -31,7 +31,49 @@ const WAITS_FOR_SEGMENTS: &[Row] = &[
     (34_000, "", "", End::TimedOut),
 ];
 
-const REPEATS: &[&[Row]] = &[THREE_REPEATS, TWELVE_SECONDS, WAITS_FOR_SEGMENTS];
+/// The repeats of both states share one count: one before the reply begins leaves two after it.
+const ONE_AND_TWO: &[Row] = &[
+    (4_000, "", REQUEST, End::Open),
+    (5_000, "3C01000207 09", "810A000A 0100 40010002", End::Open),
+    // what is ignored leaves the timer as it was
+    (6_000, "500107 9102 911F", "", End::Open),
+    (12_999, "", "", End::Open),
+    (13_000, "", REQUEST, End::Open),
+    (20_999, "", "", End::Open),
+    (21_000, "", REQUEST, End::Open),
+    (28_999, "", "", End::Open),
+    (29_000, "", "", End::TimedOut),
+];
+
+/// A further segment sets the timer anew, and gives no repeat back.
+const TWO_AND_ONE: &[Row] = &[
+    (4_000, "", REQUEST, End::Open),
+    (7_000, "", REQUEST, End::Open),
+    (8_000, "3C01000207 09", "810A000A 0100 40010002", End::Open),
+    (15_999, "", "", End::Open),
+    (16_000, "", REQUEST, End::Open),
+    (17_000, "3C01010207", "", End::Open),
+    (24_999, "", "", End::Open),
+    (25_000, "", "", End::TimedOut),
+];
+
+const THREE_AND_NONE: &[Row] = &[
+    (4_000, "", REQUEST, End::Open),
+    (7_000, "", REQUEST, End::Open),
+    (10_000, "", REQUEST, End::Open),
+    (11_000, "3C01000207 09", "810A000A 0100 40010002", End::Open),
+    (18_999, "", "", End::Open),
+    (19_000, "", "", End::TimedOut),
+];
+
+const REPEATS: &[&[Row]] = &[
+    THREE_REPEATS,
+    TWELVE_SECONDS,
+    WAITS_FOR_SEGMENTS,
+    ONE_AND_TWO,
+    TWO_AND_ONE,
+    THREE_AND_NONE,
+];
 
 #[test]
 fn repeats(rt: HostRuntime) -> Result<(), Fail> {
