@@ -3,24 +3,27 @@ use super::*;
 use bac_client::Ending;
 use bac_network::{Copy, Event, Fact, World};
 use bac_service::{AnyReply, OwnedReply, OwnedRequest, read_request, write_reply, write_request};
-use bac_store::Store;
+use bac_store::{Object, Property, Store};
+use bac_value::{DataBuf, ObjectIdentifier, read_data};
 
-/// AtomicReadFile and AtomicWriteFile: their service choices (clause 21).
-const GET: u8 = 6;
-
+/// AtomicWriteFile and ReadProperty: their service choices (clause 21).
 const PUT: u8 = 7;
 
-/// The service data of a write at position 0 of file 1, up to the octets: of 100 and of 4,004 octets.
+const READ_PROPERTY: u8 = 12;
+
+/// The service data of a write of 100 octets at position 0 of file 1, up to the octets.
 const PUT_100: &[u8] = b"\xC4\x02\x80\x00\x01\x0E\x31\x00\x65\x64";
 
-const PUT_4004: &[u8] = b"\xC4\x02\x80\x00\x01\x0E\x31\x00\x65\xFE\x0F\xA4";
-
-/// The service data of a read of 4,004 octets of file 1.
-const GET_4004: &[u8] = b"\xC4\x02\x80\x00\x01\x0E\x31\x00\x22\x0F\xA4\x0F";
+/// The service data of a read of the description of analog-input 7.
+const DESCRIPTION: &[u8] = b"\x0C\x00\x00\x00\x07\x19\x1C";
 
 /// What happens.
 #[derive(Clone, Copy)]
 enum Do {
+    /// Node 0 asks node 1 to write 100 octets.
+    Write,
+    /// A node asks node 1 for the description.
+    Read(usize),
     /// The copies from one number to another, which is left out, come in their order.
     Deliver(usize, usize),
     Tick(usize),
@@ -29,6 +32,7 @@ enum Do {
 
 /// A write in three segments whose last SegmentACK and answer are lost: two segments are sent again, and the first of them gets the kept answer.
 const WRITE: &[Do] = &[
+    Do::Write,
     Do::Deliver(0, 4),
     Do::Advance(2_000),
     Do::Tick(0),
@@ -36,12 +40,17 @@ const WRITE: &[Do] = &[
     Do::Deliver(8, 9),
 ];
 
-/// A read whose reply goes in 90 segments, of which one is lost: the window is sent again from it on, three times more by ticks; then the transfer stops,
-/// until the request comes again.
-const READ_LONG: &[Do] = &[
-    Do::Deliver(0, 44),
-    Do::Deliver(45, 46),
-    Do::Deliver(68, 69),
+/// A read whose reply goes in 90 segments is aborted for a client that takes none and for one that takes two. A third gets it: one segment is lost, and the
+/// window is sent again from it on, three times more by ticks; then the transfer stops, until the request comes again.
+const READS: &[Do] = &[
+    Do::Read(2),
+    Do::Deliver(0, 2),
+    Do::Read(3),
+    Do::Deliver(2, 4),
+    Do::Read(0),
+    Do::Deliver(4, 48),
+    Do::Deliver(49, 50),
+    Do::Deliver(72, 73),
     Do::Advance(2_000),
     Do::Tick(1),
     Do::Advance(2_000),
@@ -51,13 +60,13 @@ const READ_LONG: &[Do] = &[
     Do::Advance(2_000),
     Do::Tick(1),
     Do::Tick(0),
-    Do::Deliver(197, 198),
+    Do::Deliver(201, 202),
 ];
 
-/// The service data of a write of so many octets.
-fn put(alloc: Global, head: &[u8], len: usize) -> Result<Vec<u8>, NoMemory> {
-    let mut octets = Vec::from_slice(alloc, head)?;
-    octets.resize(head.len().saturating_add(len), 0xAB)?;
+/// The service data of the write.
+fn put(alloc: Global) -> Result<Vec<u8>, NoMemory> {
+    let mut octets = Vec::from_slice(alloc, PUT_100)?;
+    octets.resize(PUT_100.len().saturating_add(100), 0xAB)?;
     octets.push(0x0F)?;
     Ok(octets)
 }
@@ -70,23 +79,71 @@ fn request(alloc: Global, choice: u8, service: &[u8]) -> Result<OwnedRequest, No
     request.to_owned(alloc)
 }
 
-/// A house whose file 1 has 4,004 octets.
-fn filled_house(alloc: Global) -> Result<Store, NoMemory> {
-    let mut store = house(alloc)?;
-    let request = request(alloc, PUT, &put(alloc, PUT_4004, 4_004)?)?;
-    let _reply = store.perform(alloc, &request.as_request())?;
-    Ok(store)
+/// A text of 4,000 octets, the character set 0 among them; what is no data counts as out of memory.
+fn text(alloc: Global) -> Result<DataBuf, NoMemory> {
+    let mut octets = Vec::from_slice(alloc, b"\x75\xFE\x0F\xA0")?;
+    octets.resize(4_004, 0)?;
+    let Ok((data, _)) = read_data(&octets) else {
+        return Err(NoMemory);
+    };
+    data.to_owned(alloc)
 }
 
-/// A client that takes APDUs of 50 octets, and a server with that store.
-fn world(alloc: Global, store: Store, max_apdu: u8) -> Result<World, Fail> {
+/// Analog-input 7, which has it as its description.
+fn level(alloc: Global) -> Result<Object, NoMemory> {
+    let mut properties = Vec::new(alloc);
+    properties.push(Property {
+        number: 28,
+        values: text(alloc)?,
+        writable: false,
+    })?;
+    Ok(Object {
+        id: ObjectIdentifier {
+            kind: 0,
+            instance: 7,
+        },
+        name: String::from_str(alloc, "level")?,
+        properties,
+        file: None,
+    })
+}
+
+/// A store with that object alone; what is none counts as out of memory.
+fn described(alloc: Global) -> Result<Store, NoMemory> {
+    let mut objects = Vec::new(alloc);
+    objects.push(level(alloc)?)?;
+    Store::new(alloc, objects).map_err(|_| NoMemory)
+}
+
+/// A node with the house store that takes APDUs of 1,476 octets, segments or none, and as many as that code says.
+fn reader(
+    alloc: Global,
+    number: u8,
+    takes_segments: bool,
+    max_segments: u8,
+) -> Result<(Config, Store), NoMemory> {
+    let mut config = config(number, 5, 1);
+    config.limits.takes_segments = takes_segments;
+    config.limits.max_segments = max_segments;
+    Ok((config, house(alloc)?))
+}
+
+/// A client and a server that take APDUs of 50 octets.
+fn two_nodes(alloc: Global) -> Result<Vec<(Config, Store)>, NoMemory> {
     let mut nodes = Vec::new(alloc);
     nodes.push((config(0, 0, 1), house(alloc)?))?;
-    nodes.push((config(1, max_apdu, 1), store))?;
-    match World::new(alloc, nodes, 128) {
-        Ok(world) => Ok(world),
-        Err(_) => Err(Fail::from("no world")),
-    }
+    nodes.push((config(1, 0, 1), house(alloc)?))?;
+    Ok(nodes)
+}
+
+/// A client that takes APDUs of 50 octets, a large server with the description, and clients that take no segments and two.
+fn four_nodes(alloc: Global) -> Result<Vec<(Config, Store)>, NoMemory> {
+    let mut nodes = Vec::new(alloc);
+    nodes.push((config(0, 0, 1), house(alloc)?))?;
+    nodes.push((config(1, 5, 3), described(alloc)?))?;
+    nodes.push(reader(alloc, 2, false, 0)?)?;
+    nodes.push(reader(alloc, 3, true, 1)?)?;
+    Ok(nodes)
 }
 
 fn step(world: &mut World, event: &Event) -> Result<(), Fail> {
@@ -119,7 +176,7 @@ fn fronts(alloc: Global, world: &mut World, node: usize, whole: &[u8]) -> Result
     Ok(())
 }
 
-/// Each proper front of each datagram that was sent comes to both nodes.
+/// Each proper front of each datagram that was sent comes to the client and to the server.
 fn noise(alloc: Global, world: &mut World) -> Result<(), Fail> {
     for number in 0..world.copies().len() {
         let whole = octets_of(alloc, world, number)?;
@@ -145,21 +202,13 @@ fn delivers(
     Ok(())
 }
 
-fn happens(alloc: Global, world: &mut World, what: Do, noisy: bool) -> Result<(), Fail> {
-    match what {
-        Do::Deliver(from, to) => delivers(alloc, world, (from, to), noisy),
-        Do::Tick(node) => step(world, &Event::Tick { node }),
-        Do::Advance(by) => step(world, &Event::Advance { by }),
-    }
-}
-
-/// Client 0 asks server 1, which takes APDUs of that size code.
-fn ask(world: &mut World, max_apdu: u8, request: OwnedRequest) -> Result<(), Fail> {
+/// A client asks node 1, which takes APDUs of that size code.
+fn ask(world: &mut World, client: usize, max_apdu: u8, request: OwnedRequest) -> Result<(), Fail> {
     let limits = takes(max_apdu);
     step(
         world,
         &Event::Ask {
-            client: 0,
+            client,
             server: 1,
             limits,
             request,
@@ -167,31 +216,32 @@ fn ask(world: &mut World, max_apdu: u8, request: OwnedRequest) -> Result<(), Fai
     )
 }
 
-/// All this happens, one after the other.
-fn plays(alloc: Global, world: &mut World, all: &[Do], noisy: bool) -> Result<(), Fail> {
-    for what in all {
-        happens(alloc, world, *what, noisy)?;
+fn happens(alloc: Global, world: &mut World, what: Do, noisy: bool) -> Result<(), Fail> {
+    match what {
+        Do::Write => ask(world, 0, 0, request(alloc, PUT, &put(alloc)?)?),
+        Do::Read(client) => {
+            let request = request(alloc, READ_PROPERTY, DESCRIPTION)?;
+            ask(world, client, 5, request)
+        }
+        Do::Deliver(from, to) => delivers(alloc, world, (from, to), noisy),
+        Do::Tick(node) => step(world, &Event::Tick { node }),
+        Do::Advance(by) => step(world, &Event::Advance { by }),
     }
-    Ok(())
 }
 
-/// The world after a write of 100 octets to a node that takes APDUs of 50 octets.
-fn written(alloc: Global, noisy: bool) -> Result<World, Fail> {
-    let mut world = world(alloc, house(alloc)?, 0)?;
-    ask(
-        &mut world,
-        0,
-        request(alloc, PUT, &put(alloc, PUT_100, 100)?)?,
-    )?;
-    plays(alloc, &mut world, WRITE, noisy)?;
-    Ok(world)
-}
-
-/// The world after a read of 4,004 octets of a node that takes APDUs of 1,476 octets.
-fn read(alloc: Global, noisy: bool) -> Result<World, Fail> {
-    let mut world = world(alloc, filled_house(alloc)?, 5)?;
-    ask(&mut world, 5, request(alloc, GET, GET_4004)?)?;
-    plays(alloc, &mut world, READ_LONG, noisy)?;
+/// The world of these nodes after all this has happened, one after the other.
+fn played(
+    alloc: Global,
+    nodes: Vec<(Config, Store)>,
+    all: &[Do],
+    noisy: bool,
+) -> Result<World, Fail> {
+    let Ok(mut world) = World::new(alloc, nodes, 128) else {
+        return Err(Fail::from("no world"));
+    };
+    for what in all {
+        happens(alloc, &mut world, *what, noisy)?;
+    }
     Ok(world)
 }
 
@@ -211,12 +261,16 @@ fn add_reply(reply: &OwnedReply, octets: &mut Vec<u8>) -> Result<(), Fail> {
     Ok(write_reply(complex.as_complex(), octets)?)
 }
 
-/// The reply that ended an ask; none ends otherwise here.
+/// How an ask ended: by a reply or by an Abort here.
 fn add_ending(how: &Ending, octets: &mut Vec<u8>) -> Result<(), Fail> {
-    let Ending::Answered(reply) = how else {
-        return Err(Fail::from("no answer"));
-    };
-    add_reply(reply, octets)
+    match how {
+        Ending::Answered(reply) => {
+            add(&[0], octets)?;
+            add_reply(reply, octets)
+        }
+        Ending::Aborted(reason) => add(&[1, usize::from(*reason)], octets),
+        _ => Err(Fail::from("another ending")),
+    }
 }
 
 fn add_request(request: &OwnedRequest, octets: &mut Vec<u8>) -> Result<(), Fail> {
@@ -308,11 +362,15 @@ fn are_same(
 }
 
 fn write_is_the_same(alloc: Global) -> Result<bool, Fail> {
-    are_same(alloc, &written(alloc, false)?, &written(alloc, true)?, 3, 9)
+    let quiet = played(alloc, two_nodes(alloc)?, WRITE, false)?;
+    let noisy = played(alloc, two_nodes(alloc)?, WRITE, true)?;
+    are_same(alloc, &quiet, &noisy, 3, 9)
 }
 
-fn read_is_the_same(alloc: Global) -> Result<bool, Fail> {
-    are_same(alloc, &read(alloc, false)?, &read(alloc, true)?, 2, 230)
+fn reads_are_the_same(alloc: Global) -> Result<bool, Fail> {
+    let quiet = played(alloc, four_nodes(alloc)?, READS, false)?;
+    let noisy = played(alloc, four_nodes(alloc)?, READS, true)?;
+    are_same(alloc, &quiet, &noisy, 6, 234)
 }
 
 /// Log, copies and stores are the same with noise and without.
@@ -323,7 +381,7 @@ fn noise_around_a_write(rt: HostRuntime) -> Result<(), Fail> {
 }
 
 #[test]
-fn noise_around_a_long_read(rt: HostRuntime) -> Result<(), Fail> {
-    assert!(rt; read_is_the_same(rt.alloc())?);
+fn noise_around_reads(rt: HostRuntime) -> Result<(), Fail> {
+    assert!(rt; reads_are_the_same(rt.alloc())?);
     Ok(())
 }

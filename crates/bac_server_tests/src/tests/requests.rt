@@ -128,14 +128,15 @@ fn segment_of(service: &[u8], number: usize, piece: usize) -> Apdu<'_> {
     }
 }
 
-/// Sends a write of so many octets at position 0 of file 1 in segments of 1,470 octets; whether the last one is answered so, and performed or not.
-fn is_written(
+/// A server to which a write of so many octets at position 0 of file 1 came in 45 segments of 1,470 octets, and whether the last one is answered so, and
+/// performed or not.
+fn written(
     alloc: Global,
     tag: &str,
     count: usize,
     answer: &'static str,
     performs: bool,
-) -> Result<bool, NoMemory> {
+) -> Result<(Server, bool), NoMemory> {
     let mut service = octets_of(alloc, tag)?;
     let octets = vec![in alloc; 7u8; count]?;
     service.extend_from_slice(&octets)?;
@@ -148,18 +149,47 @@ fn is_written(
         rest = rest.get(1_470..).unwrap_or(&[]);
     }
     let (sends, performed) = last;
-    is_as_said(alloc, &sends, performed, &(0, 2, "", answer, performs), 50)
+    let is_so = is_as_said(alloc, &sends, performed, &(0, 2, "", answer, performs), 50)?;
+    Ok((server, is_so))
 }
 
-/// 65,535 octets of service data are performed: the file would be too long. One more ends the reassembly.
+/// The answer to a write that would make the file too long: Error 3, 20.
+const FULL: &str = "5000079103 9114";
+
+/// A segment after the last one, and the first one again: the reply of one APDU is kept.
+const AFTER_FULL: &[Row] = &[
+    (0, 2, "0A05002D2007 0F", FULL, false),
+    (0, 2, SEGMENT_0, FULL, false),
+];
+
+/// After a reassembly that was too long each segment gets Abort 0, the next one and the first one again, and a request without SEG too; once its entry is
+/// no more live, another one begins.
+const AFTER_TOO_LONG: &[Row] = &[
+    (0, 2, "0A05002D2007 0F", "710000", false),
+    (0, 2, SEGMENT_0, "710000", false),
+    (0, 2, WHOLE, "710000", false),
+    (8_000, 2, "", "", false),
+    (65_000, 2, SEGMENT_0, "710000", false),
+    (65_001, 2, SEGMENT_0, "41000020", false),
+];
+
+/// 65,535 octets of service data are performed: the file would be too long.
 #[test]
 fn longest_request(rt: HostRuntime) -> Result<(), Fail> {
-    const FULL: &str = "41002C20 5000079103 9114";
     const TAG: &str = "C402800001 0E 3100 65FEFFF2";
-    const LONGER: &str = "C402800001 0E 3100 65FEFFF3";
-    assert!(rt; is_written(rt.alloc(), TAG, 65_522, FULL, true)?);
-    assert!(rt; is_written(rt.alloc(), LONGER, 65_523, "710001", false)?);
-    Ok(())
+    const LAST_ACK: &str = "41002C20 5000079103 9114";
+    let (mut server, is_so) = written(rt.alloc(), TAG, 65_522, LAST_ACK, true)?;
+    assert!(rt; is_so);
+    server.plays(rt.alloc(), AFTER_FULL, 50)
+}
+
+/// One more ends the reassembly.
+#[test]
+fn request_that_is_too_long(rt: HostRuntime) -> Result<(), Fail> {
+    const TAG: &str = "C402800001 0E 3100 65FEFFF3";
+    let (mut server, is_so) = written(rt.alloc(), TAG, 65_523, "710001", false)?;
+    assert!(rt; is_so);
+    server.plays(rt.alloc(), AFTER_TOO_LONG, 50)
 }
 
 /// Whether a request is performed while 65,535 segments come, empty ones.
@@ -174,9 +204,8 @@ fn is_performed_early(alloc: Global, server: &mut Server) -> Result<bool, NoMemo
 }
 
 /// Whether 65,535 segments are taken, and one more ends the reassembly.
-fn takes_most(alloc: Global) -> Result<bool, NoMemory> {
-    let mut server = Server::new(alloc, 64, WINDOW)?;
-    if is_performed_early(alloc, &mut server)? {
+fn takes_most(alloc: Global, server: &mut Server) -> Result<bool, NoMemory> {
+    if is_performed_early(alloc, server)? {
         return Ok(false);
     }
     let (sends, performed) = server.hears(alloc, 0, 2, &segment_of(&[], 65_535, 0))?;
@@ -185,6 +214,7 @@ fn takes_most(alloc: Global) -> Result<bool, NoMemory> {
 
 #[test]
 fn most_segments(rt: HostRuntime) -> Result<(), Fail> {
-    assert!(rt; takes_most(rt.alloc())?);
-    Ok(())
+    let mut server = Server::new(rt.alloc(), 64, WINDOW)?;
+    assert!(rt; takes_most(rt.alloc(), &mut server)?);
+    server.plays(rt.alloc(), AFTER_TOO_LONG, 50)
 }

@@ -211,6 +211,36 @@ fn reply_in_segments(rt: HostRuntime) -> Result<(), Fail> {
     played_with_file(rt.alloc(), ROWS, 5)
 }
 
+/// Segments 3 to 6, the last.
+const WINDOW_3: &str = "3C01030406 3C01040406 3C01050406 3801060406";
+
+/// A SegmentACK that moves the window gives back its retries: a window that was sent again once, and one that was so three times, are followed by one that
+/// is sent again three times more before the transfer stops.
+#[test]
+fn reply_whose_window_moves_after_retries(rt: HostRuntime) -> Result<(), Fail> {
+    const ROWS: &[Row] = &[
+        (0, 2, READ_FILE, "3C01000406", true),
+        (2_000, 2, "", "3C01000406", false),
+        (2_001, 2, "40010004", WINDOW_1, false),
+        (4_000, 2, "", "", false),
+        (4_001, 2, "", WINDOW_1, false),
+        (6_001, 2, "", WINDOW_1, false),
+        (8_001, 2, "", WINDOW_1, false),
+        (10_000, 2, "40010204", WINDOW_3, false),
+        (11_999, 2, "", "", false),
+        (12_000, 2, "", WINDOW_3, false),
+        (14_000, 2, "", WINDOW_3, false),
+        (16_000, 2, "", WINDOW_3, false),
+        (18_000, 2, "", "", false),
+        // it has stopped
+        (18_000, 2, "40010604", "", false),
+        (18_000, 2, READ_FILE, WINDOW_3, false),
+        (18_001, 2, "40010604", "", false),
+        (20_001, 2, "", "", false),
+    ];
+    played_with_file(rt.alloc(), ROWS, 5)
+}
+
 /// The same read in two segments, and in one.
 const READ_FILE_0: &str = "0E0001000406 C402800001 0E";
 
