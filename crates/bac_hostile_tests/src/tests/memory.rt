@@ -254,7 +254,7 @@ fn is_sent(sends: &[Datagram], wanted: &[u8]) -> bool {
 /// Whether each row makes a node send the datagram beside it.
 fn all_happen(alloc: Global, node: &mut Node) -> Result<bool, Fail> {
     for (place, row) in ROWS.iter().enumerate() {
-        let before = ROWS.get(..place).unwrap_or(&[]);
+        let before = ROWS.get(..place).unwrap_or(ROWS);
         let outcome = happens_at_last(alloc, node, before, row)?;
         if !is_sent(&outcome.sends, row.2) {
             return Ok(false);

@@ -115,16 +115,18 @@ fn described(alloc: Global) -> Result<Store, NoMemory> {
     Store::new(alloc, objects).map_err(|_| NoMemory)
 }
 
-/// A node with the house store that takes APDUs of 1,476 octets, segments or none, and as many as that code says.
+/// A node with the house store that takes APDUs of 1,476 octets, segments or none, and as many as that code says; another code counts as out of memory.
 fn reader(
     alloc: Global,
     number: u8,
     takes_segments: bool,
     max_segments: u8,
 ) -> Result<(Config, Store), NoMemory> {
+    let Some(limits) = Limits::new(5, takes_segments, max_segments) else {
+        return Err(NoMemory);
+    };
     let mut config = config(number, 5, 1);
-    config.limits.takes_segments = takes_segments;
-    config.limits.max_segments = max_segments;
+    config.limits = limits;
     Ok((config, house(alloc)?))
 }
 
