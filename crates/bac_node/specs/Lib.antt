@@ -2,3 +2,4 @@ pub mod Faults
 pub mod Views
 pub mod Fresh
 pub mod Calls
+pub mod Capacities

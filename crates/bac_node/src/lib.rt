@@ -7,11 +7,13 @@ mod cause;
 mod config;
 mod fault;
 mod hearing;
+mod law;
 mod node;
 mod outcome;
 
 pub use cause::Cause;
 pub use config::Config;
 pub use fault::{NewNodeFault, NodeFault};
+pub use law::capacities_stay;
 pub use node::Node;
 pub use outcome::Outcome;

@@ -10,7 +10,9 @@ ghost use Rattle.bac_store.specs.ReplyLengths.{DATA_LIMIT, reply_length};
 ghost use Rattle.bac_ends.specs.Ends.{is_slot_held, is_slot_live};
 ghost use Rattle.bac_ends.specs.Tables.{IsOrderlyClient, IsOrderlyServer};
 ghost use Rattle.bac_ends.specs.Views.{settings_view};
+ghost use Rattle.bac_requester.specs.Short.{AreRepliesShort};
 ghost use Rattle.bac_requester.specs.Views.{finish_view, finishes_of};
+ghost use Rattle.bac_responder.specs.Short.{AreRequestsShort};
 ghost use Rattle.bac_world.specs.Keys.{HasKeysApart};
 ghost use Rattle.bac_world.specs.Node.{NodeOn, NodeTick, IsHeardBy, dropped_for};
 ghost use Rattle.bac_node.specs.Calls.{Hears, IsAsked, IsDue, IsNotHeard, Refuses, ticked};
@@ -161,6 +163,20 @@ impl Node {
         &self.store
     }
 
+    /// How many client slots it was made with.
+    pub fn client_slots(&self) -> usize
+        ensures { result ≡ self.now.clients.capacity }
+    {
+        self.clients.capacity()
+    }
+
+    /// How many slots of the reply table it was made with.
+    pub fn reply_slots(&self) -> usize
+        ensures { result ≡ self.now.servers.capacity }
+    {
+        self.servers.capacity()
+    }
+
     /// How many client slots are held at a moment in milliseconds: their tickets are open, or no more than 135,000 ms have passed since the first sending
     /// (own rule of this profile). No two slots have one key, and there are no more of them than the node was made with, whether they are held or not.
     pub fn held(&self, now: u64) -> usize
@@ -188,6 +204,16 @@ impl Node {
     {
         let _held = self.held(self.latest);
         let _live = self.live(self.latest);
+    }
+
+    /// A law of each node, for a caller that was handed one: no reassembly of a reply or of a request holds more than 65,535 octets, or more than 65,535
+    /// segments. It goes over both tables, and changes nothing.
+    pub fn reassemblies_are_short(&self)
+        ensures replies { AreRepliesShort self.now.clients.slots }
+        ensures requests { AreRequestsShort self.now.servers.slots }
+    {
+        self.clients.reassemblies_are_short();
+        self.servers.reassemblies_are_short();
     }
 
     /// A law of each node, for a caller that was handed one: its window is 1 at least, and each reply of its store can be sent, in one APDU or in segments.

@@ -6,3 +6,4 @@ pub mod Accepting
 pub mod Quiet
 pub mod Begins
 pub mod Ids
+pub mod Shorts

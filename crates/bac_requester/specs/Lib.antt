@@ -4,3 +4,4 @@ pub mod Faults
 pub mod Turns
 pub mod Timers
 pub mod Begins
+pub mod Short

@@ -2,6 +2,7 @@
 ghost use Rattle.std.specs.Prelude.{◌≡◌};
 ghost use Rattle.bac_ends.specs.Ends.{is_held};
 ghost use Rattle.bac_client.specs.Timers.{IsHeldQuiet};
+ghost use Rattle.bac_requester.specs.Short.{IsHeldShort};
 
 use bac_client::Held;
 use bac_slots::{Same, Test};
@@ -37,6 +38,16 @@ impl Client {
         ensures { IsHeldQuiet result self.now.held }
     {
         self.held.due()
+    }
+
+    /// A law of each value: its ticket, if it is open, keeps at most 65,535 octets of a reply, in at most 65,535 segments. It changes nothing.
+    pub(crate) fn reassembly_is_short(&self)
+        ensures { IsHeldShort self.now.held }
+    {
+        let Held::Open(ticket) = &self.held else {
+            return;
+        };
+        let _octets = ticket.reassembled();
     }
 
     /// A value that stands in a slot while its own is out.

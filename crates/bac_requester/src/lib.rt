@@ -9,6 +9,7 @@ mod client;
 mod hearing;
 mod order;
 mod requester;
+mod short;
 mod ticking;
 mod turn;
 

@@ -12,6 +12,7 @@ ghost use Rattle.bac_ends.specs.Tables.{IsOrderlyClient};
 ghost use Rattle.bac_ends.specs.Ends.AskOutcome.{Refused};
 ghost use Rattle.bac_ends.specs.Views.{settings_view};
 ghost use Rattle.bac_client.specs.Views.{fault_view};
+ghost use Rattle.bac_requester.specs.Short.{AreRepliesShort};
 ghost use Rattle.bac_requester.specs.Turns.{Asks, Hears, IsDue, Refuses};
 ghost use Rattle.bac_requester.specs.Views.{Requester as Requesting};
 
@@ -20,6 +21,7 @@ use crate::asking::{Asked, ask, held_count};
 use crate::client::Client;
 use crate::hearing::hears;
 use crate::order::later;
+use crate::short::replies_are_short;
 use crate::ticking::{at_the_earliest, commit, first_due, nothing_due, prepare};
 use crate::turn::{Due, Turn};
 use bac_apdu::{Apdu, Limits};
@@ -206,6 +208,21 @@ impl<S: SlotTable<PeerKey, Client> + Drop> Requester<S> {
     {
         let _len = self.table.len();
         held_count(&self.table, now)
+    }
+
+    /// How many slots it was made with.
+    pub fn capacity(&self) -> usize
+        ensures { result ≡ self.now.end.capacity }
+    {
+        self.table.room()
+    }
+
+    /// A law of each client's end: no ticket keeps more than 65,535 octets of a reply, or more than 65,535 segments. It goes over the table, and changes
+    /// nothing.
+    pub fn reassemblies_are_short(&self)
+        ensures { AreRepliesShort self.now.end.slots }
+    {
+        replies_are_short(&self.table);
     }
 
     /// Whether contracts see no difference between two requesters: the same link and settings, the same slots in the same order, as many asks.

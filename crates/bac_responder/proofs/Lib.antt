@@ -5,3 +5,4 @@ pub mod Orders
 pub mod Quiet
 pub mod Timed
 pub mod Begins
+pub mod Shorts

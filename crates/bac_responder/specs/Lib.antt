@@ -3,3 +3,4 @@ pub mod Views
 pub mod Tables
 pub mod Timers
 pub mod Begins
+pub mod Short

@@ -8,6 +8,7 @@ mod live_at;
 mod order;
 mod responder;
 mod served;
+mod short;
 mod table;
 mod ticking;
 

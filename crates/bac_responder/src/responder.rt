@@ -7,11 +7,13 @@ ghost use Rattle.bac_ends.specs.Tables.{IsOrderlyServer};
 ghost use Rattle.bac_ends.specs.Sends.{Pairwise, IsSent};
 ghost use Rattle.bac_ends.specs.Views.{settings_view};
 ghost use Rattle.bac_server.specs.Services.{service_of};
+ghost use Rattle.bac_responder.specs.Short.{AreRequestsShort};
 ghost use Rattle.bac_responder.specs.Views.{end_of, Serves};
 
 use crate::hearing::hears;
 use crate::live_at::LiveAt;
 use crate::served::Served;
+use crate::short::requests_are_short;
 use crate::ticking::{at_the_earliest, commit_all, first_due, is_quiet, nothing_due, prepare_all};
 use bac_apdu::Apdu;
 use bac_ends::{Context, Datagram, PeerKey, Settings, invoke_id_of};
@@ -74,6 +76,21 @@ impl<S: SlotTable<PeerKey, Entry> + Drop> Responder<S> {
     {
         let _len = self.table.len();
         count_passing(&self.table, &LiveAt { moment })
+    }
+
+    /// How many slots it was made with.
+    pub fn capacity(&self) -> usize
+        ensures { result ≡ self.now.end.capacity }
+    {
+        self.table.room()
+    }
+
+    /// A law of each server's end: no entry, live or not, keeps more than 65,535 octets of a request, or more than 65,535 segments. It goes over the table,
+    /// and changes nothing.
+    pub fn reassemblies_are_short(&self)
+        ensures { AreRequestsShort self.now.end.slots }
+    {
+        requests_are_short(&self.table);
     }
 
     /// Whether both have the same settings and as many slots, with the same entries in the same order of putting.

@@ -1,16 +1,24 @@
 -- What the calls on an entry answer, and what they leave.
-use Rattle.std.specs.Prelude.{◌≡◌, ℕ, Bool, true, List, Option, Some, None, Result, Ok, Err}
+use Rattle.std.specs.Prelude.{◌≡◌, ℕ, Bool, true, List, [], Option, Some, None, Result, Ok, Err}
 use Rattle.bac_npdu.specs.Peers.{PeerView}
 use Rattle.bac_value.specs.declared.memory.NoMemory.{NoMemory}
 use Rattle.bac_store.specs.Stores.{Store}
 use Rattle.bac_protocol.specs.Server as server
-use Rattle.bac_protocol.specs.Server.{Entry}
+use Rattle.bac_protocol.specs.Server.{Entry, State}
+use Rattle.bac_protocol.specs.Service.{Octets}
 use Rattle.bac_ends.specs.Sends.{Datagram, Pairwise, IsSent, to_all}
 use Rattle.bac_server.specs.Services.{Performed, ArePerformed, store_after}
 use Rattle.bac_server.specs.Views.{performed_view}
 use Rattle.bac_server.specs.declared.reaction.Reaction.{Reaction}
 use Rattle.bac_server.specs.declared.reaction.IdleReaction as idle
 use Rattle.bac_server.specs.declared.reaction.IdleReaction.TheVariants.{Stays, Begins}
+
+-- the segments of a request that an entry keeps
+abbrev pub parts_taken : State → List Octets
+parts_taken (State.SegmentedRequest incoming since) = incoming.parts
+parts_taken (State.Done kept) = []
+parts_taken (State.SegmentedResponse out transfer since) = []
+parts_taken State.Dropped = []
 
 -- the machine's reaction, in code: its entry, one datagram for each of its sends, its effect, and the store after that
 pub record IsReaction (r : server.Reaction) (peer : PeerView) (s : Store) (entry : Entry) (sent : List Datagram) (p : Option Performed) (t : Store)

@@ -1,6 +1,9 @@
 //! One entry of the reply table.
-ghost use Rattle.std.specs.Prelude.{◌≡◌};
+ghost use Rattle.std.specs.Prelude.{◌≡◌, ◌≤◌, length};
+ghost use Rattle.bac_segment.specs.Limits.{DATA};
+ghost use Rattle.bac_segment.specs.Pieces.{join};
 ghost use Rattle.bac_protocol.specs.Server.{is_live};
+ghost use Rattle.bac_server.specs.Reactions.{parts_taken};
 
 use crate::kept_reply::KeptReply;
 use bac_apdu::Limits;
@@ -101,6 +104,24 @@ impl Entry {
         ensures { result ≡ self.now.begin }
     {
         self.origin.begin
+    }
+
+    /// How many octets of a request in segments it keeps (SEGMENTED_REQUEST, clause 5.4.5.2): at most 65,535, in at most 65,535 segments; 0 in other states.
+    pub fn reassembled(&self) -> usize
+        ensures number { result ≡ length (join (parts_taken self.now.state)) }
+        ensures short { result ≤ DATA }
+        ensures few { length (parts_taken self.now.state) ≤ DATA }
+    {
+        match &self.state {
+            State::SegmentedRequest { incoming, .. } => {
+                // that the segments are few
+                let _segments = incoming.taken();
+                incoming.len()
+            }
+            State::Done { .. } => 0,
+            State::SegmentedResponse { .. } => 0,
+            State::Dropped => 0,
+        }
     }
 
     /// Whether it is live: for 65,000 ms from its beginning on, the last of them too (own rule of this profile). One that is not live counts as no entry.
