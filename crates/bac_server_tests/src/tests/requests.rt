@@ -95,7 +95,8 @@ fn whole_windows(rt: HostRuntime) -> Result<(), Fail> {
     played(rt.alloc(), 64, WINDOW, ROWS)
 }
 
-/// A segment 7,999 ms after the last one goes on, and one 8,000 ms after it ends the reassembly; an Abort of the client does so at once.
+/// A segment 7,999 ms after the last one goes on, and one 8,000 ms after it ends the reassembly; an Abort of the client does so at once. Each entry
+/// that was dropped is live for 65,000 ms from its first segment, whenever the reassembly ended.
 #[test]
 fn segments_that_come_late(rt: HostRuntime) -> Result<(), Fail> {
     const ROWS: &[Row] = &[
@@ -106,8 +107,15 @@ fn segments_that_come_late(rt: HostRuntime) -> Result<(), Fail> {
         (8_000, 3, SEGMENT_1, "710000", false),
         (8_000, 3, SEGMENT_2, "710000", false),
         (8_000, 4, SEGMENT_0, "41000020", false),
-        (8_000, 4, "700000", "", false),
-        (8_000, 4, SEGMENT_1, "710000", false),
+        (9_000, 4, "700000", "", false),
+        (9_000, 4, SEGMENT_1, "710000", false),
+        (65_000, 3, SEGMENT_0, "710000", false),
+        (65_001, 3, SEGMENT_0, "41000020", false),
+        (73_000, 4, SEGMENT_0, "710000", false),
+        (73_001, 4, SEGMENT_1, "", false),
+        (73_001, 4, SEGMENT_0, "41000020", false),
+        (73_001, 4, SEGMENT_1, "", false),
+        (73_001, 4, SEGMENT_2, LAST, true),
     ];
     played(rt.alloc(), 64, WINDOW, ROWS)
 }
