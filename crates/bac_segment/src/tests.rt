@@ -156,20 +156,45 @@ fn stops_and_goes_on(rt: HostRuntime) -> Result<(), Fail> {
     Ok(())
 }
 
-/// With ample memory, as many segments as a transfer may have: of no octets, and of one.
+/// A receiver that has taken so many segments with these octets, and more follow; None where one was not taken as it was meant.
+fn receiver(alloc: Global, count: u32, octets: &[u8]) -> Option<Incoming> {
+    let mut inc = Incoming::new(alloc, THIRTY_TWO, THIRTY_TWO);
+    for n in 0..count {
+        let ack = n % 32 == 0;
+        if inc.on_segment((n % 256) as u8, true, octets) != Ok(Step::Taken { ack }) {
+            return None;
+        }
+    }
+    Some(inc)
+}
+
+/// Whether one more segment than a transfer may have is too long, whether more follow or not, and changes nothing.
+fn refuses_one_more(alloc: Global, octets: &[u8]) -> Option<bool> {
+    let mut inc = receiver(alloc, 65_535, octets)?;
+    let twin = receiver(alloc, 65_535, octets)?;
+    let refused = inc.on_segment(255, true, &[]) == Err(SegmentFault::TooLong)
+        && inc.on_segment(255, false, &[]) == Err(SegmentFault::TooLong);
+    Some(refused && inc.taken() == DATA && inc.same(&twin))
+}
+
+/// With ample memory, as many segments as a transfer may have, and more follow: of no octets, and of one.
 #[test]
 fn takes_the_most_segments(rt: HostRuntime) {
     for octets in [b"".as_slice(), b"7"] {
-        let mut inc = Incoming::new(rt.alloc(), THIRTY_TWO, THIRTY_TWO);
-        for n in 0..65_534u32 {
-            let step = inc.on_segment((n % 256) as u8, true, octets);
-            let ack = n % 32 == 0;
-            assert_eq!(rt; step, Ok(Step::Taken { ack }), "segment {n}");
-        }
+        assert_eq!(rt; refuses_one_more(rt.alloc(), octets), Some(true));
+    }
+}
+
+/// The last of as many segments ends the transfer.
+#[test]
+fn ends_with_the_most_segments(rt: HostRuntime) -> Result<(), Fail> {
+    for octets in [b"".as_slice(), b"7"] {
+        let mut inc = receiver(rt.alloc(), 65_534, octets).ok_or("a segment is not taken")?;
         assert_eq!(rt; inc.on_segment(254, false, octets), Ok(Step::Whole));
         assert_eq!(rt; inc.on_segment(255, false, &[]), Err(SegmentFault::TooLong));
         assert_eq!(rt; inc.taken(), DATA);
     }
+    Ok(())
 }
 
 /// With ample memory, one segment of as many octets as a transfer may have.
