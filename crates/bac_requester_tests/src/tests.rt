@@ -5,7 +5,7 @@ use bac_apdu::{Limits, Window, read};
 use bac_client::Ending;
 use bac_ends::{Datagram, PeerKey, Settings};
 use bac_npdu::Peer;
-use bac_requester::{AskFault, Client, Due, Requester, Turn};
+use bac_requester::{AskFault, Client, Due, Finish, Requester, Turn};
 use bac_service::{
     AnyComplex, AnyReply, AnyRequest, FileWritten, OwnedRequest, WriteAccess, WriteFile,
     WriteStream, read_request,
@@ -181,30 +181,37 @@ fn ask(
     }
 }
 
-/// An APDU comes from peer 2, or a tick where there is none: what is sent, and how the first ticket ended that did. What is no APDU counts as out
-/// of memory.
+/// An APDU comes from peer 2, or a tick where there is none: what is sent, and the last ticket that has ended. What is no APDU counts as out of memory.
+fn comes(end: &mut Indexed, alloc: Global, now: u64, octets: &[u8]) -> Result<Turn, NoMemory> {
+    if octets.is_empty() {
+        let Due { sends, mut ended } = end.prepare_tick(alloc, now)?;
+        end.commit_tick(now);
+        let ended = ended.pop();
+        return Ok(Turn { sends, ended });
+    }
+    let Ok(apdu) = read(octets) else {
+        return Err(NoMemory);
+    };
+    end.on(alloc, now, &peer(2), &apdu)
+}
+
+/// How the ticket ended that did.
+fn how(ended: &Option<Finish>) -> End {
+    match ended {
+        Some(finish) => end_of(&finish.how),
+        None => End::Open,
+    }
+}
+
+/// What that makes an end send, and how the last ticket ended that did.
 fn meets(
     end: &mut Indexed,
     alloc: Global,
     now: u64,
     octets: &[u8],
 ) -> Result<(Vec<Datagram>, End), NoMemory> {
-    if octets.is_empty() {
-        let Due { sends, ended } = end.prepare_tick(alloc, now)?;
-        end.commit_tick(now);
-        return match ended.first() {
-            Some(finish) => Ok((sends, end_of(&finish.how))),
-            None => Ok((sends, End::Open)),
-        };
-    }
-    let Ok(apdu) = read(octets) else {
-        return Err(NoMemory);
-    };
-    let Turn { sends, ended } = end.on(alloc, now, &peer(2), &apdu)?;
-    match ended {
-        Some(finish) => Ok((sends, end_of(&finish.how))),
-        None => Ok((sends, End::Open)),
-    }
+    let Turn { sends, ended } = comes(end, alloc, now, octets)?;
+    Ok((sends, how(&ended)))
 }
 
 /// Whether that is what a row says.

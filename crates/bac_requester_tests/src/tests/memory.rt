@@ -1,5 +1,7 @@
 //! Run with each allocation refused in turn, too: `sh tests/memory/refused.sh`.
 use super::*;
+use bac_requester::Asked;
+use bac_service::write_reply;
 
 /// A write in three segments and a ReadProperty were asked for; segments come out of order, a window is sent again, and both are answered.
 pub(super) const ROWS: &[Row] = &[
@@ -92,19 +94,58 @@ fn is_said_at_last(
     }
 }
 
-/// Whether an end is what the first `n` rows make.
-fn is_after(alloc: Global, end: &Indexed, n: usize) -> Result<bool, NoMemory> {
-    let other = after(alloc, ROWS.get(..n).unwrap_or(ROWS))?;
-    Ok(end.same(&other))
+/// Whether the same is sent.
+fn are_equal(sends: &[Datagram], others: &[Datagram]) -> bool {
+    for (datagram, other) in sends.iter().zip(others) {
+        if datagram.to() != other.to() || datagram.octets() != other.octets() {
+            return false;
+        }
+    }
+    sends.len() == others.len()
 }
 
-/// Whether a row that was refused has changed nothing, and goes as it says when it comes again.
-fn goes_again(alloc: Global, end: &mut Indexed, row: &Row, n: usize) -> Result<bool, NoMemory> {
+/// The number of the ticket that ended, and the service data of its answer, if it has some.
+fn answer_of(alloc: Global, ended: &Option<Finish>) -> Result<(Option<u64>, Vec<u8>), NoMemory> {
+    let mut octets = Vec::new(alloc);
+    let Some(finish) = ended else {
+        return Ok((None, octets));
+    };
+    if let Ending::Answered(AnyReply::Complex(complex)) = &finish.how {
+        write_reply(complex.as_complex(), &mut octets)?;
+    }
+    Ok((Some(finish.ticket), octets))
+}
+
+/// Whether the same is sent, and the same ticket ends with the same answer, or none does.
+fn are_alike(alloc: Global, turn: &Turn, other: &Turn) -> Result<bool, NoMemory> {
     Ok(
-        is_after(alloc, end, n)?
-            && goes(end, alloc, row)?
-            && is_after(alloc, end, n.saturating_add(1))?,
+        are_equal(&turn.sends, &other.sends)
+            && how(&turn.ended) == how(&other.ended)
+            && answer_of(alloc, &turn.ended)? == answer_of(alloc, &other.ended)?,
     )
+}
+
+/// Whether a row goes as it says, and does to an end what it does to its twin.
+fn goes_as_twin(
+    alloc: Global,
+    end: &mut Indexed,
+    twin: &mut Indexed,
+    row: &Row,
+) -> Result<bool, NoMemory> {
+    let octets = octets_of(alloc, row.1)?;
+    let turn = comes(end, alloc, row.0, &octets)?;
+    let other = comes(twin, alloc, row.0, &octets)?;
+    Ok(
+        end.same(twin)
+            && are_alike(alloc, &turn, &other)?
+            && is_said(alloc, &turn.sends, how(&turn.ended), row)?,
+    )
+}
+
+/// Whether a row that was refused after `n` others has changed nothing, and goes when it comes again as at a twin that met no refusal.
+fn goes_again(alloc: Global, end: &mut Indexed, row: &Row, n: usize) -> Result<bool, NoMemory> {
+    let mut twin = after(alloc, ROWS.get(..n).unwrap_or(ROWS))?;
+    Ok(end.same(&twin) && goes_as_twin(alloc, end, &mut twin, row)?)
 }
 
 /// Whether a row that comes after `n` others goes as it says, the first or the second time.
@@ -133,7 +174,7 @@ fn refused_rows(alloc: Global) -> Result<(), Fail> {
     all_go_at_last(alloc, &mut end)
 }
 
-/// A refused call leaves the end as it was, and is done when it comes again.
+/// A refused call leaves the end as it was, and does when it comes again what it does with ample memory.
 #[test]
 fn rows_with_refused_memory(rt: HostRuntime) -> Result<(), Fail> {
     refused_rows(rt.alloc())
@@ -147,19 +188,39 @@ const ASKED: Row = (
     End::Open,
 );
 
-/// Whether an ask sends that, the first or the second time; one that was refused leaves the end like a fresh one.
+/// Whether two asks were accepted alike.
+fn are_accepted_alike(asked: &Asked, other: &Asked) -> bool {
+    asked.ticket == other.ticket
+        && asked.invoke_id == other.invoke_id
+        && are_equal(&asked.sends, &other.sends)
+}
+
+/// Whether an ask that was refused has changed nothing, and does when it comes again what it does at a twin that met no refusal.
+fn asks_again(
+    alloc: Global,
+    end: &mut Indexed,
+    twin: &mut Indexed,
+    write: &OwnedRequest,
+) -> Result<bool, Fail> {
+    if !end.same(twin) {
+        return Ok(false);
+    }
+    let asked = end.ask(alloc, 0, &peer(2), &SMALL.limits, write)?;
+    let other = twin.ask(alloc, 0, &peer(2), &SMALL.limits, write)?;
+    let alike = end.same(twin) && are_accepted_alike(&asked, &other);
+    Ok(alike && is_said(alloc, &asked.sends, End::Open, &ASKED)?)
+}
+
+/// Whether an ask sends that, the first or the second time; nothing has come to its end, nor to the twin.
 fn asks_at_last(
     alloc: Global,
     end: &mut Indexed,
-    fresh: &Indexed,
+    twin: &mut Indexed,
     write: &OwnedRequest,
 ) -> Result<bool, Fail> {
     match end.ask(alloc, 0, &peer(2), &SMALL.limits, write) {
         Ok(asked) => Ok(is_said_at_last(alloc, &asked.sends, End::Open, &ASKED)?),
-        Err(AskFault::NoMemory) if end.same(fresh) => {
-            let asked = end.ask(alloc, 0, &peer(2), &SMALL.limits, write)?;
-            Ok(is_said(alloc, &asked.sends, End::Open, &ASKED)?)
-        }
+        Err(AskFault::NoMemory) => asks_again(alloc, end, twin, write),
         Err(_) => Ok(false),
     }
 }
@@ -183,12 +244,12 @@ fn written(alloc: Global) -> Result<OwnedRequest, NoMemory> {
 /// Whether that goes for a write in segments.
 fn asks_in_segments(alloc: Global) -> Result<bool, Fail> {
     let mut end = fresh(alloc)?;
-    let other = fresh(alloc)?;
+    let mut twin = fresh(alloc)?;
     let write = written(alloc)?;
-    asks_at_last(alloc, &mut end, &other, &write)
+    asks_at_last(alloc, &mut end, &mut twin, &write)
 }
 
-/// A refused ask leaves the end as it was, and is accepted when it comes again.
+/// A refused ask leaves the end as it was, and is accepted when it comes again as it is with ample memory.
 #[test]
 fn asks_with_refused_memory(rt: HostRuntime) -> Result<(), Fail> {
     assert!(rt; asks_in_segments(rt.alloc())?);

@@ -115,6 +115,35 @@ fn three_segments(rt: HostRuntime) -> Result<(), Fail> {
     put_in_three(rt.alloc())
 }
 
+/// Whether these are 32 segments of a request from that number on, each with a window of 32.
+fn are_32_segments(sends: &[Datagram], first: u8) -> bool {
+    let mut number = first;
+    for datagram in sends {
+        if datagram.octets().get(9..11) != Some([number, 32].as_slice()) {
+            return false;
+        }
+        number = number.wrapping_add(1);
+    }
+    sends.len() == 32
+}
+
+/// Whether a write in 137 segments goes on with 32 of them after each SegmentACK that offers 127.
+fn keeps_to_its_window(alloc: Global) -> Result<bool, NoMemory> {
+    let mut end: Indexed = requester(alloc, &SMALL, 64)?;
+    let write = put(alloc, 6_000)?;
+    let _ = ask(&mut end, alloc, 0, 2, &SMALL.limits, &write)?;
+    let (next, _) = meets(&mut end, alloc, 0, b"\x41\x00\x00\x7F")?;
+    let (after, _) = meets(&mut end, alloc, 0, b"\x41\x00\x20\x7F")?;
+    Ok(are_32_segments(&next, 1) && are_32_segments(&after, 33))
+}
+
+/// The window is the lesser of the one that the server offers and the client's own.
+#[test]
+fn a_window_beyond_the_own_one(rt: HostRuntime) -> Result<(), Fail> {
+    assert!(rt; keeps_to_its_window(rt.alloc())?);
+    Ok(())
+}
+
 const WHOLE: &str = "810A0038 0104 02700007 C402800001 0E 3100 6523 ABABABAB";
 
 const IN_TWO: &str = "810A0038 0104 0E7000002007 C402800001 0E 3100 6524 ABAB";
