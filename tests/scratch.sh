@@ -3,6 +3,7 @@
 #     sh tests/scratch.sh bench/reading rt run
 #     sh tests/scratch.sh tests/memory/growths sh count.sh
 # A program's files end in .rt.in and are copied as src/NAME.rt, since the gate wants each .rt file in a crate of crates.txt.
+# Its file shares names what it has from other places of bench/, one path a line, as rounds.rt.in.
 # Its file stands_on names the crates that it stands on, where these are more than bac_value and bac_service.
 # The libraries of the crates below are taken from their out/rlib folders, where these are there.
 # SCRATCH=FOLDER keeps the repository in that folder with what was proved there, for the next time; otherwise it is removed.
@@ -36,6 +37,11 @@ for file in "$top/$folder"/*; do
         *) cp "$file" "$work/crates/$name" ;;
     esac
 done
+if [ -f "$top/$folder/shares" ]; then
+    while read -r shared; do
+        cp "$top/bench/$shared" "$work/crates/$name/src/$(basename "$shared" .in)"
+    done < "$top/$folder/shares"
+fi
 echo "$name: $needs" >> "$work/crates.txt"
 cd "$work/crates/$name"
 "$@"

@@ -2,6 +2,7 @@
 """Times reading and writing of APDUs, beside by_hand.rs: compare.py, run in a crate made of this folder; docs/BENCHMARKS.md says how."""
 
 import os
+import statistics
 import subprocess
 import sys
 sys.dont_write_bytecode = True  # no __pycache__ beside the sources
@@ -73,15 +74,25 @@ def main():
         compare(runs, apdus.stat().st_size - 2 * COUNT)
 
 
+def counts(told):
+    """How many APDUs a program's first line tells of, and how many of them were read; the others were refused, and are not written."""
+    apdus, read = told.split(' APDUs, ')
+    if int(apdus) != COUNT or not told.endswith(' rewritten true'):
+        raise SystemExit(f'not each APDU was looked at and written as it was: {told}')
+    return {'reading': COUNT, 'writing': int(read.split()[0])}
+
+
 def compare(runs, octets):
-    ours, theirs = runs[0]
-    print(ours[0])
-    if any(ours[0] != told for pair in runs for told, _ in pair):
-        raise SystemExit(f'they differ: {theirs[0]}')
+    told = runs[0][0][0]
+    print(told)
+    for other, _ in (program for pair in runs for program in pair):
+        if other != told:
+            raise SystemExit(f'they differ: {other}')
     print(f'{octets / COUNT:.0f} octets an APDU, load {os.getloadavg()[0]:.1f} on {os.cpu_count()} cores')
-    for name in ours[1]:
-        least = [min(pair[which][1][name] for pair in runs) for which in (0, 1)]
-        print(f'{name}: {least[0] / COUNT:.1f} ns an APDU, by hand {least[1] / COUNT:.1f}, ratio {least[0] / least[1]:.2f}')
+    for name, count in counts(told).items():
+        ours, theirs = ([times[name] for _, times in one] for one in zip(*runs))
+        ratio, median = min(ours) / min(theirs), statistics.median(our / their for our, their in zip(ours, theirs))
+        print(f'{name}, of {count} APDUs: {min(ours) / count:.1f} ns an APDU, by hand {min(theirs) / count:.1f}, ratio {ratio:.2f}, median of {len(runs)} {median:.2f}')
 
 
 if __name__ == '__main__':

@@ -2,6 +2,7 @@
 """Times `bac serve` beside a bare UDP echo: compare.py BAC, run in a crate made of this folder; docs/BENCHMARKS.md says how."""
 
 import os
+import statistics
 import subprocess
 import sys
 import tempfile
@@ -36,8 +37,11 @@ def served(server, driver, keys, answer):
     return COUNT / passed * 1e9, COUNT / used * 1e9, lost
 
 
-def best(runs):
-    return [max(figures) for figures in zip(*runs)]
+def compare(title, ours, theirs):
+    """Of rates of runs in pairs: the most of each, which come of the least times, their ratio, and the least and the median of the pairs' ratios."""
+    ratios = [our / their for our, their in zip(ours, theirs)]
+    most = f'bac serve {max(ours):,.0f} datagrams/s, echo {max(theirs):,.0f}, ratio {max(ours) / max(theirs):.2f}'
+    print(f'{title}: {most}; of {len(ratios)} pairs least {min(ratios):.2f}, median {statistics.median(ratios):.2f}')
 
 
 def main(words):
@@ -50,12 +54,14 @@ def main(words):
     with tempfile.TemporaryDirectory() as folder:
         driver = str(Path(folder, 'drive'))
         subprocess.run(['rustc', '-O', '--edition', '2024', '-o', driver, str(FOLDER / 'drive.rs')], check=True)
-        print(f'load {os.getloadavg()[0]:.1f} on {os.cpu_count()} cores; {SOCKETS} sockets, {WINDOW} requests of each in flight')
+        cores = len(os.sched_getaffinity(0))
+        print(f'load {os.getloadavg()[0]:.1f}, on {cores} of {os.cpu_count()} cores; {SOCKETS} sockets, {WINDOW} requests of each in flight')
         for keys in (1, 32):
             pairs = [(served(serve, driver, keys, COMPLEX_ACK), served(echo, driver, keys, REQUEST)) for _ in range(RUNS)]
-            ours, theirs = (best(runs) for runs in zip(*pairs))
-            print(f'{SOCKETS * keys} live entries: bac serve {ours[0]:,.0f} datagrams/s, echo {theirs[0]:,.0f}, ratio {ours[0] / theirs[0]:.2f}')
-            print(f'  of the server\'s processor: {ours[1]:,.0f} and {theirs[1]:,.0f}, ratio {ours[1] / theirs[1]:.2f}; lost {ours[2]} and {theirs[2]}')
+            ours, theirs = (list(zip(*runs)) for runs in zip(*pairs))
+            compare(f'{SOCKETS * keys} live entries, by the clock', ours[0], theirs[0])
+            compare('  by the server\'s processor', ours[1], theirs[1])
+            print(f'  lost {sum(ours[2])} and {sum(theirs[2])}')
     return 0
 
 

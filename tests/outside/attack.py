@@ -1,11 +1,13 @@
 #!/usr/bin/env python3
-"""Attacks `bac serve` with datagrams of ill will, and then asks it: attack.py PROGRAM SEED SECONDS [FILE..]
+"""Attacks `bac serve` with datagrams of ill will, and then asks it: attack.py PROGRAM SEED SECONDS [FILE..], or attack.py PROGRAM plain SECONDS FILE
 
-What it sends: mutated requests, segments, acknowledgements, replies and frames with routes, made from the seed by this script's own generator
-(tests/flood has another one), and altered copies of the datagrams in the files. All that the server sends back has to be well formed, by `bac check`.
+What it sends with a seed: mutated requests, segments, acknowledgements, replies and frames with routes, made from the seed by this script's own generator,
+and altered copies of the datagrams in the files. With `plain`: the datagrams of the file as they stand and in their order, again and again; a line has a link
+and a datagram, as tests/flood prints them with `print N`. All that the server sends back has to be well formed, by `bac check`.
 In the end an honest ask has to be answered: at once, or, where the attack holds all places of the reply table, when the life of its entries is over.
 """
 
+import itertools
 import random
 import socket
 import sys
@@ -14,6 +16,7 @@ sys.dont_write_bytecode = True  # no __pycache__ beside the sources
 import subprocess
 import tempfile
 import time
+from pathlib import Path
 
 from mutate import altered
 from processes import LOOPBACK, Server, ask
@@ -76,16 +79,27 @@ def framed(draws, apdu):
     return octets(0x81, 0x0A, (len(layer) + len(apdu) + 4) >> 8, len(layer) + len(apdu) + 4) + layer + apdu
 
 
+def shot(draws, worked):
+    """A datagram: one in four is an altered copy of a worked one, and of the others one in four is altered."""
+    if worked and draws.randrange(4) == 0:
+        return bytes(altered(draws.choice(worked), draws))
+    apdu = server_apdu(draws) if draws.randrange(4) == 0 else client_apdu(draws)
+    datagram = framed(draws, apdu)
+    return bytes(altered(datagram, draws)) if draws.randrange(4) == 0 else datagram
+
+
 def shots(seed, worked):
-    """Datagrams without an end, from a seed: one in four is an altered copy of a worked one, and of the others one in four is altered."""
+    """Pairs of a sender's number and a datagram without an end, from a seed."""
     draws = random.Random(seed)
-    while True:
-        if worked and draws.randrange(4) == 0:
-            yield bytes(altered(draws.choice(worked), draws))
-            continue
-        apdu = server_apdu(draws) if draws.randrange(4) == 0 else client_apdu(draws)
-        datagram = framed(draws, apdu)
-        yield bytes(altered(datagram, draws)) if draws.randrange(4) == 0 else datagram
+    for number in itertools.count():
+        yield number * 7919 % SENDERS, shot(draws, worked)
+
+
+def plain_shots(path):
+    """The pairs of a file's lines, again and again: each link has one sender, which it may share with other links."""
+    pairs = [line.split(' ') for line in Path(path).read_text().splitlines()]
+    lines = [(int(link, 16) // 65536 % SENDERS, bytes.fromhex(datagram)) for link, datagram in pairs]
+    return itertools.cycle(lines)
 
 
 class Attack:
@@ -109,7 +123,8 @@ class Attack:
         begin = time.monotonic()
         while (passed := time.monotonic() - begin) < seconds:
             while self.sent < passed * EACH_SECOND:
-                self.sockets[self.sent * 7919 % SENDERS].sendto(next(datagrams), self.server)
+                sender, datagram = next(datagrams)
+                self.sockets[sender].sendto(datagram, self.server)
                 self.sent += 1
             self.hear()
             time.sleep(0.001)
@@ -148,11 +163,14 @@ def asked_until_answered(program, port):
 
 
 def main(words):
-    program, seed, seconds = words[0], int(words[1]), float(words[2])
-    worked = [bytes.fromhex(datagram) for datagram in read_datagrams(words[3:])[0]]
+    program, seed, seconds = words[0], words[1], float(words[2])
+    if seed == 'plain':
+        datagrams = plain_shots(words[3])
+    else:
+        datagrams = shots(int(seed), [bytes.fromhex(datagram) for datagram in read_datagrams(words[3:])[0]])
     with Server(program, TURNS) as server, Attack(server.port) as attack:
         before = server.memory()
-        attack.run(shots(seed, worked), seconds)
+        attack.run(datagrams, seconds)
         missed = server.missed()
         ends = asked_until_answered(program, server.port)
         after = server.memory()

@@ -1,5 +1,6 @@
 """`bac serve` and `bac ask` as processes on this machine."""
 
+import os
 import socket
 import subprocess
 import time
@@ -8,6 +9,7 @@ from pathlib import Path
 LOOPBACK = '127.0.0.1'
 ASK_SECONDS = 120  # an ask ends within 60 seconds, and a machine may be slow
 START_SECONDS = 30
+STARTS = 5  # another process may take a free port before the server does
 
 
 def free_port():
@@ -22,21 +24,46 @@ def socket_line(port):
     return next((line.split() for line in lines if line.split()[1].endswith(f':{port:04X}')), None)
 
 
+def links_of(process):
+    """What the open files of a process are links to; none where it has ended."""
+    folder = Path(f'/proc/{process}/fd')
+    try:
+        return [os.readlink(folder / name) for name in os.listdir(folder)]
+    except OSError:
+        return []
+
+
+def has_port(process, port):
+    """Whether the UDP socket at that port is one of the process."""
+    words = socket_line(port)
+    return words is not None and f'socket:[{words[9]}]' in links_of(process)
+
+
 class Server:
-    """A process of `bac serve`. It has the house store, and takes so many turns: each hears one datagram, or waits for 100 ms."""
+    """A process of `bac serve`. It has the house store, and takes so many turns: each hears one datagram, or waits for 100 ms.
+    Where no port is given it takes a free one, and another one where that was taken in between."""
 
     def __init__(self, program, turns, port=None):
-        self.port = port or free_port()
-        words = [program, 'serve', '--port', str(self.port), '--turns', str(turns)]
+        self.words, self.turns, self.wanted = [program, 'serve', '--port'], ['--turns', str(turns)], port
+
+    def start(self):
+        """Starts the process; answers whether it has its port."""
+        self.port = self.wanted or free_port()
+        words = [*self.words, str(self.port), *self.turns]
         self.process = subprocess.Popen(words, stdout=subprocess.PIPE, stderr=subprocess.PIPE, text=True)
+        end = time.monotonic() + START_SECONDS
+        while self.process.poll() is None and time.monotonic() < end:
+            if has_port(self.process.pid, self.port):
+                return True
+            time.sleep(0.02)
+        self.process.kill()
+        self.said = self.process.communicate()
+        return False
 
     def __enter__(self):
-        end = time.monotonic() + START_SECONDS
-        while socket_line(self.port) is None:
-            if self.process.poll() is not None or time.monotonic() > end:
-                self.process.kill()
-                raise SystemExit(f'no server at port {self.port}: {self.process.communicate()}')
-            time.sleep(0.02)
+        starts = 1 if self.wanted else STARTS
+        if not any(self.start() for _ in range(starts)):
+            raise SystemExit(f'no server at port {self.port}: {self.said}')
         return self
 
     def __exit__(self, *_):

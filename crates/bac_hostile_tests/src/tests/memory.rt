@@ -2,9 +2,13 @@
 //! again.
 use super::*;
 use bac_apdu::{read, write};
+use bac_ends::PeerKey;
 use bac_node::{NodeFault, Outcome};
 use bac_npdu::{Peer, write_datagram, write_frame_head};
-use bac_service::{read_reply, read_request, write_reply, write_request};
+use bac_service::{
+    AnyReply, AnyRequest, OwnedReply, OwnedRequest, read_reply, read_request, write_reply,
+    write_request,
+};
 use bac_store::{Object, Property, Store, StoreFault};
 use bac_value::{
     NoMemory, ObjectIdentifier, Value, read_data, read_tag, write_data, write_tag, write_value,
@@ -81,11 +85,11 @@ fn writes(what: Written, octets: &[u8], out: &mut Vec<u8>) -> Result<Result<(), 
     }
 }
 
-/// One octet, in a vector that has to grow for a second.
+/// One octet, in a vector that has to grow for a third: what is written octet by octet is refused behind its first one.
 fn one_octet(alloc: Global) -> Result<Vec<u8>, Fail> {
-    let mut out = match Vec::with_capacity(alloc, 1) {
+    let mut out = match Vec::with_capacity(alloc, 2) {
         Ok(out) => out,
-        Err(_) => Vec::with_capacity(alloc, 1)?,
+        Err(_) => Vec::with_capacity(alloc, 2)?,
     };
     out.push(0xAA)?;
     Ok(out)
@@ -216,15 +220,92 @@ fn after(alloc: Global, rows: &[Row]) -> Result<Node, Fail> {
     Ok(node)
 }
 
-/// What comes of a row that was refused its memory: the node was the one of the rows before it, and becomes the one of ample memory.
-fn happens_again(node: &mut Node, mut twin: Node, row: &Row) -> Result<Outcome, Fail> {
+/// Whether the same datagrams are sent to the same links, in the same order.
+fn are_sent_alike(sends: &[Datagram], twins: &[Datagram]) -> bool {
+    for (datagram, twin) in sends.iter().zip(twins) {
+        if datagram.to() != twin.to() || datagram.octets() != twin.octets() {
+            return false;
+        }
+    }
+    sends.len() == twins.len()
+}
+
+/// Whose request was performed, and its invoke ID.
+fn key_of(outcome: &Outcome) -> Option<PeerKey> {
+    match &outcome.effect {
+        Some(act) => Some(act.key),
+        None => None,
+    }
+}
+
+/// The service choice of a request (clause 21).
+fn choice_of(request: &OwnedRequest) -> u8 {
+    match request {
+        AnyRequest::ReadFile(_) => 6,
+        AnyRequest::WriteFile(_) => 7,
+        AnyRequest::ReadProperty(_) => 12,
+        AnyRequest::WriteProperty(_) => 15,
+    }
+}
+
+/// What a request is answered, in octets.
+fn add_reply(reply: &OwnedReply, octets: &mut Vec<u8>) -> Result<(), NoMemory> {
+    match reply {
+        AnyReply::Simple => octets.push(0)?,
+        AnyReply::Complex(complex) => {
+            octets.push(1)?;
+            write_reply(complex.as_complex(), octets)?;
+        }
+        AnyReply::Error { class, code } => {
+            octets.push(2)?;
+            octets.extend_from_slice(&class.to_be_bytes())?;
+            octets.extend_from_slice(&code.to_be_bytes())?;
+        }
+        AnyReply::Reject(reason) => octets.extend_from_slice(&[3, *reason])?,
+    }
+    Ok(())
+}
+
+/// The request that was performed and its reply, in octets; none where none was.
+fn effect_of(alloc: Global, outcome: &Outcome) -> Result<Vec<u8>, NoMemory> {
+    let mut octets = Vec::new(alloc);
+    if let Some(act) = &outcome.effect {
+        octets.push(choice_of(&act.effect.request))?;
+        write_request(act.effect.request.as_request(), &mut octets)?;
+        add_reply(&act.effect.reply, &mut octets)?;
+    }
+    Ok(octets)
+}
+
+/// Whether two outcomes are one; no ticket ends at a node that asks nothing.
+fn are_one(alloc: Global, outcome: &Outcome, twin: &Outcome) -> Result<bool, NoMemory> {
+    Ok(
+        are_sent_alike(&outcome.sends, &twin.sends)
+            && key_of(outcome) == key_of(twin)
+            && effect_of(alloc, outcome)? == effect_of(alloc, twin)?
+            && outcome.ended.is_empty()
+            && twin.ended.is_empty()
+            && outcome.dropped == twin.dropped,
+    )
+}
+
+/// What comes of a row that was refused its memory: the node was the one of the rows before it, becomes the one of ample memory, and tells the same.
+fn happens_again(
+    alloc: Global,
+    node: &mut Node,
+    mut twin: Node,
+    row: &Row,
+) -> Result<Outcome, Fail> {
     if !node.same(&twin) {
         return Err(Fail::from("the node has changed"));
     }
     let outcome = happens(node, row)?;
-    let _same = happens(&mut twin, row)?;
+    let told = happens(&mut twin, row)?;
     if !node.same(&twin) {
         return Err(Fail::from("another node"));
+    }
+    if !are_one(alloc, &outcome, &told)? {
+        return Err(Fail::from("another outcome"));
     }
     Ok(outcome)
 }
@@ -238,7 +319,7 @@ fn happens_at_last(
 ) -> Result<Outcome, Fail> {
     match happens(node, row) {
         Ok(outcome) => Ok(outcome),
-        Err(NodeFault::NoMemory) => happens_again(node, after(alloc, before)?, row),
+        Err(NodeFault::NoMemory) => happens_again(alloc, node, after(alloc, before)?, row),
         Err(NodeFault::ClockBack) => Err(Fail::from("the moment")),
     }
 }

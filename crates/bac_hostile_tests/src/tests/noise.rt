@@ -178,12 +178,19 @@ fn fronts(alloc: Global, world: &mut World, node: usize, whole: &[u8]) -> Result
     Ok(())
 }
 
-/// Each proper front of each datagram that was sent comes to the client and to the server.
+/// Each proper front of these octets comes to each node.
+fn fronts_for_all(alloc: Global, world: &mut World, whole: &[u8]) -> Result<(), Fail> {
+    for node in 0..world.nodes().len() {
+        fronts(alloc, world, node, whole)?;
+    }
+    Ok(())
+}
+
+/// Each proper front of each datagram that was sent comes to each node.
 fn noise(alloc: Global, world: &mut World) -> Result<(), Fail> {
     for number in 0..world.copies().len() {
         let whole = octets_of(alloc, world, number)?;
-        fronts(alloc, world, 0, &whole)?;
-        fronts(alloc, world, 1, &whole)?;
+        fronts_for_all(alloc, world, &whole)?;
     }
     Ok(())
 }

@@ -1,11 +1,11 @@
 //! Run with each allocation refused in turn, too: a refused call changes nothing, and succeeds when it comes again.
 use super::*;
 
-/// One octet, in a vector that has to grow for a second.
+/// One octet, in a vector that has to grow for a third: what is written octet by octet is refused behind its first one.
 fn one_octet(alloc: Global) -> Result<Vec<u8>, NoMemory> {
-    let mut out = match Vec::with_capacity(alloc, 1) {
+    let mut out = match Vec::with_capacity(alloc, 2) {
         Ok(out) => out,
-        Err(_) => Vec::with_capacity(alloc, 1)?,
+        Err(_) => Vec::with_capacity(alloc, 2)?,
     };
     out.push(0xAA)?;
     Ok(out)
@@ -49,4 +49,36 @@ fn is_copied(alloc: Global, octets: &[u8]) -> Result<bool, NoMemory> {
 #[test]
 fn copies_data_that_was_refused(rt: HostRuntime) -> Result<(), Fail> {
     holds(is_copied(rt.alloc(), b"\x62\xAB\xCD")?, "a copy")
+}
+
+/// 0, 1, 2, 3, in pieces of one octet; where one allocation was refused they are made again.
+fn pieces(alloc: Global) -> Result<Vec<Vec<u8>>, NoMemory> {
+    match pieces_of(alloc, b"\x00\x01\x02\x03", 1) {
+        Ok(pieces) => Ok(pieces),
+        Err(NoMemory) => pieces_of(alloc, b"\x00\x01\x02\x03", 1),
+    }
+}
+
+/// Whether a refused copy of all of them changes nothing.
+fn is_copied_out_once(parts: &Parts<'_>, out: &mut Vec<u8>) -> Result<bool, NoMemory> {
+    let is_unchanged = match copy_out(parts, 0, parts.len(), out) {
+        Ok(()) => return Ok(true),
+        Err(NoMemory) => matches!(out.as_slice(), [0xAA]),
+    };
+    copy_out(parts, 0, parts.len(), out)?;
+    Ok(is_unchanged)
+}
+
+fn is_copied_out_after_all(alloc: Global) -> Result<bool, NoMemory> {
+    let pieces = pieces(alloc)?;
+    let Some(parts) = Parts::try_new(&pieces) else {
+        return Ok(false);
+    };
+    let mut out = one_octet(alloc)?;
+    Ok(is_copied_out_once(&parts, &mut out)? && matches!(out.as_slice(), [0xAA, 0, 1, 2, 3]))
+}
+
+#[test]
+fn copies_out_what_was_refused(rt: HostRuntime) -> Result<(), Fail> {
+    holds(is_copied_out_after_all(rt.alloc())?, "pieces")
 }
