@@ -45,6 +45,8 @@ pub enum RequestWay {
 impl RequestWay {
     /// The way of a request whose service data have so many octets (clause 5.2): in one APDU where they and 4 octets fit it, otherwise in segments.
     /// The sizes are those of a node that is set so, and of a peer that takes so much.
+    ///
+    /// `TooLong` where the data have more than 65,535 octets; otherwise `NeedsSegments` where they need segments, and the peer takes none or fewer.
     pub fn of(settings: &Settings, peer: &Limits, len: usize) -> Result<RequestWay, RequestFault>
         ensures is { (octets : List ℕ) → length octets ≡ len
             → request_way_of (settings_view settings.now) (limits_view peer.now) octets ≡ way_view octets result }

@@ -124,7 +124,7 @@ fn window_repeated(context: &Context, mut core: Core, all_sent: bool) -> Held
 impl Ticket {
     /// What a tick sends for the ticket, and how it ends it (clause 5.4.4): where more than 60,000 milliseconds have passed since the first sending, it
     /// ends as Expired; otherwise, where the timer of its state is due, the window of its request is sent again (3 times), or the request (3 times),
-    /// and after the last of these it ends as TimedOut. Nothing changes.
+    /// and after the last of these it ends as TimedOut. Nothing changes. `NoMemory` where the memory for what is sent is refused.
     pub fn prepare_tick(&self, alloc: Global, context: &Context) -> Result<Due, NoMemory>
         ensures { IfOk result (IsDue context.now self.now (client_ticks (context_view context.now) self.now)) }
     {

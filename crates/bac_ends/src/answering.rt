@@ -15,7 +15,7 @@ use bac_segment::Step;
 use bac_value::NoMemory;
 use std::alloc::Global;
 
-/// A datagram alone.
+/// A datagram alone. `NoMemory` where memory is refused, as of each call here.
 pub fn only(alloc: Global, datagram: Datagram) -> Result<Vec<Datagram>, NoMemory>
     ensures { IfOk result (λ v. v.items ≡ datagram ∷ []) }
 {

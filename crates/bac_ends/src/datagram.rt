@@ -49,7 +49,7 @@ impl Datagram {
     }
 }
 
-/// The datagram that carries an APDU to a peer, as the one frame of it, in one allocation.
+/// The datagram that carries an APDU to a peer, as the one frame of it, in one allocation; `NoMemory` where that is refused.
 #[tactic(auto, using(bac_npdu::proofs::Writing::frame_headed))]
 pub fn datagram_of(alloc: Global, peer: &Peer, apdu: &Apdu<'_>) -> Result<Datagram, NoMemory>
     requires { IsShort (apdu_view apdu.now) }

@@ -10,7 +10,7 @@ use bac_npdu::Peer;
 use bac_value::NoMemory;
 use std::alloc::Global;
 
-/// The datagram of an Abort (clause 20.1.9); `server` says whether the sender is the server.
+/// The datagram of an Abort (clause 20.1.9); `server` says whether the sender is the server. `NoMemory` where memory is refused.
 #[tactic(auto, using(crate::proofs::Short::short_abort))]
 pub fn abort_datagram(
     alloc: Global,
@@ -30,7 +30,7 @@ pub fn abort_datagram(
 }
 
 /// The datagram of a SegmentACK (clause 20.1.6); `server` says whether the sender is the server, `nak` whether a segment was out of order,
-/// and `number` is that of the last segment taken in order, modulo 256.
+/// and `number` is that of the last segment taken in order, modulo 256. `NoMemory` where memory is refused.
 #[tactic(auto, using(crate::proofs::Short::short_ack))]
 pub fn ack_datagram(
     alloc: Global,

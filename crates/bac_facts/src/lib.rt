@@ -1,4 +1,4 @@
-//! Facts as lines: how asks are told, what is performed and sent, and how tickets end.
+//! Facts as lines: how asks are told, what is performed and sent, and how tickets end. Each call fails where the output does.
 #![tactic(auto)]
 
 mod ending;

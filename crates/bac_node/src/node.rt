@@ -111,6 +111,9 @@ fn with_ended(room: Vec<Finish>, finish: Option<Finish>) -> Vec<Finish>
 
 impl Node {
     /// A node to which nothing has happened, with that store.
+    ///
+    /// `BadSlots` where a number of slots is not 1 to 1,024; otherwise `BadWindow` where the window is not 1 to 64; last, `NoMemory` where the memory for
+    /// the slots is refused: no later call takes more of it for them.
     pub fn new(alloc: Global, config: Config, store: Store) -> Result<Node, NewNodeFault>
         ensures fresh { IfOk result (λ n. n ≡ fresh_node config store) }
         ensures slots { IsErrOf result NewNodeFault.BadSlots ↔ (has_slots config ≡ false) }
@@ -236,7 +239,7 @@ impl Node {
     /// A datagram comes from a link, at a moment in milliseconds.
     ///
     /// One that comes from the node's own link or means no APDU of a peer is dropped: it changes the latest moment alone, and takes no memory.
-    /// `ClockBack` exactly where the moment is before the latest one. After an Err the node is as before.
+    /// `ClockBack` exactly where the moment is before the latest one, `NoMemory` where memory is refused. After an Err the node is as before.
     pub fn on(&mut self, now: u64, from: [u8; 6], octets: &[u8]) -> Result<Outcome, NodeFault>
         ensures went { IfOk result (λ o. NodeOn now from octets.now self.old self.new (outcome_view o)) }
         ensures early { IsErrOf result NodeFault.ClockBack ↔ (now < self.old.latest) }
@@ -302,7 +305,7 @@ impl Node {
     /// A tick at a moment in milliseconds: all that is due, of the client's end first, and then of the server's, each in ascending order of peer and
     /// invoke ID, once for each.
     ///
-    /// `ClockBack` exactly where the moment is before the latest one. After an Err the node is as before.
+    /// `ClockBack` exactly where the moment is before the latest one, `NoMemory` where memory is refused. After an Err the node is as before.
     pub fn tick(&mut self, now: u64) -> Result<Outcome, NodeFault>
         ensures went { IfOk result (λ o. NodeTick now self.old self.new (outcome_view o)) }
         ensures early { IsErrOf result NodeFault.ClockBack ↔ (now < self.old.latest) }
@@ -313,7 +316,7 @@ impl Node {
         Ok(outcome)
     }
 
-    /// What comes of a tick at that moment, which `commit_tick` makes. Nothing changes.
+    /// What comes of a tick at that moment, in milliseconds, which `commit_tick` makes. Nothing changes. It is refused as `tick` is.
     pub fn prepare_tick(&self, now: u64) -> Result<Outcome, NodeFault>
         ensures due { IfOk result (λ o. NodeTick now self.now (ticked now self.now) (outcome_view o)) }
         ensures early { IsErrOf result NodeFault.ClockBack ↔ (now < self.now.latest) }

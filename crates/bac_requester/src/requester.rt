@@ -177,7 +177,8 @@ impl<S: SlotTable<PeerKey, Client> + Drop> Requester<S> {
         Ok(turn)
     }
 
-    /// What a tick sends and ends. Nothing changes. Before the first moment at which anything can be due no slot is looked at.
+    /// What a tick sends and ends (clause 5.4.4), at a moment in milliseconds. Nothing changes. Before the first moment at which anything can be due no slot
+    /// is looked at. `NoMemory` where the memory for what is sent is refused.
     pub fn prepare_tick(&self, alloc: Global, now: u64) -> Result<Due, NoMemory>
         ensures { IfOk result (IsDue (clients_tick self.now.settings now self.now.end)) }
     {

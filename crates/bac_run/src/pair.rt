@@ -79,7 +79,7 @@ fn wait<L: Link, C: Clock>(
     Ok(None)
 }
 
-/// As `ask_over`, with a second node that takes one turn on its own link after each turn of the first.
+/// As `ask_over`, with a second node that takes one turn on its own link after each turn of the first. `Link` and `ClockBack` are those of either node.
 pub fn pair_over<L: Link, C: Clock>(
     alloc: Global,
     node: &mut Node,

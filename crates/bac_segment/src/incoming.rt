@@ -111,7 +111,8 @@ impl Incoming {
     }
 
     /// What a segment would do: its number on the wire, whether more follow, and its octets. It changes nothing,
-    /// takes no memory, and never answers `NoMemory`.
+    /// takes no memory, and never answers `NoMemory`. `TooLong` where the segment is the next, and the octets with it would pass 65,535 or 65,535 segments
+    /// were taken.
     #[tactic(auto, using(crate::proofs::Joined::parts_are_as_many, crate::proofs::Joined::parts_have_all))]
     pub fn answer(&self, number: u8, more: bool, octets: &[u8]) -> Result<Step, SegmentFault>
         ensures { result ≡ answer_of (takes self.now number more octets.now) }
@@ -130,7 +131,9 @@ impl Incoming {
         Ok(Step::Taken { ack })
     }
 
-    /// A segment comes: its number on the wire, whether more follow, and its octets.
+    /// A segment comes (clauses 5.4.4.4 and 5.4.5.2): its number on the wire, whether more follow, and its octets.
+    ///
+    /// `TooLong` exactly where `answer` says so, and `NoMemory` where memory is refused to one that is taken. After an Err nothing has changed.
     pub fn on_segment(
         &mut self,
         number: u8,

@@ -77,7 +77,8 @@ fn fresh_rows(alloc: Global, nodes: usize) -> Result<Vec<Row>, NoMemory>
 }
 
 impl Journal {
-    /// Nothing has happened: the moment is 0. The places for the transactions of all nodes are made: 256 for each client and server.
+    /// Nothing has happened: the moment is 0. The places for the transactions of all nodes are made: 256 for each client and server. `NoMemory` where the
+    /// memory for them is refused.
     pub fn new(alloc: Global, links: Vec<[u8; 6]>) -> Result<Journal, NoMemory>
         ensures { IfOk result (λ j. j ≡ record (j) { links = links.items; moment = 0; copies = []; notes = [] }) }
     {

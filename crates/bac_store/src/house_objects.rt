@@ -118,7 +118,8 @@ fn log(alloc: Global) -> Result<Object, NoMemory>
     })
 }
 
-/// The house: device 1 `house`, analog-input 5 `flow`, analog-value 1 `setpoint`, binary-value 1 `pump` and file 1 `log`.
+/// The house: device 1 `house`, analog-input 5 `flow`, analog-value 1 `setpoint`, binary-value 1 `pump` and file 1 `log`. `NoMemory` where memory is
+/// refused.
 pub fn house(alloc: Global) -> Result<Store, NoMemory>
     ensures { IfOk result (λ s. s ≡ house_view) }
 {

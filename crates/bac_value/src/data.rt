@@ -24,7 +24,7 @@ pub struct DataBuf {
 }
 
 impl DataBuf {
-    /// A copy of octets that are data, in one allocation where there are octets, otherwise in none.
+    /// A copy of octets that are data, in one allocation where there are octets, otherwise in none. `NoMemory` where it is refused.
     pub fn copied<O: Octets>(alloc: Global, octets: O) -> Result<DataBuf, NoMemory>
         requires { ∥ IsData (O.octets octets) ∥₁ }
         ensures same { IfOk result (λ copy. copy.octets.items ≡ O.octets octets) }

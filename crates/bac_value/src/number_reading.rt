@@ -51,7 +51,7 @@ pub(crate) fn signed_of<O: Octets>(octets: O) -> i64
     }
 }
 
-/// The number in `len` octets of contents of an Unsigned (clause 20.2.4), and what is left after them.
+/// The number in `len` octets of contents of an Unsigned (clause 20.2.4), and what is left after them; the fault where they are none.
 #[tactic(auto, unfolding(crate::specs::Reading::number_at))]
 pub fn take_unsigned<O: Octets>(octets: O, len: usize) -> Result<(u64, O), FaultKind>
     ensures { Reads (λ n. n) O.octets (O.octets octets) result (number_at 2 len) }
@@ -60,7 +60,7 @@ pub fn take_unsigned<O: Octets>(octets: O, len: usize) -> Result<(u64, O), Fault
     Ok((number_of(contents), rest))
 }
 
-/// The number in `len` octets of contents of an Enumerated (clause 20.2.11), and what is left after them.
+/// The number in `len` octets of contents of an Enumerated (clause 20.2.11), and what is left after them; the fault where they are none.
 #[tactic(auto, unfolding(crate::specs::Reading::number_at))]
 pub fn take_enumerated<O: Octets>(octets: O, len: usize) -> Result<(u32, O), FaultKind>
     ensures { Reads (λ n. n) O.octets (O.octets octets) result (number_at 9 len) }
@@ -70,7 +70,7 @@ pub fn take_enumerated<O: Octets>(octets: O, len: usize) -> Result<(u32, O), Fau
     Ok((number as u32, rest))
 }
 
-/// The number in `len` octets of contents of a Signed (clause 20.2.5), and what is left after them.
+/// The number in `len` octets of contents of a Signed (clause 20.2.5), and what is left after them; the fault where they are none.
 #[tactic(auto, unfolding(crate::specs::Reading::signed_at))]
 pub fn take_signed<O: Octets>(octets: O, len: usize) -> Result<(i64, O), FaultKind>
     ensures { Reads (λ z. z) O.octets (O.octets octets) result (signed_at len) }
@@ -92,7 +92,7 @@ pub(crate) fn object_of<O: Octets>(octets: O) -> ObjectIdentifier
     }
 }
 
-/// The object in `len` octets of contents of an ObjectIdentifier (clause 20.2.14), and what is left after them.
+/// The object in `len` octets of contents of an ObjectIdentifier (clause 20.2.14), and what is left after them; the fault where they are none.
 #[tactic(auto, unfolding(crate::specs::Reading::object_at))]
 pub fn take_object_identifier<O: Octets>(
     octets: O,

@@ -48,7 +48,7 @@ pub fn check_data_at(parts: &Parts<'_>, at: usize) -> Result<usize, Fault>
     }
 }
 
-/// Appends `len` octets from a place on, or changes nothing.
+/// Appends `len` octets from a place on, or answers `NoMemory` and changes nothing, where the vector has too little room and cannot grow.
 pub fn copy_out(parts: &Parts<'_>, at: usize, len: usize, out: &mut Vec<u8>) -> Result<(), NoMemory>
     requires { at + len ≤ length (parts_view parts.now) }
     ensures ok { Appends result out.old out.new (take len (drop at (parts_view parts.now))) }

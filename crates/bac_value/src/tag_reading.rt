@@ -161,7 +161,7 @@ fn is_context(first: u8) -> bool
     first & CONTEXT_CLASS != 0
 }
 
-/// The tag at the front, and what is left after it.
+/// The tag at the front (clause 20.2.1), and what is left after it; the fault where there is none.
 #[tactic(auto, unfolding(crate::specs::Reading::tag_at))]
 #[inline(always)]
 pub fn take_tag<O: Octets>(octets: O) -> Result<(Tag, O), FaultKind>

@@ -69,7 +69,7 @@ pub fn put_tag(tag: &Tag, out: &mut Vec<u8>) -> Result<(), NoMemory>
     Ok(())
 }
 
-/// Appends the one spelling of a tag, or changes nothing.
+/// Appends the one spelling of a tag, or answers `NoMemory` and changes nothing, where the vector has too little room and cannot grow.
 pub fn write_tag(tag: &Tag, out: &mut Vec<u8>) -> Result<(), NoMemory>
     ensures spelled { SpellsTag (tag_view tag.now) (tag_spelling (tag_view tag.now)) }
     ensures ok { Appends result out.old out.new (tag_spelling (tag_view tag.now)) }

@@ -96,7 +96,7 @@ fn value_of_kind<O: Octets>(alloc: Global, kind: u8, contents: O) -> Result<Valu
 
 /// The application value that an element is; None exactly where it is none.
 ///
-/// An element that was read is a value exactly where its tag is of the application class.
+/// An element that was read is a value exactly where its tag is of the application class. `NoMemory` where the memory for a string is refused.
 pub fn value_of<O: Octets>(alloc: Global, element: Element<O>) -> Result<Option<Value>, NoMemory>
     ensures value { IfOk result (λ o. MatchOption o ((d : Datum) → IsValueOf d (element_view O.octets element) → ⊥)
         (λ v. IsValueOf (value_view v) (element_view O.octets element))) }

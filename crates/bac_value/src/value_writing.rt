@@ -202,7 +202,7 @@ pub fn put_value(value: &Value, out: &mut Vec<u8>) -> Result<(), NoMemory>
     }
 }
 
-/// Appends the one spelling of a value, or changes nothing.
+/// Appends the one spelling of a value, or answers `NoMemory` and changes nothing, where the vector has too little room and cannot grow.
 pub fn write_value(value: &Value, out: &mut Vec<u8>) -> Result<(), NoMemory>
     ensures ok { OnOk result (AppendsValue (value_view value.now) out.old.items out.new.items) }
     ensures err { Keeps result out.old out.new }
