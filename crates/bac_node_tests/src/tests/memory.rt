@@ -1,5 +1,8 @@
 //! Run with each allocation refused in turn, too: `sh tests/memory/refused.sh`.
 use super::*;
+use bac_requester::Finish;
+use bac_responder::Act;
+use bac_service::{write_reply, write_request};
 
 const SEGMENT_0: &str = "810A0011 0104 0E0503002007 C402800001";
 
@@ -55,19 +58,88 @@ fn hears_all(alloc: Global, node: &mut Node, rows: &[Row]) -> Result<(), Fail> {
     Ok(())
 }
 
-/// Whether a node is what the other one becomes that hears these rows.
-fn is_what_hears(alloc: Global, node: &Node, other: &mut Node, rows: &[Row]) -> Result<bool, Fail> {
-    hears_all(alloc, other, rows)?;
-    Ok(node.same(other))
+/// A server that heard the first `n` of these rows.
+fn after(alloc: Global, rows: &[Row], n: usize) -> Result<Node, Fail> {
+    let mut node = house_node(alloc, SERVER)?;
+    hears_all(alloc, &mut node, rows.get(..n).unwrap_or(rows))?;
+    Ok(node)
 }
 
-/// Whether a node is one that heard the first `n` of these rows.
-fn is_after(alloc: Global, node: &Node, rows: &[Row], n: usize) -> Result<bool, Fail> {
-    let mut other = house_node(alloc, SERVER)?;
-    is_what_hears(alloc, node, &mut other, rows.get(..n).unwrap_or(rows))
+/// Whether the same is sent.
+fn are_equal(sends: &[Datagram], others: &[Datagram]) -> bool {
+    for (datagram, other) in sends.iter().zip(others) {
+        if datagram.to() != other.to() || datagram.octets() != other.octets() {
+            return false;
+        }
+    }
+    sends.len() == others.len()
 }
 
-/// Whether a row that was refused has changed nothing, and is done when it comes again.
+/// Whether the same tickets ended, each in the same way.
+fn have_ended_alike(ended: &[Finish], others: &[Finish]) -> bool {
+    for (finish, other) in ended.iter().zip(others) {
+        if finish.ticket != other.ticket || ending(&finish.how) != ending(&other.how) {
+            return false;
+        }
+    }
+    ended.len() == others.len()
+}
+
+/// The service data of a request that was performed, and of its ComplexACK, if it is one; another reply is told by what is sent.
+fn spelled(alloc: Global, act: &Act) -> Result<Vec<u8>, NoMemory> {
+    let mut octets = Vec::new(alloc);
+    write_request(act.effect.request.as_request(), &mut octets)?;
+    if let AnyReply::Complex(complex) = &act.effect.reply {
+        write_reply(complex.as_complex(), &mut octets)?;
+    }
+    Ok(octets)
+}
+
+/// Whether the same request was performed and answered alike, or none was.
+fn is_same_effect(
+    alloc: Global,
+    effect: &Option<Act>,
+    other: &Option<Act>,
+) -> Result<bool, NoMemory> {
+    match (effect, other) {
+        (None, None) => Ok(true),
+        (Some(act), Some(other)) => {
+            Ok(act.key == other.key && spelled(alloc, act)? == spelled(alloc, other)?)
+        }
+        _ => Ok(false),
+    }
+}
+
+/// Whether the same came of two calls.
+fn are_alike(alloc: Global, outcome: &Outcome, other: &Outcome) -> Result<bool, NoMemory> {
+    Ok(
+        are_equal(&outcome.sends, &other.sends)
+            && have_ended_alike(&outcome.ended, &other.ended)
+            && outcome.dropped == other.dropped
+            && is_same_effect(alloc, &outcome.effect, &other.effect)?,
+    )
+}
+
+/// Whether a node does what a row says, and what its twin does.
+fn hears_as_twin(
+    alloc: Global,
+    node: &mut Node,
+    twin: &mut Node,
+    heard: &[u8],
+    wanted: &[u8],
+    row: &Row,
+) -> Result<bool, Fail> {
+    let outcome = comes(node, heard, row)?;
+    let other = comes(twin, heard, row)?;
+    Ok(
+        node.same(twin)
+            && are_alike(alloc, &outcome, &other)?
+            && are_octets(&outcome.sends, wanted)
+            && what_of(&outcome) == row.4,
+    )
+}
+
+/// Whether a row that was refused has changed nothing, and is done when it comes again as by a twin that met no refusal.
 fn hears_again(
     alloc: Global,
     node: &mut Node,
@@ -79,11 +151,8 @@ fn hears_again(
     let Some(row) = rows.get(n) else {
         return Ok(false);
     };
-    Ok(
-        is_after(alloc, node, rows, n)?
-            && hears(node, heard, wanted, row)?
-            && is_after(alloc, node, rows, n.saturating_add(1))?,
-    )
+    let mut twin = after(alloc, rows, n)?;
+    Ok(node.same(&twin) && hears_as_twin(alloc, node, &mut twin, heard, wanted, row)?)
 }
 
 /// Whether a row goes as it says, the first or the second time.
@@ -125,7 +194,7 @@ fn goes_at_last(
     hears_at_last(alloc, node, &heard, &wanted, rows, n)
 }
 
-/// A node hears these rows; a call that was refused leaves it as it was, and is done when it comes again.
+/// A node hears these rows; a call that was refused leaves it as it was, and does when it comes again what it does with ample memory.
 fn all_go_at_last(alloc: Global, node: &mut Node, rows: &[Row]) -> Result<(), Fail> {
     for (n, row) in rows.iter().enumerate() {
         if !goes_at_last(alloc, node, rows, n, row)? {
@@ -151,57 +220,82 @@ fn segments_with_refused_memory(rt: HostRuntime) -> Result<(), Fail> {
     plays_refused(rt.alloc(), SEGMENTS)
 }
 
-/// Whether nothing has happened to a client.
-fn is_new(alloc: Global, node: &Node) -> Result<bool, Fail> {
-    let other = house_node(alloc, CLIENT)?;
-    Ok(node.same(&other))
+/// The client asks for a write at moment 0.
+fn asks(node: &mut Node, write: &OwnedRequest) -> Result<Asked, AskFault> {
+    ask(node, 0, SERVER, &LARGE, write)
 }
 
-/// Whether an ask sends that datagram.
-fn sends(node: &mut Node, write: &OwnedRequest, wanted: &[u8]) -> Result<bool, AskFault> {
-    let asked = ask(node, 0, SERVER, &LARGE, write)?;
-    Ok(are_octets(&asked.sends, wanted))
+/// Whether two asks were accepted alike.
+fn are_accepted_alike(asked: &Asked, other: &Asked) -> bool {
+    asked.ticket == other.ticket
+        && asked.invoke_id == other.invoke_id
+        && are_equal(&asked.sends, &other.sends)
 }
 
-/// Whether it does, the first or the second time; one that was refused has changed nothing.
-fn sends_at_last(
+/// Whether an ask that was refused has changed nothing, and sends that datagram when it comes again, as a twin's that met no refusal.
+fn asks_again(
     alloc: Global,
     node: &mut Node,
     write: &OwnedRequest,
     wanted: &[u8],
 ) -> Result<bool, Fail> {
-    match sends(node, write, wanted) {
-        Ok(sent) => Ok(sent),
-        Err(AskFault::NoMemory) => Ok(is_new(alloc, node)? && sends(node, write, wanted)?),
+    let mut twin = house_node(alloc, CLIENT)?;
+    if !node.same(&twin) {
+        return Ok(false);
+    }
+    let asked = asks(node, write)?;
+    let other = asks(&mut twin, write)?;
+    let alike = node.same(&twin) && are_accepted_alike(&asked, &other);
+    Ok(alike && are_octets(&asked.sends, wanted))
+}
+
+/// Whether an ask sends that datagram, the first or the second time.
+fn asks_at_last(
+    alloc: Global,
+    node: &mut Node,
+    write: &OwnedRequest,
+    wanted: &[u8],
+) -> Result<bool, Fail> {
+    match asks(node, write) {
+        Ok(asked) => Ok(are_octets(&asked.sends, wanted)),
+        Err(AskFault::NoMemory) => asks_again(alloc, node, write, wanted),
         Err(_) => Ok(false),
     }
 }
 
-/// Whether a tick sends that datagram.
-fn repeats(node: &mut Node, now: u64, wanted: &[u8]) -> Result<bool, NodeFault> {
-    let outcome = node.tick(now)?;
-    Ok(are_octets(&outcome.sends, wanted))
+/// A tick when the ask is to be repeated.
+fn repeats(node: &mut Node) -> Result<Outcome, NodeFault> {
+    node.tick(3_000)
 }
 
-/// Whether a node has asked for a write, and nothing else has happened to it.
-fn has_asked(alloc: Global, node: &Node, write: &OwnedRequest) -> Result<bool, Fail> {
-    let mut other = house_node(alloc, CLIENT)?;
-    let _ = ask(&mut other, 0, SERVER, &LARGE, write)?;
-    Ok(node.same(&other))
+/// Whether a tick that was refused has changed nothing since the ask, and sends that datagram when it comes again, as a twin's that met no refusal.
+fn repeats_again(
+    alloc: Global,
+    node: &mut Node,
+    write: &OwnedRequest,
+    wanted: &[u8],
+) -> Result<bool, Fail> {
+    let mut twin = house_node(alloc, CLIENT)?;
+    let _ = asks(&mut twin, write)?;
+    if !node.same(&twin) {
+        return Ok(false);
+    }
+    let outcome = repeats(node)?;
+    let other = repeats(&mut twin)?;
+    let alike = node.same(&twin) && are_alike(alloc, &outcome, &other)?;
+    Ok(alike && are_octets(&outcome.sends, wanted))
 }
 
-/// Whether it does, the first or the second time; one that was refused has changed nothing.
+/// Whether a tick sends that datagram and does nothing else, the first or the second time.
 fn repeats_at_last(
     alloc: Global,
     node: &mut Node,
     write: &OwnedRequest,
     wanted: &[u8],
 ) -> Result<bool, Fail> {
-    match repeats(node, 3_000, wanted) {
-        Ok(sent) => Ok(sent),
-        Err(NodeFault::NoMemory) => {
-            Ok(has_asked(alloc, node, write)? && repeats(node, 3_000, wanted)?)
-        }
+    match repeats(node) {
+        Ok(outcome) => Ok(are_octets(&outcome.sends, wanted) && what_of(&outcome) == Nothing),
+        Err(NodeFault::NoMemory) => repeats_again(alloc, node, write, wanted),
         Err(_) => Ok(false),
     }
 }
@@ -210,7 +304,7 @@ fn repeats_at_last(
 fn sends_twice(alloc: Global, write: &OwnedRequest, append: &[u8]) -> Result<bool, Fail> {
     let mut node = made(alloc, CLIENT)?;
     Ok(
-        sends_at_last(alloc, &mut node, write, append)?
+        asks_at_last(alloc, &mut node, write, append)?
             && repeats_at_last(alloc, &mut node, write, append)?,
     )
 }
