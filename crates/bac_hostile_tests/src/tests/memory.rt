@@ -20,8 +20,10 @@ enum Written {
     Tag,
     Value,
     Data,
-    Request,
-    Reply,
+    /// The service data of a request of that service choice.
+    Request(u8),
+    /// Those of a ComplexACK of that service choice.
+    Reply(u8),
     Apdu,
     /// To link 2, of an APDU that begins after six octets.
     Datagram,
@@ -34,15 +36,26 @@ const WRITTEN: &[(Written, &[u8])] = &[
     (Written::Tag, b"\x65\xFE\x01\x00"),
     (Written::Value, b"\x22\x01\x00"),
     (Written::Data, b"\x0E\x44\x42\x90\x99\x9A\x0F\x21\x05"),
-    (Written::Request, b"\x0C\x00\x00\x00\x05\x19\x55"),
+    (Written::Request(12), b"\x0C\x00\x00\x00\x05\x19\x55"),
     (
-        Written::Reply,
+        Written::Request(7),
+        b"\xC4\x02\x80\x00\x01\x0E\x31\xFF\x63\xAA\xBB\xCC\x0F",
+    ),
+    (
+        Written::Reply(12),
         b"\x0C\x00\x00\x00\x05\x19\x55\x3E\x44\x42\x90\x99\x9A\x3F",
     ),
+    (Written::Reply(7), b"\x09\x02"),
     (
         Written::Apdu,
         b"\x00\x05\x01\x0C\x0C\x00\x00\x00\x05\x19\x55",
     ),
+    (
+        Written::Apdu,
+        b"\x0C\x05\x01\x00\x20\x0C\x0C\x00\x00\x00\x05",
+    ),
+    (Written::Apdu, b"\x40\x01\x05\x20"),
+    (Written::Apdu, b"\x50\x01\x0C\x91\x01\x91\x1F"),
     (Written::Datagram, READ),
     (Written::FrameHead, b"\x81\x0A\x00\x11\x01\x04"),
 ];
@@ -62,8 +75,12 @@ fn writes_value(
         Written::Tag => write_tag(&read_tag(octets)?.0, out),
         Written::Value => write_value(&Value::Unsigned(256), out),
         Written::Data => write_data(read_data(octets)?.0, out),
-        Written::Request => write_request(read_request(12, octets).map_err(|_| unread())?, out),
-        _ => write_reply(read_reply(12, octets)?, out),
+        Written::Request(choice) => {
+            let request = read_request(choice, octets).map_err(|_| unread())?;
+            write_request(request, out)
+        }
+        Written::Reply(choice) => write_reply(read_reply(choice, octets)?, out),
+        _ => return Err(unread()),
     })
 }
 
