@@ -1,9 +1,9 @@
 //! Whether two tickets ended alike.
 ghost use Rattle.std.specs.Prelude.{◌≡◌, ◌↔◌, IsTrue};
-ghost use Rattle.bac_client.specs.Views.{ending_view};
+ghost use Rattle.bac_ticket.specs.Views.{ending_view};
 
 use crate::reply::same_reply;
-use bac_client::Ending;
+use bac_ticket::Ending;
 
 /// Whether contracts see one ending in both.
 pub fn same_ending(one: &Ending, other: &Ending) -> bool

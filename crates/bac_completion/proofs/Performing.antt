@@ -21,7 +21,7 @@ use Rattle.bac_progress.proofs.Serving.{answer_any_time, performed_entry, answer
 use Rattle.bac_slots.specs.Slots.{value_at}
 use Rattle.bac_ends.specs.Keys.{same_key}
 use Rattle.bac_ends.specs.Ends.{is_free}
-use Rattle.bac_server.specs.Services.{service_of, outcome_by}
+use Rattle.bac_entry.specs.Services.{service_of, outcome_by}
 use Rattle.bac_world.specs.Node.{Node}
 use Rattle.bac_world.specs.World.{World, IsAsked}
 use Rattle.bac_world.proofs.Bridge.{NodeFits, slot_key}

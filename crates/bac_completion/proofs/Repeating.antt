@@ -40,7 +40,7 @@ use Rattle.bac_slots.specs.Slots.{value_at}
 use Rattle.bac_ends.specs.Keys.{PeerKey, same_key}
 use Rattle.bac_ends.specs.Sends.{Pairwise}
 use Rattle.bac_ends.specs.Ends.{Client, Held, act_at, is_free, open_unless}
-use Rattle.bac_server.specs.Services.{service_of}
+use Rattle.bac_entry.specs.Services.{service_of}
 use Rattle.bac_world.specs.Services.{Performed, ArePerformed}
 use Rattle.bac_world.specs.Node.{Node}
 use Rattle.bac_world.specs.Once.{Stores, IsOnce}

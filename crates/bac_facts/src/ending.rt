@@ -1,11 +1,11 @@
 //! How the end of a ticket is told.
 ghost use Rattle.std.specs.Prelude.{OnOk};
 ghost use Rattle.std.specs.Io.KnownBytes.{Appends};
-ghost use Rattle.bac_client.specs.Views.{ending_view};
+ghost use Rattle.bac_ticket.specs.Views.{ending_view};
 ghost use Rattle.bac_facts.specs.Texts.{ending_text};
 
 use crate::reply::print_reply;
-use bac_client::Ending;
+use bac_ticket::Ending;
 use std::alloc::Global;
 use std::io;
 use std::io::Write;

@@ -1,11 +1,11 @@
 //! Facts, one a line.
 ghost use Rattle.std.specs.Prelude.{OnOk};
 ghost use Rattle.std.specs.Io.KnownBytes.{Appends};
-ghost use Rattle.bac_client.specs.Views.{ending_view};
+ghost use Rattle.bac_ticket.specs.Views.{ending_view};
 ghost use Rattle.bac_facts.specs.Texts.{asked_line, ended_line, fault_line, nothing_line, performed_line, refused_line, sent_line};
 
 use crate::ending::print_ending;
-use bac_client::Ending;
+use bac_ticket::Ending;
 use std::alloc::Global;
 use std::io;
 use std::io::Write;

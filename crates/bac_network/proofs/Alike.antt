@@ -6,8 +6,8 @@ use Rattle.bac_protocol.specs.Service.{Octets}
 use Rattle.bac_store.specs.Stores.{Store}
 use Rattle.bac_world.specs.Node.{Node}
 use Rattle.bac_world.specs.World.{link_at}
-use Rattle.bac_simulation.specs.Journals.{AreSame}
-use Rattle.bac_simulation.specs.Views.{AreLinks}
+use Rattle.bac_journal.specs.Journals.{AreSame}
+use Rattle.bac_journal.specs.Views.{AreLinks}
 use Rattle.bac_network.specs.Histories.{WorldView, view_of}
 use Rattle.bac_network.specs.Views.{fact_view}
 use Rattle.bac_network.specs.declared.network.Network.{Network}

@@ -16,9 +16,9 @@ use Rattle.bac_world.specs.Once.{Fact}
 use Rattle.bac_world.specs.World.{Event, IsAsked, IsRefused, IsWithNode, link_at, peer_at}
 use Rattle.bac_world.specs.World.Event.{Ask}
 use Rattle.bac_world.proofs.Asking.{accepted_is}
-use Rattle.bac_simulation.specs.Growing.{BecomeCopies}
-use Rattle.bac_simulation.specs.Journals.{JournalView, NoteRoom}
-use Rattle.bac_simulation.specs.Views.{AreLinks}
+use Rattle.bac_journal.specs.Growing.{BecomeCopies}
+use Rattle.bac_journal.specs.Journals.{JournalView, NoteRoom}
+use Rattle.bac_journal.specs.Views.{AreLinks}
 use Rattle.bac_network.specs.Asks.{CanAsk, CanBeNoted, IsNotedAsk, TellsFault}
 use Rattle.bac_network.specs.Goings.{Goes}
 use Rattle.bac_network.specs.Networks.{world_of}

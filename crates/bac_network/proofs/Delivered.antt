@@ -12,9 +12,9 @@ use Rattle.bac_world.specs.World.{World, Copy, DeliversIf, IsDelivered, IsNoise,
 use Rattle.bac_world.specs.World.{is_deliverable}
 use Rattle.bac_world.specs.World.Event.{Deliver}
 use Rattle.bac_world.proofs.Pairs.{append_none}
-use Rattle.bac_simulation.specs.Entering.{CanEnter, CanGoOn}
-use Rattle.bac_simulation.specs.Journals.{JournalView}
-use Rattle.bac_simulation.specs.Views.{AreLinks}
+use Rattle.bac_journal.specs.Entering.{CanEnter, CanGoOn}
+use Rattle.bac_journal.specs.Journals.{JournalView}
+use Rattle.bac_journal.specs.Views.{AreLinks}
 use Rattle.bac_network.specs.Entries.{CanBeEntered, IsEntered, performances}
 use Rattle.bac_network.specs.Goings.{Arrives, Goes, IsBetween, IsDue, IsHeardCopy}
 use Rattle.bac_network.specs.Networks.{world_of, world_with, AreAlike, IsReady}

@@ -8,11 +8,11 @@ use Rattle.bac_world.specs.Once as once
 use Rattle.bac_world.specs.Once.Fact.{Ended}
 use Rattle.bac_world.specs.Services.{Performed}
 use Rattle.bac_world.specs.World.{World, Note, Acts, AreEnded, IsWithNode, newest}
-use Rattle.bac_simulation.specs.Entering.{Every, AreOfClient, CanBeCopied, CanEnter}
-use Rattle.bac_simulation.specs.Growing.{CanBecome}
-use Rattle.bac_simulation.specs.Journals.{JournalView}
-use Rattle.bac_simulation.specs.Notes.{note_view, notes_view}
-use Rattle.bac_simulation.specs.declared.noting.Note as code
+use Rattle.bac_journal.specs.Entering.{Every, AreOfClient, CanBeCopied, CanEnter}
+use Rattle.bac_journal.specs.Growing.{CanBecome}
+use Rattle.bac_journal.specs.Journals.{JournalView}
+use Rattle.bac_journal.specs.Notes.{note_view, notes_view}
+use Rattle.bac_journal.specs.declared.noting.Note as code
 use Rattle.bac_network.specs.Entries.{AreNoted, CanBeEntered, HaveClient, IsEntered}
 use Rattle.bac_network.specs.Networks.{world_of, world_with, IsReady}
 use Rattle.bac_network.specs.Views.{fact_view, log_view}

@@ -7,8 +7,8 @@ use Rattle.bac_world.specs.Once.{Fact, Stores, IsOnce}
 use Rattle.bac_world.specs.World.{World, Event, WorldStep, WorldRun, IsFresh, IsBounded, link_at, stores_of}
 use Rattle.bac_world.proofs.Claims.{ended_once, performed_once, replayed}
 use Rattle.bac_world.proofs.Headline.{run_over, rules_of, rules_bounded, fresh_over, headline}
-use Rattle.bac_simulation.specs.Views.{AreLinks}
-use Rattle.bac_simulation.proofs.GoingOn.{runs_can_go_on}
+use Rattle.bac_journal.specs.Views.{AreLinks}
+use Rattle.bac_journal.proofs.GoingOn.{runs_can_go_on}
 use Rattle.bac_network.specs.Histories.{WorldView, HasRun, IsKept, IsOnceNow, ArePerformedOnceNow, AreEndedOnceNow, AreReplayedNow}
 use Rattle.bac_network.specs.Histories.{opening_stores, view_of}
 use Rattle.bac_network.specs.Networks.{world_of, IsReady}

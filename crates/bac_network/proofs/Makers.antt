@@ -9,9 +9,9 @@ use Rattle.bac_node.specs.Fresh.{fresh_node, has_slots, window_fits}
 use Rattle.bac_world.specs.Node.{Node}
 use Rattle.bac_world.specs.World.{World, IsFresh, IsFreshNode, IsBounded, link_at, stores_of}
 use Rattle.bac_world.proofs.Steps.{decide_number}
-use Rattle.bac_simulation.specs.Entering.{Every}
-use Rattle.bac_simulation.specs.Journals.{JournalView}
-use Rattle.bac_simulation.specs.Views.{AreLinks}
+use Rattle.bac_journal.specs.Entering.{Every}
+use Rattle.bac_journal.specs.Journals.{JournalView}
+use Rattle.bac_journal.specs.Views.{AreLinks}
 use Rattle.bac_network.specs.Fresh.{Maker, fresh_world, greatest_window, links_of, nodes_of, opening_of}
 use Rattle.bac_network.specs.Fresh.{HasBadSlots, HasBadWindow, HaveSameLink, IsGood, IsRight, IsTaken}
 use Rattle.bac_network.specs.Histories.{WorldView, IsKept, view_of}

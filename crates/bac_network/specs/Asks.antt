@@ -7,10 +7,10 @@ use Rattle.bac_service.specs.Values.{Request}
 use Rattle.bac_world.specs.Node.{Node}
 use Rattle.bac_world.specs.Once.{Fact}
 use Rattle.bac_world.specs.Once.Fact.{Asked}
-use Rattle.bac_simulation.specs.Entering.{asks_by}
-use Rattle.bac_simulation.specs.Growing.{BecomeCopies, CanBecome}
-use Rattle.bac_simulation.specs.Journals.{HasNoteRoom, JournalView}
-use Rattle.bac_simulation.specs.Views.{AreLinks}
+use Rattle.bac_journal.specs.Entering.{asks_by}
+use Rattle.bac_journal.specs.Growing.{BecomeCopies, CanBecome}
+use Rattle.bac_journal.specs.Journals.{HasNoteRoom, JournalView}
+use Rattle.bac_journal.specs.Views.{AreLinks}
 use Rattle.bac_network.specs.Networks.{HasRoom, IsReady}
 use Rattle.bac_network.specs.declared.fault.WorldFault.{WorldFault}
 use Rattle.bac_network.specs.declared.fault.WorldFault.TheVariants as fault

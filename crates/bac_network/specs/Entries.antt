@@ -5,10 +5,10 @@ use Rattle.bac_world.specs.Once.{Fact}
 use Rattle.bac_world.specs.Services.{Performed}
 use Rattle.bac_world.specs.World.{Note, newest, ask_of, AreEnded, AreLogged}
 use Rattle.bac_ends.specs.Meanings.{Finish}
-use Rattle.bac_simulation.specs.Entering.{Every}
-use Rattle.bac_simulation.specs.Growing.{BecomeCopies, CanBecome}
-use Rattle.bac_simulation.specs.Journals.{JournalView}
-use Rattle.bac_simulation.specs.Views.{AreLinks}
+use Rattle.bac_journal.specs.Entering.{Every}
+use Rattle.bac_journal.specs.Growing.{BecomeCopies, CanBecome}
+use Rattle.bac_journal.specs.Journals.{JournalView}
+use Rattle.bac_journal.specs.Views.{AreLinks}
 
 -- the endings of a node's tickets have the numbers of asks
 abbrev pub AreNoted : List Note → (node : ℕ) → List Finish → Type 0

@@ -5,7 +5,7 @@ use Rattle.bac_store.specs.Stores.{Store}
 use Rattle.bac_world.specs.Claims.{AreEndedOnce, ArePerformedOnce, AreReplayed}
 use Rattle.bac_world.specs.Once.{Stores, IsOnce}
 use Rattle.bac_world.specs.World.{World, Event, WorldRun, IsFresh, IsBounded, stores_of}
-use Rattle.bac_simulation.specs.Views.{AreLinks}
+use Rattle.bac_journal.specs.Views.{AreLinks}
 use Rattle.bac_network.specs.Networks.{world_of}
 use Rattle.bac_network.specs.declared.network.Network.{Network}
 

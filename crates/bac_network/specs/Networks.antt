@@ -4,9 +4,9 @@ use Rattle.bac_protocol.specs.Service.{Octets}
 use Rattle.bac_world.specs.Node.{Node}
 use Rattle.bac_world.specs.Once.{Fact}
 use Rattle.bac_world.specs.World.{World}
-use Rattle.bac_simulation.specs.Entering.{CanGoOn}
-use Rattle.bac_simulation.specs.Journals.{JournalView}
-use Rattle.bac_simulation.specs.Views.{AreLinks}
+use Rattle.bac_journal.specs.Entering.{CanGoOn}
+use Rattle.bac_journal.specs.Journals.{JournalView}
+use Rattle.bac_journal.specs.Views.{AreLinks}
 use Rattle.bac_network.specs.Views.{log_view}
 use Rattle.bac_network.specs.declared.network.Network.{Network}
 

@@ -2,14 +2,14 @@
 ghost use Rattle.std.specs.Prelude.{◌≡◌, ◌+◌, ◌<◌, ◌≤◌, List, length, vec_capacity};
 ghost use Rattle.bac_node.specs.Views.{outcome_view};
 ghost use Rattle.bac_world.specs.Node.{Node};
-ghost use Rattle.bac_simulation.specs.Views.{AreLinks};
+ghost use Rattle.bac_journal.specs.Views.{AreLinks};
 ghost use Rattle.bac_network.specs.Entries.{CanBeEntered, IsEntered, performances};
 ghost use Rattle.bac_network.specs.Views.{log_view};
 
 use crate::fact::Fact;
 use crate::logging::{log_endings, log_performed};
 use bac_node::Outcome;
-use bac_simulation::Journal;
+use bac_journal::Journal;
 
 /// What comes of a node's call enters: what it sends becomes copies, and what has ended and what was performed comes into the log, for all of which there is
 /// room. It takes no memory.

@@ -1,5 +1,5 @@
 //! What is logged.
-use bac_client::Ending;
+use bac_ticket::Ending;
 use bac_comparing::{Alike, same_ending, same_reply, same_request};
 use bac_service::{OwnedReply, OwnedRequest};
 

@@ -15,7 +15,7 @@ use bac_node::{Node, NodeFault, Outcome};
 use bac_npdu::Peer;
 use bac_requester::{AskFault, Asked};
 use bac_service::OwnedRequest;
-use bac_simulation::Journal;
+use bac_journal::Journal;
 use bac_value::NoMemory;
 
 /// A node hears a datagram from a link, at a moment that is not before its latest.

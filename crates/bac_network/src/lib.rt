@@ -17,7 +17,7 @@ mod noise;
 mod ticking;
 mod world;
 
-pub use bac_simulation::{Copy, Note, Transaction};
+pub use bac_journal::{Copy, Note, Transaction};
 pub use event::Event;
 pub use fact::Fact;
 pub use fault::{NewWorldFault, RunFault, WorldFault};

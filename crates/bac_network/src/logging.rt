@@ -5,15 +5,15 @@ ghost use Rattle.bac_node.specs.Views.{performed_view};
 ghost use Rattle.bac_requester.specs.Views.{finish_view};
 ghost use Rattle.bac_world.specs.Node.{Node};
 ghost use Rattle.bac_world.specs.World.{AreEnded, AreLogged, IsLogged};
-ghost use Rattle.bac_simulation.specs.Views.{AreLinks};
+ghost use Rattle.bac_journal.specs.Views.{AreLinks};
 ghost use Rattle.bac_network.specs.Entries.{AreNoted, HasClient, HaveClient, performances};
 ghost use Rattle.bac_network.specs.Views.{log_view};
 
 use crate::fact::Fact;
 use bac_requester::Finish;
 use bac_responder::Act;
-use bac_server::Effect;
-use bac_simulation::{Journal, Transaction};
+use bac_entry::Effect;
+use bac_journal::{Journal, Transaction};
 
 /// The ending of a node's ticket comes into the log, which has room for it.
 fn log_ending(log: &mut Vec<Fact>, journal: &Journal, node: usize, finish: Finish)

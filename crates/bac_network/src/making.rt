@@ -1,7 +1,7 @@
 //! Worlds to which nothing has happened.
 ghost use Rattle.std.specs.Prelude.{◌≡◌, ◌↔◌, ◌<◌, ◌+◌, ◌*◌, ◌≤◌, IfErr, IfOk, IfSome, IsTrue, None, OnOk, length};
 ghost use Rattle.bac_node.specs.Fresh.{fresh_node, has_slots, window_fits};
-ghost use Rattle.bac_simulation.specs.Entering.{Every};
+ghost use Rattle.bac_journal.specs.Entering.{Every};
 ghost use Rattle.bac_network.specs.Fresh.{fresh_world, greatest_window, links_of, nodes_of, opening_of};
 ghost use Rattle.bac_network.specs.Fresh.{HasBadSlots, HasBadWindow, HaveSameLink, IsGood, IsRefusedFor, IsRight, IsTaken};
 
@@ -9,7 +9,7 @@ use crate::fault::NewWorldFault;
 use crate::network::Network;
 use crate::world::World;
 use bac_node::{Config, NewNodeFault, Node};
-use bac_simulation::Journal;
+use bac_journal::Journal;
 use bac_store::Store;
 use bac_value::NoMemory;
 use std::alloc::Global;

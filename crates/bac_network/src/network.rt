@@ -9,7 +9,7 @@ use crate::fact::Fact;
 use crate::fault::WorldFault;
 use bac_node::Node;
 use bac_requester::AskFault;
-use bac_simulation::Journal;
+use bac_journal::Journal;
 use bac_value::NoMemory;
 use std::alloc::Global;
 

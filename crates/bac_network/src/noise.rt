@@ -2,7 +2,7 @@
 ghost use Rattle.std.specs.Prelude.{◌≡◌, ◌<◌, ℕ, length};
 ghost use Rattle.bac_world.specs.World.{HearsNoise, IsNoise};
 ghost use Rattle.bac_world.specs.World.Event.{Noise};
-ghost use Rattle.bac_simulation.specs.Views.{AreLinks};
+ghost use Rattle.bac_journal.specs.Views.{AreLinks};
 ghost use Rattle.bac_network.specs.Goings.{ArePunctual};
 ghost use Rattle.bac_network.specs.Networks.{world_of};
 ghost use Rattle.bac_network.specs.Steps.{Happens};

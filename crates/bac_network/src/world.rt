@@ -1,8 +1,8 @@
 //! A world.
 ghost use Rattle.std.specs.Prelude.{◌≡◌, ◌↔◌, ℕ, IsErrOf, IsTrue, IfErr, IfOk, OnErr, OnOk, MatchOption, MatchResult, None, Some, length, map, slice_get, take};
 ghost use Rattle.bac_world.specs.World.{WorldRun, WorldStep, stores_of};
-ghost use Rattle.bac_simulation.specs.Notes.{notes_view};
-ghost use Rattle.bac_simulation.specs.Views.{copy_view};
+ghost use Rattle.bac_journal.specs.Notes.{notes_view};
+ghost use Rattle.bac_journal.specs.Views.{copy_view};
 ghost use Rattle.bac_network.specs.Histories.{AreEndedOnceNow, ArePerformedOnceNow, AreReplayedNow, HasHistory, IsOnceNow};
 ghost use Rattle.bac_network.specs.Steps.{NamesNoCopy, NamesNoNode, PassesClock, TakesMemory, Tells};
 ghost use Rattle.bac_network.specs.Runs.{StopsAt};
@@ -15,7 +15,7 @@ use crate::network::Network;
 use bac_comparing::are_alike;
 use bac_node::Node;
 use bac_requester::AskFault;
-use bac_simulation::{Copy, Note};
+use bac_journal::{Copy, Note};
 use bac_store::Store;
 use std::alloc::Global;
 use std::marker::Model;

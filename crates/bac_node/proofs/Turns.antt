@@ -10,8 +10,8 @@ use Rattle.bac_ends.specs.Ends as ends
 use Rattle.bac_ends.specs.Ends.{ServerTurn, clients_tick, server_hears, servers_tick}
 use Rattle.bac_ends.specs.Meanings.{Finish, IsFinish}
 use Rattle.bac_ends.specs.Sends.{Datagram, IsSent, Pairwise}
-use Rattle.bac_server.specs.Services as server
-use Rattle.bac_server.specs.Services.{service_of}
+use Rattle.bac_entry.specs.Services as server
+use Rattle.bac_entry.specs.Services.{service_of}
 use Rattle.bac_requester.specs.Turns as requester
 use Rattle.bac_requester.specs.Views.{Requester, finish_view}
 use Rattle.bac_requester.specs.declared.turn.Due.{Due}

@@ -29,7 +29,7 @@ use bac_ends::{PeerKey, Settings};
 use bac_npdu::Peer;
 use bac_requester::{AskFault, Asked, Client, Due, Finish, Requester, Turn};
 use bac_responder::{Responder, Served};
-use bac_server::Entry;
+use bac_entry::Entry;
 use bac_service::OwnedRequest;
 use bac_slots::IndexSlots;
 use bac_store::{Store, replies_can_be_sent};

@@ -1,6 +1,6 @@
 //! Nodes, datagram by datagram. Here is what the tests share.
 use bac_apdu::Limits;
-use bac_client::Ending;
+use bac_ticket::Ending;
 use bac_ends::Datagram;
 use bac_node::{Config, NewNodeFault, Node, NodeFault, Outcome};
 use bac_npdu::Peer;

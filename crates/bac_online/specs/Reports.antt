@@ -5,9 +5,9 @@ use Rattle.bac_protocol.specs.Service.{Octets}
 use Rattle.bac_link.specs.Calls.{Calls}
 use Rattle.bac_link.specs.Moments.{Told}
 use Rattle.bac_requester.specs.Faults.{ask_fault_number}
-use Rattle.bac_client.specs.Views.{ending_view}
-use Rattle.bac_client.specs.declared.ending.Ending.{Ending}
-use Rattle.bac_client.specs.declared.ending.Ending.TheVariants as ending
+use Rattle.bac_ticket.specs.Views.{ending_view}
+use Rattle.bac_ticket.specs.declared.ending.Ending.{Ending}
+use Rattle.bac_ticket.specs.declared.ending.Ending.TheVariants as ending
 use Rattle.bac_world.specs.Node.{Node}
 use Rattle.bac_facts.specs.Texts.{ending_text, line_end, refused_line}
 use Rattle.bac_text.specs.declared.status.Status.{Status}

@@ -22,11 +22,11 @@ use Rattle.bac_ends.specs.declared.peer_key.PeerKey.{PeerKey}
 use Rattle.bac_ends.proofs.Keyed.{value_viewed, put_viewed, filter_viewed}
 use Rattle.bac_service.specs.Spellings.{request_spelling}
 use Rattle.bac_service.specs.Values.{Request, choice_of}
-use Rattle.bac_client.specs.Requests.{ask_at, request_by}
-use Rattle.bac_client.specs.Views.{fault_view, way_view}
-use Rattle.bac_client.specs.declared.outgoing_request.RequestFault.{RequestFault}
-use Rattle.bac_client.specs.declared.outgoing_request.RequestWay.{RequestWay}
-use Rattle.bac_client.specs.declared.outgoing_request.RequestWay.TheVariants as way
+use Rattle.bac_ticket.specs.Requests.{ask_at, request_by}
+use Rattle.bac_ticket.specs.Views.{fault_view, way_view}
+use Rattle.bac_ticket.specs.declared.outgoing_request.RequestFault.{RequestFault}
+use Rattle.bac_ticket.specs.declared.outgoing_request.RequestWay.{RequestWay}
+use Rattle.bac_ticket.specs.declared.outgoing_request.RequestWay.TheVariants as way
 use Rattle.bac_requester.specs.Turns.{Asks, AsksTable, MayBegin}
 use Rattle.bac_requester.specs.Views.{Requester}
 use Rattle.bac_requester.specs.declared.asking.Asked.{Asked}

@@ -28,7 +28,7 @@ use Rattle.bac_ends.specs.Meanings.{Finish, IsFinish}
 use Rattle.bac_ends.specs.Sends.{Datagram, IsSent, Pairwise, to_all}
 use Rattle.bac_ends.specs.Views.{slots_view}
 use Rattle.bac_ends.specs.declared.peer_key.PeerKey.{PeerKey}
-use Rattle.bac_client.specs.Timers.{IsHeldQuiet, IsQuiet, wait_of}
+use Rattle.bac_ticket.specs.Timers.{IsHeldQuiet, IsQuiet, wait_of}
 use Rattle.bac_requester.specs.Timers.{AreQuiet}
 use Rattle.bac_requester.specs.Turns.{AsksTable, HearsTable, IsTold}
 use Rattle.bac_requester.specs.declared.ask_fault.AskFault.{AskFault}

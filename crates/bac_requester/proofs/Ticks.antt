@@ -13,7 +13,7 @@ use Rattle.bac_ends.specs.Sends.{Pairwise}
 use Rattle.bac_ends.specs.Views.{code_key_cmp, code_same_key, peer_key_view, slot_view, slots_view}
 use Rattle.bac_ends.specs.declared.peer_key.PeerKey.{PeerKey}
 use Rattle.bac_ends.proofs.Keyed.{in_order_viewed}
-use Rattle.bac_client.specs.Timers.{IsHeldQuiet}
+use Rattle.bac_ticket.specs.Timers.{IsHeldQuiet}
 use Rattle.bac_requester.specs.Turns.{changed, ticked_at, ticked_there, value_ticked}
 use Rattle.bac_requester.specs.Views.{Requester, end_of}
 use Rattle.bac_requester.proofs.Quiet.{held_stays}

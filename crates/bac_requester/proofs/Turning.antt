@@ -18,11 +18,11 @@ use Rattle.bac_ends.specs.Sends.{Datagram, IsSent, Pairwise, to_all}
 use Rattle.bac_ends.specs.Views.{code_same_key, peer_key_view, settings_view, slots_view}
 use Rattle.bac_ends.specs.declared.peer_key.PeerKey.{PeerKey}
 use Rattle.bac_ends.proofs.Keyed.{value_viewed, with_value_viewed}
-use Rattle.bac_client.specs.Reacts.{IsReaction, MeansEnd}
+use Rattle.bac_ticket.specs.Reacts.{IsReaction, MeansEnd}
 use Rattle.bac_ends.specs.Views.{context_view}
-use Rattle.bac_client.specs.Views.{ending_view, held_view}
+use Rattle.bac_ticket.specs.Views.{ending_view, held_view}
 use Rattle.bac_ends.specs.declared.context.Context.{Context}
-use Rattle.bac_client.specs.declared.reaction.Reaction.{Reaction}
+use Rattle.bac_ticket.specs.declared.reaction.Reaction.{Reaction}
 use Rattle.bac_npdu.specs.Peers.{PeerView}
 use Rattle.bac_value.specs.declared.memory.NoMemory.{NoMemory}
 use Rattle.bac_requester.specs.Turns.{Hears, HearsTable, IsTold, finishes_with, hears_key}

@@ -5,7 +5,7 @@ use Rattle.bac_segment.specs.Limits.{DATA}
 use Rattle.bac_segment.specs.Pieces.{join}
 use Rattle.bac_protocol.specs.Client.{Ticket}
 use Rattle.bac_ends.specs.Ends.{ClientSlot, Held}
-use Rattle.bac_client.specs.Reacts.{parts_taken}
+use Rattle.bac_ticket.specs.Reacts.{parts_taken}
 
 -- a ticket keeps at most 65,535 octets of its reply, in at most 65,535 segments
 pub record IsReplyShort (t : Ticket) : Type 0 where

@@ -6,7 +6,7 @@ use Rattle.bac_ends.specs.Ends.{Client, ClientEnd}
 use Rattle.bac_ends.specs.Meanings as meanings
 use Rattle.bac_ends.specs.Views.{slots_view}
 use Rattle.bac_ends.specs.declared.peer_key.PeerKey.{PeerKey}
-use Rattle.bac_client.specs.Views.{ending_view}
+use Rattle.bac_ticket.specs.Views.{ending_view}
 use Rattle.bac_requester.specs.declared.turn.Finish.{Finish}
 
 -- a client's end with its node's link and settings

@@ -1,10 +1,10 @@
 //! The value of a slot.
 ghost use Rattle.std.specs.Prelude.{◌≡◌};
 ghost use Rattle.bac_ends.specs.Ends.{is_held};
-ghost use Rattle.bac_client.specs.Timers.{IsHeldQuiet};
+ghost use Rattle.bac_ticket.specs.Timers.{IsHeldQuiet};
 ghost use Rattle.bac_requester.specs.Short.{IsHeldShort};
 
-use bac_client::Held;
+use bac_ticket::Held;
 use bac_slots::{Same, Test};
 use std::marker::Model;
 
@@ -20,7 +20,7 @@ impl Model for Client {
 
     ghost Value = { ends.Client };
 
-    ghost use Rattle.bac_client.specs.Views.{held_view};
+    ghost use Rattle.bac_ticket.specs.Views.{held_view};
 
     ghost view = { λ c. record { number = c.number; held = held_view c.held } };
 }

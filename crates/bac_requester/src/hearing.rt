@@ -1,7 +1,7 @@
 //! An APDU comes for a key.
 ghost use Rattle.std.specs.Prelude.{◌≡◌, ℕ, []};
 ghost use Rattle.std.specs.Option.{option_map};
-ghost use Rattle.bac_client.specs.Views.{ending_view};
+ghost use Rattle.bac_ticket.specs.Views.{ending_view};
 ghost use Rattle.bac_apdu.specs.Views.{apdu_view};
 ghost use Rattle.bac_ends.specs.Views.{peer_key_view, settings_view};
 ghost use Rattle.bac_requester.specs.Turns.{HearsTable, finishes_with, hears_key};
@@ -10,7 +10,7 @@ ghost use Rattle.bac_requester.specs.Views.{end_of, finishes_of};
 use crate::client::Client;
 use crate::turn::{Finish, Turn};
 use bac_apdu::Apdu;
-use bac_client::{Ending, Held, Reaction};
+use bac_ticket::{Ending, Held, Reaction};
 use bac_ends::{Context, Datagram, PeerKey};
 use bac_slots::SlotTable;
 use bac_value::NoMemory;

@@ -11,7 +11,7 @@ ghost use Rattle.bac_ends.specs.Ends.{CannotGo, client_asks, client_hears, clien
 ghost use Rattle.bac_ends.specs.Tables.{IsOrderlyClient};
 ghost use Rattle.bac_ends.specs.Ends.AskOutcome.{Refused};
 ghost use Rattle.bac_ends.specs.Views.{settings_view};
-ghost use Rattle.bac_client.specs.Views.{fault_view};
+ghost use Rattle.bac_ticket.specs.Views.{fault_view};
 ghost use Rattle.bac_requester.specs.Short.{AreRepliesShort};
 ghost use Rattle.bac_requester.specs.Turns.{Asks, Hears, IsDue, Refuses};
 ghost use Rattle.bac_requester.specs.Views.{Requester as Requesting};
@@ -25,7 +25,7 @@ use crate::short::replies_are_short;
 use crate::ticking::{at_the_earliest, commit, first_due, nothing_due, prepare};
 use crate::turn::{Due, Turn};
 use bac_apdu::{Apdu, Limits};
-use bac_client::{RequestFault, RequestWay};
+use bac_ticket::{RequestFault, RequestWay};
 use bac_ends::{Context, PeerKey, Settings, invoke_id_of};
 use bac_npdu::Peer;
 use bac_service::{OwnedRequest, Request, request_len};

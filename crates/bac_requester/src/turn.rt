@@ -1,5 +1,5 @@
 //! What a call makes a client's end send and end.
-use bac_client::Ending;
+use bac_ticket::Ending;
 use bac_ends::Datagram;
 
 /// A ticket has ended.

@@ -2,7 +2,7 @@
 ghost use Rattle.std.specs.Prelude.{◌<◌};
 
 use bac_apdu::{Limits, Window, read};
-use bac_client::Ending;
+use bac_ticket::Ending;
 use bac_ends::{Datagram, PeerKey, Settings};
 use bac_npdu::Peer;
 use bac_requester::{AskFault, Client, Due, Finish, Requester, Turn};

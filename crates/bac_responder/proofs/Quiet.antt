@@ -16,8 +16,8 @@ use Rattle.bac_ends.specs.Keys.{PeerKey, peer_key_cmp, same_key}
 use Rattle.bac_ends.specs.Sends.{Datagram, IsSent, Pairwise, Send, to_all}
 use Rattle.bac_ends.specs.Views.{context_view, peer_key_view, slots_view}
 use Rattle.bac_ends.specs.declared.context.Context as code
-use Rattle.bac_server.specs.Services.{service_of}
-use Rattle.bac_server.specs.Timers.{IsQuiet, IsStateQuiet}
+use Rattle.bac_entry.specs.Services.{service_of}
+use Rattle.bac_entry.specs.Timers.{IsQuiet, IsStateQuiet}
 use Rattle.bac_responder.specs.Tables.{TableSlot}
 use Rattle.bac_responder.specs.Timers.{AreQuiet}
 use Rattle.bac_responder.specs.Views.{Serves, turn_of}

@@ -14,7 +14,7 @@ use Rattle.bac_protocol.specs.Sizes.{Way, reply_way_of}
 use Rattle.bac_protocol.specs.Sizes.Way.{InOne, InSegments, Refused}
 use Rattle.bac_protocol.specs.Server as server
 use Rattle.bac_protocol.specs.Server.{Entry, Reaction, Service, State, Transfer, is_kept, is_live, server_abort, server_gets, rests}
-use Rattle.bac_server.specs.Timers.{IsQuiet, IsStateQuiet}
+use Rattle.bac_entry.specs.Timers.{IsQuiet, IsStateQuiet}
 
 pub state_earlier : (d e : ℕ) (s : State) → e ≤ d → IsStateQuiet d s → IsStateQuiet e s
 state_earlier d e (State.SegmentedRequest inc since) le q = omega (arith, le, q)

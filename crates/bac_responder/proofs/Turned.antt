@@ -18,8 +18,8 @@ use Rattle.bac_protocol.proofs.Served.{live_stays_law}
 use Rattle.bac_ends.specs.Keys.{PeerKey, same_key}
 use Rattle.bac_ends.specs.Ends.{ServerSlot, ServerEnd, ServerTurn, set_or_put, put_entry, act_at, server_goes}
 use Rattle.bac_ends.specs.Sends.{Datagram, Pairwise, IsSent}
-use Rattle.bac_server.specs.Services.{Performed, ArePerformed, store_after}
-use Rattle.bac_server.specs.Reactions.{IsReaction, IsStill}
+use Rattle.bac_entry.specs.Services.{Performed, ArePerformed, store_after}
+use Rattle.bac_entry.specs.Reactions.{IsReaction, IsStill}
 use Rattle.bac_responder.specs.Turns.{Acted, AreActed, IsServed, acted_of, performed_by}
 use Rattle.bac_responder.specs.Views.{turn_of, Serves}
 use Rattle.bac_responder.specs.declared.served.Served.{Served}

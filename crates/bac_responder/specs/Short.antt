@@ -5,7 +5,7 @@ use Rattle.bac_segment.specs.Limits.{DATA}
 use Rattle.bac_segment.specs.Pieces.{join}
 use Rattle.bac_protocol.specs.Server.{Entry}
 use Rattle.bac_ends.specs.Ends.{ServerSlot}
-use Rattle.bac_server.specs.Reactions.{parts_taken}
+use Rattle.bac_entry.specs.Reactions.{parts_taken}
 
 -- an entry keeps at most 65,535 octets of its request, in at most 65,535 segments
 pub record IsRequestShort (e : Entry) : Type 0 where

@@ -1,6 +1,6 @@
 -- The moments between which a tick of the server's end finds nothing to do.
 use Rattle.std.specs.Prelude.{ℕ, List, [], ◌∷◌}
-use Rattle.bac_server.specs.Timers.{IsQuiet}
+use Rattle.bac_entry.specs.Timers.{IsQuiet}
 use Rattle.bac_ends.specs.Ends.{ServerSlot}
 
 -- a tick from the one moment on and before the other finds nothing to do for any of the entries

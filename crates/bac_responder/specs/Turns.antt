@@ -5,7 +5,7 @@ use Rattle.bac_protocol.specs.Context.{Settings}
 use Rattle.bac_ends.specs.Keys.{PeerKey}
 use Rattle.bac_ends.specs.Sends.{Datagram, Pairwise, IsSent}
 use Rattle.bac_ends.specs.Ends.{Act, ServerEnd, ServerTurn}
-use Rattle.bac_server.specs.Services.{Performed, IsPerformed, store_after}
+use Rattle.bac_entry.specs.Services.{Performed, IsPerformed, store_after}
 
 -- the server's end with its node's settings
 pub record Serving : Type 0 where

@@ -4,7 +4,7 @@ use Rattle.std.specs.Option.{option_map}
 use Rattle.bac_slots.specs.declared.slot.Slot.{Slot}
 use Rattle.bac_slots.specs.Slots.{value_at}
 use Rattle.bac_apdu.specs.Apdu.{Apdu}
-use Rattle.bac_server.specs.Services.{service_of}
+use Rattle.bac_entry.specs.Services.{service_of}
 use Rattle.bac_ends.specs.declared.context.Context as code
 use Rattle.bac_ends.specs.Keys.{same_key}
 use Rattle.bac_store.specs.Stores.{Store}
@@ -14,7 +14,7 @@ use Rattle.bac_ends.specs.Ends.{ServerEnd, ServerTurn, is_free, server_goes}
 use Rattle.bac_ends.specs.Views.{peer_key_view, slots_view}
 use Rattle.bac_ends.specs.declared.peer_key.PeerKey.{PeerKey}
 use Rattle.bac_ends.specs.Views.{context_view}
-use Rattle.bac_server.specs.Views.{effect_view}
+use Rattle.bac_entry.specs.Views.{effect_view}
 use Rattle.bac_responder.specs.Turns.{Acted, IsServed}
 use Rattle.bac_responder.specs.declared.served.Act.{Act}
 use Rattle.bac_responder.specs.declared.served.Served.{Served}

@@ -1,7 +1,7 @@
 //! The test whether an entry is live.
 ghost use Rattle.bac_protocol.specs.Server.{is_live};
 
-use bac_server::Entry;
+use bac_entry::Entry;
 use bac_slots::Test;
 
 /// Entries pass that are live at that moment, in milliseconds.

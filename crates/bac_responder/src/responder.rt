@@ -6,7 +6,7 @@ ghost use Rattle.bac_ends.specs.Ends.{is_slot_live, server_hears, servers_tick};
 ghost use Rattle.bac_ends.specs.Tables.{IsOrderlyServer};
 ghost use Rattle.bac_ends.specs.Sends.{Pairwise, IsSent};
 ghost use Rattle.bac_ends.specs.Views.{settings_view};
-ghost use Rattle.bac_server.specs.Services.{service_of};
+ghost use Rattle.bac_entry.specs.Services.{service_of};
 ghost use Rattle.bac_responder.specs.Short.{AreRequestsShort};
 ghost use Rattle.bac_responder.specs.Views.{end_of, Serves};
 
@@ -18,7 +18,7 @@ use crate::ticking::{at_the_earliest, commit_all, first_due, is_quiet, nothing_d
 use bac_apdu::Apdu;
 use bac_ends::{Context, Datagram, PeerKey, Settings, invoke_id_of};
 use bac_npdu::Peer;
-use bac_server::Entry;
+use bac_entry::Entry;
 use bac_slots::{SlotTable, count_passing, same_tables};
 use bac_store::Store;
 use bac_value::NoMemory;

@@ -1,6 +1,6 @@
 //! What an APDU made of the server's end.
 use bac_ends::{Datagram, PeerKey};
-use bac_server::Effect;
+use bac_entry::Effect;
 
 /// A request was performed, for that transaction.
 #[derive(Drop)]

@@ -5,7 +5,7 @@ ghost use Rattle.bac_responder.specs.Short.{AreRequestsShort, IsRequestShort};
 ghost use Rattle.bac_responder.specs.Tables.{TableSlot};
 
 use bac_ends::PeerKey;
-use bac_server::Entry;
+use bac_entry::Entry;
 use bac_slots::SlotTable;
 
 /// The n-th slot in order of putting keeps at most 65,535 octets of a request, in at most 65,535 segments.

@@ -11,7 +11,7 @@ ghost use Rattle.bac_responder.specs.Views.{end_of};
 use crate::live_at::LiveAt;
 use crate::order::last_dead;
 use bac_ends::PeerKey;
-use bac_server::Entry;
+use bac_entry::Entry;
 use bac_slots::{SlotTable, count_passing, has_room_once_swept, sweep, sweep_oldest};
 
 /// Whether a slot has no live entry. Where the slots are in order, no entry is looked at but the oldest, and it only where all slots are used.

@@ -6,14 +6,14 @@ ghost use Rattle.bac_ends.specs.Ends.{entry_or, server_tick_sends, servers_tick}
 ghost use Rattle.bac_ends.specs.Sends.{Pairwise, IsSent};
 ghost use Rattle.bac_ends.specs.Views.{context_view, settings_view, slot_view, slots_view, code_key_cmp, code_same_key};
 ghost use Rattle.bac_protocol.specs.declared.times.TheConstants.{T_SEG as SHORTEST_WAIT};
-ghost use Rattle.bac_server.specs.Timers.{IsQuiet};
+ghost use Rattle.bac_entry.specs.Timers.{IsQuiet};
 ghost use Rattle.bac_responder.specs.Tables.{TableSlot, given, ticked};
 ghost use Rattle.bac_responder.specs.Timers.{AreQuiet};
 ghost use Rattle.bac_responder.specs.Views.{end_of};
 
 use bac_ends::{Context, Datagram, PeerKey, Settings};
 use bac_protocol::times::T_SEG;
-use bac_server::Entry;
+use bac_entry::Entry;
 use bac_slots::SlotTable;
 use bac_value::NoMemory;
 use std::alloc::Global;

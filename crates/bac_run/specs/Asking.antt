@@ -12,8 +12,8 @@ use Rattle.bac_world.specs.Node.{NodeAsks}
 use Rattle.bac_node.specs.Calls.{Refuses}
 use Rattle.bac_link.specs.Moments.{with_moment}
 use Rattle.bac_turns.specs.Turns.{Turn, call_of, counted, with_calls}
-use Rattle.bac_client.specs.Views.{ending_view}
-use Rattle.bac_client.specs.declared.ending.Ending as how
+use Rattle.bac_ticket.specs.Views.{ending_view}
+use Rattle.bac_ticket.specs.declared.ending.Ending as how
 use Rattle.bac_turns.specs.declared.turn.TurnFault.{TurnFault}
 use Rattle.bac_turns.specs.declared.turn.TurnFault.TheVariants as turn_fault
 use Rattle.bac_run.specs.Runs.{CannotReceive, GoesBack, Run, TakesTurn, Timed}

@@ -1,7 +1,7 @@
 -- Two nodes, each on its own link, one turn after the other, beside one clock; the first of them asks.
 use Rattle.std.specs.Prelude.{◌≡◌, ◌⊎◌, ℕ}
 use Rattle.bac_link.specs.Moments.{Told}
-use Rattle.bac_client.specs.Views.{ending_view}
+use Rattle.bac_ticket.specs.Views.{ending_view}
 use Rattle.bac_turns.specs.Turns.{OnLink, Turn}
 use Rattle.bac_turns.specs.declared.turn.TurnFault.{TurnFault}
 use Rattle.bac_turns.specs.declared.turn.TurnFault.TheVariants as turn_fault

@@ -9,7 +9,7 @@ use crate::buffer::buffer;
 use crate::endings::ending_in;
 use crate::fault::RunFault;
 use crate::question::{AskEnd, Question};
-use bac_client::Ending;
+use bac_ticket::Ending;
 use bac_link::{Clock, Link};
 use bac_node::Node;
 use bac_requester::AskFault;

@@ -1,12 +1,12 @@
 //! How a ticket ended in a turn.
 ghost use Rattle.std.specs.Prelude.{◌≡◌, map};
 ghost use Rattle.std.specs.Option.{option_map};
-ghost use Rattle.bac_client.specs.Views.{ending_view};
+ghost use Rattle.bac_ticket.specs.Views.{ending_view};
 ghost use Rattle.bac_requester.specs.Views.{finish_view};
 ghost use Rattle.bac_turns.specs.Views.{turn_view};
 ghost use Rattle.bac_run.specs.Asking.{ending_in, ending_of};
 
-use bac_client::Ending;
+use bac_ticket::Ending;
 use bac_requester::Finish;
 use bac_turns::Turn;
 

@@ -1,6 +1,6 @@
 //! What a node is to ask, and how asking ended.
 use bac_apdu::Limits;
-use bac_client::Ending;
+use bac_ticket::Ending;
 use bac_npdu::Peer;
 use bac_requester::AskFault;
 use bac_service::OwnedRequest;

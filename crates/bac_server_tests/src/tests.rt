@@ -3,7 +3,7 @@ use bac_apdu::{Apdu, Limits, Segment, Window, read};
 use bac_ends::{Datagram, PeerKey, Settings};
 use bac_npdu::Peer;
 use bac_responder::Responder;
-use bac_server::Entry;
+use bac_entry::Entry;
 use bac_slots::IndexSlots;
 use bac_store::{Store, house};
 use bac_value::NoMemory;

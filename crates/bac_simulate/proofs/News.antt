@@ -2,10 +2,10 @@
 use Rattle.std.proofs.Common.{◌≡◌, ℕ, ◌+◌, ◌≤◌, false, List, length, map, drop, reverse, Option, Some, Result, OnOk, sym, ap, subst, ◌∙◌, slice_get}
 use Rattle.std.proofs.lemmas.List.{drop_all, length-map, length-reverse, reverse-reverse}
 use Rattle.std.specs.Io.KnownBytes.{Appends}
-use Rattle.bac_simulation.specs.Notes.{note_view, notes_view}
-use Rattle.bac_simulation.specs.Views.{copy_view}
-use Rattle.bac_simulation.specs.declared.copies.Copy as copy
-use Rattle.bac_simulation.specs.declared.noting.Note as note
+use Rattle.bac_journal.specs.Notes.{note_view, notes_view}
+use Rattle.bac_journal.specs.Views.{copy_view}
+use Rattle.bac_journal.specs.declared.copies.Copy as copy
+use Rattle.bac_journal.specs.declared.noting.Note as note
 use Rattle.bac_network.specs.Views.{fact_view, log_view}
 use Rattle.bac_network.specs.declared.fact.Fact as fact
 use Rattle.bac_world.specs.Once as once

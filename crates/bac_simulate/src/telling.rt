@@ -1,8 +1,8 @@
 //! What came of an event, line by line.
 ghost use Rattle.std.specs.Prelude.{◌≡◌, false, drop, length, map, slice_get, OnOk};
 ghost use Rattle.std.specs.Io.KnownBytes.{Appends};
-ghost use Rattle.bac_simulation.specs.Notes.{note_view};
-ghost use Rattle.bac_simulation.specs.Views.{copy_view};
+ghost use Rattle.bac_journal.specs.Notes.{note_view};
+ghost use Rattle.bac_journal.specs.Views.{copy_view};
 ghost use Rattle.bac_network.specs.Views.{fact_view};
 ghost use Rattle.bac_facts.specs.Texts.{sent_line};
 ghost use Rattle.bac_simulate.specs.Told.{asked_text, copies_text, fact_text, facts_text, is_as_before, news_text, outcome_text};
@@ -12,7 +12,7 @@ use bac_facts::{
 };
 use bac_network::{Fact, World};
 use bac_requester::AskFault;
-use bac_simulation::{Copy, Note};
+use bac_journal::{Copy, Note};
 use std::alloc::Global;
 use std::io;
 use std::io::Write;

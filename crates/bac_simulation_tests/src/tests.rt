@@ -1,5 +1,5 @@
 //! A small journal.
-use bac_simulation::{Journal, Note, Transaction};
+use bac_journal::{Journal, Note, Transaction};
 use bac_value::NoMemory;
 use std::alloc::Global;
 use std::test::Fail;

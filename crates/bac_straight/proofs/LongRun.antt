@@ -19,7 +19,7 @@ use Rattle.bac_protocol.specs.Server.{Entry, begins, performs_so}
 use Rattle.bac_ends.specs.Keys.{PeerKey}
 use Rattle.bac_ends.specs.Meanings.Ending.{Answered}
 use Rattle.bac_ends.specs.Ends.{Accepted, ClientEnd, ServerEnd, accepts, context_of, client_hears, server_hears, server_goes}
-use Rattle.bac_server.specs.Services.{service_of, outcome_by}
+use Rattle.bac_entry.specs.Services.{service_of, outcome_by}
 use Rattle.bac_world.specs.Services.{Performed}
 use Rattle.bac_world.specs.Node.{Node, Outcome, IsServerTurn, NodeAsks}
 use Rattle.bac_world.specs.Once.{Fact}

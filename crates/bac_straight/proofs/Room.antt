@@ -23,7 +23,7 @@ use Rattle.bac_ends.specs.Ends.{client_hears_at, client_hears_held, client_after
 use Rattle.bac_ends.specs.Ends.{key_of, context_of, has_no_slot, asks_with_id, asks_for, asks_by_way, accepts, least_not, is_id_held, MOST_ASKS, new_client}
 use Rattle.bac_ends.specs.Ends.Held.{Open, Closed}
 use Rattle.bac_ends.specs.Ends.AskOutcome.{Asked}
-use Rattle.bac_server.specs.Services.{service_of}
+use Rattle.bac_entry.specs.Services.{service_of}
 use Rattle.bac_world.specs.Node.{Node, Outcome, NodeOn, NodeTick, NodeAsks, IsHeardBy}
 use Rattle.bac_world.specs.World.{World, Event, WorldStep, WorldRun, IsFresh, IsFreshNode, IsWithNode, Acts, DeliversIf, Hears, is_deliverable}
 use Rattle.bac_world.specs.World.Event.{Deliver, Noise, Tick, Advance}

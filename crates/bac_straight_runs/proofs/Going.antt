@@ -10,10 +10,10 @@ use Rattle.bac_world.specs.Node.{Node}
 use Rattle.bac_world.specs.Once.{Fact}
 use Rattle.bac_world.specs.World.{World, Copy, Note, WorldStep, IsAsked}
 use Rattle.bac_world.specs.World.Event.{Deliver}
-use Rattle.bac_simulation.specs.declared.copies.Copy as copy
-use Rattle.bac_simulation.specs.declared.noting.Note as note
-use Rattle.bac_simulation.specs.Notes.{note_view, notes_view}
-use Rattle.bac_simulation.specs.Views.{copy_view}
+use Rattle.bac_journal.specs.declared.copies.Copy as copy
+use Rattle.bac_journal.specs.declared.noting.Note as note
+use Rattle.bac_journal.specs.Notes.{note_view, notes_view}
+use Rattle.bac_journal.specs.Views.{copy_view}
 use Rattle.bac_network.specs.declared.fact.Fact as code
 use Rattle.bac_network.specs.declared.fault.WorldFault.{WorldFault}
 use Rattle.bac_network.specs.Histories.{WorldView, HasHistory}

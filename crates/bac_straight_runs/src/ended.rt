@@ -1,12 +1,12 @@
 //! How an ask has ended, by the log.
 ghost use Rattle.std.specs.Prelude.{◌≡◌, IfOk, List, ◌∷◌, MatchOption, None, Some};
-ghost use Rattle.bac_client.specs.Views.{ending_view};
+ghost use Rattle.bac_ticket.specs.Views.{ending_view};
 ghost use Rattle.bac_network.specs.Views.{fact_view, log_view};
 ghost use Rattle.bac_straight.specs.Straight.{ending_in};
 ghost use Rattle.bac_straight_runs.specs.Logs.{IsSince};
 ghost use Rattle.bac_world.specs.Once as once;
 
-use bac_client::Ending;
+use bac_ticket::Ending;
 use bac_network::Fact;
 use bac_value::NoMemory;
 use std::alloc::Global;

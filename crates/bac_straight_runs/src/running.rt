@@ -3,7 +3,7 @@ ghost use Rattle.std.specs.Prelude.{◌≡◌, ◌≢◌, ◌+◌, ◌<◌, ◌^
 ghost use Rattle.std.specs.Option.{option_map};
 ghost use Rattle.bac_apdu.specs.Views.{limits_view};
 ghost use Rattle.bac_service.specs.Views.{owned_request_view};
-ghost use Rattle.bac_client.specs.Views.{ending_view};
+ghost use Rattle.bac_ticket.specs.Views.{ending_view};
 ghost use Rattle.bac_world.specs.Node.{Node};
 ghost use Rattle.bac_world.specs.World.{WorldStep};
 ghost use Rattle.bac_world.specs.World.Event.{Ask, Deliver};
@@ -17,7 +17,7 @@ ghost use Rattle.bac_straight_runs.specs.Runs.{AsksIf, CanBeAnswered, Goes, Goes
 
 use crate::ended::{copied, ending_of};
 use bac_apdu::Limits;
-use bac_client::Ending;
+use bac_ticket::Ending;
 use bac_network::{Event, World, WorldFault};
 use bac_service::OwnedRequest;
 use bac_value::NoMemory;

@@ -1,6 +1,6 @@
 //! Straight runs of two nodes.
 use bac_apdu::Limits;
-use bac_client::Ending;
+use bac_ticket::Ending;
 use bac_network::{World, WorldFault};
 use bac_node::Config;
 use bac_service::{

@@ -21,7 +21,7 @@ use Rattle.bac_ends.specs.Keys.{PeerKey}
 use Rattle.bac_ends.specs.Sends.{Datagram, IsSent, to_peer}
 use Rattle.bac_ends.specs.Meanings.Ending.{Answered}
 use Rattle.bac_ends.specs.Ends.{Accepted, accepts, context_of, server_goes, client_hears}
-use Rattle.bac_server.specs.Services.{service_of, outcome_by}
+use Rattle.bac_entry.specs.Services.{service_of, outcome_by}
 use Rattle.bac_service.specs.Services.{reads_reply}
 use Rattle.bac_world.specs.Services.{Performed}
 use Rattle.bac_world.specs.Node.{Node, Outcome, IsServerTurn, NodeAsks}

@@ -21,7 +21,7 @@ use Rattle.bac_slots.specs.Slots.{value_at, IsDistinct}
 use Rattle.bac_ends.specs.Keys.{same_key}
 use Rattle.bac_ends.specs.Sends.{Pairwise}
 use Rattle.bac_ends.specs.Ends.{Client}
-use Rattle.bac_server.specs.Services.{service_of}
+use Rattle.bac_entry.specs.Services.{service_of}
 use Rattle.bac_world.specs.Node.{Node, Outcome, IsDropped, IsHeard, IsHeardBy, NodeOn}
 use Rattle.bac_world.specs.Once.{Fact, Stores, IsOnce}
 use Rattle.bac_world.specs.World.{World, Event, Copy, Note, link_at, stores_of, later, peer_at, Acts, DeliversIf, Delivers, HearsNoise}

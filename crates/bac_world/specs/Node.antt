@@ -17,7 +17,7 @@ use Rattle.bac_ends.specs.Sends.{Datagram, Pairwise, IsSent}
 use Rattle.bac_ends.specs.Meanings.{Finish, IsFinish}
 use Rattle.bac_ends.specs.Ends.{ClientEnd, ServerEnd, ClientTurn, ServerTurn, Accepted, AskRefusal, AskOutcome}
 use Rattle.bac_ends.specs.Ends.{client_hears, clients_tick, client_asks, server_hears, servers_tick}
-use Rattle.bac_server.specs.Services.{service_of}
+use Rattle.bac_entry.specs.Services.{service_of}
 use Rattle.bac_world.specs.Services.{Performed, ArePerformed, store_after}
 
 -- a link (clause J.1.2), what it is set to, the latest moment that it was told, both its ends, and its store

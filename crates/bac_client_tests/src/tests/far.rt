@@ -1,7 +1,7 @@
 //! At the far end of the limits, with ample memory.
 use super::*;
 use bac_apdu::{Apdu, Segment};
-use bac_client::RequestFault;
+use bac_ticket::RequestFault;
 
 const WIDE: Limits = Limits {
     max_apdu: 5,

@@ -1,6 +1,6 @@
 //! Fronts of datagrams that come between the datagrams themselves.
 use super::*;
-use bac_client::Ending;
+use bac_ticket::Ending;
 use bac_network::{Copy, Event, Fact, World};
 use bac_service::{AnyReply, OwnedReply, OwnedRequest, read_request, write_reply, write_request};
 use bac_store::{Object, Property, Store};

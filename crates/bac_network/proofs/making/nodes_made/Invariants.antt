@@ -1,7 +1,7 @@
 -- The nodes so far, and those that are left can be made.
 use Rattle.std.proofs.Common.{◌≡◌, ◌++◌, length}
 use Rattle.std.specs.Vec.Iter.{into_iter_items, into_iter_len}
-use Rattle.bac_simulation.specs.Entering.{Every}
+use Rattle.bac_journal.specs.Entering.{Every}
 use Rattle.bac_network.specs.Fresh.{nodes_of, IsGood}
 use Rattle.bac_network.proofs.making.nodes_made.Given as goal
 

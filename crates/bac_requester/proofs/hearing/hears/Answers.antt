@@ -3,7 +3,7 @@ use Rattle.std.proofs.Common.{◌≡◌, ◌∙◌, Some, refl, ap, sym}
 use Rattle.bac_apdu.specs.Views.{apdu_view}
 use Rattle.bac_ends.specs.Ends.{Client}
 use Rattle.bac_ends.specs.Ends.Held.{Open, Closed}
-use Rattle.bac_client.specs.Views.{held_view}
+use Rattle.bac_ticket.specs.Views.{held_view}
 use Rattle.bac_requester.proofs.Turning.{heard_nothing, heard_closed, heard_open, heard_unchanged}
 use Rattle.bac_requester.proofs.hearing.hears.Goals as goal
 

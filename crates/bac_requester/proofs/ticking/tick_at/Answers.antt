@@ -3,7 +3,7 @@ use Rattle.std.proofs.Common.{◌∙◌, ap, sym}
 use Rattle.bac_ends.specs.Ends.{Client, held_ticked}
 use Rattle.bac_ends.specs.Views.{settings_view}
 use Rattle.bac_ends.specs.Views.{context_view}
-use Rattle.bac_client.specs.Views.{held_view}
+use Rattle.bac_ticket.specs.Views.{held_view}
 use Rattle.bac_requester.proofs.Ticks.{ticked_none, ticked_some}
 use Rattle.bac_requester.proofs.ticking.tick_at.Goals as goal
 

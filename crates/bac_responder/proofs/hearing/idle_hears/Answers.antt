@@ -9,7 +9,7 @@ use Rattle.bac_ends.specs.Keys.{PeerKey, same_key}
 use Rattle.bac_ends.specs.Views.{peer_key_view}
 use Rattle.bac_ends.specs.declared.peer_key.PeerKey.{PeerKey as CodeKey}
 use Rattle.bac_ends.proofs.Keyed.{value_viewed}
-use Rattle.bac_server.specs.Services.{service_of}
+use Rattle.bac_entry.specs.Services.{service_of}
 use Rattle.bac_ends.specs.Views.{context_view}
 use Rattle.bac_responder.specs.Begins.{AreInOrderIf}
 use Rattle.bac_responder.specs.Tables.{TableSlot}

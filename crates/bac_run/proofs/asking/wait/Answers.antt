@@ -1,5 +1,5 @@
 use Rattle.std.proofs.Common.{◌∙◌}
-use Rattle.bac_client.specs.Views.{ending_view}
+use Rattle.bac_ticket.specs.Views.{ending_view}
 use Rattle.bac_turns.specs.Views.{turn_view}
 use Rattle.bac_run.specs.Runs.{TakesTurn}
 use Rattle.bac_run.specs.Asking.{own_turn}

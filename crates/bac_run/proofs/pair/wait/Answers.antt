@@ -1,5 +1,5 @@
 use Rattle.std.proofs.Common.{◌∙◌, ap}
-use Rattle.bac_client.specs.Views.{ending_view}
+use Rattle.bac_ticket.specs.Views.{ending_view}
 use Rattle.bac_run.specs.Asking.{ending_in}
 use Rattle.bac_run.specs.Pairs.{TakesRound, turn_of_first}
 use Rattle.bac_run.proofs.Loops.{none_told, one_more_waited}

@@ -1,7 +1,7 @@
 -- What is told of the copies from here on completes what is told of all.
 use Rattle.std.proofs.Common.{ℕ, List, Option, map, drop}
 use Rattle.std.specs.Io.KnownBytes.{Appends}
-use Rattle.bac_simulation.specs.Views.{copy_view}
+use Rattle.bac_journal.specs.Views.{copy_view}
 use Rattle.bac_simulate.specs.Told.{copies_text}
 use Rattle.bac_simulate.proofs.telling.print_copies.Given as goal
 

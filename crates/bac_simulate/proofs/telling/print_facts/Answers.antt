@@ -1,6 +1,6 @@
 use Rattle.std.proofs.Common.{◌<◌, length, map, refl, arith}
 use Rattle.std.proofs.lemmas.Option.{slice_get_read}
-use Rattle.bac_simulation.specs.Notes.{note_view}
+use Rattle.bac_journal.specs.Notes.{note_view}
 use Rattle.bac_simulate.proofs.News.{fact_more, no_fact_more}
 use Rattle.bac_simulate.proofs.telling.print_facts.Goals as goal
 

@@ -1,7 +1,7 @@
 -- What is told of the facts from here on completes what is told of all.
 use Rattle.std.proofs.Common.{ℕ, List, Option, map, drop}
 use Rattle.std.specs.Io.KnownBytes.{Appends}
-use Rattle.bac_simulation.specs.Notes.{note_view}
+use Rattle.bac_journal.specs.Notes.{note_view}
 use Rattle.bac_network.specs.Views.{fact_view}
 use Rattle.bac_simulate.specs.Told.{facts_text}
 use Rattle.bac_simulate.proofs.telling.print_facts.Given as goal

@@ -3,7 +3,7 @@ use Rattle.std.proofs.Common.{ap, inl, subst}
 use Rattle.std.specs.Option.{option_map}
 use Rattle.bac_apdu.specs.Views.{limits_view}
 use Rattle.bac_service.specs.Views.{owned_request_view}
-use Rattle.bac_client.specs.Views.{ending_view}
+use Rattle.bac_ticket.specs.Views.{ending_view}
 use Rattle.bac_straight_runs.specs.Faults.{Fails}
 use Rattle.bac_straight_runs.specs.Runs.{AsksIf}
 use Rattle.bac_straight_runs.proofs.Going.{asked_since, copies_many, cut_fails, facts_many, notes_many, stopped_goes, told_as, told_why}

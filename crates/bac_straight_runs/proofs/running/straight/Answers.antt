@@ -3,7 +3,7 @@ use Rattle.std.proofs.Common.{refl, inl}
 use Rattle.std.specs.Option.{option_map}
 use Rattle.bac_apdu.specs.Views.{limits_view}
 use Rattle.bac_service.specs.Views.{owned_request_view}
-use Rattle.bac_client.specs.Views.{ending_view}
+use Rattle.bac_ticket.specs.Views.{ending_view}
 use Rattle.bac_straight_runs.proofs.Going.{either_way, fails_at, fails_went, goes_at, goes_went, tells, told_as, went_at}
 use Rattle.bac_straight_runs.proofs.running.straight.Goals as goal
 

@@ -2,7 +2,7 @@
 use Rattle.std.proofs.Common.{ap, arith}
 use Rattle.std.proofs.lemmas.List.{with_items_is}
 use Rattle.std.specs.Vec.{with_items}
-use Rattle.bac_simulation.specs.Journals.{JournalView}
+use Rattle.bac_journal.specs.Journals.{JournalView}
 use Rattle.bac_network.specs.declared.network.Network.{Network}
 use Rattle.bac_network.proofs.Delivered.{copy_enters, arrives}
 use Rattle.bac_network.proofs.network.Network.hand_over.Goals as goal

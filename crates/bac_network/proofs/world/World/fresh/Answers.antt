@@ -1,7 +1,7 @@
 -- What is made is fresh.
 use Rattle.std.proofs.Common.{◌≡◌, [], List, ap, ◌∙◌}
 use Rattle.bac_protocol.specs.Service.{Octets}
-use Rattle.bac_simulation.specs.Journals.{JournalView}
+use Rattle.bac_journal.specs.Journals.{JournalView}
 use Rattle.bac_network.specs.Fresh.{greatest_window, links_of, opening_of}
 use Rattle.bac_network.proofs.Makers.{all_good, kept_first, made_is}
 use Rattle.bac_network.proofs.world.World.fresh.Goals as goal

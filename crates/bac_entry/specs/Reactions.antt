@@ -1,0 +1,62 @@
+-- What the calls on an entry answer, and what they leave.
+use Rattle.std.specs.Prelude.{◌≡◌, ℕ, Bool, true, List, [], Option, Some, None, Result, Ok, Err}
+use Rattle.bac_npdu.specs.Peers.{PeerView}
+use Rattle.bac_value.specs.declared.memory.NoMemory.{NoMemory}
+use Rattle.bac_store.specs.Stores.{Store}
+use Rattle.bac_protocol.specs.Server as server
+use Rattle.bac_protocol.specs.Server.{Entry, State}
+use Rattle.bac_protocol.specs.Service.{Octets}
+use Rattle.bac_ends.specs.Sends.{Datagram, Pairwise, IsSent, to_all}
+use Rattle.bac_entry.specs.Services.{Performed, ArePerformed, store_after}
+use Rattle.bac_entry.specs.Views.{performed_view}
+use Rattle.bac_entry.specs.declared.reaction.Reaction.{Reaction}
+use Rattle.bac_entry.specs.declared.reaction.IdleReaction as idle
+use Rattle.bac_entry.specs.declared.reaction.IdleReaction.TheVariants.{Stays, Begins}
+
+-- the segments of a request that an entry keeps
+abbrev pub parts_taken : State → List Octets
+parts_taken (State.SegmentedRequest incoming since) = incoming.parts
+parts_taken (State.Done kept) = []
+parts_taken (State.SegmentedResponse out transfer since) = []
+parts_taken State.Dropped = []
+
+-- the machine's reaction, in code: its entry, one datagram for each of its sends, its effect, and the store after that
+pub record IsReaction (r : server.Reaction) (peer : PeerView) (s : Store) (entry : Entry) (sent : List Datagram) (p : Option Performed) (t : Store)
+    : Type 0 where
+  pub entry_is : r.entry ≡ Some entry
+  pub sends : Pairwise IsSent (to_all peer r.sends) sent
+  pub effect : ArePerformed s r.effect p
+  pub store : t ≡ store_after s p
+
+abbrev pub IsReacted : server.Reaction → PeerView → Store → Reaction → Store → Type 0
+IsReacted r peer s x t = IsReaction r peer s x.entry x.sends.items (performed_view x.effect) t
+
+-- after an Err the entry is handed back, and it and the store are as they were
+abbrev pub Reacts : server.Reaction → PeerView → Entry → Store → Result Reaction Entry → Store → Type 0
+Reacts r peer old s (Ok x) t = IsReacted r peer s x t
+Reacts r peer old s (Err e) t = (e ≡ old) × (t ≡ s)
+
+-- nothing is remembered: a dead entry, if any, stays where it is
+pub record IsStill (r : server.Reaction) (dead : Option Entry) (peer : PeerView) (s : Store) (sent : List Datagram) (t : Store) : Type 0 where
+  pub entry : r.entry ≡ dead
+  pub sends : Pairwise IsSent (to_all peer r.sends) sent
+  pub effect : r.effect ≡ None
+  pub store : t ≡ s
+
+-- where no entry is live; what comes of it does not rest on the dead entry, if any
+abbrev pub IdleReacts : (Option Entry → server.Reaction) → PeerView → Store → Result idle.IdleReaction NoMemory → Store → Type 0
+IdleReacts r peer s (Ok (Stays sends)) t = (dead : Option Entry) → IsStill (r dead) dead peer s sends.items t
+IdleReacts r peer s (Ok (Begins x)) t = (dead : Option Entry) → IsReacted (r dead) peer s x t
+IdleReacts r peer s (Err e) t = t ≡ s
+
+-- an entry begins only where a slot is free
+abbrev pub BeginsWhereFree : Bool → Result idle.IdleReaction NoMemory → Type 0
+BeginsWhereFree free (Ok (Stays sends)) = Unit {0}
+BeginsWhereFree free (Ok (Begins x)) = free ≡ true
+BeginsWhereFree free (Err e) = Unit {0}
+
+-- an entry that begins, begins at that moment
+abbrev pub BeginsAt : (moment : ℕ) → Result idle.IdleReaction NoMemory → Type 0
+BeginsAt moment (Ok (Stays sends)) = Unit {0}
+BeginsAt moment (Ok (Begins x)) = x.entry.begin ≡ moment
+BeginsAt moment (Err e) = Unit {0}

@@ -1,0 +1,229 @@
+//! SEGMENTED_REQUEST (clause 5.4.5.2): a request that comes in segments.
+ghost use Rattle.std.specs.Prelude.{◌≡◌, ◌∷◌, [], IfOk, Ok, length};
+ghost use Rattle.bac_apdu.specs.Views.{apdu_view, limits_view, segment_view};
+ghost use Rattle.bac_segment.specs.Answers.{answer_of};
+ghost use Rattle.bac_segment.specs.Pieces.{join};
+ghost use Rattle.bac_segment.specs.Window.{takes};
+ghost use Rattle.bac_segment.specs.declared.incoming.Step.TheVariants as step;
+ghost use Rattle.bac_protocol.specs.Server.State.{SegmentedRequest, Dropped};
+ghost use Rattle.bac_protocol.specs.Server as machine;
+ghost use Rattle.bac_ends.specs.Sends.{Pairwise, IsSent, to_all};
+ghost use Rattle.bac_entry.specs.Reactions.{Reacts};
+ghost use Rattle.bac_entry.specs.Segments.{TakesSegment, IsWhole, IsGiven, Gives};
+ghost use Rattle.bac_entry.specs.Services.{service_of};
+ghost use Rattle.bac_ends.specs.Views.{context_view, peer_of};
+ghost use Rattle.bac_entry.specs.Views.{entry_of};
+
+use crate::entry::{Entry, Origin, State, Terms};
+use crate::performing::commit;
+use crate::preparing::{Pending, Prepared, prepare};
+use crate::reaction::Reaction;
+use crate::reading::read_segments;
+use bac_apdu::{Apdu, Segment};
+use bac_ends::{Context, Datagram, only_abort, only_ack, step_acks};
+use bac_protocol::reasons::{BUFFER_OVERFLOW, OTHER};
+use bac_protocol::times::WAIT_SEG;
+use bac_segment::{Incoming, Step};
+use bac_store::Store;
+use bac_value::NoMemory;
+use std::alloc::Global;
+
+/// A whole request: its last SegmentACK, and all of a performance but its commit.
+#[derive(Drop)]
+pub(crate) struct Whole {
+    pub(crate) sends: Vec<Datagram>,
+    pub(crate) state: State,
+    pub(crate) pending: Option<Pending>,
+}
+
+/// The whole request is there.
+fn prepare_whole(
+    alloc: Global,
+    context: &Context,
+    terms: Terms,
+    incoming: &Incoming,
+    number: u8,
+    store: &Store,
+) -> Result<Whole, NoMemory>
+    ensures { IfOk result (λ w. IsWhole (context_view context.now) (peer_of context.now) terms.choice (limits_view terms.limits) store.now number
+        incoming.now.window (join incoming.now.parts) w.state w.sends.items w.pending) }
+{
+    let mut sends = only_ack(alloc, context, true, false, number, incoming.window())?;
+    let found = read_segments(alloc, terms.choice, incoming)?;
+    let Prepared {
+        state,
+        last,
+        pending,
+    } = prepare(alloc, context, terms, found, store)?;
+    sends.push(last)?;
+    Ok(Whole {
+        sends,
+        state,
+        pending,
+    })
+}
+
+/// The last segment comes: the request is performed. Where memory runs out, the segment is taken back.
+fn last_segment(
+    alloc: Global,
+    context: &Context,
+    origin: Origin,
+    mut incoming: Incoming,
+    segment: Segment,
+    octets: &[u8],
+    store: &mut Store,
+) -> Result<Reaction, (Origin, Incoming)>
+    requires { Ok step.Whole ≡ answer_of (takes incoming segment.number segment.more octets.now) }
+    ensures { TakesSegment (λ z. machine.request_segment_taken (context_view context.now) (service_of store.old) (entry_of origin z) segment.number
+        incoming.window (takes incoming segment.number segment.more octets.now)) (peer_of context.now) origin incoming store.old result store.new }
+{
+    let unacknowledged = incoming.unacknowledged();
+    let Ok(_) = incoming.on_segment(segment.number, segment.more, octets) else {
+        return Err((origin, incoming));
+    };
+    let number = segment.number;
+    let Ok(whole) = prepare_whole(alloc, context, origin.terms, &incoming, number, store) else {
+        incoming.take_back(unacknowledged);
+        return Err((origin, incoming));
+    };
+    let Whole {
+        sends,
+        state,
+        pending,
+    } = whole;
+    let effect = commit(pending, store);
+    Ok(Reaction {
+        entry: Entry { origin, state },
+        sends,
+        effect,
+    })
+}
+
+/// The reassembly is given up.
+fn dropped(origin: Origin, sends: Vec<Datagram>) -> Reaction
+    ensures { IsGiven (entry_of origin Dropped) sends.items result }
+{
+    Reaction {
+        entry: Entry {
+            origin,
+            state: State::Dropped,
+        },
+        sends,
+        effect: None,
+    }
+}
+
+/// A segment comes to a reassembly, in time.
+pub(crate) fn take_segment(
+    alloc: Global,
+    context: &Context,
+    origin: Origin,
+    mut incoming: Incoming,
+    segment: Segment,
+    octets: &[u8],
+    store: &mut Store,
+) -> Result<Reaction, (Origin, Incoming)>
+    ensures { TakesSegment (λ z. machine.request_segment_taken (context_view context.now) (service_of store.old) (entry_of origin z) segment.number
+        incoming.window (takes incoming segment.number segment.more octets.now)) (peer_of context.now) origin incoming store.old result store.new }
+{
+    let step = match incoming.answer(segment.number, segment.more, octets) {
+        Ok(step) => step,
+        Err(_) => {
+            let Ok(sends) = only_abort(alloc, context, true, BUFFER_OVERFLOW) else {
+                return Err((origin, incoming));
+            };
+            return Ok(dropped(origin, sends));
+        }
+    };
+    if let Step::Whole = step {
+        return last_segment(alloc, context, origin, incoming, segment, octets, store);
+    }
+    let (window, taken) = (incoming.window(), incoming.taken());
+    let Ok(sends) = step_acks(alloc, context, true, segment.number, window, taken, step) else {
+        return Err((origin, incoming));
+    };
+    let Ok(_) = incoming.on_segment(segment.number, segment.more, octets) else {
+        return Err((origin, incoming));
+    };
+    let state = State::SegmentedRequest {
+        incoming,
+        since: context.moment,
+    };
+    Ok(Reaction {
+        entry: Entry { origin, state },
+        sends,
+        effect: None,
+    })
+}
+
+/// An entry whose request is received in segments.
+fn with_reassembly(origin: Origin, incoming: Incoming, since: u64) -> Entry
+    ensures { result ≡ entry_of origin (SegmentedRequest incoming since) }
+{
+    Entry {
+        origin,
+        state: State::SegmentedRequest { incoming, since },
+    }
+}
+
+/// A segment comes while a request is received; one that comes 8,000 ms after the last one, or later, ends the reassembly.
+fn segment_comes(
+    alloc: Global,
+    context: &Context,
+    origin: Origin,
+    incoming: Incoming,
+    since: u64,
+    segment: Segment,
+    octets: &[u8],
+    store: &mut Store,
+) -> Result<Reaction, Entry>
+    ensures { Reacts (machine.segmented_request_gets_segment (context_view context.now) (service_of store.old)
+        (entry_of origin (SegmentedRequest incoming since)) incoming since (segment_view segment) octets.now) (peer_of context.now)
+        (entry_of origin (SegmentedRequest incoming since)) store.old result store.new }
+{
+    if context.moment.saturating_sub(since) >= WAIT_SEG {
+        let Ok(sends) = only_abort(alloc, context, true, OTHER) else {
+            return Err(with_reassembly(origin, incoming, since));
+        };
+        return Ok(dropped(origin, sends));
+    }
+    match take_segment(alloc, context, origin, incoming, segment, octets, store) {
+        Ok(reaction) => Ok(reaction),
+        Err((origin, incoming)) => Err(with_reassembly(origin, incoming, since)),
+    }
+}
+
+/// An APDU comes while a request is received in segments.
+pub(crate) fn segmented_request_gets(
+    alloc: Global,
+    context: &Context,
+    origin: Origin,
+    incoming: Incoming,
+    since: u64,
+    apdu: &Apdu<'_>,
+    store: &mut Store,
+) -> Result<Reaction, Entry>
+    ensures { Reacts (machine.segmented_request_gets (context_view context.now) (service_of store.old) (entry_of origin (SegmentedRequest incoming since))
+        incoming since (apdu_view apdu.now)) (peer_of context.now) (entry_of origin (SegmentedRequest incoming since)) store.old result store.new }
+{
+    match *apdu {
+        Apdu::ConfirmedRequest {
+            segment,
+            service,
+            ..
+        } => {
+            let Some(segment) = segment else {
+                let entry = with_reassembly(origin, incoming, since);
+                return Ok(Reaction::silent(alloc, entry));
+            };
+            segment_comes(
+                alloc, context, origin, incoming, since, segment, service, store,
+            )
+        }
+        Apdu::Abort { server: false, .. } => Ok(dropped(origin, Vec::new(alloc))),
+        _ => {
+            let entry = with_reassembly(origin, incoming, since);
+            Ok(Reaction::silent(alloc, entry))
+        }
+    }
+}

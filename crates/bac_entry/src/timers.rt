@@ -1,0 +1,37 @@
+//! When an entry is due.
+ghost use Rattle.std.specs.Prelude.{◌≡◌};
+ghost use Rattle.bac_entry.specs.Timers.{IsQuiet, IsStateQuiet, due_of, state_due};
+ghost use Rattle.bac_entry.specs.Views.{state_view};
+
+use crate::entry::{Entry, State, Transfer};
+use bac_protocol::times::{T_SEG, WAIT_SEG};
+
+/// The first moment at which the timer of a state is due; the last moment of all, where it has none.
+fn state_due(state: &State) -> u64
+    ensures { result ≡ state_due (state_view 0 state.now) }
+{
+    match state {
+        State::SegmentedRequest { since, .. } => since.saturating_add(WAIT_SEG),
+        State::SegmentedResponse {
+            transfer: Transfer::Running,
+            since,
+            ..
+        } => since.saturating_add(T_SEG),
+        _ => u64::MAX,
+    }
+}
+
+impl Entry {
+    /// The first moment, in milliseconds, at which a tick finds the timer of its state due (clause 5.4.5), looked at from a moment on: before it a tick
+    /// sends nothing and changes nothing. The last moment of all, where the entry is not live any more or its state has no timer.
+    pub fn due(&self, from: u64) -> u64
+        ensures due { result ≡ due_of from self.now }
+        ensures quiet { IsQuiet from result self.now }
+    {
+        if self.is_live(from) {
+            state_due(&self.state)
+        } else {
+            u64::MAX
+        }
+    }
+}

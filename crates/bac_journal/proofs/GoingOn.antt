@@ -1,0 +1,233 @@
+-- What is known of each world that a run of a fresh one leads to.
+use Rattle.std.proofs.Common.{◌≡◌, ℕ, suc, ◌+◌, ◌≤◌, ◌⊎◌, Bool, true, false, List, [], ◌∷◌, Option, Some, None, slice_get, if◌then◌else◌}
+use Rattle.std.proofs.Common.{nat_eq, refl, sym, ap, subst, inl, inr, ◌∙◌, arith}
+use Rattle.std.proofs.lemmas.Bool.Decides.{nat_tests}
+use Rattle.std.specs.Option.{option_map}
+use Rattle.bac_apdu.specs.Apdu.{Apdu, Limits}
+use Rattle.bac_npdu.specs.Peers.{PeerView}
+use Rattle.bac_service.specs.Values.{Request, choice_of}
+use Rattle.bac_service.specs.Services.{reads_reply}
+use Rattle.bac_protocol.specs.Context.{Settings}
+use Rattle.bac_protocol.specs.Service.{Octets, Readable}
+use Rattle.bac_protocol.specs.Wire.{is_from_client}
+use Rattle.bac_protocol.specs.Transaction.{Rules}
+use Rattle.bac_protocol.specs.World.{Net, Post, net_start}
+use Rattle.bac_protocol.specs.Claims.{IsBounded as IsBoundedNet}
+use Rattle.bac_slots.specs.Slots.{value_at}
+use Rattle.bac_ends.specs.Keys.{PeerKey, same_key}
+use Rattle.bac_ends.specs.Ends.{Client, ClientEnd, Held, Accepted, client_hears_at, client_hears_held, key_of}
+use Rattle.bac_ends.specs.Ends.Held.{Open, Closed}
+use Rattle.bac_entry.specs.Services.{service_of}
+use Rattle.bac_world.specs.Node.{Node, Outcome, IsHeardBy, NodeOn, NodeTick, NodeAsks}
+use Rattle.bac_world.specs.Once.{IsOnce}
+use Rattle.bac_world.specs.World.{World, Event, Copy, link_at, stores_of, peer_at, is_deliverable, IsWithNode, Acts, Hears, IsAsked}
+use Rattle.bac_world.specs.World.{DeliversIf, WorldStep, WorldRun, IsFresh, IsBounded}
+use Rattle.bac_world.specs.World.Event.{Ask, Deliver, Noise, Tick, Advance}
+use Rattle.bac_world.proofs.Pairs.{IsPaired, pairwise_get}
+use Rattle.bac_world.proofs.Bridge.{IsCopyOf, IsBetween, framed_means}
+use Rattle.bac_world.proofs.Steps.{Over, decide_number}
+use Rattle.bac_world.proofs.Asking.{accepted_is}
+use Rattle.bac_world.proofs.Headline.{run_over, rules_of, rules_bounded, fresh_over}
+use Rattle.bac_journal.specs.Entering.{CanGoOn, asks_by}
+use Rattle.bac_journal.proofs.Heard.{Enters, nothing_enters, server_enters, client_enters}
+use Rattle.bac_journal.proofs.Ticked.{tick_enters, ask_enters}
+
+-- What a call makes of a node's moment and of its count of asks.
+
+record IsCounted (now : ℕ) (more : ℕ) (a b : Node) : Type 0 where
+  latest : b.latest ≡ now
+  asked : b.clients.asked ≡ a.clients.asked + more
+
+no_more : (k : ℕ) → k ≡ k + 0
+no_more k = omega arith
+
+held_asked : (c : Settings) (r : Readable) (now : ℕ) (p : Apdu) (e : ClientEnd) (q : PeerKey) (k : ℕ) (y : Held)
+    → (client_hears_held c r now p e q k y).end.asked ≡ e.asked
+held_asked c r now p e q k (Closed first) = refl
+held_asked c r now p e q k (Open t) = refl
+
+slot_asked : (c : Settings) (r : Readable) (now : ℕ) (p : Apdu) (e : ClientEnd) (q : PeerKey) (s : Option Client)
+    → (client_hears_at c r now p e q s).end.asked ≡ e.asked
+slot_asked c r now p e q None = refl
+slot_asked c r now p e q (Some s) = held_asked c r now p e q s.number s.held
+
+heard_counted : (up : Bool) (peer : PeerView) (p : Apdu) (now : ℕ) (a b : Node) (o : Outcome) → IsHeardBy up peer p now a b o → IsCounted now 0 a b
+heard_counted true peer p now a b o t = record {
+  latest = ap (λ (n : Node). n.latest) t.node;
+  asked = ap (λ (n : Node). n.clients.asked) t.node ∙ no_more a.clients.asked;
+}
+heard_counted false peer p now a b o t = record {
+  latest = ap (λ (n : Node). n.latest) t.node;
+  asked = ap (λ (n : Node). n.clients.asked) t.node
+      ∙ slot_asked a.settings reads_reply now p a.clients (key_of peer p) (value_at same_key (key_of peer p) a.clients.slots) ∙ no_more a.clients.asked;
+}
+
+on_counted : (now : ℕ) (from octets : Octets) (a b : Node) (o : Outcome) → NodeOn now from octets a b o → IsCounted now 0 a b
+on_counted now from octets a b o (inl d) = record {
+  latest = ap (λ (n : Node). n.latest) d.node;
+  asked = ap (λ (n : Node). n.clients.asked) d.node ∙ no_more a.clients.asked;
+}
+on_counted now from octets a b o (inr d) = heard_counted (is_from_client d.apdu) d.peer d.apdu now a b o d.heard
+
+tick_counted : (now : ℕ) (a b : Node) (o : Outcome) → NodeTick now a b o → IsCounted now 0 a b
+tick_counted now a b o t = record {
+  latest = ap (λ (n : Node). n.latest) t.node;
+  asked = ap (λ (n : Node). n.clients.asked) t.node ∙ no_more a.clients.asked;
+}
+
+ask_counted : (now : ℕ) (l : Octets) (limits : Limits) (r : Request) (a b : Node) (accepted : Accepted) (ds : List _)
+    → NodeAsks now (peer_at l) limits r a b accepted ds → IsCounted now 1 a b
+ask_counted now l limits r a b accepted ds k =
+    let parts = accepted_is a.settings now (peer_at l) (choice_of r) k.octets a.clients accepted limits k.accepted in
+    record {
+      latest = ap (λ (n : Node). n.latest) k.node;
+      asked = ap (λ (n : Node). n.clients.asked) k.node ∙ ap (λ (y : Accepted). y.end.asked) parts.is;
+    }
+
+-- Worlds whose nodes' moments and counts are right.
+
+record Tidy (w : World) : Type 0 where
+  punctual : (i : ℕ) (a : Node) → slice_get w.nodes i ≡ Some a → a.latest ≤ w.now
+  counted : (i : ℕ) (a : Node) → slice_get w.nodes i ≡ Some a → a.clients.asked ≡ asks_by i w.notes
+
+-- one node went on, and more asks of it were noted
+tidy_with : (w w' : World) → Tidy w → (i : ℕ) (a b : Node) → slice_get w.nodes i ≡ Some a → IsWithNode w.nodes i b w'.nodes → w'.now ≡ w.now → (more : ℕ)
+    → IsCounted w.now more a b → asks_by i w'.notes ≡ asks_by i w.notes + more → ((j : ℕ) → (j ≡ i → ⊥) → asks_by j w'.notes ≡ asks_by j w.notes) → Tidy w'
+tidy_with w w' t i a b at nodes now more f mine others = record {
+  punctual = λ j c at'. later j c at' (decide_number j i);
+  counted = λ j c at'. counts j c at' (decide_number j i);
+}
+  where
+    here : (j : ℕ) (c : Node) → slice_get w'.nodes j ≡ Some c → j ≡ i → b ≡ c
+    here j c at' is =
+        let there : slice_get w'.nodes i ≡ Some c = subst (λ (k : ℕ). slice_get w'.nodes k ≡ Some c) is at' in
+        let e : Some b ≡ Some c = sym nodes.here ∙ there in cc
+
+    later : (j : ℕ) (c : Node) → slice_get w'.nodes j ≡ Some c → ((j ≡ i) ⊎ (j ≡ i → ⊥)) → c.latest ≤ w'.now
+    later j c at' (inl is) =
+        let e : c.latest ≡ w.now = ap (λ (n : Node). n.latest) (sym (here j c at' is)) ∙ f.latest in
+        omega arith
+    later j c at' (inr ne) =
+        let e : c.latest ≤ w.now = t.punctual j c (sym (nodes.others j ne) ∙ at') in
+        omega arith
+
+    counts : (j : ℕ) (c : Node) → slice_get w'.nodes j ≡ Some c → ((j ≡ i) ⊎ (j ≡ i → ⊥)) → c.clients.asked ≡ asks_by j w'.notes
+    counts j c at' (inl is) =
+        ap (λ (n : Node). n.clients.asked) (sym (here j c at' is)) ∙ f.asked ∙ ap (λ (k : ℕ). k + more) (t.counted i a at) ∙ sym mine
+        ∙ ap (λ (k : ℕ). asks_by k w'.notes) (sym is)
+    counts j c at' (inr ne) = t.counted j c (sym (nodes.others j ne) ∙ at') ∙ sym (others j ne)
+
+tidy_acts : (w w' : World) → Tidy w → (i : ℕ) (a b : Node) (o : Outcome) → slice_get w.nodes i ≡ Some a → Acts w i b o w' → IsCounted w.now 0 a b → Tidy w'
+tidy_acts w w' t i a b o at acts f =
+    tidy_with w w' t i a b at acts.nodes acts.now 0 f (ap (asks_by i) acts.notes ∙ no_more (asks_by i w.notes)) (λ j ne. ap (asks_by j) acts.notes)
+
+tidy_hears : (w w' : World) → Tidy w → (i : ℕ) (from octets : Octets) → Hears w i from octets w' → Tidy w'
+tidy_hears w w' t i from octets h =
+    tidy_acts w w' t i h.before h.after h.outcome h.at h.acts (on_counted w.now from octets h.before h.after h.outcome h.on)
+
+tidy_asked : (w w' : World) → Tidy w → (i s : ℕ) (limits : Limits) (r : Request) → IsAsked w i s limits r w' → Tidy w'
+tidy_asked w w' t i s limits r k =
+    tidy_with w w' t i k.before k.after k.at k.nodes k.now 1 (ask_counted w.now k.link limits r k.before k.after k.accepted k.sends k.asks)
+    (ap (asks_by i) k.notes ∙ ap (λ b. if b then suc (asks_by i w.notes) else asks_by i w.notes) (self i) ∙ one_more (asks_by i w.notes))
+    (λ j ne. ap (asks_by j) k.notes ∙ ap (λ b. if b then suc (asks_by j w.notes) else asks_by j w.notes) (away j ne))
+  where
+    self : (i : ℕ) → nat_eq i i ≡ true
+    self i = grind (arith, nat_tests)
+
+    one_more : (m : ℕ) → suc m ≡ m + 1
+    one_more m = omega arith
+
+    away : (j : ℕ) → (j ≡ i → ⊥) → nat_eq i j ≡ false
+    away j ne = go (nat_eq i j) refl
+      where
+        go : (b : Bool) → nat_eq i j ≡ b → b ≡ false
+        go true e = absurd (ne (let is : i ≡ j = grind (arith, nat_tests) in sym is))
+        go false e = refl
+
+tidy_delivered : (b : Bool) (w : World) (c : Copy) (w' : World) → Tidy w → DeliversIf b w c w' → Tidy w'
+tidy_delivered true w c w' t d = tidy_hears w w' t c.to d.link c.octets d.hears
+tidy_delivered false w c w' t same = subst Tidy (sym same) t
+
+tidy_step : (overtake : ℕ) (w w' : World) (e : Event) → Tidy w → WorldStep overtake w e w' → Tidy w'
+tidy_step overtake w w' (Ask client server limits r) t (inl s) = tidy_asked w w' t client server limits r s
+tidy_step overtake w w' (Ask client server limits r) t (inr s) = subst Tidy (sym s.same) t
+tidy_step overtake w w' (Deliver number) t s = tidy_delivered (is_deliverable overtake w.now number w.copies s.copy) w s.copy w' t s.goes
+tidy_step overtake w w' (Noise node from octets) t (inl s) = tidy_hears w w' t node from octets s.hears
+tidy_step overtake w w' (Noise node from octets) t (inr s) = subst Tidy (sym s.same) t
+tidy_step overtake w w' (Tick node) t s =
+    tidy_acts w w' t node s.before s.after s.outcome s.at s.acts (tick_counted w.now s.before s.after s.outcome s.tick)
+tidy_step overtake w w' (Advance by) t s = subst Tidy (sym s) (record {
+  punctual = λ i a at. let e : a.latest ≤ w.now = t.punctual i a at in omega arith;
+  counted = t.counted;
+})
+
+tidy_run : (overtake : ℕ) (events : List Event) (w w' : World) → Tidy w → WorldRun overtake w events w' → Tidy w'
+tidy_run overtake [] w w' t run = subst Tidy (sym run) t
+tidy_run overtake (e ∷ es) w w' t run = tidy_run overtake es run.0 w' (tidy_step overtake w run.0 e t run.1) run.2
+
+tidy_fresh : (w : World) → IsFresh w → Tidy w
+tidy_fresh w f = record {
+  punctual = λ i a at. let e : a.latest ≡ 0 = (f.nodes i a at).latest in omega arith;
+  counted = λ i a at. (f.nodes i a at).asked ∙ sym (ap (asks_by i) f.notes);
+}
+
+-- All of it.
+
+node_there : (nodes : List Node) (i : ℕ) (l : Octets) → link_at nodes i ≡ Some l → (a : Node) × (slice_get nodes i ≡ Some a)
+node_there nodes i l at = go (slice_get nodes i) refl at
+  where
+    go : (o : Option Node) → slice_get nodes i ≡ o → option_map (λ (n : Node). n.link) o ≡ Some l → (a : Node) × (slice_get nodes i ≡ Some a)
+    go None e f = absurd cc
+    go (Some a) e f = (a, e)
+
+module _ (links : ℕ → Option Octets) (apart : (i j : ℕ) (l : Octets) → links i ≡ Some l → links j ≡ Some l → i ≡ j) (W : ℕ) (x : Rules)
+    (bound : IsBoundedNet W x) (w : World) (n : Net) (h : Over links apart W x w n) where
+  Result : ℕ → Outcome → Type 0
+  Result = Enters links apart W x bound w n h
+
+  copied : (number : ℕ) (c : Copy) → slice_get w.copies number ≡ Some c → IsPaired (IsCopyOf links apart) n.posts number c
+  copied number c at = pairwise_get (IsCopyOf links apart) n.posts w.copies number c h.posts at
+
+  by_way : (number : ℕ) (p : Post) (c : Copy) → slice_get n.posts number ≡ Some p → IsCopyOf links apart p c → (a b : Node) (o : Outcome)
+      → slice_get w.nodes c.to ≡ Some a → (l : Octets) → links c.from ≡ Some l → (up : Bool) → IsBetween up p.key c.from c.to
+      → IsHeardBy up (peer_at l) p.copy.apdu w.now a b o → Enters links apart W x bound w n h c.to o
+  by_way number p c at k a b o node l link true between turn =
+      subst (λ (i : ℕ). Enters links apart W x bound w n h i o) (sym between.1)
+      (server_enters links apart W x bound w n h number p at a b o (subst (λ (i : ℕ). slice_get w.nodes i ≡ Some a) between.1 node) l
+      (subst (λ (i : ℕ). links i ≡ Some l) between.0 link) k.invoke (service_of a.store) turn)
+  by_way number p c at k a b o node l link false between turn =
+      subst (λ (i : ℕ). Enters links apart W x bound w n h i o) (sym between.1)
+      (client_enters links apart W x bound w n h p a b o (subst (λ (i : ℕ). slice_get w.nodes i ≡ Some a) between.1 node) l
+      (subst (λ (i : ℕ). links i ≡ Some l) between.0 link) k.invoke turn)
+
+  copy_enters : (number : ℕ) (c : Copy) → slice_get w.copies number ≡ Some c → (l : Octets) → link_at w.nodes c.from ≡ Some l → (a b : Node) (o : Outcome)
+      → slice_get w.nodes c.to ≡ Some a → NodeOn w.now l c.octets a b o → Enters links apart W x bound w n h c.to o
+  copy_enters number c at l link a b o node (inl d) = nothing_enters links apart W x bound w n h c.to o
+      (ap (λ (y : Outcome). y.sends) d.outcome) (ap (λ (y : Outcome). y.ended) d.outcome) (ap (λ (y : Outcome). y.performed) d.outcome)
+  copy_enters number c at l link a b o node (inr d) =
+      let p = copied number c at in
+      let one = framed_means l p.goes.to_link p.other.copy.apdu d.apdu d.peer c.octets p.goes.frame p.goes.short d.means in
+      by_way number p.other c p.there p.goes a b o node l (sym (h.linked c.from) ∙ link) (is_from_client p.other.copy.apdu) p.goes.between
+      (subst (λ (q : PeerView). IsHeardBy (is_from_client p.other.copy.apdu) q p.other.copy.apdu w.now a b o) one.0
+      (subst (λ (y : Apdu). IsHeardBy (is_from_client y) d.peer y w.now a b o) one.1 d.heard))
+
+  opens : Tidy w → (overtake : ℕ) → CanGoOn W overtake w
+  opens t overtake = record {
+    punctual = t.punctual;
+    counted = t.counted;
+    from = λ number c at. node_there w.nodes c.from (copied number c at).goes.from_link (h.linked c.from ∙ (copied number c at).goes.from_at);
+    to = λ number c at. node_there w.nodes c.to (copied number c at).goes.to_link (h.linked c.to ∙ (copied number c at).goes.to_at);
+    hears = λ number c at young l link a b o node on.
+        let e = copy_enters number c at l link a b o node on in (e.can, e.few, e.one);
+    ticks = tick_enters links apart W x bound w n h;
+    asks = ask_enters links apart W x bound w n h;
+  }
+
+pub runs_can_go_on : (W overtake : ℕ) (w w' : World) → IsFresh w → IsBounded W overtake w → (events : List Event) → WorldRun overtake w events w'
+    → CanGoOn W overtake w'
+runs_can_go_on W overtake w w' f b events run =
+    let x = rules_of overtake w in
+    let bound = rules_bounded W overtake w b in
+    let reached = run_over (link_at w.nodes) f.apart W x bound refl (stores_of w.nodes) events w w' net_start (fresh_over W overtake w f b)
+    (subst (λ l. IsOnce (stores_of w.nodes) l (stores_of w.nodes)) (sym f.log) (λ node. refl)) run in
+    opens (link_at w.nodes) f.apart W x bound w' reached.0 reached.1 (tidy_run overtake events w w' (tidy_fresh w f) run) overtake

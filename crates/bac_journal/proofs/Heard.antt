@@ -1,0 +1,223 @@
+-- What comes of a copy that a node hears can enter the world.
+use Rattle.std.proofs.Common.{◌≡◌, ℕ, ◌+◌, ◌≤◌, Bool, true, false, List, [], length, Option, Some, None, slice_get}
+use Rattle.std.proofs.Common.{refl, sym, ap, subst, ◌∙◌, arith}
+use Rattle.bac_apdu.specs.Apdu.{Apdu}
+use Rattle.bac_service.specs.Services.{reads_reply}
+use Rattle.bac_protocol.specs.Context.{Settings, Context}
+use Rattle.bac_protocol.specs.Service.{Octets}
+use Rattle.bac_protocol.specs.Wire.{is_from_client, Each}
+use Rattle.bac_protocol.specs.Own.{invoke_id_of}
+use Rattle.bac_protocol.specs.Client as client
+use Rattle.bac_protocol.specs.Client.{Ticket, client_gets}
+use Rattle.bac_protocol.specs.Server as server
+use Rattle.bac_protocol.specs.Server.{Entry, Effect, Service, server_gets}
+use Rattle.bac_protocol.specs.Transaction.{Key, Rules, server_context}
+use Rattle.bac_protocol.specs.World.{Net, Post}
+use Rattle.bac_protocol.specs.Claims.{IsBounded}
+use Rattle.bac_protocol.specs.Steps.{IsSameReaction}
+use Rattle.bac_protocol.proofs.Dead.{gets_same, same_of, same_then, same_back}
+use Rattle.bac_protocol.proofs.Own.{client_sends_own, server_sends_own}
+use Rattle.bac_slots.specs.Slots.{value_at}
+use Rattle.bac_ends.specs.Keys.{PeerKey, same_key}
+use Rattle.bac_ends.specs.Sends.{Datagram, Pairwise, IsSent, to_all}
+use Rattle.bac_ends.specs.Meanings.{Finish, IsFinish}
+use Rattle.bac_ends.specs.Ends.{Client, ClientTurn, Held, act_at, is_free, context_of, client_goes, client_hears, client_hears_at, client_hears_held}
+use Rattle.bac_ends.specs.Ends.{ServerTurn, server_hears, stays}
+use Rattle.bac_ends.specs.Ends.Held.{Open, Closed}
+use Rattle.bac_world.specs.Services.{Performed, ArePerformed}
+use Rattle.bac_world.specs.Node.{Node, Outcome, IsServerTurn, IsClientTurn}
+use Rattle.bac_world.specs.World.{World, newest, peer_at}
+use Rattle.bac_world.proofs.Machines.{own_of, ticket_of}
+use Rattle.bac_world.proofs.Pairs.{pairwise_none}
+use Rattle.bac_world.proofs.Bridge.{IsWay, TicketFits, key_of, slot_key}
+use Rattle.bac_world.proofs.Steps.{Over, Fits}
+use Rattle.bac_world.proofs.Serving.{each_of_server}
+use Rattle.bac_world.proofs.Hearing.{ticket_at}
+use Rattle.bac_journal.specs.Entering.{Every, CanBeCopied, IsNoted, AreOfClient, CanEnter}
+use Rattle.bac_journal.proofs.Few.{client_gets_few, server_gets_few, entries_few}
+use Rattle.bac_journal.proofs.Copied.{paired_length, sent_length, can_all, can_end}
+
+module _ (links : ℕ → Option Octets) (apart : (i j : ℕ) (l : Octets) → links i ≡ Some l → links j ≡ Some l → i ≡ j) (W : ℕ) (x : Rules)
+    (bound : IsBounded W x) (w : World) (n : Net) (h : Over links apart W x w n) where
+  pub record Enters (i : ℕ) (o : Outcome) : Type 0 where
+    pub can : CanEnter w i o
+    pub few : length o.sends ≤ W + 1
+    pub one : length o.ended ≤ 1
+
+  pub nothing_enters : (i : ℕ) (o : Outcome) → o.sends ≡ [] → o.ended ≡ [] → o.performed ≡ None → Enters i o
+  nothing_enters i o sends ended performed = record {
+    can = record {
+      sends = subst (Every (CanBeCopied w i)) (sym sends) tt;
+      ended = subst (Every (IsNoted w i)) (sym ended) tt;
+      performed = subst (AreOfClient w i) (sym performed) tt;
+    };
+    few = (let e : length o.sends ≡ 0 = ap (λ (ds : List Datagram). length ds) sends in omega arith);
+    one = (let e : length o.ended ≡ 0 = ap (λ (fs : List Finish). length fs) ended in omega arith);
+  }
+
+  -- An APDU of a client, at its server.
+
+  module _ (number : ℕ) (p : Post) (at : slice_get n.posts number ≡ Some p) (a b : Node) (o : Outcome)
+      (node : slice_get w.nodes p.key.server ≡ Some a) (l : Octets)
+      (client_at : links p.key.client ≡ Some l) (invoke : invoke_id_of p.copy.apdu ≡ p.key.invoke_id) (service : Service)
+      (turn : IsServerTurn (server_hears a.settings w.now service (peer_at l) p.copy.apdu a.servers) w.now a b o) where
+    abbrev key : Key
+    key = p.key
+
+    abbrev apdu : Apdu
+    apdu = p.copy.apdu
+
+    abbrev q : PeerKey
+    q = slot_key l p.key.invoke_id
+
+    fits : Fits links apart W x w n n p.key.server a
+    fits = h.nodes p.key.server a node
+
+    abbrev context : Context
+    context = server_context x p.key n.now
+
+    abbrev free : Bool
+    free = is_free n.now a.servers
+
+    abbrev gets : Option Entry → server.Reaction
+    gets e = server_gets (server_context x p.key n.now) service e (is_free n.now a.servers) p.copy.apdu
+
+    abbrev v : server.Reaction
+    v = gets (value_at same_key (slot_key l p.key.invoke_id) a.servers.slots)
+
+    abbrev u : server.Reaction
+    u = gets (n.entries p.key)
+
+    abbrev turns : Settings → (now id : ℕ) → ServerTurn
+    turns c now id = server_hears c now service (peer_at l) p.copy.apdu a.servers
+
+    sends_is : Pairwise IsSent (to_all (peer_at l) v.sends) o.sends
+    sends_is = so (x.settings key.server) n.now key.invoke_id (sym fits.settings) h.now (sym invoke) turn.sends
+      where
+        sends_for : Settings → (now id : ℕ) → List Apdu
+        sends_for c now id =
+            (server_gets (context_of c now (slot_key l id)) service (value_at same_key (slot_key l id) a.servers.slots) (is_free now a.servers) apdu).sends
+
+        so : (c : Settings) (now id : ℕ) → c ≡ a.settings → now ≡ w.now → id ≡ invoke_id_of apdu
+            → Pairwise IsSent (to_all (peer_at l) (sends_for a.settings w.now (invoke_id_of apdu))) o.sends
+            → Pairwise IsSent (to_all (peer_at l) (sends_for c now id)) o.sends
+        so c now id e f g s = subst (λ (y : Settings). Pairwise IsSent (to_all (peer_at l) (sends_for y now id)) o.sends) (sym e)
+            (subst (λ (y : ℕ). Pairwise IsSent (to_all (peer_at l) (sends_for a.settings y id)) o.sends) (sym f)
+            (subst (λ (y : ℕ). Pairwise IsSent (to_all (peer_at l) (sends_for a.settings w.now y)) o.sends) (sym g) s))
+
+    done : (d : Performed) → o.performed ≡ Some d → d.key ≡ q
+    done d is = so (server_gets (context_of a.settings w.now (slot_key l (invoke_id_of apdu))) service
+        (value_at same_key (slot_key l (invoke_id_of apdu)) a.servers.slots) (is_free w.now a.servers) apdu).effect
+        (subst (λ (y : Option Performed). ArePerformed a.store (act_at (slot_key l (invoke_id_of apdu))
+        (server_gets (context_of a.settings w.now (slot_key l (invoke_id_of apdu))) service
+        (value_at same_key (slot_key l (invoke_id_of apdu)) a.servers.slots) (is_free w.now a.servers) apdu).effect) y) is turn.performed)
+      where
+        so : (e : Option Effect) → ArePerformed a.store (act_at (slot_key l (invoke_id_of apdu)) e) (Some d) → d.key ≡ q
+        so None y = absurd y
+        so (Some e) y = y.key ∙ ap (slot_key l) invoke
+
+    same : IsSameReaction n.now v u
+    same =
+        let y : Option Entry = value_at same_key q a.servers.slots in
+        let e : Option Entry = n.entries key in
+        let f : server.Reaction = server_gets context service y free apdu in
+        same_then n.now v (gets (server.live_entry n.now y)) u (gets_same context service y free apdu)
+        (same_then n.now (gets (server.live_entry n.now y)) (gets (server.live_entry n.now e)) u
+        (same_of n.now (gets (server.live_entry n.now y)) (gets (server.live_entry n.now e))
+        (ap (λ (z : Option Entry). server_gets context service z free apdu) (fits.servers.found key.client l key.invoke_id client_at)))
+        (same_back n.now u (gets (server.live_entry n.now e)) (gets_same context service e free apdu)))
+
+    sent : Pairwise IsSent (to_all (peer_at l) u.sends) o.sends
+    sent = subst (λ (l' : List Apdu). Pairwise IsSent (to_all (peer_at l) l') o.sends) same.sends sends_is
+
+    way : IsWay links apart false p.key p.key.server p.key.client a.link l
+    way = record { between = (refl, refl); from = fits.link; to = client_at }
+
+    own : Each (λ y. (is_from_client y ≡ false) × (invoke_id_of y ≡ p.key.invoke_id)) u.sends
+    own = each_of_server key.invoke_id u.sends
+        (server_sends_own.gets context service (n.entries key) free apdu (own_of W x bound n h.sound key)).0
+
+    ticket : (t : Ticket) × (n.tickets p.key ≡ Some t)
+    ticket = ticket_of W x bound n h.sound number p at
+
+    of_client : (d : Option Performed) → o.performed ≡ d → AreOfClient w p.key.server d
+    of_client None is = tt
+    of_client (Some d) is = record {
+      client = key.client;
+      number = n.numbers key;
+      link = h.linked key.client ∙ client_at ∙ ap (λ (y : PeerKey). Some y.peer.link) (sym (done d is));
+      noted = ap (λ (k : Key). newest k w.notes) (λ i. key_of key.client key.server (done d is i).invoke_id) ∙ h.noted key ticket.0 ticket.1;
+    }
+
+    few : length o.sends ≤ W + 1
+    few =
+        let small : length u.sends ≤ W + 1 = (server_gets_few context service W bound.some (bound.windows key.server) (n.entries key) free apdu
+        (entries_few W x bound n h.sound key)).sends in
+        let all : length o.sends ≡ length u.sends = paired_length IsSent (to_all (peer_at l) u.sends) o.sends sent ∙ sent_length l u.sends in
+        omega arith
+
+    pub server_enters : Enters p.key.server o
+    server_enters = record {
+      can = record {
+        sends = can_all links apart w h.linked false key key.server key.client a.link l way u.sends o.sends own sent;
+        ended = subst (Every (IsNoted w key.server)) (sym turn.ended) tt;
+        performed = of_client o.performed refl;
+      };
+      few = few;
+      one = (let e : length o.ended ≡ 0 = ap (λ (fs : List Finish). length fs) turn.ended in omega arith);
+    }
+
+  -- An APDU of a server, at its client.
+
+  module _ (p : Post) (a b : Node) (o : Outcome) (node : slice_get w.nodes p.key.client ≡ Some a) (l : Octets)
+      (server_at : links p.key.server ≡ Some l) (invoke : invoke_id_of p.copy.apdu ≡ p.key.invoke_id) where
+    abbrev Turn : ClientTurn → Type 0
+    Turn t = IsClientTurn t w.now a b o
+
+    still : Turn (stays a.clients) → Enters p.key.client o
+    still t = nothing_enters p.key.client o (pairwise_none IsSent o.sends t.sends) (pairwise_none IsFinish o.ended t.ended) t.performed
+
+    at_client : Fits links apart W x w n n p.key.client a
+    at_client = h.nodes p.key.client a node
+
+    goes : (k : ℕ) (t : Ticket) → value_at same_key (slot_key l p.key.invoke_id) a.clients.slots ≡ Some (record { number = k; held = Open t })
+        → (now : ℕ) (c : Settings) → c.window ≤ W
+        → Turn (client_goes now a.clients (slot_key l p.key.invoke_id) k t
+        (client_gets (context_of c now (slot_key l p.key.invoke_id)) reads_reply t p.copy.apdu)) → Enters p.key.client o
+    goes k t found now c small turn =
+        let context : Context = context_of c now (slot_key l p.key.invoke_id) in
+        let r : client.Reaction = client_gets context reads_reply t p.copy.apdu in
+        let fit : TicketFits n.now w.notes p.key.client (n.numbers p.key) (Some (record { number = k; held = Open t })) (n.tickets p.key) =
+        subst (λ (y : Option Client). TicketFits n.now w.notes p.key.client (n.numbers p.key) y (n.tickets p.key)) found
+        (at_client.clients.found p.key.server l p.key.invoke_id server_at) in
+        let noted = (ticket_at n.now w.notes p.key.client (n.numbers p.key) k t (n.tickets p.key) fit).1 in
+        let ends = can_end links apart w h.linked p.key.client k (n.numbers p.key) noted t.ask.choice (client.ending_of r) o.ended turn.ended in
+        let fewer : length (client.sends_of r) ≤ W + 1 = client_gets_few context reads_reply W bound.some small t p.copy.apdu in
+        let all : length o.sends ≡ length (client.sends_of r) =
+        paired_length IsSent (to_all (peer_at l) (client.sends_of r)) o.sends turn.sends ∙ sent_length l (client.sends_of r) in
+        record {
+          can = record {
+            sends = can_all links apart w h.linked true p.key p.key.client p.key.server a.link l
+                (record { between = (refl, refl); from = at_client.link; to = server_at }) (client.sends_of r) o.sends
+                (client_sends_own.gets context reads_reply t p.copy.apdu) turn.sends;
+            ended = ends.0;
+            performed = subst (AreOfClient w p.key.client) (sym turn.performed) tt;
+          };
+          few = omega arith;
+          one = ends.1;
+        }
+
+    held : (k : ℕ) (y : Held) → value_at same_key (slot_key l p.key.invoke_id) a.clients.slots ≡ Some (record { number = k; held = y })
+        → Turn (client_hears_held a.settings reads_reply w.now p.copy.apdu a.clients (slot_key l p.key.invoke_id) k y) → Enters p.key.client o
+    held k (Closed first) is turn = still turn
+    held k (Open t) is turn = goes k t is w.now a.settings (subst (λ (c : Settings). c.window ≤ W) (sym at_client.settings) (bound.windows p.key.client)) turn
+
+    slot : (found : Option Client) → value_at same_key (slot_key l p.key.invoke_id) a.clients.slots ≡ found
+        → Turn (client_hears_at a.settings reads_reply w.now p.copy.apdu a.clients (slot_key l p.key.invoke_id) found) → Enters p.key.client o
+    slot None is turn = still turn
+    slot (Some v) is turn = held v.number v.held is turn
+
+    pub client_enters : Turn (client_hears a.settings reads_reply w.now (peer_at l) p.copy.apdu a.clients) → Enters p.key.client o
+    client_enters turn = slot (value_at same_key (slot_key l p.key.invoke_id) a.clients.slots) refl
+        (subst (λ (id : ℕ). Turn (client_hears_at a.settings reads_reply w.now p.copy.apdu a.clients (slot_key l id)
+        (value_at same_key (slot_key l id) a.clients.slots))) invoke turn)

@@ -1,0 +1,76 @@
+-- What a datagram becomes.
+use Rattle.std.proofs.Common.{◌≡◌, ℕ, ◌<◌, Bool, true, false, List, length, Some, slice_get, slice_index_or, if◌then◌else◌, refl, sym, ap, subst, ◌∙◌}
+use Rattle.std.proofs.lemmas.Option.{slice_get-get_or, slice_get_within, get_or_from_slice_get}
+use Rattle.bac_apdu.specs.Apdu.{Apdu}
+use Rattle.bac_apdu.specs.Spelling.{SpellsApdu}
+use Rattle.bac_npdu.specs.Datagram.{Means}
+use Rattle.bac_npdu.specs.Peers.{PeerView}
+use Rattle.bac_protocol.specs.Service.{Octets}
+use Rattle.bac_protocol.specs.Wire.{is_from_client}
+use Rattle.bac_protocol.specs.Own.{invoke_id_of}
+use Rattle.bac_protocol.specs.Transaction.{Key}
+use Rattle.bac_ends.specs.Sends.{Datagram}
+use Rattle.bac_world.specs.Laws.{IsMeaningless}
+use Rattle.bac_world.specs.Node.{Node}
+use Rattle.bac_world.specs.World as world
+use Rattle.bac_world.specs.World.{Note, link_at, transaction_of, IsCopied, IsOfTransaction}
+use Rattle.bac_journal.specs.declared.asks.Cell.{Cell}
+use Rattle.bac_journal.specs.declared.asks.Row.{Row}
+use Rattle.bac_journal.specs.declared.copies.Copy.{Copy}
+use Rattle.bac_journal.specs.Index.{cell_at}
+use Rattle.bac_journal.specs.Records.{IsKept}
+use Rattle.bac_journal.specs.Views.{key_view, copy_view, AreLinks}
+use Rattle.bac_journal.proofs.Index.{has_cell}
+
+-- a datagram that becomes a copy means something
+pub becomes_nothing : (nodes : List Node) (links : List Octets) → AreLinks nodes links → (now sender : ℕ) (e : Octets) (d : Datagram) (octets : Octets)
+    → octets ≡ d.octets → IsMeaningless (slice_index_or links sender e) octets → (c : world.Copy) → IsCopied nodes now sender d c → ⊥
+becomes_nothing nodes links linked now sender e d octets same none c k =
+    let t = k.transaction in
+    let at : slice_get links sender ≡ Some t.link = sym (linked sender) ∙ ap (link_at nodes) (sym k.from) ∙ t.sender in
+    let from : slice_index_or links sender e ≡ t.link = get_or_from_slice_get links sender t.link e at in
+    none t.peer t.apdu (subst (λ (l : Octets). Means SpellsApdu l octets t.peer t.apdu) (sym from)
+    (subst (λ (o : Octets). Means SpellsApdu t.link o t.peer t.apdu) (k.octets ∙ sym same) t.means))
+
+-- it becomes this copy
+pub becomes_copy : (nodes : List Node) (links : List Octets) → AreLinks nodes links → (now sender to : ℕ) (e : Octets) (d : Datagram) (key : Key)
+    (octets taken : Octets) → sender < length links → slice_get links to ≡ Some d.to → octets ≡ d.octets → taken ≡ d.octets → (apdu : Apdu)
+    → (peer : PeerView) × Means SpellsApdu (slice_index_or links sender e) octets peer apdu → key ≡ transaction_of sender to apdu
+    → IsCopied nodes now sender d (record { moment = now; from = sender; to = to; key = key; octets = taken })
+becomes_copy nodes links linked now sender to e d key octets taken within at same took apdu means is = record {
+  moment = refl;
+  from = refl;
+  to = linked to ∙ at;
+  octets = took;
+  transaction = record {
+    link = slice_index_or links sender e;
+    sender = linked sender ∙ slice_get-get_or links sender e within;
+    peer = means.0;
+    apdu = apdu;
+    means = subst (λ (o : Octets). Means SpellsApdu (slice_index_or links sender e) o means.0 apdu) (same ∙ sym took) means.1;
+    key = is;
+  };
+}
+
+-- its transaction is one of two nodes that there are
+pub copied_cell : (nodes : List Node) (links : List Octets) → AreLinks nodes links → (rows : List Row) (copies : List Copy) (notes : List Note)
+    → IsKept rows copies notes → length rows ≡ length links → (now sender : ℕ) (d : Datagram) (c : Copy) → IsCopied nodes now sender d (copy_view c)
+    → c.transaction.invoke_id < 256 → (k : Cell) × (cell_at rows (key_view c.transaction) ≡ Some k)
+copied_cell nodes links linked rows copies notes h many now sender d c k fits = go (is_from_client k.transaction.apdu) k.transaction.key
+  where
+    from : c.from < length rows
+    from = subst (λ n. c.from < n) (sym many)
+        (slice_get_within links c.from k.transaction.link (sym (linked c.from) ∙ k.transaction.sender))
+
+    to : c.to < length rows
+    to = subst (λ n. c.to < n) (sym many) (slice_get_within links c.to d.to (sym (linked c.to) ∙ k.to))
+
+    id : ℕ
+    id = invoke_id_of k.transaction.apdu
+
+    go : (b : Bool) → key_view c.transaction ≡ (if b then record { client = c.from; server = c.to; invoke_id = id }
+        else record { client = c.to; server = c.from; invoke_id = id }) → (k : Cell) × (cell_at rows (key_view c.transaction) ≡ Some k)
+    go true is = has_cell rows copies notes h (key_view c.transaction) (subst (λ n. n < length rows) (sym (ap (λ (q : Key). q.client) is)) from)
+        (subst (λ n. n < length rows) (sym (ap (λ (q : Key). q.server) is)) to) fits
+    go false is = has_cell rows copies notes h (key_view c.transaction) (subst (λ n. n < length rows) (sym (ap (λ (q : Key). q.client) is)) to)
+        (subst (λ n. n < length rows) (sym (ap (λ (q : Key). q.server) is)) from) fits

@@ -1,0 +1,218 @@
+-- What comes of a tick or of an ask can enter the world.
+use Rattle.std.proofs.Common.{◌≡◌, ℕ, ◌+◌, ◌<◌, ◌≤◌, Bool, true, false, List, [], ◌∷◌, ◌++◌, length, Option, Some, None, slice_get, if◌then◌else◌}
+use Rattle.std.proofs.Common.{refl, sym, ap, subst, ◌∙◌, arith}
+use Rattle.bac_apdu.specs.Apdu.{Apdu, Limits}
+use Rattle.bac_service.specs.Values.{Request, choice_of}
+use Rattle.bac_protocol.specs.Context.{Settings, Context}
+use Rattle.bac_protocol.specs.Service.{Octets}
+use Rattle.bac_protocol.specs.Own.{IsOwnEntry}
+use Rattle.bac_protocol.specs.Client as client
+use Rattle.bac_protocol.specs.Client.{Ask, client_ticks, asks}
+use Rattle.bac_protocol.specs.Server as server
+use Rattle.bac_protocol.specs.Server.{Entry, is_live, live_entry, server_ticks}
+use Rattle.bac_protocol.specs.Transaction.{Key, Rules}
+use Rattle.bac_protocol.specs.World.{Net}
+use Rattle.bac_protocol.specs.Claims.{IsBounded}
+use Rattle.bac_protocol.proofs.Own.{client_sends_own, server_sends_own}
+use Rattle.bac_slots.specs.Slots.{value_at, in_order}
+use Rattle.bac_ends.specs.Keys.{PeerKey, peer_key_cmp, same_key}
+use Rattle.bac_ends.specs.Sends.{Datagram, Pairwise, IsSent, to_all}
+use Rattle.bac_ends.specs.Meanings.{Finish, IsFinish}
+use Rattle.bac_ends.specs.Ends.{ClientSlot, ServerSlot, Client, Held, Accepted, context_of, from_each}
+use Rattle.bac_ends.specs.Ends.{client_tick_sends, client_tick_ends, held_tick_sends, held_tick_ends, server_tick_sends}
+use Rattle.bac_ends.specs.Ends.Held.{Open, Closed}
+use Rattle.bac_world.specs.Node.{Node, Outcome, NodeTick, NodeAsks}
+use Rattle.bac_world.specs.World.{World, link_at, peer_at}
+use Rattle.bac_ends.proofs.KeyedSlots.{EachSlot, each_so, each_in_order}
+use Rattle.bac_world.proofs.Machines.{own_of}
+use Rattle.bac_world.proofs.Pairs.{pairwise_split}
+use Rattle.bac_world.proofs.Bridge.{IsKnown, TicketFits, key_of, slot_key}
+use Rattle.bac_world.proofs.Steps.{Over, Fits}
+use Rattle.bac_world.proofs.Serving.{each_of_server}
+use Rattle.bac_world.proofs.Hearing.{ticket_at}
+use Rattle.bac_world.proofs.Asking.{accepted_is}
+use Rattle.bac_journal.specs.Entering.{Every, CanBeCopied, IsNoted, AreOfClient, CanEnter}
+use Rattle.bac_journal.proofs.Few.{asks_few}
+use Rattle.bac_journal.proofs.Copied.{every_join, paired_length, sent_length, each_found, can_all, can_end}
+
+module _ (links : ℕ → Option Octets) (apart : (i j : ℕ) (l : Octets) → links i ≡ Some l → links j ≡ Some l → i ≡ j) (W : ℕ) (x : Rules)
+    (bound : IsBounded W x) (w : World) (n : Net) (h : Over links apart W x w n) where
+  -- Ticks.
+
+  module _ (i : ℕ) (a : Node) (at : slice_get w.nodes i ≡ Some a) (c : Settings) where
+    abbrev clients : List ClientSlot
+    clients = a.clients.slots
+
+    abbrev entries : List ServerSlot
+    entries = a.servers.slots
+
+    fits : Fits links apart W x w n n i a
+    fits = h.nodes i a at
+
+    peer_is : (q : PeerKey) → (k : IsKnown links apart q) → q ≡ slot_key k.link q.invoke_id
+    peer_is q k = λ j. record { peer = k.peer j; invoke_id = q.invoke_id }
+
+    -- a client's slot
+    held_sends : (y : Held) (q : PeerKey) → IsKnown links apart q → (ds : List Datagram)
+        → Pairwise IsSent (held_tick_sends (context_of c w.now q) q.peer y) ds → Every (CanBeCopied w i) ds
+    held_sends (Closed first) q k [] s = tt
+    held_sends (Closed first) q k (d ∷ ds) s = absurd s
+    held_sends (Open t) q k ds s =
+        let sends : List Apdu = client.sends_of (client_ticks (context_of c w.now q) t) in
+        can_all links apart w h.linked true (key_of i k.node q.invoke_id) i k.node a.link k.link
+        (record { between = (refl, refl); from = fits.link; to = k.at }) sends ds
+        (client_sends_own.ticks (context_of c w.now q) t)
+        (subst (λ y. Pairwise IsSent (to_all y sends) ds) k.peer s)
+
+    held_ends : (y : Held) (q : PeerKey) → IsKnown links apart q → (number : ℕ)
+        → value_at same_key q a.clients.slots ≡ Some (record { number = number; held = y }) → (fs : List Finish)
+        → Pairwise IsFinish (held_tick_ends (context_of c w.now q) number y) fs → Every (IsNoted w i) fs
+    held_ends (Closed first) q k number found [] s = tt
+    held_ends (Closed first) q k number found (f ∷ fs) s = absurd s
+    held_ends (Open t) q k number found fs s =
+        let key : Key = key_of i k.node q.invoke_id in
+        let there : value_at same_key (slot_key k.link q.invoke_id) a.clients.slots ≡ Some (record { number = number; held = Open t }) =
+        subst (λ (y : PeerKey). value_at same_key y a.clients.slots ≡ Some (record { number = number; held = Open t })) (peer_is q k) found in
+        let fit : TicketFits n.now w.notes i (n.numbers key) (Some (record { number = number; held = Open t })) (n.tickets key) =
+        subst (λ (y : Option Client). TicketFits n.now w.notes i (n.numbers key) y (n.tickets key)) there
+        (fits.clients.found k.node k.link q.invoke_id k.at) in
+        (can_end links apart w h.linked i number (n.numbers key) (ticket_at n.now w.notes i (n.numbers key) number t (n.tickets key) fit).1
+        t.ask.choice (client.ending_of (client_ticks (context_of c w.now q) t)) fs s).0
+
+    abbrev IsClientSlot : PeerKey → Client → Type 0
+    IsClientSlot q v = IsKnown links apart q
+
+    abbrev IsFoundClient : PeerKey → Client → Type 0
+    IsFoundClient q v = value_at same_key q a.clients.slots ≡ Some v
+
+    clients_send : (os : List ClientSlot) → EachSlot Client IsClientSlot os → (ds : List Datagram)
+        → Pairwise IsSent (from_each (client_tick_sends c w.now) os) ds → Every (CanBeCopied w i) ds
+    clients_send [] k [] s = tt
+    clients_send [] k (d ∷ ds) s = absurd s
+    clients_send (o ∷ os) k ds s =
+        let y = pairwise_split IsSent (client_tick_sends c w.now o) (from_each (client_tick_sends c w.now) os) ds s in
+        subst (Every (CanBeCopied w i)) (sym y.is)
+        (every_join (CanBeCopied w i) y.front y.rest (held_sends o.value.held o.key k.0 y.front y.first) (clients_send os k.1 y.rest y.second))
+
+    clients_end : (os : List ClientSlot) → EachSlot Client IsClientSlot os → EachSlot Client IsFoundClient os → (fs : List Finish)
+        → Pairwise IsFinish (from_each (client_tick_ends c w.now) os) fs → Every (IsNoted w i) fs
+    clients_end [] k f [] s = tt
+    clients_end [] k f (d ∷ ds) s = absurd s
+    clients_end (o ∷ os) k f fs s =
+        let y = pairwise_split IsFinish (client_tick_ends c w.now o) (from_each (client_tick_ends c w.now) os) fs s in
+        subst (Every (IsNoted w i)) (sym y.is)
+        (every_join (IsNoted w i) y.front y.rest (held_ends o.value.held o.key k.0 o.value.number f.0 y.front y.first)
+        (clients_end os k.1 f.1 y.rest y.second))
+
+    -- an entry: the net's own is the same while it is live
+    abbrev IsServerSlot : PeerKey → Entry → Type 0
+    IsServerSlot q d = IsKnown links apart q
+
+    abbrev IsFoundEntry : PeerKey → Entry → Type 0
+    IsFoundEntry q d = value_at same_key q a.servers.slots ≡ Some d
+
+    live_own : (d : Entry) → is_live n.now d ≡ true → (o : Option Entry) → live_entry n.now (Some d) ≡ live_entry n.now o → o ≡ Some d
+    live_own d live None is = let e : Some d ≡ None = sym (ap (λ b. if b then Some d else None) live) ∙ is in cc
+    live_own d live (Some e) is = go (is_live n.now e) (sym (ap (λ b. if b then Some d else None) live) ∙ is)
+      where
+        go : (b : Bool) → Some d ≡ (if b then Some e else None) → Some e ≡ Some d
+        go true s = sym s
+        go false s = cc
+
+    live_sends : (d : Entry) (q : PeerKey) → (k : IsKnown links apart q) → value_at same_key q a.servers.slots ≡ Some d → is_live w.now d ≡ true
+        → (ds : List Datagram) → Pairwise IsSent (to_all q.peer (server_ticks (context_of c w.now q) (Some d)).sends) ds → Every (CanBeCopied w i) ds
+    live_sends d q k found live ds s =
+        let key : Key = key_of k.node i q.invoke_id in
+        let there : value_at same_key (slot_key k.link q.invoke_id) a.servers.slots ≡ Some d =
+        subst (λ (y : PeerKey). value_at same_key y a.servers.slots ≡ Some d) (peer_is q k) found in
+        let live' : is_live n.now d ≡ true = ap (λ (t : ℕ). is_live t d) h.now ∙ live in
+        let here : n.entries key ≡ Some d = live_own d live' (n.entries key)
+        (ap (live_entry n.now) (sym there) ∙ fits.servers.found k.node k.link q.invoke_id k.at) in
+        let own : IsOwnEntry q.invoke_id (Some d) = subst (IsOwnEntry q.invoke_id) here (own_of W x bound n h.sound key) in
+        let sends : List Apdu = (server_ticks (context_of c w.now q) (Some d)).sends in
+        can_all links apart w h.linked false key i k.node a.link k.link
+        (record { between = (refl, refl); from = fits.link; to = k.at }) sends ds
+        (each_of_server q.invoke_id sends (server_sends_own.ticks (context_of c w.now q) (Some d) own).0)
+        (subst (λ y. Pairwise IsSent (to_all y sends) ds) k.peer s)
+
+    dead_sends : (d : Entry) (q : PeerKey) → is_live w.now d ≡ false → (ds : List Datagram)
+        → Pairwise IsSent (to_all q.peer (server_ticks (context_of c w.now q) (Some d)).sends) ds → Every (CanBeCopied w i) ds
+    dead_sends d q dead ds s = none ds (subst (λ (v : server.Reaction). Pairwise IsSent (to_all q.peer v.sends) ds) still s)
+      where
+        still : server_ticks (context_of c w.now q) (Some d) ≡ server.rests (Some d) []
+        still = ap (λ b. if b then server.live_ticks (context_of c w.now q) d d.state else server.rests (Some d) []) dead
+
+        none : (ds : List Datagram) → Pairwise IsSent [] ds → Every (CanBeCopied w i) ds
+        none [] s = tt
+        none (d ∷ ds) s = absurd s
+
+    entry_sends : (d : Entry) (q : PeerKey) → IsKnown links apart q → value_at same_key q a.servers.slots ≡ Some d
+        → (ds : List Datagram) → Pairwise IsSent (to_all q.peer (server_ticks (context_of c w.now q) (Some d)).sends) ds → Every (CanBeCopied w i) ds
+    entry_sends d q k found ds s = go (is_live w.now d) refl
+      where
+        go : (b : Bool) → is_live w.now d ≡ b → Every (CanBeCopied w i) ds
+        go true e = live_sends d q k found e ds s
+        go false e = dead_sends d q e ds s
+
+    entries_send : (os : List ServerSlot) → EachSlot Entry IsServerSlot os → EachSlot Entry IsFoundEntry os → (ds : List Datagram)
+        → Pairwise IsSent (from_each (server_tick_sends c w.now) os) ds → Every (CanBeCopied w i) ds
+    entries_send [] k f [] s = tt
+    entries_send [] k f (d ∷ ds) s = absurd s
+    entries_send (o ∷ os) k f ds s =
+        let y = pairwise_split IsSent (server_tick_sends c w.now o) (from_each (server_tick_sends c w.now) os) ds s in
+        subst (Every (CanBeCopied w i)) (sym y.is)
+        (every_join (CanBeCopied w i) y.front y.rest (entry_sends o.value o.key k.0 f.0 y.front y.first) (entries_send os k.1 f.1 y.rest y.second))
+
+    known_clients : EachSlot Client IsClientSlot (in_order peer_key_cmp a.clients.slots)
+    known_clients = each_in_order Client IsClientSlot a.clients.slots
+        (each_so Client (λ p v. IsKnown links apart p × (v.number < a.clients.asked)) IsClientSlot (λ p v y. y.0) a.clients.slots fits.clients.known)
+
+    found_clients : EachSlot Client IsFoundClient (in_order peer_key_cmp a.clients.slots)
+    found_clients = each_in_order Client IsFoundClient a.clients.slots (each_found Client a.clients.slots fits.clients.distinct)
+
+    known_entries : EachSlot Entry IsServerSlot (in_order peer_key_cmp a.servers.slots)
+    known_entries = each_in_order Entry IsServerSlot a.servers.slots fits.servers.known
+
+    found_entries : EachSlot Entry IsFoundEntry (in_order peer_key_cmp a.servers.slots)
+    found_entries = each_in_order Entry IsFoundEntry a.servers.slots (each_found Entry a.servers.slots fits.servers.distinct)
+
+    all_send : (ds : List Datagram)
+        → Pairwise IsSent (from_each (client_tick_sends c w.now) (in_order peer_key_cmp a.clients.slots)
+        ++ from_each (server_tick_sends c w.now) (in_order peer_key_cmp a.servers.slots)) ds → Every (CanBeCopied w i) ds
+    all_send ds s =
+        let y = pairwise_split IsSent (from_each (client_tick_sends c w.now) (in_order peer_key_cmp a.clients.slots))
+        (from_each (server_tick_sends c w.now) (in_order peer_key_cmp a.servers.slots)) ds s in
+        subst (Every (CanBeCopied w i)) (sym y.is)
+        (every_join (CanBeCopied w i) y.front y.rest
+        (clients_send (in_order peer_key_cmp a.clients.slots) known_clients y.front y.first)
+        (entries_send (in_order peer_key_cmp a.servers.slots) known_entries found_entries y.rest y.second))
+
+    all_end : (fs : List Finish) → Pairwise IsFinish (from_each (client_tick_ends c w.now) (in_order peer_key_cmp a.clients.slots)) fs
+        → Every (IsNoted w i) fs
+    all_end fs s = clients_end (in_order peer_key_cmp a.clients.slots) known_clients found_clients fs s
+
+  pub tick_enters : (i : ℕ) (a b : Node) (o : Outcome) → slice_get w.nodes i ≡ Some a → NodeTick w.now a b o → CanEnter w i o
+  tick_enters i a b o at t = record {
+    sends = all_send i a at a.settings o.sends t.sends;
+    ended = all_end i a at a.settings o.ended t.ended;
+    performed = subst (AreOfClient w i) (sym t.performed) tt;
+  }
+
+  -- An ask.
+
+  pub ask_enters : (i s : ℕ) (a b : Node) (l : Octets) (limits : Limits) (r : Request) (accepted : Accepted) (ds : List Datagram)
+      → slice_get w.nodes i ≡ Some a → link_at w.nodes s ≡ Some l → NodeAsks w.now (peer_at l) limits r a b accepted ds
+      → Every (CanBeCopied w i) ds × (length ds ≤ W + 1)
+  ask_enters i s a b l limits r accepted ds at to k =
+      let parts = accepted_is a.settings w.now (peer_at l) (choice_of r) k.octets a.clients accepted limits k.accepted in
+      let ask : Ask = record { first = w.now; choice = choice_of r; whole = parts.whole; pieces = parts.front ∷ parts.rest } in
+      let context : Context = context_of a.settings w.now (slot_key l parts.id) in
+      let sends : List Apdu = client.sends_of (asks context ask) in
+      let sent : Pairwise IsSent (to_all (peer_at l) sends) ds = subst (λ (y : Accepted). Pairwise IsSent y.sends ds) parts.is k.sent in
+      let fit = (h.nodes i a at).link in
+      let few : length sends ≤ W + 1 = asks_few context W bound.some ask in
+      let all : length ds ≡ length sends = paired_length IsSent (to_all (peer_at l) sends) ds sent ∙ sent_length l sends in (
+        can_all links apart w h.linked true (key_of i s parts.id) i s a.link l
+            (record { between = (refl, refl); from = fit; to = sym (h.linked s) ∙ to }) sends ds (client_sends_own.asks context ask) sent,
+        omega arith,
+      )

@@ -1,0 +1,24 @@
+-- How the copies and the log grow.
+use Rattle.std.specs.Prelude.{◌≡◌, ℕ, List, ◌++◌}
+use Rattle.bac_protocol.specs.Service.{Octets}
+use Rattle.bac_ends.specs.Sends.{Datagram, Pairwise}
+use Rattle.bac_world.specs.Node.{Node}
+use Rattle.bac_world.specs.World.{Copy, IsCopied}
+use Rattle.bac_journal.specs.Entering.{Every}
+use Rattle.bac_journal.specs.Views.{AreLinks}
+
+-- datagrams that a node sends become the newest copies
+pub record BecomeCopies (nodes : List Node) (now sender : ℕ) (sends : List Datagram) (old new : List Copy) : Type 0 where
+  pub sent : List Copy
+  pub copies : new ≡ old ++ sent
+  pub copied : Pairwise (IsCopied nodes now sender) sends sent
+
+-- each of them can
+abbrev pub CanBecome : List Node → (now sender : ℕ) → List Datagram → Type 0
+CanBecome nodes now sender sends = Every (λ d. (c : Copy) × IsCopied nodes now sender d c) sends
+
+-- there are nodes with these links, and each datagram goes to one of them
+pub record CanGo (links : List Octets) (now sender : ℕ) (sends : List Datagram) : Type 0 where
+  pub nodes : List Node
+  pub linked : AreLinks nodes links
+  pub can : CanBecome nodes now sender sends

@@ -1,0 +1,84 @@
+//! Whether links, copies and notes are the same to contracts.
+ghost use Rattle.std.specs.Prelude.{◌≡◌, ◌↔◌, IsTrue, map, MatchBool};
+ghost use Rattle.bac_journal.specs.Notes.{note_view};
+ghost use Rattle.bac_journal.specs.Views.{key_view, copy_view};
+
+use crate::copies::Copy;
+use crate::noting::Note;
+use crate::transaction::Transaction;
+
+fn is_same_transaction(one: &Transaction, other: &Transaction) -> bool
+    ensures { MatchBool result (key_view one.now ≡ key_view other.now) (key_view one.now ≡ key_view other.now → ⊥) }
+{
+    if one.client != other.client {
+        return false;
+    }
+    if one.server != other.server {
+        return false;
+    }
+    one.invoke_id == other.invoke_id
+}
+
+fn is_same_copy(one: &Copy, other: &Copy) -> bool
+    ensures { MatchBool result (copy_view one.now ≡ copy_view other.now) (copy_view one.now ≡ copy_view other.now → ⊥) }
+{
+    if one.moment != other.moment {
+        return false;
+    }
+    if one.from != other.from {
+        return false;
+    }
+    if one.to != other.to {
+        return false;
+    }
+    if !is_same_transaction(&one.transaction, &other.transaction) {
+        return false;
+    }
+    one.octets == other.octets
+}
+
+/// Whether both are the same copies in the same order.
+pub(crate) fn are_same_copies(ones: &[Copy], others: &[Copy]) -> bool
+    ensures { MatchBool result (map copy_view ones.now ≡ map copy_view others.now) (map copy_view ones.now ≡ map copy_view others.now → ⊥) }
+{
+    if ones.len() != others.len() {
+        return false;
+    }
+    for at in 0..ones.len() {
+        if !is_same_copy(&ones[at], &others[at]) {
+            return false;
+        }
+    }
+    true
+}
+
+fn is_same_note(one: &Note, other: &Note) -> bool
+    ensures { MatchBool result (note_view one.now ≡ note_view other.now) (note_view one.now ≡ note_view other.now → ⊥) }
+{
+    if !is_same_transaction(&one.transaction, &other.transaction) {
+        return false;
+    }
+    one.ticket == other.ticket
+}
+
+/// Whether both are the same notes in the same order.
+pub(crate) fn are_same_notes(ones: &[Note], others: &[Note]) -> bool
+    ensures { MatchBool result (map note_view ones.now ≡ map note_view others.now) (map note_view ones.now ≡ map note_view others.now → ⊥) }
+{
+    if ones.len() != others.len() {
+        return false;
+    }
+    for at in 0..ones.len() {
+        if !is_same_note(&ones[at], &others[at]) {
+            return false;
+        }
+    }
+    true
+}
+
+/// Whether both are the same links in the same order.
+pub(crate) fn are_same_links(ones: &[[u8; 6]], others: &[[u8; 6]]) -> bool
+    ensures { IsTrue result ↔ (ones.now ≡ others.now) }
+{
+    ones == others
+}

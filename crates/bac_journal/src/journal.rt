@@ -1,0 +1,242 @@
+//! What a simulated network keeps beside its nodes.
+ghost use Rattle.std.specs.Prelude.{◌≡◌, ◌↔◌, ◌+◌, ◌<◌, ◌≤◌, ◌≢◌, ℕ, IfOk, IfSome, IsNone, IsSome};
+ghost use Rattle.std.specs.Prelude.{IsTrue, OnOk, OnErr, List, [], ◌∷◌, None, Some, length, map, slice_get};
+ghost use Rattle.bac_world.specs.Node.{Node};
+ghost use Rattle.bac_world.specs.World as world;
+ghost use Rattle.bac_world.specs.World.{ask_of, is_deliverable, newest, IsNoise};
+ghost use Rattle.bac_journal.specs.Entering.{asks_by};
+ghost use Rattle.bac_journal.specs.Growing.{BecomeCopies, CanGo};
+ghost use Rattle.bac_journal.specs.Journals.{AreFresh, AreSame, HasNoteRoom, IsFreshRow, JournalView};
+ghost use Rattle.bac_journal.specs.Notes.{note_view, notes_view};
+ghost use Rattle.bac_journal.specs.Views.{copy_view, key_view, AreLinks};
+
+use crate::arriving::deliverable;
+use crate::asks::{Cell, Row, known, number_of, reserve_number};
+use crate::comparing::{are_same_copies, are_same_links, are_same_notes};
+use crate::copies::{Copy, node_at};
+use crate::meaning::is_noise;
+use crate::noting::{Note, add_note};
+use crate::sending::send_all;
+use crate::transaction::Transaction;
+use bac_ends::Datagram;
+use bac_value::NoMemory;
+use std::alloc::Global;
+use std::marker::Model;
+
+/// What a simulated network keeps beside its nodes: their links, the clock, and the copies of the datagrams that they sent. Whether a copy may arrive is
+/// known from counts, so it costs the same however many there are.
+#[derive(Drop)]
+pub struct Journal {
+    links: Vec<[u8; 6]>,
+    moment: u64,
+    copies: Vec<Copy>,
+    notes: Vec<Note>,
+    rows: Vec<Row>,
+}
+
+impl Model for Journal {
+    ghost use Rattle.std.specs.Prelude.{◌≡◌, length, map};
+    ghost use Rattle.bac_journal.specs.Journals.{JournalView, note_room_of, view_of};
+    ghost use Rattle.bac_journal.specs.Notes.{notes_view};
+    ghost use Rattle.bac_journal.specs.Records.{IsKept};
+
+    ghost Value = { JournalView };
+
+    ghost view = { λ j. view_of j.links.items j.moment j.copies.items j.copies.cap j.notes.items (note_room_of j.notes.items j.notes.cap j.rows.items) };
+
+    ghost invariant = { λ j. IsKept j.rows.items j.copies.items (notes_view j.notes.items) × (length j.rows.items ≡ length j.links.items) };
+}
+
+/// What is kept of a node as a client that has asked nothing, beside so many nodes.
+fn fresh_row(alloc: Global, nodes: usize) -> Result<Row, NoMemory>
+    ensures { IfOk result (IsFreshRow nodes) }
+{
+    let Some(places) = nodes.checked_mul(256) else {
+        return Err(NoMemory);
+    };
+    let nothing = Cell {
+        newest: None,
+        sent: 0,
+    };
+    Ok(Row {
+        cells: vec![in alloc; nothing; places]?,
+        numbers: Vec::new(alloc),
+    })
+}
+
+/// What is kept of so many nodes that have asked nothing.
+fn fresh_rows(alloc: Global, nodes: usize) -> Result<Vec<Row>, NoMemory>
+    ensures many { IfOk result (λ rows. length rows.items ≡ nodes) }
+    ensures fresh { IfOk result (λ rows. AreFresh nodes rows.items) }
+{
+    let mut rows = Vec::with_capacity(alloc, nodes)?;
+    for _node in 0..nodes {
+        rows.push(fresh_row(alloc, nodes)?)?;
+    }
+    Ok(rows)
+}
+
+impl Journal {
+    /// Nothing has happened: the moment is 0. The places for the transactions of all nodes are made: 256 for each client and server. `NoMemory` where the
+    /// memory for them is refused.
+    pub fn new(alloc: Global, links: Vec<[u8; 6]>) -> Result<Journal, NoMemory>
+        ensures { IfOk result (λ j. j ≡ record (j) { links = links.items; moment = 0; copies = []; notes = [] }) }
+    {
+        let rows = fresh_rows(alloc, links.len())?;
+        Ok(Journal {
+            links,
+            moment: 0,
+            copies: Vec::new(alloc),
+            notes: Vec::new(alloc),
+            rows,
+        })
+    }
+
+    /// The moment, in milliseconds.
+    pub fn now(&self) -> u64
+        ensures { result ≡ self.now.moment }
+    {
+        self.moment
+    }
+
+    /// The copies, oldest first; they are numbered from 0.
+    pub fn copies(&self) -> &[Copy]
+        ensures { map copy_view result.now ≡ self.now.copies }
+    {
+        &self.copies
+    }
+
+    /// What was noted of asks, oldest first; they are numbered from 0.
+    pub fn notes(&self) -> &[Note]
+        ensures { notes_view result.now ≡ self.now.notes }
+    {
+        &self.notes
+    }
+
+    /// The clock goes on by so many milliseconds; None, and nothing changes, where the moment would pass 64 bits.
+    pub fn advance(&mut self, by: u64) -> Option<()>
+        ensures some { IsSome result → self.new ≡ record (self.old) { moment = self.old.moment + by } }
+        ensures none { IsNone result → self.new ≡ self.old }
+        ensures passes { IsNone result ↔ (u64.MAX < self.old.moment + by) }
+    {
+        self.moment = self.moment.checked_add(by)?;
+        Some(())
+    }
+
+    /// The node at a link, by its number; None where there is none. It takes no memory.
+    pub fn node_of(&self, link: [u8; 6]) -> Option<usize>
+        ensures some { IfSome result (λ node. slice_get self.now.links node ≡ Some link) }
+        ensures none { result ≡ None → (node : ℕ) → slice_get self.now.links node ≢ Some link }
+    {
+        node_at(&self.links, link)
+    }
+
+    /// The link of a node; None where there is no such node.
+    pub fn link_of(&self, node: usize) -> Option<[u8; 6]>
+        ensures { result ≡ slice_get self.now.links node }
+    {
+        self.links.get(node).copied()
+    }
+
+    /// Whether octets from a link are noise: the link is no node's, and they mean no APDU of a peer. It takes no memory.
+    pub fn is_noise(&self, from: [u8; 6], octets: &[u8]) -> bool
+        ensures { (nodes : List Node) → AreLinks nodes self.now.links → (IsTrue result ↔ IsNoise nodes from octets.now) }
+    {
+        is_noise(&self.links, from, octets)
+    }
+
+    /// Whether a copy may arrive now: it was sent at most 5,000 ms ago, and at most so many later copies are of its transaction. None where there is no
+    /// such copy. It takes no memory.
+    pub fn is_deliverable(&self, overtake: u8, number: usize) -> Option<bool>
+        ensures none { slice_get self.now.copies number ≡ None → result ≡ None }
+        ensures is { (c : world.Copy) → slice_get self.now.copies number ≡ Some c
+            → result ≡ Some (is_deliverable overtake self.now.moment number self.now.copies c) }
+    {
+        deliverable(overtake, self.moment, &self.copies, &self.rows, number)
+    }
+
+    /// The newest ask of a transaction, by its number; None where there is none. It takes no memory.
+    pub fn newest(&self, transaction: &Transaction) -> Option<usize>
+        ensures { result ≡ newest (key_view transaction.now) self.now.notes }
+    {
+        transaction.fits();
+        known(&self.rows, transaction)?.newest
+    }
+
+    /// The ask of a client's ticket, by its number; None where there is none. It takes no memory.
+    pub fn ask_of(&self, client: usize, ticket: u64) -> Option<usize>
+        ensures { result ≡ ask_of client ticket self.now.notes }
+    {
+        number_of(&self.rows, client, ticket)
+    }
+
+    /// Makes room for so many more copies. After an Err nothing has changed.
+    pub fn reserve(&mut self, count: usize) -> Result<(), NoMemory>
+        ensures ok { OnOk result (count ≤ self.new.room) }
+        ensures same { self.new ≡ record (self.old) { room = self.new.room } }
+        ensures err { OnErr result (self.new ≡ self.old) }
+    {
+        self.copies.reserve(count)?;
+        Ok(())
+    }
+
+    /// The datagrams that a node sends become the newest copies, for which room was made. Each goes to a node, and means an APDU. It takes no memory.
+    pub fn send(&mut self, sender: usize, sends: Vec<Datagram>)
+        requires can { CanGo self.old.links self.old.moment sender sends.items }
+        requires room { length sends.items ≤ self.old.room }
+        requires sender { sender < length self.old.links }
+        ensures copies { (nodes : List Node) → AreLinks nodes self.old.links
+            → BecomeCopies nodes self.old.moment sender sends.items self.old.copies self.new.copies }
+        ensures same { self.new ≡ record (self.old) { copies = self.new.copies; room = self.new.room } }
+        ensures room { self.new.room + length sends.items ≡ self.old.room }
+    {
+        send_all(
+            &self.links,
+            self.moment,
+            sender,
+            &mut self.copies,
+            &mut self.rows,
+            sends,
+        );
+    }
+
+    /// Makes room for a note of a client's next ask. Nothing else changes, after an Err neither.
+    pub fn reserve_note(&mut self, client: usize) -> Result<(), NoMemory>
+        requires { client < length self.old.links }
+        ensures ok { OnOk result (HasNoteRoom self.new client) }
+        ensures same { self.new ≡ record (self.old) { note_room = self.new.note_room } }
+    {
+        self.notes.reserve(1)?;
+        reserve_number(&mut self.rows, client)
+    }
+
+    /// An ask that was accepted is noted, for which room was made; its client's tickets count its asks. It takes no memory.
+    pub fn note(&mut self, note: Note)
+        requires room { HasNoteRoom self.old note.transaction.client }
+        requires server { note.transaction.server < length self.old.links }
+        requires ticket { note.ticket ≡ asks_by note.transaction.client self.old.notes }
+        ensures { self.new ≡ record (self.old) { notes = note_view note ∷ self.old.notes; note_room = self.new.note_room } }
+    {
+        note.transaction.fits();
+        add_note(&mut self.notes, &mut self.rows, note);
+    }
+
+    /// Whether both have the same links, moment, copies and notes; it doesn't matter for how many more there is room. It takes no memory.
+    pub fn same(&self, other: &Journal) -> bool
+        ensures { IsTrue result ↔ AreSame self.now other.now }
+    {
+        if self.moment != other.moment {
+            return false;
+        }
+        if !are_same_links(&self.links, &other.links) {
+            return false;
+        }
+        if !are_same_notes(&self.notes, &other.notes) {
+            return false;
+        }
+        if !are_same_copies(&self.copies, &other.copies) {
+            return false;
+        }
+        true
+    }
+}

@@ -1,0 +1,26 @@
+//! Nodes in one simulated network, in code.
+#![tactic(auto)]
+
+mod arriving;
+mod asks;
+mod comparing;
+mod copies;
+mod journal;
+mod meaning;
+mod noting;
+mod sending;
+mod transaction;
+
+ghost use Rattle.bac_journal.specs.Entering.{RunsCanGoOn};
+
+pub use copies::Copy;
+pub use journal::Journal;
+pub use noting::Note;
+pub use transaction::Transaction;
+
+/// In each world that a run of a fresh one leads to, what comes of a node's call can enter the world: each datagram goes to a node, in a transaction,
+/// each ending is an ask's, and so is what was performed. A copy makes a node send at most W + 1 datagrams.
+#[tactic(auto, using(crate::proofs::GoingOn::runs_can_go_on))]
+pub fn runs_can_go_on()
+    ensures { RunsCanGoOn }
+{}

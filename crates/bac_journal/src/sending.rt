@@ -1,0 +1,97 @@
+//! How copies come into the list of them.
+ghost use Rattle.std.specs.Prelude.{◌≡◌, ◌+◌, ◌≤◌, List, [], ◌∷◌, ◌++◌, Some, length, map, vec_capacity};
+ghost use Rattle.bac_world.specs.Node.{Node};
+ghost use Rattle.bac_world.specs.World.{Note};
+ghost use Rattle.bac_journal.specs.Growing.{BecomeCopies, CanGo};
+ghost use Rattle.bac_journal.specs.declared.asks.Cell.{Cell};
+ghost use Rattle.bac_journal.specs.Index.{cell_at};
+ghost use Rattle.bac_journal.specs.Journals.{ticket_room};
+ghost use Rattle.bac_journal.specs.Records.{IsKept};
+ghost use Rattle.bac_journal.specs.Views.{key_view, copy_view, AreLinks};
+
+use crate::asks::{Cell, Row, known, set_known};
+use crate::copies::{Copy, copy_of};
+use bac_ends::Datagram;
+
+/// A copy comes to the end of the list, which has room for it; its transaction is one of two nodes that there are.
+pub(crate) fn add_copy(copies: &mut Vec<Copy>, rows: &mut [Row], copy: Copy)
+    requires there { (k : Cell) × (cell_at rows.old (key_view copy.transaction) ≡ Some k) }
+    requires room { length copies.old.items + 1 ≤ vec_capacity copies.old }
+    ensures copies { map copy_view copies.new.items ≡ map copy_view copies.old.items ++ copy_view copy ∷ [] }
+    ensures room { vec_capacity copies.new ≡ vec_capacity copies.old }
+    ensures kept { (notes : List Note) → IsKept rows.old copies.old.items notes → IsKept rows.new copies.new.items notes }
+    ensures many { length rows.new ≡ length rows.old }
+    ensures tickets { map ticket_room rows.new ≡ map ticket_room rows.old }
+{
+    let transaction = copy.transaction;
+    transaction.fits();
+    let Some(found) = known(rows, &transaction) else {
+        unreachable!()
+    };
+    copies.push_reserved(Copy {
+        moment: copy.moment,
+        from: copy.from,
+        to: copy.to,
+        transaction,
+        octets: copy.octets,
+        before: found.sent,
+    });
+    let cell = Cell {
+        newest: found.newest,
+        sent: found.sent.saturating_add(1),
+    };
+    set_known(rows, &transaction, cell);
+}
+
+/// A datagram that a node sends becomes the newest copy.
+fn send_one(
+    links: &[[u8; 6]],
+    now: u64,
+    sender: usize,
+    copies: &mut Vec<Copy>,
+    rows: &mut [Row],
+    datagram: Datagram,
+)
+    requires can { CanGo links.now now sender (datagram ∷ []) }
+    requires kept { (notes : List Note) × IsKept rows.old copies.old.items notes }
+    requires nodes { length rows.old ≡ length links.now }
+    requires room { length copies.old.items + 1 ≤ vec_capacity copies.old }
+    ensures copies { (nodes : List Node) → AreLinks nodes links.now
+        → BecomeCopies nodes now sender (datagram ∷ []) (map copy_view copies.old.items) (map copy_view copies.new.items) }
+    ensures kept { (notes : List Note) → IsKept rows.old copies.old.items notes → IsKept rows.new copies.new.items notes }
+    ensures nodes { length rows.new ≡ length rows.old }
+    ensures many { length copies.new.items ≡ length copies.old.items + 1 }
+    ensures room { vec_capacity copies.new ≡ vec_capacity copies.old }
+    ensures tickets { map ticket_room rows.new ≡ map ticket_room rows.old }
+{
+    let Some(copy) = copy_of(links, now, sender, datagram) else {
+        unreachable!()
+    };
+    add_copy(copies, rows, copy);
+}
+
+/// The datagrams that a node sends become the newest copies, for which there is room.
+pub(crate) fn send_all(
+    links: &[[u8; 6]],
+    now: u64,
+    sender: usize,
+    copies: &mut Vec<Copy>,
+    rows: &mut [Row],
+    sends: Vec<Datagram>,
+)
+    requires can { CanGo links.now now sender sends.items }
+    requires kept { (notes : List Note) × IsKept rows.old copies.old.items notes }
+    requires nodes { length rows.old ≡ length links.now }
+    requires room { length copies.old.items + length sends.items ≤ vec_capacity copies.old }
+    ensures copies { (nodes : List Node) → AreLinks nodes links.now
+        → BecomeCopies nodes now sender sends.items (map copy_view copies.old.items) (map copy_view copies.new.items) }
+    ensures kept { (notes : List Note) → IsKept rows.old copies.old.items notes → IsKept rows.new copies.new.items notes }
+    ensures nodes { length rows.new ≡ length rows.old }
+    ensures many { length copies.new.items ≡ length copies.old.items + length sends.items }
+    ensures room { vec_capacity copies.new ≡ vec_capacity copies.old }
+    ensures tickets { map ticket_room rows.new ≡ map ticket_room rows.old }
+{
+    for datagram in sends {
+        send_one(links, now, sender, copies, rows, datagram);
+    }
+}

@@ -1,0 +1,10 @@
+-- What was taken, in the ticket's own state.
+use Rattle.std.proofs.Common.{◌≡◌, true, nat_eq, arith}
+use Rattle.std.proofs.lemmas.Bool.Decides.{nat_tests}
+use Rattle.bac_ticket.specs.declared.ticket.Phase.TheVariants.{SegmentedConf}
+use Rattle.bac_ticket.proofs.segmented_conf.gets_next_segment.Goals as goal
+
+pub returns-in-Ok : goal.returns-in-Ok
+returns-in-Ok c =
+    let same : nat_eq c.args.choice c.args.core.choice ≡ true = grind (arith, nat_tests, c.if-choice-core.false) in
+    rw same (c.in-Ok.ensures (SegmentedConf c.args.incoming))

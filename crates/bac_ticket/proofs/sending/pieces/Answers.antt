@@ -1,0 +1,14 @@
+-- One more piece.
+use Rattle.std.proofs.Common.{refl, arith}
+use Rattle.bac_protocol.specs.Client.{request_piece}
+use Rattle.bac_ends.specs.Views.{context_view, peer_of}
+use Rattle.bac_ends.proofs.Pieces.{one_more_piece}
+use Rattle.bac_ticket.proofs.sending.pieces.Goals as goal
+
+pub loop-n-preserved : goal.loop-n-preserved
+loop-n-preserved c = record {
+  sent = one_more_piece (peer_of c.args.context.now) (request_piece (context_view c.args.context.now) c.args.choice c.args.outgoing.now.pieces) c.args.start
+      c.loop-n.n c.loop-n.sends.items _ _ c.in_ok-datagram.datagram c.loop-n.invariant.begun c.loop-n.invariant.sent c.in_ok-datagram.ensures refl
+      c.in_ok-push.ensures.items;
+  begun = omega (arith, c.loop-n.invariant.begun);
+}

@@ -1,0 +1,75 @@
+-- What the calls answer for one ticket.
+use Rattle.std.specs.Prelude.{◌≡◌, ℕ, true, false, List, [], Option, Some, None, Result, Ok, Err}
+use Rattle.std.specs.Option.{option_map}
+use Rattle.bac_service.specs.Replies.{SpellsComplex}
+use Rattle.bac_service.specs.Services.{reads_reply}
+use Rattle.bac_service.specs.Values.{Complex}
+use Rattle.bac_segment.specs.Window.{Incoming}
+use Rattle.bac_protocol.specs.Service.{Octets, Ending}
+use Rattle.bac_protocol.specs.Client.{Ask, Ticket, Phase, Reaction, after, sends_of, ending_of, asked_ticket, asks}
+use Rattle.bac_ends.specs.Ends.{Held, kept}
+use Rattle.bac_ends.specs.Meanings as meanings
+use Rattle.bac_ends.specs.Meanings.{MeansEnding}
+use Rattle.bac_ends.specs.Sends.{Pairwise, IsSent, to_all}
+use Rattle.bac_ends.specs.Views.{context_view, peer_of}
+use Rattle.bac_ticket.specs.Views.{held_view, ending_view, ticket_view}
+use Rattle.bac_ends.specs.declared.context.Context.{Context}
+use Rattle.bac_ticket.specs.declared.ticket.Core.{Core}
+use Rattle.bac_ticket.specs.declared.ticket.Phase as states
+use Rattle.bac_ticket.specs.declared.asking.Begun.{Begun}
+use Rattle.bac_ticket.specs.declared.reaction.Reaction as code
+use Rattle.bac_ticket.specs.declared.reaction.Closing.{Closing}
+use Rattle.bac_ticket.specs.declared.ticking.Due.{Due}
+
+-- the segments of a reply that a ticket keeps
+abbrev pub parts_taken : Phase → List Octets
+parts_taken (Phase.SegmentedRequest sender all_sent) = []
+parts_taken Phase.AwaitConfirmation = []
+parts_taken (Phase.SegmentedConf incoming) = incoming.parts
+parts_taken Phase.Idle = []
+
+-- how a ticket ends, if it does
+abbrev pub MeansEnd : (choice : ℕ) → Option Ending → Option meanings.Ending → Type 0
+MeansEnd choice None None = Unit {0}
+MeansEnd choice None (Some f) = ⊥
+MeansEnd choice (Some e) None = ⊥
+MeansEnd choice (Some e) (Some f) = MeansEnding choice e f
+
+-- the ask was accepted: the ticket after it has sent, and what it sent
+pub record IsBegun (c : Context) (ask : Ask) (x : Begun) : Type 0 where
+  pub ticket : x.ticket ≡ asked_ticket (context_view c) ask
+  pub sends : Pairwise IsSent (to_all (peer_of c) (sends_of (asks (context_view c) ask))) x.sends.items
+
+-- it did what the machine says
+pub record IsReaction (c : Context) (t : Ticket) (r : Reaction) (x : code.Reaction) : Type 0 where
+  pub held : held_view x.held ≡ kept (after c.moment t r)
+  pub sends : Pairwise IsSent (to_all (peer_of c) (sends_of r)) x.sends.items
+  pub ended : MeansEnd t.ask.choice (ending_of r) (option_map ending_view x.ended)
+
+-- or there was no memory, and the ticket is as it was
+abbrev pub Reacts : Context → Ticket → Reaction → Result code.Reaction Ticket → Type 0
+Reacts c t r (Ok x) = IsReaction c t r x
+Reacts c t r (Err old) = old ≡ t
+
+-- what a tick sends, and how it ends the ticket
+pub record IsDue (c : Context) (t : Ticket) (r : Reaction) (x : Due) : Type 0 where
+  pub sends : Pairwise IsSent (to_all (peer_of c) (sends_of r)) x.sends.items
+  pub ended : MeansEnd t.ask.choice (ending_of r) (option_map ending_view x.ended)
+
+-- Steps.
+
+-- the ticket ends so
+pub record IsClosing (c : Context) (choice : ℕ) (r : Reaction) (x : Closing) : Type 0 where
+  pub held : (t : Ticket) → kept (after c.moment t r) ≡ Held.Closed t.ask.first
+  pub sends : Pairwise IsSent (to_all (peer_of c) (sends_of r)) x.sends.items
+  pub ended : MeansEnd choice (ending_of r) (Some (ending_view x.how))
+
+-- what was read of the service data of a ComplexACK
+abbrev pub IsRead : (choice : ℕ) → Octets → Option Complex → Type 0
+IsRead choice octets (Some x) = SpellsComplex choice x octets × (reads_reply choice octets ≡ true)
+IsRead choice octets None = reads_reply choice octets ≡ false
+
+-- a segment came for a ticket, whatever state it had; or there was no memory, and all is as it was
+abbrev pub TakesSegment : Context → Reaction → Core → Incoming → Result code.Reaction (Core × Incoming) → Type 0
+TakesSegment c r core incoming (Ok x) = (p : states.Phase) → IsReaction c (ticket_view core p) r x
+TakesSegment c r core incoming (Err old) = (old.0 ≡ core) × (old.1 ≡ incoming)
