@@ -2,10 +2,10 @@
 ghost use Rattle.std.specs.Prelude.{◌<◌};
 
 use bac_apdu::{Limits, Window, read};
-use bac_ticket::{Begun, Ending, Held, OutgoingRequest, RequestWay, Ticket};
 use bac_ends::{Context, Datagram, PeerKey, Settings};
 use bac_npdu::Peer;
 use bac_service::{AnyComplex, AnyReply, FileWritten, OwnedReply};
+use bac_ticket::{Begun, Ending, Held, OutgoingRequest, RequestWay, Ticket};
 use bac_value::NoMemory;
 use std::alloc::Global;
 use std::test::Fail;

@@ -16,10 +16,10 @@ use crate::fault::WorldFault;
 use crate::going::ask;
 use crate::network::Network;
 use bac_apdu::Limits;
+use bac_journal::{Journal, Note, Transaction};
 use bac_npdu::Peer;
 use bac_requester::{AskFault, Asked};
 use bac_service::OwnedRequest;
-use bac_journal::{Journal, Note, Transaction};
 use bac_value::NoMemory;
 use std::alloc::Global;
 

@@ -8,8 +8,8 @@ ghost use Rattle.bac_network.specs.Views.{log_view};
 
 use crate::fact::Fact;
 use crate::logging::{log_endings, log_performed};
-use bac_node::Outcome;
 use bac_journal::Journal;
+use bac_node::Outcome;
 
 /// What comes of a node's call enters: what it sends becomes copies, and what has ended and what was performed comes into the log, for all of which there is
 /// room. It takes no memory.

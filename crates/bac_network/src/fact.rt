@@ -1,7 +1,7 @@
 //! What is logged.
-use bac_ticket::Ending;
 use bac_comparing::{Alike, same_ending, same_reply, same_request};
 use bac_service::{OwnedReply, OwnedRequest};
+use bac_ticket::Ending;
 
 /// What was asked, performed or ended. Asks are numbered from 0; clients and servers are numbered among the nodes.
 #[derive(Drop)]

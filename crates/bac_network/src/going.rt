@@ -11,11 +11,11 @@ ghost use Rattle.bac_world.specs.World.{Copy};
 ghost use Rattle.bac_network.specs.Goings.{ArePunctual, Goes, IsBetween, IsHeardCopy};
 
 use bac_apdu::Limits;
+use bac_journal::Journal;
 use bac_node::{Node, NodeFault, Outcome};
 use bac_npdu::Peer;
 use bac_requester::{AskFault, Asked};
 use bac_service::OwnedRequest;
-use bac_journal::Journal;
 use bac_value::NoMemory;
 
 /// A node hears a datagram from a link, at a moment that is not before its latest.

@@ -8,8 +8,8 @@ ghost use Rattle.bac_network.specs.Fresh.{HasBadSlots, HasBadWindow, HaveSameLin
 use crate::fault::NewWorldFault;
 use crate::network::Network;
 use crate::world::World;
-use bac_node::{Config, NewNodeFault, Node};
 use bac_journal::Journal;
+use bac_node::{Config, NewNodeFault, Node};
 use bac_store::Store;
 use bac_value::NoMemory;
 use std::alloc::Global;

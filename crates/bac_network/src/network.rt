@@ -7,9 +7,9 @@ ghost use Rattle.bac_network.specs.Views.{event_view};
 use crate::event::Event;
 use crate::fact::Fact;
 use crate::fault::WorldFault;
+use bac_journal::Journal;
 use bac_node::Node;
 use bac_requester::AskFault;
-use bac_journal::Journal;
 use bac_value::NoMemory;
 use std::alloc::Global;
 

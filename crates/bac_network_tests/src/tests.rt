@@ -1,6 +1,6 @@
 //! Worlds, event by event: what each one logs, and what is sent. Here is what the tests share.
 use bac_apdu::Limits;
-use bac_ticket::Ending;
+use bac_journal::Copy;
 use bac_network::{Event, Fact, NewWorldFault, World, WorldFault};
 use bac_node::Config;
 use bac_requester::AskFault;
@@ -8,8 +8,8 @@ use bac_service::{
     AnyComplex, AnyReply, AnyRequest, FileWritten, OwnedComplex, OwnedReply, OwnedRequest,
     WriteAccess, WriteFile, WriteStream, read_request,
 };
-use bac_journal::Copy;
 use bac_store::{Store, house};
+use bac_ticket::Ending;
 use bac_value::{NoMemory, ObjectIdentifier, OctetString};
 use std::alloc::Global;
 use std::test::Fail;

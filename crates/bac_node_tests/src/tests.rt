@@ -1,12 +1,12 @@
 //! Nodes, datagram by datagram. Here is what the tests share.
 use bac_apdu::Limits;
-use bac_ticket::Ending;
 use bac_ends::Datagram;
 use bac_node::{Config, NewNodeFault, Node, NodeFault, Outcome};
 use bac_npdu::Peer;
 use bac_requester::{AskFault, Asked};
 use bac_service::{AnyComplex, AnyReply, FileWritten, OwnedRequest, read_request};
 use bac_store::house;
+use bac_ticket::Ending;
 use bac_value::NoMemory;
 use std::alloc::Global;
 use std::test::Fail;

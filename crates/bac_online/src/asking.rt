@@ -6,11 +6,11 @@ ghost use Rattle.bac_online.specs.Reports.{AskedText, ReportsAsking, beside, end
 
 use crate::house_node::house_node;
 use crate::trouble::Trouble;
-use bac_ticket::Ending;
 use bac_facts::{print_ending, print_refused};
 use bac_link::{Clock, Link};
 use bac_run::{AskEnd, Question, ask_over};
 use bac_text::Status;
+use bac_ticket::Ending;
 use std::alloc::Global;
 use std::io;
 use std::io::Write;

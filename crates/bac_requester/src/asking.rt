@@ -19,7 +19,6 @@ ghost use Rattle.bac_requester.specs.Views.{end_of};
 use crate::ask_fault::AskFault;
 use crate::client::{Client, HeldAt};
 use crate::order::last_unheld;
-use bac_ticket::{Begun, Held, OutgoingRequest, RequestWay, Ticket};
 use bac_ends::{Context, Datagram, PeerKey, Settings};
 use bac_npdu::Peer;
 use bac_service::{AnyRequest, Request, Service, write_request};
@@ -27,6 +26,7 @@ use bac_slots::{
     SlotTable, count_passing, has_room_once_swept, ranks_of_keys, sweep, sweep_oldest,
     sweeping_slots,
 };
+use bac_ticket::{Begun, Held, OutgoingRequest, RequestWay, Ticket};
 use bac_value::NoMemory;
 use std::alloc::Global;
 

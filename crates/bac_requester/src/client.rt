@@ -4,8 +4,8 @@ ghost use Rattle.bac_ends.specs.Ends.{is_held};
 ghost use Rattle.bac_ticket.specs.Timers.{IsHeldQuiet};
 ghost use Rattle.bac_requester.specs.Short.{IsHeldShort};
 
-use bac_ticket::Held;
 use bac_slots::{Same, Test};
+use bac_ticket::Held;
 use std::marker::Model;
 
 /// The value of a slot: a ticket's number, and what is kept of the ticket.

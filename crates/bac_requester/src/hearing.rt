@@ -10,9 +10,9 @@ ghost use Rattle.bac_requester.specs.Views.{end_of, finishes_of};
 use crate::client::Client;
 use crate::turn::{Finish, Turn};
 use bac_apdu::Apdu;
-use bac_ticket::{Ending, Held, Reaction};
 use bac_ends::{Context, Datagram, PeerKey};
 use bac_slots::SlotTable;
+use bac_ticket::{Ending, Held, Reaction};
 use bac_value::NoMemory;
 use std::alloc::Global;
 

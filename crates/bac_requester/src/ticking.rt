@@ -14,10 +14,10 @@ ghost use Rattle.bac_requester.specs.Views.{end_of, finish_view, finishes_of};
 use crate::client::Client;
 use crate::hearing::{nothing, turn_of};
 use crate::turn::{Due, Turn};
-use bac_ticket::Held;
 use bac_ends::{Context, PeerKey, Settings};
 use bac_protocol::times::T_SEG;
 use bac_slots::{SlotTable, slots_in_order};
+use bac_ticket::Held;
 use bac_value::NoMemory;
 use std::alloc::Global;
 

@@ -2,7 +2,6 @@
 ghost use Rattle.std.specs.Prelude.{◌<◌};
 
 use bac_apdu::{Limits, Window, read};
-use bac_ticket::Ending;
 use bac_ends::{Datagram, PeerKey, Settings};
 use bac_npdu::Peer;
 use bac_requester::{AskFault, Client, Due, Finish, Requester, Turn};
@@ -11,6 +10,7 @@ use bac_service::{
     WriteStream, read_request,
 };
 use bac_slots::IndexSlots;
+use bac_ticket::Ending;
 use bac_value::{NoMemory, ObjectIdentifier, OctetString};
 use std::alloc::Global;
 use std::test::Fail;

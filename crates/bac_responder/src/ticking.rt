@@ -12,8 +12,8 @@ ghost use Rattle.bac_responder.specs.Timers.{AreQuiet};
 ghost use Rattle.bac_responder.specs.Views.{end_of};
 
 use bac_ends::{Context, Datagram, PeerKey, Settings};
-use bac_protocol::times::T_SEG;
 use bac_entry::Entry;
+use bac_protocol::times::T_SEG;
 use bac_slots::SlotTable;
 use bac_value::NoMemory;
 use std::alloc::Global;

@@ -9,10 +9,10 @@ use crate::buffer::buffer;
 use crate::endings::ending_in;
 use crate::fault::RunFault;
 use crate::question::{AskEnd, Question};
-use bac_ticket::Ending;
 use bac_link::{Clock, Link};
 use bac_node::Node;
 use bac_requester::AskFault;
+use bac_ticket::Ending;
 use bac_turns::{Turn, TurnFault, send_all, take_turn};
 use std::alloc::Global;
 

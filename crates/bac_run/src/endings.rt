@@ -6,8 +6,8 @@ ghost use Rattle.bac_requester.specs.Views.{finish_view};
 ghost use Rattle.bac_turns.specs.Views.{turn_view};
 ghost use Rattle.bac_run.specs.Asking.{ending_in, ending_of};
 
-use bac_ticket::Ending;
 use bac_requester::Finish;
+use bac_ticket::Ending;
 use bac_turns::Turn;
 
 /// How a ticket ended, if it is among those that did.

@@ -1,9 +1,9 @@
 //! What a node is to ask, and how asking ended.
 use bac_apdu::Limits;
-use bac_ticket::Ending;
 use bac_npdu::Peer;
 use bac_requester::AskFault;
 use bac_service::OwnedRequest;
+use bac_ticket::Ending;
 
 /// What a node is to ask of a peer.
 #[derive(Drop)]

@@ -1,9 +1,9 @@
 //! The server's end over a table with an index, APDU by APDU. Here is what the tests share.
 use bac_apdu::{Apdu, Limits, Segment, Window, read};
 use bac_ends::{Datagram, PeerKey, Settings};
+use bac_entry::Entry;
 use bac_npdu::Peer;
 use bac_responder::Responder;
-use bac_entry::Entry;
 use bac_slots::IndexSlots;
 use bac_store::{Store, house};
 use bac_value::NoMemory;

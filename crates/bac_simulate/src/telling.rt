@@ -10,9 +10,9 @@ ghost use Rattle.bac_simulate.specs.Told.{asked_text, copies_text, fact_text, fa
 use bac_facts::{
     print_asked, print_ended, print_nothing, print_performed, print_refused, print_sent,
 };
+use bac_journal::{Copy, Note};
 use bac_network::{Fact, World};
 use bac_requester::AskFault;
-use bac_journal::{Copy, Note};
 use std::alloc::Global;
 use std::io;
 use std::io::Write;

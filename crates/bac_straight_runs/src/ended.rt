@@ -6,8 +6,8 @@ ghost use Rattle.bac_straight.specs.Straight.{ending_in};
 ghost use Rattle.bac_straight_runs.specs.Logs.{IsSince};
 ghost use Rattle.bac_world.specs.Once as once;
 
-use bac_ticket::Ending;
 use bac_network::Fact;
+use bac_ticket::Ending;
 use bac_value::NoMemory;
 use std::alloc::Global;
 

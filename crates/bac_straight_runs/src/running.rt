@@ -17,9 +17,9 @@ ghost use Rattle.bac_straight_runs.specs.Runs.{AsksIf, CanBeAnswered, Goes, Goes
 
 use crate::ended::{copied, ending_of};
 use bac_apdu::Limits;
-use bac_ticket::Ending;
 use bac_network::{Event, World, WorldFault};
 use bac_service::OwnedRequest;
+use bac_ticket::Ending;
 use bac_value::NoMemory;
 use std::alloc::Global;
 

@@ -1,6 +1,5 @@
 //! Straight runs of two nodes.
 use bac_apdu::Limits;
-use bac_ticket::Ending;
 use bac_network::{World, WorldFault};
 use bac_node::Config;
 use bac_service::{
@@ -9,6 +8,7 @@ use bac_service::{
 };
 use bac_store::{Object, Property, Store, house};
 use bac_straight_runs::straight;
+use bac_ticket::Ending;
 use bac_value::{ObjectIdentifier, OctetString, read_data};
 use std::alloc::Global;
 use std::test::Fail;

@@ -1,9 +1,9 @@
 //! Fronts of datagrams that come between the datagrams themselves.
 use super::*;
-use bac_ticket::Ending;
 use bac_network::{Copy, Event, Fact, World};
 use bac_service::{AnyReply, OwnedReply, OwnedRequest, read_request, write_reply, write_request};
 use bac_store::{Object, Property, Store};
+use bac_ticket::Ending;
 use bac_value::{DataBuf, ObjectIdentifier, read_data};
 
 /// AtomicWriteFile and ReadProperty: their service choices (clause 21).

@@ -1,8 +1,8 @@
 //! Each call of one entry once, on a read of one datagram.
 use bac_apdu::{Limits, Window, read};
 use bac_ends::{Context, Datagram, PeerKey, Settings};
-use bac_npdu::Peer;
 use bac_entry::{Entry, IdleReaction, Reaction, idle_gets, live_gets};
+use bac_npdu::Peer;
 use bac_slots::Same;
 use bac_store::{Store, house};
 use bac_value::NoMemory;
