@@ -3,11 +3,12 @@ use super::event::{Came, framed};
 use super::link;
 use super::wrong::Wrong;
 use bac_ends::Datagram;
-use bac_facts::{print_asked, print_ended, print_ending, print_refused};
 use bac_node::Outcome;
-use bac_requester::Asked;
+use bac_requester::{Asked, Finish};
 use bac_responder::Act;
-use bac_service::{AnyRequest, OwnedRequest, write_request};
+use bac_service::{
+    AnyComplex, AnyReply, AnyRequest, Complex, FileWritten, OwnedRequest, Reply, write_request,
+};
 use bac_ticket::Ending;
 use std::alloc::Global;
 use std::io::Write;
@@ -34,6 +35,55 @@ fn print_sends(alloc: Global, sends: &[Datagram], out: &mut Vec<u8>) -> Result<(
     Ok(())
 }
 
+fn print_complex(alloc: Global, complex: Complex<'_>, out: &mut Vec<u8>) -> Result<(), Wrong> {
+    match complex {
+        AnyComplex::FileRead(read) => {
+            let octets = hex::encode_upper(alloc, read.content.octets)?;
+            write!(
+                out,
+                "file {} {} {octets}",
+                u8::from(read.end_of_file),
+                read.start
+            )?;
+        }
+        AnyComplex::FileWritten(FileWritten::Stream(start)) => write!(out, "position {start}")?,
+        AnyComplex::FileWritten(FileWritten::Records(start)) => write!(out, "record {start}")?,
+        AnyComplex::PropertyRead(read) => {
+            let values = hex::encode_upper(alloc, read.values.octets)?;
+            write!(out, "read {values}")?;
+        }
+    }
+    Ok(())
+}
+
+/// How a request is answered.
+fn print_reply(alloc: Global, reply: Reply<'_>, out: &mut Vec<u8>) -> Result<(), Wrong> {
+    match reply {
+        AnyReply::Simple => write!(out, "answered written")?,
+        AnyReply::Complex(complex) => {
+            write!(out, "answered ")?;
+            print_complex(alloc, complex, out)?;
+        }
+        AnyReply::Error { class, code } => write!(out, "answered error {class}:{code}")?,
+        AnyReply::Reject(reason) => write!(out, "rejected {reason}")?,
+    }
+    Ok(())
+}
+
+/// How a ticket ended.
+fn print_finish(alloc: Global, finish: &Finish, out: &mut Vec<u8>) -> Result<(), Wrong> {
+    write!(out, "ended {} ", finish.ticket)?;
+    match &finish.how {
+        Ending::Answered(reply) => print_reply(alloc, reply.as_reply(), out)?,
+        Ending::Rejected(reason) => write!(out, "rejected {reason}")?,
+        Ending::Aborted(reason) => write!(out, "aborted {reason}")?,
+        Ending::TimedOut => write!(out, "timed-out")?,
+        Ending::Expired => write!(out, "expired")?,
+    }
+    out.push(b'\n')?;
+    Ok(())
+}
+
 /// The word for a request.
 fn verb(request: &OwnedRequest) -> &'static str {
     match request {
@@ -53,7 +103,7 @@ fn print_performed(alloc: Global, act: Act, out: &mut Vec<u8>) -> Result<(), Wro
     let service = hex::encode_upper(alloc, service)?;
     let peer = key.peer.link[3];
     write!(out, "performed {peer}:{} {verb} {service} ", key.invoke_id)?;
-    print_ending(alloc, &Ending::Answered(effect.reply), out)?;
+    print_reply(alloc, effect.reply.as_reply(), out)?;
     out.push(b'\n')?;
     Ok(())
 }
@@ -73,13 +123,13 @@ fn print_outcome(alloc: Global, outcome: Outcome, out: &mut Vec<u8>) -> Result<(
         print_performed(alloc, act, out)?;
     }
     for finish in &ended {
-        print_ended(alloc, finish.ticket, &finish.how, out)?;
+        print_finish(alloc, finish, out)?;
     }
     print_sends(alloc, &sends, out)
 }
 
 fn print_accepted(alloc: Global, asked: &Asked, out: &mut Vec<u8>) -> Result<(), Wrong> {
-    print_asked(asked.ticket, asked.invoke_id, out)?;
+    writeln!(out, "asked {} id {}", asked.ticket, asked.invoke_id)?;
     print_sends(alloc, &asked.sends, out)
 }
 
@@ -88,7 +138,7 @@ pub(super) fn print_came(alloc: Global, came: Came, out: &mut Vec<u8>) -> Result
     match came {
         Came::Outcome(outcome) | Came::Prepared(outcome) => print_outcome(alloc, outcome, out)?,
         Came::Asked(asked) => print_accepted(alloc, &asked, out)?,
-        Came::Refused(fault) => print_refused(fault.number(), out)?,
+        Came::Refused(fault) => writeln!(out, "refused {}", fault.number())?,
         Came::Fault(fault) => writeln!(out, "fault {}", fault.number())?,
         Came::Counted(held, live) => writeln!(out, "held {held} live {live}")?,
         Came::Compared(node, store) => writeln!(out, "new node {node} store {store}")?,
