@@ -11,7 +11,7 @@ ghost use Rattle.bac_simulate.specs.Scripts.{IsModest, script_of, script_view};
 use crate::script::{Script, ScriptFault, read_script};
 use crate::telling::{Seen, print_outcome};
 use crate::world_of::world_of;
-use bac_facts::print_fault;
+use bac_commands::print_fault;
 use bac_network::{Event, World};
 use bac_text::{Status, complain, no_memory, output_failed};
 use bac_value::NoMemory;
