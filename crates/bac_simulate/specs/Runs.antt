@@ -7,7 +7,7 @@ use Rattle.bac_network.specs.Faults.{fault_number}
 use Rattle.bac_network.specs.Histories.{WorldView}
 use Rattle.bac_network.specs.Steps.{IsFault, Tells}
 use Rattle.bac_network.specs.declared.fault.WorldFault.{WorldFault}
-use Rattle.bac_facts.specs.Texts.{fault_line}
+use Rattle.bac_commands.specs.Facts.{fault_line}
 use Rattle.bac_text.specs.Lines.{lines_of}
 use Rattle.bac_text.specs.Statuses.{IsFailure}
 use Rattle.bac_text.specs.Texts.{AppendsText}

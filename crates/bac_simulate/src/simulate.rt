@@ -10,7 +10,7 @@ ghost use Rattle.bac_simulate.specs.Scripts.{IsModest, events_from, limits_in, m
 use crate::script::{ScriptFault, events_in, read_first};
 use crate::telling::{Seen, print_outcome};
 use crate::world_of::world_of;
-use bac_facts::print_fault;
+use bac_commands::print_fault;
 use bac_network::{Event, World};
 use bac_script::Setting;
 use bac_text::{Status, complain, no_memory, output_failed};
