@@ -1,10 +1,8 @@
 //! Lines of scripts that are read, and lines of no form.
-use crate::form_fault::FormFault;
-use crate::line::{Setting, Step};
-use crate::line_reading::{read_setting, read_step};
+use super::{holds, octets_of};
+use bac_script::{Ask, FormFault, Setting, Step, read_setting, read_step};
 use bac_service::write_request;
 use std::alloc::Global;
-use std::process::Abort;
 use std::test::Fail;
 
 /// A line that asks, and the service data of what it asks, in hexadecimal.
@@ -119,6 +117,7 @@ const NO_STEPS: &[&str] = &[
     "ask 0 1 get 10:1 0 -1",
 ];
 
+/// First lines, and the nodes, the window and the overtaking limit that they set.
 const SETTINGS: &[(&str, u8, u8, u8)] = &[
     ("nodes 1", 1, 32, 128),
     ("nodes 16", 16, 32, 128),
@@ -142,82 +141,92 @@ const NO_SETTINGS: &[&str] = &[
     "ask 0 1 read 0:5 85",
 ];
 
+/// Whether that is what is asked, of whom and by whom.
+fn is_asked(alloc: Global, ask: &Ask, row: &Asked) -> Result<bool, Fail> {
+    let mut service = Vec::new(alloc);
+    write_request(ask.request.as_request(), &mut service)?;
+    let octets = octets_of(alloc, row.service)?;
+    Ok(
+        service.as_slice() == octets.as_slice()
+            && ask.client == row.client
+            && ask.server == row.server,
+    )
+}
+
+fn is_ask_read(alloc: Global, row: &Asked) -> Result<bool, Fail> {
+    match read_step(alloc, row.line.as_bytes())? {
+        Step::Ask(ask) => is_asked(alloc, &ask, row),
+        _ => Ok(false),
+    }
+}
+
 #[test]
 fn asks_are_read(rt: HostRuntime) -> Result<(), Fail> {
-    let alloc = rt.alloc();
     for row in ASKED {
-        let step = read_step(alloc, row.line.as_bytes())?;
-        let Step::Ask(ask) = step else {
-            panic!(&rt; "{}", row.line);
-        };
-        let mut service = Vec::new(alloc);
-        write_request(ask.request.as_request(), &mut service)?;
-        let text = hex::encode_upper(alloc, service)?;
-        assert_eq!(&rt; text.as_str(), row.service, "{}", row.line);
-        assert_eq!(&rt; ask.client, row.client, "{}", row.line);
-        assert_eq!(&rt; ask.server, row.server, "{}", row.line);
+        holds(is_ask_read(rt.alloc(), row)?, row.line)?;
     }
     Ok(())
 }
 
-fn says(rt: &impl Abort, alloc: Global, step: &Step, said: &Said, line: &str) -> Result<(), Fail> {
-    match (step, said) {
-        (Step::Deliver(a), Said::Deliver(b)) => assert_eq!(rt; *a, *b, "{line}"),
-        (Step::Tick(a), Said::Tick(b)) => assert_eq!(rt; *a, *b, "{line}"),
-        (Step::Advance(a), Said::Advance(b)) => assert_eq!(rt; *a, *b, "{line}"),
-        (Step::Noise(a), Said::Noise(node, octets)) => {
-            let text = hex::encode_upper(alloc, a.octets.as_slice())?;
-            assert_eq!(rt; a.node, *node, "{line}");
-            assert_eq!(rt; text.as_str(), *octets, "{line}");
+fn is_noise(alloc: Global, octets: &[u8], text: &str) -> Result<bool, Fail> {
+    Ok(octets_of(alloc, text)?.as_slice() == octets)
+}
+
+fn says(alloc: Global, line: &str, said: &Said) -> Result<bool, Fail> {
+    match (read_step(alloc, line.as_bytes())?, said) {
+        (Step::Deliver(a), Said::Deliver(b)) => Ok(a == *b),
+        (Step::Tick(a), Said::Tick(b)) => Ok(a == *b),
+        (Step::Advance(a), Said::Advance(b)) => Ok(a == *b),
+        (Step::Noise(a), Said::Noise(node, text)) => {
+            Ok(a.node == *node && is_noise(alloc, &a.octets, text)?)
         }
-        _ => panic!(rt; "{line}"),
+        _ => Ok(false),
     }
-    Ok(())
 }
 
 #[test]
 fn other_lines_are_read(rt: HostRuntime) -> Result<(), Fail> {
-    let alloc = rt.alloc();
     for (line, said) in OTHERS {
-        let step = read_step(alloc, line.as_bytes())?;
-        says(&rt, alloc, &step, said, line)?;
+        holds(says(rt.alloc(), line, said)?, line)?;
     }
     Ok(())
 }
 
+fn is_no_step(alloc: Global, line: &str) -> bool {
+    matches!(read_step(alloc, line.as_bytes()), Err(FormFault::NoForm))
+}
+
+fn is_no_setting(alloc: Global, line: &str) -> bool {
+    read_setting(alloc, line.as_bytes()) == Err(FormFault::NoForm)
+}
+
 #[test]
-fn lines_of_no_form_are_refused(rt: HostRuntime) {
-    let alloc = rt.alloc();
+fn lines_of_no_form_are_refused(rt: HostRuntime) -> Result<(), Fail> {
     for line in NO_STEPS {
-        match read_step(alloc, line.as_bytes()) {
-            Err(fault) => assert_eq!(&rt; fault, FormFault::NoForm, "{line}"),
-            Ok(_) => panic!(&rt; "{line}"),
-        }
+        holds(is_no_step(rt.alloc(), line), line)?;
     }
+    for line in NO_SETTINGS {
+        holds(is_no_setting(rt.alloc(), line), line)?;
+    }
+    Ok(())
+}
+
+fn is_setting(alloc: Global, line: &str, nodes: u8, window: u8, overtake: u8) -> bool {
+    let want = Setting {
+        nodes,
+        window,
+        overtake,
+    };
+    read_setting(alloc, line.as_bytes()) == Ok(want)
 }
 
 #[test]
 fn first_lines_are_read(rt: HostRuntime) -> Result<(), Fail> {
-    let alloc = rt.alloc();
     for (line, nodes, window, overtake) in SETTINGS {
-        let want = Setting {
-            nodes: *nodes,
-            window: *window,
-            overtake: *overtake,
-        };
-        assert_eq!(&rt; read_setting(alloc, line.as_bytes())?, want, "{line}");
+        holds(
+            is_setting(rt.alloc(), line, *nodes, *window, *overtake),
+            line,
+        )?;
     }
     Ok(())
-}
-
-#[test]
-fn first_lines_of_no_form_are_refused(rt: HostRuntime) {
-    let alloc = rt.alloc();
-    for line in NO_SETTINGS {
-        assert_eq!(&rt;
-            read_setting(alloc, line.as_bytes()),
-            Err(FormFault::NoForm),
-            "{line}"
-        );
-    }
 }

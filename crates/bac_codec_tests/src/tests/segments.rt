@@ -1,9 +1,10 @@
-//! Worked transfers: numbers that were worked out by hand.
+//! Worked transfers in segments: numbers that were worked out by hand.
 ghost use Rattle.std.specs.Prelude.{◌≤◌};
 
-use crate::chunks::append;
-use crate::{DATA, Incoming, Outgoing, Progress, SegmentFault, Step, Timeout};
+use super::holds;
 use bac_apdu::Window;
+use bac_segment::chunks::append;
+use bac_segment::{DATA, Incoming, Outgoing, Progress, SegmentFault, Step, Timeout};
 use bac_value::Octets;
 use std::alloc::Global;
 use std::test::Fail;
@@ -75,17 +76,28 @@ const TRANSFERS: &[(usize, usize, u8, u8, u32, u32)] = &[
     (44, 44, 32, 32, 1, 1),
 ];
 
+/// How many segments and SegmentACKs a transfer of so many octets takes; None where it does not go on, or not all octets come.
+fn transfer(
+    alloc: Global,
+    len: usize,
+    size: usize,
+    own: u8,
+    other: u8,
+) -> Result<Option<(u32, u32)>, Fail> {
+    let mut out = sender(alloc, len, size.max(1))?;
+    let window = Window::new(own).ok_or("no window")?;
+    let peers = Window::new(other).ok_or("no window")?;
+    let mut inc = Incoming::new(alloc, window, peers);
+    let counts = in_order(&mut out, &mut inc, window);
+    Ok(if inc.len() == len { counts } else { None })
+}
+
 #[test]
 fn acknowledges_each_window_once(rt: HostRuntime) -> Result<(), Fail> {
     for (len, size, own, other, segments, acks) in TRANSFERS {
-        assert!(rt; *size > 0);
-        let mut out = sender(rt.alloc(), *len, *size)?;
-        let window = Window::new(*own).ok_or("no window")?;
-        let peers = Window::new(*other).ok_or("no window")?;
-        let mut inc = Incoming::new(rt.alloc(), window, peers);
-        let counts = in_order(&mut out, &mut inc, window);
-        assert_eq!(rt; counts, Some((*segments, *acks)), "{len} {own} {other}");
-        assert_eq!(rt; inc.len(), *len);
+        if transfer(rt.alloc(), *len, *size, *own, *other)? != Some((*segments, *acks)) {
+            return Err(Fail::from(*acks));
+        }
     }
     Ok(())
 }
@@ -109,19 +121,32 @@ const ACKS: &[(u8, Progress)] = &[
     (2, Progress::Finished),
 ];
 
+/// Whether these segments arrive as it says.
+fn all_arrive(out: &Outgoing, inc: &mut Incoming) -> bool {
+    for (n, step, taken) in ARRIVALS {
+        if offer(inc, out, *n) != Some(Ok(*step)) || inc.taken() != *taken {
+            return false;
+        }
+    }
+    true
+}
+
+/// Whether the SegmentACKs make that of the sender.
+fn all_acknowledged(out: &mut Outgoing) -> bool {
+    for (number, progress) in ACKS {
+        if out.on_ack(*number, THIRTY_TWO, THIRTY_TWO) != *progress {
+            return false;
+        }
+    }
+    true
+}
+
 #[test]
 fn answers_other_segments_negatively(rt: HostRuntime) -> Result<(), Fail> {
     let mut out = sender(rt.alloc(), 111, 44)?;
     let mut inc = Incoming::new(rt.alloc(), THIRTY_TWO, THIRTY_TWO);
-    for (n, step, taken) in ARRIVALS {
-        assert_eq!(rt; offer(&mut inc, &out, *n), Some(Ok(*step)), "segment {n}");
-        assert_eq!(rt; inc.taken(), *taken, "segment {n}");
-    }
-    for (number, progress) in ACKS {
-        let made = out.on_ack(*number, THIRTY_TWO, THIRTY_TWO);
-        assert_eq!(rt; made, *progress, "{number}");
-    }
-    Ok(())
+    holds(all_arrive(&out, &mut inc), "arrivals")?;
+    holds(all_acknowledged(&mut out), "acknowledgements")
 }
 
 /// 4,013 octets in segments of 45: the receiver takes 0 to 40, 41 is lost, and 42 is answered negatively. Whether the sender has
@@ -140,20 +165,30 @@ fn sends_up_to_40(out: &mut Outgoing, inc: &mut Incoming) -> bool {
         && out.on_ack(40, THIRTY_TWO, THIRTY_TWO) == Progress::Moved
 }
 
+/// Whether the sender's window is that of segments 41 to 72.
+fn is_from_41(out: &Outgoing) -> bool {
+    out.window().start == 41 && out.window().end == 73
+}
+
+/// Whether the window is sent again three times and no more, and is the same each time.
+fn sends_again_three_times(out: &mut Outgoing) -> bool {
+    for again in 0..4u8 {
+        if (out.on_timeout() == Timeout::Again) != (again < 3) || !is_from_41(out) {
+            return false;
+        }
+    }
+    true
+}
+
 /// A window is sent again three times; then the transfer stops, and goes on with the same window.
 #[test]
 fn stops_and_goes_on(rt: HostRuntime) -> Result<(), Fail> {
     let mut out = sender(rt.alloc(), 4_013, 45)?;
     let mut inc = Incoming::new(rt.alloc(), THIRTY_TWO, THIRTY_TWO);
-    assert!(rt; sends_up_to_40(&mut out, &mut inc));
-    for again in [true, true, true, false] {
-        assert_eq!(rt; out.on_timeout() == Timeout::Again, again);
-        assert_eq!(rt; (out.window().start, out.window().end), (41, 73));
-    }
+    holds(sends_up_to_40(&mut out, &mut inc), "up to 40")?;
+    holds(sends_again_three_times(&mut out), "again")?;
     out.resume();
-    assert_eq!(rt; (out.window().start, out.window().end), (41, 73));
-    assert!(rt; out.has_retry());
-    Ok(())
+    holds(is_from_41(&out) && out.has_retry(), "resumed")
 }
 
 /// A receiver that has taken so many segments with these octets, and more follow; None where one was not taken as it was meant.
@@ -177,40 +212,48 @@ fn refuses_one_more(alloc: Global, octets: &[u8]) -> Option<bool> {
     Some(refused && inc.taken() == DATA && inc.same(&twin))
 }
 
-/// With ample memory, as many segments as a transfer may have, and more follow: of no octets, and of one.
-#[test]
-fn takes_the_most_segments(rt: HostRuntime) {
-    for octets in [b"".as_slice(), b"7"] {
-        assert_eq!(rt; refuses_one_more(rt.alloc(), octets), Some(true));
-    }
+/// Whether the last of as many segments ends the transfer.
+fn ends_with_the_most(alloc: Global, octets: &[u8]) -> Option<bool> {
+    let mut inc = receiver(alloc, 65_534, octets)?;
+    let is_whole = inc.on_segment(254, false, octets) == Ok(Step::Whole);
+    let is_over = inc.on_segment(255, false, &[]) == Err(SegmentFault::TooLong);
+    Some(is_whole && is_over && inc.taken() == DATA)
 }
 
-/// The last of as many segments ends the transfer.
+/// With ample memory, as many segments as a transfer may have: of no octets, and of one.
 #[test]
-fn ends_with_the_most_segments(rt: HostRuntime) -> Result<(), Fail> {
-    for octets in [b"".as_slice(), b"7"] {
-        let mut inc = receiver(rt.alloc(), 65_534, octets).ok_or("a segment is not taken")?;
-        assert_eq!(rt; inc.on_segment(254, false, octets), Ok(Step::Whole));
-        assert_eq!(rt; inc.on_segment(255, false, &[]), Err(SegmentFault::TooLong));
-        assert_eq!(rt; inc.taken(), DATA);
+fn takes_the_most_segments(rt: HostRuntime) -> Result<(), Fail> {
+    for octets in SHORT {
+        holds(
+            refuses_one_more(rt.alloc(), octets) == Some(true),
+            "one more",
+        )?;
+        holds(
+            ends_with_the_most(rt.alloc(), octets) == Some(true),
+            "the last",
+        )?;
     }
     Ok(())
+}
+
+/// The octets of short segments.
+const SHORT: &[&[u8]] = &[b"", b"7"];
+
+/// Whether one segment of as many octets as a transfer may have is taken, and none of one octet more.
+fn takes_the_longest(alloc: Global) -> Result<bool, Fail> {
+    let mut octets = Vec::new(alloc);
+    octets.resize(65_536, 7u8)?;
+    let mut inc = Incoming::new(alloc, THIRTY_TWO, THIRTY_TWO);
+    let is_too_long = inc.on_segment(0, true, &octets) == Err(SegmentFault::TooLong);
+    octets.truncate(65_535);
+    let is_whole = inc.on_segment(0, false, &octets) == Ok(Step::Whole);
+    Ok(is_too_long && is_whole && inc.len() == DATA)
 }
 
 /// With ample memory, one segment of as many octets as a transfer may have.
 #[test]
 fn takes_the_most_octets(rt: HostRuntime) -> Result<(), Fail> {
-    let mut octets = Vec::new(rt.alloc());
-    octets.resize(65_536, 7u8)?;
-    let mut inc = Incoming::new(rt.alloc(), THIRTY_TWO, THIRTY_TWO);
-    assert_eq!(rt;
-        inc.on_segment(0, true, &octets),
-        Err(SegmentFault::TooLong)
-    );
-    octets.truncate(65_535);
-    assert_eq!(rt; inc.on_segment(0, false, &octets), Ok(Step::Whole));
-    assert_eq!(rt; inc.len(), DATA);
-    Ok(())
+    holds(takes_the_longest(rt.alloc())?, "the longest segment")
 }
 
 /// Octets of two segments in turn, how many segments, and the vectors that they are kept in: how many, and their room. They are as many
@@ -253,20 +296,28 @@ fn short_segments_share_vectors(rt: HostRuntime) -> Result<(), Fail> {
     Ok(())
 }
 
+/// Whether a segment is taken, when it comes or, where memory was refused and nothing has changed, when it comes again.
+fn is_taken_at_last(inc: &mut Incoming, n: u8) -> bool {
+    let octets = if n % 2 == 0 { b"abc".as_slice() } else { &LONG };
+    let before = inc.taken();
+    let step = inc.on_segment(n, true, octets);
+    let is_unchanged = inc.taken() == before;
+    let taken = Ok(Step::Taken { ack: n == 0 });
+    step == taken
+        || (step == Err(SegmentFault::NoMemory)
+            && is_unchanged
+            && inc.on_segment(n, true, octets) == taken)
+}
+
 /// Segments by turns of three octets and of 1,024. Run with each allocation refused in turn, too: a refused segment changes nothing, and is
 /// taken when it comes again.
 #[test]
-fn takes_a_segment_that_was_refused(rt: HostRuntime) {
+fn takes_a_segment_that_was_refused(rt: HostRuntime) -> Result<(), Fail> {
     let mut inc = Incoming::new(rt.alloc(), THIRTY_TWO, THIRTY_TWO);
     for n in 0..12u8 {
-        let octets = if n % 2 == 0 { b"abc".as_slice() } else { &LONG };
-        let before = inc.taken();
-        let mut step = inc.on_segment(n, true, octets);
-        if step == Err(SegmentFault::NoMemory) {
-            assert_eq!(rt; inc.taken(), before, "segment {n}");
-            step = inc.on_segment(n, true, octets);
+        if !is_taken_at_last(&mut inc, n) {
+            return Err(Fail::from(n));
         }
-        assert_eq!(rt; step, Ok(Step::Taken { ack: n == 0 }), "segment {n}");
     }
-    assert_eq!(rt; inc.parts().len(), 6_162);
+    holds(inc.parts().len() == 6_162, "6,162 octets")
 }

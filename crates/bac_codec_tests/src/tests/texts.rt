@@ -1,4 +1,5 @@
 //! What `bac decode` and `bac check` print.
+use super::holds;
 use bac_text::{Status, check_over, decode_over, read_capture_line};
 use std::alloc::Global;
 use std::test::Fail;
@@ -75,11 +76,6 @@ fn shows_npdu(
 /// Whether of these lines of a capture the bad ones and the counts are printed so, with that status.
 fn tallies(alloc: Global, capture: &str, status: Status, lines: &str) -> bool {
     is_printed(&checked(alloc, capture.as_bytes()), status, lines)
-}
-
-/// An Err about this where it is not so.
-fn holds(is: bool, about: &'static str) -> Result<(), Fail> {
-    if is { Ok(()) } else { Err(Fail::from(about)) }
 }
 
 /// The hexadecimal of so many octets of 0.
@@ -454,6 +450,12 @@ const CAPTURES: &[(&str, Status, &str)] = &[
         "6 7F000001BAC0 7F000001BAC1 810A0007010060\n",
         Status::Faulty,
         "line 1: fault apdu 1\nlines=1 good=0 bad=1\n",
+    ),
+    // a line of each kind
+    (
+        "0 7F000001BAC1 7F000001BAC0 810A001101040005010C0C000000051955\n5 7F000001BAC0 7F000001BAC1 810A0008010060\n3 7F000001BAC0 7F000001BAC1 810A0007010060\n6 7F000001BAC0 7F000001BAC1 810A0007010060\nx\n",
+        Status::Faulty,
+        "line 2: fault bvll 5\nline 3: moment goes back\nline 4: fault apdu 1\nline 5: not a capture line\nlines=5 good=1 bad=4\n",
     ),
     // the last line has no end, and digits are of either case
     (
