@@ -1,19 +1,19 @@
 -- What `serve`, `ask` and `pair` print, and their statuses: over links that the machine bound to the port of the command, and beside a clock that it made,
--- bac_online's promise holds.
-use Rattle.std.specs.Prelude.{◌≡◌, ℕ, Bool, true, false, List, Option, None, ⊤}
+-- bac_commands' promise holds.
+use Rattle.std.specs.Prelude.{◌≡◌, ℕ, Bool, true, false, List, Option, None}
 use Rattle.bac_protocol.specs.Service.{Octets}
 use Rattle.bac_link.specs.Calls.{Calls}
 use Rattle.bac_link.specs.Moments.{Told}
 use Rattle.bac_script.specs.Requests.{request_of}
 use Rattle.bac_text.specs.declared.status.Status.{Status}
-use Rattle.bac_text.specs.declared.status.Status.TheVariants as status
 use Rattle.bac_run.specs.Asking.{Question}
 use Rattle.bac_run.specs.Pairs.{pair}
 use Rattle.bac_turns.specs.Turns.{on_link}
-use Rattle.bac_online.specs.Houses.{house_node}
-use Rattle.bac_online.specs.Pairs.{TwoTexts}
-use Rattle.bac_online.specs.Questions.{IsQuestion, local}
-use Rattle.bac_online.specs.Reports.{AskedText, Beside, ServedText}
+use Rattle.bac_commands.specs.Houses.{house_node}
+use Rattle.bac_commands.specs.Pairs.{TwoTexts}
+use Rattle.bac_commands.specs.Questions.{IsQuestion, local}
+use Rattle.bac_commands.specs.Reports.{AskedText, Beside, ServedText}
+use Rattle.bac_commands.specs.Statuses.{ByStatus}
 
 -- ---- links and clocks
 
@@ -49,14 +49,9 @@ pub record Serves (IsOn : (port : ℕ) → (address : Octets) → (failures : �
   pub clock : IsClock before.told
   pub text : ServedText address turns before after old new
 
--- by the status; where the link, the clock, the output or the memory failed it says nothing
 abbrev pub IsServed : (IsOn : (port : ℕ) → (address : Octets) → (failures : ℕ) → Calls → Type 0) → (IsClock : Told → Type 0) → Status → (port turns : ℕ)
     → (old new : Option (List ℕ)) → Type 0
-IsServed IsOn IsClock status.Done port turns old new = Serves IsOn IsClock port turns old new
-IsServed IsOn IsClock status.Faulty port turns old new = ⊥
-IsServed IsOn IsClock status.CommandLine port turns old new = ⊥
-IsServed IsOn IsClock status.Output port turns old new = ⊤
-IsServed IsOn IsClock status.Memory port turns old new = ⊤
+IsServed IsOn IsClock s port turns old new = ByStatus s (Serves IsOn IsClock port turns old new) ⊥ ⊥
 
 -- ---- asking
 
@@ -72,14 +67,11 @@ pub record Asks (IsOn : (port : ℕ) → (address : Octets) → (failures : ℕ)
   pub clock : IsClock before.told
   pub text : AskedText answered address question before after old new
 
--- by the status; the command line is refused only where the words are no request
+-- the command line is refused only where the words are no request
 abbrev pub IsAsked : (IsOn : (port : ℕ) → (address : Octets) → (failures : ℕ) → Calls → Type 0) → (IsClock : Told → Type 0) → Status → (port : ℕ)
     → (words : List (List ℕ)) → (old new : Option (List ℕ)) → Type 0
-IsAsked IsOn IsClock status.Done port words old new = Asks IsOn IsClock true port words old new
-IsAsked IsOn IsClock status.Faulty port words old new = Asks IsOn IsClock false port words old new
-IsAsked IsOn IsClock status.CommandLine port words old new = request_of words ≡ None
-IsAsked IsOn IsClock status.Output port words old new = ⊤
-IsAsked IsOn IsClock status.Memory port words old new = ⊤
+IsAsked IsOn IsClock s port words old new =
+    ByStatus s (Asks IsOn IsClock true port words old new) (Asks IsOn IsClock false port words old new) (request_of words ≡ None)
 
 -- ---- two nodes
 
@@ -101,8 +93,4 @@ pub record Pairs (IsOn : (port : ℕ) → (address : Octets) → (failures : ℕ
 
 abbrev pub IsPair : (IsOn : (port : ℕ) → (address : Octets) → (failures : ℕ) → Calls → Type 0) → (IsClock : Told → Type 0) → Status
     → (old new : Option (List ℕ)) → Type 0
-IsPair IsOn IsClock status.Done old new = Pairs IsOn IsClock true old new
-IsPair IsOn IsClock status.Faulty old new = Pairs IsOn IsClock false old new
-IsPair IsOn IsClock status.CommandLine old new = ⊥
-IsPair IsOn IsClock status.Output old new = ⊤
-IsPair IsOn IsClock status.Memory old new = ⊤
+IsPair IsOn IsClock s old new = ByStatus s (Pairs IsOn IsClock true old new) (Pairs IsOn IsClock false old new) ⊥

@@ -1,7 +1,7 @@
 //! What a command line asks for, and doing it: over any files, links and writers.
 use crate::online::Machine;
 use crate::{online, scripts};
-use bac_answer::answer_over;
+use bac_commands::answer_over;
 use bac_text::{Status, check_over, complain, decode_over, no_memory};
 use clap::builder::ValueParser;
 use clap::error::ErrorKind;

@@ -1,11 +1,11 @@
 //! Nodes on links of the machine: what `serve`, `ask` and `pair` do.
 ghost use Rattle.std.specs.Prelude.{◌≡◌, ℕ, map, IfSome};
 ghost use Rattle.bac_protocol.specs.Service.{Octets};
-ghost use Rattle.bac_online.specs.Questions.{ReadsQuestion, local};
+ghost use Rattle.bac_commands.specs.Questions.{ReadsQuestion, local};
 ghost use Rattle.bac.specs.Online.{IsAsked, IsPair, IsServed, OnClock, OnPort};
 
+use bac_commands::{clock_fault, link_fault, local, read_question};
 use bac_link::{Clock, Link};
-use bac_online::{clock_fault, link_fault, local, read_question};
 use bac_run::Question;
 use bac_script::FormFault;
 use bac_text::{Status, complain, no_memory};
@@ -51,7 +51,7 @@ pub(crate) fn serve<M: Machine, O: Write, E: Write>(
     };
     let address = bound.1;
     let mut link = bound.0;
-    bac_online::serve(alloc, &mut link, address, &mut timer, turns, out, err)
+    bac_commands::serve(alloc, &mut link, address, &mut timer, turns, out, err)
 }
 
 /// The question for a port that some words are.
@@ -92,7 +92,7 @@ pub(crate) fn ask<M: Machine, O: Write, E: Write>(
     };
     let address = bound.1;
     let mut link = bound.0;
-    bac_online::ask(alloc, &mut link, address, &mut timer, &question, out, err)
+    bac_commands::ask(alloc, &mut link, address, &mut timer, &question, out, err)
 }
 
 /// Two nodes at free ports: one asks the other.
@@ -118,7 +118,7 @@ pub(crate) fn pair<M: Machine, O: Write, E: Write>(
     let mut link = bound.0;
     let other_address = other_bound.1;
     let mut other = other_bound.0;
-    bac_online::pair(
+    bac_commands::pair(
         alloc,
         &mut link,
         address,

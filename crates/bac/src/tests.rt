@@ -3,7 +3,7 @@ ghost use Rattle.std.specs.Prelude.{None, ⊤};
 
 use crate::command::{OpenFiles, run};
 use crate::online::Machine;
-use bac_answer::answer_over;
+use bac_commands::answer_over;
 use bac_link::{Clock, UdpLink};
 use bac_text::Status;
 use std::alloc::Global;

@@ -8,3 +8,4 @@ pub mod Performing
 pub mod RoundTrips
 pub mod Repeating
 pub mod Computed
+pub mod StraightRuns

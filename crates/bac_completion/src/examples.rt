@@ -1,6 +1,7 @@
 //! For each law a run that meets its premises: no premise is empty.
 
 ghost use Rattle.bac_completion.specs.Examples.{LateTick, LateAnswer, OneRoundTrip, SecondSending};
+ghost use Rattle.bac_completion.specs.StraightExamples.{OfOneApdu, InSegments};
 
 /// An ask that ends at a tick at 60,001.
 #[tactic(auto, using(crate::proofs::Computed::late_tick))]
@@ -24,4 +25,11 @@ pub fn one_round_trip()
 #[tactic(auto, using(crate::proofs::Computed::second_sending))]
 pub fn second_sending()
     ensures { SecondSending }
+{}
+
+/// Straight runs from a fresh world, of a request of one APDU and of one in two segments, which meet all that the law supposes, with 2 and 5 deliveries.
+#[tactic(auto, using(crate::proofs::StraightRuns::ShortRun::of_one_apdu, crate::proofs::StraightRuns::LongRun::in_segments))]
+pub fn straight_runs()
+    ensures one_apdu { OfOneApdu }
+    ensures segments { InSegments }
 {}

@@ -1,10 +1,13 @@
-//! What must come of an ask at a node and in every world, whatever is lost, repeated or reordered: it ends, and it is answered where enough gets through.
+//! What must come of an ask at a node and in every world, whatever is lost, repeated or reordered: it ends, and it is answered where enough gets through;
+//! where nothing is lost, repeated or reordered, it is answered by a straight run. And what the tables of nodes hold in every world that was reached.
 //!
 //! The definitions stand in `specs/`. The functions here have no body: each carries a law as its contract.
 #![tactic(auto)]
 
 pub mod examples;
 pub mod node;
+pub mod straight;
+pub mod tables;
 
 ghost use Rattle.std.specs.Prelude.{ℕ, List};
 ghost use Rattle.bac_world.specs.World.{World, Event, WorldRun, IsFresh, IsBounded};

@@ -1,5 +1,5 @@
 //! What was asked, performed and ended, as lines. The two kinds of runs that are compared fill it from types of their own.
-use bac_facts::print_ended;
+use bac_commands::print_ended;
 use bac_service::{AnyReply, OwnedReply, OwnedRequest, write_reply, write_request};
 use bac_ticket::Ending;
 use std::alloc::Global;

@@ -3,7 +3,7 @@ use crate::journal::Journal;
 use crate::medium::{Failing, Medium};
 use crate::memory_link::MemoryClock;
 use crate::station::{LIMITS, Station, config, file_of, house_node};
-use bac_facts::print_ending;
+use bac_commands::print_ending;
 use bac_link::Link;
 use bac_node::Node;
 use bac_npdu::Peer;

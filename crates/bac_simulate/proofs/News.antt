@@ -12,7 +12,7 @@ use Rattle.bac_world.specs.Once as once
 use Rattle.bac_world.specs.World as world
 use Rattle.bac_simulate.specs.Told.{copies_text, fact_text, facts_text, news_text}
 use Rattle.bac_simulate.proofs.Appending.{before, drop_seen, joined, nothing_more}
-use Rattle.bac_facts.specs.Texts.{sent_line}
+use Rattle.bac_commands.specs.Facts.{sent_line}
 
 -- ---- one more
 

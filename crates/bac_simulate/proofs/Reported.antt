@@ -1,19 +1,20 @@
--- What the status says of a script, and of the octets of an input.
-use Rattle.std.proofs.Common.{◌≡◌, ℕ, true, false, Bool, List, Option, Some, None, IfOk, IfSome, Result, Ok, Err, inl, inr, refl, sym, subst, ◌∙◌}
+-- What the status says of lines, of a script, and of the octets of an input.
+use Rattle.std.proofs.Common.{◌≡◌, ℕ, true, false, Bool, List, Option, Some, None, IfOk, IfSome, Result, Ok, Err, inl, inr, refl, sym, ap, subst, ◌∙◌}
 use Rattle.std.specs.Io.KnownBytes.{Appends, Keeps}
 use Rattle.bac_network.specs.Histories.{WorldView}
 use Rattle.bac_world.specs.World.{Event}
+use Rattle.bac_script.specs.Lines.{Setting}
 use Rattle.bac_text.specs.Lines.{lines_of}
 use Rattle.bac_text.specs.Statuses.{IsFailure}
 use Rattle.bac_text.specs.Texts.{AppendsText}
 use Rattle.bac_text.specs.declared.status.Status.{Status}
 use Rattle.bac_text.specs.declared.status.Status.TheVariants as status
 use Rattle.bac_simulate.specs.Houses.{world_set}
-use Rattle.bac_simulate.specs.Runs.{IsEnd, IsRun, IsUnread, Reports, Simulates, status_for, status_of}
-use Rattle.bac_simulate.specs.Scripts.{Reads, Script, script_of, script_view}
-use Rattle.bac_simulate.specs.declared.script.Script as declared
+use Rattle.bac_simulate.specs.Runs.{Goes, IsEnd, IsRun, IsUnread, Reports, Simulates, status_for, status_of}
+use Rattle.bac_simulate.specs.Scripts.{IsNotRead, Script, events_from, limits_in, most_limits, script_of, with_setting}
 use Rattle.bac_simulate.specs.declared.script.ScriptFault.{ScriptFault}
 use Rattle.bac_simulate.specs.declared.script.ScriptFault.TheVariants as fault
+use Rattle.bac_simulate.proofs.Limits.{events_of_houses}
 
 kept : (a b c : Option (List ℕ)) (text : List ℕ) → Appends a b text → Keeps b c → Appends a c text
 kept None b c text p q = tt
@@ -25,51 +26,86 @@ keeps_itself : (a : Option (List ℕ)) → Keeps a a
 keeps_itself None = tt
 keeps_itself (Some xs) = refl
 
--- ---- a script that was run
+-- ---- events that happened in a world
 
-pub ran : (all : Bool) (s : Script) (last : WorldView) (a b c : Option (List ℕ)) (end : Status) → end ≡ status_of all
-    → AppendsText a b (IsRun 2 s.events all (world_set s.setting) last) → Keeps b c → Reports (Ok s) a c end
-ran true s last a b c end is printed same =
-    subst (Reports (Ok s) a c) (sym is) (last, (printed.0, (printed.1.0, kept a b c printed.0 printed.1.1 same)))
-ran false s last a b c end is printed same =
-    subst (Reports (Ok s) a c) (sym is) (last, (printed.0, (printed.1.0, kept a b c printed.0 printed.1.1 same)))
+flushed : (all : Bool) (line : ℕ) (events : List Event) (first last : WorldView) (a b c : Option (List ℕ))
+    → AppendsText a b (IsRun line events all first last) → Keeps b c → Goes line (Ok events) first last a c (status_of all)
+flushed true line events first last a b c printed same = (printed.0, (printed.1.0, kept a b c printed.0 printed.1.1 same))
+flushed false line events first last a b c printed same = (printed.0, (printed.1.0, kept a b c printed.0 printed.1.1 same))
 
-pub failed : (end : Status) (s : Script) (a b : Option (List ℕ)) → IsFailure end → Reports (Ok s) a b end
-failed status.Done s a b f = absurd f
-failed status.Faulty s a b f = absurd f
-failed status.CommandLine s a b f = absurd f
-failed status.Output s a b f = tt
-failed status.Memory s a b f = tt
+failed : (end : Status) (line : ℕ) (events : List Event) (first last : WorldView) (a b : Option (List ℕ)) → IsFailure end
+    → Goes line (Ok events) first last a b end
+failed status.Done line events first last a b f = absurd f
+failed status.Faulty line events first last a b f = absurd f
+failed status.CommandLine line events first last a b f = absurd f
+failed status.Output line events first last a b f = tt
+failed status.Memory line events first last a b f = tt
 
-pub reported : {A B E : Type 0} → (run : Result Bool E) (flushed : Result A B) (s : Script) (events : List Event) (first last : WorldView)
-    → (a b c : Option (List ℕ)) (end : Status) → events ≡ s.events → first ≡ world_set s.setting → IsEnd run flushed end
-    → IfOk run (λ all. AppendsText a b (IsRun 2 events all first last)) → Keeps b c → Reports (Ok s) a c end
-reported (Ok all) (Ok flushed) s events first last a b c end all_events is ends printed same =
-    ran all s last a b c end ends
-    (subst (λ (w : WorldView). AppendsText a b (IsRun 2 s.events all w last)) is
-    (subst (λ (l : List Event). AppendsText a b (IsRun 2 l all first last)) all_events printed)) same
-reported (Ok all) (Err e) s events first last a b c end all_events is ends printed same = failed end s a c ends
-reported (Err e) flushed s events first last a b c end all_events is ends printed same = failed end s a c ends
+pub gone : {A B E : Type 0} → (run : Result Bool E) (flush : Result A B) (line : ℕ) (events : List Event) (first last : WorldView)
+    → (a b c : Option (List ℕ)) (end : Status) → IsEnd run flush end → IfOk run (λ all. AppendsText a b (IsRun line events all first last)) → Keeps b c
+    → Goes line (Ok events) first last a c end
+gone (Ok all) (Ok x) line events first last a b c end ends printed same =
+    subst (Goes line (Ok events) first last a c) (sym ends) (flushed all line events first last a b c printed same)
+gone (Ok all) (Err e) line events first last a b c end ends printed same = failed end line events first last a c ends
+gone (Err e) flush line events first last a b c end ends printed same = failed end line events first last a c ends
 
-pub as_read : (read : Result Script ℕ) (s : Script) (a b : Option (List ℕ)) (end : Status) → read ≡ Ok s → Reports (Ok s) a b end → Reports read a b end
-as_read read s a b end is reports = subst (λ (r : Result Script ℕ). Reports r a b end) (sym is) reports
+pub as_read : (read : Result (List Event) ℕ) (line : ℕ) (events others : List Event) (first last : WorldView) (a b : Option (List ℕ)) (end : Status)
+    → others ≡ events → read ≡ Ok events → Goes line (Ok others) first last a b end → Goes line read first last a b end
+as_read read line events others first last a b end same is goes =
+    subst (λ (r : Result (List Event) ℕ). Goes line r first last a b end) (ap Ok same ∙ sym is) goes
+
+starved_of : (read : Result (List Event) ℕ) (line : ℕ) (w : WorldView) (a : Option (List ℕ)) → Goes line read w w a a status.Memory
+starved_of (Ok events) line w a = tt
+starved_of (Err bad) line w a = (keeps_itself a, refl)
+
+bad_line_of : (read : Result (List Event) ℕ) (bad line : ℕ) (w : WorldView) (a : Option (List ℕ)) → read ≡ Err bad
+    → Goes line read w w a a status.CommandLine
+bad_line_of read bad line w a is = subst (λ (r : Result (List Event) ℕ). Goes line r w w a a status.CommandLine) (sym is) (keeps_itself a, refl)
+
+pub not_read : (f : ScriptFault) (read : Result (List Event) ℕ) (line : ℕ) (w : WorldView) (a : Option (List ℕ)) (end : Status) → IsNotRead f read
+    → end ≡ status_for f → Goes line read w w a a end
+not_read (fault.Line number) read line w a end bad is = subst (Goes line read w w a a) (sym is) (bad_line_of read number line w a bad)
+not_read fault.NoMemory read line w a end bad is = subst (Goes line read w w a a) (sym is) (starved_of read line w a)
+
+-- ---- in the network that a first line sets
+
+reports : (s : Setting) (events : Result (List Event) ℕ) (last : WorldView) (a b : Option (List ℕ)) (end : Status)
+    → Goes 2 events (world_set s) last a b end → Reports (with_setting (Some s) events) a b end
+reports s (Ok events) last a b status.Done goes = (last, goes)
+reports s (Ok events) last a b status.Faulty goes = (last, goes)
+reports s (Ok events) last a b status.CommandLine goes = absurd goes
+reports s (Ok events) last a b status.Output goes = tt
+reports s (Ok events) last a b status.Memory goes = tt
+reports s (Err bad) last a b status.Done goes = absurd goes
+reports s (Err bad) last a b status.Faulty goes = absurd goes
+reports s (Err bad) last a b status.CommandLine goes = goes.0
+reports s (Err bad) last a b status.Output goes = absurd goes
+reports s (Err bad) last a b status.Memory goes = goes.0
+
+pub reported : (s : Setting) (lines : List (List ℕ)) (first last : WorldView) (a b : Option (List ℕ)) (end : Status) → first ≡ world_set s
+    → Goes 2 (events_from (limits_in first.world.nodes) 2 lines) first last a b end
+    → Reports (with_setting (Some s) (events_from (λ node. most_limits) 2 lines)) a b end
+reported s lines first last a b end is goes =
+    let set = subst (λ (w : WorldView). Goes 2 (events_from (limits_in w.world.nodes) 2 lines) w last a b end) is goes in
+    reports s (events_from (λ node. most_limits) 2 lines) last a b end
+    (subst (λ (r : Result (List Event) ℕ). Goes 2 r (world_set s) last a b end) (events_of_houses s.window 0 s.nodes 2 lines) set)
 
 -- ---- octets that are no script, and memory that was refused
 
 refused : (read : Result Script ℕ) (bad : ℕ) (a : Option (List ℕ)) → read ≡ Err bad → Reports read a a status.CommandLine
 refused read bad a is = subst (λ (r : Result Script ℕ). Reports r a a status.CommandLine) (sym is) (keeps_itself a)
 
-starved : (read : Result Script ℕ) (a : Option (List ℕ)) → Reports read a a status.Memory
-starved (Ok s) a = tt
-starved (Err bad) a = keeps_itself a
+pub starved : (read : Result Script ℕ) (a : Option (List ℕ)) (end : Status) → end ≡ status.Memory → Reports read a a end
+starved (Ok s) a end is = subst (Reports (Ok s) a a) (sym is) tt
+starved (Err bad) a end is = subst (Reports (Err bad) a a) (sym is) (keeps_itself a)
 
-abbrev pub unread_script : ScriptFault → Result declared.Script ScriptFault
-unread_script f = Err f
+pub as_script : (read set : Result Script ℕ) (a b : Option (List ℕ)) (end : Status) → read ≡ set → Reports set a b end → Reports read a b end
+as_script read set a b end is reports = subst (λ (r : Result Script ℕ). Reports r a b end) (sym is) reports
 
-pub not_read : (f : ScriptFault) (read : Result Script ℕ) (a : Option (List ℕ)) (end : Status) → Reads script_view (unread_script f) read → end ≡ status_for f
+pub no_script : (f : ScriptFault) (read : Result Script ℕ) (a : Option (List ℕ)) (end : Status) → IsNotRead f read → end ≡ status_for f
     → Reports read a a end
-not_read (fault.Line number) read a end bad is = subst (Reports read a a) (sym is) (refused read number a bad)
-not_read fault.NoMemory read a end bad is = subst (Reports read a a) (sym is) (starved read a)
+no_script (fault.Line number) read a end bad is = subst (Reports read a a) (sym is) (refused read number a bad)
+no_script fault.NoMemory read a end bad is = starved read a end is
 
 -- ---- inputs
 

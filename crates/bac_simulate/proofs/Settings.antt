@@ -1,11 +1,10 @@
 -- What a first line can set.
-use Rattle.std.proofs.Common.{◌≡◌, ℕ, ◌+◌, ◌*◌, ◌≤◌, nat_le, Bool, true, false, List, [], ◌∷◌, Option, Some, None, Result, Ok, Err}
+use Rattle.std.proofs.Common.{◌≡◌, ℕ, ◌+◌, ◌*◌, ◌≤◌, nat_le, Bool, true, false, List, [], ◌∷◌, Option, Some, None}
 use Rattle.std.proofs.Common.{if◌then◌else◌, refl, subst, arith}
 use Rattle.std.proofs.lemmas.Bool.Decides.{nat_tests}
-use Rattle.bac_world.specs.World.{Event}
 use Rattle.bac_script.specs.Words.{◌>>=◌, number_of, number_up_to, at_most, words_of}
 use Rattle.bac_script.specs.Lines.{Setting, not_none, number_from_one, bounded, setting_with, usual_setting, setting_of, setting_at}
-use Rattle.bac_simulate.specs.Scripts.{IsModest, Script, events_from, script_of, with_setting}
+use Rattle.bac_simulate.specs.Scripts.{IsModest}
 
 some_is : {A : Type 0} → (x y : A) → Some x ≡ Some y → x ≡ y
 some_is x y e = cc
@@ -58,7 +57,7 @@ given_is_modest a b c s e =
     let two = from_one 64 b window.0 window.1.0 in
     bounded_is_modest (record { nodes = nodes.0; window = window.0; overtake = overtake.0 }) s one.1 two.0 two.1 overtake.1.1
 
-pub setting_is_modest : (words : List (List ℕ)) (s : Setting) → setting_of words ≡ Some s → IsModest s
+setting_is_modest : (words : List (List ℕ)) (s : Setting) → setting_of words ≡ Some s → IsModest s
 setting_is_modest [] s e = absurd cc
 setting_is_modest (a ∷ []) s e = absurd cc
 setting_is_modest (a ∷ nodes ∷ []) s e = let is = then_is _ (usual_setting nodes) s e in usual_is_modest nodes s is.1
@@ -69,21 +68,5 @@ setting_is_modest (a ∷ nodes ∷ b ∷ window ∷ c ∷ overtake ∷ []) s e =
     let is = then_is _ (setting_with nodes window overtake) s e in given_is_modest nodes window overtake s is.1
 setting_is_modest (a ∷ nodes ∷ b ∷ window ∷ c ∷ overtake ∷ d ∷ more) s e = absurd cc
 
--- ---- a whole script
-
-abbrev the_script : Script → Result Script ℕ
-the_script s = Ok s
-
-ok_is : (s t : Script) → the_script s ≡ the_script t → s ≡ t
-ok_is s t e = cc
-
-set : (o : Option Setting) (events : Result (List Event) ℕ) (first : List ℕ) (s : Script) → setting_of (words_of first) ≡ o
-    → with_setting o events ≡ Ok s → IsModest s.setting
-set None events first s at e = absurd cc
-set (Some x) (Err bad) first s at e = absurd cc
-set (Some x) (Ok events) first s at e =
-    subst (λ (t : Script). IsModest t.setting) (ok_is (record { setting = x; events = events }) s e) (setting_is_modest (words_of first) x at)
-
-pub script_is_modest : (lines : List (List ℕ)) (s : Script) → script_of lines ≡ Ok s → IsModest s.setting
-script_is_modest [] s e = absurd cc
-script_is_modest (first ∷ lines) s e = set (setting_at first) (events_from 2 lines) first s refl e
+pub line_is_modest : (line : List ℕ) (s : Setting) → setting_at line ≡ Some s → IsModest s
+line_is_modest line s e = setting_is_modest (words_of line) s e

@@ -13,7 +13,7 @@ use Rattle.bac_network.proofs.Running.{fault_is}
 use Rattle.bac_network.specs.declared.event.Event as event
 use Rattle.bac_network.specs.declared.fault.WorldFault.{WorldFault}
 use Rattle.bac_network.specs.declared.fault.WorldFault.TheVariants as fault
-use Rattle.bac_facts.specs.Texts.{fault_line}
+use Rattle.bac_commands.specs.Facts.{fault_line}
 use Rattle.bac_text.specs.Texts.{AppendsText}
 use Rattle.bac_simulate.specs.Told.{outcome_text}
 use Rattle.bac_simulate.specs.Runs.{Happened, IsStep, IsRun}

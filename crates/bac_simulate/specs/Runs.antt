@@ -7,14 +7,14 @@ use Rattle.bac_network.specs.Faults.{fault_number}
 use Rattle.bac_network.specs.Histories.{WorldView}
 use Rattle.bac_network.specs.Steps.{IsFault, Tells}
 use Rattle.bac_network.specs.declared.fault.WorldFault.{WorldFault}
-use Rattle.bac_facts.specs.Texts.{fault_line}
+use Rattle.bac_commands.specs.Facts.{fault_line}
 use Rattle.bac_text.specs.Lines.{lines_of}
 use Rattle.bac_text.specs.Statuses.{IsFailure}
 use Rattle.bac_text.specs.Texts.{AppendsText}
 use Rattle.bac_text.specs.declared.status.Status.{Status}
 use Rattle.bac_text.specs.declared.status.Status.TheVariants as status
 use Rattle.bac_simulate.specs.Houses.{world_set}
-use Rattle.bac_simulate.specs.Scripts.{Script, script_of}
+use Rattle.bac_simulate.specs.Scripts.{Script, events_from, limits_in, script_of}
 use Rattle.bac_simulate.specs.Told.{outcome_text}
 use Rattle.bac_simulate.specs.declared.script.ScriptFault.{ScriptFault}
 use Rattle.bac_simulate.specs.declared.script.ScriptFault.TheVariants as fault
@@ -83,6 +83,23 @@ Reports (Err bad) old new status.Faulty = ⊥
 Reports (Err bad) old new status.CommandLine = Keeps old new
 Reports (Err bad) old new status.Output = ⊥
 Reports (Err bad) old new status.Memory = Keeps old new
+
+-- what came of the events of some lines, the first of which has that number, in a world that was handed in, by the status: where a line is bad, nothing
+abbrev pub Goes : (line : ℕ) → Result (List Event) ℕ → (first last : WorldView) → (old new : Option (List ℕ)) → Status → Type 0
+Goes line (Ok events) first last old new status.Done = AppendsText old new (IsRun line events true first last)
+Goes line (Ok events) first last old new status.Faulty = AppendsText old new (IsRun line events false first last)
+Goes line (Ok events) first last old new status.CommandLine = ⊥
+Goes line (Ok events) first last old new status.Output = ⊤
+Goes line (Ok events) first last old new status.Memory = ⊤
+Goes line (Err bad) first last old new status.Done = ⊥
+Goes line (Err bad) first last old new status.Faulty = ⊥
+Goes line (Err bad) first last old new status.CommandLine = Keeps old new × (last ≡ first)
+Goes line (Err bad) first last old new status.Output = ⊥
+Goes line (Err bad) first last old new status.Memory = Keeps old new × (last ≡ first)
+
+-- of the octets of lines that are counted from 1
+abbrev pub SimulatesIn : (text : List ℕ) → (first last : WorldView) → (old new : Option (List ℕ)) → Status → Type 0
+SimulatesIn text first last old new end = Goes 1 (events_from (limits_in first.world.nodes) 1 (lines_of text)) first last old new end
 
 -- the input could not be read
 abbrev pub IsUnread : Status → Type 0

@@ -1,15 +1,13 @@
 -- A script as a whole: what its first line sets, and the events of the lines after it.
-use Rattle.std.specs.Prelude.{◌≡◌, ◌≤◌, ℕ, ◌+◌, ◌*◌, true, List, [], ◌∷◌, map, ⊤, Option, Some, None, Result, Ok, Err}
+use Rattle.std.specs.Prelude.{◌≡◌, ◌≤◌, ℕ, ◌+◌, ◌*◌, true, List, [], ◌∷◌, ⊤, Option, Some, None, Result, Ok, Err, slice_get}
 use Rattle.std.specs.Option.{option_map}
 use Rattle.bac_apdu.specs.Apdu.{Limits}
 use Rattle.bac_script.specs.Lines as line
 use Rattle.bac_script.specs.Lines.{setting_at, step_at}
-use Rattle.bac_script.specs.Views.{setting_view}
 use Rattle.bac_script.specs.declared.form_fault.FormFault.{FormFault}
 use Rattle.bac_script.specs.declared.form_fault.FormFault.TheVariants as form_fault
+use Rattle.bac_world.specs.Node.{Node}
 use Rattle.bac_world.specs.World as world
-use Rattle.bac_network.specs.Views.{event_view}
-use Rattle.bac_simulate.specs.declared.script.Script as declared
 use Rattle.bac_simulate.specs.declared.script.ScriptFault.{ScriptFault}
 use Rattle.bac_simulate.specs.declared.script.ScriptFault.TheVariants as fault
 
@@ -25,16 +23,29 @@ most_limits = record { max_apdu = 5; takes_segments = true; max_segments = 7 }
 abbrev pub nowhere : List ℕ
 nowhere = 0 ∷ 0 ∷ 0 ∷ 0 ∷ 0 ∷ 0 ∷ []
 
--- what a line says is to happen
-abbrev pub event_of : line.Step → world.Event
-event_of (line.Step.Ask client server request) = world.Event.Ask client server most_limits request
-event_of (line.Step.Deliver copy) = world.Event.Deliver copy
-event_of (line.Step.Noise node octets) = world.Event.Noise node nowhere octets
-event_of (line.Step.Tick node) = world.Event.Tick node
-event_of (line.Step.Advance by) = world.Event.Advance by
+-- what nodes take of APDUs, by their numbers
+abbrev pub NodeLimits : Type 0
+NodeLimits = (node : ℕ) → Limits
 
-abbrev pub event_at : (line : List ℕ) → Option world.Event
-event_at l = option_map event_of (step_at l)
+-- what a node takes, and of none the most
+abbrev pub limits_of : Option Node → Limits
+limits_of None = most_limits
+limits_of (Some n) = n.settings.limits
+
+-- what these nodes take
+abbrev pub limits_in : List Node → NodeLimits
+limits_in nodes node = limits_of (slice_get nodes node)
+
+-- what a line says is to happen; an ask goes by what the server takes
+abbrev pub event_of : NodeLimits → line.Step → world.Event
+event_of limits (line.Step.Ask client server request) = world.Event.Ask client server (limits server) request
+event_of limits (line.Step.Deliver copy) = world.Event.Deliver copy
+event_of limits (line.Step.Noise node octets) = world.Event.Noise node nowhere octets
+event_of limits (line.Step.Tick node) = world.Event.Tick node
+event_of limits (line.Step.Advance by) = world.Event.Advance by
+
+abbrev pub event_at : NodeLimits → (line : List ℕ) → Option world.Event
+event_at limits l = option_map (event_of limits) (step_at l)
 
 -- an event before those of the lines that follow; or the number of its line, which is of no form
 abbrev pub before_others : Option world.Event → (number : ℕ) → Result (List world.Event) ℕ → Result (List world.Event) ℕ
@@ -43,9 +54,9 @@ before_others (Some event) number (Ok events) = Ok (event ∷ events)
 before_others (Some event) number (Err bad) = Err bad
 
 -- the events of lines of which the first has that number; or the number of the first line of no form
-abbrev pub events_from : (number : ℕ) → List (List ℕ) → Result (List world.Event) ℕ
-events_from number [] = Ok []
-events_from number (l ∷ lines) = before_others (event_at l) number (events_from (number + 1) lines)
+abbrev pub events_from : NodeLimits → (number : ℕ) → List (List ℕ) → Result (List world.Event) ℕ
+events_from limits number [] = Ok []
+events_from limits number (l ∷ lines) = before_others (event_at limits l) number (events_from limits (number + 1) lines)
 
 abbrev pub with_setting : Option line.Setting → Result (List world.Event) ℕ → Result Script ℕ
 with_setting None events = Err 1
@@ -55,15 +66,19 @@ with_setting (Some setting) (Err bad) = Err bad
 -- the script of some lines; or the number of the first line of no form, counted from 1
 abbrev pub script_of : List (List ℕ) → Result Script ℕ
 script_of [] = Err 1
-script_of (first ∷ lines) = with_setting (setting_at first) (events_from 2 lines)
+script_of (first ∷ lines) = with_setting (setting_at first) (events_from (λ node. most_limits) 2 lines)
 
 -- ---- what calls answer that read them
 
--- the value that is wanted; or the first bad line; or memory ran out
+-- why nothing is read: of the first bad line, by its number; or memory ran out
+abbrev pub IsNotRead : {B : Type 0} → ScriptFault → (wanted : Result B ℕ) → Type 0
+IsNotRead (fault.Line number) wanted = wanted ≡ Err number
+IsNotRead fault.NoMemory wanted = ⊤
+
+-- the value that is wanted, or why there is none
 abbrev pub Reads : {A B : Type 0} → (A → B) → Result A ScriptFault → (wanted : Result B ℕ) → Type 0
 Reads view (Ok x) wanted = wanted ≡ Ok (view x)
-Reads view (Err (fault.Line number)) wanted = wanted ≡ Err number
-Reads view (Err fault.NoMemory) wanted = ⊤
+Reads view (Err f) wanted = IsNotRead f wanted
 
 -- of the line with that number
 abbrev pub ReadsEvent : {A : Type 0} → (A → world.Event) → Result A ScriptFault → (number : ℕ) → (wanted : Option world.Event) → Type 0
@@ -74,9 +89,6 @@ ReadsEvent view (Err fault.NoMemory) number wanted = ⊤
 abbrev pub fault_at : (number : ℕ) → FormFault → ScriptFault
 fault_at number form_fault.NoForm = fault.Line number
 fault_at number form_fault.NoMemory = fault.NoMemory
-
-abbrev pub script_view : declared.Script → Script
-script_view s = record { setting = setting_view s.setting; events = map event_view s.events.items }
 
 -- ---- what every setting has
 

@@ -5,7 +5,7 @@ use Rattle.bac_requester.specs.declared.ask_fault.AskFault.{AskFault}
 use Rattle.bac_world.specs.Once.{Fact}
 use Rattle.bac_world.specs.Once.Fact.{Asked, Performed, Ended}
 use Rattle.bac_world.specs.World.{World, Copy, Note}
-use Rattle.bac_facts.specs.Texts.{asked_line, ended_line, nothing_line, performed_line, refused_line, sent_line}
+use Rattle.bac_commands.specs.Facts.{asked_line, ended_line, nothing_line, performed_line, refused_line, sent_line}
 
 -- an accepted ask, by what is noted of it
 abbrev pub asked_text : (ask : ℕ) → Option Note → List ℕ

@@ -1,4 +1,4 @@
-//! `bac simulate`: a script of events in a network of nodes, and what comes of each.
+//! `bac simulate`: a script of events in a network of nodes, and what comes of each; also in a network of the caller's.
 #![tactic(auto)]
 
 mod script;
@@ -6,4 +6,4 @@ mod simulate;
 mod telling;
 mod world_of;
 
-pub use simulate::simulate_over;
+pub use simulate::{simulate_in, simulate_over};

@@ -1,22 +1,16 @@
 //! A script, read from its octets.
-ghost use Rattle.std.specs.Prelude.{◌≡◌, ◌<◌, ◌≤◌, ◌+◌, ◌^◌, [], ◌∷◌, length, map, IfOk, MatchOption};
+ghost use Rattle.std.specs.Prelude.{◌≡◌, ◌<◌, ◌≤◌, ◌+◌, ◌^◌, [], ◌∷◌, length, map, IfOk, MatchOption, MatchResult, Some};
 ghost use Rattle.std.specs.List.{position};
 ghost use Rattle.bac_network.specs.Views.{event_view};
+ghost use Rattle.bac_script.specs.Views.{setting_view};
 ghost use Rattle.bac_text.specs.Lines.{is_line_end, lines_of};
-ghost use Rattle.bac_simulate.specs.Scripts.{Reads, ReadsEvent, event_at, events_from, fault_at, script_of, script_view};
+ghost use Rattle.bac_simulate.specs.Scripts.{IsModest, IsNotRead, Reads, ReadsEvent, event_at, events_from, fault_at, limits_in, most_limits, script_of, with_setting};
 
 use crate::world_of::event_of;
-use bac_network::Event;
+use bac_network::{Event, World};
 use bac_script::{FormFault, Setting, read_setting, read_step};
 use bac_value::NoMemory;
 use std::alloc::Global;
-
-/// A script: what its first line sets, and what is to happen by each later line.
-#[derive(Drop)]
-pub(crate) struct Script {
-    pub(crate) setting: Setting,
-    pub(crate) events: Vec<Event>,
-}
 
 /// Why octets are no script.
 #[derive(Clone, Copy, Debug, PartialEq, Eq)]
@@ -69,47 +63,53 @@ fn next_line(text: &[u8]) -> Option<(&[u8], &[u8])>
     }
 }
 
-/// What the line of that number says is to happen.
-fn event_in(alloc: Global, line: &[u8], number: u64) -> Result<Event, ScriptFault>
-    ensures { ReadsEvent event_view result number (event_at line.now) }
+/// What the line of that number says is to happen in a world.
+fn event_in(alloc: Global, world: &World, line: &[u8], number: u64) -> Result<Event, ScriptFault>
+    ensures { ReadsEvent event_view result number (event_at (limits_in world.now.world.nodes) line.now) }
 {
     match read_step(alloc, line) {
-        Ok(step) => Ok(event_of(step)),
+        Ok(step) => Ok(event_of(world, step)),
         Err(fault) => Err(at_line(number, fault)),
     }
 }
 
-/// What the lines after the first one say is to happen.
-fn events_in(alloc: Global, text: &[u8]) -> Result<Vec<Event>, ScriptFault>
-    requires { length text.now + 2 ≤ 2 ^ 64 }
-    ensures read { Reads (λ events. map event_view events.items) result (events_from 2 (lines_of text.now)) }
+/// What lines say is to happen in a world, where so many lines stand before them.
+pub(crate) fn events_in(
+    alloc: Global,
+    world: &World,
+    before: u64,
+    text: &[u8],
+) -> Result<Vec<Event>, ScriptFault>
+    requires { before + length text.now < 2 ^ 64 }
+    ensures read { Reads (λ events. map event_view events.items) result
+        (events_from (limits_in world.now.world.nodes) (before + 1) (lines_of text.now)) }
     ensures few { IfOk result (λ events. length events.items ≤ length text.now) }
 {
     let mut events = Vec::new(alloc);
     let mut rest = text;
-    let mut number = 1u64;
+    let mut number = before;
     while let Some((line, more)) = next_line(rest) {
         number += 1;
-        let event = event_in(alloc, line, number)?;
+        let event = event_in(alloc, world, line, number)?;
         events.push(event).map_err(NoMemory::from)?;
         rest = more;
     }
     Ok(events)
 }
 
-/// Reads a whole script.
-pub(crate) fn read_script(alloc: Global, text: &[u8]) -> Result<Script, ScriptFault>
-    ensures read { Reads script_view result (script_of (lines_of text.now)) }
-    ensures few { IfOk result (λ s. length s.events.items + 2 ≤ 2 ^ 64) }
+/// What the first line of a script sets, and the lines after it.
+pub(crate) fn read_first(alloc: Global, text: &[u8]) -> Result<(Setting, &[u8]), ScriptFault>
+    ensures read { MatchResult result
+        (λ r. script_of (lines_of text.now) ≡ with_setting (Some (setting_view r.0)) (events_from (λ node. most_limits) 2 (lines_of r.1.now)))
+        (λ f. IsNotRead f (script_of (lines_of text.now))) }
+    ensures modest { IfOk result (λ r. IsModest (setting_view r.0)) }
+    ensures few { IfOk result (λ r. length r.1.now < length text.now) }
 {
     let Some((line, rest)) = next_line(text) else {
         return Err(ScriptFault::Line(1));
     };
     match read_setting(alloc, line) {
-        Ok(setting) => {
-            let events = events_in(alloc, rest)?;
-            Ok(Script { setting, events })
-        }
+        Ok(setting) => Ok((setting, rest)),
         Err(fault) => Err(at_line(1, fault)),
     }
 }

@@ -1,18 +1,18 @@
 //! `bac simulate`, over any reader and writers.
-ghost use Rattle.std.specs.Prelude.{◌≡◌, ◌+◌, ◌≤◌, ◌^◌, length, map, IfOk, IfSome, Ok};
+ghost use Rattle.std.specs.Prelude.{◌≡◌, ◌+◌, ◌<◌, ◌^◌, length, map, IfOk, IfSome, Ok, Some};
 ghost use Rattle.bac_network.specs.Views.{event_view};
 ghost use Rattle.bac_script.specs.Views.{setting_view};
 ghost use Rattle.bac_text.specs.Lines.{lines_of};
 ghost use Rattle.bac_text.specs.Texts.{AppendsText};
-ghost use Rattle.bac_simulate.specs.Houses.{world_set};
-ghost use Rattle.bac_simulate.specs.Runs.{IsEnd, IsRun, IsStep, IsUnread, Reports, Simulates, status_for, status_of};
-ghost use Rattle.bac_simulate.specs.Scripts.{IsModest, script_of, script_view};
+ghost use Rattle.bac_simulate.specs.Runs.{Goes, IsEnd, IsRun, IsStep, IsUnread, Reports, Simulates, SimulatesIn, status_for, status_of};
+ghost use Rattle.bac_simulate.specs.Scripts.{IsModest, events_from, limits_in, most_limits, script_of, with_setting};
 
-use crate::script::{Script, ScriptFault, read_script};
+use crate::script::{ScriptFault, events_in, read_first};
 use crate::telling::{Seen, print_outcome};
 use crate::world_of::world_of;
-use bac_facts::print_fault;
+use bac_commands::print_fault;
 use bac_network::{Event, World};
+use bac_script::Setting;
 use bac_text::{Status, complain, no_memory, output_failed};
 use bac_value::NoMemory;
 use std::alloc::Global;
@@ -43,18 +43,20 @@ fn step_and_print<W: Write>(
     }
 }
 
-/// All events, up to the first that does not happen; the first stands in line 2. Answers whether all happened.
+/// All events, up to the first that does not happen; so many lines stand before that of the first. Answers whether all happened.
 fn run_and_print<W: Write>(
     alloc: Global,
     world: &mut World,
+    before: u64,
     events: &[Event],
     out: &mut W,
 ) -> io::Result<bool>
-    requires { length events.now + 2 ≤ 2 ^ 64 }
-    ensures { IfOk result (λ all. AppendsText (W.contents out.old) (W.contents out.new) (IsRun 2 (map event_view events.now) all world.old world.new)) }
+    requires { before + length events.now < 2 ^ 64 }
+    ensures { IfOk result (λ all. AppendsText (W.contents out.old) (W.contents out.new)
+        (IsRun (before + 1) (map event_view events.now) all world.old world.new)) }
 {
     for (place, event) in events.iter().enumerate() {
-        if !step_and_print(alloc, world, place as u64 + 2, event, out)? {
+        if !step_and_print(alloc, world, before + 1 + place as u64, event, out)? {
             return Ok(false);
         }
     }
@@ -80,33 +82,21 @@ fn ended<E: Write>(ran: io::Result<bool>, flushed: io::Result<()>, err: &mut E) 
     }
 }
 
-/// Runs the events of a script in its network.
-fn run_in<O: Write, E: Write>(
+/// Runs events in a world, where so many lines stand before that of the first.
+fn run_events<O: Write, E: Write>(
     alloc: Global,
     world: &mut World,
-    script: &Script,
+    before: u64,
+    events: &[Event],
     out: &mut O,
     err: &mut E,
 ) -> Status
-    requires fresh { world.old ≡ world_set (setting_view script.now.setting) }
-    requires few { length script.now.events.items + 2 ≤ 2 ^ 64 }
-    ensures { Reports (Ok (script_view script.now)) (O.contents out.old) (O.contents out.new) result }
+    requires { before + length events.now < 2 ^ 64 }
+    ensures { Goes (before + 1) (Ok (map event_view events.now)) world.old world.new (O.contents out.old) (O.contents out.new) result }
 {
-    let ran = run_and_print(alloc, world, &script.events, out);
+    let ran = run_and_print(alloc, world, before, events, out);
     let flushed = out.flush();
     ended(ran, flushed, err)
-}
-
-/// Runs a script whose lines are all read.
-fn run<O: Write, E: Write>(alloc: Global, script: &Script, out: &mut O, err: &mut E) -> Status
-    requires modest { IsModest (setting_view script.now.setting) }
-    requires few { length script.now.events.items + 2 ≤ 2 ^ 64 }
-    ensures { Reports (Ok (script_view script.now)) (O.contents out.old) (O.contents out.new) result }
-{
-    match world_of(alloc, &script.setting) {
-        Ok(mut world) => run_in(alloc, &mut world, script, out, err),
-        Err(NoMemory) => no_memory(err),
-    }
 }
 
 /// Complains of octets that are no script.
@@ -123,12 +113,66 @@ fn no_script<E: Write>(fault: ScriptFault, err: &mut E) -> Status
     }
 }
 
+/// Runs lines in a world, where so many stand before them; all are read before the first event.
+fn run_lines<O: Write, E: Write>(
+    alloc: Global,
+    world: &mut World,
+    before: u64,
+    text: &[u8],
+    out: &mut O,
+    err: &mut E,
+) -> Status
+    requires { before + length text.now < 2 ^ 64 }
+    ensures { Goes (before + 1) (events_from (limits_in world.old.world.nodes) (before + 1) (lines_of text.now)) world.old world.new
+        (O.contents out.old) (O.contents out.new) result }
+{
+    match events_in(alloc, world, before, text) {
+        Ok(events) => run_events(alloc, world, before, &events, out, err),
+        Err(fault) => no_script(fault, err),
+    }
+}
+
+/// Runs event lines, as a script has them after its first line, in a world of the caller's, and prints what comes of each event. The lines are counted from
+/// 1. An ask goes by what the asked node takes of APDUs.
+///
+/// It prints, complains and answers what [`simulate_over`] does; a world whose lines are not all read stays as it was.
+pub fn simulate_in<O: Write, E: Write>(
+    alloc: Global,
+    world: &mut World,
+    text: &[u8],
+    out: &mut O,
+    err: &mut E,
+) -> Status
+    ensures { SimulatesIn text.now world.old world.new (O.contents out.old) (O.contents out.new) result }
+{
+    run_lines(alloc, world, 0, text, out, err)
+}
+
+/// Runs the lines after the first one in the network that this sets.
+fn run_set<O: Write, E: Write>(
+    alloc: Global,
+    setting: &Setting,
+    rest: &[u8],
+    out: &mut O,
+    err: &mut E,
+) -> Status
+    requires modest { IsModest (setting_view setting.now) }
+    requires few { 1 + length rest.now < 2 ^ 64 }
+    ensures { Reports (with_setting (Some (setting_view setting.now)) (events_from (λ node. most_limits) 2 (lines_of rest.now)))
+        (O.contents out.old) (O.contents out.new) result }
+{
+    match world_of(alloc, setting) {
+        Ok(mut world) => run_lines(alloc, &mut world, 1, rest, out, err),
+        Err(NoMemory) => no_memory(err),
+    }
+}
+
 /// Runs the script that these octets are; all its lines are read before the first event.
 fn simulate<O: Write, E: Write>(alloc: Global, text: &[u8], out: &mut O, err: &mut E) -> Status
     ensures { Reports (script_of (lines_of text.now)) (O.contents out.old) (O.contents out.new) result }
 {
-    match read_script(alloc, text) {
-        Ok(script) => run(alloc, &script, out, err),
+    match read_first(alloc, text) {
+        Ok((setting, rest)) => run_set(alloc, &setting, rest, out, err),
         Err(fault) => no_script(fault, err),
     }
 }

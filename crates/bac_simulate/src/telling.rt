@@ -4,10 +4,10 @@ ghost use Rattle.std.specs.Io.KnownBytes.{Appends};
 ghost use Rattle.bac_journal.specs.Notes.{note_view};
 ghost use Rattle.bac_journal.specs.Views.{copy_view};
 ghost use Rattle.bac_network.specs.Views.{fact_view};
-ghost use Rattle.bac_facts.specs.Texts.{sent_line};
+ghost use Rattle.bac_commands.specs.Facts.{sent_line};
 ghost use Rattle.bac_simulate.specs.Told.{asked_text, copies_text, fact_text, facts_text, is_as_before, news_text, outcome_text};
 
-use bac_facts::{
+use bac_commands::{
     print_asked, print_ended, print_nothing, print_performed, print_refused, print_sent,
 };
 use bac_journal::{Copy, Note};

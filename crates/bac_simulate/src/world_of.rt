@@ -1,9 +1,10 @@
 //! The network of a script, and its events.
 ghost use Rattle.std.specs.Prelude.{◌≡◌, ◌<◌, IfOk};
+ghost use Rattle.bac_apdu.specs.Views.{limits_view};
 ghost use Rattle.bac_network.specs.Views.{event_view};
 ghost use Rattle.bac_script.specs.Views.{setting_view, step_view};
 ghost use Rattle.bac_simulate.specs.Houses.{link_at, makers_from, world_set};
-ghost use Rattle.bac_simulate.specs.Scripts.{IsModest, event_of};
+ghost use Rattle.bac_simulate.specs.Scripts.{IsModest, event_of, limits_in};
 
 use bac_apdu::Limits;
 use bac_network::{Event, NewWorldFault, World};
@@ -70,15 +71,25 @@ pub(crate) fn world_of(alloc: Global, setting: &Setting) -> Result<World, NoMemo
     }
 }
 
-/// What a line says is to happen.
-pub(crate) fn event_of(step: Step) -> Event
-    ensures { event_view result ≡ event_of (step_view step) }
+/// What a node takes of APDUs; of one that there is not, all.
+fn limits_of(world: &World, node: usize) -> Limits
+    ensures { limits_view result ≡ limits_in world.now.world.nodes node }
+{
+    match world.nodes().get(node) {
+        Some(node) => node.settings().limits,
+        None => LIMITS,
+    }
+}
+
+/// What a line says is to happen in a world: who asks knows what the other node takes.
+pub(crate) fn event_of(world: &World, step: Step) -> Event
+    ensures { event_view result ≡ event_of (limits_in world.now.world.nodes) (step_view step) }
 {
     match step {
         Step::Ask(ask) => Event::Ask {
             client: ask.client as usize,
             server: ask.server as usize,
-            limits: LIMITS,
+            limits: limits_of(world, ask.server as usize),
             request: ask.request,
         },
         Step::Deliver(number) => Event::Deliver {

@@ -4,7 +4,7 @@ use Rattle.std.proofs.lemmas.Bool.Decides.{nat_tests}
 use Rattle.bac_world.specs.Once.{Fact, IsUnended}
 use Rattle.bac_world.specs.Once.Fact.{Asked, Performed, Ended}
 use Rattle.bac_completion.specs.Runs.{endings_of}
-use Rattle.bac_straight.specs.Straight.{ending_in}
+use Rattle.bac_completion.specs.StraightRuns.{ending_in}
 
 -- an ask without an ending has none
 pub none_counted : (n : ℕ) (log : List Fact) → ending_in n log ≡ None → endings_of n log ≡ 0

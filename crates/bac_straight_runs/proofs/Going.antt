@@ -19,8 +19,8 @@ use Rattle.bac_network.specs.declared.fault.WorldFault.{WorldFault}
 use Rattle.bac_network.specs.Histories.{WorldView, HasHistory}
 use Rattle.bac_network.specs.Steps.{IsFault}
 use Rattle.bac_network.specs.Views.{fact_view, log_view}
-use Rattle.bac_straight.specs.Straight.{IsStraight, ending_in}
-use Rattle.bac_straight.proofs.Loops.{is_run}
+use Rattle.bac_completion.specs.StraightRuns.{IsStraight, ending_in}
+use Rattle.bac_completion.proofs.StraightRuns.Loops.{is_run}
 use Rattle.bac_straight_runs.specs.Faults.{DeliveryFails, EndingFails, Fails, StopsShort}
 use Rattle.bac_straight_runs.specs.Going.{HasGone, HasStopped, IsCutShort, IsStuck, IsUntold}
 use Rattle.bac_straight_runs.specs.Logs.{IsSince, DeliverUnended, Stops}

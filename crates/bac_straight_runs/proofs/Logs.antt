@@ -5,7 +5,7 @@ use Rattle.std.specs.Prelude.{reverse}
 use Rattle.std.proofs.lemmas.List.{length-map, length-reverse, map-append, reverse-append, take-append-drop, length-take}
 use Rattle.bac_network.specs.declared.fact.Fact as code
 use Rattle.bac_network.specs.Views.{fact_view, log_view}
-use Rattle.bac_straight.specs.Straight.{ending_in}
+use Rattle.bac_completion.specs.StraightRuns.{ending_in}
 use Rattle.bac_straight_runs.specs.Logs.{IsSince}
 use Rattle.bac_straight_runs.proofs.Grown.{same_ends}
 

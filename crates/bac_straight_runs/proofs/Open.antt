@@ -28,8 +28,8 @@ use Rattle.bac_world.proofs.Headline.{fresh_over, rules_of, rules_bounded}
 use Rattle.bac_completion.proofs.Asked.{key, ask, made, made_over, made_path, there, server_link, client_link}
 use Rattle.bac_completion.proofs.Endings.{on_run, once_in}
 use Rattle.bac_completion.proofs.Following.{Followed, Parts, accepted}
-use Rattle.bac_straight.specs.Straight.{is_open, key_of_ask, ending_in, deliveries}
-use Rattle.bac_straight.proofs.Tickets.{open_there, closed_there}
+use Rattle.bac_completion.specs.StraightRuns.{is_open, key_of_ask, ending_in, deliveries}
+use Rattle.bac_completion.proofs.StraightRuns.Tickets.{open_there, closed_there}
 use Rattle.bac_straight_runs.specs.Open.{OpenUntilEnded}
 use Rattle.bac_straight_runs.proofs.Endings.{none_counted, unended_none}
 use Rattle.bac_straight_runs.proofs.Still.{stays_there, deliveries_now}

@@ -9,7 +9,7 @@ use Rattle.bac_progress.proofs.Paths.{Any, Step, Path, step_now, path_now}
 use Rattle.bac_progress.proofs.Paths.Path.{Here, Then}
 use Rattle.bac_progress.proofs.Changes.{IsThere, there_step}
 use Rattle.bac_world.specs.World.{World, WorldRun, IsDelivered, DeliversIf, is_deliverable}
-use Rattle.bac_straight.specs.Straight.{deliveries}
+use Rattle.bac_completion.specs.StraightRuns.{deliveries}
 
 -- a ticket is held at the moment of its first sending
 held_at_once : (now : ℕ) (t : Ticket) → t.ask.first ≡ now → is_held now t ≡ true

@@ -9,7 +9,7 @@ use Rattle.bac_world.specs.World.Event.{Ask, Deliver}
 use Rattle.bac_network.specs.Steps.{IsFault}
 use Rattle.bac_network.specs.declared.fault.WorldFault.{WorldFault}
 use Rattle.bac_network.specs.declared.fault.WorldFault.TheVariants as fault
-use Rattle.bac_straight.specs.Straight.{IsStraight, deliveries, ending_in}
+use Rattle.bac_completion.specs.StraightRuns.{IsStraight, deliveries, ending_in}
 
 -- the ask met that fault, and nothing changed
 abbrev pub AskFails : WorldFault → (overtake : ℕ) → (old : World) → (client server : ℕ) → Limits → Request → (new : World) → Type 0

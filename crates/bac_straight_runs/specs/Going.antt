@@ -5,7 +5,7 @@ use Rattle.bac_network.specs.Histories.{WorldView}
 use Rattle.bac_network.specs.Steps.{IsFault}
 use Rattle.bac_network.specs.declared.fault.WorldFault.{WorldFault}
 use Rattle.bac_network.specs.declared.fault.WorldFault.TheVariants as fault
-use Rattle.bac_straight.specs.Straight.{ending_in}
+use Rattle.bac_completion.specs.StraightRuns.{ending_in}
 use Rattle.bac_straight_runs.specs.Logs.{IsSince, DeliverUnended, Stops}
 
 -- so many copies were delivered, from the first of the ask on

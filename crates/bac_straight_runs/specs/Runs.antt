@@ -12,8 +12,8 @@ use Rattle.bac_ends.specs.Meanings.{Ending}
 use Rattle.bac_world.specs.Node.{Node, Refusal, NodeRefuses}
 use Rattle.bac_world.specs.World.{World, WorldRun, IsAsked, IsRefused, peer_at}
 use Rattle.bac_world.specs.World.Event.{Ask}
-use Rattle.bac_straight.specs.Straight.{IsStraight, deliveries}
-use Rattle.bac_straight.specs.Answers.{CanGo, IsAnswered, datagrams, way_between}
+use Rattle.bac_completion.specs.StraightRuns.{IsStraight, deliveries}
+use Rattle.bac_completion.specs.StraightAnswers.{CanGo, IsAnswered, datagrams, way_between}
 
 -- an ask is accepted, or refused
 abbrev pub AsksIf : Bool → (old : World) → (client server : ℕ) → Limits → Request → (new : World) → Type 0

@@ -6,7 +6,7 @@ use Rattle.bac_ends.specs.Meanings.{Ending}
 use Rattle.bac_world.specs.Node.{Node}
 use Rattle.bac_world.specs.World.{World, WorldStep, IsAsked}
 use Rattle.bac_world.specs.World.Event.{Deliver}
-use Rattle.bac_straight.specs.Straight.{IsStraight, ending_in}
+use Rattle.bac_completion.specs.StraightRuns.{IsStraight, ending_in}
 use Rattle.bac_straight_runs.specs.Logs.{IsSince, DeliverUnended, Stops}
 use Rattle.bac_straight_runs.specs.Runs.{CanBeAnswered, GoesAt, IsAnsweredSoon, IsWellMadeAt, WentBy}
 

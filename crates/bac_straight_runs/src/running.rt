@@ -9,7 +9,7 @@ ghost use Rattle.bac_world.specs.World.{WorldStep};
 ghost use Rattle.bac_world.specs.World.Event.{Ask, Deliver};
 ghost use Rattle.bac_network.specs.Histories.{AreEndedOnceNow, ArePerformedOnceNow, AreReplayedNow, HasHistory, IsOnceNow};
 ghost use Rattle.bac_network.specs.Steps.{IsFault};
-ghost use Rattle.bac_straight.specs.Straight.{ending_in};
+ghost use Rattle.bac_completion.specs.StraightRuns.{ending_in};
 ghost use Rattle.bac_straight_runs.specs.Faults.{Fails, StopsShort};
 ghost use Rattle.bac_straight_runs.specs.Going.{HasStopped, IsCutShort, IsStuck};
 ghost use Rattle.bac_straight_runs.specs.Logs.{IsSince, Stops};

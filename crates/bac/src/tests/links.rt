@@ -2,7 +2,7 @@
 ghost use Rattle.std.specs.Prelude.{◌≡◌, ◌≤◌, length, None, ⊤, IfSome};
 
 use super::*;
-use bac_answer::answer_datagram;
+use bac_commands::answer_datagram;
 use bac_link::{Link, LinkFault};
 use std::cell::Cell;
 use std::io::{ErrorKind, Write};

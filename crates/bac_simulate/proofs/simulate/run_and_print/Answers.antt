@@ -9,7 +9,7 @@ returns-then-not-branch g c =
     let e = c.index-events-place.result in
     let lt : at.place < length c.args.events.now = omega arith in
     at.invariant false c.step_and_print.new.world _
-    (stops (at.place + 2) c.args.events.now at.place e (slice_get_read c.args.events.now _ at.place e refl lt c.index-events-place.is) at.world
+    (stops (c.args.before + 1 + at.place) c.args.events.now at.place e (slice_get_read c.args.events.now _ at.place e refl lt c.index-events-place.is) at.world
     c.step_and_print.new.world _ _ _ c.if-not-branch.true c.in_ok-step_and_print.ensures)
 
 pub loop-place-preserved : goal.loop-place-preserved
@@ -18,5 +18,5 @@ loop-place-preserved g c =
     let e = c.index-events-place.result in
     let lt : at.place < length c.args.events.now = omega arith in
     λ all new end h. at.invariant all new end
-    (goes_on all (at.place + 2) c.args.events.now at.place e (slice_get_read c.args.events.now _ at.place e refl lt c.index-events-place.is) at.world
-    c.step_and_print.new.world new _ _ end _ c.if-not-branch.false c.in_ok-step_and_print.ensures (at.place + 1 + 2) (omega arith) h)
+    (goes_on all (c.args.before + 1 + at.place) c.args.events.now at.place e (slice_get_read c.args.events.now _ at.place e refl lt c.index-events-place.is) at.world
+    c.step_and_print.new.world new _ _ end _ c.if-not-branch.false c.in_ok-step_and_print.ensures (c.args.before + 1 + (at.place + 1)) (omega arith) h)

@@ -8,5 +8,5 @@ use Rattle.bac_simulate.proofs.simulate.run_and_print.Given as goal
 
 abbrev pub invariant-loop-place : goal.invariant-loop-place
 invariant-loop-place g l = (all : Bool) (new : WorldView) (end : Option (List ℕ))
-    → AppendsText (g.W.Write.contents l.out) end (IsRun (l.place + 2) (drop l.place (map event_view l.events)) all l.world new)
-    → AppendsText (g.W.Write.contents l.fn.out) end (IsRun 2 (map event_view l.events) all l.fn.world new)
+    → AppendsText (g.W.Write.contents l.out) end (IsRun (l.before + 1 + l.place) (drop l.place (map event_view l.events)) all l.world new)
+    → AppendsText (g.W.Write.contents l.fn.out) end (IsRun (l.before + 1) (map event_view l.events) all l.fn.world new)

@@ -1,6 +1,6 @@
 -- The facts since the ask are looked at.
 use Rattle.std.proofs.Common.{◌∙◌, sym, ap, subst}
-use Rattle.bac_straight.specs.Straight.{ending_in}
+use Rattle.bac_completion.specs.StraightRuns.{ending_in}
 use Rattle.bac_straight_runs.specs.Logs.{IsSince}
 use Rattle.bac_straight_runs.proofs.Going.{some_none, told_on}
 use Rattle.bac_straight_runs.proofs.running.ending_now.Goals as goal

@@ -1,6 +1,6 @@
 -- The log tells whether the ask has ended.
 use Rattle.std.proofs.Common.{◌∙◌, sym, ap, subst, inl, arith}
-use Rattle.bac_straight.specs.Straight.{ending_in}
+use Rattle.bac_completion.specs.StraightRuns.{ending_in}
 use Rattle.bac_straight_runs.specs.Logs.{IsSince}
 use Rattle.bac_straight_runs.proofs.Going.{copies_many, some_none}
 use Rattle.bac_straight_runs.proofs.running.is_over.Goals as goal

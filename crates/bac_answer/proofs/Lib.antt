@@ -1,4 +1,0 @@
-pub mod Short
-pub mod HouseReplies
-pub mod OneReply
-pub mod Lines

@@ -1,7 +1,0 @@
-use Rattle.bac_answer.proofs.Lines.{one_more}
-use Rattle.bac_answer.proofs.printing.print_lines.Goals as goal
-
-pub loop-datagram-preserved : goal.loop-datagram-preserved
-loop-datagram-preserved g c =
-    one_more _ _ _ c.args.sent.now c.loop-datagram.datagram-index c.datagram-item.result c.loop-datagram-test.true c.loop-datagram.invariant
-    (rw (← c.datagram-item.is) c.in_ok-print_line.ensures)

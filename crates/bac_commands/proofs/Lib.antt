@@ -1,0 +1,6 @@
+pub mod Statuses
+pub mod ShortReplies
+pub mod HouseReplies
+pub mod OneReply
+pub mod PrintedAnswers
+pub mod Reported

@@ -1,0 +1,7 @@
+use Rattle.std.specs.Global.{Vec}
+use Rattle.bac_ends.specs.Sends.{Datagram}
+use Rattle.bac_commands.proofs.OneReply.{replied}
+use Rattle.bac_commands.proofs.answering.answer_datagram.Goals as goal
+
+pub returns-clause-reply : goal.returns-clause-reply
+returns-clause-reply c = replied (λ (v : Vec Datagram). v.items) c.args.octets.now c.sends.result c.sends.ensures

@@ -1,0 +1,68 @@
+-- The lines by which asks, what is performed and sent, and endings are told.
+use Rattle.std.specs.Prelude.{ℕ, List, ◌++◌, codes, decimal}
+use Rattle.std.specs.Fmt.{signed_decimal}
+use Rattle.std.specs.Int.{from_bool}
+use Rattle.hex.specs.Hex.{encode_upper}
+use Rattle.bac_service.specs.Values.{Complex}
+use Rattle.bac_service.specs.Values.Complex.{FileRead, StreamWritten, RecordsWritten, PropertyRead}
+use Rattle.bac_service.specs.Replies as plain
+use Rattle.bac_text.specs.Texts.{line_end}
+use Rattle.bac_ends.specs.Meanings.{Ending}
+use Rattle.bac_ends.specs.Meanings.Ending.{Answered, Rejected, Aborted, TimedOut, Expired}
+
+-- ---- how an ask ended
+
+-- the service data of a ComplexACK
+abbrev pub complex_text : Complex → List ℕ
+complex_text (FileRead end_of_file start octets) =
+    codes "file " ++ decimal (from_bool end_of_file) ++ codes " " ++ signed_decimal start ++ codes " " ++ encode_upper octets
+complex_text (StreamWritten start) = codes "position " ++ signed_decimal start
+complex_text (RecordsWritten start) = codes "record " ++ signed_decimal start
+complex_text (PropertyRead reference values) = codes "read " ++ encode_upper values
+
+-- an answer; a Reject is none
+abbrev pub reply_text : plain.Reply → List ℕ
+reply_text plain.Reply.Simple = codes "answered written"
+reply_text (plain.Reply.Complex c) = codes "answered " ++ complex_text c
+reply_text (plain.Reply.Error class code) = codes "answered error " ++ decimal class ++ codes ":" ++ decimal code
+reply_text (plain.Reply.Reject reason) = codes "rejected " ++ decimal reason
+
+abbrev pub ending_text : Ending → List ℕ
+ending_text (Answered r) = reply_text r
+ending_text (Rejected reason) = codes "rejected " ++ decimal reason
+ending_text (Aborted reason) = codes "aborted " ++ decimal reason
+ending_text TimedOut = codes "timed-out"
+ending_text Expired = codes "expired"
+
+-- ---- lines
+
+abbrev pub ending_line : Ending → List ℕ
+ending_line how = ending_text how ++ line_end
+
+-- an ask was accepted, with that number and invoke ID
+abbrev pub asked_line : (number invoke_id : ℕ) → List ℕ
+asked_line number invoke_id = codes "asked " ++ decimal number ++ codes " id " ++ decimal invoke_id ++ line_end
+
+-- or refused, by the number of the fault
+abbrev pub refused_line : (fault : ℕ) → List ℕ
+refused_line fault = codes "refused " ++ decimal fault ++ line_end
+
+-- the request of an ask was performed
+abbrev pub performed_line : (number : ℕ) → List ℕ
+performed_line number = codes "performed " ++ decimal number ++ line_end
+
+-- an ask has ended
+abbrev pub ended_line : (number : ℕ) → Ending → List ℕ
+ended_line number how = codes "ended " ++ decimal number ++ codes " " ++ ending_line how
+
+-- a copy was sent, from a node to another
+abbrev pub sent_line : (copy from to : ℕ) → (octets : List ℕ) → List ℕ
+sent_line copy from to octets =
+    codes "sent " ++ decimal copy ++ codes " " ++ decimal from ++ codes ">" ++ decimal to ++ codes " " ++ encode_upper octets ++ line_end
+
+abbrev pub nothing_line : List ℕ
+nothing_line = codes "nothing" ++ line_end
+
+-- a fault of the world ended a script at that line
+abbrev pub fault_line : (line fault : ℕ) → List ℕ
+fault_line line fault = codes "line " ++ decimal line ++ codes ": fault " ++ decimal fault ++ line_end

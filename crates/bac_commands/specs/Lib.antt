@@ -1,0 +1,10 @@
+pub mod Statuses
+pub mod Houses
+pub mod ReplyApdus
+pub mod Answers
+pub mod AnswerTexts
+pub mod Facts
+pub mod Questions
+pub mod Reports
+pub mod Pairs
+pub mod Troubles

@@ -1,0 +1,11 @@
+//! Facts as lines: how asks are told, what is performed and sent, and how tickets end. Each call fails where the output does.
+mod ending;
+mod lines;
+mod reply;
+
+pub use ending::print_ending;
+pub(crate) use ending::print_ending_line;
+pub use lines::{
+    print_asked, print_ended, print_fault, print_nothing, print_performed, print_refused,
+    print_sent,
+};

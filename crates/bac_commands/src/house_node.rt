@@ -1,0 +1,34 @@
+//! The node that each command makes.
+ghost use Rattle.std.specs.Prelude.{◌≡◌, IfOk};
+ghost use Rattle.bac_commands.specs.Houses.{house_node};
+
+use bac_apdu::Limits;
+use bac_node::{Config, NewNodeFault, Node};
+use bac_store::house;
+use bac_value::NoMemory;
+use std::alloc::Global;
+
+/// APDUs of 1,476 octets, and any number of segments.
+pub(crate) const LIMITS: Limits = Limits {
+    max_apdu: 5,
+    takes_segments: true,
+    max_segments: 7,
+};
+
+/// A node of that link with the house store, windows of 32 segments, and 64 slots at each end.
+pub(crate) fn house_node(alloc: Global, link: [u8; 6]) -> Result<Node, NoMemory>
+    ensures { IfOk result (λ n. n ≡ house_node link) }
+{
+    let config = Config {
+        link,
+        limits: LIMITS,
+        window: 32,
+        client_slots: 64,
+        reply_slots: 64,
+    };
+    match Node::new(alloc, config, house(alloc)?) {
+        Ok(node) => Ok(node),
+        Err(NewNodeFault::NoMemory) => Err(NoMemory),
+        Err(NewNodeFault::BadSlots | NewNodeFault::BadWindow) => unreachable!(),
+    }
+}

@@ -1,0 +1,15 @@
+//! What the commands of `bac` do, over any readers, writers, links and clocks: `answer`, `serve`, `ask` and `pair`; and the lines by which they tell what came
+//! of it.
+#![tactic(auto)]
+
+mod answering;
+mod facts;
+mod house_node;
+mod online;
+
+pub use answering::{CLIENT, answer_datagram, answer_over};
+pub use facts::{
+    print_asked, print_ended, print_ending, print_fault, print_nothing, print_performed,
+    print_refused, print_sent,
+};
+pub use online::{ask, clock_fault, link_fault, local, pair, read_question, serve};

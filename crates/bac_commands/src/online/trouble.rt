@@ -1,0 +1,78 @@
+//! Why a command stopped.
+ghost use Rattle.std.specs.Prelude.{◌≡◌};
+ghost use Rattle.bac_text.specs.Statuses.{IsFailure};
+ghost use Rattle.bac_text.specs.declared.status.Status.TheVariants as status;
+ghost use Rattle.bac_commands.specs.Troubles.{IsToldBy, trouble_of};
+ghost use Rattle.bac_commands.specs.declared.online.trouble.Trouble.TheVariants as trouble;
+
+use bac_run::RunFault;
+use bac_text::{Status, complain, no_memory, output_failed};
+use bac_value::NoMemory;
+use std::io;
+use std::io::Write;
+
+/// Why a command stopped before its end.
+#[derive(Debug, Drop)]
+pub(crate) enum Trouble {
+    Link,
+    Clock,
+    Memory,
+    Output(io::Error),
+}
+
+/// Complains of a link that can't be made, or can't receive. The status is that of all that is outside of the program.
+pub fn link_fault<E: Write>(err: &mut E) -> Status
+    ensures { result ≡ status.Output }
+{
+    complain(err, "link fault", Status::Output)
+}
+
+/// Complains of a clock that can't be read, or goes back. The status is that of all that is outside of the program.
+pub fn clock_fault<E: Write>(err: &mut E) -> Status
+    ensures { result ≡ status.Output }
+{
+    complain(err, "clock fault", Status::Output)
+}
+
+impl Trouble {
+    /// Complains of it.
+    pub(crate) fn tell<E: Write>(self, err: &mut E) -> Status
+        ensures told { IsToldBy self result }
+        ensures failed { IsFailure result }
+    {
+        match self {
+            Trouble::Link => link_fault(err),
+            Trouble::Clock => clock_fault(err),
+            Trouble::Memory => no_memory(err),
+            Trouble::Output(error) => output_failed(err, &error),
+        }
+    }
+}
+
+impl From<RunFault> for Trouble {
+    ghost from_gives = { λ f t. t ≡ trouble_of f };
+
+    fn from(fault: RunFault) -> Trouble {
+        match fault {
+            RunFault::Link => Trouble::Link,
+            RunFault::ClockBack => Trouble::Clock,
+            RunFault::NoMemory => Trouble::Memory,
+        }
+    }
+}
+
+impl From<NoMemory> for Trouble {
+    ghost from_gives = { λ _ t. t ≡ trouble.Memory };
+
+    fn from(_error: NoMemory) -> Trouble {
+        Trouble::Memory
+    }
+}
+
+impl From<io::Error> for Trouble {
+    ghost from_gives = { λ e t. t ≡ trouble.Output e };
+
+    fn from(error: io::Error) -> Trouble {
+        Trouble::Output(error)
+    }
+}

@@ -1,0 +1,19 @@
+-- The laws on straight runs, and what stands under them.
+pub mod Posts
+pub mod Growing
+pub mod Shops
+pub mod Delivering
+pub mod Tickets
+pub mod Following
+pub mod Facts
+pub mod Rights
+pub mod Ways
+pub mod Loops
+pub mod Reading
+pub mod Answering
+pub mod Reached
+pub mod Counts
+pub mod Room
+pub mod Networks
+pub mod ShortRun
+pub mod LongRun

@@ -1,0 +1,41 @@
+//! Rows of tests: octets of hexadecimal text, and how a row that is wrong is told.
+//!
+//! A table of rows is a `const` slice; a row that cannot be read fails its test, as one that does not hold does.
+#![tactic(auto)]
+
+ghost use Rattle.std.specs.Prelude.{◌≡◌, ◌↔◌, IfOk, IsOk, IsErr, IsTrue};
+ghost use Rattle.hex.specs.Hex.{decode_of};
+ghost use Rattle.bac_rows.specs.declared.RowFault.TheVariants.{NotHexadecimal};
+
+use hex::FromHexError;
+use std::alloc::Global;
+use std::test::Fail;
+
+/// Why the octets of a row cannot be told.
+#[derive(Clone, Copy, Debug, PartialEq, Eq)]
+pub enum RowFault {
+    /// The text is no hexadecimal: an odd number of digits, or something else than a digit.
+    NotHexadecimal,
+    /// Memory was refused.
+    NoMemory,
+}
+
+/// The octets of hexadecimal text, in digits of either case. `NotHexadecimal` exactly where the text is none.
+pub fn octets_of(alloc: Global, text: &str) -> Result<Vec<u8>, RowFault>
+    ensures read { IfOk result (λ octets. decode_of text.now ≡ Ok octets.items) }
+    ensures refused { result ≡ Err NotHexadecimal → IsErr (decode_of text.now) }
+    ensures starved { IsErr (decode_of text.now) → IsErr result }
+{
+    match hex::decode(alloc, text) {
+        Ok(octets) => Ok(octets),
+        Err(FromHexError::OutOfMemory) => Err(RowFault::NoMemory),
+        Err(_) => Err(RowFault::NotHexadecimal),
+    }
+}
+
+/// A failure about a row that does not hold.
+pub fn holds(is: bool, about: &str) -> Result<(), Fail>
+    ensures { IsOk result ↔ IsTrue is }
+{
+    if is { Ok(()) } else { Err(Fail::new(about)) }
+}
