@@ -28,6 +28,3 @@ pub use peer_key::PeerKey;
 pub use settings::Settings;
 pub use short_sending::{abort_datagram, ack_datagram};
 pub use sizes::{allows_segments, apdu_size, transfer_size};
-
-#[cfg(test)]
-mod tests;

@@ -20,7 +20,7 @@ use bac_store::Store;
 use bac_value::NoMemory;
 use std::alloc::Global;
 
-/// A request without SEG comes.
+/// A request without SEG comes (ConfirmedUnsegmentedReceived).
 fn request_comes(
     alloc: Global,
     context: &Context,
@@ -59,7 +59,7 @@ fn request_comes(
     }))
 }
 
-/// A segment of a request comes.
+/// A segment of a request comes (ConfirmedSegmentedReceived; own: any but segment 0 is dropped).
 fn segment_comes(
     alloc: Global,
     context: &Context,

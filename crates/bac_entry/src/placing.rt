@@ -79,7 +79,7 @@ pub(crate) fn in_one_apdu(
     })
 }
 
-/// The transfer of a reply in segments begins.
+/// The transfer of a reply in segments begins (SendSegmentedComplexACK).
 #[tactic(auto, using(bac_ends::proofs::Short::short_complex_segment))]
 fn transfers(
     alloc: Global,
@@ -105,7 +105,7 @@ fn transfers(
     })
 }
 
-/// How service data that do not fit one APDU of that size go.
+/// How service data that do not fit one APDU of that size go (SendSegmentedComplexACK, CannotSendSegmentedComplexACK).
 #[tactic(auto, using(bac_ends::proofs::Short::short_abort, bac_ends::proofs::Pieces::pieces_short, bac_ends::proofs::Pieces::some_piece))]
 fn in_segments(
     alloc: Global,
@@ -139,7 +139,7 @@ fn in_segments(
     }
 }
 
-/// A reply by its way.
+/// A reply by its way (SendSimpleACK, SendUnsegmentedComplexACK, SendErrorPDU and those above).
 #[tactic(auto, using(bac_ends::proofs::Short::short_simple, bac_ends::proofs::Short::short_complex, bac_ends::proofs::Short::short_error))]
 pub(crate) fn by_way(
     alloc: Global,

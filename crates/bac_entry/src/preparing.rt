@@ -85,7 +85,7 @@ fn prepare_request(
     })
 }
 
-/// A Reject is kept.
+/// A Reject is kept (SendReject).
 #[tactic(auto, using(bac_ends::proofs::Short::short_reject))]
 fn prepare_reject(
     alloc: Global,

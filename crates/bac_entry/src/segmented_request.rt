@@ -63,7 +63,7 @@ fn prepare_whole(
     })
 }
 
-/// The last segment comes: the request is performed. Where memory runs out, the segment is taken back.
+/// The last segment comes (LastSegmentOfMessageReceived): the request is performed. Where memory runs out, the segment is taken back.
 fn last_segment(
     alloc: Global,
     context: &Context,
@@ -113,7 +113,8 @@ fn dropped(origin: Origin, sends: Vec<Datagram>) -> Reaction
     }
 }
 
-/// A segment comes to a reassembly, in time.
+/// A segment comes to a reassembly, in time (NewSegmentReceived, LastSegmentOfGroupReceived, SegmentReceivedOutOfOrder, NewSegmentReceived_NoSpace and the
+/// last one).
 pub(crate) fn take_segment(
     alloc: Global,
     context: &Context,
@@ -220,6 +221,7 @@ pub(crate) fn segmented_request_gets(
                 alloc, context, origin, incoming, since, segment, service, store,
             )
         }
+        // AbortPDU_Received; own: the entry is remembered
         Apdu::Abort { server: false, .. } => Ok(dropped(origin, Vec::new(alloc))),
         _ => {
             let entry = with_reassembly(origin, incoming, since);

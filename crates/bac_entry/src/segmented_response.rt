@@ -139,14 +139,17 @@ fn ack_comes(
     };
     let was = outgoing.position();
     match outgoing.on_ack(number, window, context.settings.window) {
+        // DuplicateACK_Received; own: the timer runs on
         Progress::Ignored => Ok(Reaction::silent(
             alloc,
             with_transfer(origin, outgoing, transfer, since),
         )),
+        // FinalACK_Received
         Progress::Finished => {
             let entry = with_transfer(origin, outgoing, Transfer::Finished, context.moment);
             Ok(Reaction::silent(alloc, entry))
         }
+        // NewACK_Received
         Progress::Moved => match runs(alloc, context, origin, outgoing) {
             Ok(reaction) => Ok(reaction),
             Err((origin, mut outgoing)) => {
@@ -199,6 +202,7 @@ pub(crate) fn segmented_response_gets(
                 alloc, context, origin, outgoing, transfer, since, number, window,
             )
         }
+        // AbortPDU_Received; own: the reply stays kept
         Apdu::Abort { server: false, .. } => {
             let entry = with_transfer(origin, outgoing, Transfer::Finished, since);
             Ok(Reaction::silent(alloc, entry))

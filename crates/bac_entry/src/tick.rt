@@ -17,7 +17,7 @@ use bac_segment::{Outgoing, Timeout};
 use bac_value::NoMemory;
 use std::alloc::Global;
 
-/// An entry whose transfer runs, after a tick.
+/// An entry whose transfer runs, after a tick (Timeout, FinalTimeout).
 fn after_timer(context: &Context, origin: Origin, mut outgoing: Outgoing, since: u64) -> Entry
     requires { ArePiecesShort LONGEST_PIECE outgoing }
     ensures { result ≡ entry_or (entry_of origin (SegmentedResponse outgoing Running since)) (segmented_response_ticks (context_view context.now)

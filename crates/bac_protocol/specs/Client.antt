@@ -1,4 +1,5 @@
 -- The client's transaction state machine (clause 5.4.4): what each event makes of one ticket.
+-- Comments name the events of the state tables of clause 5.4.4, such as NewACK_Received; "own" marks a rule of this profile.
 use Rattle.std.specs.Prelude.{ℕ, ◌+◌, ◌-◌, ◌%◌, Bool, true, false, ◌&&◌, ◌||◌, not, List, [], ◌∷◌, ◌++◌, length, Option, Some, None, if◌then◌else◌}
 use Rattle.std.specs.Prelude.{nat_eq, nat_lt, nat_le}
 use Rattle.bac_apdu.specs.Apdu.{Apdu, Segment}
@@ -91,7 +92,7 @@ request_apdu c ask = ConfirmedRequest c.settings.limits c.invoke_id None ask.cho
 abbrev pub request_piece : Context → (choice : ℕ) → List Octets → ℕ → Apdu
 request_piece c choice pieces n = ConfirmedRequest c.settings.limits c.invoke_id (Some (segment_of c.settings.window pieces n)) choice (piece_at pieces n)
 
--- the window of a request
+-- the window of a request (FillWindow)
 abbrev pub request_window : Context → (choice : ℕ) → Outgoing → List Apdu
 request_window c choice out = pieces_from (request_piece c choice out.pieces) out.first (in_window out)
 
@@ -119,36 +120,45 @@ answered_with c readable choice acks octets =
 -- a segment of them came (clause 5.4.4.4): its number, and what was taken; the actual window is that of the reassembly it came to
 -- (where a reassembly is too long is an own rule of this profile)
 abbrev pub conf_segment_taken : Context → Readable → (choice number window : ℕ) → Taking → Reaction
+-- LastSegmentOfGroupReceived; of segment 0, SegmentedComplexACK_Received
 conf_segment_taken c readable choice number window (Taken true inc) = GoesOn (SegmentedConf inc) (client_ack c false number window ∷ [])
+-- NewSegmentReceived
 conf_segment_taken c readable choice number window (Taken false inc) = GoesOn (SegmentedConf inc) []
+-- LastSegmentOfComplexACK_Received
 conf_segment_taken c readable choice number window (Whole parts) = answered_with c readable choice (client_ack c false number window ∷ []) (join parts)
+-- SegmentReceivedOutOfOrder; own: DuplicateSegmentReceived is answered in the same way
 conf_segment_taken c readable choice number window (Nak inc) =
     GoesOn (SegmentedConf inc) (client_ack c true ((length inc.parts - 1) % 256) window ∷ [])
+-- NewSegmentReceived_NoSpace; own: how much space there is
 conf_segment_taken c readable choice number window TooLong = Ends (client_abort c BUFFER_OVERFLOW ∷ []) (Aborted BUFFER_OVERFLOW)
 
 -- What comes for an open ticket.
 
 -- a Reject, or an Abort with SRV 1, ends a ticket in any state; nothing else is looked at (that no other APDU aborts it is an own rule of this profile)
 abbrev pub gets_refusal : Apdu → Reaction
+-- RejectPDU_Received
 gets_refusal (Reject invoke_id reason) = Ends [] (Rejected reason)
+-- AbortPDU_Received
 gets_refusal (Abort true invoke_id reason) = Ends [] (Aborted reason)
+-- SegmentACK_Received, in AWAIT_CONFIRMATION; own: UnexpectedPDU_Received is ignored too
 gets_refusal _ = Stays
 
--- a SimpleACK, a ComplexACK without SEG, an Error: of the service choice that was asked, and of the kind that fits it
+-- SimpleACK_Received (clause 5.4.4.3): a SimpleACK, as a ComplexACK without SEG and an Error below, of the service choice that was asked, and of the kind
+-- that fits it
 abbrev pub gets_simple_ack : Ask → (choice : ℕ) → Reaction
 gets_simple_ack ask choice = if nat_eq choice ask.choice && has_simple_ack ask.choice then Ends [] (Answered reply.Simple) else Stays
 
--- a ComplexACK without SEG (clause 5.4.4.3): an answer, where its choice is the one asked, and is answered so
+-- UnsegmentedComplexACK_Received (clause 5.4.4.3): an answer, where its choice is the one asked, and is answered so
 abbrev pub gets_complex_ack : Context → Readable → Ask → (choice : ℕ) → Octets → Reaction
 gets_complex_ack c readable ask choice service =
     if nat_eq choice ask.choice && has_complex_ack ask.choice then answered_with c readable ask.choice [] service else Stays
 
--- an Error (clause 5.4.4.3): an answer, where its choice is the one asked
+-- ErrorPDU_Received (clause 5.4.4.3): an answer, where its choice is the one asked
 abbrev pub gets_error : Ask → (choice class code : ℕ) → Reaction
 gets_error ask choice class code = if nat_eq choice ask.choice then Ends [] (Answered (reply.Error class code)) else Stays
 
--- segment 0 of a ComplexACK, where the client takes segments: its reassembly has the lesser of the proposed window and its own;
--- any other is ignored (own rule of this profile)
+-- SegmentedComplexACK_Received: segment 0 of a ComplexACK, where the client takes segments; its reassembly has the lesser of the proposed window and its
+-- own; any other is ignored (own rule of this profile)
 abbrev pub gets_first_segment : Context → Readable → Ask → Segment → (choice : ℕ) → Octets → Reaction
 gets_first_segment c readable ask segment choice service =
     let inc = incoming c.settings.window segment.window in
@@ -166,15 +176,20 @@ await_confirmation_gets c readable ask apdu = gets_refusal apdu
 
 -- a SegmentACK of the request's segments: Ignored, Finished or Moved
 abbrev pub moves_request_window : Context → (choice : ℕ) → Bool → Option Outgoing → Reaction
+-- DuplicateACK_Received; own: the timer runs on
 moves_request_window c choice all_sent None = Stays
+-- FinalACK_Received; NewACK_Received
 moves_request_window c choice all_sent (Some out) =
     if is_finished out then GoesOn AwaitConfirmation [] else sends_request_window c choice out all_sent
 
 -- SEGMENTED_REQUEST (clause 5.4.4.2)
 abbrev pub segmented_request_gets : Context → Readable → Ask → Outgoing → Bool → Apdu → Reaction
+-- DuplicateACK_Received, NewACK_Received, FinalACK_Received
 segmented_request_gets c readable ask out all_sent (SegmentAck true invoke_id ack) = moves_request_window c ask.choice all_sent
     (acknowledged c.settings.window out ack.number ack.window)
+-- with SentAllSegments: SimpleACK_Received, UnsegmentedComplexACK_Received, SegmentedComplexACK_Received, ErrorPDU_Received, and those below
 segmented_request_gets c readable ask out true apdu = await_confirmation_gets c readable ask apdu
+-- RejectPDU_Received, AbortPDU_Received; own: UnexpectedPDU_Received is ignored
 segmented_request_gets c readable ask out false apdu = gets_refusal apdu
 
 -- a further segment of a ComplexACK; one of another service choice is ignored (own rule of this profile)
@@ -186,7 +201,9 @@ gets_next_segment c readable ask inc segment choice service =
 
 -- SEGMENTED_CONF (clause 5.4.4.4)
 abbrev pub segmented_conf_gets : Context → Readable → Ask → Incoming → Apdu → Reaction
+-- the events of conf_segment_taken
 segmented_conf_gets c readable ask inc (ComplexAck invoke_id (Some segment) choice service) = gets_next_segment c readable ask inc segment choice service
+-- AbortPDU_Received; own: a Reject ends the ticket too, and UnexpectedPDU_Received is ignored
 segmented_conf_gets c readable ask inc apdu = gets_refusal apdu
 
 -- an APDU comes in that phase (clause 5.4.4); in IDLE it changes nothing
@@ -197,7 +214,7 @@ open_gets c readable ask (SegmentedConf inc) apdu = segmented_conf_gets c readab
 open_gets c readable ask Idle apdu = Stays
 
 -- an APDU comes for the ticket's peer and invoke ID: one that no server sends is ignored, and so is all after the ticket's end;
--- past DEADLINE the ticket ends as Expired before anything else is looked at
+-- past DEADLINE the ticket ends as Expired before anything else is looked at (own)
 abbrev pub client_gets : Context → Readable → Ticket → Apdu → Reaction
 client_gets c readable t apdu =
     if is_idle t.phase || not (is_from_server apdu) then Stays
@@ -206,11 +223,13 @@ client_gets c readable t apdu =
 
 -- Time.
 
--- the whole request is sent again in the state it is in, where a repeat is left (in SEGMENTED_CONF an own rule of this profile)
+-- the whole request is sent again in the state it is in, where a repeat is left: TimeoutUnsegmented, otherwise FinalTimeout
+-- (in SEGMENTED_CONF an own rule of this profile)
 abbrev pub repeats_whole : Context → Ticket → Reaction
 repeats_whole c t = if nat_eq t.repeats 0 then Ends [] TimedOut else Repeats t.phase (request_apdu c t.ask ∷ [])
 
--- a request in pieces is sent again from segment 0 on, with window 1, where a repeat is left; all segments were sent before
+-- a request in pieces is sent again from segment 0 on, with window 1, where a repeat is left: TimeoutSegmented, otherwise FinalTimeout; all segments
+-- were sent before
 abbrev pub repeats_pieces : Context → Ticket → Reaction
 repeats_pieces c t =
     if nat_eq t.repeats 0
@@ -223,19 +242,21 @@ repeats c t = if t.ask.whole then repeats_whole c t else repeats_pieces c t
 
 -- the window is sent again, where a retry is left: Again or GivenUp
 abbrev pub sends_request_again : Context → (choice : ℕ) → Bool → Option Outgoing → Reaction
+-- FinalTimeout
 sends_request_again c choice all_sent None = Ends [] TimedOut
+-- Timeout
 sends_request_again c choice all_sent (Some out) = sends_request_window c choice out all_sent
 
--- SEGMENTED_REQUEST (clause 5.4.4.2)
+-- SEGMENTED_REQUEST (clause 5.4.4.2): Timeout, FinalTimeout
 abbrev pub segmented_request_ticks : Context → Ticket → Outgoing → Bool → Reaction
 segmented_request_ticks c t out all_sent =
     if nat_le T_SEG (c.now - t.since) then sends_request_again c t.ask.choice all_sent (again out) else Stays
 
--- AWAIT_CONFIRMATION (clause 5.4.4.3)
+-- AWAIT_CONFIRMATION (clause 5.4.4.3): TimeoutUnsegmented, TimeoutSegmented, FinalTimeout
 abbrev pub await_confirmation_ticks : Context → Ticket → Reaction
 await_confirmation_ticks c t = if nat_le T_OUT (c.now - t.since) then repeats c t else Stays
 
--- SEGMENTED_CONF (clause 5.4.4.4)
+-- SEGMENTED_CONF (clause 5.4.4.4): Timeout; own: a request in one APDU is sent again first
 abbrev pub segmented_conf_ticks : Context → Ticket → Reaction
 segmented_conf_ticks c t =
     if nat_le WAIT_SEG (c.now - t.since)
@@ -262,7 +283,7 @@ client_ticks c t =
 abbrev pub new_ticket : ℕ → Ask → Ticket
 new_ticket now ask = record { ask = ask; phase = AwaitConfirmation; repeats = RETRIES; since = now }
 
--- an ask sends the whole request, or segment 0
+-- an ask sends the whole request (SendConfirmedUnsegmented), or segment 0 (SendConfirmedSegmented)
 abbrev pub asks : Context → Ask → Reaction
 asks c ask = if ask.whole then GoesOn AwaitConfirmation (request_apdu c ask ∷ []) else sends_request_window c ask.choice (outgoing ask.pieces) false
 

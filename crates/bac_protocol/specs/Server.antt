@@ -1,4 +1,5 @@
 -- The server's transaction state machine (clause 5.4.5) over its reply table (own rule of this profile): what each event makes of one entry.
+-- Comments name the events of the state tables of clause 5.4.5, such as NewACK_Received; "own" marks a rule of this profile.
 use Rattle.std.specs.Prelude.{ℕ, ◌-◌, ◌%◌, Bool, true, false, ◌&&◌, not, is_some, List, [], ◌∷◌, ◌++◌, length, Option, Some, None}
 use Rattle.std.specs.Prelude.{if◌then◌else◌, nat_eq, nat_le}
 use Rattle.std.specs.Str.{bytes_eq}
@@ -88,15 +89,18 @@ server_ack c nak number window = SegmentAck true c.invoke_id (record { nak = nak
 
 -- a reply of one APDU (clause 5.4.5.3)
 abbrev pub reply_apdu : Context → (choice : ℕ) → Reply → Apdu
+-- SendSimpleACK
 reply_apdu c choice Simple = SimpleAck c.invoke_id choice
+-- SendUnsegmentedComplexACK
 reply_apdu c choice (Complex service) = ComplexAck c.invoke_id None choice service
+-- SendErrorPDU
 reply_apdu c choice (Error class code) = apdu.Error c.invoke_id choice class code
 
 -- piece n of a reply
 abbrev pub reply_piece : Context → (choice : ℕ) → List Octets → ℕ → Apdu
 reply_piece c choice pieces n = ComplexAck c.invoke_id (Some (segment_of c.settings.window pieces n)) choice (piece_at pieces n)
 
--- the window of a reply
+-- the window of a reply (FillWindow)
 abbrev pub reply_window : Context → (choice : ℕ) → Outgoing → List Apdu
 reply_window c choice out = pieces_from (reply_piece c choice out.pieces) out.first (in_window out)
 
@@ -107,23 +111,27 @@ effect_of e octets reply = Some (record { request = record { choice = e.choice; 
 -- AWAIT_RESPONSE (clause 5.4.5.3), which lasts no time (own rule of this profile): the request is performed in that entry, after these sends; where
 -- its reply can't be sent, it is not
 abbrev pub sends_reply : Context → Entry → List Apdu → Octets → Reply → Way ℕ → Reaction
+-- SendSimpleACK, SendUnsegmentedComplexACK, SendErrorPDU; own: the reply is kept
 sends_reply c e sends octets reply InOne =
     record {
       entry = Some (record e { state = Done (reply_apdu c e.choice reply) });
       sends = sends ++ reply_apdu c e.choice reply ∷ [];
       effect = effect_of e octets reply;
     }
+-- SendSegmentedComplexACK; own: the reply is kept
 sends_reply c e sends octets reply (InSegments pieces) =
     record {
       entry = Some (record e { state = SegmentedResponse (outgoing pieces) Running c.now });
       sends = sends ++ reply_piece c e.choice pieces 0 ∷ [];
       effect = effect_of e octets reply;
     }
+-- CannotSendSegmentedComplexACK; own: the Abort is kept
 sends_reply c e sends octets reply (Refused reason) = becomes e (Done (server_abort c reason)) (sends ++ server_abort c reason ∷ [])
 
 -- what the service made of the request: a reply is sent, and a Reject is kept and sent (clause 5.4.5.3)
 abbrev pub performs_so : Context → Entry → List Apdu → Octets → Outcome → Reaction
 performs_so c e sends octets (Replies reply) = sends_reply c e sends octets reply (reply_way_of c.settings e.limits reply)
+-- SendReject; own: the Reject is kept
 performs_so c e sends octets (Rejects reason) = becomes e (Done (Reject c.invoke_id reason)) (sends ++ Reject c.invoke_id reason ∷ [])
 
 -- the request with these service data is performed in that entry, after these sends
@@ -134,11 +142,16 @@ performs c service e sends octets = performs_so c e sends octets (service e.choi
 
 -- a segment of it came (clause 5.4.5.2): its number, and what was taken; the actual window is that of the reassembly it came to
 abbrev pub request_segment_taken : Context → Service → Entry → (number window : ℕ) → Taking → Reaction
+-- LastSegmentOfGroupReceived; of segment 0, ConfirmedSegmentedReceived
 request_segment_taken c service e number window (Taken true inc) = becomes e (SegmentedRequest inc c.now) (server_ack c false number window ∷ [])
+-- NewSegmentReceived
 request_segment_taken c service e number window (Taken false inc) = becomes e (SegmentedRequest inc c.now) []
+-- LastSegmentOfMessageReceived
 request_segment_taken c service e number window (Whole parts) = performs c service e (server_ack c false number window ∷ []) (join parts)
+-- SegmentReceivedOutOfOrder; own: DuplicateSegmentReceived is answered in the same way
 request_segment_taken c service e number window (Nak inc) =
     becomes e (SegmentedRequest inc c.now) (server_ack c true ((length inc.parts - 1) % 256) window ∷ [])
+-- NewSegmentReceived_NoSpace; own: how much space there is, and that the entry is remembered
 request_segment_taken c service e number window TooLong = becomes e Dropped (server_abort c BUFFER_OVERFLOW ∷ [])
 
 -- an entry that begins now
@@ -147,12 +160,12 @@ begins c choice limits request = record { begin = c.now; choice = choice; limits
 
 -- IDLE (clause 5.4.5.1).
 
--- no entry is live: a request without SEG is performed, where a slot is free
+-- ConfirmedUnsegmentedReceived; own: where no slot of the reply table is free, an Abort
 abbrev pub idle_gets_request : Context → Service → (dead : Option Entry) → (free : Bool) → (choice : ℕ) → Limits → Octets → Reaction
 idle_gets_request c service dead free choice limits octets =
     if free then performs c service (begins c choice limits (Some octets)) [] octets else rests dead (server_abort c OTHER ∷ [])
 
--- no entry is live: segment 0 begins one, where a slot is free; any other segment is dropped (own rule of this profile)
+-- ConfirmedSegmentedReceived, with segment 0; own: where no slot is free, an Abort, and any other segment is dropped
 abbrev pub idle_gets_segment : Context → Service → (dead : Option Entry) → (free : Bool) → (choice : ℕ) → Limits → Segment → Octets → Reaction
 idle_gets_segment c service dead free choice limits segment octets =
     let inc = incoming c.settings.window segment.window in
@@ -161,7 +174,7 @@ idle_gets_segment c service dead free choice limits segment octets =
     then request_segment_taken c service (begins c choice limits None) segment.number inc.window (takes inc segment.number segment.more octets)
     else rests dead (server_abort c OTHER ∷ [])
 
--- an APDU comes where no entry is live: all but a request is dropped
+-- an APDU comes where no entry is live: all but a request is dropped (AbortPDU_Received; own: UnexpectedPDU_Received)
 abbrev pub idle_gets : Context → Service → (dead : Option Entry) → (free : Bool) → Apdu → Reaction
 idle_gets c service dead free (ConfirmedRequest limits invoke_id None choice octets) = idle_gets_request c service dead free choice limits octets
 idle_gets c service dead free (ConfirmedRequest limits invoke_id (Some segment) choice octets) =
@@ -179,7 +192,9 @@ segmented_request_gets_segment c service e inc since segment octets =
 abbrev pub segmented_request_gets : Context → Service → Entry → Incoming → (since : ℕ) → Apdu → Reaction
 segmented_request_gets c service e inc since (ConfirmedRequest limits invoke_id (Some segment) choice octets) =
     segmented_request_gets_segment c service e inc since segment octets
+-- AbortPDU_Received; own: the entry is remembered
 segmented_request_gets c service e inc since (Abort false invoke_id reason) = becomes e Dropped []
+-- own: UnexpectedPDU_Received is ignored
 segmented_request_gets c service e inc since _ = rests (Some e) []
 
 -- Done: a reply that is kept and given again is an own rule of this profile, but for its transfer in segments (SEGMENTED_RESPONSE, clause 5.4.5.4).
@@ -209,7 +224,9 @@ resumes c e out Finished = rests (Some e) []
 
 -- a SegmentACK of the reply's segments (clause 5.4.5.4): Ignored, Finished or Moved
 abbrev pub moves_reply_window : Context → Entry → Option Outgoing → Reaction
+-- DuplicateACK_Received; own: the timer runs on
 moves_reply_window c e None = rests (Some e) []
+-- FinalACK_Received; NewACK_Received
 moves_reply_window c e (Some out) = if is_finished out then becomes e (SegmentedResponse out Finished c.now) [] else sends_reply_window c e out
 
 -- only a running transfer hears a SegmentACK
@@ -220,12 +237,17 @@ segmented_response_gets_ack c e out Finished number window = rests (Some e) []
 
 -- SEGMENTED_RESPONSE (clause 5.4.5.4): an Abort of its client finishes the transfer
 abbrev pub segmented_response_gets : Context → Entry → Outgoing → Transfer → (since : ℕ) → Apdu → Reaction
+-- own: a copy of the request makes a stopped transfer go on
 segmented_response_gets c e out transfer since (ConfirmedRequest limits invoke_id None choice octets) =
     if is_kept e e.request choice octets then resumes c e out transfer else rests (Some e) (server_abort c OTHER ∷ [])
+-- own: so does a segment of it
 segmented_response_gets c e out transfer since (ConfirmedRequest limits invoke_id (Some segment) choice octets) =
     if is_some e.request then rests (Some e) (server_abort c OTHER ∷ []) else resumes c e out transfer
+-- DuplicateACK_Received, NewACK_Received, FinalACK_Received
 segmented_response_gets c e out transfer since (SegmentAck false invoke_id ack) = segmented_response_gets_ack c e out transfer ack.number ack.window
+-- AbortPDU_Received; own: the reply stays kept
 segmented_response_gets c e out transfer since (Abort false invoke_id reason) = becomes e (SegmentedResponse out Finished since) []
+-- own: UnexpectedPDU_Received is ignored
 segmented_response_gets c e out transfer since _ = rests (Some e) []
 
 -- Dropped: each request and each segment gets an Abort (own rule of this profile)
@@ -250,14 +272,16 @@ server_gets c service (Some e) free apdu =
 
 -- the window is sent again or, where no retry is left, the transfer stops and can go on (that is an own rule of this profile)
 abbrev pub sends_reply_again : Context → Entry → Outgoing → (since : ℕ) → Option Outgoing → Reaction
+-- FinalTimeout; own: the transfer can go on
 sends_reply_again c e out since None = becomes e (SegmentedResponse out Stopped since) []
+-- Timeout
 sends_reply_again c e out since (Some next) = sends_reply_window c e next
 
--- SEGMENTED_REQUEST (clause 5.4.5.2)
+-- SEGMENTED_REQUEST (clause 5.4.5.2): Timeout; own: the entry is remembered
 abbrev pub segmented_request_ticks : Context → Entry → (since : ℕ) → Reaction
 segmented_request_ticks c e since = if nat_le WAIT_SEG (c.now - since) then becomes e Dropped [] else rests (Some e) []
 
--- SEGMENTED_RESPONSE (clause 5.4.5.4)
+-- SEGMENTED_RESPONSE (clause 5.4.5.4): Timeout, FinalTimeout
 abbrev pub segmented_response_ticks : Context → Entry → Outgoing → Transfer → (since : ℕ) → Reaction
 segmented_response_ticks c e out Running since =
     if nat_le T_SEG (c.now - since) then sends_reply_again c e out since (again out) else rests (Some e) []

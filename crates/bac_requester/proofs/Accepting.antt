@@ -1,8 +1,7 @@
 -- An ask: the least invoke ID, the slots after it, and how it is refused.
-use Rattle.std.proofs.Common.{◌≡◌, ℕ, zero, suc, ◌+◌, ◌-◌, ◌<◌, ◌≤◌, ◌||◌, Bool, true, false, List, [], ◌∷◌, ◌++◌, filter, count_by, cond, length, Option}
+use Rattle.std.proofs.Common.{◌≡◌, ℕ, zero, suc, ◌+◌, ◌-◌, ◌<◌, ◌≤◌, ◌||◌, Bool, true, false, List, [], ◌∷◌, ◌++◌, filter, count_by, Option}
 use Rattle.std.proofs.Common.{Some, None, Result, Ok, Err, nat_le, if◌then◌else◌, refl, ap, sym, subst, ◌∙◌, arith}
 use Rattle.std.proofs.lemmas.Bool.Decides.{nat_tests}
-use Rattle.std.proofs.lemmas.List.Sums.{sum_by-cons}
 use Rattle.bac_npdu.specs.Peers.{PeerView}
 use Rattle.bac_slots.specs.declared.slot.Slot.{Slot}
 use Rattle.bac_slots.specs.Slots.{value_at, keep}
@@ -20,6 +19,7 @@ use Rattle.bac_ends.specs.Keys as keys
 use Rattle.bac_ends.specs.Views.{code_same_key, peer_key_view, slot_view, slots_view}
 use Rattle.bac_ends.specs.declared.peer_key.PeerKey.{PeerKey}
 use Rattle.bac_ends.proofs.Keyed.{value_viewed, put_viewed, filter_viewed}
+use Rattle.bac_aged.proofs.Viewed.{count_viewed}
 use Rattle.bac_service.specs.Spellings.{request_spelling}
 use Rattle.bac_service.specs.Values.{Request, choice_of}
 use Rattle.bac_ticket.specs.Requests.{ask_at, request_by}
@@ -28,7 +28,7 @@ use Rattle.bac_ticket.specs.declared.outgoing_request.RequestFault.{RequestFault
 use Rattle.bac_ticket.specs.declared.outgoing_request.RequestWay.{RequestWay}
 use Rattle.bac_ticket.specs.declared.outgoing_request.RequestWay.TheVariants as way
 use Rattle.bac_requester.specs.Turns.{Asks, AsksTable, MayBegin}
-use Rattle.bac_requester.specs.Views.{Requester}
+use Rattle.bac_requester.specs.Views.{Requester, end_of}
 use Rattle.bac_requester.specs.declared.asking.Asked.{Asked}
 use Rattle.bac_requester.specs.declared.ask_fault.AskFault.{AskFault}
 
@@ -70,41 +70,22 @@ pub id_held : (now : ℕ) (key : PeerKey) (slots : Slots) (o : Option Client) �
     → is_held_there now o ≡ is_id_held now (slots_view slots) (peer_key_view key).peer key.invoke_id
 id_held now key slots o is = ap (λ p. is_held_there now p) (sym is ∙ value_viewed Client key slots)
 
-module _ (now : ℕ) where
-  abbrev pub test : Client → Bool
-  test v = is_held now v.held
+-- an invoke ID that is not held is not alive in the table
+pub not_alive : (now : ℕ) (key : PeerKey) (slots : Slots) → is_id_held now (slots_view slots) (peer_key_view key).peer key.invoke_id ≡ false
+    → keep (λ (v : Client). is_held now v.held) (value_at code_same_key key slots) ≡ None
+not_alive now key slots free = go (value_at code_same_key key slots) (id_held now key slots _ refl ∙ free)
+  where
+    go : (o : Option Client) → is_held_there now o ≡ false → keep (λ (v : Client). is_held now v.held) o ≡ None
+    go None f = refl
+    go (Some v) f = ap (λ b. if b then Some v else None) f
 
-  abbrev pub swept : Slots → Slots
-  swept slots = filter (λ s. test s.value) slots
-
-  pub absent_after : (key : PeerKey) (slots after : Slots) → after ≡ swept slots
-      → value_at code_same_key key (swept slots) ≡ keep test (value_at code_same_key key slots)
-      → is_id_held now (slots_view slots) (peer_key_view key).peer key.invoke_id ≡ false → value_at code_same_key key after ≡ None
-  absent_after key slots after e law free =
-      ap (λ l. value_at code_same_key key l) e ∙ law ∙ go (value_at code_same_key key slots) (id_held now key slots _ refl ∙ free)
-    where
-      go : (o : Option Client) → is_held_there now o ≡ false → keep test o ≡ None
-      go None f = refl
-      go (Some v) f = ap (λ b. if b then Some v else None) f
-
-  pub count_viewed : (slots : Slots) → count_by (is_slot_held now) (slots_view slots) ≡ count_by (λ s. test s.value) slots
-  count_viewed [] = refl
-  count_viewed (s ∷ slots) =
-      let f : Slot PeerKey Client → ℕ = λ y. cond (test y.value) 1 0 in
-      let h : ClientSlot → ℕ = λ y. cond (is_slot_held now y) 1 0 in
-      sum_by-cons h (slot_view s) (slots_view slots) ∙ ap (λ z. f s + z) (count_viewed slots) ∙ sym (sum_by-cons f s slots)
-
-  pub room_after : (slots after : Slots) (capacity room : ℕ) → after ≡ swept slots → length (swept slots) ≡ count_by (λ s. test s.value) slots
-      → count_by (is_slot_held now) (slots_view slots) < capacity → room ≡ capacity → length after < room
-  room_after slots after capacity room e law lt same =
-      let few = ap length e ∙ law ∙ sym (count_viewed slots) in omega (arith, few, lt, same)
-
-  pub entered : (key : PeerKey) (v : Client) (slots after new : Slots) → after ≡ swept slots → new ≡ after ++ record { key = key; begin = now; value = v } ∷ []
-      → slots_view new ≡ filter (is_slot_held now) (slots_view slots) ++ record { key = peer_key_view key; begin = now; value = v } ∷ []
-  entered key v slots after new e put =
-      let x : Slot PeerKey Client = record { key = key; begin = now; value = v } in
-      ap (λ l. slots_view l) put ∙ put_viewed Client after x
-      ∙ ap (λ l. l ++ slot_view x ∷ []) (ap (λ l. slots_view l) e ∙ filter_viewed Client test slots)
+pub entered : (now : ℕ) (key : PeerKey) (v : Client) (slots new : Slots)
+    → new ≡ filter (λ s. is_held now s.value.held) slots ++ record { key = key; begin = now; value = v } ∷ []
+    → slots_view new ≡ filter (is_slot_held now) (slots_view slots) ++ record { key = peer_key_view key; begin = now; value = v } ∷ []
+entered now key v slots new put =
+    let x : Slot PeerKey Client = record { key = key; begin = now; value = v } in
+    ap (λ l. slots_view l) put ∙ put_viewed Client (filter (λ s. is_held now s.value.held) slots) x
+    ∙ ap (λ l. l ++ slot_view x ∷ []) (filter_viewed Client (λ (w : Client). is_held now w.held) slots)
 
 -- The outcome.
 
@@ -131,8 +112,11 @@ module _ (c : Settings) (now : ℕ) (peer : PeerView) (ask : Ask) (e : ClientEnd
       → MayBegin (asks_for c now peer ask e)
   may_begin o id is some full = subst MayBegin (sym (accepted o id is some full)) tt
 
-pub has_room : (now : ℕ) (e : ClientEnd) → has_no_slot now e ≡ false → count_by (is_slot_held now) e.slots < e.capacity
-has_room now e f = go (count_by (is_slot_held now) e.slots) e.capacity (nat_le MOST_ASKS e.asked) f
+pub has_room : (now : ℕ) (slots : Slots) (capacity asked : ℕ) → has_no_slot now (end_of slots capacity asked) ≡ false
+    → count_by (λ s. is_held now s.value.held) slots < capacity
+has_room now slots capacity asked f =
+    subst (λ (n : ℕ). n < capacity) (count_viewed Client (λ (v : Client). is_held now v.held) slots)
+    (go (count_by (is_slot_held now) (slots_view slots)) capacity (nat_le MOST_ASKS asked) f)
   where
     go : (n m : ℕ) (b : Bool) → (nat_le m n || b) ≡ false → n < m
     go n m true f = grind (arith, nat_tests)

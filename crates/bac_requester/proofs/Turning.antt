@@ -5,7 +5,6 @@ use Rattle.bac_apdu.specs.Apdu.{Apdu}
 use Rattle.bac_service.specs.Services.{reads_reply}
 use Rattle.bac_slots.specs.declared.slot.Slot.{Slot}
 use Rattle.bac_slots.specs.Slots.{value_at, with_value}
-use Rattle.bac_slots.proofs.Values.{set_back}
 use Rattle.bac_protocol.specs.Service as machine
 use Rattle.bac_protocol.specs.Client.{Ticket, client_gets, ending_of, sends_of}
 use Rattle.bac_ends.specs.Ends.{Client, ClientEnd, ClientTurn, client_hears, client_hears_at, key_of, client_after, ended_with}
@@ -28,7 +27,7 @@ use Rattle.bac_value.specs.declared.memory.NoMemory.{NoMemory}
 use Rattle.bac_requester.specs.Turns.{Hears, HearsTable, IsTold, finishes_with, hears_key}
 use Rattle.bac_requester.specs.Views.{Requester, end_of, finishes_of}
 use Rattle.bac_requester.specs.declared.turn.Turn.{Turn}
-use Rattle.bac_requester.proofs.Tables.{key_equal}
+use Rattle.bac_aged.proofs.Viewed.{put_back}
 
 abbrev Slots : Type 0
 Slots = List (Slot PeerKey Client)
@@ -70,11 +69,6 @@ heard_nothing c a old new capacity room asked x is stays same sent ended =
     subst (λ (t : ClientTurn). HearsTable t e (Ok x) (end_of new room asked)) (sym (turn_at c a old capacity asked None is))
     (same_end old new capacity room asked stays same, nothing_told e x sent ended)
 
--- what was out is back
-back : (key : PeerKey) (old new : Slots) (u w : Client) → value_at code_same_key key old ≡ Some u → w ≡ u → new ≡ with_value code_same_key key w old → new ≡ old
-back key old new u w is same set =
-    set ∙ ap (λ y. with_value code_same_key key y old) same ∙ set_back PeerKey Client code_same_key key_equal key u old is
-
 -- its ticket has ended
 pub heard_closed : (c : Context) (a : Apdu) (old new : Slots) (w : Client) (capacity room asked number first : ℕ) (x : Turn)
     → value_at code_same_key c.key old ≡ Some (record { number = number; held = Closed first }) → w ≡ record { number = number; held = Closed first }
@@ -83,12 +77,12 @@ pub heard_closed : (c : Context) (a : Apdu) (old new : Slots) (w : Client) (capa
 heard_closed c a old new w capacity room asked number first x is same set kept sent ended =
     let e : ClientEnd = end_of old capacity asked in
     subst (λ (t : ClientTurn). HearsTable t e (Ok x) (end_of new room asked)) (sym (turn_at c a old capacity asked _ is))
-    (same_end old new capacity room asked (back c.key old new _ w is same set) kept, nothing_told e x sent ended)
+    (same_end old new capacity room asked (put_back Client c.key _ w old new is same set) kept, nothing_told e x sent ended)
 
 -- out of memory
 pub heard_unchanged : (key : PeerKey) (old new : Slots) (u w : Client) (capacity room asked : ℕ) → value_at code_same_key key old ≡ Some u
     → w ≡ u → new ≡ with_value code_same_key key w old → room ≡ capacity → end_of new room asked ≡ end_of old capacity asked
-heard_unchanged key old new u w capacity room asked is same set kept = same_end old new capacity room asked (back key old new u w is same set) kept
+heard_unchanged key old new u w capacity room asked is same set kept = same_end old new capacity room asked (put_back Client key u w old new is same set) kept
 
 -- its ticket goes on
 pub heard_open : (c : Context) (a : Apdu) (old new : Slots) (w : Client) (capacity room asked number : ℕ) (t : Ticket) (r : Reaction) (x : Turn)

@@ -2,6 +2,5 @@
 pub mod Views
 pub mod Faults
 pub mod Turns
-pub mod Timers
-pub mod Begins
+pub mod Aging
 pub mod Short

@@ -2,18 +2,15 @@
 use Rattle.std.specs.Prelude.{◌≡◌, ℕ, List, [], ◌∷◌, map, Option, Some, None, Result, Ok, Err}
 use Rattle.bac_apdu.specs.Apdu.{Apdu}
 use Rattle.bac_service.specs.Services.{reads_reply}
-use Rattle.bac_slots.specs.declared.slot.Slot.{Slot}
-use Rattle.bac_slots.specs.Slots.{value_at, with_value}
+use Rattle.bac_slots.specs.Slots.{value_at}
 use Rattle.bac_value.specs.declared.memory.NoMemory.{NoMemory}
 use Rattle.bac_protocol.specs.Context.{Settings}
-use Rattle.bac_ends.specs.Ends.{Client, ClientEnd, ClientSlot, ClientTurn, client_hears_at, client_tick_sends, client_tick_ends, held_ticked, context_of}
+use Rattle.bac_ends.specs.Ends.{ClientEnd, ClientSlot, ClientTurn, client_hears_at, client_tick_sends, client_tick_ends}
 use Rattle.bac_ends.specs.Keys as keys
 use Rattle.bac_ends.specs.Keys.{same_key}
 use Rattle.bac_ends.specs.Meanings as meanings
 use Rattle.bac_ends.specs.Meanings.{Finish, IsFinish}
 use Rattle.bac_ends.specs.Sends.{Datagram, IsSent, Pairwise}
-use Rattle.bac_ends.specs.Views.{code_same_key, peer_key_view}
-use Rattle.bac_ends.specs.declared.peer_key.PeerKey.{PeerKey}
 use Rattle.bac_requester.specs.Views.{Requester, finish_view, finishes_of}
 use Rattle.bac_requester.specs.declared.turn.Turn.{Turn}
 use Rattle.bac_requester.specs.declared.turn.Due.{Due}
@@ -86,10 +83,6 @@ pub record IsSlotTold (c : Settings) (now : ℕ) (s : ClientSlot) (sent : List D
   pub sends : Pairwise IsSent (client_tick_sends c now s) sent
   pub finishes : Pairwise IsFinish (client_tick_ends c now s) ended
 
--- a slot with the value that a function makes of it
-abbrev pub changed : {K T : Type 0} → (Slot K T → T) → Slot K T → Slot K T
-changed h s = record s { value = h s }
-
 -- an APDU comes for a key
 abbrev pub hears_key : Settings → (now : ℕ) → keys.PeerKey → Apdu → ClientEnd → ClientTurn
 hears_key c now key a e = client_hears_at c reads_reply now a e key (value_at same_key key e.slots)
@@ -97,18 +90,6 @@ hears_key c now key a e = client_hears_at c reads_reply now a e key (value_at sa
 abbrev pub HearsTable : ClientTurn → (old : ClientEnd) → Result Turn NoMemory → (new : ClientEnd) → Type 0
 HearsTable turn old (Ok x) new = (new ≡ turn.end) × IsTold turn x.sends.items (finishes_of x.ended)
 HearsTable turn old (Err e) new = new ≡ old
-
--- a slot's value after a tick
-abbrev pub value_ticked : Settings → (now : ℕ) → Slot PeerKey Client → Client
-value_ticked c now s = held_ticked (context_of c now (peer_key_view s.key)) s.value.number s.value.held
-
--- the slots after a tick of the one with that key
-abbrev pub ticked_there : Settings → (now : ℕ) → PeerKey → List (Slot PeerKey Client) → Option Client → List (Slot PeerKey Client)
-ticked_there c now key slots None = slots
-ticked_there c now key slots (Some v) = with_value code_same_key key (held_ticked (context_of c now (peer_key_view key)) v.number v.held) slots
-
-abbrev pub ticked_at : Settings → (now : ℕ) → PeerKey → List (Slot PeerKey Client) → List (Slot PeerKey Client)
-ticked_at c now key slots = ticked_there c now key slots (value_at code_same_key key slots)
 
 -- the ask of a table
 abbrev pub AcceptsTable : AskOutcome → (new : ClientEnd) → Asked → Type 0

@@ -1,31 +1,26 @@
 //! An ask.
-ghost use Rattle.std.specs.Prelude.{◌≡◌, ℕ, ◌+◌, ◌-◌, ◌<◌, ◌∷◌, [], ◌++◌, ◌&&◌, ◌||◌, IfOk, Some, None, false, filter, count_by, length, nat_le, nat_lt, not};
+ghost use Rattle.std.specs.Prelude.{◌≡◌, ℕ, ◌+◌, ◌-◌, ◌<◌, ◌&&◌, ◌||◌, IfOk, Some, None, length, nat_le, nat_lt, not};
 ghost use Rattle.bac_npdu.specs.Views.{peer_view};
-ghost use Rattle.bac_slots.specs.declared.slot.Slot.{Slot};
-ghost use Rattle.bac_slots.specs.Slots.{rank, value_at};
-ghost use Rattle.bac_ends.specs.Ends as ends;
-ghost use Rattle.bac_ends.specs.Ends.{asks_for, has_no_slot, is_held, is_id_held, is_slot_held, least_not};
-ghost use Rattle.bac_ends.specs.Views.{code_key_cmp, code_same_key, peer_key_view, settings_view, slots_view};
+ghost use Rattle.bac_slots.specs.Slots.{rank};
+ghost use Rattle.bac_ends.specs.Ends.{asks_for, has_no_slot, is_held, is_id_held, least_not};
+ghost use Rattle.bac_ends.specs.Views.{code_key_cmp, code_same_key, settings_view, slots_view};
 ghost use Rattle.bac_service.specs.Spellings.{request_spelling};
 ghost use Rattle.bac_service.specs.Values.{choice_of};
 ghost use Rattle.bac_service.specs.Views.{request_view};
 ghost use Rattle.bac_ticket.specs.Fits.{IsWayFor};
 ghost use Rattle.bac_ticket.specs.Reacts.{IsBegun};
 ghost use Rattle.bac_ticket.specs.Requests.{ask_at, request_by};
-ghost use Rattle.bac_requester.specs.Begins.{AreInOrderIf};
+ghost use Rattle.bac_requester.specs.Aging.{AreAged};
 ghost use Rattle.bac_requester.specs.Turns.{AsksTable};
 ghost use Rattle.bac_requester.specs.Views.{end_of};
 
 use crate::ask_fault::AskFault;
-use crate::client::{Client, HeldAt};
-use crate::order::last_unheld;
+use crate::client::{Client, ClientRules};
+use bac_aged::{AgedTable, enter, has_room};
 use bac_ends::{Context, Datagram, PeerKey, Settings};
 use bac_npdu::Peer;
 use bac_service::{AnyRequest, Request, Service, write_request};
-use bac_slots::{
-    SlotTable, count_passing, has_room_once_swept, ranks_of_keys, sweep, sweep_oldest,
-    sweeping_slots,
-};
+use bac_slots::{SlotTable, ranks_of_keys};
 use bac_ticket::{Begun, Held, OutgoingRequest, RequestWay, Ticket};
 use bac_value::NoMemory;
 use std::alloc::Global;
@@ -94,82 +89,16 @@ fn least_id<S: SlotTable<PeerKey, Client>>(table: &S, peer: &Peer, now: u64) -> 
     None
 }
 
-/// How many slots are held.
-pub(crate) fn held_count<S: SlotTable<PeerKey, Client>>(table: &S, now: u64) -> usize
-    ensures { result ≡ count_by (is_slot_held now) (slots_view (S.slots table.now)) }
-{
-    count_passing(table, &HeldAt { moment: now })
-}
-
-/// Whether a slot is not held. Where the slots are in order, the young ones are not looked at, and none where a slot is unused.
-fn has_room<S: SlotTable<PeerKey, Client>>(table: &S, latest: Option<u64>, now: u64) -> bool
-    requires order { AreInOrderIf latest (slots_view (S.slots table.now)) }
-    ensures { result ≡ nat_lt (count_by (is_slot_held now) (slots_view (S.slots table.now))) (S.capacity table.now) }
-{
-    match latest {
-        Some(_) => has_room_once_swept(table, &HeldAt { moment: now }, last_unheld(now)),
-        None => held_count(table, now) < table.room(),
-    }
-}
-
 /// Whether all slots are held, or no further ticket has a number.
 fn has_no_slot<S: SlotTable<PeerKey, Client>>(
-    table: &S,
-    latest: Option<u64>,
+    aged: &AgedTable<ClientRules, S>,
     asked: u64,
     now: u64,
 ) -> bool
-    requires order { AreInOrderIf latest (slots_view (S.slots table.now)) }
-    ensures { result ≡ has_no_slot now (end_of (S.slots table.now) (S.capacity table.now) asked) }
+    requires { AreAged aged.now.ages (S.slots aged.now.table) }
+    ensures { result ≡ has_no_slot now (end_of (S.slots aged.now.table) (S.capacity aged.now.table) asked) }
 {
-    !has_room(table, latest, now) || asked == u64::MAX
-}
-
-fn put<S: SlotTable<PeerKey, Client>>(table: &mut S, key: PeerKey, now: u64, client: Client)
-    requires absent { value_at code_same_key key (S.slots table.old) ≡ None }
-    requires room { length (S.slots table.old) < S.capacity table.old }
-    ensures slots { S.slots table.new ≡ S.slots table.old ++ record { key = key; begin = now; value = client } ∷ [] }
-    ensures same { S.capacity table.new ≡ S.capacity table.old }
-{
-    match table.put(key, now, client) {
-        Ok(()) => {}
-        Err(_) => unreachable!(),
-    }
-}
-
-/// The slots that are not held go. Where the slots are in order, the young ones are not looked at.
-fn sweep_unheld<S: SlotTable<PeerKey, Client>>(table: &mut S, latest: Option<u64>, now: u64)
-    requires order { AreInOrderIf latest (slots_view (S.slots table.old)) }
-    ensures slots { S.slots table.new ≡ filter (λ s. is_held now s.value.held) (S.slots table.old) }
-    ensures same { S.capacity table.new ≡ S.capacity table.old }
-{
-    let held = HeldAt { moment: now };
-    match latest {
-        Some(_) => sweep_oldest(table, &held, last_unheld(now)),
-        None => sweep(table, &held),
-    }
-}
-
-/// The slots that are not held go, and a new one comes.
-fn enter<S: SlotTable<PeerKey, Client>>(
-    table: &mut S,
-    latest: Option<u64>,
-    context: &Context,
-    client: Client,
-)
-    requires order { AreInOrderIf latest (slots_view (S.slots table.old)) }
-    requires free { is_id_held context.now.moment (slots_view (S.slots table.old)) (peer_key_view context.now.key).peer context.now.key.invoke_id ≡ false }
-    requires room { count_by (is_slot_held context.now.moment) (slots_view (S.slots table.old)) < S.capacity table.old }
-    ensures slots { slots_view (S.slots table.new) ≡ filter (is_slot_held context.now.moment) (slots_view (S.slots table.old))
-        ++ record { key = peer_key_view context.now.key; begin = context.now.moment; value = client } ∷ [] }
-    ensures same { S.capacity table.new ≡ S.capacity table.old }
-{
-    let now = context.moment;
-    // that the key is absent after the sweep, and how many slots are left
-    sweeping_slots::<PeerKey, Client>();
-    let _slots = table.len();
-    sweep_unheld(table, latest, now);
-    put(table, context.key, now, client);
+    !has_room(aged, now) || asked == u64::MAX
 }
 
 /// The service choice of a request.
@@ -206,25 +135,25 @@ fn begin(
 pub(crate) fn ask<S: SlotTable<PeerKey, Client>>(
     alloc: Global,
     settings: &Settings,
-    table: &mut S,
-    latest: Option<u64>,
+    aged: &mut AgedTable<ClientRules, S>,
     asked: &mut u64,
     now: u64,
     peer: &Peer,
     way: RequestWay,
     request: Request<'_>,
 ) -> Result<Asked, AskFault>
-    requires order { AreInOrderIf latest (slots_view (S.slots table.old)) }
+    requires aged { AreAged aged.old.ages (S.slots aged.old.table) }
     requires way { IsWayFor way (length (request_spelling (request_view request))) }
-    ensures { AsksTable (asks_for (settings_view settings.now) now (peer_view peer.now)
+    ensures asks { AsksTable (asks_for (settings_view settings.now) now (peer_view peer.now)
         (ask_at now (request_by (choice_of (request_view request.entry)) (request_spelling (request_view request.entry)) way))
-        (end_of (S.slots table.old) (S.capacity table.old) asked.old)) (end_of (S.slots table.old) (S.capacity table.old) asked.old) result
-        (end_of (S.slots table.new) (S.capacity table.new) asked.new) }
+        (end_of (S.slots aged.old.table) (S.capacity aged.old.table) asked.old)) (end_of (S.slots aged.old.table) (S.capacity aged.old.table) asked.old) result
+        (end_of (S.slots aged.new.table) (S.capacity aged.new.table) asked.new) }
+    ensures aged { AreAged aged.new.ages (S.slots aged.new.table) }
 {
-    let Some(invoke_id) = least_id(table, peer, now) else {
+    let Some(invoke_id) = least_id(&aged.table, peer, now) else {
         return Err(AskFault::NoInvokeId);
     };
-    if has_no_slot(table, latest, *asked, now) {
+    if has_no_slot(aged, *asked, now) {
         return Err(AskFault::NoSlot);
     }
     let context = Context {
@@ -243,7 +172,7 @@ pub(crate) fn ask<S: SlotTable<PeerKey, Client>>(
         number: *asked,
         held: Held::Open(ticket),
     };
-    enter(table, latest, &context, client);
+    enter(aged, context.key, now, client);
     let ticket = *asked;
     *asked += 1;
     Ok(Asked {

@@ -1,10 +1,16 @@
 //! The value of a slot.
-ghost use Rattle.std.specs.Prelude.{◌≡◌};
-ghost use Rattle.bac_ends.specs.Ends.{is_held};
-ghost use Rattle.bac_ticket.specs.Timers.{IsHeldQuiet};
+ghost use Rattle.std.specs.Prelude.{◌≡◌, ℕ};
+ghost use Rattle.bac_protocol.specs.declared.times.TheConstants.{HOLD as HELD_FOR};
+ghost use Rattle.bac_ends.specs.Ends.{held_ticked, is_held};
+ghost use Rattle.bac_ends.specs.Views.{context_view};
+ghost use Rattle.bac_ticket.specs.Views.{held_view};
+ghost use Rattle.bac_requester.specs.Aging.{IsClientQuiet, began, value_ticked};
 ghost use Rattle.bac_requester.specs.Short.{IsHeldShort};
 
-use bac_slots::{Same, Test};
+use bac_aged::{Aged, Fact, Ticks};
+use bac_ends::{Context, PeerKey, Settings};
+use bac_protocol::times::HOLD;
+use bac_slots::Same;
 use bac_ticket::Held;
 use std::marker::Model;
 
@@ -32,44 +38,81 @@ impl Client {
     {
         self.held.is_held(now)
     }
+}
 
-    /// The first moment at which a tick finds something to do for its ticket.
-    pub(crate) fn due(&self) -> u64
-        ensures { IsHeldQuiet result self.now.held }
-    {
+/// What is kept of a ticket after a tick.
+fn ticked(context: &Context, held: Held) -> Held
+    ensures { (number : ℕ) → held_ticked (context_view context.now) number (held_view held) ≡ record { number = number; held = held_view result } }
+{
+    match held {
+        Held::Closed { first } => Held::Closed { first },
+        Held::Open(ticket) => ticket.commit_tick(context),
+    }
+}
+
+/// The rules by which the slots of a client's end age.
+#[derive(Drop)]
+pub(crate) struct ClientRules;
+
+/// A slot is alive while it is held.
+impl Aged<ClientRules> for Client {
+    ghost began = { began };
+
+    ghost lives = { λ now c. is_held now c.held };
+
+    ghost LIFE = { HELD_FOR };
+
+    ghost IsQuiet = { IsClientQuiet };
+
+    const LIFE: u64 = HOLD;
+
+    fn is_alive(&self, now: u64) -> bool {
+        self.is_held(now)
+    }
+
+    fn due(&self, _from: u64) -> u64 {
         self.held.due()
     }
 
-    /// A law of each value: its ticket, if it is open, keeps at most 65,535 octets of a reply, in at most 65,535 segments. It changes nothing.
-    pub(crate) fn reassembly_is_short(&self)
-        ensures { IsHeldShort self.now.held }
-    {
-        let Held::Open(ticket) = &self.held else {
-            return;
-        };
-        let _octets = ticket.reassembled();
-    }
+    fn ages() {}
+}
 
-    /// A value that stands in a slot while its own is out.
-    pub(crate) fn stand_in() -> Client {
+impl Ticks<ClientRules, PeerKey, Settings> for Client {
+    ghost ticked = { value_ticked };
+
+    fn stand_in() -> Client {
         Client {
             number: 0,
             held: Held::Closed { first: 0 },
         }
     }
+
+    fn tick(self, settings: &Settings, now: u64, key: &PeerKey) -> Client {
+        let Client { number, held } = self;
+        let context = Context {
+            settings: *settings,
+            key: *key,
+            moment: now,
+        };
+        let held = ticked(&context, held);
+        Client { number, held }
+    }
+
+    fn ticks() {}
 }
 
-/// Whether a slot is held at a moment.
+/// A ticket, if it is open, keeps at most 65,535 octets of a reply, in at most 65,535 segments.
 #[derive(Drop)]
-pub(crate) struct HeldAt {
-    pub(crate) moment: u64,
-}
+pub(crate) struct ShortReplies;
 
-impl Test<Client> for HeldAt {
-    ghost passes = { λ t c. is_held t.moment c.held };
+impl Fact<Client> for ShortReplies {
+    ghost Holds = { λ c. IsHeldShort c.held };
 
-    fn passes(&self, client: &Client) -> bool {
-        client.is_held(self.moment)
+    fn holds(&self, client: &Client) {
+        let Held::Open(ticket) = &client.held else {
+            return;
+        };
+        let _octets = ticket.reassembled();
     }
 }
 

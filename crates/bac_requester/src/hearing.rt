@@ -4,11 +4,13 @@ ghost use Rattle.std.specs.Option.{option_map};
 ghost use Rattle.bac_ticket.specs.Views.{ending_view};
 ghost use Rattle.bac_apdu.specs.Views.{apdu_view};
 ghost use Rattle.bac_ends.specs.Views.{peer_key_view, settings_view};
+ghost use Rattle.bac_requester.specs.Aging.{AreAged};
 ghost use Rattle.bac_requester.specs.Turns.{HearsTable, finishes_with, hears_key};
 ghost use Rattle.bac_requester.specs.Views.{end_of, finishes_of};
 
-use crate::client::Client;
+use crate::client::{Client, ClientRules};
 use crate::turn::{Finish, Turn};
+use bac_aged::{Aged, AgedTable, Ticks};
 use bac_apdu::Apdu;
 use bac_ends::{Context, Datagram, PeerKey};
 use bac_slots::SlotTable;
@@ -49,14 +51,17 @@ pub(crate) fn turn_of(number: u64, sends: Vec<Datagram>, ended: Option<Ending>) 
 pub(crate) fn hears<S: SlotTable<PeerKey, Client>>(
     alloc: Global,
     context: &Context,
-    table: &mut S,
+    aged: &mut AgedTable<ClientRules, S>,
     apdu: &Apdu<'_>,
 ) -> Result<Turn, NoMemory>
-    ensures { (asked : ℕ) → HearsTable (hears_key (settings_view context.now.settings) context.now.moment (peer_key_view context.now.key) (apdu_view apdu.now)
-        (end_of (S.slots table.old) (S.capacity table.old) asked)) (end_of (S.slots table.old) (S.capacity table.old) asked) result
-        (end_of (S.slots table.new) (S.capacity table.new) asked) }
+    requires aged { AreAged aged.old.ages (S.slots aged.old.table) }
+    ensures turn { (asked : ℕ) → HearsTable (hears_key (settings_view context.now.settings) context.now.moment (peer_key_view context.now.key)
+        (apdu_view apdu.now) (end_of (S.slots aged.old.table) (S.capacity aged.old.table) asked)) (end_of (S.slots aged.old.table)
+        (S.capacity aged.old.table) asked) result (end_of (S.slots aged.new.table) (S.capacity aged.new.table) asked) }
+    ensures aged { AreAged aged.new.ages (S.slots aged.new.table) }
 {
-    let Some(slot) = table.get_mut(&context.key) else {
+    let from = aged.ages.from;
+    let Some(slot) = aged.table.get_mut(&context.key) else {
         return Ok(nothing(alloc));
     };
     let client = std::mem::replace(slot, Client::stand_in());
@@ -70,7 +75,10 @@ pub(crate) fn hears<S: SlotTable<PeerKey, Client>>(
         Held::Open(ticket) => match ticket.gets(alloc, context, apdu) {
             Ok(reaction) => {
                 let Reaction { held, sends, ended } = reaction;
-                *slot = Client { number, held };
+                let client = Client { number, held };
+                let due = client.due(from);
+                *slot = client;
+                aged.ages.comes_due(due);
                 Ok(turn_of(number, sends, ended))
             }
             Err(ticket) => {

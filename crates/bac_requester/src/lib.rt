@@ -7,9 +7,7 @@ mod ask_fault;
 mod asking;
 mod client;
 mod hearing;
-mod order;
 mod requester;
-mod short;
 mod ticking;
 mod turn;
 

@@ -17,13 +17,12 @@ ghost use Rattle.bac_requester.specs.Turns.{Asks, Hears, IsDue, Refuses};
 ghost use Rattle.bac_requester.specs.Views.{Requester as Requesting};
 
 use crate::ask_fault::AskFault;
-use crate::asking::{Asked, ask, held_count};
-use crate::client::Client;
+use crate::asking::{Asked, ask};
+use crate::client::{Client, ClientRules, ShortReplies};
 use crate::hearing::hears;
-use crate::order::later;
-use crate::short::replies_are_short;
-use crate::ticking::{at_the_earliest, commit, first_due, nothing_due, prepare};
+use crate::ticking::{nothing_due, prepare};
 use crate::turn::{Due, Turn};
+use bac_aged::{AgedTable, count_alive, each_slot, empty_table, tick};
 use bac_apdu::{Apdu, Limits};
 use bac_ends::{Context, PeerKey, Settings, invoke_id_of};
 use bac_npdu::Peer;
@@ -39,12 +38,8 @@ use std::marker::Model;
 pub struct Requester<S: SlotTable<PeerKey, Client> + Drop> {
     link: [u8; 6],
     settings: Settings,
-    table: S,
+    aged: AgedTable<ClientRules, S>,
     asked: u64,
-    /// A tick before this moment finds nothing to do.
-    due: u64,
-    /// The latest moment of an accepted ask, while none was at an earlier moment than one before it: the slots stand in the order of their first sendings then.
-    latest: Option<u64>,
 }
 
 impl<S: SlotTable<PeerKey, Client> + Drop> Model for Requester<S> {
@@ -52,14 +47,13 @@ impl<S: SlotTable<PeerKey, Client> + Drop> Model for Requester<S> {
 
     ghost Value = { views.Requester };
 
-    ghost use Rattle.bac_ends.specs.Views.{settings_view, slots_view};
-    ghost use Rattle.bac_requester.specs.Begins.{AreInOrderIf};
-    ghost use Rattle.bac_requester.specs.Timers.{AreQuiet};
+    ghost use Rattle.bac_ends.specs.Views.{settings_view};
+    ghost use Rattle.bac_requester.specs.Aging.{AreAged};
     ghost use Rattle.bac_requester.specs.Views.{end_of};
 
-    ghost view = { λ r. record { link = r.link; settings = settings_view r.settings; end = end_of (S.slots r.table) (S.capacity r.table) r.asked } };
+    ghost view = { λ r. record { link = r.link; settings = settings_view r.settings; end = end_of (S.slots r.aged.table) (S.capacity r.aged.table) r.asked } };
 
-    ghost invariant = { λ r. AreQuiet r.due (slots_view (S.slots r.table)) × AreInOrderIf r.latest (slots_view (S.slots r.table)) };
+    ghost invariant = { λ r. AreAged r.aged.ages (S.slots r.aged.table) };
 }
 
 /// A request that can't go, as the fault of its ask.
@@ -83,16 +77,14 @@ impl<S: SlotTable<PeerKey, Client> + Drop> Requester<S> {
     ) -> Result<Requester<S>, NoMemory>
         ensures { IfOk result (λ r. r ≡ record { link = link; settings = settings_view settings; end = record { slots = []; capacity = slots; asked = 0 } }) }
     {
-        let Ok(table) = S::new(alloc, slots) else {
+        let Ok(aged) = empty_table(alloc, slots) else {
             return Err(NoMemory);
         };
         Ok(Requester {
             link,
             settings,
-            table,
+            aged,
             asked: 0,
-            due: u64::MAX,
-            latest: Some(0),
         })
     }
 
@@ -137,20 +129,16 @@ impl<S: SlotTable<PeerKey, Client> + Drop> Requester<S> {
             Ok(way) => way,
             Err(fault) => return Err(fault_of(fault)),
         };
-        let asked = ask(
+        ask(
             alloc,
             &self.settings,
-            &mut self.table,
-            self.latest,
+            &mut self.aged,
             &mut self.asked,
             now,
             peer,
             way,
             request,
-        )?;
-        self.latest = later(self.latest, now);
-        self.due = at_the_earliest(self.due, now);
-        Ok(asked)
+        )
     }
 
     /// An APDU comes from a peer at a moment, in milliseconds. Where memory is refused, nothing has changed.
@@ -172,9 +160,7 @@ impl<S: SlotTable<PeerKey, Client> + Drop> Requester<S> {
             key,
             moment: now,
         };
-        let turn = hears(alloc, &context, &mut self.table, apdu)?;
-        self.due = at_the_earliest(self.due, now);
-        Ok(turn)
+        hears(alloc, &context, &mut self.aged, apdu)
     }
 
     /// What a tick sends and ends (clause 5.4.4), at a moment in milliseconds. Nothing changes. Before the first moment at which anything can be due no slot
@@ -182,10 +168,10 @@ impl<S: SlotTable<PeerKey, Client> + Drop> Requester<S> {
     pub fn prepare_tick(&self, alloc: Global, now: u64) -> Result<Due, NoMemory>
         ensures { IfOk result (IsDue (clients_tick self.now.settings now self.now.end)) }
     {
-        if now < self.due {
+        if self.aged.ages.is_quiet(now) {
             return Ok(nothing_due(alloc));
         }
-        prepare(alloc, &self.settings, &self.table, now)
+        prepare(alloc, &self.settings, &self.aged.table, now)
     }
 
     /// The end after a tick, of which `prepare_tick` says what is sent and ended. It takes no memory. Before the first moment at which anything can be
@@ -193,11 +179,7 @@ impl<S: SlotTable<PeerKey, Client> + Drop> Requester<S> {
     pub fn commit_tick(&mut self, now: u64)
         ensures { self.new ≡ record self.old { end = (clients_tick self.old.settings now self.old.end).end } }
     {
-        if now < self.due {
-            return;
-        }
-        commit(&self.settings, &mut self.table, now);
-        self.due = first_due(&self.table);
+        tick(&mut self.aged, &self.settings, now);
     }
 
     /// How many slots are held at a moment, in milliseconds: their tickets are open, or no more than 135,000 milliseconds have passed since the first
@@ -207,15 +189,15 @@ impl<S: SlotTable<PeerKey, Client> + Drop> Requester<S> {
         ensures within { result ≤ self.now.end.capacity }
         ensures orderly { IsOrderlyClient self.now.end }
     {
-        let _len = self.table.len();
-        held_count(&self.table, now)
+        let _len = self.aged.table.len();
+        count_alive(&self.aged, now)
     }
 
     /// How many slots it was made with.
     pub fn capacity(&self) -> usize
         ensures { result ≡ self.now.end.capacity }
     {
-        self.table.room()
+        self.aged.table.room()
     }
 
     /// A law of each client's end: no ticket keeps more than 65,535 octets of a reply, or more than 65,535 segments. It goes over the table, and changes
@@ -223,7 +205,7 @@ impl<S: SlotTable<PeerKey, Client> + Drop> Requester<S> {
     pub fn reassemblies_are_short(&self)
         ensures { AreRepliesShort self.now.end.slots }
     {
-        replies_are_short(&self.table);
+        each_slot(&self.aged.table, &ShortReplies);
     }
 
     /// Whether contracts see no difference between two requesters: the same link and settings, the same slots in the same order, as many asks.
@@ -239,6 +221,6 @@ impl<S: SlotTable<PeerKey, Client> + Drop> Requester<S> {
         if self.asked != other.asked {
             return false;
         }
-        same_tables(&self.table, &other.table)
+        same_tables(&self.aged.table, &other.aged.table)
     }
 }

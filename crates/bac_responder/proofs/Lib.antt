@@ -1,8 +1,5 @@
+-- Lemmas of the server's end.
+pub mod Timers
+pub mod Ticks
 pub mod Turned
-pub mod Firsts
 pub mod Sweeps
-pub mod Orders
-pub mod Quiet
-pub mod Timed
-pub mod Begins
-pub mod Shorts

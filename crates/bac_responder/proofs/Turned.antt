@@ -12,7 +12,7 @@ use Rattle.bac_protocol.specs.Context.{Context}
 use Rattle.bac_protocol.specs.Server.{Entry, Effect, Reaction, Service, is_live, is_none_live, live_gets, idle_gets, server_gets}
 use Rattle.bac_protocol.specs.Server.{begins, request_segment_taken, rests, server_abort}
 use Rattle.bac_protocol.specs.Service.{OTHER}
-use Rattle.bac_responder.specs.Tables.{begins_request}
+use Rattle.bac_responder.specs.Aging.{begins_request}
 use Rattle.bac_protocol.specs.Steps.{StaysIn}
 use Rattle.bac_protocol.proofs.Served.{live_stays_law}
 use Rattle.bac_ends.specs.Keys.{PeerKey, same_key}

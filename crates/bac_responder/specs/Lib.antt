@@ -1,6 +1,5 @@
+-- The server's end: what its calls answer, and what contracts see of the types in code.
 pub mod Turns
 pub mod Views
-pub mod Tables
-pub mod Timers
-pub mod Begins
+pub mod Aging
 pub mod Short

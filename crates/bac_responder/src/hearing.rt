@@ -3,17 +3,16 @@ ghost use Rattle.std.specs.Prelude.{◌≡◌, ◌&&◌, true};
 ghost use Rattle.bac_apdu.specs.Views.{apdu_view};
 ghost use Rattle.bac_slots.specs.Slots.{value_at};
 ghost use Rattle.bac_protocol.specs.Server.{is_none_live};
-ghost use Rattle.bac_ends.specs.Ends.{is_free as is_free_in};
+ghost use Rattle.bac_ends.specs.Ends.{is_free};
 ghost use Rattle.bac_ends.specs.Views.{code_same_key, peer_key_view};
 ghost use Rattle.bac_entry.specs.Views.{performed_view};
-ghost use Rattle.bac_responder.specs.Begins.{AreInOrderIf};
-ghost use Rattle.bac_responder.specs.Tables.{begins_request};
+ghost use Rattle.bac_responder.specs.Aging.{AreAged, begins_request};
 ghost use Rattle.bac_responder.specs.Turns.{acted_of};
 ghost use Rattle.bac_responder.specs.Views.{acted_view, end_of, turn_of, Serves};
 
-use crate::order::later;
+use crate::aging::ServerRules;
 use crate::served::{Act, Served};
-use crate::table::{enter, is_free};
+use bac_aged::{AgedTable, enter, has_room};
 use bac_apdu::Apdu;
 use bac_ends::{Context, Datagram, PeerKey};
 use bac_entry::{Effect, Entry, IdleReaction, Reaction, idle_gets, live_gets};
@@ -52,34 +51,31 @@ fn begins_request(apdu: &Apdu<'_>) -> bool
 
 /// Whether an APDU begins a request and a slot has no live entry. For any other APDU no entry is looked at.
 fn has_place<S: SlotTable<PeerKey, Entry>>(
-    table: &S,
-    latest: Option<u64>,
+    aged: &AgedTable<ServerRules, S>,
     moment: u64,
     apdu: &Apdu<'_>,
 ) -> bool
-    requires order { AreInOrderIf latest (S.slots table.now) }
-    ensures { result ≡ (begins_request (apdu_view apdu.now) && is_free_in moment (end_of (S.slots table.now) (S.capacity table.now))) }
+    requires { AreAged aged.now.ages (S.slots aged.now.table) }
+    ensures { result ≡ (begins_request (apdu_view apdu.now) && is_free moment (end_of (S.slots aged.now.table) (S.capacity aged.now.table))) }
 {
-    begins_request(apdu) && is_free(table, latest, moment)
+    begins_request(apdu) && has_room(aged, moment)
 }
 
 /// No entry of the context's key is live. Whether a slot is free is asked where the APDU begins a request.
-/// `latest` is as in a responder.
 fn idle_hears<S: SlotTable<PeerKey, Entry>>(
     alloc: Global,
     context: &Context,
-    table: &mut S,
-    latest: &mut Option<u64>,
+    aged: &mut AgedTable<ServerRules, S>,
     apdu: &Apdu<'_>,
     store: &mut Store,
 ) -> Result<Served, NoMemory>
-    requires dead { is_none_live context.now.moment (value_at code_same_key context.now.key (S.slots table.old)) ≡ true }
-    requires order { AreInOrderIf latest.old (S.slots table.old) }
-    ensures turn { Serves (turn_of context.now store.old (apdu_view apdu.now) (end_of (S.slots table.old) (S.capacity table.old)))
-        (end_of (S.slots table.old) (S.capacity table.old)) store.old result (end_of (S.slots table.new) (S.capacity table.new)) store.new }
-    ensures order { AreInOrderIf latest.new (S.slots table.new) }
+    requires dead { is_none_live context.now.moment (value_at code_same_key context.now.key (S.slots aged.old.table)) ≡ true }
+    requires aged { AreAged aged.old.ages (S.slots aged.old.table) }
+    ensures turn { Serves (turn_of context.now store.old (apdu_view apdu.now) (end_of (S.slots aged.old.table) (S.capacity aged.old.table)))
+        (end_of (S.slots aged.old.table) (S.capacity aged.old.table)) store.old result (end_of (S.slots aged.new.table) (S.capacity aged.new.table)) store.new }
+    ensures aged { AreAged aged.new.ages (S.slots aged.new.table) }
 {
-    let free = has_place(table, *latest, context.moment, apdu);
+    let free = has_place(aged, context.moment, apdu);
     match idle_gets(alloc, context, free, apdu, store)? {
         IdleReaction::Stays(sends) => Ok(Served { sends, act: None }),
         IdleReaction::Begins(reaction) => {
@@ -88,8 +84,7 @@ fn idle_hears<S: SlotTable<PeerKey, Entry>>(
                 sends,
                 effect,
             } = reaction;
-            enter(table, *latest, context.moment, context.key, entry);
-            *latest = later(*latest, context.moment);
+            enter(aged, context.key, context.moment, entry);
             Ok(served(context.key, sends, effect))
         }
     }
@@ -99,21 +94,21 @@ fn idle_hears<S: SlotTable<PeerKey, Entry>>(
 pub(crate) fn hears<S: SlotTable<PeerKey, Entry>>(
     alloc: Global,
     context: &Context,
-    table: &mut S,
-    latest: &mut Option<u64>,
+    aged: &mut AgedTable<ServerRules, S>,
     apdu: &Apdu<'_>,
     store: &mut Store,
 ) -> Result<Served, NoMemory>
-    requires order { AreInOrderIf latest.old (S.slots table.old) }
-    ensures turn { Serves (turn_of context.now store.old (apdu_view apdu.now) (end_of (S.slots table.old) (S.capacity table.old)))
-        (end_of (S.slots table.old) (S.capacity table.old)) store.old result (end_of (S.slots table.new) (S.capacity table.new)) store.new }
-    ensures order { AreInOrderIf latest.new (S.slots table.new) }
+    requires aged { AreAged aged.old.ages (S.slots aged.old.table) }
+    ensures turn { Serves (turn_of context.now store.old (apdu_view apdu.now) (end_of (S.slots aged.old.table) (S.capacity aged.old.table)))
+        (end_of (S.slots aged.old.table) (S.capacity aged.old.table)) store.old result (end_of (S.slots aged.new.table) (S.capacity aged.new.table)) store.new }
+    ensures aged { AreAged aged.new.ages (S.slots aged.new.table) }
 {
-    let Some(slot) = table.get_mut(&context.key) else {
-        return idle_hears(alloc, context, table, latest, apdu, store);
+    let from = aged.ages.from;
+    let Some(slot) = aged.table.get_mut(&context.key) else {
+        return idle_hears(alloc, context, aged, apdu, store);
     };
     if !slot.is_live(context.moment) {
-        return idle_hears(alloc, context, table, latest, apdu, store);
+        return idle_hears(alloc, context, aged, apdu, store);
     }
     let entry = std::mem::replace(slot, Entry::placeholder());
     match live_gets(alloc, context, entry, apdu, store) {
@@ -123,7 +118,9 @@ pub(crate) fn hears<S: SlotTable<PeerKey, Entry>>(
                 sends,
                 effect,
             } = reaction;
+            let due = entry.due(from);
             *slot = entry;
+            aged.ages.comes_due(due);
             Ok(served(context.key, sends, effect))
         }
         Err(entry) => {

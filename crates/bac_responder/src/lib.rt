@@ -3,13 +3,10 @@
 //! Each call gives exactly what bac_ends' definitions of the server's end say. A live entry is never evicted.
 #![tactic(auto)]
 
+mod aging;
 mod hearing;
-mod live_at;
-mod order;
 mod responder;
 mod served;
-mod short;
-mod table;
 mod ticking;
 
 pub use responder::Responder;

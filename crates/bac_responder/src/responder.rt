@@ -10,16 +10,16 @@ ghost use Rattle.bac_entry.specs.Services.{service_of};
 ghost use Rattle.bac_responder.specs.Short.{AreRequestsShort};
 ghost use Rattle.bac_responder.specs.Views.{end_of, Serves};
 
+use crate::aging::{ServerRules, ShortRequests};
 use crate::hearing::hears;
-use crate::live_at::LiveAt;
 use crate::served::Served;
-use crate::short::requests_are_short;
-use crate::ticking::{at_the_earliest, commit_all, first_due, is_quiet, nothing_due, prepare_all};
+use crate::ticking::{nothing_due, prepare};
+use bac_aged::{AgedTable, count_alive, each_slot, empty_table, tick};
 use bac_apdu::Apdu;
 use bac_ends::{Context, Datagram, PeerKey, Settings, invoke_id_of};
 use bac_entry::Entry;
 use bac_npdu::Peer;
-use bac_slots::{SlotTable, count_passing, same_tables};
+use bac_slots::{SlotTable, same_tables};
 use bac_store::Store;
 use bac_value::NoMemory;
 use std::alloc::Global;
@@ -29,13 +29,7 @@ use std::marker::Model;
 #[derive(Drop)]
 pub struct Responder<S: SlotTable<PeerKey, Entry> + Drop> {
     settings: Settings,
-    table: S,
-    /// From this moment on a tick finds nothing to do,
-    from: u64,
-    /// and before this one.
-    due: u64,
-    /// The latest moment at which an entry began, while none began at an earlier moment than one before it: the slots stand in the order of their begins then.
-    latest: Option<u64>,
+    aged: AgedTable<ServerRules, S>,
 }
 
 impl<S: SlotTable<PeerKey, Entry> + Drop> Model for Responder<S> {
@@ -43,14 +37,13 @@ impl<S: SlotTable<PeerKey, Entry> + Drop> Model for Responder<S> {
 
     ghost Value = { Serving };
 
-    ghost use Rattle.bac_ends.specs.Views.{settings_view, slots_view};
-    ghost use Rattle.bac_responder.specs.Begins.{AreInOrderIf};
-    ghost use Rattle.bac_responder.specs.Timers.{AreQuiet};
+    ghost use Rattle.bac_ends.specs.Views.{settings_view};
+    ghost use Rattle.bac_responder.specs.Aging.{AreAged};
     ghost use Rattle.bac_responder.specs.Views.{end_of};
 
-    ghost view = { λ r. record { settings = settings_view r.settings; end = end_of (S.slots r.table) (S.capacity r.table) } };
+    ghost view = { λ r. record { settings = settings_view r.settings; end = end_of (S.slots r.aged.table) (S.capacity r.aged.table) } };
 
-    ghost invariant = { λ r. AreQuiet r.from r.due (slots_view (S.slots r.table)) × AreInOrderIf r.latest (S.slots r.table) };
+    ghost invariant = { λ r. AreAged r.aged.ages (S.slots r.aged.table) };
 }
 
 impl<S: SlotTable<PeerKey, Entry> + Drop> Responder<S> {
@@ -58,14 +51,8 @@ impl<S: SlotTable<PeerKey, Entry> + Drop> Responder<S> {
     pub fn new(alloc: Global, settings: Settings, slots: usize) -> Result<Responder<S>, NoMemory>
         ensures { IfOk result (λ r. r ≡ record { settings = settings_view settings; end = record { slots = []; capacity = slots } }) }
     {
-        let table = S::new(alloc, slots)?;
-        Ok(Responder {
-            settings,
-            table,
-            from: 0,
-            due: u64::MAX,
-            latest: Some(0),
-        })
+        let aged = empty_table(alloc, slots)?;
+        Ok(Responder { settings, aged })
     }
 
     /// How many entries are live. No two entries have one key, and there are no more of them than slots, whether they are live or not.
@@ -74,15 +61,15 @@ impl<S: SlotTable<PeerKey, Entry> + Drop> Responder<S> {
         ensures within { result ≤ self.now.end.capacity }
         ensures orderly { IsOrderlyServer self.now.end }
     {
-        let _len = self.table.len();
-        count_passing(&self.table, &LiveAt { moment })
+        let _len = self.aged.table.len();
+        count_alive(&self.aged, moment)
     }
 
     /// How many slots it was made with.
     pub fn capacity(&self) -> usize
         ensures { result ≡ self.now.end.capacity }
     {
-        self.table.room()
+        self.aged.table.room()
     }
 
     /// A law of each server's end: no entry, live or not, keeps more than 65,535 octets of a request, or more than 65,535 segments. It goes over the table,
@@ -90,14 +77,14 @@ impl<S: SlotTable<PeerKey, Entry> + Drop> Responder<S> {
     pub fn reassemblies_are_short(&self)
         ensures { AreRequestsShort self.now.end.slots }
     {
-        requests_are_short(&self.table);
+        each_slot(&self.aged.table, &ShortRequests);
     }
 
     /// Whether both have the same settings and as many slots, with the same entries in the same order of putting.
     pub fn same(&self, other: &Responder<S>) -> bool
         ensures { IsTrue result ↔ (self.now ≡ other.now) }
     {
-        self.settings == other.settings && same_tables(&self.table, &other.table)
+        self.settings == other.settings && same_tables(&self.aged.table, &other.aged.table)
     }
 
     /// An APDU comes from a peer, at that moment in milliseconds.
@@ -125,16 +112,7 @@ impl<S: SlotTable<PeerKey, Entry> + Drop> Responder<S> {
             key,
             moment,
         };
-        let served = hears(
-            alloc,
-            &context,
-            &mut self.table,
-            &mut self.latest,
-            apdu,
-            store,
-        )?;
-        self.due = at_the_earliest(self.due, moment);
-        Ok(served)
+        hears(alloc, &context, &mut self.aged, apdu, store)
     }
 
     /// What a tick sends, in ascending order of peer and invoke ID: the windows of replies that no SegmentACK came for in 2,000 ms, while a retry is left.
@@ -142,22 +120,16 @@ impl<S: SlotTable<PeerKey, Entry> + Drop> Responder<S> {
     pub fn prepare_tick(&self, alloc: Global, moment: u64) -> Result<Vec<Datagram>, NoMemory>
         ensures { IfOk result (λ v. Pairwise IsSent (servers_tick self.now.settings moment self.now.end).sends v.items) }
     {
-        if is_quiet(self.from, self.due, moment) {
+        if self.aged.ages.is_quiet(moment) {
             return Ok(nothing_due(alloc));
         }
-        prepare_all(alloc, &self.settings, &self.table, moment)
+        prepare(alloc, &self.settings, &self.aged.table, moment)
     }
 
     /// The entries after a tick. It takes no memory. Before the first moment at which anything can be due no slot is looked at.
     pub fn commit_tick(&mut self, moment: u64)
         ensures { self.new ≡ record self.old { end = (servers_tick self.old.settings moment self.old.end).end } }
     {
-        if is_quiet(self.from, self.due, moment) {
-            return;
-        }
-        let settings = self.settings;
-        commit_all(&settings, &mut self.table, moment);
-        self.from = moment;
-        self.due = first_due(&self.table, moment);
+        tick(&mut self.aged, &self.settings, moment);
     }
 }

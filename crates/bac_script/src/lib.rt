@@ -11,6 +11,3 @@ pub use form_fault::FormFault;
 pub use line::{Ask, Noise, Setting, Step};
 pub use line_reading::{read_setting, read_step};
 pub use request_reading::read_request_words;
-
-#[cfg(test)]
-mod tests;

@@ -10,11 +10,7 @@ use std::alloc::Global;
 pub(crate) const ROOM: usize = 1_024;
 
 /// Appends octets, or changes nothing. They go into the last vector where its room is enough, and otherwise into one that is begun.
-pub(crate) fn append(
-    alloc: Global,
-    chunks: &mut Vec<Vec<u8>>,
-    octets: &[u8],
-) -> Result<(), NoMemory>
+pub fn append(alloc: Global, chunks: &mut Vec<Vec<u8>>, octets: &[u8]) -> Result<(), NoMemory>
     ensures ok { OnOk result (joined chunks.new.items ≡ joined chunks.old.items ++ octets.now) }
     ensures err { OnErr result (joined chunks.new.items ≡ joined chunks.old.items) }
 {

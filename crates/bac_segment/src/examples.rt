@@ -6,7 +6,7 @@ ghost use Rattle.bac_segment.specs.Window.{outgoing, in_window, window_pieces, i
 ghost use Rattle.bac_segment.specs.Window.{incoming, Taking, takes};
 
 /// 111 octets in pieces of 44 are pieces of 44, 44 and 23.
-fn cuts()
+pub fn cuts()
     ensures lengths { map length (pieces_of 44 (replicate 111 7)) ≡ 44 ∷ 44 ∷ 23 ∷ [] }
     ensures even { pieces_of 2 (1 ∷ 2 ∷ 3 ∷ 4 ∷ []) ≡ (1 ∷ 2 ∷ []) ∷ (3 ∷ 4 ∷ []) ∷ [] }
     ensures one { pieces_of 5 (1 ∷ []) ≡ (1 ∷ []) ∷ [] }
@@ -16,7 +16,7 @@ fn cuts()
 {}
 
 /// How far the wire's number is ahead.
-fn counts_ahead()
+pub fn counts_ahead()
     ensures same { ahead 0 256 ≡ 0 }
     ensures next { ahead 1 256 ≡ 1 }
     ensures before { ahead 255 256 ≡ 255 }
@@ -24,7 +24,7 @@ fn counts_ahead()
 {}
 
 /// A sender of three pieces: acknowledgements of piece 0, of pieces before and after the window, and of the last.
-fn sends()
+pub fn sends()
     ensures start { window_pieces (outgoing ((1 ∷ []) ∷ (2 ∷ []) ∷ (3 ∷ []) ∷ [])) ≡ (1 ∷ []) ∷ [] }
     ensures first { acknowledged 32 (outgoing ((1 ∷ []) ∷ (2 ∷ []) ∷ (3 ∷ []) ∷ [])) 0 127
         ≡ Some (record { pieces = (1 ∷ []) ∷ (2 ∷ []) ∷ (3 ∷ []) ∷ []; first = 1; window = 32; retries = 3 }) }
@@ -40,7 +40,7 @@ fn sends()
 {}
 
 /// Repeats, and what a transfer begins with again.
-fn repeats()
+pub fn repeats()
     ensures once { again (outgoing ((1 ∷ []) ∷ [])) ≡ Some (record { pieces = (1 ∷ []) ∷ []; first = 0; window = 1; retries = 2 }) }
     ensures no_more { again (record { pieces = (1 ∷ []) ∷ []; first = 0; window = 1; retries = 0 }) ≡ None }
     ensures restart { restart (record { pieces = (1 ∷ []) ∷ (2 ∷ []) ∷ []; first = 1; window = 9; retries = 0 })
@@ -50,7 +50,7 @@ fn repeats()
 {}
 
 /// A receiver of window 2: piece 0 is acknowledged, piece 1 is not, piece 2 fills the window.
-fn receives()
+pub fn receives()
     ensures actual { incoming 32 64 ≡ record { parts = []; unacknowledged = 0; window = 32 } }
     ensures lesser { incoming 32 2 ≡ record { parts = []; unacknowledged = 0; window = 2 } }
     ensures zero { takes (incoming 32 2) 0 true (7 ∷ [])

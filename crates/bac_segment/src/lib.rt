@@ -5,7 +5,8 @@
 //! a number of the wire know of it. Windows are those of bac_apdu: 1 to 127 segments.
 #![tactic(auto)]
 
-mod chunks;
+pub mod chunks;
+pub mod examples;
 mod incoming;
 mod laws;
 mod limits;
@@ -18,8 +19,3 @@ pub use laws::{
 };
 pub use limits::{DATA, RETRIES};
 pub use outgoing::{Outgoing, Position, Progress, Timeout};
-
-#[cfg(test)]
-mod examples;
-#[cfg(test)]
-mod tests;

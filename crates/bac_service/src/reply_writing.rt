@@ -11,8 +11,8 @@ use crate::lengths::reply_len;
 use crate::reply::{AnyComplex, Complex, FileWritten};
 use crate::value::{Content, PropertyReference};
 use bac_value::{
-    Class, Form, NoMemory, Tag, kinds, put_boolean, put_object_identifier, put_primitive,
-    put_signed, put_tag, put_unsigned,
+    Class, Form, NoMemory, Tag, kinds, write_boolean, write_object_identifier, write_primitive,
+    write_signed, write_tag, write_unsigned,
 };
 
 pub(crate) fn put_opening(number: u8, out: &mut Vec<u8>) -> Result<(), NoMemory>
@@ -27,7 +27,7 @@ pub(crate) fn put_opening(number: u8, out: &mut Vec<u8>) -> Result<(), NoMemory>
         class: Class::Context,
         form: Form::Opening,
     };
-    put_tag(&tag, out)
+    write_tag(&tag, out)
 }
 
 pub(crate) fn put_closing(number: u8, out: &mut Vec<u8>) -> Result<(), NoMemory>
@@ -42,7 +42,7 @@ pub(crate) fn put_closing(number: u8, out: &mut Vec<u8>) -> Result<(), NoMemory>
         class: Class::Context,
         form: Form::Closing,
     };
-    put_tag(&tag, out)
+    write_tag(&tag, out)
 }
 
 fn put_index(index: Option<u32>, out: &mut Vec<u8>) -> Result<(), NoMemory>
@@ -52,7 +52,7 @@ fn put_index(index: Option<u32>, out: &mut Vec<u8>) -> Result<(), NoMemory>
     ensures grows { vec_capacity out.old ≤ vec_capacity out.new }
 {
     match index {
-        Some(index) => put_unsigned(Class::Context, 2, u64::from(index), out),
+        Some(index) => write_unsigned(Class::Context, 2, u64::from(index), out),
         None => Ok(()),
     }
 }
@@ -65,8 +65,8 @@ pub(crate) fn put_reference(to: PropertyReference, out: &mut Vec<u8>) -> Result<
     ensures full { NeedsRoom result out.old (reference_spelling (property_reference_view to)) }
     ensures grows { vec_capacity out.old ≤ vec_capacity out.new }
 {
-    put_object_identifier(Class::Context, 0, to.object, out)?;
-    put_unsigned(Class::Context, 1, u64::from(to.property), out)?;
+    write_object_identifier(Class::Context, 0, to.object, out)?;
+    write_unsigned(Class::Context, 1, u64::from(to.property), out)?;
     put_index(to.index, out)
 }
 
@@ -95,8 +95,8 @@ pub(crate) fn put_content(
     ensures grows { vec_capacity out.old ≤ vec_capacity out.new }
 {
     put_opening(0, out)?;
-    put_signed(Class::Application, kinds::SIGNED, start, out)?;
-    put_primitive(Class::Application, kinds::OCTET_STRING, content.octets, out)?;
+    write_signed(Class::Application, kinds::SIGNED, start, out)?;
+    write_primitive(Class::Application, kinds::OCTET_STRING, content.octets, out)?;
     put_closing(0, out)
 }
 
@@ -108,14 +108,14 @@ fn put_complex(reply: Complex<'_>, out: &mut Vec<u8>) -> Result<(), NoMemory>
 {
     match reply {
         AnyComplex::FileRead(read) => {
-            put_boolean(read.end_of_file, out)?;
+            write_boolean(read.end_of_file, out)?;
             put_content(read.start, read.content, out)
         }
         AnyComplex::FileWritten(FileWritten::Stream(start)) => {
-            put_signed(Class::Context, 0, start, out)
+            write_signed(Class::Context, 0, start, out)
         }
         AnyComplex::FileWritten(FileWritten::Records(start)) => {
-            put_signed(Class::Context, 1, start, out)
+            write_signed(Class::Context, 1, start, out)
         }
         AnyComplex::PropertyRead(read) => {
             put_reference(read.reference, out)?;

@@ -11,7 +11,7 @@ use crate::lengths::request_len;
 use crate::reply_writing::{put_closing, put_content, put_opening, put_reference, put_values};
 use crate::request::{AnyRequest, ReadAccess, Request, WriteAccess, WriteRecords};
 use crate::value::{Content, Priority, Records};
-use bac_value::{Class, NoMemory, kinds, put_object_identifier, put_signed, put_unsigned};
+use bac_value::{Class, NoMemory, kinds, write_object_identifier, write_signed, write_unsigned};
 
 /// Appends a Signed and an Unsigned with application tags.
 fn put_extent(start: i64, count: u64, out: &mut Vec<u8>) -> Result<(), NoMemory>
@@ -20,8 +20,8 @@ fn put_extent(start: i64, count: u64, out: &mut Vec<u8>) -> Result<(), NoMemory>
     ensures full { NeedsRoom result out.old (extent_spelling start count) }
     ensures grows { vec_capacity out.old ≤ vec_capacity out.new }
 {
-    put_signed(Class::Application, kinds::SIGNED, start, out)?;
-    put_unsigned(Class::Application, kinds::UNSIGNED, count, out)
+    write_signed(Class::Application, kinds::SIGNED, start, out)?;
+    write_unsigned(Class::Application, kinds::UNSIGNED, count, out)
 }
 
 /// Appends the same between a pair of tags of that number.
@@ -92,7 +92,7 @@ fn put_priority(priority: Option<Priority>, out: &mut Vec<u8>) -> Result<(), NoM
     ensures grows { vec_capacity out.old ≤ vec_capacity out.new }
 {
     match priority {
-        Some(priority) => put_unsigned(Class::Context, 4, u64::from(priority.number), out),
+        Some(priority) => write_unsigned(Class::Context, 4, u64::from(priority.number), out),
         None => Ok(()),
     }
 }
@@ -105,11 +105,11 @@ fn put_request(request: Request<'_>, out: &mut Vec<u8>) -> Result<(), NoMemory>
 {
     match request {
         AnyRequest::ReadFile(read) => {
-            put_object_identifier(Class::Application, kinds::OBJECT_IDENTIFIER, read.file, out)?;
+            write_object_identifier(Class::Application, kinds::OBJECT_IDENTIFIER, read.file, out)?;
             put_read_access(read.access, out)
         }
         AnyRequest::WriteFile(write) => {
-            put_object_identifier(
+            write_object_identifier(
                 Class::Application,
                 kinds::OBJECT_IDENTIFIER,
                 write.file,

@@ -164,6 +164,7 @@ pub(crate) fn await_confirmation_gets(
     ensures { Reacts context.now ticket (await_confirmation_gets (context_view context.now) reads_reply ticket.ask (apdu_view apdu.now)) result }
 {
     match *apdu {
+        // SimpleACK_Received
         Apdu::SimpleAck { choice, .. } => Ok(gets_simple_ack(alloc, context, ticket, choice)),
         Apdu::ComplexAck {
             segment,
@@ -171,9 +172,12 @@ pub(crate) fn await_confirmation_gets(
             service,
             ..
         } => match segment {
+            // UnsegmentedComplexACK_Received
             None => gets_complex_ack(alloc, context, ticket, choice, service),
+            // SegmentedComplexACK_Received
             Some(segment) => gets_first_segment(alloc, context, ticket, segment, choice, service),
         },
+        // ErrorPDU_Received
         Apdu::Error {
             choice,
             class,

@@ -27,12 +27,15 @@ pub(crate) fn gets_refusal(
     ensures { IsReaction context.now ticket (gets_refusal (apdu_view apdu.now)) result }
 {
     match *apdu {
+        // RejectPDU_Received
         Apdu::Reject { reason, .. } => ends(alloc, ticket, Ending::Rejected(reason)),
+        // AbortPDU_Received
         Apdu::Abort {
             server: true,
             reason,
             ..
         } => ends(alloc, ticket, Ending::Aborted(reason)),
+        // own: UnexpectedPDU_Received is ignored
         _ => stays(alloc, context, ticket),
     }
 }

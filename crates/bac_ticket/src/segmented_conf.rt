@@ -55,7 +55,7 @@ fn close_with_segments(
     })
 }
 
-/// The reassembly has grown too long.
+/// The reassembly has grown too long (NewSegmentReceived_NoSpace).
 fn too_long(
     alloc: Global,
     context: &Context,
@@ -74,7 +74,7 @@ fn too_long(
     Ok(closes(core.first, closing))
 }
 
-/// The last segment comes.
+/// The last segment comes (LastSegmentOfComplexACK_Received).
 fn takes_last(
     alloc: Global,
     context: &Context,
@@ -99,7 +99,7 @@ fn takes_last(
     Ok(closes(core.first, closing))
 }
 
-/// A segment comes, of the reply that is awaited.
+/// A segment comes, of the reply that is awaited (NewSegmentReceived, LastSegmentOfGroupReceived, SegmentReceivedOutOfOrder and those above).
 pub(crate) fn takes_segment(
     alloc: Global,
     context: &Context,

@@ -50,10 +50,12 @@ fn gets_segment_ack(
         .outgoing
         .on_ack(number, granted, context.settings.window)
     {
+        // DuplicateACK_Received; own: the timer runs on
         Progress::Ignored => {
             let phase = Phase::SegmentedRequest { all_sent };
             Ok(stays(alloc, context, Ticket { core, phase }))
         }
+        // FinalACK_Received
         Progress::Finished => {
             let ticket = goes_on(core, Phase::AwaitConfirmation, context.moment);
             Ok(Reaction {
@@ -62,6 +64,7 @@ fn gets_segment_ack(
                 ended: None,
             })
         }
+        // NewACK_Received
         Progress::Moved => {
             let Ok(sends) = window(alloc, context, core.choice, &core.outgoing) else {
                 core.outgoing.go_back(was);

@@ -51,7 +51,7 @@ fn ended(alloc: Global, how: Ending) -> Due
     }
 }
 
-/// The request is sent again, from its beginning.
+/// The request is sent again, from its beginning (TimeoutUnsegmented, TimeoutSegmented, FinalTimeout).
 fn repeat_sends(alloc: Global, context: &Context, core: &Core) -> Result<Due, NoMemory>
     requires { IsShort core.now.whole core.now.outgoing }
     ensures { (p : Phase) → IfOk result (IsDue context.now (ticket_view core.now p) (repeats (context_view context.now) (ticket_view core.now p))) }
@@ -68,7 +68,7 @@ fn repeat_sends(alloc: Global, context: &Context, core: &Core) -> Result<Due, No
     Ok(Due { sends, ended: None })
 }
 
-/// The window of the request is sent again, where a retry is left.
+/// The window of the request is sent again, where a retry is left (Timeout, FinalTimeout).
 fn window_sends(
     alloc: Global,
     context: &Context,

@@ -45,10 +45,10 @@ pub use parts::Parts;
 pub use parts_reading::{check_data_at, copy_out, read_tag_at};
 pub use tag::{Class, Form, Tag};
 pub use tag_reading::{one_tag_spelling, read_tag, take_tag};
-pub use tag_writing::{put_tag, write_tag};
+pub use tag_writing::write_tag;
 pub use value::{BitString, CharacterString, ObjectIdentifier, OctetString, Value};
 pub use value_reading::value_of;
 pub use value_writing::{
-    one_value_spelling, put_boolean, put_object_identifier, put_primitive, put_signed,
-    put_unsigned, put_value, write_value,
+    one_value_spelling, write_boolean, write_object_identifier, write_primitive, write_signed,
+    write_unsigned, write_value,
 };

@@ -1,5 +1,5 @@
 //! Writing one tag (clause 20.2.1).
-ghost use Rattle.std.specs.Prelude.{◌≡◌, ◌<◌, ◌≤◌, ◌+◌, ◌++◌, ◌^◌, OnOk, OnErr, length, vec_len, vec_capacity};
+ghost use Rattle.std.specs.Prelude.{◌≡◌, ◌<◌, ◌≤◌, ◌+◌, ◌++◌, ◌^◌, OnOk, OnErr, length, take, vec_len, vec_capacity};
 ghost use Rattle.bac_value.specs.Appending.{Appends, Lengthens, Keeps, NeedsRoom};
 ghost use Rattle.bac_value.specs.Octets.{Begins};
 ghost use Rattle.bac_value.specs.Spelling.{class_bit, length_fits, form_bits, form_octets, length_octets, number_octets, number_bits, tag_spelling, SpellsTag};
@@ -46,7 +46,7 @@ fn put_length(len: u32, out: &mut Vec<u8>) -> Result<(), NoMemory>
 /// Appends the one spelling of a tag. After an `Err` the old octets are a front of what is there.
 #[tactic(auto, unfolding(crate::specs::Spelling::tag_spelling))]
 #[inline(always)]
-pub fn put_tag(tag: &Tag, out: &mut Vec<u8>) -> Result<(), NoMemory>
+pub(crate) fn put_tag(tag: &Tag, out: &mut Vec<u8>) -> Result<(), NoMemory>
     ensures spelled { SpellsTag (tag_view tag.now) (tag_spelling (tag_view tag.now)) }
     ensures ok { Appends result out.old out.new (tag_spelling (tag_view tag.now)) }
     ensures len { Lengthens result out.old out.new (tag_spelling (tag_view tag.now)) }
@@ -69,17 +69,36 @@ pub fn put_tag(tag: &Tag, out: &mut Vec<u8>) -> Result<(), NoMemory>
     Ok(())
 }
 
-/// Appends the one spelling of a tag, or answers `NoMemory` and changes nothing, where the vector has too little room and cannot grow.
-pub fn write_tag(tag: &Tag, out: &mut Vec<u8>) -> Result<(), NoMemory>
-    ensures spelled { SpellsTag (tag_view tag.now) (tag_spelling (tag_view tag.now)) }
-    ensures ok { Appends result out.old out.new (tag_spelling (tag_view tag.now)) }
-    ensures err { Keeps result out.old out.new }
-    ensures full { NeedsRoom result out.old (tag_spelling (tag_view tag.now)) }
+/// What a writer answers that appended behind so many octets: what it has appended is cut off where it was refused.
+#[inline(always)]
+pub(crate) fn whole_or_undone(
+    before: usize,
+    written: Result<(), NoMemory>,
+    out: &mut Vec<u8>,
+) -> Result<(), NoMemory>
+    requires { before ≤ length out.old.items }
+    ensures same { result ≡ written }
+    ensures ok { OnOk written (out.new ≡ out.old) }
+    ensures err { OnErr written (out.new.items ≡ take before out.old.items) }
+    ensures room { vec_capacity out.new ≡ vec_capacity out.old }
 {
-    let before = out.len();
-    let written = put_tag(tag, out);
     if written.is_err() {
         out.truncate(before);
     }
     written
+}
+
+/// Appends the one spelling of a tag, or answers `NoMemory` and changes nothing, where the vector has too little room and cannot grow.
+#[inline(always)]
+pub fn write_tag(tag: &Tag, out: &mut Vec<u8>) -> Result<(), NoMemory>
+    ensures spelled { SpellsTag (tag_view tag.now) (tag_spelling (tag_view tag.now)) }
+    ensures ok { Appends result out.old out.new (tag_spelling (tag_view tag.now)) }
+    ensures len { Lengthens result out.old out.new (tag_spelling (tag_view tag.now)) }
+    ensures err { Keeps result out.old out.new }
+    ensures full { NeedsRoom result out.old (tag_spelling (tag_view tag.now)) }
+    ensures grows { vec_capacity out.old ≤ vec_capacity out.new }
+{
+    let before = out.len();
+    let written = put_tag(tag, out);
+    whole_or_undone(before, written, out)
 }

@@ -14,15 +14,14 @@ use crate::kinds;
 use crate::memory::NoMemory;
 use crate::number_width::{complement_of, distance_of, octets_of, signed_octets_of};
 use crate::tag::{Class, Form, Tag};
-use crate::tag_writing::put_tag;
+use crate::tag_writing::{put_tag, whole_or_undone};
 use crate::value::{ObjectIdentifier, Value};
 use byteorder::{BigEndian, ByteOrder};
 
-/// Appends a tag with the length of some contents, and the contents. After an `Err` the old octets are a front of what is there.
-///
-/// Tag numbers: application 0 to 12 but 1, context 0 to 254. That the contents are of the tag's kind is the caller's to know.
+/// Appends a tag with the length of some contents, and the contents. After an `Err` the old octets are a front of what is there, as of all that is named
+/// `put_` here.
 #[inline(always)]
-pub fn put_primitive(
+fn put_primitive(
     class: Class,
     number: u8,
     contents: &[u8],
@@ -77,7 +76,7 @@ fn put_number(
 /// After an `Err` the old octets are a front of what is there.
 #[tactic(auto, unfolding(crate::specs::Number::unsigned_octets))]
 #[inline(always)]
-pub fn put_unsigned(class: Class, tag: u8, number: u64, out: &mut Vec<u8>) -> Result<(), NoMemory>
+fn put_unsigned(class: Class, tag: u8, number: u64, out: &mut Vec<u8>) -> Result<(), NoMemory>
     requires { IsTrue (length_tag_fits tag class) }
     ensures ok { Appends result out.old out.new (primitive class tag (unsigned_octets number)) }
     ensures len { Lengthens result out.old out.new (primitive class tag (unsigned_octets number)) }
@@ -93,7 +92,7 @@ pub fn put_unsigned(class: Class, tag: u8, number: u64, out: &mut Vec<u8>) -> Re
 /// Tag numbers: application 0 to 12 but 1, context 0 to 254. After an `Err` the old octets are a front of what is there.
 #[tactic(auto, unfolding(crate::specs::Number::signed_octets))]
 #[inline(always)]
-pub fn put_signed(class: Class, tag: u8, number: i64, out: &mut Vec<u8>) -> Result<(), NoMemory>
+fn put_signed(class: Class, tag: u8, number: i64, out: &mut Vec<u8>) -> Result<(), NoMemory>
     requires { IsTrue (length_tag_fits tag class) }
     ensures ok { Appends result out.old out.new (primitive class tag (signed_octets number)) }
     ensures len { Lengthens result out.old out.new (primitive class tag (signed_octets number)) }
@@ -109,7 +108,7 @@ pub fn put_signed(class: Class, tag: u8, number: i64, out: &mut Vec<u8>) -> Resu
 ///
 /// Tag numbers: application 0 to 12 but 1, context 0 to 254. After an `Err` the old octets are a front of what is there.
 #[inline(always)]
-pub fn put_object_identifier(
+fn put_object_identifier(
     class: Class,
     tag: u8,
     id: ObjectIdentifier,
@@ -129,7 +128,7 @@ pub fn put_object_identifier(
 /// Appends an application Boolean, whose value stands in its tag (clause 20.2.3).
 ///
 /// After an `Err` the old octets are a front of what is there.
-pub fn put_boolean(value: bool, out: &mut Vec<u8>) -> Result<(), NoMemory>
+fn put_boolean(value: bool, out: &mut Vec<u8>) -> Result<(), NoMemory>
     ensures ok { Appends result out.old out.new (tag_spelling (mark_for (boolean value) 0)) }
     ensures len { Lengthens result out.old out.new (tag_spelling (mark_for (boolean value) 0)) }
     ensures kept { Begins out.old.items out.new.items }
@@ -166,7 +165,7 @@ fn put_with_octet(kind: u8, octet: u8, octets: &[u8], out: &mut Vec<u8>) -> Resu
 }
 
 /// Appends the one spelling of a value. After an `Err` the old octets are a front of what is there.
-pub fn put_value(value: &Value, out: &mut Vec<u8>) -> Result<(), NoMemory>
+fn put_value(value: &Value, out: &mut Vec<u8>) -> Result<(), NoMemory>
     ensures ok { Appends result out.old out.new (value_spelling (value_view value.now)) }
     ensures len { Lengthens result out.old out.new (value_spelling (value_view value.now)) }
     ensures kept { Begins out.old.items out.new.items }
@@ -210,10 +209,105 @@ pub fn write_value(value: &Value, out: &mut Vec<u8>) -> Result<(), NoMemory>
 {
     let before = out.len();
     let written = put_value(value, out);
-    if written.is_err() {
-        out.truncate(before);
-    }
-    written
+    whole_or_undone(before, written, out)
+}
+
+/// Appends a tag with the length of some contents, and the contents, or answers `NoMemory` and changes nothing.
+///
+/// Tag numbers: application 0 to 12 but 1, context 0 to 254. That the contents are of the tag's kind is the caller's to know.
+#[inline(always)]
+pub fn write_primitive(
+    class: Class,
+    number: u8,
+    contents: &[u8],
+    out: &mut Vec<u8>,
+) -> Result<(), NoMemory>
+    requires tag { IsTrue (length_tag_fits number class) }
+    requires fits { length contents.now < 2 ^ 32 }
+    ensures ok { Appends result out.old out.new (primitive class number contents.now) }
+    ensures len { Lengthens result out.old out.new (primitive class number contents.now) }
+    ensures kept { Begins out.old.items out.new.items }
+    ensures err { Keeps result out.old out.new }
+    ensures full { NeedsRoom result out.old (primitive class number contents.now) }
+    ensures grows { vec_capacity out.old ≤ vec_capacity out.new }
+{
+    let before = out.len();
+    let written = put_primitive(class, number, contents, out);
+    whole_or_undone(before, written, out)
+}
+
+/// Appends a tag, and a number in the fewest octets (clause 20.2.4), an Unsigned or an Enumerated, or answers `NoMemory` and changes nothing.
+///
+/// Tag numbers: application 0 to 12 but 1, context 0 to 254; that an Enumerated has at most 32 bits is the caller's to know.
+#[inline(always)]
+pub fn write_unsigned(class: Class, tag: u8, number: u64, out: &mut Vec<u8>) -> Result<(), NoMemory>
+    requires { IsTrue (length_tag_fits tag class) }
+    ensures ok { Appends result out.old out.new (primitive class tag (unsigned_octets number)) }
+    ensures len { Lengthens result out.old out.new (primitive class tag (unsigned_octets number)) }
+    ensures kept { Begins out.old.items out.new.items }
+    ensures err { Keeps result out.old out.new }
+    ensures full { NeedsRoom result out.old (primitive class tag (unsigned_octets number)) }
+    ensures grows { vec_capacity out.old ≤ vec_capacity out.new }
+{
+    let before = out.len();
+    let written = put_unsigned(class, tag, number, out);
+    whole_or_undone(before, written, out)
+}
+
+/// Appends a tag, and a number in the fewest octets of two's complement (clause 20.2.5), or answers `NoMemory` and changes nothing.
+///
+/// Tag numbers: application 0 to 12 but 1, context 0 to 254.
+#[inline(always)]
+pub fn write_signed(class: Class, tag: u8, number: i64, out: &mut Vec<u8>) -> Result<(), NoMemory>
+    requires { IsTrue (length_tag_fits tag class) }
+    ensures ok { Appends result out.old out.new (primitive class tag (signed_octets number)) }
+    ensures len { Lengthens result out.old out.new (primitive class tag (signed_octets number)) }
+    ensures kept { Begins out.old.items out.new.items }
+    ensures err { Keeps result out.old out.new }
+    ensures full { NeedsRoom result out.old (primitive class tag (signed_octets number)) }
+    ensures grows { vec_capacity out.old ≤ vec_capacity out.new }
+{
+    let before = out.len();
+    let written = put_signed(class, tag, number, out);
+    whole_or_undone(before, written, out)
+}
+
+/// Appends a tag, and the octets of an object's type and instance (clause 20.2.14), or answers `NoMemory` and changes nothing.
+///
+/// Tag numbers: application 0 to 12 but 1, context 0 to 254.
+#[inline(always)]
+pub fn write_object_identifier(
+    class: Class,
+    tag: u8,
+    id: ObjectIdentifier,
+    out: &mut Vec<u8>,
+) -> Result<(), NoMemory>
+    requires { IsTrue (length_tag_fits tag class) }
+    ensures ok { Appends result out.old out.new (primitive class tag (object_octets (object_identifier_view id))) }
+    ensures len { Lengthens result out.old out.new (primitive class tag (object_octets (object_identifier_view id))) }
+    ensures kept { Begins out.old.items out.new.items }
+    ensures err { Keeps result out.old out.new }
+    ensures full { NeedsRoom result out.old (primitive class tag (object_octets (object_identifier_view id))) }
+    ensures grows { vec_capacity out.old ≤ vec_capacity out.new }
+{
+    let before = out.len();
+    let written = put_object_identifier(class, tag, id, out);
+    whole_or_undone(before, written, out)
+}
+
+/// Appends an application Boolean, whose value stands in its tag (clause 20.2.3), or answers `NoMemory` and changes nothing.
+#[inline(always)]
+pub fn write_boolean(value: bool, out: &mut Vec<u8>) -> Result<(), NoMemory>
+    ensures ok { Appends result out.old out.new (tag_spelling (mark_for (boolean value) 0)) }
+    ensures len { Lengthens result out.old out.new (tag_spelling (mark_for (boolean value) 0)) }
+    ensures kept { Begins out.old.items out.new.items }
+    ensures err { Keeps result out.old out.new }
+    ensures full { NeedsRoom result out.old (tag_spelling (mark_for (boolean value) 0)) }
+    ensures grows { vec_capacity out.old ≤ vec_capacity out.new }
+{
+    let before = out.len();
+    let written = put_boolean(value, out);
+    whole_or_undone(before, written, out)
 }
 
 /// No value has two spellings; a spelling means one value, and begins no other.

@@ -1,7 +1,7 @@
 //! Requests and replies: rows that were worked out by hand, and rows that this stack did not write. Here is what they share.
-use super::{holds, octets_of, pieces_of};
+use super::{between_empty_ones, holds, octets_of, pieces_of};
 use bac_service::{
-    AnyComplex, AnyReply, AnyRequest, Complex, Content, Reply, Request, WriteAccess, WriteFile,
+    AnyReply, AnyRequest, Complex, Content, ReadError, Reply, Request, WriteAccess, WriteFile,
     WriteStream, read_reply, read_reply_parts, read_request, read_request_parts, reads_reply_parts,
     reply_len, request_len, write_reply, write_request,
 };
@@ -10,6 +10,7 @@ use std::alloc::Global;
 use std::test::Fail;
 
 mod long;
+mod pieces;
 mod tables;
 
 fn is_request_written(

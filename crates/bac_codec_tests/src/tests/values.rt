@@ -1,5 +1,5 @@
 //! Tags, values and data: what no contract says of bac_value.
-use super::{holds, octets_of, pieces_of};
+use super::{between_empty_ones, holds, octets_of, pieces_of};
 use bac_value::{
     Data, DataBuf, Fault, NoMemory, Octets, Parts, Value, copy_out, read_data, read_element,
     read_tag, take_element, value_of, write_data, write_value,

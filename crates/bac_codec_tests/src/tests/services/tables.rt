@@ -1,4 +1,5 @@
 //! Tables of octets that are read as requests or as service data of ComplexACKs and written back, or refused.
+use super::pieces::{Place, is_complex_at_every_cut, is_request_at_every_cut};
 use super::*;
 
 /// Service choices, octets, and None where they are a request, otherwise the reason for refusing them.
@@ -105,9 +106,11 @@ fn is_request_read(
 
 type RequestRow = (u8, &'static str, Option<u8>);
 
-fn is_request_row(alloc: Global, (choice, text, expected): &RequestRow) -> Result<bool, NoMemory> {
+/// Whether the octets of a row are read as it says; an Err where they are not when they are cut in two.
+fn is_request_row(alloc: Global, (choice, text, expected): &RequestRow) -> Result<bool, Fail> {
     let octets = octets_of(alloc, text)?;
-    is_request_read(alloc, *choice, &octets, *expected)
+    is_request_at_every_cut(alloc, *choice, &octets, *expected)?;
+    Ok(is_request_read(alloc, *choice, &octets, *expected)?)
 }
 
 fn all_requests_read(alloc: Global, rows: &[RequestRow]) -> Result<(), Fail> {
@@ -119,16 +122,9 @@ fn all_requests_read(alloc: Global, rows: &[RequestRow]) -> Result<(), Fail> {
 
 #[test]
 fn reads_requests(rt: HostRuntime) -> Result<(), Fail> {
-    all_requests_read(rt.alloc(), REQUESTS)
-}
-
-#[test]
-fn reads_foreign_requests(rt: HostRuntime) -> Result<(), Fail> {
+    all_requests_read(rt.alloc(), REQUESTS)?;
     all_requests_read(rt.alloc(), FOREIGN_REQUESTS)
 }
-
-/// The number of a fault and its place.
-type Place = (u8, usize);
 
 /// Service choices, octets, and None where they are service data of a ComplexACK, otherwise their fault.
 const REPLIES: &[(u8, &str, Option<Place>)] = &[
@@ -214,9 +210,11 @@ fn is_reply_read(
 
 type ReplyRow = (u8, &'static str, Option<Place>);
 
-fn is_reply_row(alloc: Global, (choice, text, expected): &ReplyRow) -> Result<bool, NoMemory> {
+/// Whether the octets of a row are read as it says; an Err where they are not when they are cut in two.
+fn is_reply_row(alloc: Global, (choice, text, expected): &ReplyRow) -> Result<bool, Fail> {
     let octets = octets_of(alloc, text)?;
-    is_reply_read(alloc, *choice, &octets, *expected)
+    is_complex_at_every_cut(alloc, *choice, &octets, *expected)?;
+    Ok(is_reply_read(alloc, *choice, &octets, *expected)?)
 }
 
 fn all_replies_read(alloc: Global, rows: &[ReplyRow]) -> Result<(), Fail> {
@@ -228,11 +226,7 @@ fn all_replies_read(alloc: Global, rows: &[ReplyRow]) -> Result<(), Fail> {
 
 #[test]
 fn reads_replies(rt: HostRuntime) -> Result<(), Fail> {
-    all_replies_read(rt.alloc(), REPLIES)
-}
-
-#[test]
-fn reads_foreign_replies(rt: HostRuntime) -> Result<(), Fail> {
+    all_replies_read(rt.alloc(), REPLIES)?;
     all_replies_read(rt.alloc(), FOREIGN_REPLIES)
 }
 
@@ -243,10 +237,13 @@ fn append(content: Content<'_>) -> Option<Request<'_>> {
     Some(AnyRequest::WriteFile(WriteFile { file, access }))
 }
 
-fn is_append_written(alloc: Global) -> Result<bool, NoMemory> {
+fn is_append_written(alloc: Global) -> Result<bool, Fail> {
     let octets = octets_of(alloc, "C4028000010E31FF63AABBCC0F")?;
-    match Content::new(b"\xAA\xBB\xCC").and_then(append) {
-        Some(request) => is_request_of(alloc, request, &octets),
+    let Some(content) = Content::new(b"\xAA\xBB\xCC") else {
+        return Ok(false);
+    };
+    match append(content) {
+        Some(request) => Ok(is_request_of(alloc, request, &octets)?),
         None => Ok(false),
     }
 }

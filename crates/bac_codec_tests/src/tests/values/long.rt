@@ -14,15 +14,15 @@ const STRINGS: &[(&str, usize)] = &[
 ];
 
 /// The tag, and contents up to so many octets in all.
-fn string_of(alloc: Global, tag: &str, len: usize, octet: u8) -> Result<Vec<u8>, NoMemory> {
+fn string_of(alloc: Global, tag: &str, len: usize, octet: u8) -> Result<Vec<u8>, Fail> {
     let mut octets = octets_of(alloc, tag)?;
     octets.resize(len, octet)?;
     Ok(octets)
 }
 
-fn is_string_written_back(alloc: Global, tag: &str, len: usize) -> Result<bool, NoMemory> {
+fn is_string_written_back(alloc: Global, tag: &str, len: usize) -> Result<bool, Fail> {
     let octets = string_of(alloc, tag, len, 7)?;
-    is_written_back(alloc, &octets)
+    Ok(is_written_back(alloc, &octets)?)
 }
 
 #[test]
@@ -59,11 +59,13 @@ const LONGEST: &[(&str, usize)] = &[("65FEFFFB", 1_000), ("75FEFFFB", 1), ("85FE
 fn is_the_same_by(alloc: Global, octets: &[u8], size: usize) -> Result<bool, NoMemory>
     requires { 0 < size }
 {
-    let pieces = pieces_of(alloc, octets, size)?;
-    is_the_same_in(alloc, &pieces, octets)
+    Ok(
+        is_the_same_in(alloc, &pieces_of(alloc, octets, size)?, octets)?
+            && is_the_same_in(alloc, &between_empty_ones(alloc, octets, size)?, octets)?,
+    )
 }
 
-fn is_long_string(alloc: Global, tag: &str, size: usize) -> Result<bool, NoMemory>
+fn is_long_string(alloc: Global, tag: &str, size: usize) -> Result<bool, Fail>
     requires { 0 < size }
 {
     let octets = string_of(alloc, tag, 65_535, 0)?;

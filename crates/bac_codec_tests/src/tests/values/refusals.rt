@@ -51,11 +51,11 @@ fn copies_data_that_was_refused(rt: HostRuntime) -> Result<(), Fail> {
     holds(is_copied(rt.alloc(), b"\x62\xAB\xCD")?, "a copy")
 }
 
-/// 0, 1, 2, 3, in pieces of one octet; where one allocation was refused they are made again.
+/// 0, 1, 2, 3, in pieces of one octet with empty ones between; where one allocation was refused they are made again.
 fn pieces(alloc: Global) -> Result<Vec<Vec<u8>>, NoMemory> {
-    match pieces_of(alloc, b"\x00\x01\x02\x03", 1) {
+    match between_empty_ones(alloc, b"\x00\x01\x02\x03", 1) {
         Ok(pieces) => Ok(pieces),
-        Err(NoMemory) => pieces_of(alloc, b"\x00\x01\x02\x03", 1),
+        Err(NoMemory) => between_empty_ones(alloc, b"\x00\x01\x02\x03", 1),
     }
 }
 

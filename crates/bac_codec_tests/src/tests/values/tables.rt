@@ -32,7 +32,7 @@ fn is_read_as(
     reading: Reading,
     text: &str,
     expected: Outcome,
-) -> Result<bool, NoMemory> {
+) -> Result<bool, Fail> {
     let octets = octets_of(alloc, text)?;
     Ok(outcome_as(reading, &octets) == expected)
 }
@@ -132,17 +132,9 @@ const DATA: &[(&str, Outcome)] = &[
 ];
 
 #[test]
-fn reads_tags(rt: HostRuntime) -> Result<(), Fail> {
-    all_read_as(rt.alloc(), Reading::Tag, TAGS)
-}
-
-#[test]
-fn reads_elements(rt: HostRuntime) -> Result<(), Fail> {
-    all_read_as(rt.alloc(), Reading::Element, ELEMENTS)
-}
-
-#[test]
-fn reads_all_data(rt: HostRuntime) -> Result<(), Fail> {
+fn reads_tags_elements_and_data(rt: HostRuntime) -> Result<(), Fail> {
+    all_read_as(rt.alloc(), Reading::Tag, TAGS)?;
+    all_read_as(rt.alloc(), Reading::Element, ELEMENTS)?;
     all_read_as(rt.alloc(), Reading::Data, DATA)
 }
 
@@ -192,9 +184,9 @@ const OTHERS: &[&str] = &[
     "C400800001",
 ];
 
-fn is_number_written(alloc: Global, number: Number, text: &str) -> Result<bool, NoMemory> {
+fn is_number_written(alloc: Global, number: Number, text: &str) -> Result<bool, Fail> {
     let octets = octets_of(alloc, text)?;
-    is_written(alloc, &value(number), &octets)
+    Ok(is_written(alloc, &value(number), &octets)?)
 }
 
 #[test]
@@ -205,9 +197,9 @@ fn writes_numbers(rt: HostRuntime) -> Result<(), Fail> {
     Ok(())
 }
 
-fn is_text_written_back(alloc: Global, text: &str) -> Result<bool, NoMemory> {
+fn is_text_written_back(alloc: Global, text: &str) -> Result<bool, Fail> {
     let octets = octets_of(alloc, text)?;
-    is_written_back(alloc, &octets)
+    Ok(is_written_back(alloc, &octets)?)
 }
 
 #[test]

@@ -7,12 +7,12 @@ use Rattle.bac_ends.specs.Sends.{IsSent, Pairwise}
 use Rattle.bac_ends.specs.Views.{settings_view}
 use Rattle.bac_ends.specs.declared.peer_key.PeerKey.{PeerKey}
 use Rattle.bac_requester.specs.Views.{finish_view}
-use Rattle.bac_requester.proofs.Ticks.{nth_slot, told_more, told_past, take_ordered}
+use Rattle.bac_aged.proofs.Telling.{nth_slot, told_more, told_past, take_ordered}
 use Rattle.bac_requester.proofs.ticking.prepare.Goals as goal
 
 pub loop-n-preserved-in_default : goal.loop-n-preserved-in_default
 loop-n-preserved-in_default g c =
-    let at = nth_slot c.slots_in_order.ensures.nth _ c.loop-n.n None c.loop-n.invariant.distinct c.in_default.ensures in
+    let at = nth_slot Client c.slots_in_order.ensures.nth _ c.loop-n.n None c.loop-n.invariant.distinct c.in_default.ensures in
     record {
       sends = told_past IsSent (client_tick_sends (settings_view c.args.settings.now) c.args.now) c.loop-n.n _ _ at c.loop-n.invariant.sends;
       ended = told_past IsFinish (client_tick_ends (settings_view c.args.settings.now) c.args.now) c.loop-n.n _ _ at c.loop-n.invariant.ended;
@@ -23,7 +23,7 @@ loop-n-preserved-in_default g c =
 pub loop-n-preserved : goal.loop-n-preserved
 loop-n-preserved g c =
     let s : Slot PeerKey Client = record { key = c.in-Some.key; begin = c.in-Some.field-0-1; value = c.in-Some.client.now } in
-    let at = nth_slot c.slots_in_order.ensures.nth _ c.loop-n.n (Some s) c.loop-n.invariant.distinct c.in-Some.ensures in
+    let at = nth_slot Client c.slots_in_order.ensures.nth _ c.loop-n.n (Some s) c.loop-n.invariant.distinct c.in-Some.ensures in
     let told = c.in_ok-turn.ensures c.in-Some.field-0-1 in
     record {
       sends = told_more IsSent (client_tick_sends (settings_view c.args.settings.now) c.args.now) c.loop-n.n _ _ _ _ _ at c.loop-n.invariant.sends told.sends
@@ -37,7 +37,7 @@ loop-n-preserved g c =
 pub returns : goal.returns
 returns g c =
     let n : c.loop-n.n ≡ length (g.S.SlotTable.slots c.args.table.now) = omega (arith, c.loop-n.invariant.ends) in
-    let all = take_ordered (g.S.SlotTable.slots c.args.table.now) c.loop-n.n (c.slots_in_order.ensures.length (g.S.SlotTable.slots c.args.table.now)) n in
+    let all = take_ordered Client (g.S.SlotTable.slots c.args.table.now) c.loop-n.n (c.slots_in_order.ensures.length (g.S.SlotTable.slots c.args.table.now)) n in
     record {
       sends = subst (λ (l : List ClientSlot). Pairwise IsSent (from_each (client_tick_sends
           (settings_view c.args.settings.now) c.args.now) l) c.loop-n.due.sends.items) all c.loop-n.invariant.sends;

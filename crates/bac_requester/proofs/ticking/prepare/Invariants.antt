@@ -1,20 +1,20 @@
 -- What the first n slots in order of keys send and end.
 use Rattle.std.proofs.Common.{◌≡◌, length, map, take}
 use Rattle.bac_slots.specs.Slots.{IsDistinct}
-use Rattle.bac_ends.specs.Ends.{client_tick_sends, client_tick_ends, from_each}
+use Rattle.bac_ends.specs.Ends.{Client, client_tick_sends, client_tick_ends, from_each}
 use Rattle.bac_ends.specs.Meanings.{IsFinish}
 use Rattle.bac_ends.specs.Sends.{IsSent, Pairwise}
 use Rattle.bac_ends.specs.Views.{code_same_key, settings_view}
 use Rattle.bac_requester.specs.Views.{finish_view}
-use Rattle.bac_requester.proofs.Ticks.{ordered}
+use Rattle.bac_aged.proofs.Telling.{ordered}
 use Rattle.bac_requester.proofs.ticking.prepare.Given as goal
 
 abbrev pub invariant-loop-n : goal.invariant-loop-n
 invariant-loop-n g l =
     record {
-      sends : Pairwise IsSent (from_each (client_tick_sends (settings_view l.settings) l.now) (take l.n (ordered
+      sends : Pairwise IsSent (from_each (client_tick_sends (settings_view l.settings) l.now) (take l.n (ordered Client
           (g.S.SlotTable.slots l.table)))) l.due.sends.items;
-      ended : Pairwise IsFinish (from_each (client_tick_ends (settings_view l.settings) l.now) (take l.n (ordered (g.S.SlotTable.slots l.table))))
+      ended : Pairwise IsFinish (from_each (client_tick_ends (settings_view l.settings) l.now) (take l.n (ordered Client (g.S.SlotTable.slots l.table))))
           (map finish_view l.due.ended.items);
       ends : l.n-end ≡ length (g.S.SlotTable.slots l.table);
       distinct : IsDistinct code_same_key (g.S.SlotTable.slots l.table);

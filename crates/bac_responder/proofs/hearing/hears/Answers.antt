@@ -1,6 +1,7 @@
 -- A live entry goes on in its slot; without one, the slots are as before.
-use Rattle.std.proofs.Common.{◌≡◌, ◌∙◌, sym, subst, ap, ℕ, List, Some, false, true, not}
+use Rattle.std.proofs.Common.{◌≡◌, ◌∙◌, refl, sym, subst, ap, ℕ, List, Some, false, true, not}
 use Rattle.bac_apdu.specs.Views.{apdu_view}
+use Rattle.bac_slots.specs.declared.slot.Slot.{Slot}
 use Rattle.bac_slots.specs.Slots.{value_at}
 use Rattle.bac_protocol.specs.Context.{Context}
 use Rattle.bac_protocol.specs.Server.{Entry, is_live, is_none_live}
@@ -11,12 +12,13 @@ use Rattle.bac_ends.specs.declared.peer_key.PeerKey.{PeerKey as CodeKey}
 use Rattle.bac_ends.proofs.Keyed.{value_viewed}
 use Rattle.bac_entry.specs.Services.{service_of}
 use Rattle.bac_ends.specs.Views.{context_view}
-use Rattle.bac_responder.specs.Begins.{AreInOrderIf}
-use Rattle.bac_responder.specs.Tables.{TableSlot}
+use Rattle.bac_entry.specs.Timers.{IsQuiet}
+use Rattle.bac_aged.proofs.Aging.{goes_on}
+use Rattle.bac_aged.proofs.Viewed.{put_back}
+use Rattle.bac_responder.specs.Aging.{AreAged, began}
 use Rattle.bac_responder.specs.Views.{end_of}
-use Rattle.bac_responder.proofs.Begins.{still_in_order}
+use Rattle.bac_responder.proofs.Timers.{quiet_earlier}
 use Rattle.bac_responder.proofs.Turned.{served_so, served_with, live_begun, live_is, stays_live, serves_as}
-use Rattle.bac_responder.proofs.Firsts.{set_back_at, set_same_at}
 use Rattle.bac_responder.proofs.Sweeps.{none_live, same_end, set_there}
 use Rattle.bac_responder.proofs.hearing.hears.Goals as goal
 
@@ -33,20 +35,20 @@ pub idle_hears-requires-then-not-is_live-clause-dead : goal.idle_hears-requires-
 idle_hears-requires-then-not-is_live-clause-dead g c =
     let d : Entry = c.in-Some.slot.now in
     let now : ℕ = c.args.context.now.moment in
-    let unchanged = set_same_at c.args.context.now.key d (g.S.SlotTable.slots c.args.table.now) _ c.in-Some.ensures.value (c.get_mut.follows.holds d).0 in
-    ap (λ (l : List TableSlot). is_none_live now (value_at code_same_key c.args.context.now.key l)) unchanged
+    let unchanged = put_back Entry c.args.context.now.key d d (g.S.SlotTable.slots c.args.aged.now.table) _ (sym c.in-Some.ensures.value) refl (c.get_mut.follows.holds d).0 in
+    ap (λ (l : List (Slot CodeKey Entry)). is_none_live now (value_at code_same_key c.args.context.now.key l)) unchanged
     ∙ ap (is_none_live now) (sym c.in-Some.ensures.value) ∙ none_live now d ∙ ap not (sym c.is_live.ensures ∙ c.if-not-is_live.true)
 
-pub idle_hears-requires-then-not-is_live-clause-order : goal.idle_hears-requires-then-not-is_live-clause-order
-idle_hears-requires-then-not-is_live-clause-order g c =
+pub idle_hears-requires-then-not-is_live-clause-aged : goal.idle_hears-requires-then-not-is_live-clause-aged
+idle_hears-requires-then-not-is_live-clause-aged g c =
     let d : Entry = c.in-Some.slot.now in
-    let unchanged = set_same_at c.args.context.now.key d (g.S.SlotTable.slots c.args.table.now) _ c.in-Some.ensures.value (c.get_mut.follows.holds d).0 in
-    subst (λ (l : List TableSlot). AreInOrderIf c.args.latest.now l) (sym unchanged) c.requires.order
+    let unchanged = put_back Entry c.args.context.now.key d d (g.S.SlotTable.slots c.args.aged.now.table) _ (sym c.in-Some.ensures.value) refl (c.get_mut.follows.holds d).0 in
+    subst (λ (l : List (Slot CodeKey Entry)). AreAged c.args.aged.now.ages l) (sym unchanged) c.requires.aged
 
 pub returns-then-not-is_live-clause-turn : goal.returns-then-not-is_live-clause-turn
 returns-then-not-is_live-clause-turn g c =
     let d : Entry = c.in-Some.slot.now in
-    let unchanged = set_same_at c.args.context.now.key d (g.S.SlotTable.slots c.args.table.now) _ c.in-Some.ensures.value (c.get_mut.follows.holds d).0 in
+    let unchanged = put_back Entry c.args.context.now.key d d (g.S.SlotTable.slots c.args.aged.now.table) _ (sym c.in-Some.ensures.value) refl (c.get_mut.follows.holds d).0 in
     let same = same_end _ _ _ _ unchanged (c.get_mut.follows.holds d).1 in
     serves_as c.args.context.now c.args.store.now (apdu_view c.args.apdu.now) _ _ _ _ _ same c.idle_hears-then-not-is_live.ensures.turn
 
@@ -56,8 +58,8 @@ pub returns-in-Ok-clause-turn : goal.returns-in-Ok-clause-turn
 returns-in-Ok-clause-turn g c =
     let key : CodeKey = c.args.context.now.key in
     let now : ℕ = c.args.context.now.moment in
-    let slots : List TableSlot = g.S.SlotTable.slots c.args.table.now in
-    let e : ServerEnd = end_of slots (g.S.SlotTable.capacity c.args.table.now) in
+    let slots : List (Slot CodeKey Entry) = g.S.SlotTable.slots c.args.aged.now.table in
+    let e : ServerEnd = end_of slots (g.S.SlotTable.capacity c.args.aged.now.table) in
     let k : PeerKey = peer_key_view key in
     let set : Context = context_view c.args.context.now in
     let d : Entry = c.replace-entry.result in
@@ -73,18 +75,19 @@ returns-in-Ok-clause-turn g c =
     served_with _ c.args.store.now _ _ _ _ _ _ _ r c.served.ensures.sends c.served.ensures.act
     (ap (λ (n : ℕ). end_of (g.S.SlotTable.slots (c.get_mut.follows.lender x)) n) (c.get_mut.follows.holds x).1)
 
-pub returns-in-Ok-clause-order : goal.returns-in-Ok-clause-order
-returns-in-Ok-clause-order g c =
+pub returns-in-Ok-clause-aged : goal.returns-in-Ok-clause-aged
+returns-in-Ok-clause-aged g c =
     let key : CodeKey = c.args.context.now.key in
     let now : ℕ = c.args.context.now.moment in
-    let slots : List TableSlot = g.S.SlotTable.slots c.args.table.now in
+    let slots : List (Slot CodeKey Entry) = g.S.SlotTable.slots c.args.aged.now.table in
     let d : Entry = c.replace-entry.result in
     let x : Entry = c.in-Ok.reaction.entry in
     let was : d ≡ c.in-Some.slot.now = c.replace-entry.ensures.value in
     let alive : is_live now d ≡ true = ap (is_live now) was ∙ sym c.is_live.ensures ∙ c.if-not-is_live.false in
     let at : value_at code_same_key key slots ≡ Some d = sym c.in-Some.ensures.value ∙ ap (λ (y : Entry). Some y) (sym was) in
     let begun = live_begun (context_view c.args.context.now) (service_of c.args.store.now) d x (apdu_view c.args.apdu.now) alive c.in-Ok.ensures.entry_is in
-    still_in_order c.args.latest.now key d x slots _ at begun (c.get_mut.follows.holds x).0 c.requires.order
+    goes_on CodeKey Entry began IsQuiet code_same_key quiet_earlier c.args.aged.now.ages _ c.due-due.result key d x slots _ at begun c.due-due.ensures.quiet
+    (c.get_mut.follows.holds x).0 c.comes_due.ensures c.requires.aged
 
 -- Memory was refused.
 
@@ -92,16 +95,16 @@ pub returns-in-Err-clause-turn : goal.returns-in-Err-clause-turn
 returns-in-Err-clause-turn g c =
     let d : Entry = c.in-Some.slot.now in
     let x : Entry = c.in-Err.entry in
-    let unchanged = set_back_at c.args.context.now.key d x (g.S.SlotTable.slots c.args.table.now) _ (sym c.in-Some.ensures.value)
+    let unchanged = put_back Entry c.args.context.now.key d x (g.S.SlotTable.slots c.args.aged.now.table) _ (sym c.in-Some.ensures.value)
     (c.in-Err.ensures.0 ∙ c.replace-entry.ensures.value) (c.get_mut.follows.holds x).0 in (
       same_end _ _ _ _ unchanged (c.get_mut.follows.holds x).1,
       c.in-Err.ensures.1,
     )
 
-pub returns-in-Err-clause-order : goal.returns-in-Err-clause-order
-returns-in-Err-clause-order g c =
+pub returns-in-Err-clause-aged : goal.returns-in-Err-clause-aged
+returns-in-Err-clause-aged g c =
     let d : Entry = c.in-Some.slot.now in
     let x : Entry = c.in-Err.entry in
-    let unchanged = set_back_at c.args.context.now.key d x (g.S.SlotTable.slots c.args.table.now) _ (sym c.in-Some.ensures.value)
+    let unchanged = put_back Entry c.args.context.now.key d x (g.S.SlotTable.slots c.args.aged.now.table) _ (sym c.in-Some.ensures.value)
     (c.in-Err.ensures.0 ∙ c.replace-entry.ensures.value) (c.get_mut.follows.holds x).0 in
-    subst (λ (y : List TableSlot). AreInOrderIf c.args.latest.now y) (sym unchanged) c.requires.order
+    subst (λ (y : List (Slot CodeKey Entry)). AreAged c.args.aged.now.ages y) (sym unchanged) c.requires.aged

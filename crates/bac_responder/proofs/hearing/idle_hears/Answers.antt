@@ -1,6 +1,7 @@
 -- No entry is live.
 use Rattle.std.proofs.Common.{◌≡◌, ◌∙◌, sym, subst, ap, ℕ, List, Option, Bool, true}
 use Rattle.bac_apdu.specs.Views.{apdu_view}
+use Rattle.bac_slots.specs.declared.slot.Slot.{Slot}
 use Rattle.bac_slots.specs.Slots.{value_at}
 use Rattle.bac_protocol.specs.Context.{Context}
 use Rattle.bac_protocol.specs.Server.{Entry, is_none_live, idle_gets}
@@ -11,20 +12,17 @@ use Rattle.bac_ends.specs.declared.peer_key.PeerKey.{PeerKey as CodeKey}
 use Rattle.bac_ends.proofs.Keyed.{value_viewed}
 use Rattle.bac_entry.specs.Services.{service_of}
 use Rattle.bac_ends.specs.Views.{context_view}
-use Rattle.bac_responder.specs.Begins.{AreInOrderIf}
-use Rattle.bac_responder.specs.Tables.{TableSlot}
 use Rattle.bac_responder.specs.Views.{end_of}
-use Rattle.bac_responder.proofs.Begins.{known_later}
 use Rattle.bac_responder.proofs.Turned.{served_so, served_still, served_with, idle_is, begun_live, where_it_begins, its_place}
-use Rattle.bac_responder.proofs.Sweeps.{entered}
+use Rattle.bac_responder.proofs.Sweeps.{entered, keep_none, room}
 use Rattle.bac_responder.proofs.hearing.idle_hears.Goals as goal
 
 pub returns-in-Stays-clause-turn : goal.returns-in-Stays-clause-turn
 returns-in-Stays-clause-turn g c =
     let key : CodeKey = c.args.context.now.key in
     let now : ℕ = c.args.context.now.moment in
-    let slots : List TableSlot = g.S.SlotTable.slots c.args.table.now in
-    let e : ServerEnd = end_of slots (g.S.SlotTable.capacity c.args.table.now) in
+    let slots : List (Slot CodeKey Entry) = g.S.SlotTable.slots c.args.aged.now.table in
+    let e : ServerEnd = end_of slots (g.S.SlotTable.capacity c.args.aged.now.table) in
     let k : PeerKey = peer_key_view key in
     let set : Context = context_view c.args.context.now in
     let o : Option Entry = value_at same_key k e.slots in
@@ -41,8 +39,8 @@ pub returns-in-Begins-clause-turn : goal.returns-in-Begins-clause-turn
 returns-in-Begins-clause-turn g c =
     let key : CodeKey = c.args.context.now.key in
     let now : ℕ = c.args.context.now.moment in
-    let slots : List TableSlot = g.S.SlotTable.slots c.args.table.now in
-    let e : ServerEnd = end_of slots (g.S.SlotTable.capacity c.args.table.now) in
+    let slots : List (Slot CodeKey Entry) = g.S.SlotTable.slots c.args.aged.now.table in
+    let e : ServerEnd = end_of slots (g.S.SlotTable.capacity c.args.aged.now.table) in
     let k : PeerKey = peer_key_view key in
     let set : Context = context_view c.args.context.now in
     let o : Option Entry = value_at same_key k e.slots in
@@ -56,20 +54,20 @@ returns-in-Begins-clause-turn g c =
     let did = rw c.in-Begins.is at c.in_ok-sends.ensures.does in
     let begin = rw c.in-Begins.is at c.in_ok-sends.ensures.begin in
     let r = served_so now e k _ _ c.args.store.now _ x true _ _ _ same (did o) (begun_live now x begin) dead
-    (entered now key x slots _ c.enter.ensures.slots) in
+    (entered now key x slots _ begin c.enter.ensures.slots) in
     served_with _ c.args.store.now _ _ _ _ _ _ _ r c.served.ensures.sends c.served.ensures.act
-    (ap (λ (n : ℕ). end_of (g.S.SlotTable.slots c.enter.new.table) n) c.enter.ensures.same)
+    (ap (λ (n : ℕ). end_of (g.S.SlotTable.slots c.enter.new.aged.table) n) c.enter.ensures.same)
 
-pub returns-in-Begins-clause-order : goal.returns-in-Begins-clause-order
-returns-in-Begins-clause-order g c =
-    let begin = rw c.in-Begins.is at c.in_ok-sends.ensures.begin in
-    subst (λ (o : Option ℕ). AreInOrderIf o (g.S.SlotTable.slots c.enter.new.table)) (sym c.later.ensures)
-    (known_later c.args.latest.now c.args.context.now.moment c.args.context.now.key c.in-Begins.reaction.entry (g.S.SlotTable.slots c.args.table.now)
-    (g.S.SlotTable.slots c.enter.new.table) begin c.enter.ensures.slots c.requires.order)
+pub enter-requires-clause-begins : goal.enter-requires-clause-begins
+enter-requires-clause-begins g c = rw c.in-Begins.is at c.in_ok-sends.ensures.begin
+
+pub enter-requires-clause-absent : goal.enter-requires-clause-absent
+enter-requires-clause-absent g c = keep_none c.args.context.now.moment _ c.requires.dead
 
 pub enter-requires-clause-room : goal.enter-requires-clause-room
 enter-requires-clause-room g c =
     let free = rw c.in-Begins.is at c.in_ok-sends.ensures.free in
-    its_place (apdu_view c.args.apdu.now)
-    (is_free c.args.context.now.moment (end_of (g.S.SlotTable.slots c.args.table.now) (g.S.SlotTable.capacity c.args.table.now)))
-    (sym c.has_place-free.ensures ∙ free)
+    room c.args.context.now.moment (g.S.SlotTable.capacity c.args.aged.now.table) (g.S.SlotTable.slots c.args.aged.now.table)
+    (its_place (apdu_view c.args.apdu.now)
+    (is_free c.args.context.now.moment (end_of (g.S.SlotTable.slots c.args.aged.now.table) (g.S.SlotTable.capacity c.args.aged.now.table)))
+    (sym c.has_place-free.ensures ∙ free))

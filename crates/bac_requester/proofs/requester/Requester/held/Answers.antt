@@ -1,8 +1,9 @@
 -- A table's slots are in order.
-use Rattle.bac_requester.proofs.Tables.{orderly_viewed}
+use Rattle.bac_ends.specs.Ends.{Client}
+use Rattle.bac_aged.proofs.Viewed.{orderly_viewed}
 use Rattle.bac_requester.proofs.requester.Requester.held.Goals as goal
 
 pub returns-clause-orderly : goal.returns-clause-orderly
 returns-clause-orderly g c =
-    rw (← c.self.view_is) (orderly_viewed (g.S.SlotTable.slots c.self.inside.table) _ c.self.inside.asked c.len-len.result c.len-len.ensures.distinct
+    rw (← c.self.view_is) (orderly_viewed Client (g.S.SlotTable.slots c.self.inside.aged.table) _ c.len-len.result c.len-len.ensures.distinct
     c.len-len.ensures.number c.len-len.ensures.within)

@@ -1,0 +1,31 @@
+-- How the values of a client's slots age.
+use Rattle.std.specs.Prelude.{ℕ, List}
+use Rattle.bac_slots.specs.declared.slot.Slot.{Slot}
+use Rattle.bac_ends.specs.Ends.{Client, Held, context_of, held_ticked}
+use Rattle.bac_ends.specs.Views.{peer_key_view, settings_view}
+use Rattle.bac_ends.specs.declared.peer_key.PeerKey.{PeerKey}
+use Rattle.bac_ends.specs.declared.settings.Settings.{Settings}
+use Rattle.bac_aged.specs.Ages.{IsAged}
+use Rattle.bac_aged.specs.declared.ages.Ages.{Ages}
+use Rattle.bac_ticket.specs.Timers.{IsHeldQuiet}
+
+-- the moment of the first sending, which an ended ticket keeps too
+abbrev pub first_of : Held → ℕ
+first_of (Held.Open t) = t.ask.first
+first_of (Held.Closed first) = first
+
+-- a slot's life begins with the first sending of its ticket
+abbrev pub began : Client → ℕ
+began c = first_of c.held
+
+-- a tick before that moment finds nothing to do for its ticket
+abbrev pub IsClientQuiet : (from due : ℕ) → Client → Type 0
+IsClientQuiet from due c = IsHeldQuiet due c.held
+
+-- a slot's value after a tick
+abbrev pub value_ticked : Settings → (now : ℕ) → PeerKey → Client → Client
+value_ticked c now key v = held_ticked (context_of (settings_view c) now (peer_key_view key)) v.number v.held
+
+-- what is known of the ages of a client's slots
+abbrev pub AreAged : Ages → List (Slot PeerKey Client) → Type 0
+AreAged ages slots = IsAged PeerKey Client began IsClientQuiet ages slots

@@ -1,0 +1,78 @@
+-- How entries age: what they are before their timers are due, and that they keep the moment at which they began.
+use Rattle.std.proofs.Common.{◌≡◌, ℕ, ◌+◌, ◌-◌, ◌<◌, ◌≤◌, Bool, true, false, nat_le, if◌then◌else◌, [], Option, Some, None, inl, inr, refl, ap, ◌∙◌, arith}
+use Rattle.std.proofs.lemmas.Bool.Decides.{nat_tests}
+use Rattle.bac_protocol.specs.declared.times.TheConstants.{T_SEG, WAIT_SEG, KEEP}
+use Rattle.bac_protocol.specs.Context.{Context}
+use Rattle.bac_protocol.specs.Server.{Entry, State, Transfer, is_live, live_ticks, rests, server_ticks}
+use Rattle.bac_protocol.specs.Steps.{StaysIn}
+use Rattle.bac_protocol.proofs.Served.{live_stays_law}
+use Rattle.bac_ends.specs.Ends.{context_of, entry_or}
+use Rattle.bac_ends.specs.Views.{peer_key_view, settings_view}
+use Rattle.bac_ends.specs.declared.peer_key.PeerKey.{PeerKey}
+use Rattle.bac_ends.specs.declared.settings.Settings.{Settings}
+use Rattle.bac_entry.specs.Timers.{IsQuiet, IsStateQuiet}
+use Rattle.bac_responder.specs.Aging.{began, entry_ticked}
+
+-- An entry that began less than its life ago is live.
+pub young_live : (now : ℕ) (v : Entry) → now - (KEEP + 1) < began v → is_live now v ≡ true
+young_live now v late = young v.begin late
+  where
+    young : (begin : ℕ) → now - (KEEP + 1) < begin → nat_le (now - begin) KEEP ≡ true
+    young begin late = grind (arith, nat_tests)
+
+-- A moment that is earlier does as well.
+
+state_earlier : (due sooner : ℕ) (s : State) → sooner ≤ due → IsStateQuiet due s → IsStateQuiet sooner s
+state_earlier due sooner (State.SegmentedRequest inc since) le q = omega (arith, le, q)
+state_earlier due sooner (State.Done kept) le q = tt
+state_earlier due sooner (State.SegmentedResponse out Transfer.Running since) le q = omega (arith, le, q)
+state_earlier due sooner (State.SegmentedResponse out Transfer.Stopped since) le q = tt
+state_earlier due sooner (State.SegmentedResponse out Transfer.Finished since) le q = tt
+state_earlier due sooner State.Dropped le q = tt
+
+pub quiet_earlier : (from due sooner : ℕ) (v : Entry) → sooner ≤ due → IsQuiet from due v → IsQuiet from sooner v
+quiet_earlier from due sooner v le (inl dead) = inl dead
+quiet_earlier from due sooner v le (inr quiet) = inr (state_earlier due sooner v.state le quiet)
+
+-- A tick between those moments.
+module _ (c : Context) (from due : ℕ) (started : from ≤ c.now) (before : c.now < due) where
+  state_stays : (x : Entry) (s : State) → IsStateQuiet due s → live_ticks c x s ≡ rests (Some x) []
+  state_stays x (State.SegmentedRequest inc since) q = let no : nat_le WAIT_SEG (c.now - since) ≡ false = grind (arith, nat_tests) in rw no refl
+  state_stays x (State.Done kept) q = refl
+  state_stays x (State.SegmentedResponse out Transfer.Running since) q =
+      let no : nat_le T_SEG (c.now - since) ≡ false = grind (arith, nat_tests) in rw no refl
+  state_stays x (State.SegmentedResponse out Transfer.Stopped since) q = refl
+  state_stays x (State.SegmentedResponse out Transfer.Finished since) q = refl
+  state_stays x State.Dropped q = refl
+
+  pub stays : (x : Entry) → IsQuiet from due x → server_ticks c (Some x) ≡ rests (Some x) []
+  stays x (inl dead) =
+      let no : nat_le (c.now - x.begin) KEEP ≡ false = grind (arith, nat_tests) in
+      ap (λ b. if b then live_ticks c x x.state else rests (Some x) []) no
+  stays x (inr quiet) = go (is_live c.now x)
+    where
+      go : (b : Bool) → (if b then live_ticks c x x.state else rests (Some x) []) ≡ rests (Some x) []
+      go true = state_stays x x.state quiet
+      go false = refl
+
+-- A tick leaves the moment at which an entry began.
+
+stays_begun : (x : Entry) (o : Option Entry) → StaysIn x o → (entry_or x o).begin ≡ x.begin
+stays_begun x None h = absurd h
+stays_begun x (Some d) h = h.0.begin
+
+ticked_began : (c : Context) (x : Entry) → (entry_or x (server_ticks c (Some x)).entry).begin ≡ x.begin
+ticked_began c x = go (is_live c.now x) refl
+  where
+    go : (b : Bool) → is_live c.now x ≡ b → (entry_or x (server_ticks c (Some x)).entry).begin ≡ x.begin
+    go true live = stays_begun x (server_ticks c (Some x)).entry (live_stays_law.ticks c x live)
+    go false dead = ap (λ b. (entry_or x (if b then live_ticks c x x.state else rests (Some x) []).entry).begin) dead
+
+-- The laws of ticks.
+
+pub entry_rests : (c : Settings) (now from due : ℕ) (key : PeerKey) (v : Entry) → from ≤ now → now < due → IsQuiet from due v → entry_ticked c now key v ≡ v
+entry_rests c now from due key v started before q =
+    ap (λ r. entry_or v r.entry) (stays (context_of (settings_view c) now (peer_key_view key)) from due started before v q)
+
+pub entry_begins : (c : Settings) (now : ℕ) (key : PeerKey) (v : Entry) → began (entry_ticked c now key v) ≡ began v
+entry_begins c now key v = ticked_began (context_of (settings_view c) now (peer_key_view key)) v

@@ -1,0 +1,69 @@
+//! How entries age.
+ghost use Rattle.bac_protocol.specs.declared.times.TheConstants.{KEEP as KEPT_FOR};
+ghost use Rattle.bac_protocol.specs.Server.{is_live};
+ghost use Rattle.bac_entry.specs.Timers.{IsQuiet};
+ghost use Rattle.bac_responder.specs.Aging.{began, entry_ticked};
+ghost use Rattle.bac_responder.specs.Short.{IsRequestShort};
+
+use bac_aged::{Aged, Fact, Ticks};
+use bac_ends::{Context, PeerKey, Settings};
+use bac_entry::Entry;
+use bac_protocol::times::KEEP;
+
+/// The rules by which the slots of a server's end age.
+#[derive(Drop)]
+pub(crate) struct ServerRules;
+
+/// An entry is alive while it is live.
+impl Aged<ServerRules> for Entry {
+    ghost began = { began };
+
+    ghost lives = { is_live };
+
+    ghost LIFE = { KEPT_FOR };
+
+    ghost IsQuiet = { IsQuiet };
+
+    const LIFE: u64 = KEEP;
+
+    fn is_alive(&self, now: u64) -> bool {
+        self.is_live(now)
+    }
+
+    fn due(&self, from: u64) -> u64 {
+        Entry::due(self, from)
+    }
+
+    fn ages() {}
+}
+
+impl Ticks<ServerRules, PeerKey, Settings> for Entry {
+    ghost ticked = { entry_ticked };
+
+    fn stand_in() -> Entry {
+        Entry::placeholder()
+    }
+
+    fn tick(self, settings: &Settings, now: u64, key: &PeerKey) -> Entry {
+        let context = Context {
+            settings: *settings,
+            key: *key,
+            moment: now,
+        };
+        self.commit_tick(&context)
+    }
+
+    fn ticks() {}
+}
+
+/// An entry keeps at most 65,535 octets of a request, in at most 65,535 segments.
+#[derive(Drop)]
+pub(crate) struct ShortRequests;
+
+impl Fact<Entry> for ShortRequests {
+    ghost Holds = { IsRequestShort };
+
+    fn holds(&self, entry: &Entry) {
+        let _octets = entry.reassembled();
+    }
+}
