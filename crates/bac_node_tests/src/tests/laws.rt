@@ -51,7 +51,7 @@ fn tickets_in_a_tick(node: &Node)
 }
 
 fn are_lawful(alloc: Global) -> Result<(), Fail> {
-    let node = house_node(alloc, SERVER)?;
+    let node = house_node(alloc, OWN)?;
     tickets_after_an_ask(&node);
     replies_after_a_datagram(&node);
     tickets_in_a_tick(&node);

@@ -1,0 +1,186 @@
+//! One end, one ticket and one entry by itself, where a node can't say it: moments that go back, and when a tick finds something to do.
+use super::wrong::Wrong;
+use super::*;
+use bac_apdu::{Window, read};
+use bac_ends::{Context, PeerKey, Settings};
+use bac_entry::{Entry, IdleReaction, Reaction, idle_gets};
+use bac_npdu::Peer;
+use bac_requester::{AskFault, Client, Requester};
+use bac_responder::Responder;
+use bac_script::read_request_words;
+use bac_slots::{IndexSlots, Same};
+use bac_ticket::{OutgoingRequest, RequestWay, Ticket};
+
+/// A read of the present-value of analog-input 5, with invoke ID 0.
+const READ: &[u8] = b"\x00\x05\x00\x0C\x0C\x00\x00\x00\x05\x19\x55";
+
+const SETTINGS: Settings = Settings {
+    limits: LARGE,
+    window: Window { size: 32 },
+};
+
+fn peer(number: u8) -> Peer {
+    Peer {
+        link: link(number),
+        route: None,
+    }
+}
+
+/// A moment, a client that reads, and whether the read is performed.
+struct Read(u64, u8, bool);
+
+/// Two slots. Where the clock went back, an entry makes room that stands after one that began later; the last read is answered from its entry.
+const READS: &[Read] = &[
+    Read(70_000, 2, true),
+    Read(4_000, 3, true),
+    Read(69_000, 4, false),
+    Read(69_001, 4, true),
+    Read(70_000, 2, false),
+];
+
+/// Whether each read is performed as its row says.
+fn are_performed(alloc: Global, rows: &[Read]) -> Result<bool, Wrong> {
+    let mut end: Responder<IndexSlots<PeerKey, Entry>> = Responder::new(alloc, SETTINGS, 2)?;
+    let mut store = house(alloc)?;
+    let Ok(apdu) = read(READ) else {
+        return Err(Wrong::Line);
+    };
+    for row in rows {
+        let served = end.on(alloc, row.0, &peer(row.1), &apdu, &mut store)?;
+        if served.act.is_some() != row.2 || served.sends.len() != 1 {
+            return Ok(false);
+        }
+    }
+    Ok(true)
+}
+
+#[test]
+fn entries_out_of_order(rt: HostRuntime) {
+    assert!(rt; are_performed(rt.alloc(), READS) == Ok(true));
+}
+
+/// A moment, a peer that is asked, and the ticket and its invoke ID, or the fault.
+struct Asking(u64, u8, Result<(u64, u8), AskFault>);
+
+/// Two slots. Where the clock went back, a slot makes room that stands after one whose request was first sent later; its ticket was rejected at 3,000.
+const BEFORE: &[Asking] = &[Asking(100_000, 3, Ok((0, 0))), Asking(1_000, 2, Ok((1, 0)))];
+
+const AFTER: &[Asking] = &[
+    Asking(136_000, 2, Err(AskFault::NoSlot)),
+    Asking(136_001, 2, Ok((2, 0))),
+];
+
+type Indexed = Requester<IndexSlots<PeerKey, Client>>;
+
+/// Whether each ask is accepted or refused as its row says.
+fn are_accepted(alloc: Global, end: &mut Indexed, rows: &[Asking]) -> Result<bool, Wrong> {
+    let Ok(request) = read_request_words(alloc, &[b"read", b"0:5", b"85"]) else {
+        return Err(Wrong::Line);
+    };
+    for row in rows {
+        let asked = end.ask(alloc, row.0, &peer(row.1), &SMALL, &request);
+        if asked.map(|asked| (asked.ticket, asked.invoke_id)) != row.2 {
+            return Ok(false);
+        }
+    }
+    Ok(true)
+}
+
+/// Whether a Reject of peer 2 at 3,000 ends a ticket.
+fn is_rejected(alloc: Global, end: &mut Indexed) -> Result<bool, Wrong> {
+    let Ok(apdu) = read(b"\x60\x00\x09") else {
+        return Err(Wrong::Line);
+    };
+    Ok(end.on(alloc, 3_000, &peer(2), &apdu)?.ended.is_some())
+}
+
+fn make_room(alloc: Global) -> Result<bool, Wrong> {
+    let mut end: Indexed = Requester::new(alloc, link(OWN), SETTINGS, 2)?;
+    Ok(
+        are_accepted(alloc, &mut end, BEFORE)?
+            && is_rejected(alloc, &mut end)?
+            && are_accepted(alloc, &mut end, AFTER)?,
+    )
+}
+
+#[test]
+fn slots_out_of_order(rt: HostRuntime) {
+    assert!(rt; make_room(rt.alloc()) == Ok(true));
+}
+
+/// Invoke ID 0 of peer 2.
+fn context(moment: u64) -> Context {
+    let key = PeerKey {
+        peer: peer(2),
+        invoke_id: 0,
+    };
+    Context {
+        settings: SETTINGS,
+        key,
+        moment,
+    }
+}
+
+/// What a read begins at moment 5.
+fn begun(alloc: Global) -> Result<Reaction, Wrong> {
+    let mut store = house(alloc)?;
+    let Ok(apdu) = read(READ) else {
+        return Err(Wrong::Line);
+    };
+    match idle_gets(alloc, &context(5), true, &apdu, &mut store)? {
+        IdleReaction::Begins(reaction) => Ok(reaction),
+        IdleReaction::Stays(_) => Err(Wrong::Line),
+    }
+}
+
+/// Whether an entry began at moment 5, is live for 65,000 ms, has no timer, and is as itself alone.
+fn is_entry(entry: &Entry) -> bool {
+    let is_timed = entry.begin() == 5 && entry.is_live(65_005) && !entry.is_live(65_006);
+    is_timed && entry.due(5) == u64::MAX && entry.same(entry) && !entry.same(&Entry::placeholder())
+}
+
+#[test]
+fn an_entry(rt: HostRuntime) -> Result<(), Fail> {
+    let Ok(reaction) = begun(rt.alloc()) else {
+        return Err(Fail::from("no entry"));
+    };
+    assert!(rt; is_entry(&reaction.entry));
+    Ok(())
+}
+
+/// A ticket of an ask at moment 1,000, of service choice 7, though its service data are those of a read.
+fn ticket(alloc: Global) -> Result<Ticket, Wrong> {
+    let service = Vec::from_slice(alloc, b"\x0C\x00\x00\x00\x05\x19\x55")?;
+    let Ok(way) = RequestWay::of(&SETTINGS, &SMALL, service.len()) else {
+        return Err(Wrong::Line);
+    };
+    let request = OutgoingRequest::new(7, way, service);
+    Ok(Ticket::begin(alloc, &context(1_000), request)?.ticket)
+}
+
+/// Whether its timer is set, and it expires after 60,000 ms.
+fn is_timed(ticket: &Ticket) -> bool {
+    ticket.first() == 1_000
+        && ticket.choice() == 7
+        && ticket.due() == 4_000
+        && !ticket.is_expired(61_000)
+        && ticket.is_expired(61_001)
+}
+
+/// Whether that holds, and a request is none of its answers.
+fn ignores_a_request(alloc: Global) -> Result<bool, Wrong> {
+    let ticket = ticket(alloc)?;
+    let is_timed = is_timed(&ticket);
+    let Ok(apdu) = read(READ) else {
+        return Err(Wrong::Line);
+    };
+    match ticket.gets(alloc, &context(2_000), &apdu) {
+        Ok(reaction) => Ok(is_timed && reaction.sends.is_empty() && reaction.ended.is_none()),
+        Err(_) => Err(Wrong::NoMemory),
+    }
+}
+
+#[test]
+fn a_ticket(rt: HostRuntime) {
+    assert!(rt; ignores_a_request(rt.alloc()) == Ok(true));
+}
