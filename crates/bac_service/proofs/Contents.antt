@@ -11,8 +11,11 @@ use Rattle.bac_value.specs.Reading.{kind_at, number_at, signed_at, object_at}
 use Rattle.bac_value.proofs.Steps.{bind_ok, ok_is}
 use Rattle.bac_value.proofs.Elements.{kind_front, kind_of, right_again}
 use Rattle.bac_value.proofs.RightContents.{kind_again, object_of}
-use Rattle.bac_service.specs.Members.{Octets, IsString}
-use Rattle.bac_service.proofs.Heads.{IsContentsLaw}
+use Rattle.bac_value.specs.declared.tag.Class.TheVariants.{Application}
+use Rattle.bac_service.specs.Members.{Octets, IsString, ApplicationObject, ApplicationSigned, ApplicationUnsigned, ApplicationString}
+use Rattle.bac_service.specs.Reading.{application_object, application_signed, application_unsigned, application_string}
+use Rattle.bac_service.proofs.Exact.{IsExact, Anything}
+use Rattle.bac_service.proofs.Heads.{IsContentsLaw, member_exact}
 
 -- what contents of a kind are, told from the kind's number
 long_of : (d : Datum) (xs : Octets) → kind_number d ≡ 2 → IsContents d xs → IsNumber 8 (number_in xs) xs
@@ -155,3 +158,17 @@ string_law = record {
       (x.0, f.raw.took.parts, f.raw.len, refl);
   again = λ y text rest s. rw (right_again 6 (length text) text rest refl (kind_again (octets text) text refl), s) refl;
 }
+
+-- ---- members with an application tag
+
+pub object_exact : IsExact Anything application_object ApplicationObject
+object_exact = member_exact Application 12 object_at IsObject (λ k. refl) object_law
+
+pub signed_exact : IsExact Anything application_signed ApplicationSigned
+signed_exact = member_exact Application 3 signed_at (IsInteger 8) (λ k. refl) signed_law
+
+pub unsigned_exact : IsExact Anything application_unsigned ApplicationUnsigned
+unsigned_exact = member_exact Application 2 (number_at 2) (IsNumber 8) (λ k. refl) long_law
+
+pub string_exact : IsExact Anything application_string ApplicationString
+string_exact = member_exact Application 6 (kind_at 6) IsString (λ k. refl) string_law

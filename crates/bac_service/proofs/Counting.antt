@@ -2,12 +2,14 @@
 use Rattle.std.proofs.Common.{◌≡◌, ℕ, zero, suc, ◌+◌, ◌<◌, ◌≤◌, [], ◌∷◌, length, Ok, Err, refl, sym, ap, subst, ◌∙◌, zero-add, add-zero, arith}
 use Rattle.bac_value.proofs.Steps.{ok_is}
 use Rattle.bac_value.specs.Octets.{IsBytes}
-use Rattle.bac_service.specs.Members.{Octets, Tagged, ApplicationString, AreStrings, IsCount}
+use Rattle.bac_service.specs.Members.{Octets, Tagged, ApplicationString}
+use Rattle.bac_service.specs.Runs.{AreStrings, IsCount}
 use Rattle.bac_value.specs.declared.tag.Class.TheVariants.{Application}
 use Rattle.bac_service.specs.declared.stop.Stop.{Stop}
 use Rattle.bac_service.specs.Reading.{application_string}
 use Rattle.bac_service.proofs.Exact.{left_fits}
-use Rattle.bac_service.proofs.Accesses.{string_exact, strings_len}
+use Rattle.bac_service.proofs.Contents.{string_exact}
+use Rattle.bac_service.proofs.Strings.{strings_len}
 
 -- so many strings were passed, and the rest is left
 pub record IsPassed (run : Octets) (count : ℕ) (rest : Octets) : Type 0 where

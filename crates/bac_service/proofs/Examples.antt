@@ -9,20 +9,23 @@ use Rattle.bac_value.specs.Spelling.{tag_spelling}
 use Rattle.bac_value.specs.Value.{ObjectId, real}
 use Rattle.bac_value.specs.Reading.{tag_at, tag_number_at, form_at, length_at, raw_at, kind_at, class_at, contents_at, element_at}
 use Rattle.bac_value.specs.Reading.{number_at, signed_at, object_at, turn, step_at, data_at}
-use Rattle.bac_service.specs.Members.{Octets, Tagged, AreStrings}
+use Rattle.bac_service.specs.Members.{Octets, Tagged}
+use Rattle.bac_service.specs.Runs.{AreStrings, strings_at, run_at}
 use Rattle.bac_service.specs.Reading.{announced, next_tag, head_at, member_at, is_next, optional_at, is_opened, tag_that, enclosed_at, values_at, that_at}
-use Rattle.bac_service.specs.Reading.{reference_at, priority_at, write_property_at, read_access_at, strings_at, run_at, counted_at, write_access_at}
-use Rattle.bac_service.specs.Services.{request_at}
+use Rattle.bac_service.specs.References.{reference_at, IsReference}
+use Rattle.bac_service.specs.Files.{IsFile}
+use Rattle.bac_service.specs.AtomicReadFile.{read_access_at}
+use Rattle.bac_service.specs.AtomicWriteFile.{counted_at, write_access_at}
+use Rattle.bac_service.specs.Priorities.{priority_at}
+use Rattle.bac_service.specs.WriteProperty.{write_property_at}
 use Rattle.bac_service.specs.Values.{Reference, Request, Complex, choice_of, complex_choice_of}
 use Rattle.bac_service.specs.Values.ReadAccess.{ReadStream, ReadRecords}
 use Rattle.bac_service.specs.Values.WriteAccess.{WriteStream, WriteRecords}
 use Rattle.bac_service.specs.Values.Request.{ReadFile, WriteFile, ReadProperty, WriteProperty}
 use Rattle.bac_service.specs.Values.Complex.{FileRead, StreamWritten, RecordsWritten, PropertyRead}
-use Rattle.bac_service.specs.Requests.{SpellsRequest}
-use Rattle.bac_service.specs.Replies.{SpellsComplex}
-use Rattle.bac_service.specs.Spellings.{request_spelling, complex_spelling, IsReference, IsFile, IsRequest, IsComplex}
-use Rattle.bac_service.proofs.Spelled.{request_spelled, complex_spelled}
-use Rattle.bac_service.proofs.Wholes.{request_again}
+use Rattle.bac_service.specs.Requests.{SpellsRequest, request_at, request_spelling, IsRequest}
+use Rattle.bac_service.specs.Replies.{SpellsComplex, complex_spelling, IsComplex}
+use Rattle.bac_service.proofs.Wholes.{request_again, request_spelled, complex_spelled}
 
 -- octets that are the spelling of a request spell it
 spelled : (r : Request) (bytes : Octets) → IsRequest r → request_spelling r ≡ bytes → SpellsRequest (choice_of r) r bytes

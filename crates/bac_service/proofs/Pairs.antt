@@ -1,7 +1,7 @@
 -- The laws of pairs of tags, of data between them, and of what comes next.
 use Rattle.std.proofs.Common.{◌≡◌, ℕ, ◌-◌, ◌<◌, Bool, true, false, cond, ◌&&◌, nat_eq, [], ◌∷◌}
 use Rattle.std.proofs.Common.{◌++◌, length, take, Option, None, Result, Ok, Err, is_some, IsTrue, refl, sym}
-use Rattle.std.proofs.Common.{ap, subst, ◌∙◌, append_assoc, arith}
+use Rattle.std.proofs.Common.{ap, subst, ◌∙◌, append_assoc, arith, inr, lit<}
 use Rattle.std.proofs.lemmas.Bool.{eqb-true, eq-eqb, lt-ltb}
 use Rattle.std.proofs.lemmas.List.{take_at, length-append}
 use Rattle.bac_value.proofs.Steps.{bind_ok, ok_is}
@@ -22,8 +22,8 @@ use Rattle.bac_service.specs.declared.stop.Why.TheVariants.{Unexpected}
 use Rattle.bac_service.specs.Members.{Octets, mark_of, Tagged, Enclosed, AreData}
 use Rattle.bac_service.specs.Stops.{stop}
 use Rattle.bac_value.specs.Steps.{◌>>=◌}
-use Rattle.bac_service.specs.Reading.{Read, announced, next_tag, is_next, is_opening, is_closing, tag_that, opening_at, closing_at, enclosed_at}
-use Rattle.bac_service.specs.Reading.{front_or_stop, values_at}
+use Rattle.bac_service.specs.Reading.{Read, announced, next_tag, is_next, is_opened, is_opening, is_closing, tag_that, opening_at}
+use Rattle.bac_service.specs.Reading.{closing_at, enclosed_at, front_or_stop, values_at}
 use Rattle.bac_service.proofs.Exact.{IsExact, Anything, Differs, left_fits, bytes_behind}
 use Rattle.bac_service.proofs.Heads.{next_tag_ok, next_tag_again, announced_again, announced_other}
 
@@ -205,3 +205,34 @@ values_exact = record {
       let spelled : IsData text = subst IsData (sym s.is) s.spelled in
       rw (data_again spelled.0 text rest (record { spelled = spelled.1; ends = ends }), front_is text rest, s.is) refl;
 }
+
+-- data between tags of number 3
+abbrev pub Enclosing : Octets → Octets → Type 0
+Enclosing values = Enclosed 3 (AreData values)
+
+closing_ends : (n : ℕ) (rest : Octets) → n < 255 → Ends (closing n ++ rest)
+closing_ends n rest lt = inr (n, rest, lt, refl)
+
+pub enclosing_exact : IsExact Anything (enclosed_at 3 values_at) Enclosing
+enclosing_exact = enclosed_exact 3 (lit< tt) Ends values_at AreData values_exact (λ rest. closing_ends 3 rest (lit< tt))
+
+-- an opening tag is no optional member
+pub opened_differs : (number n : ℕ) (P : Octets → Type 0) (text rest : Octets) → n < 255 → Enclosed n P text → Differs number (text ++ rest)
+opened_differs number n P text rest lt s =
+    let parts : text ++ rest ≡ opening n ++ ((s.inside ++ closing n) ++ rest) =
+    ap (λ (t : Octets). t ++ rest) s.is ∙ append_assoc (opening n) (s.inside ++ closing n) rest in
+    ap (is_next number) parts ∙ next_opening number n ((s.inside ++ closing n) ++ rest) lt
+
+-- ---- which pair comes next
+
+opened_pair : (number n : ℕ) (rest : Octets) → n < 255 → is_opened number (opening n ++ rest) ≡ Ok (nat_eq number n)
+unfolding is_opened
+opened_pair number n rest lt =
+    let tag : SpellsTag (pair_mark Opening n) (opening n) = record { fits = lt-ltb n 255 lt; length_in = tt; is = refl } in
+    rw (next_tag_again (opening n ++ rest) (pair_mark Opening n, rest) (tag_exact.again (pair_mark Opening n) (opening n) rest tag)) refl
+
+pub opened_enclosed : (number n : ℕ) (P : Octets → Type 0) (text rest : Octets) → n < 255 → Enclosed n P text
+    → is_opened number (text ++ rest) ≡ Ok (nat_eq number n)
+opened_enclosed number n P text rest lt s =
+    ap (λ (t : Octets). is_opened number (t ++ rest)) s.is ∙ ap (is_opened number) (append_assoc (opening n) (s.inside ++ closing n) rest)
+    ∙ opened_pair number n ((s.inside ++ closing n) ++ rest) lt

@@ -7,8 +7,8 @@ use Rattle.bac_value.specs.Spelling.{Mark}
 use Rattle.bac_service.specs.Members.{Octets}
 use Rattle.bac_service.specs.declared.stop.Stop.{Stop}
 use Rattle.bac_value.specs.Steps.{◌>>=◌}
-use Rattle.bac_service.specs.Reading.{Read, next_tag, announced, application_string, strings_at, run_at}
-use Rattle.bac_service.specs.Services.{string_step}
+use Rattle.bac_service.specs.Reading.{Read, next_tag, announced, application_string}
+use Rattle.bac_service.specs.Runs.{strings_at, run_at, string_step}
 
 abbrev pub plus : ℕ → Read ℕ → Read ℕ
 plus count (Ok t) = Ok (count + t.0, t.1)

@@ -1,93 +1,44 @@
--- What is read of whole service data is exactly what they spell.
-use Rattle.std.proofs.Common.{◌≡◌, ℕ, ◌<◌, ℤ, Bool, true, false, cond, nat_eq, [], ◌++◌, Option, Some, None, ◌⊎◌, inl, inr, refl, sym, ap, subst, ◌∙◌}
-use Rattle.std.proofs.Common.{append_assoc, lit<, IsTrue, length, ◌^◌, Result, Ok, Err, IfOk, IfErr, ◌↔◌}
+-- The laws of whole requests and of the service data of whole ComplexACKs: what is read is exactly what they spell, what is written spells them,
+-- and none has two spellings.
+use Rattle.std.proofs.Common.{◌≡◌, ℕ, ◌<◌, Bool, true, false, cond, nat_eq, [], Option, Some, None, ◌⊎◌, inl, inr, refl, sym, ap, subst, ◌∙◌}
+use Rattle.std.proofs.Common.{lit<, length, ◌^◌, Result, Ok, Err, IfOk, IfErr, ◌↔◌}
 use Rattle.std.proofs.Math.Logic.{∥∥₁_elim}
 use Rattle.std.proofs.Props.{props}
 use Rattle.std.proofs.lemmas.Bool.{eqb-true}
-use Rattle.bac_value.proofs.Steps.{bind_ok, ok_is}
+use Rattle.bac_value.proofs.Steps.{ok_is}
 use Rattle.bac_value.specs.declared.fault.Fault.{Fault}
-use Rattle.bac_value.specs.declared.tag.Class.{Class}
-use Rattle.bac_value.specs.declared.tag.Class.TheVariants.{Application, Context}
-use Rattle.bac_value.specs.declared.tag.Form.{Form}
-use Rattle.bac_value.specs.declared.tag.Form.TheVariants.{Length, Boolean, Opening, Closing}
-use Rattle.bac_value.specs.Limits.{tag_fits}
 use Rattle.bac_value.specs.Octets.{IsBytes}
-use Rattle.bac_value.specs.Spelling.{Mark, tag_spelling, SpellsTag}
-use Rattle.bac_value.specs.Value.{ObjectId, IsInteger}
-use Rattle.bac_value.specs.Reading.{signed_at}
-use Rattle.bac_value.specs.Data.{opening, closing, Ends}
-use Rattle.bac_value.proofs.Tags.{tag_exact}
 use Rattle.bac_service.specs.declared.service.Service.{Service}
 use Rattle.bac_service.specs.declared.service.Service.TheVariants as service
 use Rattle.bac_service.specs.declared.stop.Stop.{Stop}
-use Rattle.bac_service.specs.Choices.{ATOMIC_READ_FILE, ATOMIC_WRITE_FILE, READ_PROPERTY, WRITE_PROPERTY}
-use Rattle.bac_service.specs.Values.{Reference, Request, Complex, choice_of, complex_choice_of}
-use Rattle.bac_service.specs.Values.WriteAccess.{WriteStream, WriteRecords}
+use Rattle.bac_service.specs.Choices.{ATOMIC_READ_FILE, ATOMIC_WRITE_FILE, READ_PROPERTY, WRITE_PROPERTY, service_at, choice_number}
+use Rattle.bac_service.specs.Values.{Request, Complex, choice_of, complex_choice_of}
 use Rattle.bac_service.specs.Values.Request.{ReadFile, WriteFile, ReadProperty, WriteProperty}
 use Rattle.bac_service.specs.Values.Complex.{FileRead, StreamWritten, RecordsWritten, PropertyRead}
-use Rattle.bac_service.specs.Members.{Octets, ◌⨾◌, Optional, Enclosed, Tagged, IsPriority, ApplicationObject, ApplicationBoolean, AreData}
-use Rattle.bac_service.specs.Requests.{SpellsReference, SpellsReadAccess, SpellsWriteAccess, SpellsMembers, SpellsRequest, IsMade}
-use Rattle.bac_service.specs.Replies.{SpellsComplexMembers, SpellsComplex, IsMadeOf, IsReply}
-use Rattle.bac_value.specs.Steps.{◌>>=◌}
-use Rattle.bac_service.specs.Reading.{Read, next_tag, expected, both_at, made_at, member_at, is_next, optional_at}
-use Rattle.bac_service.specs.Reading.{enclosed_at, values_at, priority_at, reference_at}
-use Rattle.bac_service.specs.Reading.{write_property_of, write_property_at, application_object, content_at, read_access_at, write_access_at, file_at, whole}
-use Rattle.bac_service.specs.Reading.{head_at, is_opened, boolean_of, end_of_file_at, file_read_at, file_written_at, property_read_at}
+use Rattle.bac_service.specs.Members.{Octets, ApplicationObject}
+use Rattle.bac_service.specs.Reading.{next_tag, head_at, member_at, is_next, is_opened, whole}
+use Rattle.bac_service.specs.References.{SpellsReference, reference_at}
+use Rattle.bac_service.specs.AtomicReadFile.{SpellsReadAccess, read_access_at, read_file_at, read_access_spelling, read_access_length, end_of_file_at, file_read_at}
+use Rattle.bac_service.specs.AtomicWriteFile.{SpellsWriteAccess, write_access_at, write_file_at, write_access_spelling, write_access_length, file_written_at}
+use Rattle.bac_service.specs.ReadProperty.{read_property_at, property_read_at}
+use Rattle.bac_service.specs.WriteProperty.{write_property_of, write_property_at}
+use Rattle.bac_service.specs.Requests.{SpellsMembers, SpellsRequest, IsMade, IsRequest, request_members, request_of, request_at, request_spelling, request_length}
+use Rattle.bac_service.specs.Replies.{SpellsComplexMembers, SpellsComplex, IsMadeOf, IsReply, IsComplex, complex_members, complex_at, is_read, reads_reply}
+use Rattle.bac_service.specs.Replies.{complex_spelling, complex_length}
 use Rattle.bac_service.specs.Refusals.{Gives}
 use Rattle.bac_service.specs.Stops.{or_reason, or_fault}
-use Rattle.bac_service.specs.Services.{service_at, choice_number, request_members, request_of, request_at, complex_members, complex_at}
-use Rattle.bac_service.specs.Services.{is_read, reads_reply}
-use Rattle.bac_service.proofs.Exact.{IsExact, Anything, Differs, Made, both_exact, made_exact, optional_exact, either_exact, whole_takes}
-use Rattle.bac_service.proofs.Exact.{whole_again}
-use Rattle.bac_service.proofs.Heads.{some_is, next_tag_ok, next_tag_again, expected_ok, member_exact}
-use Rattle.bac_service.proofs.Contents.{signed_law}
-use Rattle.bac_service.proofs.Pairs.{next_tagged, next_other, next_opening, end_differs, enclosed_exact, values_exact}
-use Rattle.bac_service.proofs.References.{reference_exact}
-use Rattle.bac_service.proofs.Accesses.{Priority, priority_exact, object_exact, read_access_exact, write_access_exact, Content, content_exact}
-
--- ---- WriteProperty
-
-abbrev Enclosing : Octets → Octets → Type 0
-Enclosing values = Enclosed 3 (AreData values)
-
-closing_ends : (n : ℕ) (rest : Octets) → n < 255 → Ends (closing n ++ rest)
-closing_ends n rest lt = inr (n, rest, lt, refl)
-
-enclosing_exact : IsExact Anything (enclosed_at 3 values_at) Enclosing
-enclosing_exact = enclosed_exact 3 (lit< tt) Ends values_at AreData values_exact (λ rest. closing_ends 3 rest (lit< tt))
-
--- after a reference an opening tag may follow
-opened_differs : (number n : ℕ) (P : Octets → Type 0) (text rest : Octets) → n < 255 → Enclosed n P text → Differs number (text ++ rest)
-opened_differs number n P text rest lt s =
-    let parts : text ++ rest ≡ opening n ++ ((s.inside ++ closing n) ++ rest) =
-    ap (λ (t : Octets). t ++ rest) s.is ∙ append_assoc (opening n) (s.inside ++ closing n) rest in
-    ap (is_next number) parts ∙ next_opening number n ((s.inside ++ closing n) ++ rest) lt
-
-abbrev Written : Reference × (Octets × Option ℕ) → Octets → Type 0
-Written t = SpellsReference t.0 ⨾ (Enclosing t.1.0 ⨾ Optional Priority t.1.1)
-
-write_exact : IsExact (Differs 4) write_property_at (Made write_property_of Written)
-unfolding write_property_at
-write_exact =
-    let priority = optional_exact 4 priority_at Priority priority_exact (λ y text rest s. next_tagged 4 (IsPriority y) text rest refl s) in
-    let behind = both_exact Anything (Differs 4) (enclosed_at 3 values_at) (optional_at 4 priority_at) Enclosing (Optional Priority) enclosing_exact
-    priority (λ b text rest q f. tt) in
-    let all = both_exact (Differs 2) (Differs 4) reference_at (both_at (enclosed_at 3 values_at) (optional_at 4 priority_at)) SpellsReference
-    (λ (t : Octets × Option ℕ). Enclosing t.0 ⨾ Optional Priority t.1) reference_exact behind
-    (λ b text rest q f. (ap (λ (t : Octets). is_next 2 (t ++ rest)) q.is ∙ ap (is_next 2) (append_assoc q.front q.back rest))
-    ∙ opened_differs 2 3 (AreData b.0) q.front (q.back ++ rest) (lit< tt) q.first) in
-    made_exact (Differs 4) write_property_of (both_at reference_at (both_at (enclosed_at 3 values_at) (optional_at 4 priority_at))) Written all
-
--- ---- files
-
-abbrev Filed : {A : Type 0} → (ObjectId → A → Request) → (A → Octets → Type 0) → Request → Octets → Type 0
-Filed {A = A} make Access = Made (λ (t : ObjectId × A). make t.0 t.1) (λ t. ApplicationObject t.0 ⨾ Access t.1)
-
-file_exact : {A : Type 0} (make : ObjectId → A → Request) (access : Octets → Read A) (Access : A → Octets → Type 0)
-    → IsExact Anything access Access → IsExact Anything (file_at make access) (Filed make Access)
-file_exact {A = A} make access Access law =
-    made_exact Anything (λ (t : ObjectId × A). make t.0 t.1) (both_at application_object access) (λ t. ApplicationObject t.0 ⨾ Access t.1)
-    (both_exact Anything Anything application_object access ApplicationObject Access object_exact law (λ b text rest q f. tt))
+use Rattle.bac_service.proofs.Exact.{Anything, Differs, Made, made_exact, whole_takes, whole_again}
+use Rattle.bac_service.proofs.Heads.{some_is}
+use Rattle.bac_service.proofs.Pairs.{end_differs}
+use Rattle.bac_service.proofs.Only.{IsOnly, after_only, file_only}
+use Rattle.bac_service.proofs.References.{reference_exact, reference_spelled, length-reference, reference_only}
+use Rattle.bac_service.proofs.Files.{Filed, file_exact, file_spelled, length-file}
+use Rattle.bac_service.proofs.AtomicReadFileLaws.{read_access_exact, read_access_spelled, length-read_access, read_access_only}
+use Rattle.bac_service.proofs.AtomicReadFileLaws.{FileReads, file_read_of, file_read_exact, file_read_spelled, length-file_read, file_read_only}
+use Rattle.bac_service.proofs.AtomicWriteFileLaws.{write_access_exact, write_access_spelled, length-write_access, write_access_only, written_is}
+use Rattle.bac_service.proofs.AtomicWriteFileLaws.{IsPlace, written_exact, position_spelled, length-position, position_only}
+use Rattle.bac_service.proofs.ReadPropertyLaws.{PropertyReads, property_read_of, property_read_exact, property_read_spelled, length-property_read, property_read_only}
+use Rattle.bac_service.proofs.WritePropertyLaws.{Written, write_exact, write_property_spelled, length-write_property, write_property_only}
 
 -- ---- services
 
@@ -124,15 +75,15 @@ Spelled choice bytes r = SpellsRequest choice r bytes
 
 members_take : (s : Service) (bytes : Octets) (r : Request) → IsBytes bytes → whole (request_members s) bytes ≡ Ok r → SpellsRequest (choice_number s) r bytes
 members_take service.AtomicReadFile bytes r fits e =
-    let s = whole_takes Anything (file_at ReadFile read_access_at) (Filed ReadFile SpellsReadAccess)
+    let s = whole_takes Anything read_file_at (Filed ReadFile SpellsReadAccess)
     (file_exact ReadFile read_access_at SpellsReadAccess read_access_exact) bytes r fits e in
     subst (Spelled ATOMIC_READ_FILE bytes) s.1 (record { choice_is = refl; members = s.2 })
 members_take service.AtomicWriteFile bytes r fits e =
-    let s = whole_takes Anything (file_at WriteFile write_access_at) (Filed WriteFile SpellsWriteAccess)
+    let s = whole_takes Anything write_file_at (Filed WriteFile SpellsWriteAccess)
     (file_exact WriteFile write_access_at SpellsWriteAccess write_access_exact) bytes r fits e in
     subst (Spelled ATOMIC_WRITE_FILE bytes) s.1 (record { choice_is = refl; members = s.2 })
 members_take service.ReadProperty bytes r fits e =
-    let s = whole_takes (Differs 2) (made_at ReadProperty reference_at) (Made ReadProperty SpellsReference)
+    let s = whole_takes (Differs 2) read_property_at (Made ReadProperty SpellsReference)
     (made_exact (Differs 2) ReadProperty reference_at SpellsReference reference_exact) bytes r fits e in
     subst (Spelled READ_PROPERTY bytes) s.1 (record { choice_is = refl; members = s.2 })
 members_take service.WriteProperty bytes r fits e =
@@ -157,13 +108,13 @@ request_takes choice bytes r fits e = request_of_takes choice bytes r fits (serv
 members_again : (r : Request) (bytes : Octets) → SpellsMembers r bytes → request_at (choice_of r) bytes ≡ Ok r
 unfolding request_at
 members_again (ReadFile file access) bytes s =
-    ap or_reason (whole_again Anything (file_at ReadFile read_access_at) (Filed ReadFile SpellsReadAccess)
+    ap or_reason (whole_again Anything read_file_at (Filed ReadFile SpellsReadAccess)
     (file_exact ReadFile read_access_at SpellsReadAccess read_access_exact) tt bytes (ReadFile file access) ((file, access), refl, s))
 members_again (WriteFile file access) bytes s =
-    ap or_reason (whole_again Anything (file_at WriteFile write_access_at) (Filed WriteFile SpellsWriteAccess)
+    ap or_reason (whole_again Anything write_file_at (Filed WriteFile SpellsWriteAccess)
     (file_exact WriteFile write_access_at SpellsWriteAccess write_access_exact) tt bytes (WriteFile file access) ((file, access), refl, s))
 members_again (ReadProperty r) bytes s =
-    ap or_reason (whole_again (Differs 2) (made_at ReadProperty reference_at) (Made ReadProperty SpellsReference)
+    ap or_reason (whole_again (Differs 2) read_property_at (Made ReadProperty SpellsReference)
     (made_exact (Differs 2) ReadProperty reference_at SpellsReference reference_exact) (end_differs 2) bytes (ReadProperty r) (r, refl, s))
 members_again (WriteProperty r values priority) bytes s =
     ap or_reason (whole_again (Differs 4) write_property_at (Made write_property_of Written) write_exact (end_differs 4) bytes
@@ -172,102 +123,41 @@ members_again (WriteProperty r values priority) bytes s =
 pub request_again : (choice : ℕ) (bytes : Octets) (r : Request) → SpellsRequest choice r bytes → request_at choice bytes ≡ Ok r
 request_again choice bytes r s = rw s.choice_is (members_again r bytes s.members)
 
+-- what is written
+members_spelled : (r : Request) → IsRequest r → SpellsMembers r (request_spelling r)
+members_spelled (ReadFile file access) h = file_spelled file (SpellsReadAccess access) (read_access_spelling access) h.0 (read_access_spelled access h.1)
+members_spelled (WriteFile file access) h = file_spelled file (SpellsWriteAccess access) (write_access_spelling access) h.0 (write_access_spelled access h.1)
+members_spelled (ReadProperty r) h = reference_spelled r h
+members_spelled (WriteProperty r values priority) h = write_property_spelled r values priority h
+
+pub request_spelled : (r : Request) → IsRequest r → SpellsRequest (choice_of r) r (request_spelling r)
+request_spelled r h = record { choice_is = refl; members = members_spelled r h }
+
+pub length_request : (r : Request) → length (request_spelling r) ≡ request_length r
+length_request (ReadFile file access) = length-file file (read_access_spelling access) (read_access_length access) (length-read_access access)
+length_request (WriteFile file access) = length-file file (write_access_spelling access) (write_access_length access) (length-write_access access)
+length_request (ReadProperty r) = length-reference r
+length_request (WriteProperty r values priority) = length-write_property r values priority
+
+-- one spelling
+members_only : (r : Request) → IsOnly (SpellsMembers r)
+members_only (ReadFile file access) = after_only (ApplicationObject file) (SpellsReadAccess access) (file_only file) (read_access_only access)
+members_only (WriteFile file access) = after_only (ApplicationObject file) (SpellsWriteAccess access) (file_only file) (write_access_only access)
+members_only (ReadProperty r) = reference_only r
+members_only (WriteProperty r values priority) = write_property_only r values priority
+
+pub one_spelling : (choice : ℕ) (r : Request) (a b : Octets) → SpellsRequest choice r a → SpellsRequest choice r b → a ≡ b
+one_spelling choice r a b s t = members_only r a b s.members t.members
+
+pub one_request : (choice : ℕ) (q r : Request) (bytes : Octets) → SpellsRequest choice q bytes → SpellsRequest choice r bytes → q ≡ r
+one_request choice q r bytes s t = ok_is q r (sym (request_again choice bytes q s) ∙ request_again choice bytes r t)
+
 -- ---- service data of ComplexACKs
-
-boolean_is : (f : Form) (b : Bool) → boolean_of f ≡ Some b → f ≡ Boolean b
-boolean_is (Length k) b e = absurd cc
-boolean_is (Boolean c) b e = ap Boolean (some_is c b e)
-boolean_is Opening b e = absurd cc
-boolean_is Closing b e = absurd cc
-
-abbrev boolean_mark : Bool → Mark
-boolean_mark b = record { number = 1; class = Application; form = Boolean b }
-
-abbrev of : ℕ → Class → Form → Mark
-of n c f = record { number = n; class = c; form = f }
-
--- only an application tag of number 1 has a value in place of a length
-boolean_tag : (n : ℕ) (c : Class) (b : Bool) → IsTrue (tag_fits n c (Boolean b)) → of n c (Boolean b) ≡ boolean_mark b
-boolean_tag n Application b fits = rw (eqb-true n 1 fits) refl
-boolean_tag n Context b fits = absurd cc
-
-boolean_fields : (n : ℕ) (c : Class) (f : Form) (b : Bool) → f ≡ Boolean b → IsTrue (tag_fits n c f) → of n c f ≡ boolean_mark b
-boolean_fields n c f b e fits = ap (of n c) e ∙ boolean_tag n c b (subst (λ (g : Form). IsTrue (tag_fits n c g)) e fits)
-
-end_of_file_exact : IsExact Anything end_of_file_at ApplicationBoolean
-unfolding end_of_file_at
-end_of_file_exact = record {
-  takes = λ bytes x fits e.
-      let t = bind_ok (next_tag bytes) (λ t. expected bytes (boolean_of t.0.form) >>= λ b. Ok (b, t.1)) x e in
-      let b = bind_ok (expected bytes (boolean_of t.0.0.form)) (λ b. Ok (b, t.0.1)) x t.2 in
-      let took = tag_exact.takes bytes t.0 fits (next_tag_ok bytes t.0 t.1) in
-      let is_boolean = boolean_is t.0.0.form b.0 (expected_ok bytes (boolean_of t.0.0.form) b.0 b.1) in
-      let m = boolean_fields t.0.0.number t.0.0.class t.0.0.form b.0 is_boolean took.2.fits in
-      subst (λ (y : Bool × Octets). (text : Octets) × (bytes ≡ text ++ y.1) × ApplicationBoolean y.0 text) (ok_is (b.0, t.0.1) x b.2)
-      (took.0, took.1, took.2.is ∙ ap tag_spelling m);
-  again = λ y text rest s follows.
-      let tag : SpellsTag (boolean_mark y) text = record { fits = refl; length_in = tt; is = s } in
-      rw (next_tag_again (text ++ rest) (boolean_mark y, rest) (tag_exact.again (boolean_mark y) text rest tag)) refl;
-}
-
-abbrev FileReads : Bool × (ℤ × Octets) → Octets → Type 0
-FileReads t = ApplicationBoolean t.0 ⨾ Enclosed 0 (Content t.1)
-
-abbrev file_read_of : Bool × (ℤ × Octets) → Complex
-file_read_of t = FileRead t.0 t.1.0 t.1.1
-
-file_read_exact : IsExact Anything file_read_at (Made file_read_of FileReads)
-unfolding file_read_at
-file_read_exact =
-    let inside = enclosed_exact 0 (lit< tt) Anything content_at Content content_exact (λ rest. tt) in
-    made_exact Anything file_read_of (both_at end_of_file_at (enclosed_at 0 content_at)) FileReads
-    (both_exact Anything Anything end_of_file_at (enclosed_at 0 content_at) ApplicationBoolean (λ t. Enclosed 0 (Content t)) end_of_file_exact inside
-    (λ b text rest q f. tt))
-
-abbrev PropertyReads : Reference × Octets → Octets → Type 0
-PropertyReads t = SpellsReference t.0 ⨾ Enclosing t.1
-
-abbrev property_read_of : Reference × Octets → Complex
-property_read_of t = PropertyRead t.0 t.1
-
-property_read_exact : IsExact Anything property_read_at (Made property_read_of PropertyReads)
-unfolding property_read_at
-property_read_exact =
-    made_exact Anything property_read_of (both_at reference_at (enclosed_at 3 values_at)) PropertyReads
-    (both_exact (Differs 2) Anything reference_at (enclosed_at 3 values_at) SpellsReference Enclosing reference_exact enclosing_exact
-    (λ b text rest q f. opened_differs 2 3 (AreData b) text rest (lit< tt) q))
-
-abbrev Position : ℕ → ℤ → Octets → Type 0
-Position number z = Tagged Context number (IsInteger 8 z)
-
--- [0] and [1] of the ComplexACK of AtomicWriteFile
-abbrev IsWritten : Complex → Octets → Type 0
-IsWritten c text = Made RecordsWritten (Position 1) c text ⊎ Made StreamWritten (Position 0) c text
-
-next_stream : (z : ℤ) (text rest : Octets) → Position 0 z text → is_next 1 (text ++ rest) ≡ Ok false
-next_stream z text rest s = next_other 1 0 (IsInteger 8 z) text rest refl refl s
-
-written_told : (c : Complex) (text rest : Octets) → IsWritten c text → Anything rest
-    → (Made RecordsWritten (Position 1) c text × (is_next 1 (text ++ rest) ≡ Ok true) × Anything rest) ⊎
-    (Made StreamWritten (Position 0) c text × (is_next 1 (text ++ rest) ≡ Ok false) × Anything rest)
-written_told c text rest (inl (z, make, s)) f = inl ((z, make, s), next_tagged 1 (IsInteger 8 z) text rest refl s, tt)
-written_told c text rest (inr (z, make, s)) f = inr ((z, make, s), next_stream z text rest s, tt)
-
-written_exact : IsExact Anything file_written_at IsWritten
-unfolding file_written_at
-written_exact =
-    let one = made_exact Anything RecordsWritten (member_at Context 1 signed_at) (Position 1)
-    (member_exact Context 1 signed_at (IsInteger 8) (λ k. refl) signed_law) in
-    let other = made_exact Anything StreamWritten (member_at Context 0 signed_at) (Position 0)
-    (member_exact Context 0 signed_at (IsInteger 8) (λ k. refl) signed_law) in
-    either_exact Anything Anything Anything (is_next 1) (made_at RecordsWritten (member_at Context 1 signed_at))
-    (made_at StreamWritten (member_at Context 0 signed_at)) (Made RecordsWritten (Position 1)) (Made StreamWritten (Position 0)) IsWritten
-    (record { one = λ a text p. inl p; other = λ a text p. inr p; told = written_told }) one other
 
 abbrev SpelledComplex : ℕ → Octets → Complex → Type 0
 SpelledComplex choice bytes c = SpellsComplex choice c bytes
 
-written_takes : (bytes : Octets) (c : Complex) → IsWritten c bytes → SpellsComplex ATOMIC_WRITE_FILE c bytes
+written_takes : (bytes : Octets) (c : Complex) → IsPlace c bytes → SpellsComplex ATOMIC_WRITE_FILE c bytes
 written_takes bytes c (inl (z, make, s)) = subst (SpelledComplex ATOMIC_WRITE_FILE bytes) make (record { choice_is = refl; members = s })
 written_takes bytes c (inr (z, make, s)) = subst (SpelledComplex ATOMIC_WRITE_FILE bytes) make (record { choice_is = refl; members = s })
 
@@ -277,7 +167,7 @@ complex_members_take service.AtomicReadFile bytes c fits e =
     let s = whole_takes Anything file_read_at (Made file_read_of FileReads) file_read_exact bytes c fits e in
     subst (SpelledComplex ATOMIC_READ_FILE bytes) s.1 (record { choice_is = refl; members = s.2 })
 complex_members_take service.AtomicWriteFile bytes c fits e =
-    written_takes bytes c (whole_takes Anything file_written_at IsWritten written_exact bytes c fits e)
+    written_takes bytes c (whole_takes Anything file_written_at IsPlace written_exact bytes c fits e)
 complex_members_take service.ReadProperty bytes c fits e =
     let s = whole_takes Anything property_read_at (Made property_read_of PropertyReads) property_read_exact bytes c fits e in
     subst (SpelledComplex READ_PROPERTY bytes) s.1 (record { choice_is = refl; members = s.2 })
@@ -304,15 +194,44 @@ complex_members_again (FileRead b z octets) bytes s =
     ap (or_fault (length bytes)) (whole_again Anything file_read_at (Made file_read_of FileReads) file_read_exact tt bytes (FileRead b z octets)
     ((b, (z, octets)), refl, s))
 complex_members_again (StreamWritten z) bytes s =
-    ap (or_fault (length bytes)) (whole_again Anything file_written_at IsWritten written_exact tt bytes (StreamWritten z) (inr (z, refl, s)))
+    ap (or_fault (length bytes)) (whole_again Anything file_written_at IsPlace written_exact tt bytes (StreamWritten z) (inr (z, refl, s)))
 complex_members_again (RecordsWritten z) bytes s =
-    ap (or_fault (length bytes)) (whole_again Anything file_written_at IsWritten written_exact tt bytes (RecordsWritten z) (inl (z, refl, s)))
+    ap (or_fault (length bytes)) (whole_again Anything file_written_at IsPlace written_exact tt bytes (RecordsWritten z) (inl (z, refl, s)))
 complex_members_again (PropertyRead r values) bytes s =
     ap (or_fault (length bytes)) (whole_again Anything property_read_at (Made property_read_of PropertyReads) property_read_exact tt bytes
     (PropertyRead r values) ((r, values), refl, s))
 
 pub complex_again : (choice : ℕ) (bytes : Octets) (c : Complex) → SpellsComplex choice c bytes → complex_at choice bytes ≡ Ok c
 complex_again choice bytes c s = subst (λ (n : ℕ). complex_at n bytes ≡ Ok c) (sym s.choice_is) (complex_members_again c bytes s.members)
+
+-- what is written
+complex_members_spelled : (c : Complex) → IsComplex c → SpellsComplexMembers c (complex_spelling c)
+complex_members_spelled (FileRead end_of_file start octets) h = file_read_spelled end_of_file start octets h
+complex_members_spelled (StreamWritten start) h = position_spelled 0 start h
+complex_members_spelled (RecordsWritten start) h = position_spelled 1 start h
+complex_members_spelled (PropertyRead r values) h = property_read_spelled r values h
+
+pub complex_spelled : (c : Complex) → IsComplex c → SpellsComplex (complex_choice_of c) c (complex_spelling c)
+complex_spelled c h = record { choice_is = refl; members = complex_members_spelled c h }
+
+pub length_complex : (c : Complex) → length (complex_spelling c) ≡ complex_length c
+length_complex (FileRead end_of_file start octets) = length-file_read end_of_file start octets
+length_complex (StreamWritten start) = length-position 0 start (lit< tt)
+length_complex (RecordsWritten start) = length-position 1 start (lit< tt)
+length_complex (PropertyRead r values) = length-property_read r values
+
+-- one spelling
+complex_only : (c : Complex) → IsOnly (SpellsComplexMembers c)
+complex_only (FileRead end_of_file start octets) = file_read_only end_of_file start octets
+complex_only (StreamWritten start) = position_only 0 start
+complex_only (RecordsWritten start) = position_only 1 start
+complex_only (PropertyRead r values) = property_read_only r values
+
+pub one_complex_spelling : (choice : ℕ) (c : Complex) (a b : Octets) → SpellsComplex choice c a → SpellsComplex choice c b → a ≡ b
+one_complex_spelling choice c a b s t = complex_only c a b s.members t.members
+
+pub one_complex : (choice : ℕ) (c d : Complex) (bytes : Octets) → SpellsComplex choice c bytes → SpellsComplex choice d bytes → c ≡ d
+one_complex choice c d bytes s t = ok_is c d (sym (complex_again choice bytes c s) ∙ complex_again choice bytes d t)
 
 -- ---- what a reader in code promises
 
@@ -326,9 +245,7 @@ request_found view number choice bytes (Err d) fits e = tt
 
 made_of : (r : Request) (bytes : Octets) → SpellsMembers r bytes → IsMade r
 made_of (ReadFile file access) bytes s = tt
-made_of (WriteFile file (WriteStream start octets)) bytes s = let string =
-    s.second.are.second in subst (λ (xs : Octets). length xs < 2 ^ 32) string.are string.fits
-made_of (WriteFile file (WriteRecords start count run)) bytes s = ∣ s.second.are.second.second.strings ∣₁
+made_of (WriteFile file access) bytes s = written_is access s.back s.second
 made_of (ReadProperty r) bytes s = tt
 made_of (WriteProperty r values priority) bytes s = ∣ s.second.first.are.spelled ∣₁
 

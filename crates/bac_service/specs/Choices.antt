@@ -1,5 +1,7 @@
 -- The service choices (clause 21, BACnetConfirmedServiceChoice), as the constants in code state them, and which reply each service has.
-use Rattle.std.specs.Prelude.{ℕ, Bool, ◌==◌, ◌||◌}
+use Rattle.std.specs.Prelude.{ℕ, Bool, ◌==◌, ◌||◌, Option, Some, None, if◌then◌else◌}
+use Rattle.bac_service.specs.declared.service.Service.{Service}
+use Rattle.bac_service.specs.declared.service.Service.TheVariants as service
 pub use Rattle.bac_service.specs.declared.service.TheConstants.{ATOMIC_READ_FILE, ATOMIC_WRITE_FILE, READ_PROPERTY, WRITE_PROPERTY}
 
 -- what it was asked for is told by a SimpleACK
@@ -13,3 +15,17 @@ has_complex_ack choice = choice == ATOMIC_READ_FILE || (choice == ATOMIC_WRITE_F
 -- a choice of one of the four services
 abbrev pub is_served : ℕ → Bool
 is_served choice = has_simple_ack choice || has_complex_ack choice
+
+abbrev pub service_at : ℕ → Option Service
+service_at choice =
+    if choice == ATOMIC_READ_FILE then Some service.AtomicReadFile else
+    (if choice == ATOMIC_WRITE_FILE then Some service.AtomicWriteFile else
+    (if choice == READ_PROPERTY then Some service.ReadProperty else
+    (if choice == WRITE_PROPERTY then Some service.WriteProperty else None)))
+
+-- the choice of a service
+abbrev pub choice_number : Service → ℕ
+choice_number service.AtomicReadFile = ATOMIC_READ_FILE
+choice_number service.AtomicWriteFile = ATOMIC_WRITE_FILE
+choice_number service.ReadProperty = READ_PROPERTY
+choice_number service.WriteProperty = WRITE_PROPERTY

@@ -1,11 +1,13 @@
 -- The members of a production (clause 21): each is a value's contents after a tag, and they follow each other.
-use Rattle.std.specs.Prelude.{◌≡◌, ℕ, ℤ, Bool, ◌^◌, ◌<◌, ◌≤◌, zero, suc, List, [], ◌++◌, length, Option, Some, None}
+use Rattle.std.specs.Prelude.{◌≡◌, ℕ, ℤ, Bool, ◌^◌, ◌<◌, List, [], ◌++◌, length, Option, Some, None}
 use Rattle.bac_value.specs.declared.tag.Class.{Class}
-use Rattle.bac_value.specs.declared.tag.Class.TheVariants.{Application}
+use Rattle.bac_value.specs.declared.tag.Class.TheVariants.{Application, Context}
 use Rattle.bac_value.specs.declared.tag.Form.TheVariants as form
 use Rattle.bac_value.specs.Spelling.{Mark, tag_spelling}
 use Rattle.bac_value.specs.Value.{ObjectId, IsNumber, IsInteger, IsObject}
 use Rattle.bac_value.specs.Data.{opening, closing, IsData}
+use Rattle.bac_value.specs.Number.{unsigned_octets}
+use Rattle.bac_value.specs.Writing.{primitive}
 
 abbrev pub Octets : Type 0
 Octets = List ℕ
@@ -30,6 +32,15 @@ pub record Enclosed (number : ℕ) (P : Octets → Type 0) (bytes : Octets) : Ty
   pub are : P inside
   pub is : bytes ≡ opening number ++ (inside ++ closing number)
 
+-- such members, as what is written
+abbrev pub enclosed_spelling : ℕ → Octets → Octets
+enclosed_spelling number inside = opening number ++ (inside ++ closing number)
+
+-- an optional number after a context tag, as what is written
+abbrev pub optional_spelling : ℕ → Option ℕ → Octets
+optional_spelling number None = []
+optional_spelling number (Some n) = primitive Context number (unsigned_octets n)
+
 -- a tag of that class and number, with so many octets of contents after it
 abbrev pub mark_of : Class → ℕ → ℕ → Mark
 mark_of class number len = record { number = number; class = class; form = form.Length len }
@@ -40,12 +51,6 @@ pub record Tagged (class : Class) (number : ℕ) (IsContents : Octets → Type 0
   pub are : IsContents contents
   pub fits : length contents < 2 ^ 32
   pub is : bytes ≡ tag_spelling (mark_of class number (length contents)) ++ contents
-
--- a priority for writing, 1 to 16 (clause 19.2)
-pub record IsPriority (n : ℕ) (xs : Octets) : Type 0 where
-  pub least : 0 < n
-  pub most : n ≤ 16
-  pub number : IsNumber 8 n xs
 
 abbrev pub IsString : Octets → Octets → Type 0
 IsString octets xs = xs ≡ octets
@@ -66,16 +71,6 @@ ApplicationString octets = Tagged Application 6 (IsString octets)
 
 abbrev pub ApplicationBoolean : Bool → Octets → Type 0
 ApplicationBoolean b bytes = bytes ≡ tag_spelling (record { number = 1; class = Application; form = form.Boolean b })
-
--- so many octet strings, joined
-abbrev pub AreStrings : ℕ → Octets → Type 0
-AreStrings zero run = run ≡ []
-AreStrings (suc count) run = (Tagged Application 6 (λ xs. Unit {0}) ⨾ AreStrings count) run
-
--- they are so many octet strings, and no other number of them
-pub record IsCount (run : Octets) (count : ℕ) : Type 0 where
-  pub are : AreStrings count run
-  pub only : (m : ℕ) → AreStrings m run → m ≡ count
 
 -- ---- data
 

@@ -1,6 +1,6 @@
 -- Reading members from left to right, on lists alone: the value and what is left after it, or why reading stopped and how many octets were left
 -- at the tag where it did. That what is read is exactly what is spelled are laws beside the readers in code.
-use Rattle.std.specs.Prelude.{ℕ, ℤ, zero, suc, ◌+◌, ◌-◌, Bool, true, false, ◌&&◌, ◌==◌, nat_lt, nat_le, [], ◌∷◌, length, take, Option, Some, None}
+use Rattle.std.specs.Prelude.{ℕ, ℤ, ◌-◌, Bool, true, false, ◌&&◌, ◌==◌, [], ◌∷◌, length, take, Option, Some, None}
 use Rattle.std.specs.Prelude.{is_some, Result, Ok, Err, if◌then◌else◌}
 use Rattle.bac_value.specs.declared.fault.FaultKind.{FaultKind}
 use Rattle.bac_value.specs.declared.tag.Class.{Class}
@@ -13,12 +13,7 @@ use Rattle.bac_value.specs.Steps.{◌>>=◌}
 use Rattle.bac_value.specs.Reading.{tag_at, kind_at, number_at, signed_at, object_at, data_of, fault_place}
 use Rattle.bac_service.specs.declared.stop.Stop.{Stop}
 use Rattle.bac_service.specs.declared.stop.Why.{Why}
-use Rattle.bac_service.specs.declared.stop.Why.TheVariants.{Fault, Missing, Unexpected, OutOfRange, Inconsistent, Surplus}
-use Rattle.bac_service.specs.Values.{Reference, ReadAccess, WriteAccess, Request, Complex}
-use Rattle.bac_service.specs.Values.ReadAccess.{ReadStream, ReadRecords}
-use Rattle.bac_service.specs.Values.WriteAccess.{WriteStream, WriteRecords}
-use Rattle.bac_service.specs.Values.Request.{WriteProperty}
-use Rattle.bac_service.specs.Values.Complex.{FileRead, StreamWritten, RecordsWritten, PropertyRead}
+use Rattle.bac_service.specs.declared.stop.Why.TheVariants.{Fault, Missing, Unexpected, Surplus}
 use Rattle.bac_service.specs.Members.{Octets}
 use Rattle.bac_service.specs.Stops.{stop, told_at}
 
@@ -171,30 +166,6 @@ that_at otherwise test read bytes = do
   x ← read bytes
   if test x.0 then Ok x else stop otherwise bytes
 
--- ---- ReadProperty and WriteProperty
-
-abbrev pub reference_of : ObjectId × (ℕ × Option ℕ) → Reference
-reference_of t = record { object = t.0; property = t.1.0; index = t.1.1 }
-
-unfoldable pub reference_at : Octets → Read Reference
-reference_at =
-    made_at reference_of (both_at (member_at Context 0 object_at)
-    (both_at (member_at Context 1 (number_at 9)) (optional_at 2 (member_at Context 2 (number_at 9)))))
-
-abbrev pub is_priority : ℕ → Bool
-is_priority n = nat_lt 0 n && nat_le n 16
-
-unfoldable pub priority_at : Octets → Read ℕ
-priority_at = that_at OutOfRange is_priority (member_at Context 4 (number_at 2))
-
-abbrev pub write_property_of : Reference × (Octets × Option ℕ) → Request
-write_property_of t = WriteProperty t.0 t.1.0 t.1.1
-
-unfoldable pub write_property_at : Octets → Read Request
-write_property_at = made_at write_property_of (both_at reference_at (both_at (enclosed_at 3 values_at) (optional_at 4 priority_at)))
-
--- ---- AtomicReadFile and AtomicWriteFile
-
 abbrev pub chosen_at : {A : Type 0} → Bool → (Octets → Read A) → (Octets → Read A) → Octets → Read A
 chosen_at true one other bytes = one bytes
 chosen_at false one other bytes = other bytes
@@ -204,48 +175,6 @@ abbrev pub either_at : {A : Type 0} → (Octets → Result Bool Stop) → (Octet
 either_at test one other bytes = do
   b ← test bytes
   chosen_at b one other bytes
-
-abbrev pub extent_at : Octets → Read (ℤ × ℕ)
-extent_at = both_at application_signed application_unsigned
-
--- [1] where it comes next, [0] otherwise
-unfoldable pub read_access_at : Octets → Read ReadAccess
-read_access_at = either_at (is_opened 1) (made_at (λ t. ReadRecords t.0 t.1) (enclosed_at 1 extent_at))
-    (made_at (λ t. ReadStream t.0 t.1) (enclosed_at 0 extent_at))
-
--- octet strings one after the other, as long as they come next, at most so many: how many they are
-unfoldable pub strings_at : ℕ → Octets → Read ℕ
-strings_at zero bytes = Ok (0, bytes)
-strings_at (suc most) bytes = do
-  t ← next_tag bytes
-  if is_some (announced Application 6 t.0) then (do
-    s ← application_string bytes
-    n ← strings_at most s.1
-    Ok (n.0 + 1, n.1)) else Ok (0, bytes)
-
--- how many there are, and the octets of all of them
-unfoldable pub run_at : Octets → Read (ℕ × Octets)
-run_at bytes = do
-  n ← strings_at (suc (length bytes)) bytes
-  Ok ((n.0, take (length bytes - length n.1) bytes), n.1)
-
--- a count that is the number of strings after it
-unfoldable pub counted_at : Octets → Read (ℤ × (ℕ × (ℕ × Octets)))
-counted_at = both_at application_signed (both_at application_unsigned run_at)
-
-abbrev pub are_counted : ℤ × (ℕ × (ℕ × Octets)) → Bool
-are_counted t = t.1.0 == t.1.1.0
-
-abbrev pub content_at : Octets → Read (ℤ × Octets)
-content_at = both_at application_signed application_string
-
-unfoldable pub write_access_at : Octets → Read WriteAccess
-write_access_at =
-    either_at (is_opened 1) (made_at (λ t. WriteRecords t.0 t.1.0 t.1.1.1) (that_at Inconsistent are_counted (enclosed_at 1 counted_at)))
-    (made_at (λ t. WriteStream t.0 t.1) (enclosed_at 0 content_at))
-
-abbrev pub file_at : {A : Type 0} → (ObjectId → A → Request) → (Octets → Read A) → Octets → Read Request
-file_at make access = made_at (λ t. make t.0 t.1) (both_at application_object access)
 
 -- ---- whole service data
 
@@ -258,21 +187,3 @@ abbrev pub whole : {A : Type 0} → (Octets → Read A) → Octets → Result A 
 whole read bytes = do
   x ← read bytes
   ends x.0 x.1
-
--- ---- service data of ComplexACKs
-
-unfoldable pub end_of_file_at : Octets → Read Bool
-end_of_file_at bytes = do
-  t ← next_tag bytes
-  b ← expected bytes (boolean_of t.0.form)
-  Ok (b, t.1)
-
-unfoldable pub file_read_at : Octets → Read Complex
-file_read_at = made_at (λ t. FileRead t.0 t.1.0 t.1.1) (both_at end_of_file_at (enclosed_at 0 content_at))
-
--- [1] where it comes next, [0] otherwise
-unfoldable pub file_written_at : Octets → Read Complex
-file_written_at = either_at (is_next 1) (made_at RecordsWritten (member_at Context 1 signed_at)) (made_at StreamWritten (member_at Context 0 signed_at))
-
-unfoldable pub property_read_at : Octets → Read Complex
-property_read_at = made_at (λ t. PropertyRead t.0 t.1) (both_at reference_at (enclosed_at 3 values_at))

@@ -1,9 +1,8 @@
 //! Laws of spelling: functions that do nothing, whose contracts are the laws.
 ghost use Rattle.std.specs.Prelude.{◌≡◌, ℕ, List, [], Ok, true};
 ghost use Rattle.bac_value.specs.Octets.{IsBytes};
-ghost use Rattle.bac_service.specs.Replies.{SpellsComplex, IsReply};
-ghost use Rattle.bac_service.specs.Requests.{SpellsRequest};
-ghost use Rattle.bac_service.specs.Services.{request_at, complex_at, reads_reply};
+ghost use Rattle.bac_service.specs.Replies.{IsReply, SpellsComplex, complex_at, reads_reply};
+ghost use Rattle.bac_service.specs.Requests.{SpellsRequest, request_at};
 ghost use Rattle.bac_service.specs.Values.{Request, Complex};
 
 /// No request has two spellings, and service data spell at most one request of a service choice.

@@ -1,47 +1,47 @@
 //! Requests and replies of the four services (clauses 14 and 15), read from and written as service data (clause 21).
+//!
+//! Each service has a file: its types, how they are read and written, and how long they are. `request` and `reply` go by service.
 #![tactic(auto)]
 
-mod enclosed_reading;
+mod atomic_read_file;
+mod atomic_write_file;
+mod file;
 mod laws;
-mod lending;
-mod lengths;
-mod owned;
+mod member_len;
+mod member_reading;
+mod member_writing;
 mod owned_records;
-mod parts_reading;
-mod property_reading;
+mod priority;
+mod property;
 mod read_error;
+mod read_property;
 mod records;
-mod records_reading;
 mod reject;
 mod reply;
-mod reply_reading;
-mod reply_writing;
 mod request;
-mod request_reading;
-mod request_writing;
 mod service;
 mod stop;
 mod tag_reading;
-mod value;
-mod value_reading;
+mod write_property;
 
+pub use atomic_read_file::{FileRead, ReadAccess, ReadFile};
+pub use atomic_write_file::{FileWritten, WriteAccess, WriteFile, WriteRecords, WriteStream};
+pub use file::Content;
 pub use laws::{one_reply_spelling, one_request_spelling, replies_are_read, requests_are_read};
-pub use lengths::{reply_len, request_len};
-pub use owned::{OwnedComplex, OwnedReply, OwnedRequest};
 pub use owned_records::OwnedRecords;
-pub use parts_reading::{read_reply_parts, read_request_parts, reads_reply_parts};
+pub use priority::Priority;
+pub use property::PropertyReference;
 pub use read_error::ReadError;
+pub use read_property::PropertyRead;
+pub use records::Records;
 pub use reject::Reject;
 pub use reply::{
-    AnyComplex, AnyReply, Complex, ComplexOver, FileRead, FileWritten, PropertyRead, Reply,
+    AnyComplex, AnyReply, Complex, ComplexOver, OwnedComplex, OwnedReply, Reply, read_reply,
+    read_reply_parts, reads_reply_parts, reply_len, write_reply,
 };
-pub use reply_reading::{read_reply, reads_reply};
-pub use reply_writing::write_reply;
 pub use request::{
-    AnyRequest, ReadAccess, ReadFile, Request, RequestOver, WriteAccess, WriteFile, WriteProperty,
-    WriteRecords, WriteStream,
+    AnyRequest, OwnedRequest, Request, RequestOver, read_request, read_request_parts, request_len,
+    write_request,
 };
-pub use request_reading::read_request;
-pub use request_writing::write_request;
 pub use service::{ATOMIC_READ_FILE, ATOMIC_WRITE_FILE, READ_PROPERTY, Service, WRITE_PROPERTY};
-pub use value::{Content, Priority, PropertyReference, Records};
+pub use write_property::WriteProperty;

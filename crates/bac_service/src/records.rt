@@ -1,10 +1,22 @@
-//! Records that a caller makes.
-ghost use Rattle.std.specs.Prelude.{◌≡◌, ℕ, ◌↔◌, IsSome, IfSome, MatchOption};
-ghost use Rattle.bac_service.specs.Members.{AreStrings, IsCount};
+//! Records of a file: octet strings one after the other, each with its application tag.
+ghost use Rattle.std.specs.Prelude.{◌≡◌, ◌<◌, ◌+◌, ◌-◌, ◌↔◌, ℕ, IsSome, IfOk, IfSome, MatchOption, Some, None, length, suc};
+ghost use Rattle.bac_value.specs.Steps.{Reads};
+ghost use Rattle.bac_service.specs.Runs.{AreStrings, IsCount, StringStep, run_at, strings_at};
 
-use crate::value::Records;
-use crate::value_reading::string;
-use bac_value::Octets;
+use crate::member_reading::string;
+use crate::stop::Stop;
+use crate::tag_reading::{announced_by, tag};
+use bac_value::{Class, Octets, kinds};
+
+/// Records of a file: so many octet strings, each spelled with its application tag, one after the other.
+#[derive(Clone, Copy, Debug)]
+pub struct Records<'a> {
+    /// The octet strings, each with its tag, one after the other.
+    pub run: &'a [u8],
+    /// How many there are.
+    pub count: u64,
+    pub ghost counted: { ∥ AreStrings count run.now ∥₁ },
+}
 
 /// How many octet strings some octets are, with their application tags, one after the other; None where they are none such.
 fn strings_in(run: &[u8]) -> Option<u64>
@@ -35,4 +47,50 @@ impl<'a> Records<'a> {
             _ => None,
         }
     }
+}
+
+/// Octet strings one after the other, and how many they are.
+#[derive(Clone, Copy)]
+pub(crate) struct Run<O> {
+    pub octets: O,
+    pub count: u64,
+}
+
+/// What is after the next octet string, or None where none comes next.
+fn next_string<O: Octets>(octets: O) -> Result<Option<O>, Stop>
+    ensures step { StringStep O.octets (O.octets octets) result }
+    ensures onward { IfOk result (λ o. IfSome o (λ rest. length (O.octets rest) < length (O.octets octets))) }
+{
+    let (tag, _) = tag(octets)?;
+    if announced_by(tag, Class::Application, kinds::OCTET_STRING).is_none() {
+        return Ok(None);
+    }
+    let (_, rest) = string(octets)?;
+    Ok(Some(rest))
+}
+
+/// How many octet strings stand one after the other, and what is after them.
+fn strings<O: Octets>(octets: O) -> Result<(u64, O), Stop>
+    ensures { Reads (λ n. n) O.octets (O.octets octets) result (λ bytes. strings_at (suc (length bytes)) bytes) }
+{
+    // there are no more strings than octets, and so their number fits
+    let _all = octets.len();
+    let mut count: u64 = 0;
+    let mut rest = octets;
+    while let Some(next) = next_string(rest)? {
+        count += 1;
+        rest = next;
+    }
+    Ok((count, rest))
+}
+
+/// Octet strings one after the other: how many there are, their octets, and what is after them.
+#[tactic(auto, unfolding(crate::specs::Runs::run_at))]
+pub(crate) fn take_run<O: Octets>(octets: O) -> Result<((u64, O), O), Stop>
+    ensures { Reads (λ t. (t.0, O.octets t.1)) O.octets (O.octets octets) result run_at }
+{
+    let all = octets.len();
+    let (count, rest) = strings(octets)?;
+    let run = octets.front(all - rest.len());
+    Ok(((count, run), rest))
 }

@@ -1,33 +1,27 @@
 //! Replies of the four services, over whatever holds their octets.
-use crate::value::{Content, PropertyReference};
-use bac_value::Data;
+ghost use Rattle.std.specs.Prelude.{◌≡◌, ◌+◌, ◌++◌, ◌<◌, ◌≤◌, ◌↔◌, true, IfOk, IfErr, OnOk, OnErr, length, vec_len, vec_capacity};
+ghost use Rattle.bac_value.specs.Appending.{Appends, Keeps, Lengthens, NeedsRoom};
+ghost use Rattle.bac_value.specs.Steps.{Reads};
+ghost use Rattle.bac_value.specs.Views.{parts_view};
+ghost use Rattle.bac_service.specs.Choices.{service_at};
+ghost use Rattle.bac_service.specs.Refusals.{Gives, GivesInMemory, IfNoMemory, IfRefused};
+ghost use Rattle.bac_service.specs.Replies.{IsComplex, IsMadeOf, IsNoComplex, IsReply, ReplyNeedsMemory, SpellsComplex, complex_at};
+ghost use Rattle.bac_service.specs.Replies.{complex_length, complex_members, complex_over_view, complex_spelling, complex_view, held_by};
+ghost use Rattle.bac_service.specs.Replies.{owned_complex_view, owned_reply_view, reads_reply, reply_view};
+ghost use Rattle.bac_service.specs.Values.{complex_choice_of, held_in};
 
-/// What was read of a file (clause 14.1): octets from a position on, and whether they reach the file's end.
-#[derive(Clone, Copy, Debug, Drop)]
-pub struct FileRead<C> {
-    /// Whether the file ends with these octets.
-    pub end_of_file: bool,
-    /// The position of the first octet.
-    pub start: i64,
-    /// The octets.
-    pub content: C,
-}
-
-/// Where a file was written (clause 14.2): a position in octets, or a record.
-#[derive(Clone, Copy, Debug, PartialEq, Eq)]
-pub enum FileWritten {
-    Stream(i64),
-    Records(i64),
-}
-
-/// What a property is (clause 15.5).
-#[derive(Clone, Copy, Debug, Drop)]
-pub struct PropertyRead<D> {
-    /// The property that was read.
-    pub reference: PropertyReference,
-    /// Its values.
-    pub values: D,
-}
+use crate::atomic_read_file::{FileRead, file_read_len, put_file_read, take_file_read};
+use crate::atomic_write_file::{FileWritten, take_file_written};
+use crate::file::{Content, string_copy};
+use crate::member_len::signed_member_len;
+use crate::read_error::ReadError;
+use crate::read_property::{
+    PropertyRead, property_read_len, put_property_read, take_property_read,
+};
+use crate::service::Service;
+use crate::stop::{Stop, Why};
+use bac_value::{Class, Data, DataBuf, Fault, NoMemory, OctetString, Octets, Parts, write_signed};
+use std::alloc::Global;
 
 /// The service data of a ComplexACK, over what each service answers.
 #[derive(Clone, Copy, Debug, Drop)]
@@ -60,3 +54,314 @@ pub enum AnyReply<C> {
 
 /// A reply that borrows its octets.
 pub type Reply<'a> = AnyReply<Complex<'a>>;
+
+/// The service data of a ComplexACK with their memory.
+pub type OwnedComplex = ComplexOver<DataBuf, OctetString>;
+
+/// A reply with its memory.
+pub type OwnedReply = AnyReply<OwnedComplex>;
+
+/// Service data of a ComplexACK whose content and data are still the octets that they are read from.
+pub(crate) type Told<O> = ComplexOver<O, O>;
+
+/// The members of the service data, from left to right, and what is after them.
+fn members<O: Octets>(choice: u8, octets: O) -> Result<(Told<O>, O), Stop>
+    ensures { Reads (complex_over_view O.octets O.octets) O.octets (O.octets octets) result (complex_members (service_at choice)) }
+{
+    match Service::of(choice) {
+        Some(Service::AtomicReadFile) => {
+            let (read, rest) = take_file_read(octets)?;
+            Ok((AnyComplex::FileRead(read), rest))
+        }
+        Some(Service::AtomicWriteFile) => {
+            let (place, rest) = take_file_written(octets)?;
+            Ok((AnyComplex::FileWritten(place), rest))
+        }
+        Some(Service::ReadProperty) => {
+            let (read, rest) = take_property_read(octets)?;
+            Ok((AnyComplex::PropertyRead(read), rest))
+        }
+        Some(Service::WriteProperty) | None => Err(Stop::new(Why::Unexpected, octets.len())),
+    }
+}
+
+#[tactic(auto, unfolding(crate::specs::Replies::complex_at))]
+fn complex_read<O: Octets>(choice: u8, octets: O) -> Result<Told<O>, Fault>
+    ensures read { Gives (complex_over_view O.octets O.octets) (λ e. e) result (complex_at choice (O.octets octets)) }
+    ensures place { IfErr result (λ e. e.at ≤ length (O.octets octets)) }
+{
+    let all = octets.len();
+    match members(choice, octets) {
+        Ok(read) => match read.1.len() {
+            0 => Ok(read.0),
+            left => Err(Stop::new(Why::Surplus, left).fault_in(all)),
+        },
+        Err(stop) => Err(stop.fault_in(all)),
+    }
+}
+
+/// The service data of a ComplexACK of a service choice that all of the octets spell, or what is wrong with them, and where.
+fn complex_in<O: Octets>(choice: u8, octets: O) -> Result<Told<O>, Fault>
+    ensures spelled { IfOk result (λ c. SpellsComplex choice (complex_over_view O.octets O.octets c) (O.octets octets)) }
+    ensures made { IfOk result (λ c. IsMadeOf (complex_over_view O.octets O.octets c)) }
+    ensures refused { IfErr result (λ e. IsNoComplex choice (O.octets octets)) }
+    ensures read { Gives (complex_over_view O.octets O.octets) (λ e. e) result (complex_at choice (O.octets octets)) }
+    ensures place { IfErr result (λ e. e.at ≤ length (O.octets octets)) }
+{
+    // from here on each of them is known to be an octet
+    let _count = octets.len();
+    complex_read(choice, octets)
+}
+
+fn complex_of(told: Told<&[u8]>) -> Complex<'_>
+    requires { IsMadeOf (complex_over_view (λ s. s.now) (λ s. s.now) told) }
+    ensures { complex_view result ≡ complex_over_view (λ s. s.now) (λ s. s.now) told.entry }
+{
+    match told {
+        AnyComplex::FileRead(read) => {
+            let content = Content {
+                octets: read.content,
+            };
+            AnyComplex::FileRead(FileRead {
+                end_of_file: read.end_of_file,
+                start: read.start,
+                content,
+            })
+        }
+        AnyComplex::FileWritten(written) => AnyComplex::FileWritten(written),
+        AnyComplex::PropertyRead(read) => {
+            let values = Data {
+                octets: read.values,
+            };
+            AnyComplex::PropertyRead(PropertyRead {
+                reference: read.reference,
+                values,
+            })
+        }
+    }
+}
+
+/// A copy of the service data of a ComplexACK, in one allocation where they have octets of data or of a file.
+fn complex_copy<O: Octets>(alloc: Global, told: Told<O>) -> Result<OwnedComplex, NoMemory>
+    requires { IsMadeOf (complex_over_view O.octets O.octets told) }
+    ensures same { IfOk result (λ c. owned_complex_view c ≡ complex_over_view O.octets O.octets told) }
+    ensures full { OnErr result (0 < length (held_in (complex_over_view O.octets O.octets told))) }
+{
+    match told {
+        AnyComplex::FileRead(read) => {
+            let content = string_copy(alloc, read.content)?;
+            Ok(AnyComplex::FileRead(FileRead {
+                end_of_file: read.end_of_file,
+                start: read.start,
+                content,
+            }))
+        }
+        AnyComplex::FileWritten(place) => Ok(AnyComplex::FileWritten(place)),
+        AnyComplex::PropertyRead(read) => {
+            let values = DataBuf::copied(alloc, read.values)?;
+            Ok(AnyComplex::PropertyRead(PropertyRead {
+                reference: read.reference,
+                values,
+            }))
+        }
+    }
+}
+
+/// The service data of a ComplexACK to a request of a service choice that the whole of the octets spells (clause 21).
+///
+/// Choices are 6, 7 and 12; for another choice the fault is `ReservedTag` at 0. The members are read from left to right, and a
+/// fault's place is the offset of the tag where reading stopped: `ReservedTag` at a member that is missing or is another,
+/// `BadLength` at octets left over, otherwise what is wrong with a tag, contents or data (own rule of this profile).
+pub fn read_reply(choice: u8, octets: &[u8]) -> Result<Complex<'_>, Fault>
+    ensures found { IfOk result (λ c. SpellsComplex choice (complex_view c) octets.now) }
+    ensures refused { IfErr result (λ e. IsNoComplex choice octets.now) }
+    ensures read { Gives complex_view (λ e. e) result (complex_at choice octets.now) }
+    ensures place { IfErr result (λ e. e.at ≤ length octets.now) }
+{
+    match complex_in(choice, octets) {
+        Ok(told) => Ok(complex_of(told)),
+        Err(fault) => Err(fault),
+    }
+}
+
+/// What `read_reply` answers for the joined octets of some pieces, as a copy with its own memory.
+///
+/// The pieces are not joined, and a fault's place counts from the front of the first. A copy takes one allocation where the
+/// value has octets of data or of a file, otherwise none. `NoMemory` comes last, after every fault: it is told
+/// only of octets that spell one.
+pub fn read_reply_parts(
+    alloc: Global,
+    choice: u8,
+    parts: Parts<'_>,
+) -> Result<OwnedComplex, ReadError<Fault>>
+    ensures found { IfOk result (λ c. SpellsComplex choice (owned_complex_view c) (parts_view parts.entry)) }
+    ensures refused { IfRefused result (λ e. IsNoComplex choice (parts_view parts.entry)) }
+    ensures last { IfNoMemory result ∥ ReplyNeedsMemory choice (parts_view parts.entry) ∥₁ }
+    ensures read { GivesInMemory owned_complex_view (λ e. e) result (complex_at choice (parts_view parts.entry)) }
+    ensures place { IfRefused result (λ e. e.at ≤ length (parts_view parts.entry)) }
+{
+    match complex_in(choice, parts) {
+        Ok(told) => match complex_copy(alloc, told) {
+            Ok(complex) => Ok(complex),
+            Err(_) => Err(ReadError::NoMemory),
+        },
+        Err(fault) => Err(ReadError::Refused(fault)),
+    }
+}
+
+fn is_read<O: Octets>(choice: u8, octets: O) -> bool
+    ensures { result ≡ reads_reply choice (O.octets octets) }
+{
+    complex_read(choice, octets).is_ok()
+}
+
+/// Whether `read_reply_parts` can read the joined octets of some pieces. It takes no memory.
+pub fn reads_reply_parts(choice: u8, parts: Parts<'_>) -> bool
+    ensures read { result ≡ reads_reply choice (parts_view parts.entry) }
+    ensures spelled { (result ≡ true) ↔ ∥ IsReply choice (parts_view parts.entry) ∥₁ }
+{
+    // from here on each of them is known to be an octet
+    let _count = parts.len();
+    is_read(choice, parts)
+}
+
+fn put_complex(reply: Complex<'_>, out: &mut Vec<u8>) -> Result<(), NoMemory>
+    ensures ok { Appends result out.old out.new (complex_spelling (complex_view reply.entry)) }
+    ensures len { Lengthens result out.old out.new (complex_spelling (complex_view reply.entry)) }
+    ensures full { NeedsRoom result out.old (complex_spelling (complex_view reply.entry)) }
+    ensures grows { vec_capacity out.old ≤ vec_capacity out.new }
+{
+    match reply {
+        AnyComplex::FileRead(read) => put_file_read(read, out),
+        AnyComplex::FileWritten(FileWritten::Stream(start)) => {
+            write_signed(Class::Context, 0, start, out)
+        }
+        AnyComplex::FileWritten(FileWritten::Records(start)) => {
+            write_signed(Class::Context, 1, start, out)
+        }
+        AnyComplex::PropertyRead(read) => put_property_read(read, out),
+    }
+}
+
+/// Appends the service data of a ComplexACK in their one spelling (clause 21), or answers `NoMemory` and changes nothing.
+pub fn write_reply(reply: Complex<'_>, out: &mut Vec<u8>) -> Result<(), NoMemory>
+    ensures ok { Appends result out.old out.new (complex_spelling (complex_view reply.entry)) }
+    ensures err { Keeps result out.old out.new }
+    ensures full { NeedsRoom result out.old (complex_spelling (complex_view reply.entry)) }
+    ensures spelled { SpellsComplex (complex_choice_of (complex_view reply.entry)) (complex_view reply.entry) (complex_spelling (complex_view reply.entry)) }
+{
+    out.reserve(reply_len(reply))?;
+    put_complex(reply, out)
+}
+
+fn complex_len(reply: Complex<'_>) -> usize
+    ensures len { result ≡ complex_length (complex_view reply.entry) }
+    ensures is { IsComplex (complex_view reply.entry) }
+{
+    match reply {
+        AnyComplex::FileRead(read) => file_read_len(read),
+        AnyComplex::FileWritten(FileWritten::Stream(start) | FileWritten::Records(start)) => {
+            signed_member_len(start)
+        }
+        AnyComplex::PropertyRead(read) => property_read_len(read),
+    }
+}
+
+/// How many octets the service data of a ComplexACK have. It takes no memory.
+#[tactic(auto, using(crate::proofs::Wholes::length_complex, crate::proofs::Wholes::complex_spelled))]
+pub fn reply_len(reply: Complex<'_>) -> usize
+    ensures len { result ≡ length (complex_spelling (complex_view reply.entry)) }
+    ensures spelled { SpellsComplex (complex_choice_of (complex_view reply.entry)) (complex_view reply.entry) (complex_spelling (complex_view reply.entry)) }
+{
+    complex_len(reply)
+}
+
+impl Complex<'_> {
+    /// A copy with its own memory, in one allocation where the value has octets of data or of a file, otherwise in none.
+    pub fn to_owned(self, alloc: Global) -> Result<OwnedComplex, NoMemory>
+        ensures same { IfOk result (λ c. owned_complex_view c ≡ complex_view self.entry) }
+        ensures full { OnErr result (0 < length (held_in (complex_view self.entry))) }
+    {
+        match self {
+            AnyComplex::FileRead(read) => {
+                let content = string_copy(alloc, read.content.octets)?;
+                Ok(AnyComplex::FileRead(FileRead {
+                    end_of_file: read.end_of_file,
+                    start: read.start,
+                    content,
+                }))
+            }
+            AnyComplex::FileWritten(place) => Ok(AnyComplex::FileWritten(place)),
+            AnyComplex::PropertyRead(read) => {
+                let values = read.values.to_owned(alloc)?;
+                Ok(AnyComplex::PropertyRead(PropertyRead {
+                    reference: read.reference,
+                    values,
+                }))
+            }
+        }
+    }
+}
+
+impl Reply<'_> {
+    /// A copy with its own memory, in one allocation where the value has octets of data or of a file, otherwise in none.
+    pub fn to_owned(self, alloc: Global) -> Result<OwnedReply, NoMemory>
+        ensures same { IfOk result (λ r. owned_reply_view r ≡ reply_view self.entry) }
+        ensures full { OnErr result (0 < length (held_by (reply_view self.entry))) }
+    {
+        match self {
+            AnyReply::Simple => Ok(AnyReply::Simple),
+            AnyReply::Complex(told) => {
+                let copy = told.to_owned(alloc)?;
+                Ok(AnyReply::Complex(copy))
+            }
+            AnyReply::Error { class, code } => Ok(AnyReply::Error { class, code }),
+            AnyReply::Reject(reason) => Ok(AnyReply::Reject(reason)),
+        }
+    }
+}
+
+impl OwnedComplex {
+    /// Lends the value. It takes no memory.
+    pub fn as_complex(&self) -> Complex<'_>
+        ensures { complex_view result ≡ owned_complex_view self.now }
+    {
+        match self {
+            AnyComplex::FileRead(read) => {
+                let content = Content {
+                    octets: read.content.octets.as_slice(),
+                };
+                AnyComplex::FileRead(FileRead {
+                    end_of_file: read.end_of_file,
+                    start: read.start,
+                    content,
+                })
+            }
+            AnyComplex::FileWritten(place) => AnyComplex::FileWritten(*place),
+            AnyComplex::PropertyRead(read) => {
+                let values = read.values.as_data();
+                AnyComplex::PropertyRead(PropertyRead {
+                    reference: read.reference,
+                    values,
+                })
+            }
+        }
+    }
+}
+
+impl OwnedReply {
+    /// Lends the value. It takes no memory.
+    pub fn as_reply(&self) -> Reply<'_>
+        ensures { reply_view result ≡ owned_reply_view self.now }
+    {
+        match self {
+            AnyReply::Simple => AnyReply::Simple,
+            AnyReply::Complex(told) => AnyReply::Complex(told.as_complex()),
+            AnyReply::Error { class, code } => AnyReply::Error {
+                class: *class,
+                code: *code,
+            },
+            AnyReply::Reject(reason) => AnyReply::Reject(*reason),
+        }
+    }
+}

@@ -1,67 +1,32 @@
 //! Requests of the four services, over whatever holds their octets.
-use crate::value::{Content, Priority, PropertyReference, Records};
-use bac_value::{Data, ObjectIdentifier};
+ghost use Rattle.std.specs.Prelude.{◌≡◌, ◌+◌, ◌++◌, ◌<◌, ◌≤◌, ◌↔◌, IfOk, IfErr, IsErrOf, OnOk, OnErr, length, vec_len, vec_capacity};
+ghost use Rattle.bac_value.specs.Appending.{Appends, Keeps, Lengthens, NeedsRoom};
+ghost use Rattle.bac_value.specs.Steps.{Reads};
+ghost use Rattle.bac_value.specs.Views.{parts_view};
+ghost use Rattle.bac_service.specs.Refusals.{Gives, GivesInMemory, IfNoMemory, IfRefused, reason_number};
+ghost use Rattle.bac_service.specs.Requests.{IsMade, IsNoRequest, IsRequest, IsUnknown, NeedsMemory, SpellsRequest, owned_request_view};
+ghost use Rattle.bac_service.specs.Requests.{request_at, request_length, request_members, request_over_view, request_spelling, request_view};
+ghost use Rattle.bac_service.specs.Sights.{left};
+ghost use Rattle.bac_service.specs.Values.{choice_of, held};
 
-/// Where a file is read, and how much of it (clause 14.1): octets from a position on, or records from a record on.
-#[derive(Clone, Copy, Debug, PartialEq, Eq)]
-pub enum ReadAccess {
-    Stream { start: i64, count: u64 },
-    Records { start: i64, count: u64 },
-}
-
-/// Which file is read, and where (clause 14.1).
-#[derive(Clone, Copy, Debug, PartialEq, Eq)]
-pub struct ReadFile {
-    /// The file.
-    pub file: ObjectIdentifier,
-    /// Where, and how much.
-    pub access: ReadAccess,
-}
-
-/// Octets of a file from a position on; position -1 appends.
-#[derive(Clone, Copy, Debug, Drop)]
-pub struct WriteStream<C> {
-    /// The position of the first octet, or -1 for the file's end.
-    pub start: i64,
-    /// The octets.
-    pub content: C,
-}
-
-/// Records of a file from a record on; record -1 appends.
-#[derive(Clone, Copy, Debug, Drop)]
-pub struct WriteRecords<R> {
-    /// The number of the first record, or -1 for the file's end.
-    pub start: i64,
-    /// The records.
-    pub records: R,
-}
-
-/// Where a file is written, and what (clause 14.2).
-#[derive(Clone, Copy, Debug, Drop)]
-pub enum WriteAccess<C, R> {
-    Stream(WriteStream<C>),
-    Records(WriteRecords<R>),
-}
-
-/// Which file is written, where, and what (clause 14.2).
-#[derive(Clone, Copy, Debug, Drop)]
-pub struct WriteFile<C, R> {
-    /// The file.
-    pub file: ObjectIdentifier,
-    /// Where, and what.
-    pub access: WriteAccess<C, R>,
-}
-
-/// What a property is to be (clause 15.9). The priority is for commandable properties.
-#[derive(Clone, Copy, Debug, Drop)]
-pub struct WriteProperty<D> {
-    /// The property.
-    pub reference: PropertyReference,
-    /// What it is to be.
-    pub values: D,
-    /// The priority, where one is given.
-    pub priority: Option<Priority>,
-}
+use crate::atomic_read_file::{ReadFile, put_read_file, read_file_len, take_read_file};
+use crate::atomic_write_file::{
+    WriteFile, access_copy, access_of, access_to_owned, lent_access, put_write_file,
+    take_write_file, write_file_len,
+};
+use crate::file::Content;
+use crate::owned_records::OwnedRecords;
+use crate::property::{PropertyReference, property_reference, put_reference, reference_len};
+use crate::read_error::ReadError;
+use crate::records::{Records, Run};
+use crate::reject::Reject;
+use crate::service::Service;
+use crate::stop::{Stop, Why};
+use crate::write_property::{
+    WriteProperty, put_write_property, take_write_property, write_property_len,
+};
+use bac_value::{Data, DataBuf, NoMemory, OctetString, Octets, Parts};
+use std::alloc::Global;
 
 /// A request of one of the four services, over what each of them says.
 #[derive(Clone, Copy, Debug, Drop)]
@@ -86,3 +51,254 @@ pub type RequestOver<D, C, R> = AnyRequest<
 
 /// A request that borrows its octets.
 pub type Request<'a> = RequestOver<Data<'a>, Content<'a>, Records<'a>>;
+
+/// A request with its memory.
+pub type OwnedRequest = RequestOver<DataBuf, OctetString, OwnedRecords>;
+
+/// A request whose strings and data are still the octets that it is read from.
+pub(crate) type Found<O> = RequestOver<O, O, Run<O>>;
+
+/// The members of a request, from left to right, and what is after them.
+fn members<O: Octets>(service: Service, octets: O) -> Result<(Found<O>, O), Stop>
+    ensures { Reads (request_over_view (left O.octets)) O.octets (O.octets octets) result (request_members service) }
+{
+    match service {
+        Service::AtomicReadFile => {
+            let (read, rest) = take_read_file(octets)?;
+            Ok((AnyRequest::ReadFile(read), rest))
+        }
+        Service::AtomicWriteFile => {
+            let (write, rest) = take_write_file(octets)?;
+            Ok((AnyRequest::WriteFile(write), rest))
+        }
+        Service::ReadProperty => {
+            let (reference, rest) = property_reference(octets)?;
+            Ok((AnyRequest::ReadProperty(reference), rest))
+        }
+        Service::WriteProperty => {
+            let (write, rest) = take_write_property(octets)?;
+            Ok((AnyRequest::WriteProperty(write), rest))
+        }
+    }
+}
+
+#[tactic(auto, unfolding(crate::specs::Requests::request_at))]
+fn request_read<O: Octets>(choice: u8, octets: O) -> Result<Found<O>, Reject>
+    ensures read { Gives (request_over_view (left O.octets)) reason_number result (request_at choice (O.octets octets)) }
+    ensures unknown { IsErrOf result Reject.UnrecognizedService ↔ IsUnknown choice }
+{
+    let Some(service) = Service::of(choice) else {
+        return Err(Reject::UnrecognizedService);
+    };
+    match members(service, octets) {
+        Ok(read) => match read.1.len() {
+            0 => Ok(read.0),
+            left => Err(Stop::new(Why::Surplus, left).reject()),
+        },
+        Err(stop) => Err(stop.reject()),
+    }
+}
+
+/// The request of a service choice that all of the octets spell, or the reason for rejecting them.
+fn request_in<O: Octets>(choice: u8, octets: O) -> Result<Found<O>, Reject>
+    ensures spelled { IfOk result (λ f. SpellsRequest choice (request_over_view (left O.octets) f) (O.octets octets)) }
+    ensures made { IfOk result (λ f. IsMade (request_over_view (left O.octets) f)) }
+    ensures refused { IfErr result (λ e. IsNoRequest choice (O.octets octets)) }
+    ensures read { Gives (request_over_view (left O.octets)) reason_number result (request_at choice (O.octets octets)) }
+    ensures unknown { IsErrOf result Reject.UnrecognizedService ↔ IsUnknown choice }
+{
+    // from here on each of them is known to be an octet
+    let _count = octets.len();
+    request_read(choice, octets)
+}
+
+fn request_of(found: Found<&[u8]>) -> Request<'_>
+    requires { IsMade (request_over_view (left (λ s. s.now)) found) }
+    ensures { request_view result ≡ request_over_view (left (λ s. s.now)) found.entry }
+{
+    match found {
+        AnyRequest::ReadFile(read) => AnyRequest::ReadFile(read),
+        AnyRequest::WriteFile(write) => {
+            let access = access_of(write.access);
+            let file = write.file;
+            AnyRequest::WriteFile(WriteFile { file, access })
+        }
+        AnyRequest::ReadProperty(reference) => AnyRequest::ReadProperty(reference),
+        AnyRequest::WriteProperty(write) => {
+            let values = Data {
+                octets: write.values,
+            };
+            AnyRequest::WriteProperty(WriteProperty {
+                reference: write.reference,
+                values,
+                priority: write.priority,
+            })
+        }
+    }
+}
+
+/// A copy of a request, in one allocation where it has octets.
+fn request_copy<O: Octets>(alloc: Global, found: Found<O>) -> Result<OwnedRequest, NoMemory>
+    requires { IsMade (request_over_view (left O.octets) found) }
+    ensures same { IfOk result (λ r. owned_request_view r ≡ request_over_view (left O.octets) found) }
+    ensures full { OnErr result (0 < length (held (request_over_view (left O.octets) found))) }
+{
+    match found {
+        AnyRequest::ReadFile(read) => Ok(AnyRequest::ReadFile(read)),
+        AnyRequest::WriteFile(write) => {
+            let access = access_copy(alloc, write.access)?;
+            let file = write.file;
+            Ok(AnyRequest::WriteFile(WriteFile { file, access }))
+        }
+        AnyRequest::ReadProperty(reference) => Ok(AnyRequest::ReadProperty(reference)),
+        AnyRequest::WriteProperty(write) => {
+            let values = DataBuf::copied(alloc, write.values)?;
+            Ok(AnyRequest::WriteProperty(WriteProperty {
+                reference: write.reference,
+                values,
+                priority: write.priority,
+            }))
+        }
+    }
+}
+
+/// The request of a service choice that the whole of the octets spells (clause 21).
+///
+/// `UnrecognizedService` comes exactly where the choice is not 6, 7, 12 or 15. Otherwise the members are read from left to right:
+/// `MissingRequiredParameter` where the octets end too early, `InvalidTag` at a tag that is not the member's, is reserved, is not
+/// balanced, or is the ninth opened, `InvalidParameterDataType` at a tag whose number or length is in a longer form than it needs
+/// or whose low bits no tag of its number has, and at contents that their type has not, `ParameterOutOfRange` at a priority
+/// outside 1 to 16, `InconsistentParameters` at a count that is not the number of octet strings, `TooManyArguments` at octets left
+/// over.
+pub fn read_request(choice: u8, octets: &[u8]) -> Result<Request<'_>, Reject>
+    ensures found { IfOk result (λ r. SpellsRequest choice (request_view r) octets.now) }
+    ensures refused { IfErr result (λ e. IsNoRequest choice octets.now) }
+    ensures read { Gives request_view reason_number result (request_at choice octets.now) }
+    ensures unknown { IsErrOf result Reject.UnrecognizedService ↔ IsUnknown choice }
+{
+    match request_in(choice, octets) {
+        Ok(found) => Ok(request_of(found)),
+        Err(reject) => Err(reject),
+    }
+}
+
+/// What `read_request` answers for the joined octets of some pieces, as a copy with its own memory.
+///
+/// The pieces are not joined. A copy takes one allocation where the request has octets of data, of a file or of records,
+/// otherwise none. `NoMemory` comes last, after every reason to refuse the request: it is told only of octets that spell one.
+pub fn read_request_parts(
+    alloc: Global,
+    choice: u8,
+    parts: Parts<'_>,
+) -> Result<OwnedRequest, ReadError<Reject>>
+    ensures found { IfOk result (λ r. SpellsRequest choice (owned_request_view r) (parts_view parts.entry)) }
+    ensures refused { IfRefused result (λ e. IsNoRequest choice (parts_view parts.entry)) }
+    ensures last { IfNoMemory result ∥ NeedsMemory choice (parts_view parts.entry) ∥₁ }
+    ensures read { GivesInMemory owned_request_view reason_number result (request_at choice (parts_view parts.entry)) }
+    ensures unknown { IsErrOf result (ReadError.Refused Reject.UnrecognizedService) ↔ IsUnknown choice }
+{
+    match request_in(choice, parts) {
+        Ok(found) => match request_copy(alloc, found) {
+            Ok(request) => Ok(request),
+            Err(_) => Err(ReadError::NoMemory),
+        },
+        Err(reject) => Err(ReadError::Refused(reject)),
+    }
+}
+
+fn put_request(request: Request<'_>, out: &mut Vec<u8>) -> Result<(), NoMemory>
+    ensures ok { Appends result out.old out.new (request_spelling (request_view request.entry)) }
+    ensures len { Lengthens result out.old out.new (request_spelling (request_view request.entry)) }
+    ensures full { NeedsRoom result out.old (request_spelling (request_view request.entry)) }
+    ensures grows { vec_capacity out.old ≤ vec_capacity out.new }
+{
+    match request {
+        AnyRequest::ReadFile(read) => put_read_file(read, out),
+        AnyRequest::WriteFile(write) => put_write_file(write, out),
+        AnyRequest::ReadProperty(reference) => put_reference(reference, out),
+        AnyRequest::WriteProperty(write) => put_write_property(write, out),
+    }
+}
+
+/// Appends the service data of a request in their one spelling (clause 21), or answers `NoMemory` and changes nothing.
+pub fn write_request(request: Request<'_>, out: &mut Vec<u8>) -> Result<(), NoMemory>
+    ensures ok { Appends result out.old out.new (request_spelling (request_view request.entry)) }
+    ensures err { Keeps result out.old out.new }
+    ensures full { NeedsRoom result out.old (request_spelling (request_view request.entry)) }
+    ensures spelled { SpellsRequest (choice_of (request_view request.entry)) (request_view request.entry) (request_spelling (request_view request.entry)) }
+{
+    out.reserve(request_len(request))?;
+    put_request(request, out)
+}
+
+fn members_len(request: Request<'_>) -> usize
+    ensures len { result ≡ request_length (request_view request.entry) }
+    ensures is { IsRequest (request_view request.entry) }
+{
+    match request {
+        AnyRequest::ReadFile(read) => read_file_len(read),
+        AnyRequest::WriteFile(write) => write_file_len(write),
+        AnyRequest::ReadProperty(reference) => reference_len(reference),
+        AnyRequest::WriteProperty(write) => write_property_len(write),
+    }
+}
+
+/// How many octets the service data of a request have. It takes no memory.
+#[tactic(auto, using(crate::proofs::Wholes::length_request))]
+pub fn request_len(request: Request<'_>) -> usize
+    ensures len { result ≡ length (request_spelling (request_view request.entry)) }
+    ensures spelled { SpellsRequest (choice_of (request_view request.entry)) (request_view request.entry) (request_spelling (request_view request.entry)) }
+{
+    members_len(request)
+}
+
+impl Request<'_> {
+    /// A copy with its own memory, in one allocation where the request has octets, otherwise in none.
+    pub fn to_owned(self, alloc: Global) -> Result<OwnedRequest, NoMemory>
+        ensures same { IfOk result (λ r. owned_request_view r ≡ request_view self.entry) }
+        ensures full { OnErr result (0 < length (held (request_view self.entry))) }
+    {
+        match self {
+            AnyRequest::ReadFile(read) => Ok(AnyRequest::ReadFile(read)),
+            AnyRequest::WriteFile(write) => {
+                let access = access_to_owned(alloc, write.access)?;
+                let file = write.file;
+                Ok(AnyRequest::WriteFile(WriteFile { file, access }))
+            }
+            AnyRequest::ReadProperty(reference) => Ok(AnyRequest::ReadProperty(reference)),
+            AnyRequest::WriteProperty(write) => {
+                let values = write.values.to_owned(alloc)?;
+                Ok(AnyRequest::WriteProperty(WriteProperty {
+                    reference: write.reference,
+                    values,
+                    priority: write.priority,
+                }))
+            }
+        }
+    }
+}
+
+impl OwnedRequest {
+    /// Lends the request. It takes no memory.
+    pub fn as_request(&self) -> Request<'_>
+        ensures { request_view result ≡ owned_request_view self.now }
+    {
+        match self {
+            AnyRequest::ReadFile(read) => AnyRequest::ReadFile(*read),
+            AnyRequest::WriteFile(write) => {
+                let access = lent_access(&write.access);
+                let file = write.file;
+                AnyRequest::WriteFile(WriteFile { file, access })
+            }
+            AnyRequest::ReadProperty(reference) => AnyRequest::ReadProperty(*reference),
+            AnyRequest::WriteProperty(write) => {
+                let values = write.values.as_data();
+                AnyRequest::WriteProperty(WriteProperty {
+                    reference: write.reference,
+                    values,
+                    priority: write.priority,
+                })
+            }
+        }
+    }
+}

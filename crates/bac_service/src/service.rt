@@ -1,7 +1,6 @@
 //! The four services by their choices (clause 21, BACnetConfirmedServiceChoice).
 ghost use Rattle.std.specs.Prelude.{◌≡◌};
-ghost use Rattle.bac_service.specs.Choices.{has_simple_ack, has_complex_ack};
-ghost use Rattle.bac_service.specs.Services.{service_at, choice_number};
+ghost use Rattle.bac_service.specs.Choices.{choice_number, has_complex_ack, has_simple_ack, service_at};
 
 /// The service choice of AtomicReadFile (clause 21).
 pub const ATOMIC_READ_FILE: u8 = 6;

@@ -1,6 +1,6 @@
 //! Why reading stopped, as a reason for rejecting a request and as a fault of the service data of a ComplexACK.
 ghost use Rattle.std.specs.Prelude.{◌≡◌, ◌≢◌, ◌≤◌};
-ghost use Rattle.bac_service.specs.Stops.{fault_reason, reason_of, kind_of, fault_of};
+ghost use Rattle.bac_service.specs.Stops.{reason_of, kind_of, fault_of};
 
 use crate::reject::Reject;
 use bac_value::{Fault, FaultKind};
@@ -29,20 +29,6 @@ pub(crate) struct Stop {
     pub left: usize,
 }
 
-/// The reason for a fault of a tag, of contents or of data.
-fn reason_for(kind: FaultKind) -> Reject
-    ensures { result ≡ fault_reason kind }
-{
-    match kind {
-        FaultKind::Truncated => Reject::MissingRequiredParameter,
-        FaultKind::ReservedTag | FaultKind::Unbalanced | FaultKind::TooDeep => Reject::InvalidTag,
-        FaultKind::LongForm
-        | FaultKind::BadLength
-        | FaultKind::NotShortest
-        | FaultKind::ReservedBits => Reject::InvalidParameterDataType,
-    }
-}
-
 impl Stop {
     pub(crate) fn new(why: Why, left: usize) -> Stop
         ensures { result ≡ record { why = why; left = left } }
@@ -56,9 +42,15 @@ impl Stop {
         ensures known { result ≢ Reject.UnrecognizedService }
     {
         match self.why {
-            Why::Fault(kind) => reason_for(kind),
-            Why::Missing => Reject::MissingRequiredParameter,
-            Why::Unexpected => Reject::InvalidTag,
+            Why::Fault(FaultKind::Truncated) | Why::Missing => Reject::MissingRequiredParameter,
+            Why::Fault(FaultKind::ReservedTag | FaultKind::Unbalanced | FaultKind::TooDeep)
+            | Why::Unexpected => Reject::InvalidTag,
+            Why::Fault(
+                FaultKind::LongForm
+                | FaultKind::BadLength
+                | FaultKind::NotShortest
+                | FaultKind::ReservedBits,
+            ) => Reject::InvalidParameterDataType,
             Why::OutOfRange => Reject::ParameterOutOfRange,
             Why::Inconsistent => Reject::InconsistentParameters,
             Why::Surplus => Reject::TooManyArguments,

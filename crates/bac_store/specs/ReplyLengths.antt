@@ -1,7 +1,7 @@
 -- How many octets of service data a reply has.
 use Rattle.std.specs.Prelude.{ℕ}
 use Rattle.bac_segment.specs.Limits.{DATA}
-use Rattle.bac_service.specs.Lengths.{complex_length}
+use Rattle.bac_service.specs.Replies.{complex_length}
 use Rattle.bac_service.specs.Replies.{Reply}
 use Rattle.bac_service.specs.Replies.Reply.{Simple, Complex, Error, Reject}
 

@@ -10,8 +10,8 @@ use Rattle.bac_service.specs.Members.{◌⨾◌, ApplicationString}
 use Rattle.bac_service.specs.Values.{Reference, ReadAccess, Request, Complex}
 use Rattle.bac_service.specs.Values.ReadAccess.{ReadStream, ReadRecords}
 use Rattle.bac_service.specs.Values.WriteAccess.{WriteStream, WriteRecords}
-use Rattle.bac_service.specs.declared.reply.FileWritten.{FileWritten}
-use Rattle.bac_service.specs.declared.reply.FileWritten.TheVariants as place
+use Rattle.bac_service.specs.declared.atomic_write_file.FileWritten.{FileWritten}
+use Rattle.bac_service.specs.declared.atomic_write_file.FileWritten.TheVariants as place
 use Rattle.bac_service.specs.Values.Request.{ReadFile, WriteFile, ReadProperty, WriteProperty}
 use Rattle.bac_service.specs.Values.Complex.{FileRead, StreamWritten, RecordsWritten, PropertyRead}
 use Rattle.bac_value.specs.Value.{ObjectId}

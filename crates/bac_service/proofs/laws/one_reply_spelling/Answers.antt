@@ -1,4 +1,4 @@
-use Rattle.bac_service.proofs.OnlySpelling.{one_complex_spelling, one_complex}
+use Rattle.bac_service.proofs.Wholes.{one_complex_spelling, one_complex}
 use Rattle.bac_service.proofs.laws.one_reply_spelling.Goals as goal
 
 pub returns : goal.returns

@@ -1,4 +1,4 @@
-use Rattle.bac_service.proofs.OnlySpelling.{one_spelling, one_request}
+use Rattle.bac_service.proofs.Wholes.{one_spelling, one_request}
 use Rattle.bac_service.proofs.laws.one_request_spelling.Goals as goal
 
 pub returns : goal.returns

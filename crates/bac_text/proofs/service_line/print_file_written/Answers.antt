@@ -1,7 +1,7 @@
 use Rattle.std.proofs.Common.{ℕ, List, Option, Result, OnOk, codes}
 use Rattle.std.specs.Io.KnownBytes.{Appends}
-use Rattle.bac_service.specs.declared.reply.FileWritten.{FileWritten}
-use Rattle.bac_service.specs.declared.reply.FileWritten.TheVariants as place
+use Rattle.bac_service.specs.declared.atomic_write_file.FileWritten.{FileWritten}
+use Rattle.bac_service.specs.declared.atomic_write_file.FileWritten.TheVariants as place
 use Rattle.bac_service.specs.Views as view
 use Rattle.bac_text.specs.Texts.{complex_text, place_written_text}
 use Rattle.bac_text.proofs.Appending.{before}

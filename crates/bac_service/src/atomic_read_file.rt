@@ -1,0 +1,148 @@
+//! AtomicReadFile (clause 14.1).
+ghost use Rattle.std.specs.Prelude.{◌≡◌, ◌+◌, ◌++◌, ◌<◌, ◌≤◌, ◌^◌, OnOk, OnErr, length, vec_len, vec_capacity};
+ghost use Rattle.bac_value.specs.Appending.{Appends, Lengthens, NeedsRoom};
+ghost use Rattle.bac_value.specs.Steps.{Reads};
+ghost use Rattle.bac_value.specs.Views.{object_identifier_view};
+ghost use Rattle.bac_service.specs.AtomicReadFile.{IsFileRead, IsReadFile, file_read_at, file_read_length, file_read_spelling};
+ghost use Rattle.bac_service.specs.AtomicReadFile.{file_read_view, read_access_view, read_file_at, read_file_length, read_file_spelling};
+ghost use Rattle.bac_service.specs.AtomicReadFile.{read_file_view};
+ghost use Rattle.bac_service.specs.Files.{extent_spelling};
+ghost use Rattle.bac_service.specs.Members.{enclosed_spelling};
+
+use crate::file::{
+    Content, content_len, extent_len, put_content, put_extent, take_content, take_extent,
+};
+use crate::member_len::{OBJECT_LEN, PAIR_LEN};
+use crate::member_reading::object;
+use crate::member_writing::{put_closing, put_opening};
+use crate::stop::{Stop, Why};
+use crate::tag_reading::{opens_next, tag};
+use bac_value::{
+    Class, Form, NoMemory, ObjectIdentifier, Octets, kinds, write_boolean, write_object_identifier,
+};
+
+/// Where a file is read, and how much of it (clause 14.1): octets from a position on, or records from a record on.
+#[derive(Clone, Copy, Debug, PartialEq, Eq)]
+pub enum ReadAccess {
+    Stream { start: i64, count: u64 },
+    Records { start: i64, count: u64 },
+}
+
+/// Which file is read, and where (clause 14.1).
+#[derive(Clone, Copy, Debug, PartialEq, Eq)]
+pub struct ReadFile {
+    /// The file.
+    pub file: ObjectIdentifier,
+    /// Where, and how much.
+    pub access: ReadAccess,
+}
+
+/// What was read of a file (clause 14.1): octets from a position on, and whether they reach the file's end.
+#[derive(Clone, Copy, Debug, Drop)]
+pub struct FileRead<C> {
+    /// Whether the file ends with these octets.
+    pub end_of_file: bool,
+    /// The position of the first octet.
+    pub start: i64,
+    /// The octets.
+    pub content: C,
+}
+
+/// The members of a request, and what is after them.
+#[tactic(auto, unfolding(crate::specs::AtomicReadFile::read_access_at))]
+pub(crate) fn take_read_file<O: Octets>(octets: O) -> Result<(ReadFile, O), Stop>
+    ensures { Reads read_file_view O.octets (O.octets octets) result read_file_at }
+{
+    let (file, rest) = object(octets, Class::Application, kinds::OBJECT_IDENTIFIER)?;
+    if opens_next(rest, 1)? {
+        let ((start, count), rest) = take_extent(rest, 1)?;
+        let access = ReadAccess::Records { start, count };
+        Ok((ReadFile { file, access }, rest))
+    } else {
+        let ((start, count), rest) = take_extent(rest, 0)?;
+        let access = ReadAccess::Stream { start, count };
+        Ok((ReadFile { file, access }, rest))
+    }
+}
+
+/// The members of the service data, and what is after them.
+#[tactic(auto, unfolding(crate::specs::AtomicReadFile::end_of_file_at, crate::specs::AtomicReadFile::file_read_at))]
+pub(crate) fn take_file_read<O: Octets>(octets: O) -> Result<(FileRead<O>, O), Stop>
+    ensures { Reads (file_read_view O.octets) O.octets (O.octets octets) result file_read_at }
+{
+    let left = octets.len();
+    let (tag, rest) = tag(octets)?;
+    let Form::Boolean(end_of_file) = tag.form else {
+        return Err(Stop::new(Why::Unexpected, left));
+    };
+    let ((start, content), rest) = take_content(rest)?;
+    let read = FileRead {
+        end_of_file,
+        start,
+        content,
+    };
+    Ok((read, rest))
+}
+
+/// Appends an extent between a pair of tags of that number.
+fn put_enclosed_extent(
+    number: u8,
+    start: i64,
+    count: u64,
+    out: &mut Vec<u8>,
+) -> Result<(), NoMemory>
+    requires { number < 255 }
+    ensures ok { Appends result out.old out.new (enclosed_spelling number (extent_spelling start count)) }
+    ensures len { Lengthens result out.old out.new (enclosed_spelling number (extent_spelling start count)) }
+    ensures full { NeedsRoom result out.old (enclosed_spelling number (extent_spelling start count)) }
+    ensures grows { vec_capacity out.old ≤ vec_capacity out.new }
+{
+    put_opening(number, out)?;
+    put_extent(start, count, out)?;
+    put_closing(number, out)
+}
+
+/// Appends the members of a request.
+pub(crate) fn put_read_file(read: ReadFile, out: &mut Vec<u8>) -> Result<(), NoMemory>
+    ensures ok { Appends result out.old out.new (read_file_spelling (object_identifier_view read.file) (read_access_view read.access)) }
+    ensures len { Lengthens result out.old out.new (read_file_spelling (object_identifier_view read.file) (read_access_view read.access)) }
+    ensures full { NeedsRoom result out.old (read_file_spelling (object_identifier_view read.file) (read_access_view read.access)) }
+    ensures grows { vec_capacity out.old ≤ vec_capacity out.new }
+{
+    write_object_identifier(Class::Application, kinds::OBJECT_IDENTIFIER, read.file, out)?;
+    match read.access {
+        ReadAccess::Stream { start, count } => put_enclosed_extent(0, start, count, out),
+        ReadAccess::Records { start, count } => put_enclosed_extent(1, start, count, out),
+    }
+}
+
+/// Appends the members of the service data.
+pub(crate) fn put_file_read(read: FileRead<Content<'_>>, out: &mut Vec<u8>) -> Result<(), NoMemory>
+    ensures ok { Appends result out.old out.new (file_read_spelling read.entry.end_of_file read.entry.start read.entry.content.octets.now) }
+    ensures len { Lengthens result out.old out.new (file_read_spelling read.entry.end_of_file read.entry.start read.entry.content.octets.now) }
+    ensures full { NeedsRoom result out.old (file_read_spelling read.entry.end_of_file read.entry.start read.entry.content.octets.now) }
+    ensures grows { vec_capacity out.old ≤ vec_capacity out.new }
+{
+    write_boolean(read.end_of_file, out)?;
+    put_content(read.start, read.content, out)
+}
+
+/// How many octets the members of a request have.
+pub(crate) fn read_file_len(read: ReadFile) -> usize
+    ensures len { result ≡ read_file_length (read_access_view read.access) }
+    ensures is { IsReadFile (object_identifier_view read.file) (read_access_view read.access) }
+{
+    let extent = match read.access {
+        ReadAccess::Stream { start, count } => extent_len(start, count),
+        ReadAccess::Records { start, count } => extent_len(start, count),
+    };
+    OBJECT_LEN + extent + PAIR_LEN
+}
+
+/// How many octets the members of the service data have.
+pub(crate) fn file_read_len(read: FileRead<Content<'_>>) -> usize
+    ensures len { result ≡ file_read_length read.entry.start (length read.entry.content.octets.now) }
+    ensures is { IsFileRead read.entry.start read.entry.content.octets.now }
+{
+    1 + content_len(read.start, read.content)
+}

@@ -1,0 +1,55 @@
+//! ReadProperty (clause 15.5). A request is a reference alone.
+ghost use Rattle.std.specs.Prelude.{◌≡◌, ◌+◌, ◌++◌, ◌<◌, ◌≤◌, OnOk, OnErr, length, vec_len, vec_capacity};
+ghost use Rattle.bac_value.specs.Appending.{Appends, Lengthens, NeedsRoom};
+ghost use Rattle.bac_value.specs.Steps.{Reads};
+ghost use Rattle.bac_service.specs.ReadProperty.{IsPropertyRead, property_read_at, property_read_length, property_read_spelling, property_read_view};
+ghost use Rattle.bac_service.specs.References.{property_reference_view};
+
+use crate::member_len::PAIR_LEN;
+use crate::member_reading::enclosed_values;
+use crate::member_writing::put_values;
+use crate::property::{PropertyReference, property_reference, put_reference, reference_len};
+use crate::stop::Stop;
+use bac_value::{Data, NoMemory, Octets};
+
+/// What a property is (clause 15.5).
+#[derive(Clone, Copy, Debug, Drop)]
+pub struct PropertyRead<D> {
+    /// The property that was read.
+    pub reference: PropertyReference,
+    /// Its values.
+    pub values: D,
+}
+
+/// The members of the service data, and what is after them.
+#[tactic(auto, unfolding(crate::specs::ReadProperty::property_read_at))]
+pub(crate) fn take_property_read<O: Octets>(octets: O) -> Result<(PropertyRead<O>, O), Stop>
+    ensures { Reads (property_read_view O.octets) O.octets (O.octets octets) result property_read_at }
+{
+    let (reference, rest) = property_reference(octets)?;
+    let (values, rest) = enclosed_values(rest)?;
+    Ok((PropertyRead { reference, values }, rest))
+}
+
+/// Appends the members of the service data.
+pub(crate) fn put_property_read(
+    read: PropertyRead<Data<'_>>,
+    out: &mut Vec<u8>,
+) -> Result<(), NoMemory>
+    ensures ok { Appends result out.old out.new (property_read_spelling (property_reference_view read.entry.reference) read.entry.values.octets.now) }
+    ensures len { Lengthens result out.old out.new (property_read_spelling (property_reference_view read.entry.reference) read.entry.values.octets.now) }
+    ensures full { NeedsRoom result out.old (property_read_spelling (property_reference_view read.entry.reference) read.entry.values.octets.now) }
+    ensures grows { vec_capacity out.old ≤ vec_capacity out.new }
+{
+    put_reference(read.reference, out)?;
+    put_values(read.values.octets, out)
+}
+
+/// How many octets the members of the service data have.
+#[tactic(auto, using(crate::proofs::MembersSpelled::whole_data))]
+pub(crate) fn property_read_len(read: PropertyRead<Data<'_>>) -> usize
+    ensures len { result ≡ property_read_length (property_reference_view read.entry.reference) (length read.entry.values.octets.now) }
+    ensures is { IsPropertyRead (property_reference_view read.entry.reference) read.entry.values.octets.now }
+{
+    reference_len(read.reference) + Octets::len(read.values.octets) + PAIR_LEN
+}
