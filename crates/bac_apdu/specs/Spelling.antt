@@ -1,6 +1,7 @@
 -- The one spelling of each APDU (clause 20.1).
 use Rattle.std.specs.Prelude.{◌≡◌, ℕ, ◌+◌, ◌*◌, ◌/◌, ◌%◌, ◌^◌, Bool, true, false, nat_lt, ◌&&◌, if◌then◌else◌, IsTrue, List, [], ◌∷◌, ◌++◌, Option, Some, None}
 use Rattle.std.specs.Int.{w16, w32, to_be_bytes}
+pub use Rattle.bac_apdu.specs.declared.bits.TheConstants.{SEG, MOR, SA, NAK, SRV}
 use Rattle.bac_apdu.specs.Apdu.{Limits, Segment, Apdu, ConfirmedRequest, UnconfirmedRequest, SimpleAck, ComplexAck, SegmentAck, Error, Reject, Abort}
 
 -- windows are 1 to 127 (clause 20.1.2.8)
@@ -29,24 +30,7 @@ apdu_fits (Error invoke_id choice class code) = nat_lt class (2 ^ 32) && nat_lt 
 apdu_fits (Reject invoke_id reason) = true
 apdu_fits (Abort server invoke_id reason) = true
 
--- The bits of the first octet, by their weights (clause 20.1.2.1 to 20.1.2.3, 20.1.6.1, 20.1.6.2 and 20.1.9.1):
--- the APDU is a segment, more segments follow, and the sender takes segments
-abbrev pub SEG : ℕ
-SEG = 8
-
-abbrev pub MOR : ℕ
-MOR = 4
-
-abbrev pub SA : ℕ
-SA = 2
-
--- a segment was out of order, and the sender is the server
-abbrev pub NAK : ℕ
-NAK = 2
-
-abbrev pub SRV : ℕ
-SRV = 1
-
+-- what a bit of the first octet adds, by its weight (clause 20.1.2.1 to 20.1.2.3, 20.1.6.1, 20.1.6.2 and 20.1.9.1)
 abbrev pub bit : Bool → ℕ → ℕ
 bit b weight = if b then weight else 0
 

@@ -1,7 +1,8 @@
 //! Reading of APDUs.
 
 ghost use Rattle.std.specs.Prelude.{◌≡◌, ℕ, List, IfOk, IfErr, Bool, ◌&&◌, not, ◌<◌, ◌%◌, ◌/◌};
-ghost use Rattle.bac_apdu.specs.Spelling.{SpellsApdu, IsNoApdu, MOR, SEG};
+ghost use Rattle.bac_apdu.specs.declared.bits.TheConstants.{MOR, SEG};
+ghost use Rattle.bac_apdu.specs.Spelling.{SpellsApdu, IsNoApdu};
 ghost use Rattle.bac_apdu.specs.Views.{apdu_view};
 ghost use Rattle.bac_value.specs.Steps.{ReadsAll, has_bit};
 ghost use Rattle.bac_apdu.specs.Reading.{confirmed_at, unconfirmed_at, simple_ack_at, complex_ack_at, segment_ack_at, reject_at, error_at};

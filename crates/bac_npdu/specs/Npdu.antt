@@ -3,7 +3,7 @@ use Rattle.std.specs.Prelude.{◌≡◌, ℕ, ◌+◌, ◌<◌, ◌^◌, Bool, t
 use Rattle.std.specs.Prelude.{None, is_some}
 use Rattle.std.specs.Int.{w16, to_be_bytes}
 use Rattle.bac_npdu.specs.declared.control.TheConstants.{NETWORK_MESSAGE, DESTINATION, SOURCE, EXPECTING_REPLY}
-use Rattle.bac_npdu.specs.Peers.{RouteView, route_fits}
+use Rattle.bac_npdu.specs.Peers.{RouteView, route_fits, ALL_NETWORKS}
 
 -- where an NPDU is to be routed to (clause 6.2.2); network 65,535 is the global broadcast, and no octets of address a broadcast on the network
 pub record DestinationView : Type 0 where
@@ -27,7 +27,7 @@ pub record NpduView : Type 0 where
 
 -- addresses have at most 8 octets, and none where the network is 65,535 (both own limits of this profile)
 abbrev pub destination_fits : ℕ → ℕ → Bool
-destination_fits network octets = nat_lt 0 network && nat_lt network 65536 && nat_lt octets 9 && (nat_lt network 65535 || octets == 0)
+destination_fits network octets = nat_lt 0 network && nat_lt network 65536 && nat_lt octets 9 && (nat_lt network ALL_NETWORKS || octets == 0)
 
 abbrev pub message_fits : ℕ → Option ℕ → Bool
 message_fits kind None = nat_lt kind 128

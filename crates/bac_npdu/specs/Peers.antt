@@ -5,6 +5,7 @@ use Rattle.std.specs.declared.cmp.Ordering.{Ordering}
 use Rattle.std.specs.Option.{option_cmp}
 use Rattle.std.specs.Cmp.{IsTotalOrder, then_total, on_total, nat_cmp_total}
 use Rattle.std.specs.Cmp.Lexicographic.{slice_cmp, lists_total, options_total}
+pub use Rattle.bac_npdu.specs.declared.route.TheConstants.{ALL_NETWORKS}
 
 -- a device on a network behind a router: the network's number, and the device's address there (clause 6.2.2)
 pub record RouteView : Type 0 where
@@ -18,7 +19,7 @@ pub record PeerView : Type 0 where
 
 -- networks are numbered 1 to 65,534, and addresses have 1 to 8 octets (8 is the own limit of this profile)
 abbrev pub route_fits : RouteView → Bool
-route_fits r = nat_lt 0 r.network && nat_lt r.network 65535 && nat_lt 0 (length r.address) && nat_lt (length r.address) 9
+route_fits r = nat_lt 0 r.network && nat_lt r.network ALL_NETWORKS && nat_lt 0 (length r.address) && nat_lt (length r.address) 9
 
 -- by network number, then by the address octets as lists, a front first
 abbrev pub route_cmp : RouteView → RouteView → Ordering

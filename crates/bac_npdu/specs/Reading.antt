@@ -6,7 +6,7 @@ use Rattle.bac_value.specs.Steps.{◌>>=◌, octet_at, has_bit}
 use Rattle.bac_npdu.specs.declared.fault.FrameFault.{FrameFault}
 use Rattle.bac_npdu.specs.declared.fault.FrameFault.TheVariants.{Truncated, Version, ReservedBits, BadNet, BadLength, NotUnicast}
 use Rattle.bac_npdu.specs.declared.control.TheConstants.{NETWORK_MESSAGE, RESERVED_HIGH, DESTINATION, RESERVED_LOW, SOURCE, EXPECTING_REPLY}
-use Rattle.bac_npdu.specs.Peers.{RouteView}
+use Rattle.bac_npdu.specs.Peers.{RouteView, ALL_NETWORKS}
 use Rattle.bac_npdu.specs.Npdu.{DestinationView, MessageView, NpduView}
 
 unfoldable pub word_at : List ℕ → Result (ℕ × List ℕ) FrameFault
@@ -17,10 +17,10 @@ cut_at count bytes = if nat_lt (length bytes) count then Err Truncated else Ok (
 
 -- limits of the network's number and of the count of address octets, at a source and at a destination
 abbrev pub network_in : Bool → ℕ → Bool
-network_in is_source network = nat_lt 0 network && (nat_lt network 65535 || (if is_source then false else true))
+network_in is_source network = nat_lt 0 network && (nat_lt network ALL_NETWORKS || (if is_source then false else true))
 
 abbrev pub count_in : Bool → ℕ → ℕ → Bool
-count_in is_source network count = nat_lt count 9 && (if is_source then nat_lt 0 count else (nat_lt network 65535 || count == 0))
+count_in is_source network count = nat_lt count 9 && (if is_source then nat_lt 0 count else (nat_lt network ALL_NETWORKS || count == 0))
 
 unfoldable pub address_at : Bool → ℕ → List ℕ → Result (RouteView × List ℕ) FrameFault
 address_at is_source network bytes = do
