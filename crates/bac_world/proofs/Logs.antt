@@ -77,12 +77,7 @@ unperformed n (f ∷ log) (v ∷ values) h x = go f v h.0 (unperformed n log val
     go (octets.Fact.Asked m c s q) (Asked k d u r) h again x = again x
     go (octets.Fact.Performed m q p) (Performed k r v) h again x = (λ e. x.0 (sym h.0 ∙ e), again x.1)
     go (octets.Fact.Ended m how) (Ended k v) h again x = again x
-    go (octets.Fact.Asked m c s q) (Performed k r v) h again x = absurd h
-    go (octets.Fact.Asked m c s q) (Ended k v) h again x = absurd h
-    go (octets.Fact.Performed m q p) (Asked k d u r) h again x = absurd h
-    go (octets.Fact.Performed m q p) (Ended k v) h again x = absurd h
-    go (octets.Fact.Ended m how) (Asked k d u r) h again x = absurd h
-    go (octets.Fact.Ended m how) (Performed k r v) h again x = absurd h
+    go _ _ h again x = absurd h
 
 pub unended : (n : ℕ) (log : List octets.Fact) (values : List Fact) → Pairwise FactMeans log values → octets.IsUnended n log → IsUnended n values
 unended n [] [] h x = tt
@@ -95,12 +90,7 @@ unended n (f ∷ log) (v ∷ values) h x = go f v h.0 (unended n log values h.1)
     go (octets.Fact.Asked m c s q) (Asked k d u r) h again x = again x
     go (octets.Fact.Performed m q p) (Performed k r v) h again x = again x
     go (octets.Fact.Ended m how) (Ended k v) h again x = (λ e. x.0 (sym h.0 ∙ e), again x.1)
-    go (octets.Fact.Asked m c s q) (Performed k r v) h again x = absurd h
-    go (octets.Fact.Asked m c s q) (Ended k v) h again x = absurd h
-    go (octets.Fact.Performed m q p) (Asked k d u r) h again x = absurd h
-    go (octets.Fact.Performed m q p) (Ended k v) h again x = absurd h
-    go (octets.Fact.Ended m how) (Asked k d u r) h again x = absurd h
-    go (octets.Fact.Ended m how) (Performed k r v) h again x = absurd h
+    go _ _ h again x = absurd h
 
 pub asks_counted : (log : List octets.Fact) (values : List Fact) → Pairwise FactMeans log values → asks_in values ≡ octets.asks_in log
 asks_counted [] [] h = refl
@@ -112,12 +102,7 @@ asks_counted (f ∷ log) (v ∷ values) h = go f v h.0 (asks_counted log values 
     go (octets.Fact.Asked m c s q) (Asked k d u r) h again = ap suc again
     go (octets.Fact.Performed m q p) (Performed k r v) h again = again
     go (octets.Fact.Ended m how) (Ended k v) h again = again
-    go (octets.Fact.Asked m c s q) (Performed k r v) h again = absurd h
-    go (octets.Fact.Asked m c s q) (Ended k v) h again = absurd h
-    go (octets.Fact.Performed m q p) (Asked k d u r) h again = absurd h
-    go (octets.Fact.Performed m q p) (Ended k v) h again = absurd h
-    go (octets.Fact.Ended m how) (Asked k d u r) h again = absurd h
-    go (octets.Fact.Ended m how) (Performed k r v) h again = absurd h
+    go _ _ h again = absurd h
 
 -- An ending, as a value.
 
@@ -138,6 +123,8 @@ performed_asked n r p (octets.Fact.Performed m q y ∷ log) o (inl e) =
 performed_asked n r p (octets.Fact.Performed m q y ∷ log) o (inr h) = let again = performed_asked n r p log o.2 h in (again.0, again.1, inr again.2)
 performed_asked n r p (octets.Fact.Ended m how ∷ log) o (inl e) = absurd cc
 performed_asked n r p (octets.Fact.Ended m how ∷ log) o (inr h) = let again = performed_asked n r p log o.2 h in (again.0, again.1, inr again.2)
+performed_asked n r p (octets.Fact.Changed node change ∷ log) o (inl e) = absurd cc
+performed_asked n r p (octets.Fact.Changed node change ∷ log) o (inr h) = let again = performed_asked n r p log o h in (again.0, again.1, inr again.2)
 
 -- octets mean one reply
 one_reply : (choice : ℕ) (r : machine.Reply) (p q : Reply) → MeansReply choice r p → MeansReply choice r q → p ≡ q
