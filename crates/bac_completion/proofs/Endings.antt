@@ -69,12 +69,7 @@ endings_alike n (f ∷ log) (v ∷ values) h = go f v h.0 (endings_alike n log v
     go (octets.Fact.Ended m how) (Ended k v) h again =
         ap (λ (i : ℕ). if nat_eq i n then suc (endings_of n values) else endings_of n values) h.0
         ∙ ap (λ (i : ℕ). if nat_eq m n then suc i else i) again
-    go (octets.Fact.Asked m c s q) (Performed k r v) h again = absurd h
-    go (octets.Fact.Asked m c s q) (Ended k v) h again = absurd h
-    go (octets.Fact.Performed m q p) (Asked k d u r) h again = absurd h
-    go (octets.Fact.Performed m q p) (Ended k v) h again = absurd h
-    go (octets.Fact.Ended m how) (Asked k d u r) h again = absurd h
-    go (octets.Fact.Ended m how) (Performed k r v) h again = absurd h
+    go _ _ h again = absurd h
 
 -- an ask has endings where it has ended
 some_ended : (n : ℕ) (log : List octets.Fact) → (net.endings_of n log ≡ 0) ⊎ HasEnded n log
@@ -85,6 +80,7 @@ some_ended n (f ∷ log) = go f (some_ended n log)
     go f (inr e) = inr (e.0, inr e.1)
     go (octets.Fact.Asked m c s q) (inl none) = inl none
     go (octets.Fact.Performed m q p) (inl none) = inl none
+    go (octets.Fact.Changed node change) (inl none) = inl none
     go (octets.Fact.Ended m how) (inl none) = by (nat_eq m n) refl
       where
         by : (b : Bool) → nat_eq m n ≡ b → (net.endings_of n (octets.Fact.Ended m how ∷ log) ≡ 0) ⊎ HasEnded n (octets.Fact.Ended m how ∷ log)
