@@ -25,7 +25,7 @@ use Rattle.bac_completion.specs.RoundTrip.{IsAnswered}
 
 -- In a log that is right.
 
-not_performed : (n : ℕ) (r : Request) (p : plain.Reply) (log : List Fact) → IsUnperformed n log → Has (Performed n r p) log → ⊥
+pub not_performed : (n : ℕ) (r : Request) (p : plain.Reply) (log : List Fact) → IsUnperformed n log → Has (Performed n r p) log → ⊥
 not_performed n r p [] u h = h
 not_performed n r p (Asked m c s q ∷ log) u (inl e) = absurd cc
 not_performed n r p (Asked m c s q ∷ log) u (inr h) = not_performed n r p log u h

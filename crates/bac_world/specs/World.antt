@@ -8,7 +8,7 @@ use Rattle.bac_npdu.specs.Peers.{PeerView}
 use Rattle.bac_npdu.specs.Datagram.{Means}
 use Rattle.bac_service.specs.Values.{Request}
 use Rattle.bac_store.specs.AtNode as at_node
-use Rattle.bac_store.specs.AtNode.{changed}
+use Rattle.bac_store.specs.AtNode.{changed, change_fault}
 use Rattle.bac_protocol.specs.declared.times.TheConstants.{LIFE}
 use Rattle.bac_protocol.specs.Service.{Octets}
 use Rattle.bac_protocol.specs.Wire.{is_from_client}
@@ -232,10 +232,11 @@ pub record Ticks (old : World) (i : ℕ) (new : World) : Type 0 where
   pub tick : NodeTick old.now before after outcome
   pub acts : Acts old i after outcome new
 
--- a change at a node itself: its store is the changed one, and the change enters the log; nothing is sent, and nothing else changes
+-- a change at a node itself, where it has no fault: its store is the changed one, and the change enters the log; nothing is sent, and nothing else changes
 pub record IsChanged (old : World) (i : ℕ) (c : at_node.Change) (new : World) : Type 0 where
   pub before : Node
   pub at : slice_get old.nodes i ≡ Some before
+  pub may : change_fault before.store c ≡ None
   pub nodes : IsWithNode old.nodes i (record before { store = changed c before.store }) new.nodes
   pub now : new.now ≡ old.now
   pub copies : new.copies ≡ old.copies
