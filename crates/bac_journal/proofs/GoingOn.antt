@@ -8,7 +8,6 @@ use Rattle.bac_npdu.specs.Peers.{PeerView}
 use Rattle.bac_service.specs.Values.{Request, choice_of}
 use Rattle.bac_service.specs.Services.{reads_reply}
 use Rattle.bac_store.specs.AtNode as at_node
-use Rattle.bac_store.specs.AtNode.{changed}
 use Rattle.bac_protocol.specs.Context.{Settings}
 use Rattle.bac_protocol.specs.Service.{Octets, Readable}
 use Rattle.bac_protocol.specs.Wire.{is_from_client}
@@ -20,7 +19,7 @@ use Rattle.bac_ends.specs.Keys.{PeerKey, same_key}
 use Rattle.bac_ends.specs.Ends.{Client, ClientEnd, Held, Accepted, client_hears_at, client_hears_held, key_of}
 use Rattle.bac_ends.specs.Ends.Held.{Open, Closed}
 use Rattle.bac_entry.specs.Services.{service_of}
-use Rattle.bac_world.specs.Node.{Node, Outcome, IsHeardBy, NodeOn, NodeTick, NodeAsks}
+use Rattle.bac_world.specs.Node.{Node, Outcome, IsHeardBy, NodeOn, NodeTick, NodeAsks, with_change}
 use Rattle.bac_world.specs.Once.{IsOnce}
 use Rattle.bac_world.specs.World.{World, Event, Copy, link_at, stores_of, peer_at, is_deliverable, IsWithNode, Acts, Hears, IsAsked, IsChanged}
 use Rattle.bac_world.specs.World.{DeliversIf, WorldStep, WorldRun, IsFresh, IsBounded}
@@ -149,9 +148,9 @@ tidy_asked w w' t i s limits r k =
 tidy_changed : (w w' : World) → Tidy w → (i : ℕ) (c : at_node.Change) → IsChanged w i c w' → Tidy w'
 tidy_changed w w' t i c k = record {
   punctual = λ j a at. subst (λ (now : ℕ). a.latest ≤ now) (sym k.now) (each_with (λ m b. b.latest ≤ w.now) w.nodes w'.nodes i
-      (record (k.before) { store = changed c k.before.store }) k.nodes (t.punctual i k.before k.at) t.punctual j a at);
+      (with_change c k.before) k.nodes (t.punctual i k.before k.at) t.punctual j a at);
   counted = λ j a at. each_with (λ m b. b.clients.asked ≡ asks_by m w.notes) w.nodes w'.nodes i
-      (record (k.before) { store = changed c k.before.store }) k.nodes (t.counted i k.before k.at) t.counted j a at ∙ sym (ap (asks_by j) k.notes);
+      (with_change c k.before) k.nodes (t.counted i k.before k.at) t.counted j a at ∙ sym (ap (asks_by j) k.notes);
 }
 
 tidy_delivered : (b : Bool) (w : World) (c : Copy) (w' : World) → Tidy w → DeliversIf b w c w' → Tidy w'

@@ -213,6 +213,25 @@ impl Store {
         }
     }
 
+    /// Why a change at the node itself would not be made, were there memory: the first fault of those of [`Store::change`]. It takes
+    /// no memory.
+    pub fn fault_of(&self, change: &Change) -> Option<ChangeFault>
+        ensures { result ≡ change_fault self.now (change_view change.now) }
+    {
+        match change {
+            Change::Value {
+                object,
+                property,
+                octets,
+            } => permitted_values(&self.objects, *object, *property, octets).err(),
+            Change::File { object, octets } => permit_contents(
+                &self.objects,
+                *object,
+                octets,
+            ).err(),
+        }
+    }
+
     /// An equal store. An Err where memory ran out, which it cannot for a store without objects; this store is as before.
     pub fn copy(&self, alloc: Global) -> Result<Store, NoMemory>
         ensures same { IfOk result (λ s. s ≡ self.now) }

@@ -25,7 +25,7 @@ use Rattle.bac_ends.specs.Keys.{same_key}
 use Rattle.bac_ends.specs.Sends.{Pairwise}
 use Rattle.bac_ends.specs.Ends.{Client}
 use Rattle.bac_entry.specs.Services.{service_of}
-use Rattle.bac_world.specs.Node.{Node, Outcome, IsDropped, IsHeard, IsHeardBy, NodeOn}
+use Rattle.bac_world.specs.Node.{Node, Outcome, IsDropped, IsHeard, IsHeardBy, NodeOn, with_change}
 use Rattle.bac_world.specs.Once.{Fact, Stores, IsOnce, with_changed}
 use Rattle.bac_world.specs.Once.Fact.{Changed}
 use Rattle.bac_world.specs.World.{World, Event, Copy, Note, link_at, stores_of, newest, later, peer_at, Acts, DeliversIf, Delivers, HearsNoise}
@@ -175,10 +175,10 @@ module _ (links : ℕ → Option Octets) (apart : (i j : ℕ) (l : Octets) → l
     changed_over = record {
       now = h.now ∙ sym s.now;
       asks = h.asks ∙ sym (ap (λ (l : List Note). length l) s.notes);
-      linked = linked_with links w.nodes w'.nodes i s.before (record (s.before) { store = changed c s.before.store }) s.nodes s.at refl h.linked;
+      linked = linked_with links w.nodes w'.nodes i s.before (with_change c s.before) s.nodes s.at refl h.linked;
       nodes = λ j a at. subst (λ (l : List Note). NodeFits links apart x n.now l (notes_change n i []) j a) (sym s.notes)
           (each_with (λ k b. NodeFits links apart x n.now w.notes (notes_change n i []) k b) w.nodes w'.nodes i
-          (record (s.before) { store = changed c s.before.store }) s.nodes
+          (with_change c s.before) s.nodes
           (other_store n.now w.notes n i [] i s.before (changed c s.before.store) (h.nodes i s.before s.at))
           (λ k b there. other_store n.now w.notes n i [] k b b.store (h.nodes k b there)) j a at);
       noted = λ key t is. ap (newest key) s.notes ∙ h.noted key t is;

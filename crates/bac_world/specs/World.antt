@@ -8,7 +8,7 @@ use Rattle.bac_npdu.specs.Peers.{PeerView}
 use Rattle.bac_npdu.specs.Datagram.{Means}
 use Rattle.bac_service.specs.Values.{Request}
 use Rattle.bac_store.specs.AtNode as at_node
-use Rattle.bac_store.specs.AtNode.{changed, change_fault}
+use Rattle.bac_store.specs.AtNode.{change_fault}
 use Rattle.bac_protocol.specs.declared.times.TheConstants.{LIFE}
 use Rattle.bac_protocol.specs.Service.{Octets}
 use Rattle.bac_protocol.specs.Wire.{is_from_client}
@@ -19,7 +19,7 @@ use Rattle.bac_ends.specs.Sends.{Datagram, Pairwise}
 use Rattle.bac_ends.specs.Meanings.{Finish}
 use Rattle.bac_ends.specs.Ends.{Accepted}
 use Rattle.bac_world.specs.Services as service
-use Rattle.bac_world.specs.Node.{Node, Outcome, Refusal, NodeOn, NodeTick, NodeAsks, NodeRefuses}
+use Rattle.bac_world.specs.Node.{Node, Outcome, Refusal, NodeOn, NodeTick, NodeAsks, NodeRefuses, with_change}
 use Rattle.bac_world.specs.Once.{Fact, Stores}
 use Rattle.bac_world.specs.Once.Fact.{Asked, Performed, Ended, Changed}
 
@@ -237,7 +237,7 @@ pub record IsChanged (old : World) (i : ℕ) (c : at_node.Change) (new : World) 
   pub before : Node
   pub at : slice_get old.nodes i ≡ Some before
   pub may : change_fault before.store c ≡ None
-  pub nodes : IsWithNode old.nodes i (record before { store = changed c before.store }) new.nodes
+  pub nodes : IsWithNode old.nodes i (with_change c before) new.nodes
   pub now : new.now ≡ old.now
   pub copies : new.copies ≡ old.copies
   pub notes : new.notes ≡ old.notes
