@@ -51,6 +51,10 @@ refused_line fault = codes "refused " ++ decimal fault ++ line_end
 abbrev pub performed_line : (number : ℕ) → List ℕ
 performed_line number = codes "performed " ++ decimal number ++ line_end
 
+-- a node changed its own store
+abbrev pub changed_line : (node : ℕ) → List ℕ
+changed_line node = codes "changed " ++ decimal node ++ line_end
+
 -- an ask has ended
 abbrev pub ended_line : (number : ℕ) → Ending → List ℕ
 ended_line number how = codes "ended " ++ decimal number ++ codes " " ++ ending_line how

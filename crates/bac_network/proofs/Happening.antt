@@ -3,13 +3,15 @@ use Rattle.std.proofs.Common.{◌≡◌, ◌↔◌, ℕ, Bool, List, Option, Som
 use Rattle.std.proofs.Common.{refl, sym, ap, subst, inl, inr, ◌∙◌}
 use Rattle.std.specs.Option.{option_map}
 use Rattle.bac_protocol.specs.Service.{Octets}
+use Rattle.bac_store.specs.AtNode.{change_fault}
 use Rattle.bac_store.specs.Stores.{Store}
+use Rattle.bac_store.specs.declared.change_fault.ChangeFault.{ChangeFault}
 use Rattle.bac_network.specs.Histories.{WorldView}
 use Rattle.bac_requester.specs.declared.ask_fault.AskFault.{AskFault}
 use Rattle.bac_world.specs.Node.{Node}
 use Rattle.bac_world.specs.World.{World, Event, Copy, WorldStep, link_at, is_deliverable}
-use Rattle.bac_world.specs.World.Event.{Ask, Deliver, Noise, Tick, Advance}
-use Rattle.bac_network.specs.Steps.{NamesNoNode, NamesNoCopy, PassesClock, TakesMemory, Happens, HappensTelling, Tells, Untells}
+use Rattle.bac_world.specs.World.Event.{Ask, Deliver, Noise, Tick, Advance, Change}
+use Rattle.bac_network.specs.Steps.{NamesNoNode, NamesNoCopy, PassesClock, RefusesChange, TakesMemory, Happens, HappensTelling, Tells, Untells}
 use Rattle.bac_network.specs.declared.fault.WorldFault.{WorldFault}
 use Rattle.bac_network.specs.declared.fault.WorldFault.TheVariants as fault
 
@@ -36,6 +38,7 @@ module _ (overtake : ℕ) (old new : World) where
   no_node (Noise node from octets) (inr h) n = none_some (slice_get old.nodes node) h.node n h.at
   no_node (Tick node) h n = none_some (slice_get old.nodes node) h.before n h.at
   no_node (Advance by) h n = n
+  no_node (Change node c) h n = none_some (slice_get old.nodes node) h.before n h.at
 
   no_copy : (e : Event) → WorldStep overtake old e new → NamesNoCopy old e → ⊥
   no_copy (Ask client server limits r) h n = n
@@ -43,6 +46,7 @@ module _ (overtake : ℕ) (old new : World) where
   no_copy (Noise node from octets) h n = n
   no_copy (Tick node) h n = n
   no_copy (Advance by) h n = n
+  no_copy (Change node c) h n = n
 
   node_or_copy : (e : Event) → NamesNoNode old e → NamesNoCopy old e → ⊥
   node_or_copy (Ask client server limits r) n c = c
@@ -50,6 +54,7 @@ module _ (overtake : ℕ) (old new : World) where
   node_or_copy (Noise node from octets) n c = c
   node_or_copy (Tick node) n c = c
   node_or_copy (Advance by) n c = n
+  node_or_copy (Change node d) n c = c
 
   node_or_clock : (e : Event) → NamesNoNode old e → PassesClock old e → ⊥
   node_or_clock (Ask client server limits r) n c = c
@@ -57,6 +62,7 @@ module _ (overtake : ℕ) (old new : World) where
   node_or_clock (Noise node from octets) n c = c
   node_or_clock (Tick node) n c = c
   node_or_clock (Advance by) n c = n
+  node_or_clock (Change node d) n c = c
 
   copy_or_clock : (e : Event) → NamesNoCopy old e → PassesClock old e → ⊥
   copy_or_clock (Ask client server limits r) n c = n
@@ -64,6 +70,7 @@ module _ (overtake : ℕ) (old new : World) where
   copy_or_clock (Noise node from octets) n c = n
   copy_or_clock (Tick node) n c = n
   copy_or_clock (Advance by) n c = n
+  copy_or_clock (Change node d) n c = n
 
   copy_or_memory : (e : Event) → NamesNoCopy old e → TakesMemory overtake old e → ⊥
   copy_or_memory (Ask client server limits r) n m = n
@@ -71,6 +78,7 @@ module _ (overtake : ℕ) (old new : World) where
   copy_or_memory (Noise node from octets) n m = n
   copy_or_memory (Tick node) n m = n
   copy_or_memory (Advance by) n m = n
+  copy_or_memory (Change node d) n m = n
 
   clock_or_memory : (e : Event) → PassesClock old e → TakesMemory overtake old e → ⊥
   clock_or_memory (Ask client server limits r) n m = n
@@ -78,6 +86,62 @@ module _ (overtake : ℕ) (old new : World) where
   clock_or_memory (Noise node from octets) n m = n
   clock_or_memory (Tick node) n m = n
   clock_or_memory (Advance by) n m = m
+  clock_or_memory (Change node d) n m = n
+
+  no_refusal : (e : Event) → WorldStep overtake old e new → (why : ChangeFault) → RefusesChange old e why → ⊥
+  no_refusal (Change node c) h why r =
+      let same : Some h.before ≡ Some r.0 = sym h.at ∙ r.1 in
+      let node_is : h.before ≡ r.0 = cc in
+      none_some (change_fault h.before.store c) why h.may (ap (λ (a : Node). change_fault a.store c) node_is ∙ r.2)
+  no_refusal (Ask client server limits q) h why r = r
+  no_refusal (Deliver number) h why r = r
+  no_refusal (Noise node from octets) h why r = r
+  no_refusal (Tick node) h why r = r
+  no_refusal (Advance by) h why r = r
+
+  node_or_refusal : (e : Event) → NamesNoNode old e → (why : ChangeFault) → RefusesChange old e why → ⊥
+  node_or_refusal (Change node c) n why r = none_some (slice_get old.nodes node) r.0 n r.1
+  node_or_refusal (Ask client server limits q) n why r = r
+  node_or_refusal (Deliver number) n why r = r
+  node_or_refusal (Noise node from octets) n why r = r
+  node_or_refusal (Tick node) n why r = r
+  node_or_refusal (Advance by) n why r = r
+
+  copy_or_refusal : (e : Event) → NamesNoCopy old e → (why : ChangeFault) → RefusesChange old e why → ⊥
+  copy_or_refusal (Change node c) n why r = n
+  copy_or_refusal (Ask client server limits q) n why r = r
+  copy_or_refusal (Deliver number) n why r = r
+  copy_or_refusal (Noise node from octets) n why r = r
+  copy_or_refusal (Tick node) n why r = r
+  copy_or_refusal (Advance by) n why r = r
+
+  clock_or_refusal : (e : Event) → PassesClock old e → (why : ChangeFault) → RefusesChange old e why → ⊥
+  clock_or_refusal (Change node c) n why r = n
+  clock_or_refusal (Ask client server limits q) n why r = r
+  clock_or_refusal (Deliver number) n why r = r
+  clock_or_refusal (Noise node from octets) n why r = r
+  clock_or_refusal (Tick node) n why r = r
+  clock_or_refusal (Advance by) n why r = r
+
+  memory_or_refusal : (e : Event) → TakesMemory overtake old e → (why : ChangeFault) → RefusesChange old e why → ⊥
+  memory_or_refusal (Change node c) m why r = m why r
+  memory_or_refusal (Ask client server limits q) m why r = r
+  memory_or_refusal (Deliver number) m why r = r
+  memory_or_refusal (Noise node from octets) m why r = r
+  memory_or_refusal (Tick node) m why r = r
+  memory_or_refusal (Advance by) m why r = r
+
+  one_refusal : (e : Event) (why other : ChangeFault) → RefusesChange old e why → RefusesChange old e other → why ≡ other
+  one_refusal (Change node c) why other r s =
+      let same : Some r.0 ≡ Some s.0 = sym r.1 ∙ s.1 in
+      let node_is : r.0 ≡ s.0 = cc in
+      let one : Some why ≡ Some other = sym r.2 ∙ ap (λ (a : Node). change_fault a.store c) node_is ∙ s.2 in
+      cc
+  one_refusal (Ask client server limits q) why other r s = absurd r
+  one_refusal (Deliver number) why other r s = absurd r
+  one_refusal (Noise node from octets) why other r s = absurd r
+  one_refusal (Tick node) why other r s = absurd r
+  one_refusal (Advance by) why other r s = absurd r
 
   -- Each fault comes exactly where it says.
 
@@ -91,6 +155,7 @@ module _ (overtake : ℕ) (old new : World) where
     fails_node (Err fault.NoSuchDatagram) h n = absurd (node_or_copy e n h.0)
     fails_node (Err fault.ClockEnd) h n = absurd (node_or_clock e n h.0)
     fails_node (Err fault.NoMemory) h n = absurd ((h.0).1 n)
+    fails_node (Err (fault.BadChange why)) h n = absurd (node_or_refusal e n why h.0)
 
     fails_copy : (r : Result (Option AskFault) WorldFault) → How r → NamesNoCopy old e → r ≡ Err fault.NoSuchDatagram
     fails_copy (Ok told) h n = absurd (no_copy e h.0 n)
@@ -98,6 +163,7 @@ module _ (overtake : ℕ) (old new : World) where
     fails_copy (Err fault.NoSuchDatagram) h n = refl
     fails_copy (Err fault.ClockEnd) h n = absurd (copy_or_clock e n h.0)
     fails_copy (Err fault.NoMemory) h n = absurd (copy_or_memory e n (h.0).0)
+    fails_copy (Err (fault.BadChange why)) h n = absurd (copy_or_refusal e n why h.0)
 
     fails_clock : (r : Result (Option AskFault) WorldFault) → How r → PassesClock old e → r ≡ Err fault.ClockEnd
     fails_clock (Ok told) h n = absurd (h.2 n)
@@ -105,6 +171,15 @@ module _ (overtake : ℕ) (old new : World) where
     fails_clock (Err fault.NoSuchDatagram) h n = absurd (copy_or_clock e h.0 n)
     fails_clock (Err fault.ClockEnd) h n = refl
     fails_clock (Err fault.NoMemory) h n = absurd (clock_or_memory e n (h.0).0)
+    fails_clock (Err (fault.BadChange why)) h n = absurd (clock_or_refusal e n why h.0)
+
+    fails_change : (r : Result (Option AskFault) WorldFault) → How r → (why : ChangeFault) → RefusesChange old e why → r ≡ Err (fault.BadChange why)
+    fails_change (Ok told) h why n = absurd (no_refusal e h.0 why n)
+    fails_change (Err fault.NoSuchNode) h why n = absurd (node_or_refusal e h.0 why n)
+    fails_change (Err fault.NoSuchDatagram) h why n = absurd (copy_or_refusal e h.0 why n)
+    fails_change (Err fault.ClockEnd) h why n = absurd (clock_or_refusal e h.0 why n)
+    fails_change (Err fault.NoMemory) h why n = absurd (memory_or_refusal e (h.0).0 why n)
+    fails_change (Err (fault.BadChange other)) h why n = ap (λ (w : ChangeFault). Err (fault.BadChange w)) (one_refusal e other why h.0 n)
 
     pub node_exactly : (r : Result (Option AskFault) WorldFault) → How r → (IsErrOf r fault.NoSuchNode ↔ NamesNoNode old e)
     node_exactly r h = (λ is. (let k : How (Err fault.NoSuchNode) = subst How is h in k.0), fails_node r h)
@@ -114,6 +189,10 @@ module _ (overtake : ℕ) (old new : World) where
 
     pub clock_exactly : (r : Result (Option AskFault) WorldFault) → How r → (IsErrOf r fault.ClockEnd ↔ PassesClock old e)
     clock_exactly r h = (λ is. (let k : How (Err fault.ClockEnd) = subst How is h in k.0), fails_clock r h)
+
+    pub change_exactly : (r : Result (Option AskFault) WorldFault) → How r → (why : ChangeFault)
+        → (IsErrOf r (fault.BadChange why) ↔ RefusesChange old e why)
+    change_exactly r h why = (λ is. (let k : How (Err (fault.BadChange why)) = subst How is h in k.0), fails_change r h why)
 
     pub memory_only : (r : Result (Option AskFault) WorldFault) → How r → IsErrOf r fault.NoMemory → TakesMemory overtake old e
     memory_only r h is = let k : How (Err fault.NoMemory) = subst How is h in (k.0).0
@@ -160,6 +239,7 @@ IsNoAsk (Deliver number) = Unit {0}
 IsNoAsk (Noise node from octets) = Unit {0}
 IsNoAsk (Tick node) = Unit {0}
 IsNoAsk (Advance by) = Unit {0}
+IsNoAsk (Change node c) = Unit {0}
 
 tells_none : (old new : World) (e : Event) → IsNoAsk e → Tells None old e new
 tells_none old new (Ask client server limits r) n = absurd n
@@ -167,6 +247,7 @@ tells_none old new (Deliver number) n = tt
 tells_none old new (Noise node from octets) n = tt
 tells_none old new (Tick node) n = tt
 tells_none old new (Advance by) n = tt
+tells_none old new (Change node c) n = tt
 
 pub told_nothing : {A : Type 0} (overtake : ℕ) (old new : World) (e : Event) → IsNoAsk e → (done : Result A WorldFault)
     → (r : Result (Option AskFault) WorldFault) → Happens overtake old e done new → Untells done r → HappensTelling overtake old e r new

@@ -9,6 +9,7 @@ abbrev pub fault_number : WorldFault → ℕ
 fault_number fault.NoSuchNode = 1
 fault_number fault.NoSuchDatagram = 2
 fault_number fault.ClockEnd = 3
+fault_number (fault.BadChange why) = 9
 fault_number fault.NoMemory = 4
 
 abbrev pub new_fault_number : NewWorldFault → ℕ

@@ -4,9 +4,11 @@ use Rattle.bac_protocol.specs.Sizes.{RequestFault}
 use Rattle.bac_ends.specs.Ends.{AskRefusal, CannotGo}
 use Rattle.bac_requester.specs.declared.ask_fault.AskFault.{AskFault}
 use Rattle.bac_requester.specs.declared.ask_fault.AskFault.TheVariants as ask_fault
-use Rattle.bac_world.specs.Node.{Refusal}
+use Rattle.bac_store.specs.AtNode.{change_fault}
+use Rattle.bac_store.specs.declared.change_fault.ChangeFault.{ChangeFault}
+use Rattle.bac_world.specs.Node.{Node, Refusal}
 use Rattle.bac_world.specs.World.{World, Copy, Event, WorldStep, IsAsked, IsRefused, is_deliverable}
-use Rattle.bac_world.specs.World.Event.{Ask, Deliver, Noise, Tick, Advance}
+use Rattle.bac_world.specs.World.Event.{Ask, Deliver, Noise, Tick, Advance, Change}
 use Rattle.bac_network.specs.declared.fault.WorldFault.{WorldFault}
 use Rattle.bac_network.specs.declared.fault.WorldFault.TheVariants as fault
 
@@ -17,6 +19,7 @@ NamesNoNode w (Deliver number) = ⊥
 NamesNoNode w (Noise node from octets) = slice_get w.nodes node ≡ None
 NamesNoNode w (Tick node) = slice_get w.nodes node ≡ None
 NamesNoNode w (Advance by) = ⊥
+NamesNoNode w (Change node c) = slice_get w.nodes node ≡ None
 
 -- it names a copy that there is not
 abbrev pub NamesNoCopy : World → Event → Type 0
@@ -25,6 +28,7 @@ NamesNoCopy w (Ask client server limits r) = ⊥
 NamesNoCopy w (Noise node from octets) = ⊥
 NamesNoCopy w (Tick node) = ⊥
 NamesNoCopy w (Advance by) = ⊥
+NamesNoCopy w (Change node c) = ⊥
 
 -- the moment would pass 64 bits
 abbrev pub PassesClock : World → Event → Type 0
@@ -33,20 +37,28 @@ PassesClock w (Ask client server limits r) = ⊥
 PassesClock w (Deliver number) = ⊥
 PassesClock w (Noise node from octets) = ⊥
 PassesClock w (Tick node) = ⊥
+PassesClock w (Change node c) = ⊥
 
--- it takes memory: an ask, a tick, and a copy that is deliverable
+-- it is a change that has that fault
+abbrev pub RefusesChange : World → Event → ChangeFault → Type 0
+RefusesChange w (Change node c) why = (a : Node) × (slice_get w.nodes node ≡ Some a) × (change_fault a.store c ≡ Some why)
+RefusesChange w e why = ⊥
+
+-- it takes memory: an ask, a tick, a copy that is deliverable, and a change without a fault
 abbrev pub TakesMemory : (overtake : ℕ) → World → Event → Type 0
 TakesMemory overtake w (Ask client server limits r) = Unit {0}
 TakesMemory overtake w (Deliver number) = (c : Copy) × (slice_get w.copies number ≡ Some c) × (is_deliverable overtake w.now number w.copies c ≡ true)
 TakesMemory overtake w (Noise node from octets) = ⊥
 TakesMemory overtake w (Tick node) = Unit {0}
 TakesMemory overtake w (Advance by) = ⊥
+TakesMemory overtake w (Change node c) = (why : ChangeFault) → RefusesChange w (Change node c) why → ⊥
 
 -- a fault says why an event does not happen; memory is refused where nothing else speaks against it
 abbrev pub IsFault : WorldFault → (overtake : ℕ) → World → Event → Type 0
 IsFault fault.NoSuchNode overtake w e = NamesNoNode w e
 IsFault fault.NoSuchDatagram overtake w e = NamesNoCopy w e
 IsFault fault.ClockEnd overtake w e = PassesClock w e
+IsFault (fault.BadChange why) overtake w e = RefusesChange w e why
 IsFault fault.NoMemory overtake w e = TakesMemory overtake w e × (NamesNoNode w e → ⊥)
 
 -- an event happens, or a fault says why not, and nothing changes
@@ -74,10 +86,12 @@ Tells None old (Deliver number) new = Unit {0}
 Tells None old (Noise node from octets) new = Unit {0}
 Tells None old (Tick node) new = Unit {0}
 Tells None old (Advance by) new = Unit {0}
+Tells None old (Change node c) new = Unit {0}
 Tells (Some f) old (Deliver number) new = ⊥
 Tells (Some f) old (Noise node from octets) new = ⊥
 Tells (Some f) old (Tick node) new = ⊥
 Tells (Some f) old (Advance by) new = ⊥
+Tells (Some f) old (Change node c) new = ⊥
 
 -- it happens, and tells that
 abbrev pub HappensTelling : (overtake : ℕ) → World → Event → Result (Option AskFault) WorldFault → World → Type 0

@@ -1,6 +1,7 @@
 //! What can happen in a simulated network.
 use bac_apdu::Limits;
 use bac_service::OwnedRequest;
+use bac_store::Change;
 
 /// What can happen. Nodes and copies are numbered from 0.
 #[derive(Drop)]
@@ -39,5 +40,12 @@ pub enum Event {
     Advance {
         /// By so many milliseconds.
         by: u64,
+    },
+    /// A node changes its own store, by no request, as where a sensor moves.
+    Change {
+        /// The node.
+        node: usize,
+        /// What changes.
+        change: Change,
     },
 }

@@ -1,9 +1,10 @@
 //! What is logged.
-use bac_comparing::{Alike, same_ending, same_reply, same_request};
+use bac_comparing::{Alike, same_change, same_ending, same_reply, same_request};
 use bac_service::{OwnedReply, OwnedRequest};
+use bac_store::Change;
 use bac_ticket::Ending;
 
-/// What was asked, performed or ended. Asks are numbered from 0; clients and servers are numbered among the nodes.
+/// What was asked, performed, ended or changed. Asks are numbered from 0; clients and servers are numbered among the nodes.
 #[derive(Drop)]
 pub enum Fact {
     /// An ask was accepted.
@@ -32,6 +33,13 @@ pub enum Fact {
         number: usize,
         /// How it ended.
         how: Ending,
+    },
+    /// A node changed its own store, by no request.
+    Changed {
+        /// The node.
+        node: usize,
+        /// What changed.
+        change: Change,
     },
 }
 
@@ -81,6 +89,13 @@ impl Alike for Fact {
                     number: place,
                     how: end,
                 } => number == place && same_ending(how, end),
+                _ => false,
+            },
+            Fact::Changed { node, change } => match other {
+                Fact::Changed {
+                    node: place,
+                    change: made,
+                } => node == place && same_change(change, made),
                 _ => false,
             },
         }

@@ -4,6 +4,7 @@ ghost use Rattle.bac_network.specs.Faults.{fault_number, new_fault_number};
 ghost use Rattle.bac_network.specs.declared.fault.NewWorldFault.TheVariants as new_fault;
 ghost use Rattle.bac_network.specs.declared.fault.WorldFault.TheVariants as fault;
 
+use bac_store::ChangeFault;
 use bac_value::NoMemory;
 
 /// Why an event did not happen: the world is as before.
@@ -15,12 +16,15 @@ pub enum WorldFault {
     NoSuchDatagram,
     /// The moment would pass 64 bits.
     ClockEnd,
+    /// A change of a node's own store has that fault, which is never `NoMemory`.
+    BadChange(ChangeFault),
     /// Memory was refused.
     NoMemory,
 }
 
 impl WorldFault {
-    /// The number of the fault (own numbers of this profile): 1 `NoSuchNode`, 2 `NoSuchDatagram`, 3 `ClockEnd`, 4 `NoMemory`.
+    /// The number of the fault (own numbers of this profile): 1 `NoSuchNode`, 2 `NoSuchDatagram`, 3 `ClockEnd`, 4 `NoMemory`, 9
+    /// `BadChange`.
     pub fn number(self) -> u8
         ensures { result ≡ fault_number self }
     {
@@ -28,6 +32,7 @@ impl WorldFault {
             WorldFault::NoSuchNode => 1,
             WorldFault::NoSuchDatagram => 2,
             WorldFault::ClockEnd => 3,
+            WorldFault::BadChange(_) => 9,
             WorldFault::NoMemory => 4,
         }
     }

@@ -1,12 +1,14 @@
 //! A node's call among the nodes: it goes on, and all others stay.
-ghost use Rattle.std.specs.Prelude.{◌≡◌, ◌<◌, ◌≤◌, IfOk, IfErr, OnErr, IsErrOf, length, map, slice_get, Some};
+ghost use Rattle.std.specs.Prelude.{◌≡◌, ◌<◌, ◌≤◌, IfOk, IfErr, OnErr, OnOk, IsErrOf, length, map, slice_get, None, Some};
 ghost use Rattle.bac_apdu.specs.Views.{limits_view};
 ghost use Rattle.bac_npdu.specs.Views.{peer_view};
 ghost use Rattle.bac_service.specs.Views.{owned_request_view};
+ghost use Rattle.bac_store.specs.AtNode.{change_fault};
+ghost use Rattle.bac_store.specs.Views.{change_view};
 ghost use Rattle.bac_node.specs.Calls.{Refuses, IsAsked, ticked};
 ghost use Rattle.bac_node.specs.Views.{outcome_view};
 ghost use Rattle.bac_world.specs.Laws.{IsMeaningless};
-ghost use Rattle.bac_world.specs.Node.{NodeOn, NodeTick};
+ghost use Rattle.bac_world.specs.Node.{Node as NodeView, NodeOn, NodeTick, with_change};
 ghost use Rattle.bac_world.specs.World.{Copy};
 ghost use Rattle.bac_network.specs.Goings.{ArePunctual, Goes, IsBetween, IsHeardCopy};
 
@@ -16,6 +18,7 @@ use bac_node::{Node, NodeFault, Outcome};
 use bac_npdu::Peer;
 use bac_requester::{AskFault, Asked};
 use bac_service::OwnedRequest;
+use bac_store::{Change, ChangeFault};
 use bac_value::NoMemory;
 
 /// A node hears a datagram from a link, at a moment that is not before its latest.
@@ -97,4 +100,19 @@ pub(crate) fn ask(
 {
     let node = &mut nodes[i];
     node.ask(now, peer, limits, request)
+}
+
+/// A node makes a change of its own store that has no fault.
+pub(crate) fn change(nodes: &mut [Node], i: usize, change: &Change) -> Result<(), NoMemory>
+    requires there { i < length nodes.old }
+    requires may { (a : NodeView) → slice_get nodes.old i ≡ Some a → change_fault a.store (change_view change.now) ≡ None }
+    ensures went { OnOk result (Goes nodes.old i (λ a b. b ≡ with_change (change_view change.now) a) nodes.new) }
+    ensures err { OnErr result (nodes.new ≡ nodes.old) }
+{
+    let node = &mut nodes[i];
+    match node.change(change) {
+        Ok(()) => Ok(()),
+        Err(ChangeFault::NoMemory) => Err(NoMemory),
+        Err(_) => unreachable!(),
+    }
 }

@@ -1,9 +1,10 @@
-//! Worlds in code: nodes in one simulated network, with a log of what was asked, performed and answered.
+//! Worlds in code: nodes in one simulated network, with a log of what was asked, performed, answered and changed.
 //!
 //! Every run of a world is a run of bac_world's definitions, so each accepted ask takes effect at most once in it.
 #![tactic(auto)]
 
 mod asking;
+mod changing;
 mod delivering;
 mod entering;
 mod event;

@@ -54,6 +54,7 @@ impl Network {
             Event::Noise { node, from, octets } => untold(self.hear_noise(*node, *from, octets)),
             Event::Tick { node } => untold(self.tick(*node)),
             Event::Advance { by } => untold(self.advance(*by)),
+            Event::Change { node, change } => untold(self.change(alloc, *node, change)),
         }
     }
 }

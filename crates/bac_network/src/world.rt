@@ -1,10 +1,11 @@
 //! A world.
 ghost use Rattle.std.specs.Prelude.{◌≡◌, ◌↔◌, ℕ, IsErrOf, IsTrue, IfErr, IfOk, OnErr, OnOk, MatchOption, MatchResult, None, Some, length, map, slice_get, take};
+ghost use Rattle.bac_store.specs.declared.change_fault.ChangeFault.{ChangeFault};
 ghost use Rattle.bac_world.specs.World.{WorldRun, WorldStep, stores_of};
 ghost use Rattle.bac_journal.specs.Notes.{notes_view};
 ghost use Rattle.bac_journal.specs.Views.{copy_view};
 ghost use Rattle.bac_network.specs.Histories.{AreEndedOnceNow, ArePerformedOnceNow, AreReplayedNow, HasHistory, IsOnceNow};
-ghost use Rattle.bac_network.specs.Steps.{NamesNoCopy, NamesNoNode, PassesClock, TakesMemory, Tells};
+ghost use Rattle.bac_network.specs.Steps.{NamesNoCopy, NamesNoNode, PassesClock, RefusesChange, TakesMemory, Tells};
 ghost use Rattle.bac_network.specs.Runs.{StopsAt};
 ghost use Rattle.bac_network.specs.Views.{event_view, log_view};
 
@@ -23,7 +24,8 @@ use std::marker::Model;
 /// Nodes in one simulated network, with a clock, the copies of the datagrams that they sent, and a log of what was asked, performed and answered.
 ///
 /// However events follow each other, the log is right with the stores: every accepted ask takes effect at most once, and exactly once where a service answer
-/// reached its client; the request performed and the answer are its own, whole; and each store is the opening one after the performed requests in their order.
+/// reached its client; the request performed and the answer are its own, whole; and each store is the opening one after the performed requests and the
+/// changes made at its node, in the log's order.
 #[derive(Drop)]
 pub struct World {
     pub(crate) alloc: Global,
@@ -105,7 +107,7 @@ impl World {
 
     /// A run of a fresh world with the opening stores led to it, and its log is right with the stores: every accepted ask was performed at most once, as it
     /// was asked, with the reply of its server's store as it then was (`performed`); it ended at most once, and was answered with that reply alone (`ended`);
-    /// and stores were changed by performed requests alone (`stores`).
+    /// and stores were changed by performed requests and by changes at their nodes alone (`stores`).
     pub fn is_once(&self)
         ensures history { HasHistory self.now }
         ensures once { IsOnceNow self.now }
@@ -119,14 +121,15 @@ impl World {
     /// An event happens. The fault of a refused ask is told: a refused ask changes nothing.
     ///
     /// `NoSuchNode` exactly where the event names a node that there is not, `NoSuchDatagram` exactly where it names a copy that there is not, `ClockEnd`
-    /// exactly where the moment would pass 64 bits, and `NoMemory` after these, where memory was refused: never for octets of no node, for a copy that is not
-    /// deliverable, and for the clock. After an Err the world is as before.
+    /// exactly where the moment would pass 64 bits, `BadChange` exactly where a change of a node's own store has that fault, and `NoMemory` after these, where
+    /// memory was refused: never for octets of no node, for a copy that is not deliverable, and for the clock. After an Err the world is as before.
     pub fn step(&mut self, event: &Event) -> Result<Option<AskFault>, WorldFault>
         ensures went { OnOk result (WorldStep self.old.overtake self.old.world (event_view event.now) self.new.world) }
         ensures told { IfOk result (λ told. Tells told self.old.world (event_view event.now) self.new.world) }
         ensures node { IsErrOf result WorldFault.NoSuchNode ↔ NamesNoNode self.old.world (event_view event.now) }
         ensures datagram { IsErrOf result WorldFault.NoSuchDatagram ↔ NamesNoCopy self.old.world (event_view event.now) }
         ensures clock { IsErrOf result WorldFault.ClockEnd ↔ PassesClock self.old.world (event_view event.now) }
+        ensures change { (why : ChangeFault) → (IsErrOf result (WorldFault.BadChange why) ↔ RefusesChange self.old.world (event_view event.now) why) }
         ensures memory { IsErrOf result WorldFault.NoMemory → TakesMemory self.old.overtake self.old.world (event_view event.now) }
         ensures err { OnErr result (self.new ≡ self.old) }
         ensures settings { (self.new.overtake ≡ self.old.overtake) × (self.new.opening ≡ self.old.opening) }

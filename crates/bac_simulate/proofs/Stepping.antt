@@ -7,7 +7,8 @@ use Rattle.bac_world.specs.World as world
 use Rattle.bac_world.specs.World.{WorldStep}
 use Rattle.bac_network.specs.Faults.{fault_number}
 use Rattle.bac_network.specs.Histories.{WorldView}
-use Rattle.bac_network.specs.Steps.{NamesNoCopy, NamesNoNode, PassesClock, TakesMemory, Tells}
+use Rattle.bac_store.specs.declared.change_fault.ChangeFault.{ChangeFault}
+use Rattle.bac_network.specs.Steps.{NamesNoCopy, NamesNoNode, PassesClock, RefusesChange, TakesMemory, Tells}
 use Rattle.bac_network.specs.Views.{event_view}
 use Rattle.bac_network.proofs.Running.{fault_is}
 use Rattle.bac_network.specs.declared.event.Event as event
@@ -45,14 +46,15 @@ pub stopped : (line : ℕ) (e : world.Event) (f : WorldFault) (old new : WorldVi
     → (IsErrOf (the_err f) fault.NoSuchNode ↔ NamesNoNode old.world e)
     → (IsErrOf (the_err f) fault.NoSuchDatagram ↔ NamesNoCopy old.world e)
     → (IsErrOf (the_err f) fault.ClockEnd ↔ PassesClock old.world e)
+    → ((why : ChangeFault) → (IsErrOf (the_err f) (fault.BadChange why) ↔ RefusesChange old.world e why))
     → (IsErrOf (the_err f) fault.NoMemory → TakesMemory old.overtake old.world e)
     → new ≡ old → number ≡ fault_number f → Appends a b (fault_line line number) → AppendsText a b (IsStep line false e old new)
-stopped line e f old new number a b node copy clock memory same is printed = (
+stopped line e f old new number a b node copy clock change memory same is printed = (
   fault_line line number,
   (
     record {
       fault = f;
-      why = fault_is f old.overtake old.world e (the_err f) refl node copy clock memory;
+      why = fault_is f old.overtake old.world e (the_err f) refl node copy clock change memory;
       same = same;
       is = ap (λ (n : ℕ). fault_line line n) is;
     },

@@ -8,7 +8,7 @@ ghost use Rattle.bac_commands.specs.Facts.{sent_line};
 ghost use Rattle.bac_simulate.specs.Told.{asked_text, copies_text, fact_text, facts_text, is_as_before, news_text, outcome_text};
 
 use bac_commands::{
-    print_asked, print_ended, print_nothing, print_performed, print_refused, print_sent,
+    print_asked, print_changed, print_ended, print_nothing, print_performed, print_refused, print_sent,
 };
 use bac_journal::{Copy, Note};
 use bac_network::{Fact, World};
@@ -52,6 +52,7 @@ fn print_fact<W: Write>(alloc: Global, asks: &[Note], fact: &Fact, out: &mut W) 
         Fact::Asked { number, .. } => print_accepted(asks, *number, out),
         Fact::Performed { number, .. } => print_performed(*number as u64, out),
         Fact::Ended { number, how } => print_ended(alloc, *number as u64, how, out),
+        Fact::Changed { node, .. } => print_changed(*node as u64, out),
     }
 }
 

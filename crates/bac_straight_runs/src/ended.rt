@@ -22,6 +22,7 @@ fn ending_by<'a>(found: Option<&'a Ending>, fact: &'a Fact, ask: usize) -> Optio
         Fact::Ended { number, how } => { if *number == ask { Some(how) } else { found } }
         Fact::Asked { .. } => found,
         Fact::Performed { .. } => found,
+        Fact::Changed { .. } => found,
     }
 }
 

@@ -2,7 +2,7 @@
 ghost use Rattle.std.specs.Prelude.{OnOk};
 ghost use Rattle.std.specs.Io.KnownBytes.{Appends};
 ghost use Rattle.bac_ticket.specs.Views.{ending_view};
-ghost use Rattle.bac_commands.specs.Facts.{asked_line, ended_line, fault_line, nothing_line, performed_line, refused_line, sent_line};
+ghost use Rattle.bac_commands.specs.Facts.{asked_line, changed_line, ended_line, fault_line, nothing_line, performed_line, refused_line, sent_line};
 
 use super::ending::print_ending_line;
 use bac_ticket::Ending;
@@ -29,6 +29,13 @@ pub fn print_performed<W: Write>(number: u64, out: &mut W) -> io::Result<()>
     ensures { OnOk result (Appends (W.contents out.old) (W.contents out.new) (performed_line number)) }
 {
     writeln!(out, "performed {number}")
+}
+
+/// Prints that the node with that number changed its own store.
+pub fn print_changed<W: Write>(node: u64, out: &mut W) -> io::Result<()>
+    ensures { OnOk result (Appends (W.contents out.old) (W.contents out.new) (changed_line node)) }
+{
+    writeln!(out, "changed {node}")
 }
 
 /// Prints how the ask with that number ended.

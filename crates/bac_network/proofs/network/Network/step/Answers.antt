@@ -1,7 +1,8 @@
 -- Events that tell nothing.
 use Rattle.std.proofs.Common.{sym, subst}
 use Rattle.bac_protocol.specs.Service.{Octets}
-use Rattle.bac_world.specs.World.Event.{Noise, Tick, Advance}
+use Rattle.bac_store.specs.Views.{change_view}
+use Rattle.bac_world.specs.World.Event.{Noise, Tick, Advance, Change}
 use Rattle.bac_network.specs.Networks.{world_of}
 use Rattle.bac_network.specs.Steps.{Happens, HappensTelling}
 use Rattle.bac_network.specs.Views.{event_view}
@@ -34,3 +35,10 @@ returns-in-Advance-clause-happens c =
     (sym c.in-Advance.is)
     (told_nothing c.args.overtake (world_of c.args.self.now) (world_of c.advance.new.self) (Advance c.in-Advance.by) tt c.advance.result
     c.untold-in-Advance.result (c.advance.ensures.happens c.args.overtake) c.untold-in-Advance.ensures)
+
+pub returns-in-Change-clause-happens : goal.returns-in-Change-clause-happens
+returns-in-Change-clause-happens c =
+    subst (λ (e : Event). HappensTelling c.args.overtake (world_of c.args.self.now) (event_view e) c.untold-in-Change.result (world_of c.change.new.self))
+    (sym c.in-Change.is)
+    (told_nothing c.args.overtake (world_of c.args.self.now) (world_of c.change.new.self) (Change c.in-Change.node (change_view c.in-Change.change)) tt
+    c.change.result c.untold-in-Change.result (c.change.ensures.happens c.args.overtake) c.untold-in-Change.ensures)

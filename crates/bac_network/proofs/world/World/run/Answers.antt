@@ -13,7 +13,7 @@ returns-in-Err-clause-stopped c =
     stops c.in-Err.fault c.args.self.now at.self c.step.new.self c.args.events.now at.place event
     (slice_get_read c.args.events.now _ at.place event refl lt c.index-events-place.is) at.invariant.done at.invariant.overtake c.in-Err.ensures.err
     (fault_is c.in-Err.fault at.self.overtake at.self.world (event_view event) (Err c.in-Err.fault) refl c.in-Err.ensures.node c.in-Err.ensures.datagram
-    c.in-Err.ensures.clock c.in-Err.ensures.memory)
+    c.in-Err.ensures.clock c.in-Err.ensures.change c.in-Err.ensures.memory)
 
 pub loop-place-preserved : goal.loop-place-preserved
 loop-place-preserved c =

@@ -3,7 +3,7 @@ use Rattle.std.proofs.Common.{refl}
 use Rattle.bac_network.specs.Histories.{view_of}
 use Rattle.bac_network.specs.Networks.{world_of}
 use Rattle.bac_network.specs.Views.{event_view}
-use Rattle.bac_network.proofs.Happening.{node_exactly, copy_exactly, clock_exactly, memory_only, step_is, told_is, same_seen}
+use Rattle.bac_network.proofs.Happening.{node_exactly, copy_exactly, clock_exactly, change_exactly, memory_only, step_is, told_is, same_seen}
 use Rattle.bac_network.proofs.Histories.{ended_now, kept_after, once_now, performed_now, ready_now, replayed_now}
 use Rattle.bac_network.proofs.world.World.step.Goals as goal
 
@@ -70,6 +70,12 @@ pub returns-clause-clock : goal.returns-clause-clock
 returns-clause-clock c =
     rw (← c.self.view_is)
     (clock_exactly c.self.inside.overtake (world_of c.self.inside.network) (world_of c.step.new.self) (event_view c.args.event.now) c.step.result
+    c.step.ensures.happens)
+
+pub returns-clause-change : goal.returns-clause-change
+returns-clause-change c =
+    rw (← c.self.view_is)
+    (change_exactly c.self.inside.overtake (world_of c.self.inside.network) (world_of c.step.new.self) (event_view c.args.event.now) c.step.result
     c.step.ensures.happens)
 
 pub returns-clause-memory : goal.returns-clause-memory
