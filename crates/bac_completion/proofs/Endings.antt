@@ -36,7 +36,7 @@ use Rattle.bac_ends.specs.Ends.{Client, Held, context_of, kept, open_unless, hel
 use Rattle.bac_ends.specs.Ends.Held.{Open, Closed}
 use Rattle.bac_world.specs.Node.{Node, Outcome, NodeTick}
 use Rattle.bac_world.specs.Once.{Fact}
-use Rattle.bac_world.specs.Once.Fact.{Asked, Performed, Ended}
+use Rattle.bac_world.specs.Once.Fact.{Asked, Performed, Ended, Changed}
 use Rattle.bac_world.specs.World.{World, Copy, Event, WorldStep, WorldRun, IsFresh, IsBounded, IsAsked, Ticks, link_at, peer_at}
 use Rattle.bac_world.specs.World.Event.{Deliver, Tick}
 use Rattle.bac_ends.proofs.KeyedSlots.{changed, changed_value, value_changed}
@@ -66,15 +66,11 @@ endings_alike n (f ∷ log) (v ∷ values) h = go f v h.0 (endings_alike n log v
         → endings_of n (v ∷ values) ≡ net.endings_of n (f ∷ log)
     go (octets.Fact.Asked m c s q) (Asked k d u r) h again = again
     go (octets.Fact.Performed m q p) (Performed k r v) h again = again
+    go (octets.Fact.Changed i o) (Changed j c) h again = again
     go (octets.Fact.Ended m how) (Ended k v) h again =
         ap (λ (i : ℕ). if nat_eq i n then suc (endings_of n values) else endings_of n values) h.0
         ∙ ap (λ (i : ℕ). if nat_eq m n then suc i else i) again
-    go (octets.Fact.Asked m c s q) (Performed k r v) h again = absurd h
-    go (octets.Fact.Asked m c s q) (Ended k v) h again = absurd h
-    go (octets.Fact.Performed m q p) (Asked k d u r) h again = absurd h
-    go (octets.Fact.Performed m q p) (Ended k v) h again = absurd h
-    go (octets.Fact.Ended m how) (Asked k d u r) h again = absurd h
-    go (octets.Fact.Ended m how) (Performed k r v) h again = absurd h
+    go _ _ h again = absurd h
 
 -- an ask has endings where it has ended
 some_ended : (n : ℕ) (log : List octets.Fact) → (net.endings_of n log ≡ 0) ⊎ HasEnded n log
@@ -85,6 +81,7 @@ some_ended n (f ∷ log) = go f (some_ended n log)
     go f (inr e) = inr (e.0, inr e.1)
     go (octets.Fact.Asked m c s q) (inl none) = inl none
     go (octets.Fact.Performed m q p) (inl none) = inl none
+    go (octets.Fact.Changed node change) (inl none) = inl none
     go (octets.Fact.Ended m how) (inl none) = by (nat_eq m n) refl
       where
         by : (b : Bool) → nat_eq m n ≡ b → (net.endings_of n (octets.Fact.Ended m how ∷ log) ≡ 0) ⊎ HasEnded n (octets.Fact.Ended m how ∷ log)
@@ -191,6 +188,7 @@ module _ (links : ℕ → Option Octets) (apart : (i j : ℕ) (l : Octets) → l
   gives_any w n (Event.Noise node from octets) = tt
   gives_any w n (Event.Tick node) = tt
   gives_any w n (Event.Advance by) = tt
+  gives_any w n (Event.Change node change) = tt
 
   pub on_run : (events : List Event) (w w' : World) (n : Net) → Over links apart W x w n → WorldRun x.overtake w events w'
       → Followed links apart W x bound readable Any w' n

@@ -16,7 +16,7 @@ use Rattle.bac_protocol.specs.Client.{Ticket}
 use Rattle.bac_protocol.specs.Server as server
 use Rattle.bac_protocol.specs.Server.{Service, server_ticks}
 use Rattle.bac_protocol.specs.Transaction.{Key, Rules, server_context}
-use Rattle.bac_protocol.specs.World.{Net, Post, asked_at, server_acts, is_key_held}
+use Rattle.bac_protocol.specs.World.{Net, Post, asked_at, server_acts, notes_change, is_key_held}
 use Rattle.bac_protocol.specs.World as machine
 use Rattle.bac_protocol.specs.Moves.{taken_by_client, taken_by_server, ticket_ticked}
 use Rattle.bac_protocol.specs.Claims as claims
@@ -29,7 +29,7 @@ use Rattle.bac_progress.proofs.Paths.Path.{Here, Then}
 use Rattle.bac_world.specs.Services.{ArePerformed}
 use Rattle.bac_world.specs.Node.{Node, Outcome, IsDropped, IsHeard, IsHeardBy, NodeOn}
 use Rattle.bac_world.specs.World.{World, Event, Copy, later, is_deliverable, peer_at, Acts, DeliversIf, Delivers, HearsNoise, IsAsked, WorldStep, WorldRun}
-use Rattle.bac_world.specs.World.Event.{Ask, Deliver, Noise, Tick, Advance}
+use Rattle.bac_world.specs.World.Event.{Ask, Deliver, Noise, Tick, Advance, Change}
 use Rattle.bac_world.specs.Laws.{IsMeaningless}
 use Rattle.bac_world.proofs.NodeLaws.{drops_exactly}
 use Rattle.bac_world.proofs.Pairs.{IsPaired, pairwise_get}
@@ -41,7 +41,7 @@ use Rattle.bac_world.proofs.Serving.{serves, served_so}
 use Rattle.bac_world.proofs.Clients.{hears, quiet}
 use Rattle.bac_world.proofs.Asking.{IsAccepted, accepted_is, free_ticket, asks_with}
 use Rattle.bac_world.proofs.Ticking.{tick_over, tick_leads}
-use Rattle.bac_world.proofs.Headline.{advanced_over}
+use Rattle.bac_world.proofs.Headline.{advanced_over, changed_over}
 use Rattle.bac_completion.specs.Runs.{Throughout}
 use Rattle.bac_completion.specs.RoundTrip.{MayArrive}
 
@@ -309,6 +309,11 @@ module _ (links : ℕ → Option Octets) (apart : (i j : ℕ) (l : Octets) → l
       net = record n { now = n.now + by };
       over = subst (λ (u : World). Over links apart W x u (record n { now = n.now + by })) (sym is) (advanced_over links apart W x bound readable w n h by);
       path = Then n (record n { now = n.now + by }) Here (Step.Passes by);
+    }
+    step_followed w w' n h (Change node change) gives s = record {
+      net = notes_change n node [];
+      over = changed_over links apart W x bound readable w w' n h node change s;
+      path = Then n (notes_change n node []) Here (Step.Changes node []);
     }
 
     -- and every run, where what is said of its events gives that

@@ -149,6 +149,7 @@ module _ (links : ℕ → Option Octets) (apart : (i j : ℕ) (l : Octets) → l
   gives w m over (Event.Noise node from data') f = tt
   gives w m over (Event.Tick node) f = tt
   gives w m over (Event.Advance by) f = tt
+  gives w m over (Event.Change node change) f = tt
 
   -- It is waited for.
 

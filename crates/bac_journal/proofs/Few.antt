@@ -30,7 +30,7 @@ use Rattle.bac_protocol.specs.Transaction.{Key, Rules, server_context}
 use Rattle.bac_protocol.specs.World.{Net, Post, net_start, set_at, is_key_held, asked_at, is_deliverable}
 use Rattle.bac_protocol.specs.Claims.{IsBounded}
 use Rattle.bac_protocol.specs.Moves.{Move, taken_by_client, taken_by_server, arrived, ticket_ticked, moved, IsReached}
-use Rattle.bac_protocol.specs.Moves.Move.{Asks, Arrives, TicksTicket, TicksEntry, Passes}
+use Rattle.bac_protocol.specs.Moves.Move.{Asks, Arrives, TicksTicket, TicksEntry, Passes, Changes}
 use Rattle.bac_protocol.specs.Moves.IsReached.{Still, Moved}
 use Rattle.bac_protocol.proofs.Keys.{set_same, set_other, decide_key}
 use Rattle.bac_protocol.proofs.Facts.{pieces_length}
@@ -379,6 +379,7 @@ module _ (W : ℕ) (x : Rules) (bound : IsBounded W x) where
       small_set n s key (server.server_ticks c (n.entries key)).entry
       (server_ticks_few c W bound.some (bound.windows key.server) (n.entries key) (s key)).entry
   moved_small n s (Passes by) = s
+  moved_small n s (Changes node change) = s
 
   pub entries_few : (n : Net) → IsReached x net_start n → (key : Key) → EntryFew W (n.entries key)
   entries_few _ Still = λ key. tt

@@ -7,6 +7,7 @@ use Rattle.bac_apdu.specs.Apdu.{Apdu, Limits}
 use Rattle.bac_npdu.specs.Peers.{PeerView}
 use Rattle.bac_service.specs.Values.{Request, choice_of}
 use Rattle.bac_service.specs.Services.{reads_reply}
+use Rattle.bac_store.specs.AtNode as at_node
 use Rattle.bac_protocol.specs.Context.{Settings}
 use Rattle.bac_protocol.specs.Service.{Octets, Readable}
 use Rattle.bac_protocol.specs.Wire.{is_from_client}
@@ -18,14 +19,14 @@ use Rattle.bac_ends.specs.Keys.{PeerKey, same_key}
 use Rattle.bac_ends.specs.Ends.{Client, ClientEnd, Held, Accepted, client_hears_at, client_hears_held, key_of}
 use Rattle.bac_ends.specs.Ends.Held.{Open, Closed}
 use Rattle.bac_entry.specs.Services.{service_of}
-use Rattle.bac_world.specs.Node.{Node, Outcome, IsHeardBy, NodeOn, NodeTick, NodeAsks}
+use Rattle.bac_world.specs.Node.{Node, Outcome, IsHeardBy, NodeOn, NodeTick, NodeAsks, with_change}
 use Rattle.bac_world.specs.Once.{IsOnce}
-use Rattle.bac_world.specs.World.{World, Event, Copy, link_at, stores_of, peer_at, is_deliverable, IsWithNode, Acts, Hears, IsAsked}
+use Rattle.bac_world.specs.World.{World, Event, Copy, link_at, stores_of, peer_at, is_deliverable, IsWithNode, Acts, Hears, IsAsked, IsChanged}
 use Rattle.bac_world.specs.World.{DeliversIf, WorldStep, WorldRun, IsFresh, IsBounded}
-use Rattle.bac_world.specs.World.Event.{Ask, Deliver, Noise, Tick, Advance}
+use Rattle.bac_world.specs.World.Event.{Ask, Deliver, Noise, Tick, Advance, Change}
 use Rattle.bac_world.proofs.Pairs.{IsPaired, pairwise_get}
 use Rattle.bac_world.proofs.Bridge.{IsCopyOf, IsBetween, framed_means}
-use Rattle.bac_world.proofs.Steps.{Over, decide_number}
+use Rattle.bac_world.proofs.Steps.{Over, decide_number, each_with}
 use Rattle.bac_world.proofs.Asking.{accepted_is}
 use Rattle.bac_world.proofs.Headline.{run_over, rules_of, rules_bounded, fresh_over}
 use Rattle.bac_journal.specs.Entering.{CanGoOn, asks_by}
@@ -144,6 +145,14 @@ tidy_asked w w' t i s limits r k =
         go true e = absurd (ne (let is : i ≡ j = grind (arith, nat_tests) in sym is))
         go false e = refl
 
+tidy_changed : (w w' : World) → Tidy w → (i : ℕ) (c : at_node.Change) → IsChanged w i c w' → Tidy w'
+tidy_changed w w' t i c k = record {
+  punctual = λ j a at. subst (λ (now : ℕ). a.latest ≤ now) (sym k.now) (each_with (λ m b. b.latest ≤ w.now) w.nodes w'.nodes i
+      (with_change c k.before) k.nodes (t.punctual i k.before k.at) t.punctual j a at);
+  counted = λ j a at. each_with (λ m b. b.clients.asked ≡ asks_by m w.notes) w.nodes w'.nodes i
+      (with_change c k.before) k.nodes (t.counted i k.before k.at) t.counted j a at ∙ sym (ap (asks_by j) k.notes);
+}
+
 tidy_delivered : (b : Bool) (w : World) (c : Copy) (w' : World) → Tidy w → DeliversIf b w c w' → Tidy w'
 tidy_delivered true w c w' t d = tidy_hears w w' t c.to d.link c.octets d.hears
 tidy_delivered false w c w' t same = subst Tidy (sym same) t
@@ -160,6 +169,7 @@ tidy_step overtake w w' (Advance by) t s = subst Tidy (sym s) (record {
   punctual = λ i a at. let e : a.latest ≤ w.now = t.punctual i a at in omega arith;
   counted = t.counted;
 })
+tidy_step overtake w w' (Change node change) t s = tidy_changed w w' t node change s
 
 tidy_run : (overtake : ℕ) (events : List Event) (w w' : World) → Tidy w → WorldRun overtake w events w' → Tidy w'
 tidy_run overtake [] w w' t run = subst Tidy (sym run) t

@@ -1,12 +1,14 @@
 //! A node.
 ghost use Rattle.std.specs.Prelude.{◌≡◌, ◌≢◌, ◌↔◌, ◌<◌, ◌≤◌, [], true, false, map, count_by, vec_capacity};
-ghost use Rattle.std.specs.Prelude.{IfErr, IfOk, IsErrOf, IsSome, IfSome, IsTrue, OnErr, MatchOption};
+ghost use Rattle.std.specs.Prelude.{IfErr, IfOk, IsErrOf, IsSome, IfSome, IsTrue, OnErr, OnOk, MatchOption, None};
 ghost use Rattle.bac_apdu.specs.Views.{apdu_view, limits_view};
 ghost use Rattle.bac_npdu.specs.Views.{peer_view};
 ghost use Rattle.bac_service.specs.Values.{Request};
 ghost use Rattle.bac_service.specs.Views.{owned_request_view};
+ghost use Rattle.bac_store.specs.AtNode.{change_fault, IsFaultOf};
 ghost use Rattle.bac_store.specs.Replies.{reply_to};
 ghost use Rattle.bac_store.specs.ReplyLengths.{DATA_LIMIT, reply_length};
+ghost use Rattle.bac_store.specs.Views.{change_view};
 ghost use Rattle.bac_ends.specs.Ends.{is_slot_held, is_slot_live};
 ghost use Rattle.bac_ends.specs.Tables.{IsOrderlyClient, IsOrderlyServer};
 ghost use Rattle.bac_ends.specs.Views.{settings_view};
@@ -14,7 +16,7 @@ ghost use Rattle.bac_requester.specs.Short.{AreRepliesShort};
 ghost use Rattle.bac_requester.specs.Views.{finish_view, finishes_of};
 ghost use Rattle.bac_responder.specs.Short.{AreRequestsShort};
 ghost use Rattle.bac_world.specs.Keys.{HasKeysApart};
-ghost use Rattle.bac_world.specs.Node.{NodeOn, NodeTick, IsHeardBy, dropped_for};
+ghost use Rattle.bac_world.specs.Node.{NodeOn, NodeTick, IsHeardBy, dropped_for, with_change};
 ghost use Rattle.bac_node.specs.Calls.{Hears, IsAsked, IsDue, IsNotHeard, Refuses, ticked};
 ghost use Rattle.bac_node.specs.Fresh.{fresh_node, has_slots, slots_fit, window_fits};
 ghost use Rattle.bac_node.specs.Views.{cause_view, outcome_view, settings_of};
@@ -32,7 +34,7 @@ use bac_requester::{AskFault, Asked, Client, Due, Finish, Requester, Turn};
 use bac_responder::{Responder, Served};
 use bac_service::OwnedRequest;
 use bac_slots::IndexSlots;
-use bac_store::{Store, replies_can_be_sent};
+use bac_store::{Change, ChangeFault, Store, replies_can_be_sent};
 use bac_value::NoMemory;
 use std::alloc::Global;
 use std::marker::Model;
@@ -400,6 +402,19 @@ impl Node {
             }
             Err(fault) => Err(fault),
         }
+    }
+
+    /// Makes a change of its store at the node itself, by no request, as where a sensor moves: nothing is sent, performed or ended, and neither end
+    /// sees it. It takes no time.
+    ///
+    /// The faults are those of `Store::change`: tested in the order of their numbers, and memory last. After an Err the node is as before.
+    pub fn change(&mut self, change: &Change) -> Result<(), ChangeFault>
+        ensures may { OnOk result (change_fault self.old.store (change_view change.now) ≡ None) }
+        ensures made { OnOk result (self.new ≡ with_change (change_view change.now) self.old) }
+        ensures fault { IfErr result (IsFaultOf self.old.store (change_view change.now)) }
+        ensures err { OnErr result (self.new ≡ self.old) }
+    {
+        self.store.change(self.alloc, change)
     }
 
     /// Whether contracts see no difference between two nodes: the same link, settings, latest moment, slots, entries and store.

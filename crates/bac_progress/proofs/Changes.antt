@@ -13,7 +13,7 @@ use Rattle.bac_protocol.proofs.Facts.{Grows}
 use Rattle.bac_protocol.proofs.Keys.{decide_key, set_same, set_other}
 use Rattle.bac_progress.proofs.Opens.{Opens, gets_opens, ticks_opens, asked_opens}
 use Rattle.bac_progress.proofs.Paths.{some_is, ask_of, Step, Path, step_log}
-use Rattle.bac_progress.proofs.Paths.Step.{Asks, Serves, Hears, TicksTicket, TicksEntry, Passes}
+use Rattle.bac_progress.proofs.Paths.Step.{Asks, Serves, Hears, TicksTicket, TicksEntry, Passes, Changes}
 use Rattle.bac_progress.proofs.Paths.Path.{Here, Then}
 
 -- it stays, a new ask takes its place, or its client's machine acts on it
@@ -76,6 +76,7 @@ module _ (x : Rules) (Q : Net → ℕ → Bool → Service → Type 0) where
       let c = client_context x k n.now in acts_change n k t (client.client_ticks c t) there (ticks_opens c t) key
   step_change n _ (TicksEntry k) key = Change.Same refl refl
   step_change n _ (Passes by) key = Change.Same refl refl
+  step_change n _ (Changes node change) key = Change.Same refl refl
 
   logged_step : (n m : Net) → Step x Q n m → IdleIsLogged n → IdleIsLogged m
   logged_step n m s h key t at idle = go (step_change n m s key)

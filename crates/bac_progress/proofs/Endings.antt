@@ -15,7 +15,7 @@ use Rattle.bac_protocol.specs.Client.{Ask, Phase, Ticket, is_idle, is_expired, e
 use Rattle.bac_protocol.specs.Client.Phase.{SegmentedRequest, AwaitConfirmation, SegmentedConf, Idle}
 use Rattle.bac_protocol.specs.Client.Reaction.{Stays, Ends}
 use Rattle.bac_protocol.specs.Log.{Fact, Shop, IsUnended, IsOrderly}
-use Rattle.bac_protocol.specs.Log.Fact.{Asked, Performed, Ended}
+use Rattle.bac_protocol.specs.Log.Fact.{Asked, Performed, Ended, Changed}
 use Rattle.bac_protocol.specs.Transaction.{Key, Rules, client_context, ended}
 use Rattle.bac_protocol.specs.World.{Net, World, Event, is_key_held, happens, run, start, ticks_ticket, ticks_as_client, ticks_as_server}
 use Rattle.bac_protocol.specs.World.{takes_at_client, takes_at_server, arrives, delivered}
@@ -37,6 +37,7 @@ unended_none : (n : ℕ) (log : List Fact) → IsUnended n log → endings_of n 
 unended_none n [] h = refl
 unended_none n (Asked m c s r ∷ log) h = unended_none n log h
 unended_none n (Performed m r p ∷ log) h = unended_none n log h
+unended_none n (Changed s c ∷ log) h = unended_none n log h
 unended_none n (Ended m how ∷ log) h =
     let other : nat_eq m n ≡ false = go (nat_eq m n) refl in
     ap (λ b. if b then suc (endings_of n log) else endings_of n log) other ∙ unended_none n log h.1
@@ -51,6 +52,8 @@ ended_once n (Asked m c s r ∷ log) o (how, inl e) = absurd cc
 ended_once n (Asked m c s r ∷ log) o (how, inr k) = ended_once n log o.1 (how, k)
 ended_once n (Performed m r p ∷ log) o (how, inl e) = absurd cc
 ended_once n (Performed m r p ∷ log) o (how, inr k) = ended_once n log o.2 (how, k)
+ended_once n (Changed s c ∷ log) o (how, inl e) = absurd cc
+ended_once n (Changed s c ∷ log) o (how, inr k) = ended_once n log o (how, k)
 ended_once n (Ended m other ∷ log) o (how, inl e) =
     let same : m ≡ n = cc in
     let is : nat_eq m n ≡ true = grind (arith, nat_tests) in

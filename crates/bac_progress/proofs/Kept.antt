@@ -14,7 +14,7 @@ use Rattle.bac_protocol.specs.Steps.{IsSameEntry, StateStays, StaysIn}
 use Rattle.bac_protocol.proofs.Keys.{decide_key, set_same, set_other}
 use Rattle.bac_protocol.proofs.Served.{live_stays_law}
 use Rattle.bac_progress.proofs.Paths.{Step, Path, step_now}
-use Rattle.bac_progress.proofs.Paths.Step.{Asks, Serves, Hears, TicksTicket, TicksEntry, Passes}
+use Rattle.bac_progress.proofs.Paths.Step.{Asks, Serves, Hears, TicksTicket, TicksEntry, Passes, Changes}
 use Rattle.bac_progress.proofs.Paths.Path.{Here, Then}
 use Rattle.bac_progress.proofs.Changes.{IsThere, there_step}
 
@@ -68,6 +68,7 @@ module _ (x : Rules) (Q : Net → ℕ → Bool → Service → Type 0) where
   step_stays n _ (TicksEntry k) key e at live =
       let c = server_context x k n.now in server_stays n k (server.server_ticks c) key e at (live_stays_law.ticks c e live)
   step_stays n _ (Passes by) key e at live = stays_same e (n.entries key) at
+  step_stays n _ (Changes node change) key e at live = stays_same e (n.entries key) at
 
   module _ (key : Key) (number : ℕ) (ask : Ask) where
     -- while an ask is in time its invoke ID is held

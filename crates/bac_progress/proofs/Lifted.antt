@@ -20,7 +20,7 @@ use Rattle.bac_protocol.specs.Transaction.{Key, Rules, Copy, client_context, ser
 use Rattle.bac_protocol.specs.World.{Net, World, Post, Event, later, is_deliverable, copies_of, is_key_held, asked_at, ask_made, client_acts, server_acts}
 use Rattle.bac_protocol.specs.World.{delivered, arrives, takes_at_client, takes_at_server, ticks_ticket, ticks_as_client, ticks_as_server, serves, service_of}
 use Rattle.bac_protocol.specs.World.{happens, run, start, post_of}
-use Rattle.bac_protocol.specs.World.Event.{MakeAsk, Deliver, Tick, Noise, Advance}
+use Rattle.bac_protocol.specs.World.Event.{MakeAsk, Deliver, Tick, Noise, Advance, Change}
 use Rattle.bac_protocol.specs.Claims.{IsBounded, EachCopy}
 use Rattle.bac_protocol.proofs.Alone.{one, sent}
 use Rattle.bac_protocol.proofs.Asks.{IsSpent}
@@ -314,6 +314,7 @@ module _ (W : ℕ) (x : Rules) (bound : IsBounded W x) (key : Key) (some : 0 < l
     event_on w s own flow Noise = flow
     event_on w s own flow (Advance by) = λ t there.
         flow_later W x key w.net.now by t.ask t.repeats t.phase (w.net.entries key) (copies_of key w.net.posts) (flow t there)
+    event_on w s own flow (Change node change) = flow
 
     -- Runs.
 

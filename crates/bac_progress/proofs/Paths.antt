@@ -1,4 +1,4 @@
--- A run of events is a path of single steps of one end, or of asks, or of time. Of each delivery to a server a premise says with which service it
+-- A run of events is a path of single steps of one end, or of asks, of time, or of changes at nodes. Of each delivery to a server a premise says with which service it
 -- comes, and whether a slot is free.
 use Rattle.std.proofs.Common.{◌≡◌, ℕ, zero, suc, ◌+◌, ◌≤◌, Bool, true, false, List, [], ◌∷◌, ◌++◌, map, Option, Some, None, slice_get, if◌then◌else◌}
 use Rattle.std.proofs.Common.{refl, inr, arith}
@@ -9,11 +9,11 @@ use Rattle.bac_protocol.specs.Client.{Ask, Ticket}
 use Rattle.bac_protocol.specs.Server as server
 use Rattle.bac_protocol.specs.Server.{Effect, Service}
 use Rattle.bac_protocol.specs.Log.{Fact, Shop}
-use Rattle.bac_protocol.specs.Log.Fact.{Ended}
+use Rattle.bac_protocol.specs.Log.Fact.{Ended, Changed}
 use Rattle.bac_protocol.specs.Transaction.{Key, Rules, client_context, server_context, ended, performed}
-use Rattle.bac_protocol.specs.World.{Net, World, Post, Event, is_deliverable, is_key_held, asked_at, ask_made, server_acts, takes_at_client, takes_at_server}
+use Rattle.bac_protocol.specs.World.{Net, World, Post, Event, is_deliverable, is_key_held, asked_at, ask_made, server_acts, notes_change, takes_at_client, takes_at_server}
 use Rattle.bac_protocol.specs.World.{delivered, happens, run, ticks_ticket, ticks_as_client, ticks_as_server, serves, service_of, post_of}
-use Rattle.bac_protocol.specs.World.Event.{MakeAsk, Deliver, Tick, Noise, Advance}
+use Rattle.bac_protocol.specs.World.Event.{MakeAsk, Deliver, Tick, Noise, Advance, Change}
 use Rattle.bac_protocol.specs.Moves.{taken_by_client, taken_by_server, ticket_ticked}
 use Rattle.bac_protocol.proofs.Facts.{Grows, grows_same, grows_more}
 use Rattle.bac_progress.specs.Runs.{Throughout}
@@ -39,6 +39,7 @@ pub data Step (x : Rules) (Q : Net → ℕ → Bool → Service → Type 0) (n :
   TicksTicket : (key : Key) (t : Ticket) → n.tickets key ≡ Some t → Step x Q n (ticket_ticked x n key (Some t))
   TicksEntry : (key : Key) → Step x Q n (server_acts n key (server.server_ticks (server_context x key n.now) (n.entries key)))
   Passes : (by : ℕ) → Step x Q n (record n { now = n.now + by })
+  Changes : (node : ℕ) (change : Octets) → Step x Q n (notes_change n node change)
 
 pub data Path (x : Rules) (Q : Net → ℕ → Bool → Service → Type 0) (from : Net) : Net → Type 0 where
   Here : Path x Q from from
@@ -67,6 +68,7 @@ module _ (x : Rules) (Q : Net → ℕ → Bool → Service → Type 0) where
   step_now n _ (TicksTicket key t there) = omega arith
   step_now n _ (TicksEntry key) = omega arith
   step_now n _ (Passes by) = omega arith
+  step_now n _ (Changes node change) = omega arith
 
   pub step_log : (n m : Net) → Step x Q n m → Grows n.log m.log
   step_log n _ (Asks key choice whole front rest free) = λ f h. inr h
@@ -77,6 +79,7 @@ module _ (x : Rules) (Q : Net → ℕ → Bool → Service → Type 0) where
   step_log n _ (TicksTicket key t there) = grows_ended (n.numbers key) (client.ending_of (client.client_ticks (client_context x key n.now) t)) n.log
   step_log n _ (TicksEntry key) = grows_performed (n.numbers key) (server.server_ticks (server_context x key n.now) (n.entries key)).effect n.log
   step_log n _ (Passes by) = grows_same n.log
+  step_log n _ (Changes node change) = grows_more (Changed node change) n.log
 
   pub step_posts : (n m : Net) → Step x Q n m → (i : ℕ) (q : Post) → slice_get n.posts i ≡ Some q → slice_get m.posts i ≡ Some q
   step_posts n _ (Asks key choice whole front rest free) i q e =
@@ -93,6 +96,7 @@ module _ (x : Rules) (Q : Net → ℕ → Bool → Service → Type 0) where
   step_posts n _ (TicksEntry key) i q e =
       front_stays n.posts (map (post_of key n.now) (server.server_ticks (server_context x key n.now) (n.entries key)).sends) i q e
   step_posts n _ (Passes by) i q e = e
+  step_posts n _ (Changes node change) i q e = e
 
   pub path_now : (n m : Net) → Path x Q n m → n.now ≤ m.now
   path_now n _ Here = omega arith
@@ -172,6 +176,7 @@ module _ (x : Rules) (Q : Net → ℕ → Bool → Service → Type 0) where
         path_then w.net u.net (ticks_as_server S shop x as_server u).net (clients_path as_client w) (servers_path as_server u)
     event_path w Noise q = Here
     event_path w (Advance by) q = step_path w.net (record w.net { now = w.net.now + by }) (Passes by)
+    event_path w (Change node change) q = step_path w.net (notes_change w.net node change) (Changes node change)
 
     pub run_path : (events : List Event) (w : World S) → Throughout S shop x Gives events w → Path x Q w.net (run S shop x events w).net
     run_path [] w q = Here
@@ -191,6 +196,7 @@ module _ (x : Rules) (S : Type 0) (shop : Shop S) where
   any_event w (Tick as_client as_server) = tt
   any_event w Noise = tt
   any_event w (Advance by) = tt
+  any_event w (Change node change) = tt
 
   any_run : (events : List Event) (w : World S) → Throughout S shop x (Gives x Any S shop) events w
   any_run [] w = tt

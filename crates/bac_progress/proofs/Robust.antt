@@ -18,7 +18,7 @@ use Rattle.bac_protocol.specs.Log.Fact.{Asked, Performed, Ended}
 use Rattle.bac_protocol.specs.Transaction.{Key, Rules, client_context}
 use Rattle.bac_protocol.specs.World.{Net, World, Post, Event, is_deliverable, is_key_held, asked_at, ask_made}
 use Rattle.bac_protocol.specs.World.{happens, run, start, post_of, later, copies_of, service_of}
-use Rattle.bac_protocol.specs.World.Event.{MakeAsk, Deliver, Tick, Noise, Advance}
+use Rattle.bac_protocol.specs.World.Event.{MakeAsk, Deliver, Tick, Noise, Advance, Change}
 use Rattle.bac_protocol.specs.Claims.{IsBounded}
 use Rattle.bac_protocol.proofs.Alone.{one}
 use Rattle.bac_protocol.proofs.Asks.{IsSpent}
@@ -57,6 +57,7 @@ module _ (S : Type 0) (shop : Shop S) (x : Rules) (key : Key) (ask : Ask) (numbe
   finds_event w (Tick as_client as_server) h = tt
   finds_event w Noise h = tt
   finds_event w (Advance by) h = tt
+  finds_event w (Change node change) h = tt
 
   finds_run : (events : List Event) (w : World S) → Throughout S shop x (FindsServer S shop x key ask) events w
       → Throughout S shop x (Gives x (Finds x key ask number) S shop) events w

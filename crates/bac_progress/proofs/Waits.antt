@@ -6,7 +6,7 @@ use Rattle.bac_apdu.specs.Apdu.{Apdu}
 use Rattle.bac_segment.specs.Pieces.{join}
 use Rattle.bac_protocol.specs.declared.times.TheConstants.{T_OUT, LIFE, HOLD}
 use Rattle.bac_protocol.specs.Context.{Context}
-use Rattle.bac_protocol.specs.Service.{Reply}
+use Rattle.bac_protocol.specs.Service.{Octets, Reply}
 use Rattle.bac_protocol.specs.Service.Outcome.{Replies}
 use Rattle.bac_protocol.specs.Service.Ending.{Answered, TimedOut, Expired}
 use Rattle.bac_protocol.specs.Wire.{Each, is_from_client}
@@ -18,9 +18,9 @@ use Rattle.bac_protocol.specs.Server as server
 use Rattle.bac_protocol.specs.Server.{State, Entry, Service, is_live, is_none_live}
 use Rattle.bac_protocol.specs.Server.State.{Done}
 use Rattle.bac_protocol.specs.Log.{Fact, Has}
-use Rattle.bac_protocol.specs.Log.Fact.{Asked, Performed, Ended}
+use Rattle.bac_protocol.specs.Log.Fact.{Asked, Performed, Ended, Changed}
 use Rattle.bac_protocol.specs.Transaction.{Key, Rules, client_context, server_context, ended, performed}
-use Rattle.bac_protocol.specs.World.{Net, Post, is_key_held, asked_at, client_acts, server_acts, post_of, set_at, later}
+use Rattle.bac_protocol.specs.World.{Net, Post, is_key_held, asked_at, client_acts, server_acts, notes_change, post_of, set_at, later}
 use Rattle.bac_protocol.proofs.Facts.{Grows, grows_more}
 use Rattle.bac_protocol.proofs.Keys.{decide_key, set_same, set_other}
 use Rattle.bac_protocol.proofs.Dead.{ended_is_silent}
@@ -28,7 +28,7 @@ use Rattle.bac_progress.specs.Runs.{IsOnItsWay}
 use Rattle.bac_progress.specs.RoundTrip.{FitsInOne, request_to, answer_to}
 use Rattle.bac_progress.specs.Repeats.{IsAnswered, PATIENCE}
 use Rattle.bac_progress.proofs.Paths.{some_is, ask_of, Comes, Step, Path, step_now, grows_ended, grows_performed}
-use Rattle.bac_progress.proofs.Paths.Step.{Asks, Serves, Hears, TicksTicket, TicksEntry, Passes}
+use Rattle.bac_progress.proofs.Paths.Step.{Asks, Serves, Hears, TicksTicket, TicksEntry, Passes, Changes}
 use Rattle.bac_progress.proofs.Paths.Path.{Here, Then}
 use Rattle.bac_progress.proofs.Serving.{answer_any_time, answer_not_from_client, answer_ends, performed_entry, answers_first, serves_new, serves_again}
 
@@ -477,6 +477,21 @@ module _ (x : Rules) (key : Key) (ask : Ask) (number : ℕ) where
       state_later (inl p) = inl (record { waits = p.waits; few = p.few; since = p.since; passed = let q = p.passed in omega arith })
       state_later (inr o) = inr o
 
+  changes_waits : (n : Net) (node : ℕ) (change : Octets) → Waits n → Waits (notes_change n node change)
+  changes_waits n node change h = record {
+    clock = h.clock;
+    entry = entry_grows n.now (n.entries key) n.log log g h.entry;
+    posts = λ i q at is young. fine_grows n.log log g q.copy.apdu (h.posts i q at is young);
+    ticket = ticket_grows n.now (n.tickets key) n.log log g h.ticket;
+    number_is = h.number_is;
+  }
+    where
+      log : List Fact
+      log = Changed node change ∷ n.log
+
+      g : Grows n.log log
+      g = grows_more (Changed node change) n.log
+
   waits_step : ask.whole ≡ true → (n m : Net) → Step x Finds n m → Waits n → InPatience n → Waits m
   waits_step whole n _ (Asks k choice w front rest free) h young = asked_waits n k (ask_of n.now choice w front rest)
       (λ is. let held = ap (λ (j : Key). is_key_held n.now (n.tickets j)) is ∙ key_held n h young in absurd (let z = sym held ∙ free in cc)) h
@@ -502,6 +517,7 @@ module _ (x : Rules) (key : Key) (ask : Ask) (number : ℕ) where
       server_waits n k (server.server_ticks (server_context x k n.now) (n.entries k)) h (λ is.
       subst (λ (j : Key). ServerGoal n (server.server_ticks (server_context x j n.now) (n.entries j))) (sym is) (ticks_entry n young h.entry))
   waits_step whole n _ (Passes by) h young = passes_waits n by h
+  waits_step whole n _ (Changes node change) h young = changes_waits n node change h
 
   pub waits_path : ask.whole ≡ true → (n m : Net) → Path x Finds n m → Waits n → InPatience m → Waits m
   waits_path whole n _ Here h young = h

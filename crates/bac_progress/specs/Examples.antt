@@ -9,10 +9,10 @@ use Rattle.bac_protocol.specs.Service.Reply.{Complex}
 use Rattle.bac_protocol.specs.Service.Ending.{Answered, Expired}
 use Rattle.bac_protocol.specs.Client.{Ask, Ticket, asked_ticket}
 use Rattle.bac_protocol.specs.Log.{Fact}
-use Rattle.bac_protocol.specs.Log.Fact.{Asked, Performed, Ended}
+use Rattle.bac_protocol.specs.Log.Fact.{Asked, Performed, Ended, Changed}
 use Rattle.bac_protocol.specs.Transaction.{client_context}
 use Rattle.bac_protocol.specs.World.{World, Event, is_key_held, run, start}
-use Rattle.bac_protocol.specs.World.Event.{MakeAsk, Deliver, Tick, Noise, Advance}
+use Rattle.bac_protocol.specs.World.Event.{MakeAsk, Deliver, Tick, Noise, Advance, Change}
 use Rattle.bac_protocol.specs.Claims.{IsBounded}
 use Rattle.bac_protocol.specs.Straight.{AreStraight}
 use Rattle.bac_protocol.specs.Examples.{key, shop, rules, tick, ask_append, append, position, position_apdu, zeros}
@@ -77,9 +77,9 @@ pub record LateAnswer : Type 0 where
 abbrev pub sent_twice : List Event
 sent_twice = ask_append ∷ Advance 3000 ∷ tick ∷ []
 
--- then the first copy comes, and noise, and the client's timer is due again; the answer to the second arrives at 6,000
+-- then the first copy comes, and noise, the server's store changes, and the client's timer is due again; the answer to the second arrives at 6,000
 abbrev pub performed_once : List Event
-performed_once = sent_twice ++ Deliver 1 true ∷ Deliver 0 true ∷ Noise ∷ Advance 3000 ∷ tick ∷ []
+performed_once = sent_twice ++ Deliver 1 true ∷ Deliver 0 true ∷ Noise ∷ Change 1 (5 ∷ []) ∷ Advance 3000 ∷ tick ∷ []
 
 pub record OneRoundTrip : Type 0 where
   pub ticket : (world position sent_twice).net.tickets key ≡ Some (record (ticket_of whole_ask) { repeats = 2; since = 3000 })
@@ -89,7 +89,7 @@ pub record OneRoundTrip : Type 0 where
   pub going : IsOpenInTime (world position performed_once).net key whole_ask
   pub answer : IsOnItsWay (rules 3) (world position performed_once).net key position_apdu 2
   pub ends : (world position (performed_once ++ Deliver 2 true ∷ [])).net.log
-      ≡ Ended 0 (Answered position) ∷ was_performed append position ∷ was_asked append ∷ []
+      ≡ Ended 0 (Answered position) ∷ Changed 1 (5 ∷ []) ∷ was_performed append position ∷ was_asked append ∷ []
 
 -- the answer to the copy that was performed is lost; the next copy finds its reply kept
 abbrev pub answer_lost : List Event

@@ -7,35 +7,43 @@ use Rattle.bac_protocol.specs.Service.{Octets, Reply as reply}
 use Rattle.bac_protocol.specs.Wire.{pieces_from, Each}
 use Rattle.bac_protocol.specs.Client.{Ask, request_of}
 use Rattle.bac_protocol.specs.Log.{Fact, Has, IsUnperformed, IsUnended}
-use Rattle.bac_protocol.specs.Log.Fact.{Asked, Performed, Ended}
+use Rattle.bac_protocol.specs.Log.Fact.{Asked, Performed, Ended, Changed}
 use Rattle.bac_protocol.specs.Transaction.{Copy}
 use Rattle.bac_protocol.proofs.Alone.{sent}
 use Rattle.bac_protocol.specs.Claims.{EachCopy, IsPiece, IsAck}
-use Rattle.bac_protocol.proofs.Sound.{number_of, IsBelow, Up, Down, IsPieceUp, IsAckUp, IsPieceDown, IsAckDown, server_until, Says, Fits}
+use Rattle.bac_protocol.proofs.Sound.{OfAsk, IsBelow, Up, Down, IsPieceUp, IsAckUp, IsPieceDown, IsAckDown, server_until, Says, Fits}
 use Rattle.bac_protocol.proofs.Sound.Up.{Reading, Repeated}
 use Rattle.bac_protocol.proofs.Sound.Down.{Unsent, Sent}
 
 -- The log.
 
+pub of_ask : (P Q : ℕ → Type 0) (f : Fact) → ((m : ℕ) → P m → Q m) → OfAsk P f → OfAsk Q f
+of_ask P Q (Asked m c s r) g h = g m h
+of_ask P Q (Performed m r p) g h = g m h
+of_ask P Q (Ended m how) g h = g m h
+of_ask P Q (Changed s c) g h = tt
+
 pub below_more : (a b : ℕ) (log : List Fact) → a ≤ b → IsBelow a log → IsBelow b log
 below_more a b [] le h = tt
-below_more a b (f ∷ log) le h = (omega (arith, h.0), below_more a b log le h.1)
+below_more a b (f ∷ log) le h = (of_ask (λ m. m < a) (λ m. m < b) f (λ m lt. omega arith) h.0, below_more a b log le h.1)
 
 pub below_unperformed : (n : ℕ) (log : List Fact) → IsBelow n log → IsUnperformed n log
 below_unperformed n [] h = tt
 below_unperformed n (Asked m c s r ∷ log) h = below_unperformed n log h.1
 below_unperformed n (Performed m r p ∷ log) h = (omega (arith, h.0), below_unperformed n log h.1)
 below_unperformed n (Ended m how ∷ log) h = below_unperformed n log h.1
+below_unperformed n (Changed s c ∷ log) h = below_unperformed n log h.1
 
 pub below_unended : (n : ℕ) (log : List Fact) → IsBelow n log → IsUnended n log
 below_unended n [] h = tt
 below_unended n (Asked m c s r ∷ log) h = below_unended n log h.1
 below_unended n (Performed m r p ∷ log) h = below_unended n log h.1
 below_unended n (Ended m how ∷ log) h = (omega (arith, h.0), below_unended n log h.1)
+below_unended n (Changed s c ∷ log) h = below_unended n log h.1
 
-pub below_has : (n : ℕ) (f : Fact) (log : List Fact) → IsBelow n log → Has f log → number_of f < n
+pub below_has : (n : ℕ) (f : Fact) (log : List Fact) → IsBelow n log → Has f log → OfAsk (λ m. m < n) f
 below_has n f [] h k = absurd k
-below_has n f (g ∷ log) h (inl e) = subst (λ (x : Fact). number_of x < n) e h.0
+below_has n f (g ∷ log) h (inl e) = subst (λ (x : Fact). OfAsk (λ m. m < n) x) e h.0
 below_has n f (g ∷ log) h (inr k) = below_has n f log h.1 k
 
 -- The copies.

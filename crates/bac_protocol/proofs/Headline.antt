@@ -9,19 +9,19 @@ use Rattle.bac_protocol.specs.Client as client
 use Rattle.bac_protocol.specs.Client.{Ask, request_of, Ticket}
 use Rattle.bac_protocol.specs.Server as server
 use Rattle.bac_protocol.specs.Server.{Entry, Effect}
-use Rattle.bac_protocol.specs.Log.{Fact, Has, asks_in, Shop, IsOnce, IsOrderly}
-use Rattle.bac_protocol.specs.Log.Fact.{Asked, Performed, Ended}
+use Rattle.bac_protocol.specs.Log.{Fact, Has, asks_in, Shop, IsOnce, HasNoChange, IsOnceByRequests, IsOrderly}
+use Rattle.bac_protocol.specs.Log.Fact.{Asked, Performed, Ended, Changed}
 use Rattle.bac_protocol.specs.Transaction.{Key, Rules, Copy, ended, client_context, server_context}
 use Rattle.bac_protocol.specs.World.{Net, World, Post, Event, later, client_acts, server_acts, asked_at, is_key_held, service_of, reacts}
 use Rattle.bac_protocol.specs.World.{serves, ask_made, takes_at_client, takes_at_server, arrives, delivered, ticks_ticket, ticks_as_client}
 use Rattle.bac_protocol.specs.World.{ticks_as_server, stored, happens, run, start}
-use Rattle.bac_protocol.specs.World.Event.{MakeAsk, Deliver, Tick, Noise, Advance}
+use Rattle.bac_protocol.specs.World.Event.{MakeAsk, Deliver, Tick, Noise, Advance, Change}
 use Rattle.bac_protocol.specs.Claims.{IsBounded}
 use Rattle.bac_protocol.proofs.Alone.{one}
 use Rattle.bac_protocol.proofs.ClientKeeps.{client_gets_kept, client_ticks_kept}
 use Rattle.bac_protocol.proofs.ServerKeeps.{server_gets_kept, server_ticks_kept}
 use Rattle.bac_protocol.proofs.Keys.{copy_at, set_nothing}
-use Rattle.bac_protocol.proofs.Nets.{IsLogOf, log_of, NetSound, sound_at, net_client, net_server, net_asked, spent_at, net_later, net_starts}
+use Rattle.bac_protocol.proofs.Nets.{IsLogOf, log_of, NetSound, sound_at, net_client, net_server, net_asked, spent_at, net_changed, net_later, net_starts}
 use Rattle.bac_protocol.proofs.Served.{IsServed, gets_served, ticks_quiet}
 
 -- An ask has one request.
@@ -34,6 +34,8 @@ has_below n c s r (Performed m q p ∷ log) o (inl e) = absurd cc
 has_below n c s r (Performed m q p ∷ log) o (inr h) = has_below n c s r log o.2 h
 has_below n c s r (Ended m how ∷ log) o (inl e) = absurd cc
 has_below n c s r (Ended m how ∷ log) o (inr h) = has_below n c s r log o.2 h
+has_below n c s r (Changed a b ∷ log) o (inl e) = absurd cc
+has_below n c s r (Changed a b ∷ log) o (inr h) = has_below n c s r log o h
 
 -- the two facts that a log has of one ask are one
 pub asked_once : (n c s d u : ℕ) (q r : Request) (log : List Fact) → IsOrderly log → Has (Asked n c s q) log → Has (Asked n d u r) log → q ≡ r
@@ -50,12 +52,24 @@ asked_once n c s d u q r (Performed m x p ∷ log) o (inr h) (inr k) = asked_onc
 asked_once n c s d u q r (Ended m how ∷ log) o (inl e) k = absurd cc
 asked_once n c s d u q r (Ended m how ∷ log) o (inr h) (inl f) = absurd cc
 asked_once n c s d u q r (Ended m how ∷ log) o (inr h) (inr k) = asked_once n c s d u q r log o.2 h k
+asked_once n c s d u q r (Changed a b ∷ log) o (inl e) k = absurd cc
+asked_once n c s d u q r (Changed a b ∷ log) o (inr h) (inl f) = absurd cc
+asked_once n c s d u q r (Changed a b ∷ log) o (inr h) (inr k) = asked_once n c s d u q r log o h k
 
 pub net_log : (W : ℕ) (n : Net) → NetSound W n → IsLogOf n.asks n.log
 net_log W n s = let key : Key = record { client = 0; server = 0; invoke_id = 0 } in log_of W key (n.tickets key) (one n key) (s.each key)
 
 none_there : (k : ℕ) (c : Copy) → slice_get [] k ≡ Some c → ⊥
 none_there k c e = cc
+
+-- Where no node changes its own store, stores change by performed requests alone.
+pub by_requests : (S : Type 0) (shop : Shop S) (opening : ℕ → S) (log : List Fact) (stores : ℕ → S) → HasNoChange log → IsOnce S shop opening log stores
+    → IsOnceByRequests S shop opening log stores
+by_requests S shop opening [] stores none h = h
+by_requests S shop opening (Asked n c s r ∷ log) stores none h = (h.0, h.1, by_requests S shop opening log h.0 none h.2)
+by_requests S shop opening (Performed n r p ∷ log) stores none h = (h.0, h.1, by_requests S shop opening log h.0 none h.2)
+by_requests S shop opening (Ended n how ∷ log) stores none h = (h.0, h.1, by_requests S shop opening log h.0 none h.2)
+by_requests S shop opening (Changed s c ∷ log) stores none h = absurd none
 
 -- No event moves the log and the stores apart.
 module _ (S : Type 0) (shop : Shop S) (opening : ℕ → S) (W : ℕ) (x : Rules) (bound : IsBounded W x) where
@@ -197,6 +211,8 @@ module _ (S : Type 0) (shop : Shop S) (opening : ℕ → S) (W : ℕ) (x : Rules
   event_kept w s (Tick as_client as_server) = servers_kept as_server (ticks_as_client S x as_client w) (clients_kept as_client w s)
   event_kept w s Noise = s
   event_kept w s (Advance by) = record { net = net_later W by w.net s.net; once = s.once }
+  event_kept w s (Change node change) =
+      record { net = net_changed W w.net node change s.net; once = (w.stores, λ n. refl, s.once) }
 
   pub run_kept : (events : List Event) (w : World S) → Kept w → Kept (run S shop x events w)
   run_kept [] w s = s

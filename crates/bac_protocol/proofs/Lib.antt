@@ -12,6 +12,7 @@ pub mod Keys
 pub mod Nets
 pub mod Served
 pub mod Headline
+pub mod Unchanged
 pub mod Claimed
 pub mod Computed
 pub mod Beyond

@@ -13,36 +13,38 @@ use Rattle.bac_protocol.specs.Server as server
 use Rattle.bac_protocol.specs.Server.{State, Entry, Effect}
 use Rattle.bac_protocol.specs.Server.State.{Done, SegmentedResponse, Dropped}
 use Rattle.bac_protocol.specs.Log.{Fact, asks_in, IsUnperformed, IsUnended, IsOrderly}
-use Rattle.bac_protocol.specs.Log.Fact.{Asked, Performed, Ended}
+use Rattle.bac_protocol.specs.Log.Fact.{Asked, Performed, Ended, Changed}
 use Rattle.bac_protocol.specs.Transaction.{Key, Rules, ended, performed, client_context}
-use Rattle.bac_protocol.specs.World.{Net, set_at, client_acts, server_acts, asked_at, is_key_held, net_start}
+use Rattle.bac_protocol.specs.World.{Net, set_at, client_acts, server_acts, asked_at, notes_change, is_key_held, net_start}
 use Rattle.bac_protocol.proofs.Alone.{Transaction, client_does, server_does, asked_by, one}
-use Rattle.bac_protocol.proofs.Sound.{number_of, IsBelow, Up, Down, IsKeptFor, IsUnbegun, StateFits, ServerFits, IsOpenIn, IsSoundAt, IsSound}
+use Rattle.bac_protocol.proofs.Sound.{OfAsk, IsOfOther, IsBelow, Up, Down, IsKeptFor, IsUnbegun, StateFits, ServerFits, IsOpenIn, IsSoundAt, IsSound}
 use Rattle.bac_protocol.proofs.Sound.Up.{Reading}
 use Rattle.bac_protocol.proofs.Sound.Down.{Unsent}
-use Rattle.bac_protocol.proofs.Facts.{below_has, says_goes, up_same, down_same, grows_more}
+use Rattle.bac_protocol.proofs.Facts.{of_ask, below_has, says_goes, up_same, down_same, grows_more}
 use Rattle.bac_protocol.proofs.Asks.{IsSpent, spent_fresh, asked_sound, spent_of}
 use Rattle.bac_protocol.proofs.Keys.{decide_key, set_same, set_other, copies_posted, copies_other}
 
 -- What one transaction does is nothing to another.
 
-unperformed_more : (n : ℕ) (f : Fact) (log : List Fact) → number_of f ≢ n → IsUnperformed n log → IsUnperformed n (f ∷ log)
+unperformed_more : (n : ℕ) (f : Fact) (log : List Fact) → IsOfOther n f → IsUnperformed n log → IsUnperformed n (f ∷ log)
 unperformed_more n (Asked m c s r) log ne h = h
 unperformed_more n (Performed m r p) log ne h = (ne, h)
 unperformed_more n (Ended m how) log ne h = h
+unperformed_more n (Changed s c) log ne h = h
 
-unended_more : (n : ℕ) (f : Fact) (log : List Fact) → number_of f ≢ n → IsUnended n log → IsUnended n (f ∷ log)
+unended_more : (n : ℕ) (f : Fact) (log : List Fact) → IsOfOther n f → IsUnended n log → IsUnended n (f ∷ log)
 unended_more n (Asked m c s r) log ne h = h
 unended_more n (Performed m r p) log ne h = h
 unended_more n (Ended m how) log ne h = (ne, h)
+unended_more n (Changed s c) log ne h = h
 
-open_more : (phase : Phase) (n : ℕ) (f : Fact) (log : List Fact) → number_of f ≢ n → IsOpenIn phase n log → IsOpenIn phase n (f ∷ log)
+open_more : (phase : Phase) (n : ℕ) (f : Fact) (log : List Fact) → IsOfOther n f → IsOpenIn phase n log → IsOpenIn phase n (f ∷ log)
 open_more (Phase.SegmentedRequest out all_sent) n f log ne h = unended_more n f log ne h
 open_more AwaitConfirmation n f log ne h = unended_more n f log ne h
 open_more (SegmentedConf inc) n f log ne h = unended_more n f log ne h
 open_more Idle n f log ne h = tt
 
-kept_more : (number : ℕ) (ask : Ask) (f : Fact) (log : List Fact) (a : Apdu) → number_of f ≢ number → IsKeptFor number ask a log
+kept_more : (number : ℕ) (ask : Ask) (f : Fact) (log : List Fact) (a : Apdu) → IsOfOther number f → IsKeptFor number ask a log
     → IsKeptFor number ask a (f ∷ log)
 kept_more number ask f log (SimpleAck id choice) ne h = (inr h.0, h.1)
 kept_more number ask f log (ComplexAck id None choice o) ne h = (inr h.0, h.1)
@@ -51,12 +53,12 @@ kept_more number ask f log (Reject id r) ne h = unperformed_more number f log ne
 kept_more number ask f log (Abort true id r) ne h = unperformed_more number f log ne h
 kept_more number ask f log _ ne h = absurd h
 
-unbegun_more : (number : ℕ) (f : Fact) (log : List Fact) (up : Up) (down : Down) → number_of f ≢ number → IsUnbegun number up down log
+unbegun_more : (number : ℕ) (f : Fact) (log : List Fact) (up : Up) (down : Down) → IsOfOther number f → IsUnbegun number up down log
     → IsUnbegun number up down (f ∷ log)
 unbegun_more number f log (Reading t s) Unsent ne h = (h.0, unperformed_more number f log ne h.1)
 unbegun_more number f log _ _ ne h = absurd h
 
-state_more : (W number : ℕ) (ask : Ask) (f : Fact) (log : List Fact) (st : State) (up : Up) (down : Down) → number_of f ≢ number
+state_more : (W number : ℕ) (ask : Ask) (f : Fact) (log : List Fact) (st : State) (up : Up) (down : Down) → IsOfOther number f
     → StateFits W number ask st up down log → StateFits W number ask st up down (f ∷ log)
 state_more W number ask f log (State.SegmentedRequest inc since) (Reading t s) Unsent ne h =
     record { in_pieces = h.in_pieces; front = h.front; unperformed = unperformed_more number f log ne h.unperformed }
@@ -66,7 +68,7 @@ state_more W number ask f log (SegmentedResponse out transfer since) up down ne 
 state_more W number ask f log Dropped (Reading t s) Unsent ne h = (h.0, unperformed_more number f log ne h.1)
 state_more W number ask f log _ _ _ ne h = absurd h
 
-server_more : (W number : ℕ) (ask : Ask) (f : Fact) (log : List Fact) (up : Up) (down : Down) (o : Option Entry) → number_of f ≢ number
+server_more : (W number : ℕ) (ask : Ask) (f : Fact) (log : List Fact) (up : Up) (down : Down) (o : Option Entry) → IsOfOther number f
     → ServerFits W number ask o up down log → ServerFits W number ask o up down (f ∷ log)
 server_more W number ask f log up down None ne h = unbegun_more number f log up down ne h
 server_more W number ask f log up down (Some e) ne (inl h) = inl (record { dead = h.dead; unbegun = unbegun_more number f log up down ne h.unbegun })
@@ -85,7 +87,7 @@ log_of W key (Some t) w s = record { numbers = (s.2).numbers; counted = (s.2).co
 
 -- another transaction's fact enters the log
 elsewhere : (W asks' : ℕ) (key : Key) (f : Fact) (w : Transaction) (o : Option Ticket) → IsLogOf asks' (f ∷ w.log)
-    → ((t : Ticket) → o ≡ Some t → number_of f ≢ w.number) → IsSoundAt W key o w → IsSoundAt W key o (record w { asks = asks'; log = f ∷ w.log })
+    → ((t : Ticket) → o ≡ Some t → IsOfOther w.number f) → IsSoundAt W key o w → IsSoundAt W key o (record w { asks = asks'; log = f ∷ w.log })
 elsewhere W asks' key f w None log ne s = record {
   no_entry = s.no_entry;
   no_copies = s.no_copies;
@@ -140,7 +142,7 @@ KeepsNumber n n' key = (u : Ticket) → n'.tickets key ≡ Some u
 -- the log is as it was, or has one more fact, which is the transaction's
 abbrev AddsOwn : Net → Net → Key → Type 0
 AddsOwn n n' key = ((n'.log ≡ n.log) × (n'.asks ≡ n.asks)) ⊎
-    ((f : Fact) × (n'.log ≡ f ∷ n.log) × ((u : Ticket) × (n'.tickets key ≡ Some u) × (number_of f ≡ n'.numbers key)))
+    ((f : Fact) × (n'.log ≡ f ∷ n.log) × ((u : Ticket) × (n'.tickets key ≡ Some u) × (OfAsk (λ m. m ≡ n'.numbers key) f)))
 
 -- all other transactions see no more than that
 abbrev LeavesOthers : Net → Net → Key → Type 0
@@ -170,12 +172,12 @@ net_keeps W n n' key s own others keeps adds = record
     same_log k e f = subst (λ (lg : List Fact). IsSoundAt W k (n.tickets k) (record (one n k) { asks = n'.asks; log = lg })) (sym e)
         (subst (λ (x : ℕ). IsSoundAt W k (n.tickets k) (record (one n k) { asks = x })) (sym f) (s.each k))
 
-    more_log : (k : Key) → (key ≡ k → ⊥) → (f : Fact) (u : Ticket) → n'.log ≡ f ∷ n.log → n'.tickets key ≡ Some u → number_of f ≡ n'.numbers key
+    more_log : (k : Key) → (key ≡ k → ⊥) → (f : Fact) (u : Ticket) → n'.log ≡ f ∷ n.log → n'.tickets key ≡ Some u → OfAsk (λ m. m ≡ n'.numbers key) f
         → IsSoundAt W k (n.tickets k) (record (one n k) { asks = n'.asks; log = n'.log })
     more_log k ne f u e at same = subst (λ (lg : List Fact). IsSoundAt W k (n.tickets k) (record (one n k) { asks = n'.asks; log = lg })) (sym e)
         (elsewhere W n'.asks k f (one n k) (n.tickets k)
         (subst (IsLogOf n'.asks) e (log_of W key (n'.tickets key) (one n' key) own))
-        (λ t at' x. foreign W n n' key s keeps k ne t u at' at (sym same ∙ x))
+        (λ t at'. of_ask (λ m. m ≡ n'.numbers key) (λ m. m ≢ n.numbers k) f (λ m is x. foreign W n n' key s keeps k ne t u at' at (sym is ∙ x)) same)
         (s.each k))
 
     after_log : (k : Key) → (key ≡ k → ⊥) → AddsOwn n n' key → IsSoundAt W k (n.tickets k) (record (one n k) { asks = n'.asks; log = n'.log })
@@ -221,7 +223,7 @@ net_client W n key t at s r own = net_keeps W n (client_acts n key t r) key s
 
     adds : (o : Option Ending) → ((ended (n.numbers key) o n.log ≡ n.log) × (n.asks ≡ n.asks)) ⊎
         ((f : Fact) × (ended (n.numbers key) o n.log ≡ f ∷ n.log)
-        × ((u : Ticket) × (set_at n.tickets key (Some (client.after n.now t r)) key ≡ Some u) × (number_of f ≡ n.numbers key)))
+        × ((u : Ticket) × (set_at n.tickets key (Some (client.after n.now t r)) key ≡ Some u) × (OfAsk (λ m. m ≡ n.numbers key) f)))
     adds None = inl (refl, refl)
     adds (Some how) = inr (Ended (n.numbers key) how, refl, (client.after n.now t r, set_same n.tickets key (Some (client.after n.now t r)), refl))
 
@@ -245,7 +247,7 @@ net_server W n key t at s v own = net_keeps W n (server_acts n key v) key s
     (adds v.effect)
   where
     adds : (x : Option Effect) → ((performed (n.numbers key) x n.log ≡ n.log) × (n.asks ≡ n.asks)) ⊎
-        ((f : Fact) × (performed (n.numbers key) x n.log ≡ f ∷ n.log) × ((u : Ticket) × (n.tickets key ≡ Some u) × (number_of f ≡ n.numbers key)))
+        ((f : Fact) × (performed (n.numbers key) x n.log ≡ f ∷ n.log) × ((u : Ticket) × (n.tickets key ≡ Some u) × (OfAsk (λ m. m ≡ n.numbers key) f)))
     adds None = inl (refl, refl)
     adds (Some x) = inr (Performed (n.numbers key) x.request x.reply, refl, (t, at, refl))
 
@@ -290,6 +292,17 @@ spent_at W n key (Some t) at s free = spent_of W key (one n key) t s.0 s.1 s.2 (
     go : (b : Bool) → (not b || nat_le (n.now - t.ask.first) HOLD) ≡ false → t.ask.first + HOLD < n.now
     go true e = let clock = (s.2).clock in grind (arith, nat_tests)
     go false e = absurd cc
+
+-- A change at a node.
+
+pub net_changed : (W : ℕ) (n : Net) (node : ℕ) (change : Octets) → NetSound W n → NetSound W (notes_change n node change)
+net_changed W n node change s = record {
+  each = λ key.
+      let h = log_of W key (n.tickets key) (one n key) (s.each key) in
+      elsewhere W n.asks key (Changed node change) (one n key) (n.tickets key)
+      (record { numbers = (tt, h.numbers); counted = h.counted; orderly = h.orderly }) (λ t at. tt) (s.each key);
+  apart = s.apart;
+}
 
 -- Time.
 

@@ -15,7 +15,7 @@ use Rattle.bac_protocol.specs.Transaction.{Key, Rules, client_context, server_co
 use Rattle.bac_protocol.specs.World.{Net, World, Post, Event, post_of, set_at, later, client_acts, server_acts, is_key_held, ask_made}
 use Rattle.bac_protocol.specs.World.{takes_at_client, takes_at_server, arrives, delivered, ticks_ticket, ticks_as_client, ticks_as_server, serves}
 use Rattle.bac_protocol.specs.World.{service_of, happens, run, start}
-use Rattle.bac_protocol.specs.World.Event.{MakeAsk, Deliver, Tick, Noise, Advance}
+use Rattle.bac_protocol.specs.World.Event.{MakeAsk, Deliver, Tick, Noise, Advance, Change}
 use Rattle.bac_protocol.specs.Own.{EntryHas, PhaseHas, TicketHas, IsLesser, IsSentByClient, IsSentByServer, IsOwnPost, AreOwn}
 use Rattle.bac_protocol.proofs.Keys.{decide_key, set_same, set_other}
 use Rattle.bac_protocol.proofs.Own.{ClientSends, BeginsAnswer, Own, own_sends, own_after, gets_own, ticks_own, asks_own}
@@ -202,6 +202,7 @@ module _ (x : Rules) where
     event_owned w h (Tick as_client as_server) = servers_owned as_server (ticks_as_client S x as_client w) (clients_owned as_client w h)
     event_owned w h Noise = h
     event_owned w h (Advance by) = record { posts = h.posts; entries = h.entries; tickets = h.tickets }
+    event_owned w h (Change node change) = record { posts = h.posts; entries = h.entries; tickets = h.tickets }
 
     run_owned : (events : List Event) (w : World S) → Owned w.net → Owned (run S shop x events w).net
     run_owned [] w h = h

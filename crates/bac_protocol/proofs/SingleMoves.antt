@@ -15,13 +15,13 @@ use Rattle.bac_protocol.specs.World.{Net, Post, later, server_acts, asked_at, is
 use Rattle.bac_protocol.specs.Claims.{IsBounded}
 use Rattle.bac_protocol.specs.Own.{IsOwnEntry}
 use Rattle.bac_protocol.specs.Moves.{Move, taken_by_client, taken_by_server, arrived, ticket_ticked, moved, IsReached, IsInOrder, SetsOnePlace}
-use Rattle.bac_protocol.specs.Moves.Move.{Asks, Arrives, TicksTicket, TicksEntry, Passes}
+use Rattle.bac_protocol.specs.Moves.Move.{Asks, Arrives, TicksTicket, TicksEntry, Passes, Changes}
 use Rattle.bac_protocol.specs.Moves.IsReached.{Still, Moved}
 use Rattle.bac_protocol.proofs.Alone.{one}
 use Rattle.bac_protocol.proofs.ClientKeeps.{client_gets_kept, client_ticks_kept}
 use Rattle.bac_protocol.proofs.ServerKeeps.{server_gets_kept, server_ticks_kept}
 use Rattle.bac_protocol.proofs.Keys.{copy_at, decide_key, set_same, set_other, set_nothing}
-use Rattle.bac_protocol.proofs.Nets.{NetSound, sound_at, net_client, net_server, net_asked, spent_at, net_later, net_starts}
+use Rattle.bac_protocol.proofs.Nets.{NetSound, sound_at, net_client, net_server, net_asked, spent_at, net_changed, net_later, net_starts}
 use Rattle.bac_protocol.proofs.Headline.{net_log}
 use Rattle.bac_protocol.proofs.Own.{server_sends_own}
 use Rattle.bac_protocol.proofs.StraightRuns.{none_live_of}
@@ -134,6 +134,7 @@ module _ (W : ℕ) (x : Rules) (bound : IsBounded W x) where
   move_sound n s (TicksTicket key) = ticket_sound n s key (n.tickets key) refl
   move_sound n s (TicksEntry key) = entry_sound n s key (n.tickets key) refl
   move_sound n s (Passes by) = record { net = net_later W by n s.net; own = s.own }
+  move_sound n s (Changes node change) = record { net = net_changed W n node change s.net; own = s.own }
 
   reached_sound : (n : Net) → IsReached x net_start n → Sound n
   reached_sound _ Still = record { net = net_starts W; own = λ key. tt }

@@ -1,5 +1,5 @@
 -- What holds of one transaction at each moment. Whole numbers of pieces are kept beside the two machines, which see numbers modulo 256 alone.
-use Rattle.std.proofs.Common.{◌≡◌, ℕ, ◌+◌, ◌-◌, ◌<◌, ◌≤◌, ◌⊎◌, true, false, List, [], ◌∷◌, length, take, Option, Some, None}
+use Rattle.std.proofs.Common.{◌≡◌, ℕ, ◌+◌, ◌-◌, ◌<◌, ◌≤◌, ◌≢◌, ◌⊎◌, true, false, List, [], ◌∷◌, length, take, Option, Some, None}
 use Rattle.bac_apdu.specs.Apdu.{Apdu, Segment}
 use Rattle.bac_apdu.specs.Apdu.Apdu.{ConfirmedRequest, UnconfirmedRequest, SimpleAck, ComplexAck, SegmentAck, Error, Reject, Abort}
 use Rattle.bac_segment.specs.Limits.{RETRIES}
@@ -12,22 +12,28 @@ use Rattle.bac_protocol.specs.Client.Phase.{AwaitConfirmation, SegmentedConf, Id
 use Rattle.bac_protocol.specs.Server.{State, Entry}
 use Rattle.bac_protocol.specs.Server.State.{Done, SegmentedResponse, Dropped}
 use Rattle.bac_protocol.specs.Log.{Fact, Has, asks_in, IsUnperformed, IsUnended, IsOrderly}
-use Rattle.bac_protocol.specs.Log.Fact.{Asked, Performed, Ended}
+use Rattle.bac_protocol.specs.Log.Fact.{Asked, Performed, Ended, Changed}
 use Rattle.bac_protocol.specs.Transaction.{Key, Copy}
 use Rattle.bac_protocol.proofs.Alone.{Transaction}
 use Rattle.bac_protocol.specs.Claims.{EachCopy, IsPieceOf, WasPerformed, IsPiece, IsAck}
 
 -- The log.
 
-abbrev pub number_of : Fact → ℕ
-number_of (Asked n c s r) = n
-number_of (Performed n r p) = n
-number_of (Ended n how) = n
+-- what is said of the ask of a fact; a change is of no ask
+abbrev pub OfAsk : (ℕ → Type 0) → Fact → Type 0
+OfAsk P (Asked n c s r) = P n
+OfAsk P (Performed n r p) = P n
+OfAsk P (Ended n how) = P n
+OfAsk P (Changed s c) = Unit {0}
+
+-- a fact is not of ask n
+abbrev pub IsOfOther : ℕ → Fact → Type 0
+IsOfOther n = OfAsk (λ m. m ≢ n)
 
 -- the asks of the log have numbers below that
 abbrev pub IsBelow : ℕ → List Fact → Type 0
 IsBelow asks [] = Unit {0}
-IsBelow asks (f ∷ log) = (number_of f < asks) × IsBelow asks log
+IsBelow asks (f ∷ log) = OfAsk (λ m. m < asks) f × IsBelow asks log
 
 -- A transfer in pieces, in whole numbers.
 

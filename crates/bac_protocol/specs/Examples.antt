@@ -20,10 +20,10 @@ use Rattle.bac_protocol.specs.Server.State.{Done, SegmentedResponse, Dropped}
 use Rattle.bac_protocol.specs.Server.Transfer.{Running, Stopped, Finished}
 use Rattle.bac_protocol.specs.Sizes.Way.{InOne, InSegments, Refused}
 use Rattle.bac_protocol.specs.Log.{Fact, Shop}
-use Rattle.bac_protocol.specs.Log.Fact.{Asked, Performed, Ended}
+use Rattle.bac_protocol.specs.Log.Fact.{Asked, Performed, Ended, Changed}
 use Rattle.bac_protocol.specs.Transaction.{Key, Rules, client_context, server_context}
 use Rattle.bac_protocol.specs.World.{Post, World, Event, run, start, post_of, is_deliverable}
-use Rattle.bac_protocol.specs.World.Event.{MakeAsk, Deliver, Tick, Advance}
+use Rattle.bac_protocol.specs.World.Event.{MakeAsk, Deliver, Tick, Advance, Change}
 
 -- what is seen of a world whose server's store counts its effects
 pub record Seen : Type 0 where
@@ -50,9 +50,9 @@ rules window = record {
   overtake = 128;
 }
 
--- each request is answered so
+-- each request is answered so; a change counts as many effects as it has octets
 abbrev pub shop : Reply → Shop ℕ
-shop p = record { outcome = λ s choice octets. Replies p; after = λ s request. suc s }
+shop p = record { outcome = λ s choice octets. Replies p; after = λ s request. suc s; changed = λ s change. s + length change }
 
 abbrev pub key : Key
 key = record { client = 0; server = 1; invoke_id = 0 }
@@ -90,6 +90,16 @@ asked octets = Asked 0 0 1 (record { choice = 7; service = octets })
 
 abbrev pub performed : Octets → Reply → Fact
 performed octets p = Performed 0 (record { choice = 7; service = octets }) p
+
+-- between the ask and its delivery the server's store changes, and that of its client: both are in the log, and nothing else is another
+abbrev pub ChangesBetween : Type 0
+ChangesBetween =
+    shows 32 position (ask_append ∷ Change 1 (5 ∷ 6 ∷ []) ∷ Change 0 (7 ∷ []) ∷ Deliver 0 true ∷ [])
+    ≡ record {
+      sent = append_apdu ∷ position_apdu ∷ [];
+      log = performed append position ∷ Changed 0 (7 ∷ []) ∷ Changed 1 (5 ∷ 6 ∷ []) ∷ asked append ∷ [];
+      effects = 3;
+    }
 
 -- a request that is delivered four times is performed once, and answered four times
 abbrev pub FourCopies : Type 0

@@ -8,16 +8,17 @@ use Rattle.bac_protocol.specs.Server.{Service, is_none_live, server_gets, server
 use Rattle.bac_protocol.specs.Log.{Has, asks_in, IsOrderly}
 use Rattle.bac_protocol.specs.Log.Fact.{Asked}
 use Rattle.bac_protocol.specs.Transaction.{Key, Rules, client_context, server_context}
-use Rattle.bac_protocol.specs.World.{Net, Post, set_at, is_key_held, asked_at, client_acts, server_acts, is_deliverable}
+use Rattle.bac_protocol.specs.World.{Net, Post, set_at, is_key_held, asked_at, client_acts, server_acts, notes_change, is_deliverable}
 use Rattle.bac_protocol.specs.Own.{IsOwnEntry}
 
--- an ask; a copy arrives, at a server with that service; one ticket's tick; one entry's tick; time passes
+-- an ask; a copy arrives, at a server with that service; one ticket's tick; one entry's tick; time passes; a node changes its own store
 pub data Move : Type 0 where
   Asks : (key : Key) (choice : ℕ) (whole : Bool) (front : Octets) (rest : List Octets) → Move
   Arrives : (number : ℕ) (free : Bool) (service : Service) → Move
   TicksTicket : (key : Key) → Move
   TicksEntry : (key : Key) → Move
   Passes : (by : ℕ) → Move
+  Changes : (node : ℕ) (change : Octets) → Move
 
 -- a copy reaches its client (clause 5.4.4); without a ticket it is dropped
 abbrev pub taken_by_client : Rules → Net → Post → Option Ticket → Net
@@ -51,6 +52,7 @@ moved x n (Arrives number free service) = arrived x n number free service (slice
 moved x n (TicksTicket key) = ticket_ticked x n key (n.tickets key)
 moved x n (TicksEntry key) = server_acts n key (server_ticks (server_context x key n.now) (n.entries key))
 moved x n (Passes by) = record n { now = n.now + by }
+moved x n (Changes node change) = notes_change n node change
 
 -- a net to which moves lead
 pub data IsReached (x : Rules) (from : Net) : Net → Type 0 where

@@ -10,7 +10,7 @@ use Rattle.bac_protocol.specs.Client as client
 use Rattle.bac_protocol.specs.Server.{Entry, Effect, Service, server_gets, server_ticks}
 use Rattle.bac_protocol.specs.Server as server
 use Rattle.bac_protocol.specs.Log.{Fact, Shop}
-use Rattle.bac_protocol.specs.Log.Fact.{Asked}
+use Rattle.bac_protocol.specs.Log.Fact.{Asked, Changed}
 use Rattle.bac_protocol.specs.Transaction.{Key, Rules, client_context, server_context, Copy, ended, performed}
 
 -- whether two keys are of one transaction: of one client, one server and one invoke ID (clause 5.4)
@@ -103,10 +103,18 @@ asked_at x n key ask =
       log = Asked n.asks key.client key.server (request_of ask) ∷ n.log;
     }
 
+-- a change at a node itself enters the log; no ticket, entry or copy sees it
+abbrev pub notes_change : Net → (node : ℕ) → (change : Octets) → Net
+notes_change n node change = record n { log = Changed node change ∷ n.log }
+
 -- the servers' stores after what was performed
 abbrev pub stored : (S : Type 0) → Shop S → (server : ℕ) → Option Effect → (ℕ → S) → ℕ → S
 stored S shop server None stores node = stores node
 stored S shop server (Some effect) stores node = if nat_eq node server then shop.after (stores server) effect.request else stores node
+
+-- the stores after a change at that node
+abbrev pub changed_at : (S : Type 0) → Shop S → (node : ℕ) → (change : Octets) → (ℕ → S) → ℕ → S
+changed_at S shop node change stores n = if nat_eq n node then shop.changed (stores node) change else stores n
 
 -- a client acts; no store changes
 abbrev pub reacts : (S : Type 0) → World S → Key → Ticket → client.Reaction → World S
@@ -118,13 +126,15 @@ serves S shop w key v = record { net = server_acts w.net key v; stores = stored 
 
 -- Events.
 
--- what can happen: an ask in one APDU or in these pieces, a delivery of the copy of that number, a tick of a node, noise, and time that passes
+-- what can happen: an ask in one APDU or in these pieces, a delivery of the copy of that number, a tick of a node, noise, time that passes, and a
+-- change at a node itself
 pub data Event : Type 0 where
   MakeAsk : (key : Key) (choice : ℕ) (whole : Bool) (front : Octets) (rest : List Octets) → Event
   Deliver : (number : ℕ) (free : Bool) → Event  -- free: whether a slot of the server's reply table has no live entry
   Tick : (as_client as_server : List Key) → Event  -- a node's tickets, and then its entries, in order
   Noise : Event  -- octets that are no datagram with an APDU
   Advance : (by : ℕ) → Event
+  Change : (node : ℕ) (change : Octets) → Event
 
 -- whether an invoke ID is held for that server
 abbrev pub is_key_held : ℕ → Option Ticket → Bool
@@ -183,11 +193,18 @@ happens S shop x w (Deliver number free) = delivered S shop x w number free (sli
 happens S shop x w (Tick as_client as_server) = ticks_as_server S shop x as_server (ticks_as_client S x as_client w)
 happens S shop x w Noise = w
 happens S shop x w (Advance by) = record { net = record w.net { now = w.net.now + by }; stores = w.stores }
+happens S shop x w (Change node change) = record { net = notes_change w.net node change; stores = changed_at S shop node change w.stores }
 
 -- the world after these events, in their order
 abbrev pub run : (S : Type 0) → Shop S → Rules → List Event → World S → World S
 run S shop x [] w = w
 run S shop x (e ∷ es) w = run S shop x es (happens S shop x w e)
+
+-- in these events no node changes its own store
+abbrev pub MakeNoChange : List Event → Type 0
+MakeNoChange [] = Unit {0}
+MakeNoChange (Change node change ∷ es) = ⊥
+MakeNoChange (e ∷ es) = MakeNoChange es
 
 -- nothing was asked or sent yet
 abbrev pub net_start : Net

@@ -1,7 +1,8 @@
 //! The transaction state machines of both ends (clause 5.4) as definitions, and what holds of every run of them.
 //!
 //! The definitions stand in `specs/`; the code of the client's and the server's end cites them. The functions here have no body: each carries
-//! a law as its contract. A run is any list of asks, deliveries, losses, repeats, reorderings, ticks, noise and clock steps among nodes.
+//! a law as its contract. A run is any list of asks, deliveries, losses, repeats, reorderings, ticks, noise, clock steps and changes of their own
+//! stores among nodes.
 #![tactic(auto)]
 
 pub mod examples;
@@ -14,9 +15,9 @@ pub mod times;
 
 ghost use Rattle.std.specs.Prelude.{◌≡◌, ℕ, ◌+◌, ◌*◌, ◌%◌, ◌<◌, ◌≤◌, List, Some, length, take, slice_get};
 ghost use Rattle.bac_segment.specs.Numbers.{ahead};
-ghost use Rattle.bac_protocol.specs.Log.{Shop, IsOnce};
+ghost use Rattle.bac_protocol.specs.Log.{Fact, Shop, IsOnce, HasNoChange, IsOnceByRequests};
 ghost use Rattle.bac_protocol.specs.Transaction.{Key, Rules};
-ghost use Rattle.bac_protocol.specs.World.{Post, Event, Net, count_of, later, run, start};
+ghost use Rattle.bac_protocol.specs.World.{Post, Event, Net, count_of, later, run, start, MakeNoChange};
 ghost use Rattle.bac_protocol.specs.Beyond.{Misread};
 ghost use Rattle.bac_protocol.specs.Own.{ClientSendsOwn, ServerSendsOwn, AreOwn};
 ghost use Rattle.bac_protocol.specs.Claims.{IsBounded, IsInPlace, AreOfNewest, RequestsAreInWindow, RepliesAreInWindow, LaterPassesFindReply};
@@ -32,10 +33,20 @@ pub fn never_misread()
 
 /// After every run, from whatever stores it began: each accepted ask takes effect at most once, and exactly once where a service answer reached
 /// its client; the request performed and the answer are its own, whole; and each server's store is its opening store after the performed
-/// requests in their order.
+/// requests and the changes made at that node, in the log's order.
 pub fn at_most_once<S>()
     ensures { (shop : Shop S) (opening : ℕ → S) (W : ℕ) (rules : Rules) → IsBounded W rules → (events : List Event)
         → (let w = run S shop rules events (start S opening) in IsOnce S shop opening w.net.log w.stores) }
+{}
+
+/// Where the log has no change that was made at a node, each server's store is its opening store after the performed requests in their order; and
+/// where no event is such a change, the log has none.
+#[tactic(auto, using(crate::proofs::Headline::by_requests, crate::proofs::Unchanged::no_change_in_run))]
+pub fn requests_alone_change_stores<S>()
+    ensures log { (shop : Shop S) (opening : ℕ → S) (log : List Fact) (stores : ℕ → S) → HasNoChange log → IsOnce S shop opening log stores
+        → IsOnceByRequests S shop opening log stores }
+    ensures run { (shop : Shop S) (rules : Rules) (opening : ℕ → S) (events : List Event) → MakeNoChange events
+        → HasNoChange (run S shop rules events (start S opening)).net.log }
 {}
 
 /// In every run, each copy that may arrive belongs to the newest ask of its client, server and invoke ID: it was sent since that ask was made and

@@ -13,7 +13,7 @@ use Rattle.bac_store.specs.Views.{entry_view}
 use Rattle.bac_store.specs.Changes.{where_that, with_own_values, with_values, with_contents, with_octets}
 use Rattle.bac_store.specs.Kept.{object_number, IsShort, IsKept, IsInOrder, Fits}
 use Rattle.bac_store.specs.Limits.{VALUE_LIMIT, FILE_LIMIT}
-use Rattle.bac_store.specs.Plans.{Change, changed}
+use Rattle.bac_store.specs.Plans.{Effect, with_effect}
 use Rattle.bac_store.specs.Replies.{overwritten}
 use Rattle.bac_store.specs.Stores.{Store, Object, File, is_object, is_number}
 
@@ -77,19 +77,38 @@ octets_kept at new short o k = record {
   file_fits = octets_fit at new short o.file k.file_fits;
 }
 
-pub changed_in_order : (c : Change) → Fits c → (s : Store) → IsInOrder s → IsInOrder (changed c s)
-changed_in_order Change.Nothing f s o = o
-changed_in_order (Change.Values id n values) f s o = record {
+contents_fit : (octets : List ℕ) → length octets ≤ FILE_LIMIT → (f : Option File) → IfSome f (λ g. length g.octets ≤ FILE_LIMIT)
+    → IfSome (option_map (with_contents (λ old. octets)) f) (λ g. length g.octets ≤ FILE_LIMIT)
+contents_fit octets short None h = tt
+contents_fit octets short (Some f) h = short
+
+contents_kept : (octets : List ℕ) → length octets ≤ FILE_LIMIT → (o : Object) → IsKept o → IsKept (with_octets (λ old. octets) o)
+contents_kept octets short o k = record {
+  kind_fits = k.kind_fits;
+  instance_fits = k.instance_fits;
+  named = k.named;
+  rise = k.rise;
+  short = k.short;
+  file_fits = contents_fit octets short o.file k.file_fits;
+}
+
+pub effect_in_order : (c : Effect) → Fits c → (s : Store) → IsInOrder s → IsInOrder (with_effect c s)
+effect_in_order Effect.Nothing f s o = o
+effect_in_order (Effect.Values id n values) f s o = record {
   rise = rise-where_that (with_values n values) (is_object id) (λ x. object_number x.id) (λ x. refl) s o.rise;
   each = All-where_that (with_values n values) (is_object id) IsKept (values_kept n values f) s o.each;
 }
-changed_in_order (Change.Octets id at new) f s o = record {
+effect_in_order (Effect.Contents id octets) f s o = record {
+  rise = rise-where_that (with_octets (λ old. octets)) (is_object id) (λ x. object_number x.id) (λ x. refl) s o.rise;
+  each = All-where_that (with_octets (λ old. octets)) (is_object id) IsKept (contents_kept octets f) s o.each;
+}
+effect_in_order (Effect.Octets id at new) f s o = record {
   rise = rise-where_that (with_octets (overwritten at new)) (is_object id) (λ x. object_number x.id) (λ x. refl) s o.rise;
   each = All-where_that (with_octets (overwritten at new)) (is_object id) IsKept (octets_kept at new f) s o.each;
 }
 
 -- what a change of the objects in their vector leaves
-pub vector_in_order : (v : Vec Entry) (ws : List Entry) (c : Change) → Fits c → IsInOrder (map entry_view v.items) → length ws ≡ v.len
-    → map entry_view ws ≡ changed c (map entry_view v.items) → IsInOrder (map entry_view (with_items v ws).items)
+pub vector_in_order : (v : Vec Entry) (ws : List Entry) (c : Effect) → Fits c → IsInOrder (map entry_view v.items) → length ws ≡ v.len
+    → map entry_view ws ≡ with_effect c (map entry_view v.items) → IsInOrder (map entry_view (with_items v ws).items)
 vector_in_order v ws c f o kept is =
-    subst (λ xs. IsInOrder (map entry_view xs)) (sym (with_items_is v ws kept)) (subst IsInOrder (sym is) (changed_in_order c f (map entry_view v.items) o))
+    subst (λ xs. IsInOrder (map entry_view xs)) (sym (with_items_is v ws kept)) (subst IsInOrder (sym is) (effect_in_order c f (map entry_view v.items) o))

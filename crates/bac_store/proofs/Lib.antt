@@ -15,3 +15,4 @@ pub mod Equal
 pub mod KindLaws
 pub mod OrderLaws
 pub mod WriteLaws
+pub mod GrantLaws

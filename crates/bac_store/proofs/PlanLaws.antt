@@ -10,7 +10,7 @@ use Rattle.bac_service.specs.Values.WriteAccess.{WriteStream}
 use Rattle.bac_service.specs.Values.Request.{WriteFile}
 use Rattle.bac_store.specs.Changes.{where_that, with_contents, with_octets, is_done, after}
 use Rattle.bac_store.specs.Kept.{object_number, IsInOrder}
-use Rattle.bac_store.specs.Plans.{Plan, changed, IsPlanFor, IsStreamPlan}
+use Rattle.bac_store.specs.Plans.{Plan, with_effect, IsPlanFor, IsStreamPlan}
 use Rattle.bac_store.specs.Replies.{reply_to, file_of, overwritten, write_start, written}
 use Rattle.bac_store.specs.Stores.{Store, Object, File, is_object, is_same, object_in}
 
@@ -59,9 +59,9 @@ stream_plan s id start new f p o file plan = record { reply = reply; effect = go
     reply : p.reply ≡ reply_to s (WriteFile id (WriteStream start new))
     reply = rw file plan.reply
 
-    go : (b : Bool) → is_done p.reply ≡ b → changed p.change s ≡ after s (WriteFile id (WriteStream start new))
-    go true e = rw (plan.change, e, ← reply, e) (same_octets id (overwritten (write_start start f.octets) new) (written start new) f refl s o.rise file)
-    go false e = rw (plan.change, e, ← reply, e) refl
+    go : (b : Bool) → is_done p.reply ≡ b → with_effect p.effect s ≡ after s (WriteFile id (WriteStream start new))
+    go true e = rw (plan.effect, e, ← reply, e) (same_octets id (overwritten (write_start start f.octets) new) (written start new) f refl s o.rise file)
+    go false e = rw (plan.effect, e, ← reply, e) refl
 
 pub IfOk-map : {T E : Type 0} (r : Result T E) (P Q : T → Type 0) → ((x : T) → P x → Q x) → IfOk r P → IfOk r Q
 IfOk-map (Ok x) P Q f h = f x h

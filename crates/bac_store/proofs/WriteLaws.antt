@@ -9,7 +9,8 @@ use Rattle.bac_service.specs.Values.Request.{ReadFile, WriteFile, ReadProperty, 
 use Rattle.bac_store.specs.Changes.{IsGranted, after, done, is_done, with_contents, with_object, with_octets, with_own_values, with_values}
 use Rattle.bac_store.specs.Replies.{file_of, reply_to, written}
 use Rattle.bac_store.specs.Stores.{Object, Property, Store, first_that, is_number, is_object, is_same, object_in}
-use Rattle.bac_store.specs.Writes.{IsFileWrite, IsValueWrite, listed_of}
+use Rattle.bac_store.specs.AtNode.{Change, changed, whole}
+use Rattle.bac_store.specs.Writes.{IsFileChange, IsFileWrite, IsValueWrite, listed_of}
 use Rattle.bac_store.proofs.OrderLaws.{listed_in-with_values, object_in-with_object}
 
 -- what was found by a test passes it
@@ -87,21 +88,20 @@ value_written s r values =
       other_objects = elsewhere r.object change (λ o. refl) s;
     }
 
-pub file_written : (s : Store) (id : ObjectId) (start : ℤ) (octets : List ℕ)
-    → IsFileWrite id start octets s (with_object id (with_octets (written start octets)) s)
-file_written s id start octets =
-    let change = with_octets (written start octets) in
+pub file_changed : (s : Store) (id : ObjectId) (write : List ℕ → List ℕ) → IsFileChange id write s (with_object id (with_octets write) s)
+file_changed s id write =
+    let change = with_octets write in
     let found = there id change (λ o. refl) s in
     record {
-      there = ap file_of found ∙ file_there (written start octets) (object_in s id);
-      properties = λ n. ap (listed_of n) found ∙ listed_stays n (written start octets) (object_in s id);
+      there = ap file_of found ∙ file_there write (object_in s id);
+      properties = λ n. ap (listed_of n) found ∙ listed_stays n write (object_in s id);
       name = ap (option_map (λ o. o.name)) found ∙ part (λ o. o.name) change (λ o. refl) (object_in s id);
       other_objects = elsewhere id change (λ o. refl) s;
     }
 
 -- ---- requests
 
-where_done : (b : Bool) (x y : Store) → b ≡ true → (if b then x else y) ≡ x
+pub where_done : (b : Bool) (x y : Store) → b ≡ true → (if b then x else y) ≡ x
 where_done true x y e = refl
 where_done false x y e = cc
 
@@ -124,7 +124,7 @@ pub write_octets : (s : Store) (id : ObjectId) (start : ℤ) (octets : List ℕ)
 write_octets s id start octets granted =
     let to = with_object id (with_octets (written start octets)) s in
     subst (IsFileWrite id start octets s) (sym (where_done (is_done (reply_to s (WriteFile id (WriteStream start octets)))) to s granted))
-    (file_written s id start octets)
+    (file_changed s id (written start octets))
 
 pub error_changes_nothing : (s : Store) (r : Request) → is_done (reply_to s r) ≡ false → after s r ≡ s
 error_changes_nothing s r e = where_not_done (is_done (reply_to s r)) (done r s) s e
@@ -134,3 +134,11 @@ read_changes_nothing s r = where_same (is_done (reply_to s (ReadProperty r))) s
 
 pub file_read_changes_nothing : (s : Store) (id : ObjectId) (access : ReadAccess) → after s (ReadFile id access) ≡ s
 file_read_changes_nothing s id access = where_same (is_done (reply_to s (ReadFile id access))) s
+
+-- ---- changes at the node itself
+
+pub change_values : (s : Store) (id : ObjectId) (n : ℕ) (octets : List ℕ) → IsValueWrite (whole id n) octets s (changed (Change.Value id n octets) s)
+change_values s id n octets = value_written s (whole id n) octets
+
+pub change_octets : (s : Store) (id : ObjectId) (octets : List ℕ) → IsFileChange id (λ old. octets) s (changed (Change.File id octets) s)
+change_octets s id octets = file_changed s id (λ old. octets)

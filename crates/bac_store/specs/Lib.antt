@@ -15,3 +15,4 @@ pub mod ReplyLengths
 pub mod Kinds
 pub mod House
 pub mod Writes
+pub mod AtNode

@@ -1,4 +1,4 @@
--- A plan: the reply to a request, and the change that it makes.
+-- A plan: the reply to a request, and the effect that it has.
 use Rattle.std.specs.Prelude.{◌≡◌, ℕ, ℤ, List, if◌then◌else◌}
 use Rattle.bac_value.specs.Value.{ObjectId}
 use Rattle.bac_service.specs.Values.{Request}
@@ -7,31 +7,33 @@ use Rattle.bac_store.specs.Stores.{Store, File}
 use Rattle.bac_store.specs.Replies.{overwritten, reply_to, write_start, write_stream_reply}
 use Rattle.bac_store.specs.Changes.{with_object, with_values, with_octets, is_done, after}
 
--- nothing, the values of one listed property, or new octets of one file from a place on
-pub data Change : Type 0 where
-  Nothing : Change
-  Values : (object : ObjectId) (property : ℕ) (values : List ℕ) → Change
-  Octets : (object : ObjectId) (at : ℕ) (new : List ℕ) → Change
+-- nothing, the values of one listed property, new octets of one file from a place on, or other octets in the place of all of a file
+pub data Effect : Type 0 where
+  Nothing : Effect
+  Values : (object : ObjectId) (property : ℕ) (values : List ℕ) → Effect
+  Octets : (object : ObjectId) (at : ℕ) (new : List ℕ) → Effect
+  Contents : (object : ObjectId) (octets : List ℕ) → Effect
 
 pub record Plan : Type 0 where
   pub reply : Reply
-  pub change : Change
+  pub effect : Effect
 
--- the store with a change made
-abbrev pub changed : Change → Store → Store
-changed Change.Nothing s = s
-changed (Change.Values id n values) s = with_object id (with_values n values) s
-changed (Change.Octets id at new) s = with_object id (with_octets (overwritten at new)) s
+-- the store after an effect
+abbrev pub with_effect : Effect → Store → Store
+with_effect Effect.Nothing s = s
+with_effect (Effect.Values id n values) s = with_object id (with_values n values) s
+with_effect (Effect.Octets id at new) s = with_object id (with_octets (overwritten at new)) s
+with_effect (Effect.Contents id octets) s = with_object id (with_octets (λ old. octets)) s
 
 -- the plan was made on this store, for this request
 pub record IsPlanFor (s : Store) (r : Request) (p : Plan) : Type 0 where
   pub reply : p.reply ≡ reply_to s r
-  pub effect : changed p.change s ≡ after s r
+  pub effect : with_effect p.effect s ≡ after s r
 
--- a plan for a write of octets to this file: what an Error changes is nothing
+-- a plan for a write of octets to this file: an Error has no effect
 pub record IsStreamPlan (id : ObjectId) (start : ℤ) (new : List ℕ) (f : File) (p : Plan) : Type 0 where
   pub reply : p.reply ≡ write_stream_reply start new f
-  pub change : p.change ≡ (if is_done p.reply then Change.Octets id (write_start start f.octets) new else Change.Nothing)
+  pub effect : p.effect ≡ (if is_done p.reply then Effect.Octets id (write_start start f.octets) new else Effect.Nothing)
 
 -- the plan was made on this store
 pub record IsPlanOn (s : Store) (p : Plan) : Type 0 where

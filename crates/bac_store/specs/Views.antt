@@ -8,9 +8,12 @@ use Rattle.bac_store.specs.declared.object.File as contents
 use Rattle.bac_store.specs.declared.object.Object as thing
 use Rattle.bac_store.specs.declared.entry.Slot.{Slot}
 use Rattle.bac_store.specs.declared.entry.Entry.{Entry}
-use Rattle.bac_store.specs.declared.planned.Change as code
-use Rattle.bac_store.specs.declared.planned.Change.TheVariants as variant
-use Rattle.bac_store.specs.Plans.{Change}
+use Rattle.bac_store.specs.declared.change.Change as change
+use Rattle.bac_store.specs.declared.change.Change.TheVariants as change_case
+use Rattle.bac_store.specs.declared.planned.Effect as code
+use Rattle.bac_store.specs.declared.planned.Effect.TheVariants as variant
+use Rattle.bac_store.specs.AtNode.{Change}
+use Rattle.bac_store.specs.Plans.{Effect}
 use Rattle.bac_store.specs.Stores.{Object, Property, File, kind_of}
 
 abbrev pub file_view : contents.File → File
@@ -41,7 +44,12 @@ entry_view e =
       file = option_map file_view e.file;
     }
 
-abbrev pub change_view : code.Change → Change
-change_view variant.Nothing = Change.Nothing
-change_view (variant.Values id n values) = Change.Values (object_identifier_view id) n values.octets.items
-change_view (variant.Octets id splice) = Change.Octets (object_identifier_view id) splice.at splice.new.items
+abbrev pub effect_view : code.Effect → Effect
+effect_view variant.Nothing = Effect.Nothing
+effect_view (variant.Values id n values) = Effect.Values (object_identifier_view id) n values.octets.items
+effect_view (variant.Octets id splice) = Effect.Octets (object_identifier_view id) splice.at splice.new.items
+effect_view (variant.Contents id octets) = Effect.Contents (object_identifier_view id) octets.items
+
+abbrev pub change_view : change.Change → Change
+change_view (change_case.Value id n octets) = Change.Value (object_identifier_view id) n octets.items
+change_view (change_case.File id octets) = Change.File (object_identifier_view id) octets.items

@@ -29,9 +29,13 @@ pub record IsValueWrite (r : Reference) (values : List ℕ) (old new : Store) : 
   pub file : file_at new r.object ≡ file_at old r.object
   pub other_objects : (id : ObjectId) → is_same r.object id ≡ false → object_in new id ≡ object_in old id
 
--- clause 14.2: the file has the first of its octets, the new ones, and what came after those, with the mark that it had; all else is as it was
-pub record IsFileWrite (id : ObjectId) (start : ℤ) (octets : List ℕ) (old new : Store) : Type 0 where
-  pub there : file_at new id ≡ option_map (with_contents (written start octets)) (file_at old id)
+-- the file has other octets, made of those that it had, with the mark that it had; all else is as it was
+pub record IsFileChange (id : ObjectId) (change : List ℕ → List ℕ) (old new : Store) : Type 0 where
+  pub there : file_at new id ≡ option_map (with_contents change) (file_at old id)
   pub properties : (n : ℕ) → listed_at new id n ≡ listed_at old id n
   pub name : name_at new id ≡ name_at old id
   pub other_objects : (q : ObjectId) → is_same id q ≡ false → object_in new q ≡ object_in old q
+
+-- clause 14.2: the first of its octets, the new ones, and what came after those
+abbrev pub IsFileWrite : ObjectId → ℤ → List ℕ → Store → Store → Type 0
+IsFileWrite id start octets = IsFileChange id (written start octets)

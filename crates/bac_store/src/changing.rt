@@ -56,3 +56,18 @@ pub(crate) fn set_octets(objects: &mut [Entry], object: ObjectIdentifier, splice
         None => {}
     }
 }
+
+/// Sets all octets of a file.
+pub(crate) fn set_contents(objects: &mut [Entry], object: ObjectIdentifier, octets: Vec<u8>)
+    requires { IsInOrder (map entry_view objects.old) }
+    ensures { map entry_view objects.new
+        ≡ with_object (object_identifier_view object) (with_octets (λ _. octets.items)) (map entry_view objects.old) }
+{
+    match place_of(objects, object) {
+        Some(at) => match &mut objects[at].file {
+            Some(file) => file.octets = octets,
+            None => {}
+        },
+        None => {}
+    }
+}

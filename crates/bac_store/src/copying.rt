@@ -8,6 +8,16 @@ use crate::object::File;
 use bac_value::NoMemory;
 use std::alloc::Global;
 
+/// A copy of octets, in one allocation where there are any, otherwise in none.
+pub(crate) fn copied_octets(alloc: Global, octets: &[u8]) -> Result<Vec<u8>, NoMemory>
+    ensures same { IfOk result (λ v. v.items ≡ octets.now) }
+    ensures held { OnErr result (1 ≤ length octets.now) }
+{
+    let mut copy = Vec::new(alloc);
+    copy.extend_from_slice(octets)?;
+    Ok(copy)
+}
+
 fn copied_slot(alloc: Global, slot: &Slot) -> Result<Slot, NoMemory>
     ensures { IfOk result (λ s. slot_view s ≡ slot_view slot.now) }
 {

@@ -11,6 +11,7 @@ ghost use Rattle.bac_store.specs.Replies.{file_read, is_no_write_start, octets_f
 ghost use Rattle.bac_store.specs.Replies.{write_stream_reply};
 ghost use Rattle.bac_store.specs.Views.{file_view};
 
+use crate::copying::copied_octets;
 use crate::limits::FILE_LIMIT;
 use crate::object::File;
 use crate::refusal::Refusal;
@@ -33,12 +34,11 @@ fn stream_reply(
     let left = octets.len() - start;
     let end_of_file = left as u64 <= count;
     let len = if end_of_file { left } else { count as usize };
-    let mut copy = Vec::new(alloc);
-    copy.extend_from_slice(&octets[start..start + len])?;
+    let octets = copied_octets(alloc, &octets[start..start + len])?;
     let read = FileRead {
         end_of_file,
         start: start as i64,
-        content: OctetString { octets: copy },
+        content: OctetString { octets },
     };
     Ok(AnyReply::Complex(AnyComplex::FileRead(read)))
 }

@@ -1,10 +1,12 @@
 //! Laws of the definitions: functions that do nothing, whose contracts are the laws.
-ghost use Rattle.std.specs.Prelude.{◌≡◌, ◌≤◌, ℕ, ℤ, false, List, Option, Some};
+ghost use Rattle.std.specs.Prelude.{◌≡◌, ◌≤◌, ℕ, ℤ, false, List, None, Option, Some};
 ghost use Rattle.bac_service.specs.Values.{choice_of, ReadAccess, Reference, Request};
 ghost use Rattle.bac_service.specs.Values.Request.{ReadFile, ReadProperty, WriteFile, WriteProperty};
 ghost use Rattle.bac_service.specs.Values.WriteAccess.{WriteStream};
+ghost use Rattle.bac_value.specs.Data.{IsData};
 ghost use Rattle.bac_value.specs.Value.{ObjectId};
 ghost use Rattle.bac_value.specs.Octets.{IsBytes};
+ghost use Rattle.bac_store.specs.AtNode.{change_fault, changed, whole, Change};
 ghost use Rattle.bac_store.specs.Changes.{after, is_done, IsGranted};
 ghost use Rattle.bac_store.specs.Kinds.{IsOneValue};
 ghost use Rattle.bac_store.specs.Objects.{IsStoreOf};
@@ -12,7 +14,7 @@ ghost use Rattle.bac_store.specs.Replies.{reply_to};
 ghost use Rattle.bac_store.specs.ReplyKinds.{FitsChoice};
 ghost use Rattle.bac_store.specs.ReplyLengths.{DATA_LIMIT, reply_length};
 ghost use Rattle.bac_store.specs.Stores.{kind_of, Store as Objects};
-ghost use Rattle.bac_store.specs.Writes.{IsFileWrite, IsValueWrite};
+ghost use Rattle.bac_store.specs.Writes.{IsFileChange, IsFileWrite, IsValueWrite};
 
 use crate::store::Store;
 
@@ -39,6 +41,18 @@ pub fn writes_change_one_thing()
     ensures refused { (s : Objects) (r : Request) → is_done (reply_to s r) ≡ false → after s r ≡ s }
     ensures read { (s : Objects) (r : Reference) → after s (ReadProperty r) ≡ s }
     ensures file_read { (s : Objects) (id : ObjectId) (access : ReadAccess) → after s (ReadFile id access) ≡ s }
+{}
+
+/// A change at the node itself gives one listed property other values, or one file other octets, and changes nothing else: marks
+/// and kinds stay. What the network may write of data, the node may set, and it is the same change.
+pub fn changes_change_one_thing()
+    ensures value { (s : Objects) (id : ObjectId) (n : ℕ) (octets : List ℕ)
+        → IsValueWrite (whole id n) octets s (changed (Change.Value id n octets) s) }
+    ensures file { (s : Objects) (id : ObjectId) (octets : List ℕ) → IsFileChange id (λ _. octets) s (changed (Change.File id octets) s) }
+    ensures granted { (s : Objects) (r : Reference) (values : List ℕ) (priority : Option ℕ) → IsData values
+        → IsGranted s (WriteProperty r values priority) → change_fault s (Change.Value r.object r.property values) ≡ None }
+    ensures same { (s : Objects) (r : Reference) (values : List ℕ) (priority : Option ℕ) → IsGranted s (WriteProperty r values priority)
+        → after s (WriteProperty r values priority) ≡ changed (Change.Value r.object r.property values) s }
 {}
 
 /// A reply of a store is no Reject and fits the service choice of its request: a SimpleACK to WriteProperty, a ComplexACK of that

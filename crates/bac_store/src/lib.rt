@@ -1,9 +1,11 @@
 //! The store of a device: objects, properties and files, read and written by the four services (clauses 12, 14 and 15).
 //!
 //! A request is performed in two steps. [`Store::prepare`] makes a plan: the reply, and the change with all its memory.
-//! [`Store::commit`] makes the change; it takes no memory and always succeeds.
+//! [`Store::commit`] makes the change; it takes no memory and always succeeds. [`Store::change`] makes a change at the node itself.
 #![tactic(auto)]
 
+mod change;
+mod change_fault;
 mod changing;
 mod checking;
 mod comparing;
@@ -18,6 +20,7 @@ mod lookups;
 mod making;
 mod object;
 mod ordering;
+mod permitting;
 mod planned;
 mod preparing;
 mod properties;
@@ -27,10 +30,12 @@ mod splice;
 mod store;
 mod store_fault;
 
+pub use change::Change;
+pub use change_fault::ChangeFault;
 pub use house_objects::house;
 pub use laws::{
-    kinds_are_values, order_says_nothing, replies_can_be_sent, replies_fit_requests,
-    writes_change_one_thing,
+    changes_change_one_thing, kinds_are_values, order_says_nothing, replies_can_be_sent,
+    replies_fit_requests, writes_change_one_thing,
 };
 pub use limits::{FILE_LIMIT, VALUE_LIMIT};
 pub use object::{File, Object, Property};

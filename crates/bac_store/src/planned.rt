@@ -1,4 +1,4 @@
-//! A plan: the reply to a request, and the change that it makes.
+//! A plan: the reply to a request, and the effect that it has.
 ghost use Rattle.std.specs.Prelude.{◌≡◌};
 ghost use Rattle.bac_service.specs.Views.{reply_view};
 
@@ -7,9 +7,10 @@ use bac_service::{OwnedReply, Reply};
 use bac_value::{DataBuf, ObjectIdentifier};
 use std::marker::Model;
 
-/// What a request changes: nothing, the values of one listed property, or octets of one file from a place on.
+/// What becomes of the objects: nothing, or other values of one listed property, new octets of one file from a place on, or other
+/// octets in the place of all of a file.
 #[derive(Debug, Drop)]
-pub(crate) enum Change {
+pub(crate) enum Effect {
     Nothing,
     Values {
         object: ObjectIdentifier,
@@ -20,14 +21,18 @@ pub(crate) enum Change {
         object: ObjectIdentifier,
         splice: Splice,
     },
+    Contents {
+        object: ObjectIdentifier,
+        octets: Vec<u8>,
+    },
 }
 
-/// What a store does on a request, before it is done: the reply, and the change with all its memory. A plan that is dropped
+/// What a store does on a request, before it is done: the reply, and the effect with all its memory. A plan that is dropped
 /// changes nothing.
 #[derive(Drop)]
 pub struct Planned {
     pub(crate) reply: OwnedReply,
-    pub(crate) change: Change,
+    pub(crate) effect: Effect,
 }
 
 impl Model for Planned {
@@ -36,12 +41,12 @@ impl Model for Planned {
     ghost Value = { Plan };
 
     ghost use Rattle.bac_service.specs.Views.{owned_reply_view};
-    ghost use Rattle.bac_store.specs.Views.{change_view};
+    ghost use Rattle.bac_store.specs.Views.{effect_view};
     ghost use Rattle.bac_store.specs.Kept.{Fits};
 
-    ghost view = { λ p. record { reply = owned_reply_view p.reply; change = change_view p.change } };
+    ghost view = { λ p. record { reply = owned_reply_view p.reply; effect = effect_view p.effect } };
 
-    ghost invariant = { λ p. Fits (change_view p.change) };
+    ghost invariant = { λ p. Fits (effect_view p.effect) };
 }
 
 impl Planned {

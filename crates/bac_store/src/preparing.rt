@@ -8,7 +8,7 @@ ghost use Rattle.bac_service.specs.Views.{write_access_view};
 ghost use Rattle.bac_store.specs.Changes.{HoldsOctets, is_done, IsGranted};
 ghost use Rattle.bac_store.specs.Kept.{IsInOrder};
 ghost use Rattle.bac_store.specs.Limits.{FILE_LIMIT as FILE_MOST};
-ghost use Rattle.bac_store.specs.Plans.{Change as ChangeView, IsPlanFor, IsStreamPlan};
+ghost use Rattle.bac_store.specs.Plans.{Effect as EffectView, IsPlanFor, IsStreamPlan};
 ghost use Rattle.bac_store.specs.Replies.{file_of as file_in, write_stream_reply};
 ghost use Rattle.bac_store.specs.Stores.{object_in};
 ghost use Rattle.bac_store.specs.Views.{entry_view, file_view};
@@ -18,7 +18,7 @@ use crate::entry::Entry;
 use crate::files::{read_file, write_place};
 use crate::lookups::entry_of;
 use crate::object::File;
-use crate::planned::{Change, Planned};
+use crate::planned::{Effect, Planned};
 use crate::properties::{read_property, write_refusal};
 use crate::refusal::Refusal;
 use crate::splice::Splice;
@@ -31,11 +31,11 @@ use std::alloc::Global;
 
 /// A plan that changes nothing.
 fn answered(reply: OwnedReply) -> Planned
-    ensures { result ≡ record { reply = owned_reply_view reply; change = ChangeView.Nothing } }
+    ensures { result ≡ record { reply = owned_reply_view reply; effect = EffectView.Nothing } }
 {
     Planned {
         reply,
-        change: Change::Nothing,
+        effect: Effect::Nothing,
     }
 }
 
@@ -80,19 +80,19 @@ pub(crate) fn plan_write_property(
         return Ok(answered(refusal.reply()));
     }
     let values = write.values.to_owned(alloc)?;
-    let change = Change::Values {
+    let effect = Effect::Values {
         object: reference.object,
         property: reference.property,
         values,
     };
     Ok(Planned {
         reply: AnyReply::Simple,
-        change,
+        effect,
     })
 }
 
 /// The file of an identifier.
-fn file_of(objects: &[Entry], id: ObjectIdentifier) -> Option<&File>
+pub(crate) fn file_of(objects: &[Entry], id: ObjectIdentifier) -> Option<&File>
     requires { IsInOrder (map entry_view objects.now) }
     ensures found { option_map (λ f. file_view f.now) result ≡ file_in (object_in (map entry_view objects.now) (object_identifier_view id)) }
     ensures short { IfSome result (λ f. length f.now.octets.items ≤ FILE_MOST) }
@@ -141,8 +141,8 @@ fn plan_write_stream(
         Ok(at) => {
             let splice = Splice::new(alloc, at, new)?;
             let reply = AnyReply::Complex(AnyComplex::FileWritten(FileWritten::Stream(at as i64)));
-            let change = Change::Octets { object: id, splice };
-            Ok(Planned { reply, change })
+            let effect = Effect::Octets { object: id, splice };
+            Ok(Planned { reply, effect })
         }
     }
 }

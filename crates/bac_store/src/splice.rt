@@ -3,6 +3,7 @@ ghost use Rattle.std.specs.Prelude.{◌≡◌, ◌+◌, ◌*◌, ◌<◌, ◌≤
 ghost use Rattle.bac_store.specs.Limits.{FILE_LIMIT as FILE_MOST};
 ghost use Rattle.bac_store.specs.Replies.{overwritten};
 
+use crate::copying::copied_octets;
 use crate::limits::FILE_LIMIT;
 use bac_value::NoMemory;
 use std::alloc::Global;
@@ -66,13 +67,8 @@ impl Splice {
         ensures held { OnErr result (1 ≤ at + length new.now) }
     {
         let room = Vec::with_capacity(alloc, room_for(at, new))?;
-        let mut copy = Vec::new(alloc);
-        copy.extend_from_slice(new)?;
-        Ok(Splice {
-            at,
-            new: copy,
-            room,
-        })
+        let new = copied_octets(alloc, new)?;
+        Ok(Splice { at, new, room })
     }
 
     /// Writes the new octets over those of a file, and after them; what comes after those stays. It takes no memory.

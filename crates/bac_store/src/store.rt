@@ -1,26 +1,31 @@
 //! The store.
-ghost use Rattle.std.specs.Prelude.{◌≡◌, ◌≤◌, ◌↔◌, length, map, IsTrue, IfOk, MatchResult, OnOk, OnErr};
+ghost use Rattle.std.specs.Prelude.{◌≡◌, ◌≤◌, ◌↔◌, length, map, None, IsTrue, IfErr, IfOk, MatchResult, OnOk, OnErr};
 ghost use Rattle.bac_service.specs.Values.{Request as RequestView};
 ghost use Rattle.bac_service.specs.Views.{owned_reply_view, request_view};
+ghost use Rattle.bac_store.specs.AtNode.{change_fault, changed, IsFaultOf, Change as ChangeView};
 ghost use Rattle.bac_store.specs.Changes.{after, HoldsOctets, IsGranted};
 ghost use Rattle.bac_store.specs.Kept.{Fits, IsInOrder};
 ghost use Rattle.bac_store.specs.Made.{IsMadeOf, IsRefused};
-ghost use Rattle.bac_store.specs.Plans.{changed, IsPlanFor, IsPlanOn};
+ghost use Rattle.bac_store.specs.Plans.{with_effect, IsPlanFor, IsPlanOn};
 ghost use Rattle.bac_store.specs.Replies.{reply_to};
-ghost use Rattle.bac_store.specs.Views.{change_view, object_view};
+ghost use Rattle.bac_store.specs.Views.{change_view, effect_view, object_view};
+ghost use Rattle.bac_value.specs.Views.{object_identifier_view};
 
-use crate::changing::{set_octets, set_values};
+use crate::change::Change;
+use crate::change_fault::ChangeFault;
+use crate::changing::{set_contents, set_octets, set_values};
 use crate::comparing::are_same_objects;
-use crate::copying::copied;
+use crate::copying::{copied, copied_octets};
 use crate::entry::Entry;
 use crate::making::entries_made;
 use crate::object::Object;
 use crate::ordering::{are_distinct, sort_and_check_each, sort_objects};
-use crate::planned::{Change, Planned};
+use crate::permitting::{permit_contents, permitted_values};
+use crate::planned::{Effect, Planned};
 use crate::preparing::{plan_read_file, plan_read_property, plan_write_file, plan_write_property};
 use crate::store_fault::StoreFault;
 use bac_service::{AnyRequest, OwnedReply, Request};
-use bac_value::NoMemory;
+use bac_value::{NoMemory, ObjectIdentifier};
 use std::alloc::Global;
 use std::marker::Model;
 
@@ -80,10 +85,10 @@ impl Store {
         Ok(Store { objects })
     }
 
-    /// The plan for a request, with all the memory that its reply and its change take. The store is as before.
+    /// The plan for a request, with all the memory that its reply and its effect take. The store is as before.
     ///
     /// The reply is an Error in the cases of docs/PROTOCOL.md, "Replies"; then, and on a read, the plan changes nothing. `NoMemory`
-    /// comes last, only where the reply is no Error, and only where the reply or the change holds octets.
+    /// comes last, only where the reply is no Error, and only where the reply or the effect holds octets.
     pub fn prepare(&self, alloc: Global, request: &Request<'_>) -> Result<Planned, NoMemory>
         ensures plan { IfOk result (λ p. IsPlanFor self.now (request_view request.now) p) }
         ensures last { OnErr result (IsGranted self.now (request_view request.now)) }
@@ -98,35 +103,36 @@ impl Store {
         }
     }
 
-    /// Makes the change of a plan that was prepared on the store as it now is, and hands the plan's reply out. It takes no memory.
+    /// Makes the effect of a plan that was prepared on the store as it now is, and hands the plan's reply out. It takes no memory.
     pub fn commit(&mut self, plan: Planned) -> OwnedReply
         requires prepared { IsPlanOn self.old plan }
         ensures reply { owned_reply_view result ≡ plan.reply }
-        ensures change { self.new ≡ changed plan.change self.old }
+        ensures effect { self.new ≡ with_effect plan.effect self.old }
         ensures after { (r : RequestView) → IsPlanFor self.old r plan → self.new ≡ after self.old r }
     {
-        let Planned { reply, change } = plan;
-        self.make(change);
+        let Planned { reply, effect } = plan;
+        self.make(effect);
         reply
     }
 
-    /// Makes a change.
-    fn make(&mut self, change: Change)
-        requires { Fits (change_view change) }
-        ensures { self.new ≡ changed (change_view change) self.old }
+    /// Makes an effect.
+    fn make(&mut self, effect: Effect)
+        requires { Fits (effect_view effect) }
+        ensures { self.new ≡ with_effect (effect_view effect) self.old }
     {
-        match change {
-            Change::Nothing => {}
-            Change::Values {
+        match effect {
+            Effect::Nothing => {}
+            Effect::Values {
                 object,
                 property,
                 values,
             } => set_values(&mut self.objects, object, property, values),
-            Change::Octets { object, splice } => set_octets(&mut self.objects, object, splice),
+            Effect::Octets { object, splice } => set_octets(&mut self.objects, object, splice),
+            Effect::Contents { object, octets } => set_contents(&mut self.objects, object, octets),
         }
     }
 
-    /// Prepares a request and makes the change of its plan; the plan's reply. It takes the memory of the plan alone. After an Err
+    /// Prepares a request and makes the effect of its plan; the plan's reply. It takes the memory of the plan alone. After an Err
     /// the store is as before; `NoMemory` comes last, as of [`Store::prepare`].
     pub fn perform(&mut self, alloc: Global, request: &Request<'_>) -> Result<OwnedReply, NoMemory>
         ensures reply { IfOk result (λ r. owned_reply_view r ≡ reply_to self.old (request_view request.now)) }
@@ -135,9 +141,95 @@ impl Store {
         ensures last { OnErr result (IsGranted self.old (request_view request.now)) }
         ensures held { OnErr result (HoldsOctets self.old (request_view request.now)) }
     {
-        let Planned { reply, change } = self.prepare(alloc, request)?;
-        self.make(change);
+        let Planned { reply, effect } = self.prepare(alloc, request)?;
+        self.make(effect);
         Ok(reply)
+    }
+
+    /// Sets the values of a listed property at the node itself, whether or not the network may write them. The octets are data
+    /// (clause 20.2) as WriteProperty takes them: of the kind that the property has (a property without a kind takes any data),
+    /// Enumerated 0 or 1 for the present-value of a binary-value, and at most [`VALUE_LIMIT`](crate::VALUE_LIMIT) of them.
+    ///
+    /// The faults are tested in the order of their numbers, and memory last: one copy of the octets. After an Err the store is as
+    /// before.
+    pub fn set_value(
+        &mut self,
+        alloc: Global,
+        object: ObjectIdentifier,
+        property: u32,
+        octets: &[u8],
+    ) -> Result<(), ChangeFault>
+        ensures may { OnOk result (change_fault self.old (ChangeView.Value (object_identifier_view object) property octets.now) ≡ None) }
+        ensures made { OnOk result (self.new ≡ changed (ChangeView.Value (object_identifier_view object) property octets.now) self.old) }
+        ensures fault { IfErr result (IsFaultOf self.old (ChangeView.Value (object_identifier_view object) property octets.now)) }
+        ensures err { OnErr result (self.new ≡ self.old) }
+    {
+        let data = permitted_values(&self.objects, object, property, octets)?;
+        let values = data.to_owned(alloc)?;
+        self.make(Effect::Values {
+            object,
+            property,
+            values,
+        });
+        Ok(())
+    }
+
+    /// Sets all octets of a file at the node itself, whether or not the network may write it: at most
+    /// [`FILE_LIMIT`](crate::FILE_LIMIT).
+    ///
+    /// `NoSuchObject` where no object has the identifier, or it is no file; `TooLong`; and `NoMemory` last, for one copy of the
+    /// octets. After an Err the store is as before.
+    pub fn set_file(
+        &mut self,
+        alloc: Global,
+        object: ObjectIdentifier,
+        octets: &[u8],
+    ) -> Result<(), ChangeFault>
+        ensures may { OnOk result (change_fault self.old (ChangeView.File (object_identifier_view object) octets.now) ≡ None) }
+        ensures made { OnOk result (self.new ≡ changed (ChangeView.File (object_identifier_view object) octets.now) self.old) }
+        ensures fault { IfErr result (IsFaultOf self.old (ChangeView.File (object_identifier_view object) octets.now)) }
+        ensures err { OnErr result (self.new ≡ self.old) }
+    {
+        permit_contents(&self.objects, object, octets)?;
+        let octets = copied_octets(alloc, octets)?;
+        self.make(Effect::Contents { object, octets });
+        Ok(())
+    }
+
+    /// Makes a change at the node itself: [`Store::set_value`] or [`Store::set_file`].
+    pub fn change(&mut self, alloc: Global, change: &Change) -> Result<(), ChangeFault>
+        ensures may { OnOk result (change_fault self.old (change_view change.now) ≡ None) }
+        ensures made { OnOk result (self.new ≡ changed (change_view change.now) self.old) }
+        ensures fault { IfErr result (IsFaultOf self.old (change_view change.now)) }
+        ensures err { OnErr result (self.new ≡ self.old) }
+    {
+        match change {
+            Change::Value {
+                object,
+                property,
+                octets,
+            } => self.set_value(alloc, *object, *property, octets),
+            Change::File { object, octets } => self.set_file(alloc, *object, octets),
+        }
+    }
+
+    /// Why a change at the node itself would not be made, were there memory: the first fault of those of [`Store::change`]. It takes
+    /// no memory.
+    pub fn fault_of(&self, change: &Change) -> Option<ChangeFault>
+        ensures { result ≡ change_fault self.now (change_view change.now) }
+    {
+        match change {
+            Change::Value {
+                object,
+                property,
+                octets,
+            } => permitted_values(&self.objects, *object, *property, octets).err(),
+            Change::File { object, octets } => permit_contents(
+                &self.objects,
+                *object,
+                octets,
+            ).err(),
+        }
     }
 
     /// An equal store. An Err where memory ran out, which it cannot for a store without objects; this store is as before.

@@ -7,6 +7,7 @@ use bac_value::{NoMemory, ObjectIdentifier, read_data};
 use std::alloc::Global;
 use std::test::Fail;
 
+mod changes;
 mod limits;
 mod memory;
 mod objects;

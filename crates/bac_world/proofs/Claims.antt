@@ -5,8 +5,9 @@ use Rattle.std.specs.Option.{option_map}
 use Rattle.bac_service.specs.Values.{Request}
 use Rattle.bac_store.specs.Stores.{Store}
 use Rattle.bac_store.specs.Changes.{after}
-use Rattle.bac_world.specs.Once.{Fact, Has, Stores, asks_in, IsOnce}
-use Rattle.bac_world.specs.Once.Fact.{Asked, Performed, Ended}
+use Rattle.bac_store.specs.AtNode.{changed}
+use Rattle.bac_world.specs.Once.{Fact, Has, Stores, asks_in, IsOnce, HasNoChange, IsOnceByRequests}
+use Rattle.bac_world.specs.Once.Fact.{Asked, Performed, Ended, Changed}
 use Rattle.bac_world.specs.Claims.{server_of, with_performed, stores_by, AreReplayed, ArePerformedOnce, AreEndedOnce}
 
 -- The number of an ask is its own.
@@ -15,11 +16,13 @@ abbrev number_of : Fact → ℕ
 number_of (Asked n c s r) = n
 number_of (Performed n r p) = n
 number_of (Ended n how) = n
+number_of (Changed i c) = 0
 
 abbrev server_in : Fact → ℕ
 server_in (Asked n c s r) = s
 server_in (Performed n r p) = 0
 server_in (Ended n how) = 0
+server_in (Changed i c) = 0
 
 below : (log : List Fact) → AreEndedOnce log → (n client server : ℕ) (r : Request) → Has (Asked n client server r) log → n < asks_in log
 below [] e n c s r h = absurd h
@@ -31,6 +34,8 @@ below (Performed m r' p ∷ log) e n c s r (inl is) = absurd cc
 below (Performed m r' p ∷ log) e n c s r (inr h) = below log e n c s r h
 below (Ended m how ∷ log) e n c s r (inl is) = absurd cc
 below (Ended m how ∷ log) e n c s r (inr h) = below log e.2 n c s r h
+below (Changed i d ∷ log) e n c s r (inl is) = absurd cc
+below (Changed i d ∷ log) e n c s r (inr h) = below log e n c s r h
 
 found : (log : List Fact) → AreEndedOnce log → (n client server : ℕ) (r : Request) → Has (Asked n client server r) log → server_of n log ≡ Some server
 found [] e n c s r h = absurd h
@@ -47,6 +52,8 @@ found (Performed m r' p ∷ log) e n c s r (inl is) = absurd cc
 found (Performed m r' p ∷ log) e n c s r (inr h) = found log e n c s r h
 found (Ended m how ∷ log) e n c s r (inl is) = absurd cc
 found (Ended m how ∷ log) e n c s r (inr h) = found log e.2 n c s r h
+found (Changed i d ∷ log) e n c s r (inl is) = absurd cc
+found (Changed i d ∷ log) e n c s r (inr h) = found log e n c s r h
 
 -- the stores after a performed request
 performed_so : (n server : ℕ) (r : Request) (log : List Fact) (stores : Stores) (store : Store) → server_of n log ≡ Some server
@@ -63,6 +70,7 @@ ended_once opening [] stores h = tt
 ended_once opening (Asked n c s r ∷ log) stores h = (h.1.0, ended_once opening log h.0 h.2)
 ended_once opening (Performed n r p ∷ log) stores h = ended_once opening log h.0 h.2
 ended_once opening (Ended n how ∷ log) stores h = (h.1.0, h.1.1, ended_once opening log h.0 h.2)
+ended_once opening (Changed i c ∷ log) stores h = ended_once opening log h.0 h.2
 
 pub replayed : (opening : Stores) (log : List Fact) (stores : Stores) → IsOnce opening log stores → AreReplayed opening log stores
 replayed opening [] stores h node = h node
@@ -74,6 +82,9 @@ replayed opening (Performed n r p ∷ log) stores h node =
     ∙ ap (λ o. if nat_eq node h.1.server then Some (after h.1.store r) else o) (again node)
     ∙ sym (performed_so n h.1.server r log (stores_by opening log) h.1.store is (sym (again h.1.server) ∙ h.1.at) node)
 replayed opening (Ended n how ∷ log) stores h node = h.1.2 node ∙ replayed opening log h.0 h.2 node
+replayed opening (Changed i c ∷ log) stores h node =
+    let again : AreReplayed opening log h.0 = replayed opening log h.0 h.2 in
+    h.1 node ∙ (λ d. if nat_eq node i then option_map (changed c) (again i d) else again node d)
 
 pub performed_once : (opening : Stores) (log : List Fact) (stores : Stores) → IsOnce opening log stores → ArePerformedOnce opening log
 performed_once opening [] stores h = tt
@@ -91,6 +102,7 @@ performed_once opening (Performed n r p ∷ log) stores h = (
   performed_once opening log h.0 h.2,
 )
 performed_once opening (Ended n how ∷ log) stores h = performed_once opening log h.0 h.2
+performed_once opening (Changed i c ∷ log) stores h = performed_once opening log h.0 h.2
 
 -- together they are all of it
 pub together : (opening : Stores) (log : List Fact) (stores : Stores) → ArePerformedOnce opening log → AreEndedOnce log → AreReplayed opening log stores
@@ -115,3 +127,12 @@ together opening (Performed n r q ∷ log) stores p e same = (
 )
 together opening (Ended n how ∷ log) stores p e same =
     (stores_by opening log, (e.0, e.1, same), together opening log (stores_by opening log) p e.2 (λ node. refl))
+together opening (Changed i c ∷ log) stores p e same = (stores_by opening log, same, together opening log (stores_by opening log) p e (λ node. refl))
+
+-- where no node changes its own store, stores change by performed requests alone
+pub by_requests : (opening : Stores) (log : List Fact) (stores : Stores) → HasNoChange log → IsOnce opening log stores → IsOnceByRequests opening log stores
+by_requests opening [] stores none h = h
+by_requests opening (Asked n c s r ∷ log) stores none h = (h.0, h.1, by_requests opening log h.0 none h.2)
+by_requests opening (Performed n r p ∷ log) stores none h = (h.0, h.1, by_requests opening log h.0 none h.2)
+by_requests opening (Ended n how ∷ log) stores none h = (h.0, h.1, by_requests opening log h.0 none h.2)
+by_requests opening (Changed i c ∷ log) stores none h = absurd none

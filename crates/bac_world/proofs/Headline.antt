@@ -1,11 +1,14 @@
 -- After every run of a fresh world the log of values is right with the stores.
-use Rattle.std.proofs.Common.{◌≡◌, ℕ, ◌+◌, ◌-◌, ◌≤◌, ◌<◌, Bool, true, false, ◌&&◌, List, [], ◌∷◌, length, Option, Some, None, slice_get}
-use Rattle.std.proofs.Common.{nat_le, refl, sym, ap, subst, inl, inr, ◌∙◌, arith}
+use Rattle.std.proofs.Common.{◌≡◌, ℕ, ◌+◌, ◌-◌, ◌≤◌, ◌<◌, ◌⊎◌, Bool, true, false, ◌&&◌, List, [], ◌∷◌, length, Option, Some, None, slice_get}
+use Rattle.std.proofs.Common.{nat_le, nat_eq, if◌then◌else◌, refl, sym, ap, subst, inl, inr, ◌∙◌, arith}
 use Rattle.std.proofs.lemmas.Bool.Decides.{nat_tests}
 use Rattle.std.specs.Option.{option_map}
 use Rattle.bac_apdu.specs.Apdu.{Apdu}
 use Rattle.bac_npdu.specs.Peers.{PeerView}
 use Rattle.bac_service.specs.Services.{reads_reply}
+use Rattle.bac_store.specs.Stores.{Store}
+use Rattle.bac_store.specs.AtNode as at_node
+use Rattle.bac_store.specs.AtNode.{changed}
 use Rattle.bac_protocol.specs.declared.times.TheConstants.{LIFE}
 use Rattle.bac_protocol.specs.Context.{Settings}
 use Rattle.bac_protocol.specs.Service.{Octets}
@@ -13,7 +16,7 @@ use Rattle.bac_protocol.specs.Wire.{is_from_client}
 use Rattle.bac_protocol.specs.Client.{Ticket}
 use Rattle.bac_protocol.specs.Server.{Entry, live_entry}
 use Rattle.bac_protocol.specs.Transaction.{Key, Rules}
-use Rattle.bac_protocol.specs.World.{Net, Post, is_key_held, net_start}
+use Rattle.bac_protocol.specs.World.{Net, Post, notes_change, is_key_held, net_start}
 use Rattle.bac_protocol.specs.World as machine
 use Rattle.bac_protocol.specs.Claims as claims
 use Rattle.bac_protocol.proofs.Dead.{dead_is_none, ended_is_silent}
@@ -22,17 +25,18 @@ use Rattle.bac_ends.specs.Keys.{same_key}
 use Rattle.bac_ends.specs.Sends.{Pairwise}
 use Rattle.bac_ends.specs.Ends.{Client}
 use Rattle.bac_entry.specs.Services.{service_of}
-use Rattle.bac_world.specs.Node.{Node, Outcome, IsDropped, IsHeard, IsHeardBy, NodeOn}
-use Rattle.bac_world.specs.Once.{Fact, Stores, IsOnce}
-use Rattle.bac_world.specs.World.{World, Event, Copy, Note, link_at, stores_of, later, peer_at, Acts, DeliversIf, Delivers, HearsNoise}
-use Rattle.bac_world.specs.World.{WorldStep, WorldRun, IsFresh, IsBounded}
-use Rattle.bac_world.specs.World.Event.{Ask, Deliver, Noise, Tick, Advance}
+use Rattle.bac_world.specs.Node.{Node, Outcome, IsDropped, IsHeard, IsHeardBy, NodeOn, with_change}
+use Rattle.bac_world.specs.Once.{Fact, Stores, IsOnce, with_changed}
+use Rattle.bac_world.specs.Once.Fact.{Changed}
+use Rattle.bac_world.specs.World.{World, Event, Copy, Note, link_at, stores_of, newest, later, peer_at, Acts, DeliversIf, Delivers, HearsNoise}
+use Rattle.bac_world.specs.World.{IsChanged, WorldStep, WorldRun, IsFresh, IsBounded}
+use Rattle.bac_world.specs.World.Event.{Ask, Deliver, Noise, Tick, Advance, Change}
 use Rattle.bac_ends.proofs.KeyedSlots.{EachSlot}
-use Rattle.bac_world.proofs.Machines.{passed, starts}
+use Rattle.bac_world.proofs.Machines.{passed, changes, starts}
 use Rattle.bac_world.proofs.Pairs.{IsPaired, pairwise_get}
 use Rattle.bac_world.proofs.Logs.{FactMeans}
-use Rattle.bac_world.proofs.Bridge.{IsKnown, IsCopyOf, IsBetween, TicketFits, EntryFits, key_of, slot_key, framed_means, later_alike}
-use Rattle.bac_world.proofs.Steps.{Over, Next}
+use Rattle.bac_world.proofs.Bridge.{IsKnown, NodeFits, IsCopyOf, IsBetween, TicketFits, EntryFits, key_of, slot_key, framed_means, later_alike}
+use Rattle.bac_world.proofs.Steps.{Over, Next, decide_number, each_with, linked_with}
 use Rattle.bac_world.proofs.Serving.{serves}
 use Rattle.bac_world.proofs.Clients.{hears, quiet}
 use Rattle.bac_world.proofs.Asking.{asks_over}
@@ -154,6 +158,57 @@ module _ (links : ℕ → Option Octets) (apart : (i j : ℕ) (l : Octets) → l
   advanced : (w : World) (n : Net) → Over links apart W x w n → (by : ℕ) → Next links apart W x w (record w { now = w.now + by })
   advanced w n h by = (record n { now = n.now + by }, record { bridge = advanced_over w n h by; once = λ opening once. once })
 
+  -- A change at a node.
+
+  -- what the net knows of a node is not its store
+  other_store : (now : ℕ) (notes : List Note) (n : Net) (i : ℕ) (o : Octets) (j : ℕ) (a : Node) (store : Store)
+      → NodeFits links apart x now notes n j a → NodeFits links apart x now notes (notes_change n i o) j (record a { store = store })
+  other_store now notes n i o j a store f = record {
+    settings = f.settings;
+    link = f.link;
+    clients = record { distinct = f.clients.distinct; known = f.clients.known; found = f.clients.found };
+    servers = record { distinct = f.servers.distinct; known = f.servers.known; found = f.servers.found };
+  }
+
+  module _ (w w' : World) (n : Net) (h : Over links apart W x w n) (i : ℕ) (c : at_node.Change) (s : IsChanged w i c w') where
+    pub changed_over : Over links apart W x w' (notes_change n i [])
+    changed_over = record {
+      now = h.now ∙ sym s.now;
+      asks = h.asks ∙ sym (ap (λ (l : List Note). length l) s.notes);
+      linked = linked_with links w.nodes w'.nodes i s.before (with_change c s.before) s.nodes s.at refl h.linked;
+      nodes = λ j a at. subst (λ (l : List Note). NodeFits links apart x n.now l (notes_change n i []) j a) (sym s.notes)
+          (each_with (λ k b. NodeFits links apart x n.now w.notes (notes_change n i []) k b) w.nodes w'.nodes i
+          (with_change c s.before) s.nodes
+          (other_store n.now w.notes n i [] i s.before (changed c s.before.store) (h.nodes i s.before s.at))
+          (λ k b there. other_store n.now w.notes n i [] k b b.store (h.nodes k b there)) j a at);
+      noted = λ key t is. ap (newest key) s.notes ∙ h.noted key t is;
+      posts = subst (λ (l : List Copy). Pairwise (IsCopyOf links apart) n.posts l) (sym s.copies) h.posts;
+      log = subst (λ (l : List Fact). Pairwise FactMeans (notes_change n i []).log l) (sym s.log) (refl, h.log);
+      sound = changes W x bound n i [] h.sound;
+    }
+
+    stores_changed : (node : ℕ) → stores_of w'.nodes node ≡ with_changed i c (stores_of w.nodes) node
+    stores_changed node = go (nat_eq node i) refl
+      where
+        store : Option Node → Option Store
+        store o = option_map (λ (a : Node). a.store) o
+
+        go : (b : Bool) → nat_eq node i ≡ b
+            → stores_of w'.nodes node ≡ (if b then option_map (changed c) (stores_of w.nodes i) else stores_of w.nodes node)
+        go true e =
+            let same : node ≡ i = grind (arith, nat_tests) in
+            ap (stores_of w'.nodes) same ∙ ap store s.nodes.here ∙ sym (ap (λ o. option_map (changed c) (store o)) s.at)
+        go false e = ap store (s.nodes.others node (λ same. grind (arith, nat_tests)))
+
+    changed_next : Next links apart W x w w'
+    changed_next = (
+      notes_change n i [],
+      record {
+        bridge = changed_over;
+        once = λ opening once. subst (λ (l : List Fact). IsOnce opening l (stores_of w'.nodes)) (sym s.log) (stores_of w.nodes, stores_changed, once);
+      },
+    )
+
   -- Runs.
 
   step_over : (w w' : World) (n : Net) → Over links apart W x w n → (e : Event) → WorldStep x.overtake w e w' → Next links apart W x w w'
@@ -165,6 +220,7 @@ module _ (links : ℕ → Option Octets) (apart : (i j : ℕ) (l : Octets) → l
   step_over w w' n h (Noise node from octets) (inr s) = same_over w w' n h s.same
   step_over w w' n h (Tick node) s = tick_over links apart W x bound w w' n h node s
   step_over w w' n h (Advance by) s = subst (λ (u : World). Next links apart W x w u) (sym s) (advanced w n h by)
+  step_over w w' n h (Change node change) s = changed_next w w' n h node change s
 
   pub run_over : (opening : Stores) (events : List Event) (w w' : World) (n : Net) → Over links apart W x w n → IsOnce opening w.log (stores_of w.nodes)
       → WorldRun x.overtake w events w' → (m : Net) × Over links apart W x w' m × IsOnce opening w'.log (stores_of w'.nodes)

@@ -13,13 +13,14 @@ use Rattle.bac_ends.specs.Sends.{Pairwise}
 use Rattle.bac_ends.specs.Meanings.{MeansReply, MeansEnding, Ending}
 use Rattle.bac_ends.specs.Meanings.Ending.{Answered, Rejected, Aborted, TimedOut, Expired}
 use Rattle.bac_world.specs.Once.{Fact, Has, asks_in, IsUnperformed, IsUnended, WasAsked, MayEnd}
-use Rattle.bac_world.specs.Once.Fact.{Asked, Performed, Ended}
+use Rattle.bac_world.specs.Once.Fact.{Asked, Performed, Ended, Changed}
 
--- the same fact, of values that its octets spell
+-- the same fact, of values that its octets spell; the machines do not read changes
 abbrev pub FactMeans : octets.Fact → Fact → Type 0
 FactMeans (octets.Fact.Asked n c s q) (Asked m d u r) = (m ≡ n) × (d ≡ c) × (u ≡ s) × SpellsRequest q.choice r q.service
 FactMeans (octets.Fact.Performed n q p) (Performed m r v) = (m ≡ n) × SpellsRequest q.choice r q.service × MeansReply q.choice p v
 FactMeans (octets.Fact.Ended n how) (Ended m v) = (m ≡ n) × ((choice : ℕ) × MeansEnding choice how v)
+FactMeans (octets.Fact.Changed i o) (Changed j c) = j ≡ i
 FactMeans _ _ = ⊥
 
 -- What is found in one is found in the other.
@@ -46,8 +47,7 @@ asked_as n c s q (f ∷ log) (v ∷ values) h (inl e) = go v (subst (λ (g : oct
   where
     go : (v : Fact) → FactMeans (octets.Fact.Asked n c s q) v → WasAskedAs n c s q (v ∷ values)
     go (Asked m d u r) h = record { request = r; has = inl (λ i. Asked (h.0 i) (h.1 i) (h.2 i) r); spelled = h.3 }
-    go (Performed m r p) h = absurd h
-    go (Ended m how) h = absurd h
+    go _ h = absurd h
 
 pub performed_as : (n : ℕ) (q : machine.Request) (p : machine.Reply) (log : List octets.Fact) (values : List Fact) → Pairwise FactMeans log values
     → octets.Has (octets.Fact.Performed n q p) log → WasPerformedAs n q p values
@@ -59,9 +59,8 @@ performed_as n q p (f ∷ log) (v ∷ values) h (inr k) =
 performed_as n q p (f ∷ log) (v ∷ values) h (inl e) = go v (subst (λ (g : octets.Fact). FactMeans g v) e h.0)
   where
     go : (v : Fact) → FactMeans (octets.Fact.Performed n q p) v → WasPerformedAs n q p (v ∷ values)
-    go (Asked m d u r) h = absurd h
     go (Performed m r y) h = record { request = r; reply = y; has = inl (λ i. Performed (h.0 i) r y); spelled = h.1; means = h.2 }
-    go (Ended m how) h = absurd h
+    go _ h = absurd h
 
 -- What is not in one is not in the other, and asks are counted alike.
 
@@ -77,12 +76,8 @@ unperformed n (f ∷ log) (v ∷ values) h x = go f v h.0 (unperformed n log val
     go (octets.Fact.Asked m c s q) (Asked k d u r) h again x = again x
     go (octets.Fact.Performed m q p) (Performed k r v) h again x = (λ e. x.0 (sym h.0 ∙ e), again x.1)
     go (octets.Fact.Ended m how) (Ended k v) h again x = again x
-    go (octets.Fact.Asked m c s q) (Performed k r v) h again x = absurd h
-    go (octets.Fact.Asked m c s q) (Ended k v) h again x = absurd h
-    go (octets.Fact.Performed m q p) (Asked k d u r) h again x = absurd h
-    go (octets.Fact.Performed m q p) (Ended k v) h again x = absurd h
-    go (octets.Fact.Ended m how) (Asked k d u r) h again x = absurd h
-    go (octets.Fact.Ended m how) (Performed k r v) h again x = absurd h
+    go (octets.Fact.Changed i o) (Changed j c) h again x = again x
+    go _ _ h again x = absurd h
 
 pub unended : (n : ℕ) (log : List octets.Fact) (values : List Fact) → Pairwise FactMeans log values → octets.IsUnended n log → IsUnended n values
 unended n [] [] h x = tt
@@ -95,12 +90,8 @@ unended n (f ∷ log) (v ∷ values) h x = go f v h.0 (unended n log values h.1)
     go (octets.Fact.Asked m c s q) (Asked k d u r) h again x = again x
     go (octets.Fact.Performed m q p) (Performed k r v) h again x = again x
     go (octets.Fact.Ended m how) (Ended k v) h again x = (λ e. x.0 (sym h.0 ∙ e), again x.1)
-    go (octets.Fact.Asked m c s q) (Performed k r v) h again x = absurd h
-    go (octets.Fact.Asked m c s q) (Ended k v) h again x = absurd h
-    go (octets.Fact.Performed m q p) (Asked k d u r) h again x = absurd h
-    go (octets.Fact.Performed m q p) (Ended k v) h again x = absurd h
-    go (octets.Fact.Ended m how) (Asked k d u r) h again x = absurd h
-    go (octets.Fact.Ended m how) (Performed k r v) h again x = absurd h
+    go (octets.Fact.Changed i o) (Changed j c) h again x = again x
+    go _ _ h again x = absurd h
 
 pub asks_counted : (log : List octets.Fact) (values : List Fact) → Pairwise FactMeans log values → asks_in values ≡ octets.asks_in log
 asks_counted [] [] h = refl
@@ -112,12 +103,8 @@ asks_counted (f ∷ log) (v ∷ values) h = go f v h.0 (asks_counted log values 
     go (octets.Fact.Asked m c s q) (Asked k d u r) h again = ap suc again
     go (octets.Fact.Performed m q p) (Performed k r v) h again = again
     go (octets.Fact.Ended m how) (Ended k v) h again = again
-    go (octets.Fact.Asked m c s q) (Performed k r v) h again = absurd h
-    go (octets.Fact.Asked m c s q) (Ended k v) h again = absurd h
-    go (octets.Fact.Performed m q p) (Asked k d u r) h again = absurd h
-    go (octets.Fact.Performed m q p) (Ended k v) h again = absurd h
-    go (octets.Fact.Ended m how) (Asked k d u r) h again = absurd h
-    go (octets.Fact.Ended m how) (Performed k r v) h again = absurd h
+    go (octets.Fact.Changed i o) (Changed j c) h again = again
+    go _ _ h again = absurd h
 
 -- An ending, as a value.
 
@@ -138,6 +125,8 @@ performed_asked n r p (octets.Fact.Performed m q y ∷ log) o (inl e) =
 performed_asked n r p (octets.Fact.Performed m q y ∷ log) o (inr h) = let again = performed_asked n r p log o.2 h in (again.0, again.1, inr again.2)
 performed_asked n r p (octets.Fact.Ended m how ∷ log) o (inl e) = absurd cc
 performed_asked n r p (octets.Fact.Ended m how ∷ log) o (inr h) = let again = performed_asked n r p log o.2 h in (again.0, again.1, inr again.2)
+performed_asked n r p (octets.Fact.Changed node change ∷ log) o (inl e) = absurd cc
+performed_asked n r p (octets.Fact.Changed node change ∷ log) o (inr h) = let again = performed_asked n r p log o h in (again.0, again.1, inr again.2)
 
 -- octets mean one reply
 one_reply : (choice : ℕ) (r : machine.Reply) (p q : Reply) → MeansReply choice r p → MeansReply choice r q → p ≡ q

@@ -12,11 +12,11 @@ use Rattle.bac_protocol.specs.Server.{Service}
 use Rattle.bac_protocol.specs.Log.{Has, asks_in, IsOrderly}
 use Rattle.bac_protocol.specs.Log.Fact.{Asked}
 use Rattle.bac_protocol.specs.Transaction.{Key, Rules, client_context, server_context}
-use Rattle.bac_protocol.specs.World.{Net, Post, later, client_acts, server_acts, asked_at, is_key_held, is_deliverable, net_start}
+use Rattle.bac_protocol.specs.World.{Net, Post, later, client_acts, server_acts, asked_at, notes_change, is_key_held, is_deliverable, net_start}
 use Rattle.bac_protocol.specs.Claims.{IsBounded}
 use Rattle.bac_protocol.specs.Own.{IsOwnEntry}
 use Rattle.bac_protocol.specs.Moves.{arrived, taken_by_client, taken_by_server, ticket_ticked, IsReached, IsInOrder}
-use Rattle.bac_protocol.specs.Moves.Move.{Asks, Arrives, TicksTicket, TicksEntry, Passes}
+use Rattle.bac_protocol.specs.Moves.Move.{Asks, Arrives, TicksTicket, TicksEntry, Passes, Changes}
 use Rattle.bac_protocol.specs.Moves.IsReached.{Still, Moved}
 use Rattle.bac_protocol.proofs.SingleMoves.{in_order}
 
@@ -92,6 +92,9 @@ module _ (W : ℕ) (x : Rules) (bound : IsBounded W x) where
 
   pub passed : (n : Net) (by : ℕ) → Sound x n → Sound x (record n { now = n.now + by })
   passed n by s = Moved n (Passes by) s
+
+  pub changes : (n : Net) (node : ℕ) (change : Octets) → Sound x n → Sound x (notes_change n node change)
+  changes n node change s = Moved n (Changes node change) s
 
   pub starts : Sound x net_start
   starts = Still

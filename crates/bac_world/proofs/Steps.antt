@@ -10,7 +10,7 @@ use Rattle.bac_protocol.specs.World.{Net}
 use Rattle.bac_ends.specs.Sends.{Pairwise}
 use Rattle.bac_world.specs.Node.{Node, Outcome}
 use Rattle.bac_world.specs.Once.{Fact, Stores, AreSame, MayEnter, IsOnce}
-use Rattle.bac_world.specs.Once.Fact.{Asked, Performed, Ended}
+use Rattle.bac_world.specs.Once.Fact.{Asked, Performed, Ended, Changed}
 use Rattle.bac_world.specs.World.{World, Note, Copy, link_at, stores_of, IsWithNode, Acts, newest}
 use Rattle.bac_world.proofs.Machines.{Sound}
 use Rattle.bac_world.proofs.Logs.{FactMeans}
@@ -35,6 +35,18 @@ same_with of old new i a b s at same j = go (decide_number j i)
         (ap (option_map of) s.here ∙ ap Some same ∙ sym (ap (option_map of) at))
     go (inr ne) = ap (option_map of) (s.others j ne)
 
+-- what each node has, the one that is another has too
+pub each_with : (P : ℕ → Node → Type 0) (old new : List Node) (i : ℕ) (b : Node) → IsWithNode old i b new → P i b
+    → ((j : ℕ) (c : Node) → slice_get old j ≡ Some c → P j c) → (j : ℕ) (c : Node) → slice_get new j ≡ Some c → P j c
+each_with P old new i b s here others j c at = go (decide_number j i)
+  where
+    go : ((j ≡ i) ⊎ (j ≡ i → ⊥)) → P j c
+    go (inl is) =
+        let there : slice_get new i ≡ Some c = subst (λ (k : ℕ). slice_get new k ≡ Some c) is at in
+        let same : b ≡ c = let e : Some b ≡ Some c = sym s.here ∙ there in cc in
+        subst (λ (k : ℕ). P k c) (sym is) (subst (P i) same here)
+    go (inr ne) = others j c (sym (s.others j ne) ∙ at)
+
 pub linked_with : (links : ℕ → Option Octets) (old new : List Node) (i : ℕ) (a b : Node) → IsWithNode old i b new → slice_get old i ≡ Some a
     → b.link ≡ a.link → ((j : ℕ) → link_at old j ≡ links j) → (j : ℕ) → link_at new j ≡ links j
 linked_with links old new i a b s at same linked j = same_with (λ (n : Node). n.link) old new i a b s at same j ∙ linked j
@@ -58,6 +70,7 @@ enter_same (Performed n r p) log old new new' same h = record {
   stores = λ node. same node ∙ h.stores node;
 }
 enter_same (Ended n how) log old new new' same h = (h.0, h.1, λ node. same node ∙ h.2 node)
+enter_same (Changed i c) log old new new' same h = λ node. same node ∙ h node
 
 pub once_same : (opening : Stores) (log : List Fact) (stores stores' : Stores) → AreSame stores stores' → IsOnce opening log stores → IsOnce opening log stores'
 once_same opening [] stores stores' same h = λ node. same node ∙ h node

@@ -7,8 +7,8 @@ use Rattle.bac_service.specs.Replies.{Reply}
 use Rattle.bac_store.specs.Stores.{Store}
 use Rattle.bac_store.specs.Replies.{reply_to}
 use Rattle.bac_store.specs.Changes.{after}
-use Rattle.bac_world.specs.Once.{Fact, Has, IsUnperformed, IsUnended, MayEnd, Stores, asks_in}
-use Rattle.bac_world.specs.Once.Fact.{Asked, Performed, Ended}
+use Rattle.bac_world.specs.Once.{Fact, Has, IsUnperformed, IsUnended, MayEnd, Stores, asks_in, with_changed}
+use Rattle.bac_world.specs.Once.Fact.{Asked, Performed, Ended, Changed}
 
 -- The stores.
 
@@ -18,20 +18,22 @@ server_of n [] = None
 server_of n (Asked m c s r ∷ log) = if nat_eq m n then Some s else server_of n log
 server_of n (Performed m r p ∷ log) = server_of n log
 server_of n (Ended m how ∷ log) = server_of n log
+server_of n (Changed i c ∷ log) = server_of n log
 
 -- the server's store is the one after the request, and all others are as they were
 abbrev pub with_performed : (server : Option ℕ) → Request → Stores → Stores
 with_performed None r stores node = stores node
 with_performed (Some server) r stores node = if nat_eq node server then option_map (λ (s : Store). after s r) (stores server) else stores node
 
--- the opening stores after the performed requests, in their order
+-- the opening stores after the performed requests and the changes at their nodes, in the log's order
 abbrev pub stores_by : (opening : Stores) → List Fact → Stores
 stores_by opening [] = opening
 stores_by opening (Asked n c s r ∷ log) = stores_by opening log
 stores_by opening (Performed n r p ∷ log) = with_performed (server_of n log) r (stores_by opening log)
 stores_by opening (Ended n how ∷ log) = stores_by opening log
+stores_by opening (Changed i c ∷ log) = with_changed i c (stores_by opening log)
 
--- the stores are these: performed requests alone change one
+-- the stores are these: performed requests and changes at its node alone change one
 abbrev pub AreReplayed : (opening : Stores) → List Fact → (stores : Stores) → Type 0
 AreReplayed opening log stores = (node : ℕ) → stores node ≡ stores_by opening log node
 
@@ -53,6 +55,7 @@ ArePerformedOnce opening [] = Unit {0}
 ArePerformedOnce opening (Asked n c s r ∷ log) = ArePerformedOnce opening log
 ArePerformedOnce opening (Performed n r p ∷ log) = IsPerformedAsAsked opening n r p log × ArePerformedOnce opening log
 ArePerformedOnce opening (Ended n how ∷ log) = ArePerformedOnce opening log
+ArePerformedOnce opening (Changed i c ∷ log) = ArePerformedOnce opening log
 
 -- What was asked, and how it ended.
 
@@ -62,3 +65,4 @@ AreEndedOnce [] = Unit {0}
 AreEndedOnce (Asked n c s r ∷ log) = (n ≡ asks_in log) × AreEndedOnce log
 AreEndedOnce (Performed n r p ∷ log) = AreEndedOnce log
 AreEndedOnce (Ended n how ∷ log) = MayEnd n how log × IsUnended n log × AreEndedOnce log
+AreEndedOnce (Changed i c ∷ log) = AreEndedOnce log

@@ -3,10 +3,11 @@ use Rattle.std.specs.Prelude.{◌≡◌, ℕ, true, false, List, [], ◌∷◌, 
 use Rattle.bac_service.specs.Values.{Request}
 use Rattle.bac_service.specs.Replies.{Reply}
 use Rattle.bac_store.specs.Stores.{Store}
+use Rattle.bac_store.specs.AtNode.{Change}
 use Rattle.bac_store.specs.Replies.{reply_to}
 use Rattle.bac_ends.specs.Meanings.Ending.{Answered, TimedOut}
 use Rattle.bac_world.specs.Once.{Fact, Stores, IsOnce}
-use Rattle.bac_world.specs.Once.Fact.{Asked, Performed, Ended}
+use Rattle.bac_world.specs.Once.Fact.{Asked, Performed, Ended, Changed}
 use Rattle.bac_world.specs.World.{Copy, is_deliverable}
 
 -- Copies.
@@ -42,15 +43,29 @@ STORES node = if nat_eq node 1 then Some STORE else None
 abbrev pub ASKED : List Fact
 ASKED = Asked 0 0 1 REQUEST ∷ []
 
--- performed and answered, or performed and given up, is right
+-- a file of octets 1 and 2 for node 2, whose file has none
+abbrev pub CHANGE : Change
+CHANGE = Change.File (record { kind = 10; instance = 1 }) (1 ∷ 2 ∷ [])
+
+abbrev pub FILES : List ℕ → Store
+FILES octets = record { id = record { kind = 10; instance = 1 }; name = []; properties = []; file = Some (record { octets = octets; writable = false }) } ∷ []
+
+abbrev pub FILE_OF : List ℕ → Stores
+FILE_OF octets node = if nat_eq node 2 then Some (FILES octets) else STORES node
+
+-- performed and answered, or performed and given up, is right; so is a change at a node, whose store alone is another
 pub record RightLogs : Type 0 where
   pub answered : IsOnce STORES (Ended 0 (Answered REPLY) ∷ Performed 0 REQUEST REPLY ∷ ASKED) STORES
   pub given_up : IsOnce STORES (Performed 0 REQUEST REPLY ∷ Ended 0 TimedOut ∷ ASKED) STORES
+  pub changed : IsOnce (FILE_OF []) (Changed 2 CHANGE ∷ ASKED) (FILE_OF (1 ∷ 2 ∷ []))
 
--- performed twice, not asked, answered with another reply, answered and not performed, and ended twice is not
+-- performed twice, not asked, answered with another reply, answered and not performed, and ended twice is not; nor is a store that another one took the
+-- place of without a change in the log, or with one of another node
 pub record WrongLogs : Type 0 where
   pub twice : (stores : Stores) → IsOnce STORES (Performed 0 REQUEST REPLY ∷ Performed 0 REQUEST REPLY ∷ ASKED) stores → ⊥
   pub unasked : (stores : Stores) → IsOnce STORES (Performed 0 REQUEST REPLY ∷ []) stores → ⊥
   pub another_reply : (stores : Stores) → IsOnce STORES (Ended 0 (Answered Reply.Simple) ∷ Performed 0 REQUEST REPLY ∷ ASKED) stores → ⊥
   pub unperformed : (stores : Stores) → IsOnce STORES (Ended 0 (Answered REPLY) ∷ ASKED) stores → ⊥
   pub ended_twice : (stores : Stores) → IsOnce STORES (Ended 0 TimedOut ∷ Ended 0 TimedOut ∷ ASKED) stores → ⊥
+  pub unlogged : IsOnce (FILE_OF []) ASKED (FILE_OF (1 ∷ 2 ∷ [])) → ⊥
+  pub logged_elsewhere : IsOnce (FILE_OF []) (Changed 1 CHANGE ∷ ASKED) (FILE_OF (1 ∷ 2 ∷ [])) → ⊥

@@ -9,6 +9,7 @@ use Rattle.bac_npdu.specs.Causes.{IsCause}
 use Rattle.bac_service.specs.Values.{Request, choice_of}
 use Rattle.bac_service.specs.Requests.{SpellsRequest}
 use Rattle.bac_service.specs.Services.{reads_reply}
+use Rattle.bac_store.specs.AtNode.{Change, changed}
 use Rattle.bac_store.specs.Stores.{Store}
 use Rattle.bac_protocol.specs.Context.{Settings}
 use Rattle.bac_protocol.specs.Service.{Octets}
@@ -102,6 +103,10 @@ pub record NodeTick (now : ℕ) (old new : Node) (o : Outcome) : Type 0 where
   pub ended : Pairwise IsFinish (clients_tick old.settings now old.clients).ended o.ended
   pub performed : o.performed ≡ None
   pub dropped : o.dropped ≡ None
+
+-- a change at the node itself: its store alone is another one
+abbrev pub with_change : Change → Node → Node
+with_change c n = record n { store = changed c n.store }
 
 -- an ask of a peer, which takes so much, was accepted
 pub record NodeAsks (now : ℕ) (peer : PeerView) (limits : Limits) (r : Request) (old new : Node) (a : Accepted) (sends : List Datagram) : Type 0 where

@@ -7,6 +7,8 @@ use Rattle.bac_apdu.specs.Spelling.{SpellsApdu}
 use Rattle.bac_npdu.specs.Peers.{PeerView}
 use Rattle.bac_npdu.specs.Datagram.{Means}
 use Rattle.bac_service.specs.Values.{Request}
+use Rattle.bac_store.specs.AtNode as at_node
+use Rattle.bac_store.specs.AtNode.{change_fault}
 use Rattle.bac_protocol.specs.declared.times.TheConstants.{LIFE}
 use Rattle.bac_protocol.specs.Service.{Octets}
 use Rattle.bac_protocol.specs.Wire.{is_from_client}
@@ -17,9 +19,9 @@ use Rattle.bac_ends.specs.Sends.{Datagram, Pairwise}
 use Rattle.bac_ends.specs.Meanings.{Finish}
 use Rattle.bac_ends.specs.Ends.{Accepted}
 use Rattle.bac_world.specs.Services as service
-use Rattle.bac_world.specs.Node.{Node, Outcome, Refusal, NodeOn, NodeTick, NodeAsks, NodeRefuses}
+use Rattle.bac_world.specs.Node.{Node, Outcome, Refusal, NodeOn, NodeTick, NodeAsks, NodeRefuses, with_change}
 use Rattle.bac_world.specs.Once.{Fact, Stores}
-use Rattle.bac_world.specs.Once.Fact.{Asked, Performed, Ended}
+use Rattle.bac_world.specs.Once.Fact.{Asked, Performed, Ended, Changed}
 
 -- a datagram that was sent: at that moment, from that node to that one, in that transaction
 pub record Copy : Type 0 where
@@ -159,6 +161,7 @@ pub data Event : Type 0 where
   Noise : (node : ℕ) (from octets : Octets) → Event
   Tick : (node : ℕ) → Event
   Advance : (by : ℕ) → Event
+  Change : (node : ℕ) (change : at_node.Change) → Event
 
 -- an accepted ask: it is noted, and enters the log with the next number
 pub record IsAsked (old : World) (client server : ℕ) (limits : Limits) (r : Request) (new : World) : Type 0 where
@@ -229,12 +232,24 @@ pub record Ticks (old : World) (i : ℕ) (new : World) : Type 0 where
   pub tick : NodeTick old.now before after outcome
   pub acts : Acts old i after outcome new
 
+-- a change at a node itself, where it has no fault: its store is the changed one, and the change enters the log; nothing is sent, and nothing else changes
+pub record IsChanged (old : World) (i : ℕ) (c : at_node.Change) (new : World) : Type 0 where
+  pub before : Node
+  pub at : slice_get old.nodes i ≡ Some before
+  pub may : change_fault before.store c ≡ None
+  pub nodes : IsWithNode old.nodes i (with_change c before) new.nodes
+  pub now : new.now ≡ old.now
+  pub copies : new.copies ≡ old.copies
+  pub notes : new.notes ≡ old.notes
+  pub log : new.log ≡ Changed i c ∷ old.log
+
 abbrev pub WorldStep : (overtake : ℕ) → World → Event → World → Type 0
 WorldStep overtake old (Ask client server limits r) new = IsAsked old client server limits r new ⊎ IsRefused old client server limits r new
 WorldStep overtake old (Deliver number) new = IsDelivered overtake old number new
 WorldStep overtake old (Noise node from octets) new = HearsNoise old node from octets new ⊎ LosesOctets old node from octets new
 WorldStep overtake old (Tick node) new = Ticks old node new
 WorldStep overtake old (Advance by) new = new ≡ record old { now = old.now + by }
+WorldStep overtake old (Change node change) new = IsChanged old node change new
 
 abbrev pub WorldRun : (overtake : ℕ) → World → List Event → World → Type 0
 WorldRun overtake old [] new = new ≡ old

@@ -8,14 +8,21 @@ pub mod node;
 
 ghost use Rattle.std.specs.Prelude.{ℕ, List};
 ghost use Rattle.bac_world.specs.Claims.{AreEndedOnce, ArePerformedOnce, AreReplayed};
-ghost use Rattle.bac_world.specs.Once.{Fact, IsOnce, Stores};
+ghost use Rattle.bac_world.specs.Once.{Fact, HasNoChange, IsOnce, IsOnceByRequests, Stores};
 ghost use Rattle.bac_world.specs.World.{World, Event, WorldRun, IsFresh, IsBounded, stores_of};
 
 /// After every run of a fresh world each accepted ask takes effect at most once, and exactly once where a service answer reached its client; the
-/// request performed and the answer are its own, whole; and each server's store is its opening store after the performed requests in their order.
+/// request performed and the answer are its own, whole; and each server's store is its opening store after the performed requests and the changes made
+/// at that node, in the log's order.
 pub fn at_most_once()
     ensures { (W overtake : ℕ) (w w' : World) → IsFresh w → IsBounded W overtake w → (events : List Event) → WorldRun overtake w events w'
         → IsOnce (stores_of w.nodes) w'.log (stores_of w'.nodes) }
+{}
+
+/// Where the log has no change that was made at a node, each server's store is its opening store after the performed requests in their order.
+#[tactic(auto, using(crate::proofs::Claims::by_requests))]
+pub fn requests_alone_change_stores()
+    ensures { (opening : Stores) (log : List Fact) (stores : Stores) → HasNoChange log → IsOnce opening log stores → IsOnceByRequests opening log stores }
 {}
 
 /// A log is right with the stores exactly where three claims hold of it, each of which can be read by itself: of what was performed, of what was asked and how

@@ -9,9 +9,10 @@ use Rattle.bac_protocol.specs.Service.{Octets}
 use Rattle.bac_protocol.specs.Log as machine_log
 use Rattle.bac_ends.specs.Sends.{Pairwise}
 use Rattle.bac_ends.specs.Meanings.Ending.{Answered}
-use Rattle.bac_world.specs.Once.{Fact, Has, Stores, IsOnce, IsUnperformed}
-use Rattle.bac_world.specs.Once.Fact.{Asked, Performed, Ended}
+use Rattle.bac_world.specs.Once.{Fact, Has, Stores, IsOnce}
+use Rattle.bac_world.specs.Once.Fact.{Asked, Performed, Ended, Changed}
 use Rattle.bac_world.proofs.Logs.{FactMeans}
+use Rattle.bac_completion.proofs.Values.{not_performed}
 
 abbrev pub three : Fact → Fact → Fact → List Fact → List Fact
 three a b c log = a ∷ b ∷ c ∷ log
@@ -37,15 +38,6 @@ pairwise_length R [] [] h = refl
 pairwise_length R [] (y ∷ ys) h = absurd h
 pairwise_length R (x ∷ xs) [] h = absurd h
 pairwise_length R (x ∷ xs) (y ∷ ys) h = ap suc (pairwise_length R xs ys h.1)
-
-not_performed : (n : ℕ) (r : Request) (p : Reply) (log : List Fact) → IsUnperformed n log → Has (Performed n r p) log → ⊥
-not_performed n r p [] u h = h
-not_performed n r p (Asked m c s q ∷ log) u (inl e) = absurd cc
-not_performed n r p (Asked m c s q ∷ log) u (inr h) = not_performed n r p log u h
-not_performed n r p (Performed m q v ∷ log) u (inl e) = u.0 (let same : m ≡ n = cc in same)
-not_performed n r p (Performed m q v ∷ log) u (inr h) = not_performed n r p log u.1 h
-not_performed n r p (Ended m how ∷ log) u (inl e) = absurd cc
-not_performed n r p (Ended m how ∷ log) u (inr h) = not_performed n r p log u h
 
 module _ (opening stores : Stores) (n c s choice : ℕ) (octets : Octets) (r : Request) (spelled : SpellsRequest choice r octets) (reply : machine.Reply)
     (log : List Fact) where
@@ -90,7 +82,10 @@ module _ (opening stores : Stores) (n c s choice : ℕ) (octets : Octets) (r : R
       go how hx once = absurd hx.1.1
   facts_are (Asked i d e f) y z hx hy hz once = absurd hx
   facts_are (Performed i d e) y z hx hy hz once = absurd hx
+  facts_are (Changed i d) y z hx hy hz once = absurd hx
   facts_are (Ended i how) (Asked j d e f) z hx hy hz once = absurd hy
   facts_are (Ended i how) (Ended j d) z hx hy hz once = absurd hy
+  facts_are (Ended i how) (Changed j d) z hx hy hz once = absurd hy
   facts_are (Ended i how) (Performed j q v) (Performed k d e) hx hy hz once = absurd hz
   facts_are (Ended i how) (Performed j q v) (Ended k d) hx hy hz once = absurd hz
+  facts_are (Ended i how) (Performed j q v) (Changed k d) hx hy hz once = absurd hz

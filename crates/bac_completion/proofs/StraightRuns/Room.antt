@@ -24,9 +24,9 @@ use Rattle.bac_ends.specs.Ends.{key_of, context_of, has_no_slot, asks_with_id, a
 use Rattle.bac_ends.specs.Ends.Held.{Open, Closed}
 use Rattle.bac_ends.specs.Ends.AskOutcome.{Asked}
 use Rattle.bac_entry.specs.Services.{service_of}
-use Rattle.bac_world.specs.Node.{Node, Outcome, NodeOn, NodeTick, NodeAsks, IsHeardBy}
+use Rattle.bac_world.specs.Node.{Node, Outcome, NodeOn, NodeTick, NodeAsks, IsHeardBy, with_change}
 use Rattle.bac_world.specs.World.{World, Event, WorldStep, WorldRun, IsFresh, IsFreshNode, IsWithNode, Acts, DeliversIf, Hears, is_deliverable}
-use Rattle.bac_world.specs.World.Event.{Deliver, Noise, Tick, Advance}
+use Rattle.bac_world.specs.World.Event.{Deliver, Noise, Tick, Advance, Change}
 use Rattle.bac_world.proofs.Steps.{decide_number}
 use Rattle.bac_world.proofs.Asking.{accepted_is}
 use Rattle.bac_completion.specs.Room.{HasRoom, HaveRoom}
@@ -281,6 +281,9 @@ step_room overtake w w' (Noise node from octets) (inr s) h = same_room w w' s.sa
 step_room overtake w w' (Tick node) s h =
     acts_room w w' node s.after s.outcome s.acts (tick_room w.now s.before s.after s.outcome s.tick (h node s.before s.at)) h
 step_room overtake w w' (Advance by) s h = subst HaveRoom (sym s) (λ j n at. later_room w.now by n (h j n at))
+step_room overtake w w' (Change node change) s h = λ j n at. subst (λ (t : ℕ). HasRoom t n) (sym s.now)
+    (with_room w.now w.nodes w'.nodes node (with_change change s.before) s.nodes
+    (let room = h node s.before s.at in record { held = room.held; live = room.live }) h j n at)
 
 run_room : (overtake : ℕ) (events : List Event) (w w' : World) → WorldRun overtake w events w' → HaveRoom w → HaveRoom w'
 run_room overtake [] w w' run h = same_room w w' run h

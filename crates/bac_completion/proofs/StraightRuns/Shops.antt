@@ -31,8 +31,9 @@ after_read None r = None
 after_read (Some s) (Ok r) = Some (change.after s r)
 after_read (Some s) (Err reason) = Some s
 
+-- no node of a straight run changes its own store
 abbrev pub shop : Shop (Option Store)
-shop = record { outcome = outcome_at; after = λ s q. after_read s (request_at q.choice q.service) }
+shop = record { outcome = outcome_at; after = λ s q. after_read s (request_at q.choice q.service); changed = λ s change. s }
 
 -- all transactions of the machines, with these stores
 abbrev pub Machines : Type 0

@@ -1,6 +1,7 @@
 //! Run with each allocation refused in turn, too: `sh tests/memory/refused.sh`.
 use super::*;
 use bac_service::{OwnedReply, Request};
+use bac_store::ChangeFault;
 
 /// The house, where one allocation alone is refused.
 fn house_at_last(alloc: Global) -> Result<Store, NoMemory> {
@@ -178,4 +179,34 @@ fn performs_or_refuses(rt: HostRuntime) -> Result<(), Fail> {
     let mut store = house_at_last(rt.alloc())?;
     all_performed_at_last(rt.alloc(), &mut store, REQUESTS)?;
     all_performed_at_last(rt.alloc(), &mut store, READS)
+}
+
+/// Sets the present-value of flow, where one allocation alone is refused; whether a refused call leaves the store as it was.
+fn is_set(alloc: Global, store: &mut Store, object: ObjectIdentifier) -> Result<bool, Fail> {
+    let before = copied(alloc, store)?;
+    match store.set_value(alloc, object, 85, b"\x44\x42\x90\x00\x00") {
+        Ok(()) => Ok(!store.same(&before)),
+        Err(ChangeFault::NoMemory) => Ok(store.same(&before)),
+        Err(_) => Ok(false),
+    }
+}
+
+/// The same of the octets of log.
+fn is_filled(alloc: Global, store: &mut Store, object: ObjectIdentifier) -> Result<bool, Fail> {
+    let before = copied(alloc, store)?;
+    match store.set_file(alloc, object, b"\xAA") {
+        Ok(()) => Ok(!store.same(&before)),
+        Err(ChangeFault::NoMemory) => Ok(store.same(&before)),
+        Err(_) => Ok(false),
+    }
+}
+
+/// A change is made, or refused and nothing is changed.
+#[test]
+fn changes_or_refuses(rt: HostRuntime) -> Result<(), Fail> {
+    let mut store = house_at_last(rt.alloc())?;
+    let flow = ObjectIdentifier::new(0, 5).ok_or("no such identifier")?;
+    let log = ObjectIdentifier::new(10, 1).ok_or("no such identifier")?;
+    holds(is_set(rt.alloc(), &mut store, flow)?, "flow")?;
+    holds(is_filled(rt.alloc(), &mut store, log)?, "log")
 }
