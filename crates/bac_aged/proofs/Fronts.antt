@@ -1,9 +1,11 @@
 -- The first slots of a list: changed each by its own, or seen so far in a walk.
-use Rattle.std.proofs.Common.{◌≡◌, ℕ, zero, suc, ◌+◌, true, false, Bool, List, [], ◌∷◌, map, length, take, Some, slice_get, refl, ap, sym, subst, ◌∙◌, arith}
+use Rattle.std.proofs.Common.{◌≡◌, ℕ, zero, suc, ◌+◌, ◌<◌, ◌≤◌, true, false, Bool, List, [], ◌∷◌, map, length, take, Some, min, nat_le, slice_get, refl, ap, sym, subst, ◌∙◌, arith}
+use Rattle.std.proofs.lemmas.Bool.Decides.{nat_tests}
+use Rattle.std.specs.Prelude.{MatchOption}
 use Rattle.std.specs.Cmp.{IsEquivalence}
 use Rattle.bac_slots.specs.declared.slot.Slot.{Slot}
 use Rattle.bac_slots.specs.Slots.{value_at, with_value, EachSlot, IsApart, IsDistinct}
-use Rattle.bac_aged.specs.Ages.{changed}
+use Rattle.bac_aged.specs.Ages.{changed, first_due}
 
 one_more : (n : ℕ) → suc n ≡ n + 1
 one_more n = omega arith
@@ -81,3 +83,33 @@ each_next {K} {T} P Q R n slots f g e h = subst (λ k. EachSlot R (take k slots)
     go n [] e h = tt
     go zero (s ∷ slots) e h = (g s (h s refl), tt)
     go (suc n) (s ∷ slots) e h = (f s e.0, go n slots e.1 h)
+
+-- one more slot of a walk that seeks the first moment at which one is due
+pub first_next : {K V : Type 0} (due : V → ℕ) (n : ℕ) (slots : List (Slot K V)) (now at least : ℕ) → now ≡ first_due due (take n slots)
+    → MatchOption (slice_get slots n) (at ≡ 18446744073709551615) (λ s. at ≡ due s.value) → at ≤ 18446744073709551615 → least ≡ min now at
+    → least ≡ first_due due (take (n + 1) slots)
+first_next {K} {V} due n slots now at least is h most e =
+    e ∙ ap (λ k. min k at) is ∙ sym (go n slots h) ∙ ap (λ k. first_due due (take k slots)) (one_more n)
+  where
+    go : (n : ℕ) (slots : List (Slot K V)) → MatchOption (slice_get slots n) (at ≡ 18446744073709551615) (λ s. at ≡ due s.value)
+        → first_due due (take (suc n) slots) ≡ min (first_due due (take n slots)) at
+    go zero [] h = omega (arith, h)
+    go (suc n) [] h = omega (arith, h)
+    go zero (s ∷ slots) h = omega (arith, h, most)
+    go (suc n) (s ∷ slots) h = let e = go n slots h in omega (arith, e)
+
+-- Slots that stay or change when one is due.
+
+pub all_rest : {K V : Type 0} (f : Slot K V → Slot K V) (slots : List (Slot K V)) → EachSlot (λ s. f s ≡ s) slots → map f slots ≡ slots
+all_rest f [] e = refl
+all_rest f (s ∷ slots) e = let more = all_rest f slots e.1 in let one = e.0 in cc
+
+pub one_moves : {K V : Type 0} (due : V → ℕ) (f : Slot K V → Slot K V) (d : ℕ) (slots : List (Slot K V)) → d < 18446744073709551615
+    → EachSlot (λ s. due s.value ≡ d → f s ≡ s → ⊥) slots → first_due due slots ≡ d → map f slots ≡ slots → ⊥
+one_moves due f d [] within e is same = absurd (omega (arith, within, is))
+one_moves due f d (s ∷ slots) within e is same =
+    go (nat_le (due s.value) (first_due due slots)) refl (λ at. let rest : map f slots ≡ slots = cc in one_moves due f d slots within e.1 at rest)
+  where
+    go : (b : Bool) → nat_le (due s.value) (first_due due slots) ≡ b → (first_due due slots ≡ d → ⊥) → ⊥
+    go true le more = let first : f s ≡ s = cc in let at : due s.value ≡ d = grind (arith, nat_tests) in e.0 at first
+    go false gt more = let at : first_due due slots ≡ d = grind (arith, nat_tests) in more at

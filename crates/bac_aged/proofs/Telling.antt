@@ -103,10 +103,14 @@ module _ (V : Type 0) where
   none_each f [] g = refl
   none_each f (s ∷ slots) g = ap (λ l. l ++ from_each f slots) g.0 ∙ none_each f slots g.1
 
+  pub none_told : {B : Type 0} (f : Slot keys.PeerKey V → List B) (slots : List (Slot keys.PeerKey V)) → EachSlot (λ s. f s ≡ []) slots
+      → from_each f (in_order peer_key_cmp slots) ≡ []
+  none_told f slots none = none_each f (in_order peer_key_cmp slots) (none_ordered (λ s. f s ≡ []) slots none)
+
   pub told_none : {B C : Type 0} (R : B → C → Type 0) (f : Slot keys.PeerKey V → List B) (slots : List (Slot PeerKey V)) (told : List C)
       → EachSlot (λ s. f (slot_view s) ≡ []) slots → told ≡ [] → Pairwise R (from_each f (ordered slots)) told
   told_none {B} {C} R f slots told none is =
-      subst (λ l. Pairwise R l told) (sym (none_each f (ordered slots) (none_ordered (λ s. f s ≡ []) (slots_view slots) (viewed slots none))))
+      subst (λ l. Pairwise R l told) (sym (none_told f (slots_view slots) (viewed slots none)))
       (subst (λ (l : List C). Pairwise R [] l) (sym is) tt)
     where
       viewed : (slots : List (Slot PeerKey V)) → EachSlot (λ s. f (slot_view s) ≡ []) slots → EachSlot (λ s. f s ≡ []) (slots_view slots)

@@ -1,11 +1,12 @@
 -- A table's slots with keys in code, and the slots of an end.
-use Rattle.std.proofs.Common.{◌≡◌, ℕ, suc, ◌+◌, ◌≤◌, Bool, List, [], ◌∷◌, count_by, cond, length, Some, refl, ap, sym, ◌∙◌, rules, arith}
+use Rattle.std.proofs.Common.{◌≡◌, ℕ, suc, ◌+◌, ◌≤◌, Bool, List, [], ◌∷◌, count_by, cond, length, min, Some, refl, ap, sym, ◌∙◌, rules, arith}
 use Rattle.std.proofs.lemmas.List.Sums.{sum_by-cons}
 use Rattle.std.specs.Cmp.{IsEquivalence}
 use Rattle.std.specs.Cmp.Rules.{comparing}
 use Rattle.bac_slots.specs.declared.slot.Slot.{Slot}
 use Rattle.bac_slots.specs.Slots.{EachSlot, IsApart, IsDistinct, value_at, with_value}
 use Rattle.bac_slots.proofs.Values.{set_back}
+use Rattle.bac_aged.specs.Ages.{first_due}
 use Rattle.bac_ends.specs.Keys as keys
 use Rattle.bac_ends.specs.Keys.{peer_key_cmp_total, same_key}
 use Rattle.bac_ends.specs.Tables.{IsOrderly}
@@ -48,6 +49,11 @@ module _ (V : Type 0) where
       → IsOrderly V (slots_view slots) capacity
   orderly_viewed slots capacity len distinct count within =
       record { distinct = distinct_viewed slots distinct; within = omega (arith, length_viewed slots, count, within) }
+
+  -- the same is due first
+  pub due_viewed : (due : V → ℕ) (slots : List (Slot PeerKey V)) → first_due due (slots_view slots) ≡ first_due due slots
+  due_viewed due [] = refl
+  due_viewed due (s ∷ slots) = ap (λ m. min (due s.value) m) (due_viewed due slots)
 
   -- what holds of each value holds of each in the end's slots
   pub each_viewed : (P : V → Type 0) (slots : List (Slot PeerKey V)) → EachSlot (λ s. P s.value) slots → EachSlot (λ s. P s.value) (slots_view slots)

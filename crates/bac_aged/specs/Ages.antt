@@ -1,5 +1,5 @@
 -- What is known of the ages of a table's slots: beside the slots, and hidden from the contracts of both ends.
-use Rattle.std.specs.Prelude.{◌≡◌, ℕ, ◌≤◌, List, Option, Some, None, if◌then◌else◌, nat_le}
+use Rattle.std.specs.Prelude.{◌≡◌, ℕ, ◌≤◌, List, [], ◌∷◌, Option, Some, None, if◌then◌else◌, min, nat_le}
 use Rattle.bac_slots.specs.declared.slot.Slot.{Slot}
 use Rattle.bac_slots.specs.Slots.{Ascends, EachSlot}
 use Rattle.bac_aged.specs.declared.ages.Ages.{Ages}
@@ -26,6 +26,11 @@ later_of (Some latest) moment = if nat_le latest moment then Some moment else No
 -- a tick from the one moment on and before the other finds nothing to do for any of the values
 abbrev pub AreQuiet : {K V : Type 0} → (ℕ → ℕ → V → Type 0) → (from due : ℕ) → List (Slot K V) → Type 0
 AreQuiet Quiet from due slots = EachSlot (λ s. Quiet from due s.value) slots
+
+-- the first of the moments at which the values in slots are due, and the last moment of all where there is no slot
+abbrev pub first_due : {K V : Type 0} → (V → ℕ) → List (Slot K V) → ℕ
+first_due due [] = 18446744073709551615
+first_due due (s ∷ slots) = min (due s.value) (first_due due slots)
 
 -- all that is known of the ages of these slots
 pub record IsAged (K V : Type 0) (began : V → ℕ) (Quiet : ℕ → ℕ → V → Type 0) (ages : Ages) (slots : List (Slot K V)) : Type 0 where

@@ -12,6 +12,9 @@ pub trait Aged<E>: Drop {
     // How long it is alive at least.
     ghost LIFE: { ℕ };
 
+    // The first moment at which a tick finds something to do for it, looked at from a moment on; the last moment of all where none does.
+    ghost due_of: { ℕ → Self → ℕ };
+
     // A tick from the one moment on and before the other finds nothing to do for it.
     ghost IsQuiet: { ℕ → ℕ → Self → Type 0 };
 
@@ -22,9 +25,10 @@ pub trait Aged<E>: Drop {
     fn is_alive(&self, now: u64) -> bool
         ensures { result ≡ lives now self.now };
 
-    /// The first moment at which a tick can find something to do for it, looked at from a moment on; the last moment of all where none can.
+    /// The first moment at which a tick finds something to do for it, looked at from a moment on; the last moment of all where none does.
     fn due(&self, from: u64) -> u64
-        ensures { IsQuiet from result self.now };
+        ensures due { result ≡ due_of from self.now }
+        ensures quiet { IsQuiet from result self.now };
 
     /// Laws of each value: one that is younger than its life is alive; what has nothing to do before a moment has nothing to do before an earlier one.
     fn ages()

@@ -17,4 +17,4 @@ pub use aged_table::{AgedTable, empty_table};
 pub use ages::Ages;
 pub use each::{Fact, each_slot};
 pub use entering::{count_alive, enter, has_room};
-pub use ticking::tick;
+pub use ticking::{first_due, tick};

@@ -2,7 +2,7 @@
 ghost use Rattle.std.specs.Prelude.{◌≡◌, ◌+◌, map, MatchOption, Some, slice_get};
 ghost use Rattle.bac_slots.specs.declared.slot.Slot.{Slot};
 ghost use Rattle.bac_slots.specs.Slots.{value_at, with_value};
-ghost use Rattle.bac_aged.specs.Ages.{AreQuiet, IsAged, changed, ticked_in};
+ghost use Rattle.bac_aged.specs.Ages.{AreQuiet, IsAged, changed, first_due, ticked_in};
 
 use crate::aged::{Aged, Ticks};
 use crate::aged_table::AgedTable;
@@ -65,7 +65,8 @@ fn tick_each<E, K: Ord + Copy, C, V: Ticks<E, K, C>, S: SlotTable<K, V>>(
 
 /// The first moment at which a tick can find something to do for the n-th slot in order of putting, looked at from a moment on.
 fn due_at<E, K: Ord + Copy, V: Aged<E>, S: SlotTable<K, V>>(table: &S, from: u64, n: usize) -> u64
-    ensures { (s : Slot K V) → slice_get (S.slots table.now) n ≡ Some s → V.IsQuiet from result s.value }
+    ensures due { MatchOption (slice_get (S.slots table.now) n) (result ≡ 18446744073709551615) (λ s. result ≡ V.due_of from s.value) }
+    ensures quiet { (s : Slot K V) → slice_get (S.slots table.now) n ≡ Some s → V.IsQuiet from result s.value }
 {
     match table.by_age(n) {
         Some((_, _, value)) => value.due(from),
@@ -73,9 +74,11 @@ fn due_at<E, K: Ord + Copy, V: Aged<E>, S: SlotTable<K, V>>(table: &S, from: u64
     }
 }
 
-/// The first moment at which a tick can find something to do for any slot, looked at from a moment on.
-fn first_due<E, K: Ord + Copy, V: Aged<E>, S: SlotTable<K, V>>(table: &S, from: u64) -> u64
-    ensures { AreQuiet V.IsQuiet from result (S.slots table.now) }
+/// The first moment at which a tick finds something to do for any slot, looked at from a moment on; the last moment of all where none does. It looks at
+/// each slot.
+pub fn first_due<E, K: Ord + Copy, V: Aged<E>, S: SlotTable<K, V>>(table: &S, from: u64) -> u64
+    ensures due { result ≡ first_due (V.due_of from) (S.slots table.now) }
+    ensures quiet { AreQuiet V.IsQuiet from result (S.slots table.now) }
 {
     V::ages();
     let mut due = u64::MAX;

@@ -1,5 +1,5 @@
 -- The moments between which a tick finds nothing to do for an entry.
-use Rattle.std.specs.Prelude.{ℕ, ◌+◌, ◌<◌, ◌≤◌, ◌⊎◌, if◌then◌else◌, min}
+use Rattle.std.specs.Prelude.{ℕ, ◌+◌, ◌<◌, ◌≤◌, ◌⊎◌, ◌&&◌, if◌then◌else◌, min}
 use Rattle.bac_protocol.specs.declared.times.TheConstants.{T_SEG, WAIT_SEG, KEEP}
 use Rattle.bac_protocol.specs.Server.{Entry, State, Transfer, is_live}
 
@@ -16,9 +16,9 @@ state_due (State.SegmentedResponse out Transfer.Stopped since) = LAST_MOMENT
 state_due (State.SegmentedResponse out Transfer.Finished since) = LAST_MOMENT
 state_due State.Dropped = LAST_MOMENT
 
--- the same of an entry, looked at from a moment on; one that is not live then is never due
+-- the same of an entry, looked at from a moment on; one that is not live then, or not when its timer is due, is never due
 abbrev pub due_of : (from : ℕ) → Entry → ℕ
-due_of from e = if is_live from e then state_due e.state else LAST_MOMENT
+due_of from e = if is_live from e && is_live (state_due e.state) e then state_due e.state else LAST_MOMENT
 
 -- the timer of a state, if it has one, is not due before that moment
 abbrev pub IsStateQuiet : (due : ℕ) → State → Type 0
@@ -29,6 +29,7 @@ IsStateQuiet due (State.SegmentedResponse out Transfer.Stopped since) = Unit {0}
 IsStateQuiet due (State.SegmentedResponse out Transfer.Finished since) = Unit {0}
 IsStateQuiet due State.Dropped = Unit {0}
 
--- a tick from the one moment on and before the other finds nothing to do: the entry is not live any more, or its timer is not due
+-- a tick from the one moment on and before the other finds nothing to do: the entry is not live any more, or will not be when its timer is due, or its
+-- timer is not due
 abbrev pub IsQuiet : (from due : ℕ) → Entry → Type 0
-IsQuiet from due e = (e.begin + KEEP < from) ⊎ IsStateQuiet due e.state
+IsQuiet from due e = (e.begin + KEEP < from) ⊎ ((e.begin + KEEP < state_due e.state) ⊎ IsStateQuiet due e.state)

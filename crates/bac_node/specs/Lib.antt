@@ -3,3 +3,4 @@ pub mod Views
 pub mod Fresh
 pub mod Calls
 pub mod Capacities
+pub mod Waiting

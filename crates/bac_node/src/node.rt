@@ -20,6 +20,8 @@ ghost use Rattle.bac_world.specs.Node.{NodeOn, NodeTick, IsHeardBy, dropped_for,
 ghost use Rattle.bac_node.specs.Calls.{Hears, IsAsked, IsDue, IsNotHeard, Refuses, ticked};
 ghost use Rattle.bac_node.specs.Fresh.{fresh_node, has_slots, slots_fit, window_fits};
 ghost use Rattle.bac_node.specs.Views.{cause_view, outcome_view, settings_of};
+ghost use Rattle.bac_node.specs.Waiting.{MovesAt, RestsUntil};
+ghost use Rattle.bac_ticket.specs.Timers.{LAST_MOMENT};
 
 use crate::cause::Cause;
 use crate::config::Config;
@@ -353,6 +355,24 @@ impl Node {
         self.clients.commit_tick(now);
         self.servers.commit_tick(now);
         self.latest = now;
+    }
+
+    /// The first moment, in milliseconds, at which a tick does anything: the timer of a ticket or of an entry is due, or a ticket is expired (clauses 5.4.4
+    /// and 5.4.5). It is not before the latest moment that the node was told. None where nothing is due before the last moment of all, 2^64 - 1.
+    ///
+    /// A driver may sleep until then, or until a datagram comes: a tick before it does nothing. It looks at each slot.
+    pub fn next_due(&self) -> Option<u64>
+        ensures rests { MatchOption result (RestsUntil LAST_MOMENT self.now) (λ due. RestsUntil due self.now) }
+        ensures moves { IfSome result (λ due. MovesAt due self.now) }
+    {
+        let due = self
+            .clients
+            .next_due()
+            .min(self.servers.next_due(self.latest));
+        if due == u64::MAX {
+            return None;
+        }
+        Some(due.max(self.latest))
     }
 
     /// Asks a peer, which takes so much, for a request, at a moment in milliseconds. It takes the least invoke ID that is not held for the peer, and a slot

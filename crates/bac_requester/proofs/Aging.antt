@@ -47,7 +47,7 @@ module _ (c : Context) (due : ℕ) (before : c.now < due) where
       ap (λ b. if b then Stays else (if is_expired c.now t.ask then Ends [] Expired else open_ticks c t t.phase)) q.unended
       ∙ ap (λ b. if b then Ends [] Expired else open_ticks c t t.phase) in_time ∙ waits t t.phase q.unended q.timer
 
-  held_stays : (number : ℕ) (h : Held) → IsHeldQuiet due h → held_ticked c number h ≡ record { number = number; held = h }
+  pub held_stays : (number : ℕ) (h : Held) → IsHeldQuiet due h → held_ticked c number h ≡ record { number = number; held = h }
   held_stays number (Held.Open t) q =
       ap (λ r. client_after c.now number t r) (stays t q) ∙ ap (λ b. let v : Client = record { number = number; held = open_unless b t } in v) q.unended
   held_stays number (Held.Closed first) q = refl

@@ -4,3 +4,4 @@ pub mod Turning
 pub mod Ticks
 pub mod Accepting
 pub mod Ids
+pub mod Waiting

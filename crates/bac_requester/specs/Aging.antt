@@ -7,7 +7,7 @@ use Rattle.bac_ends.specs.declared.peer_key.PeerKey.{PeerKey}
 use Rattle.bac_ends.specs.declared.settings.Settings.{Settings}
 use Rattle.bac_aged.specs.Ages.{IsAged}
 use Rattle.bac_aged.specs.declared.ages.Ages.{Ages}
-use Rattle.bac_ticket.specs.Timers.{IsHeldQuiet}
+use Rattle.bac_ticket.specs.Timers.{IsHeldQuiet, held_due}
 
 -- the moment of the first sending, which an ended ticket keeps too
 abbrev pub first_of : Held → ℕ
@@ -17,6 +17,10 @@ first_of (Held.Closed first) = first
 -- a slot's life begins with the first sending of its ticket
 abbrev pub began : Client → ℕ
 began c = first_of c.held
+
+-- the first moment at which a tick finds something to do for its ticket, or the last one of all
+abbrev pub client_due : (from : ℕ) → Client → ℕ
+client_due from c = held_due c.held
 
 -- a tick before that moment finds nothing to do for its ticket
 abbrev pub IsClientQuiet : (from due : ℕ) → Client → Type 0

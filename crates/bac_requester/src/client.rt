@@ -4,7 +4,7 @@ ghost use Rattle.bac_protocol.specs.declared.times.TheConstants.{HOLD as HELD_FO
 ghost use Rattle.bac_ends.specs.Ends.{held_ticked, is_held};
 ghost use Rattle.bac_ends.specs.Views.{context_view};
 ghost use Rattle.bac_ticket.specs.Views.{held_view};
-ghost use Rattle.bac_requester.specs.Aging.{IsClientQuiet, began, value_ticked};
+ghost use Rattle.bac_requester.specs.Aging.{IsClientQuiet, began, client_due, value_ticked};
 ghost use Rattle.bac_requester.specs.Short.{IsHeldShort};
 
 use bac_aged::{Aged, Fact, Ticks};
@@ -61,6 +61,8 @@ impl Aged<ClientRules> for Client {
     ghost lives = { λ now c. is_held now c.held };
 
     ghost LIFE = { HELD_FOR };
+
+    ghost due_of = { client_due };
 
     ghost IsQuiet = { IsClientQuiet };
 

@@ -1,5 +1,5 @@
 //! The client's end.
-ghost use Rattle.std.specs.Prelude.{◌≡◌, ◌≤◌, ◌↔◌, [], IfOk, IsErrOf, IsTrue, count_by};
+ghost use Rattle.std.specs.Prelude.{◌≡◌, ◌≢◌, ℕ, ◌<◌, ◌≤◌, ◌↔◌, [], IfOk, IsErrOf, IsTrue, count_by};
 ghost use Rattle.bac_apdu.specs.Views.{apdu_view, limits_view};
 ghost use Rattle.bac_npdu.specs.Views.{peer_view};
 ghost use Rattle.bac_service.specs.Requests.{SpellsRequest};
@@ -11,6 +11,7 @@ ghost use Rattle.bac_ends.specs.Ends.{CannotGo, client_asks, client_hears, clien
 ghost use Rattle.bac_ends.specs.Tables.{IsOrderlyClient};
 ghost use Rattle.bac_ends.specs.Ends.AskOutcome.{Refused};
 ghost use Rattle.bac_ends.specs.Views.{settings_view};
+ghost use Rattle.bac_ticket.specs.Timers.{LAST_MOMENT};
 ghost use Rattle.bac_ticket.specs.Views.{fault_view};
 ghost use Rattle.bac_requester.specs.Short.{AreRepliesShort};
 ghost use Rattle.bac_requester.specs.Turns.{Asks, Hears, IsDue, Refuses};
@@ -22,7 +23,7 @@ use crate::client::{Client, ClientRules, ShortReplies};
 use crate::hearing::hears;
 use crate::ticking::{nothing_due, prepare};
 use crate::turn::{Due, Turn};
-use bac_aged::{AgedTable, count_alive, each_slot, empty_table, tick};
+use bac_aged::{AgedTable, count_alive, each_slot, empty_table, first_due, tick};
 use bac_apdu::{Apdu, Limits};
 use bac_ends::{Context, PeerKey, Settings, invoke_id_of};
 use bac_npdu::Peer;
@@ -180,6 +181,16 @@ impl<S: SlotTable<PeerKey, Client> + Drop> Requester<S> {
         ensures { self.new ≡ record self.old { end = (clients_tick self.old.settings now self.old.end).end } }
     {
         tick(&mut self.aged, &self.settings, now);
+    }
+
+    /// The first moment, in milliseconds, at which the timer of a ticket is due or a ticket is expired (clause 5.4.4); the last moment of all where no ticket
+    /// is open. A tick before it does nothing; one from it on does something. It looks at each slot.
+    pub fn next_due(&self) -> u64
+        ensures rests { (now : ℕ) → now < result
+            → clients_tick self.now.settings now self.now.end ≡ record { end = self.now.end; sends = []; ended = [] } }
+        ensures moves { (now : ℕ) → result ≤ now → result < LAST_MOMENT → (clients_tick self.now.settings now self.now.end).end ≢ self.now.end }
+    {
+        first_due(&self.aged.table, 0)
     }
 
     /// How many slots are held at a moment, in milliseconds: their tickets are open, or no more than 135,000 milliseconds have passed since the first

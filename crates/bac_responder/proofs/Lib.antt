@@ -3,3 +3,4 @@ pub mod Timers
 pub mod Ticks
 pub mod Turned
 pub mod Sweeps
+pub mod Waiting

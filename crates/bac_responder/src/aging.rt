@@ -1,7 +1,7 @@
 //! How entries age.
 ghost use Rattle.bac_protocol.specs.declared.times.TheConstants.{KEEP as KEPT_FOR};
 ghost use Rattle.bac_protocol.specs.Server.{is_live};
-ghost use Rattle.bac_entry.specs.Timers.{IsQuiet};
+ghost use Rattle.bac_entry.specs.Timers.{IsQuiet, due_of};
 ghost use Rattle.bac_responder.specs.Aging.{began, entry_ticked};
 ghost use Rattle.bac_responder.specs.Short.{IsRequestShort};
 
@@ -21,6 +21,8 @@ impl Aged<ServerRules> for Entry {
     ghost lives = { is_live };
 
     ghost LIFE = { KEPT_FOR };
+
+    ghost due_of = { due_of };
 
     ghost IsQuiet = { IsQuiet };
 

@@ -1,5 +1,5 @@
 //! The server's end.
-ghost use Rattle.std.specs.Prelude.{◌≡◌, ◌≤◌, ◌↔◌, [], count_by, IfOk, IsTrue};
+ghost use Rattle.std.specs.Prelude.{◌≡◌, ◌≢◌, ℕ, ◌<◌, ◌≤◌, ◌↔◌, [], None, count_by, max, IfOk, IsTrue};
 ghost use Rattle.bac_apdu.specs.Views.{apdu_view};
 ghost use Rattle.bac_npdu.specs.Views.{peer_view};
 ghost use Rattle.bac_ends.specs.Ends.{is_slot_live, server_hears, servers_tick};
@@ -7,6 +7,7 @@ ghost use Rattle.bac_ends.specs.Tables.{IsOrderlyServer};
 ghost use Rattle.bac_ends.specs.Sends.{Pairwise, IsSent};
 ghost use Rattle.bac_ends.specs.Views.{settings_view};
 ghost use Rattle.bac_entry.specs.Services.{service_of};
+ghost use Rattle.bac_entry.specs.Timers.{LAST_MOMENT};
 ghost use Rattle.bac_responder.specs.Short.{AreRequestsShort};
 ghost use Rattle.bac_responder.specs.Views.{end_of, Serves};
 
@@ -14,7 +15,7 @@ use crate::aging::{ServerRules, ShortRequests};
 use crate::hearing::hears;
 use crate::served::Served;
 use crate::ticking::{nothing_due, prepare};
-use bac_aged::{AgedTable, count_alive, each_slot, empty_table, tick};
+use bac_aged::{AgedTable, count_alive, each_slot, empty_table, first_due, tick};
 use bac_apdu::Apdu;
 use bac_ends::{Context, Datagram, PeerKey, Settings, invoke_id_of};
 use bac_entry::Entry;
@@ -63,6 +64,17 @@ impl<S: SlotTable<PeerKey, Entry> + Drop> Responder<S> {
     {
         let _len = self.aged.table.len();
         count_alive(&self.aged, moment)
+    }
+
+    /// The first moment, in milliseconds, at which the timer of an entry is due (clause 5.4.5), looked at from a moment on; the last moment of all where no
+    /// entry has a timer that is due while it lives. A tick before it does nothing; at it, or at the moment looked from if that is later, one does
+    /// something. It looks at each slot.
+    pub fn next_due(&self, from: u64) -> u64
+        ensures rests { (moment : ℕ) → from ≤ moment → moment < result
+            → servers_tick self.now.settings moment self.now.end ≡ record { end = self.now.end; sends = []; act = None } }
+        ensures moves { result < LAST_MOMENT → (servers_tick self.now.settings (max from result) self.now.end).end ≢ self.now.end }
+    {
+        first_due(&self.aged.table, from)
     }
 
     /// How many slots it was made with.

@@ -21,9 +21,9 @@ use Rattle.bac_network.specs.Steps.{IsFault}
 use Rattle.bac_network.specs.Views.{fact_view, log_view}
 use Rattle.bac_completion.specs.StraightRuns.{IsStraight, ending_in}
 use Rattle.bac_completion.proofs.StraightRuns.Loops.{is_run}
-use Rattle.bac_straight_runs.specs.Faults.{DeliveryFails, EndingFails, Fails, StopsShort}
-use Rattle.bac_straight_runs.specs.Going.{HasGone, HasStopped, IsCutShort, IsStuck, IsUntold}
-use Rattle.bac_straight_runs.specs.Logs.{IsSince, DeliverUnended, Stops}
+use Rattle.bac_straight_runs.specs.Faults.{DeliveryFails, Fails, StopsShort}
+use Rattle.bac_straight_runs.specs.Going.{HasGone, HasStopped, IsStuck}
+use Rattle.bac_straight_runs.specs.Logs.{IsSince, DeliverUnended, Stops, ending_by}
 use Rattle.bac_straight_runs.specs.Runs.{Goes, GoesAt, WentBy, WentSoFar}
 use Rattle.bac_straight_runs.specs.Tells.{LogTells}
 use Rattle.bac_straight_runs.proofs.Deliveries.{none_yet, one_more, run_of}
@@ -87,11 +87,11 @@ module _ (w asked new : WorldView) (h : HasHistory w) (client server : ℕ) (lim
       subst (λ e. IsStraight w.overtake w.world client server limits r e count new.world) same
       ((tells w h).straight client server limits r asked.world new.world asks count (each_of count g.gone) stops)
 
-  pub stopped_goes : (count : ℕ) (ending : Option Ending) → HasStopped ask since first asked new count → ending ≡ ending_in ask new.world.log
-      → Goes w.overtake w.world client server limits r ending count new.world
-  stopped_goes count ending g is = inl (was_straight count ending g is)
+  pub stopped_goes : (count : ℕ) (number : Option ℕ) → HasStopped ask since first asked new count → number ≡ Some ask
+      → Goes w.overtake w.world client server limits r (ending_by number new.world.log) count new.world
+  stopped_goes count number g is = inl (was_straight count (ending_by number new.world.log) g (ap (λ n. ending_by n new.world.log) is))
 
-  -- a fault of a delivery, or of the ending
+  -- a fault of a delivery
   module _ (f : WorldFault) where
     stuck : IsStuck f ask since first asked new → DeliveryFails f w.overtake w.world client server limits r new.world
     stuck s = record {
@@ -105,15 +105,8 @@ module _ (w asked new : WorldView) (h : HasHistory w) (client server : ℕ) (lim
           (subst (λ k. IsFault f asked.overtake new.world (Deliver (k + s.count))) first_is s.why);
     }
 
-    untold : (s : IsUntold f ask since first asked new) (ending : Option Ending) → ending_in ask new.world.log ≡ ending
-        → EndingFails f w.overtake w.world client server limits r new.world
-    untold s None is = absurd (s.ended is)
-    untold s (Some ending) is =
-        record { fault_is = s.fault_is; ending = ending; count = s.count; run = was_straight s.count (Some ending) s.stopped (sym is) }
-
-    pub cut_fails : IsCutShort f ask since first asked new → Fails f w.overtake w.world client server limits r new.world
-    cut_fails (inl s) = inr (inl (stuck s))
-    cut_fails (inr s) = inr (inr (untold s (ending_in ask new.world.log) refl))
+    pub stuck_fails : IsStuck f ask since first asked new → Fails f w.overtake w.world client server limits r new.world
+    stuck_fails s = inr (stuck s)
 
 -- the facts before an accepted ask are the oldest
 pub asked_since : (w asked : WorldView) → HasHistory w → (client server : ℕ) (limits : Limits) (r : Request)
@@ -133,8 +126,7 @@ module _ (overtake : ℕ) (old : World) (client server : ℕ) (limits : Limits) 
   -- so it did where it met a fault
   pub fails_went : (f : WorldFault) → Fails f overtake old client server limits r new → WentBy overtake old client server limits r new
   fails_went f (inl ask) = inl ask.1
-  fails_went f (inr (inl d)) = inr (d.count, (d.asked, inl d.asks, d.done))
-  fails_went f (inr (inr e)) = inr (e.count, is_run overtake old client server limits r (Some e.ending) e.count new e.run)
+  fails_went f (inr d) = inr (d.count, (d.asked, inl d.asks, d.done))
 
   module _ (node : Node) (at : slice_get old.nodes server ≡ Some node) (same : limits ≡ node.settings.limits) where
     pub went_at : WentBy overtake old client server limits r new → WentSoFar overtake old client server r new
@@ -151,11 +143,6 @@ pub some_none : {A : Type 0} (x : A) → Some x ≡ None → ⊥
 some_none x e = absurd cc
 
 -- What results tell.
-
--- the fault of a call is told on
-pub told_on : {T E R : Type 0} (P : T → Type 0) (Q : E → Type 0) (q : Result T E) → IsErrAnd q Q → R → MatchResult q P (λ _. R)
-told_on P Q (Ok x) h p = absurd h
-told_on P Q (Err y) h p = p
 
 pub told_why : {T E : Type 0} (P : T → Type 0) (Q : E → Type 0) (e : E) (q : Result T E) → IsErrAnd q (λ y. y ≡ e) → Q e → MatchResult q P Q
 told_why P Q e (Ok x) h p = absurd h

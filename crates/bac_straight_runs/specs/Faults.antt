@@ -2,14 +2,13 @@
 use Rattle.std.specs.Prelude.{◌≡◌, ◌⊎◌, ℕ, ◌+◌, ◌<◌, length, Some, None, slice_get}
 use Rattle.bac_apdu.specs.Apdu.{Limits}
 use Rattle.bac_service.specs.Values.{Request}
-use Rattle.bac_ends.specs.Meanings.{Ending}
 use Rattle.bac_world.specs.Node.{Node}
 use Rattle.bac_world.specs.World.{World, WorldRun, IsAsked}
 use Rattle.bac_world.specs.World.Event.{Ask, Deliver}
 use Rattle.bac_network.specs.Steps.{IsFault}
 use Rattle.bac_network.specs.declared.fault.WorldFault.{WorldFault}
 use Rattle.bac_network.specs.declared.fault.WorldFault.TheVariants as fault
-use Rattle.bac_completion.specs.StraightRuns.{IsStraight, deliveries, ending_in}
+use Rattle.bac_completion.specs.StraightRuns.{deliveries, ending_in}
 
 -- the ask met that fault, and nothing changed
 abbrev pub AskFails : WorldFault → (overtake : ℕ) → (old : World) → (client server : ℕ) → Limits → Request → (new : World) → Type 0
@@ -25,17 +24,9 @@ pub record DeliveryFails (f : WorldFault) (overtake : ℕ) (old : World) (client
   pub left : length old.copies + count < length new.copies
   pub why : IsFault f overtake new (Deliver (length old.copies + count))
 
--- all was done, and memory was refused for a copy of the ending
-pub record EndingFails (f : WorldFault) (overtake : ℕ) (old : World) (client server : ℕ) (limits : Limits) (r : Request) (new : World) : Type 0 where
-  pub fault_is : f ≡ fault.NoMemory
-  pub ending : Ending
-  pub count : ℕ
-  pub run : IsStraight overtake old client server limits r (Some ending) count new
-
 abbrev pub Fails : WorldFault → (overtake : ℕ) → (old : World) → (client server : ℕ) → Limits → Request → (new : World) → Type 0
 Fails f overtake old client server limits r new =
-    AskFails f overtake old client server limits r new
-    ⊎ (DeliveryFails f overtake old client server limits r new ⊎ EndingFails f overtake old client server limits r new)
+    AskFails f overtake old client server limits r new ⊎ DeliveryFails f overtake old client server limits r new
 
 -- where there is such a server, of an ask with what it takes of APDUs
 pub record FailsAt (f : WorldFault) (overtake : ℕ) (old : World) (client server : ℕ) (r : Request) (new : World) : Type 0 where

@@ -1,10 +1,9 @@
 -- How far the deliveries of an ask have gone, in code.
-use Rattle.std.specs.Prelude.{◌≡◌, ◌≢◌, ◌⊎◌, ℕ, ◌+◌, ◌<◌, length, None}
+use Rattle.std.specs.Prelude.{◌≡◌, ℕ, ◌+◌, ◌<◌, length, None}
 use Rattle.bac_world.specs.World.Event.{Deliver}
 use Rattle.bac_network.specs.Histories.{WorldView}
 use Rattle.bac_network.specs.Steps.{IsFault}
 use Rattle.bac_network.specs.declared.fault.WorldFault.{WorldFault}
-use Rattle.bac_network.specs.declared.fault.WorldFault.TheVariants as fault
 use Rattle.bac_completion.specs.StraightRuns.{ending_in}
 use Rattle.bac_straight_runs.specs.Logs.{IsSince, DeliverUnended, Stops}
 
@@ -27,13 +26,3 @@ pub record IsStuck (f : WorldFault) (ask since first : ℕ) (old new : WorldView
   pub unended : ending_in ask new.world.log ≡ None
   pub left : first + count < length new.world.copies
   pub why : IsFault f old.overtake new.world (Deliver (first + count))
-
--- that was all, and memory was refused for a copy of the ending
-pub record IsUntold (f : WorldFault) (ask since first : ℕ) (old new : WorldView) : Type 0 where
-  pub fault_is : f ≡ fault.NoMemory
-  pub count : ℕ
-  pub stopped : HasStopped ask since first old new count
-  pub ended : ending_in ask new.world.log ≢ None
-
-abbrev pub IsCutShort : WorldFault → (ask since first : ℕ) → (old new : WorldView) → Type 0
-IsCutShort f ask since first old new = IsStuck f ask since first old new ⊎ IsUntold f ask since first old new

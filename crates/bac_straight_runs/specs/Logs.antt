@@ -1,5 +1,6 @@
 -- Endings of one ask, in a log that grows.
-use Rattle.std.specs.Prelude.{◌≡◌, ◌≢◌, ◌⊎◌, ℕ, zero, suc, ◌≤◌, List, ◌++◌, length, None}
+use Rattle.std.specs.Prelude.{◌≡◌, ◌≢◌, ◌⊎◌, ℕ, zero, suc, ◌≤◌, List, ◌++◌, length, Option, Some, None}
+use Rattle.bac_ends.specs.Meanings.{Ending}
 use Rattle.bac_world.specs.Once.{Fact}
 use Rattle.bac_world.specs.World.{World, WorldStep}
 use Rattle.bac_world.specs.World.Event.{Deliver}
@@ -12,6 +13,11 @@ pub record IsSince (since ask : ℕ) (log : List Fact) : Type 0 where
   pub is : log ≡ newer ++ older
   pub many : length older ≡ since
   pub none : ending_in ask older ≡ None
+
+-- how the ask of that number has ended by then, if there was one and it has
+pub ending_by : Option ℕ → List Fact → Option Ending
+ending_by None log = None
+ending_by (Some ask) log = ending_in ask log
 
 -- so many copies are delivered, from that number on, each while the log has no ending of the ask
 abbrev pub DeliverUnended : (overtake ask count number : ℕ) → (old new : World) → Type 0

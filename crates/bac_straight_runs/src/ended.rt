@@ -1,5 +1,5 @@
 //! How an ask has ended, by the log.
-ghost use Rattle.std.specs.Prelude.{◌≡◌, IfOk, List, ◌∷◌, MatchOption, None, Some};
+ghost use Rattle.std.specs.Prelude.{◌≡◌, List, ◌∷◌, MatchOption, None, Some};
 ghost use Rattle.bac_ticket.specs.Views.{ending_view};
 ghost use Rattle.bac_network.specs.Views.{fact_view, log_view};
 ghost use Rattle.bac_completion.specs.StraightRuns.{ending_in};
@@ -8,8 +8,6 @@ ghost use Rattle.bac_world.specs.Once as once;
 
 use bac_network::Fact;
 use bac_ticket::Ending;
-use bac_value::NoMemory;
-use std::alloc::Global;
 
 /// The ending of that ask by now: the fact's, where it is one, and otherwise the one that was found before.
 fn ending_by<'a>(found: Option<&'a Ending>, fact: &'a Fact, ask: usize) -> Option<&'a Ending>
@@ -36,17 +34,4 @@ pub(crate) fn ending_of(log: &[Fact], since: usize, ask: usize) -> Option<&Endin
         found = ending_by(found, &log[at], ask);
     }
     found
-}
-
-/// A copy with its own memory.
-pub(crate) fn copied(alloc: Global, ending: &Ending) -> Result<Ending, NoMemory>
-    ensures { IfOk result (λ e. ending_view e ≡ ending_view ending.now) }
-{
-    match ending {
-        Ending::Answered(reply) => Ok(Ending::Answered(reply.as_reply().to_owned(alloc)?)),
-        Ending::Rejected(reason) => Ok(Ending::Rejected(*reason)),
-        Ending::Aborted(reason) => Ok(Ending::Aborted(*reason)),
-        Ending::TimedOut => Ok(Ending::TimedOut),
-        Ending::Expired => Ok(Ending::Expired),
-    }
 }

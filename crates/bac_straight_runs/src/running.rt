@@ -1,6 +1,5 @@
 //! The straight run.
-ghost use Rattle.std.specs.Prelude.{◌≡◌, ◌≢◌, ◌+◌, ◌<◌, ◌^◌, IfErr, IfOk, OnErr, OnOk, MatchBool, MatchOption, MatchResult, None, Some, length, slice_get};
-ghost use Rattle.std.specs.Option.{option_map};
+ghost use Rattle.std.specs.Prelude.{◌≡◌, ◌+◌, ◌<◌, ◌^◌, IfErr, IfOk, OnErr, OnOk, MatchBool, MatchOption, MatchResult, None, Some, length, slice_get};
 ghost use Rattle.bac_apdu.specs.Views.{limits_view};
 ghost use Rattle.bac_service.specs.Views.{owned_request_view};
 ghost use Rattle.bac_ticket.specs.Views.{ending_view};
@@ -11,25 +10,36 @@ ghost use Rattle.bac_network.specs.Histories.{AreEndedOnceNow, ArePerformedOnceN
 ghost use Rattle.bac_network.specs.Steps.{IsFault};
 ghost use Rattle.bac_completion.specs.StraightRuns.{ending_in};
 ghost use Rattle.bac_straight_runs.specs.Faults.{Fails, StopsShort};
-ghost use Rattle.bac_straight_runs.specs.Going.{HasStopped, IsCutShort, IsStuck};
-ghost use Rattle.bac_straight_runs.specs.Logs.{IsSince, Stops};
+ghost use Rattle.bac_straight_runs.specs.Going.{HasStopped, IsStuck};
+ghost use Rattle.bac_straight_runs.specs.Logs.{IsSince, Stops, ending_by};
 ghost use Rattle.bac_straight_runs.specs.Runs.{AsksIf, CanBeAnswered, Goes, GoesAt, IsAnsweredSoon, IsWellMadeAt, WentSoFar};
 
-use crate::ended::{copied, ending_of};
+use crate::ended::ending_of;
 use bac_apdu::Limits;
 use bac_network::{Event, World, WorldFault};
 use bac_service::OwnedRequest;
 use bac_ticket::Ending;
-use bac_value::NoMemory;
-use std::alloc::Global;
 
 /// How a straight run went.
-#[derive(Drop)]
+#[derive(Clone, Copy, Debug, PartialEq, Eq)]
 pub struct StraightRun {
-    /// How the ask ended; None where it was refused, or has not ended.
-    pub ending: Option<Ending>,
+    /// The number of its ask in the world; None where it was refused.
+    pub ask: Option<usize>,
     /// How many copies were delivered.
     pub deliveries: usize,
+}
+
+impl StraightRun {
+    /// How its ask ended, which the world's log has; None where it was refused, or has not ended.
+    pub fn ending<'a>(&self, world: &'a World) -> Option<&'a Ending>
+        ensures { MatchOption result (ending_by self.now.ask world.now.world.log ≡ None)
+            (λ how. ending_by self.now.ask world.now.world.log ≡ Some (ending_view how.now)) }
+    {
+        match self.ask {
+            Some(ask) => ending_of(world.log(), 0, ask),
+            None => None,
+        }
+    }
 }
 
 /// What a node takes of APDUs; None where there is no such node.
@@ -123,44 +133,26 @@ fn deliver_each(
     Ok(number - first)
 }
 
-/// How the ask has ended, if it has. An Err is for an ending alone.
-fn ending_now(
-    alloc: Global,
-    world: &World,
-    ask: usize,
-    since: usize,
-) -> Result<Option<Ending>, NoMemory>
-    requires { IsSince since ask world.now.world.log }
-    ensures told { IfOk result (λ ending. option_map ending_view ending ≡ ending_in ask world.now.world.log) }
-    ensures err { OnErr result (ending_in ask world.now.world.log ≢ None) }
-{
-    match ending_of(world.log(), since, ask) {
-        Some(ending) => Ok(Some(copied(alloc, ending)?)),
-        None => Ok(None),
-    }
-}
-
 /// Delivers what arises from an accepted ask, and tells how that went.
 fn deliver_all(
-    alloc: Global,
     world: &mut World,
     ask: usize,
     since: usize,
     first: usize,
 ) -> Result<StraightRun, WorldFault>
     requires { IsSince since ask world.old.world.log }
-    ensures { MatchResult result (λ s. HasStopped ask since first world.old world.new s.deliveries
-        × (option_map ending_view s.ending ≡ ending_in ask world.new.world.log))
-        (λ f. IsCutShort f ask since first world.old world.new) }
+    ensures { MatchResult result (λ s. HasStopped ask since first world.old world.new s.deliveries × (s.ask ≡ Some ask))
+        (λ f. IsStuck f ask since first world.old world.new) }
 {
     let deliveries = deliver_each(world, ask, since, first)?;
-    let ending = ending_now(alloc, world, ask, since)?;
-    Ok(StraightRun { ending, deliveries })
+    Ok(StraightRun {
+        ask: Some(ask),
+        deliveries,
+    })
 }
 
 /// Asks, where the server is said to take that of APDUs, and delivers what arises from it.
 fn ask_and_deliver(
-    alloc: Global,
     world: &mut World,
     client: usize,
     server: usize,
@@ -169,7 +161,7 @@ fn ask_and_deliver(
 ) -> Result<StraightRun, WorldFault>
     requires { HasHistory world.old }
     ensures goes { MatchResult result (λ s. Goes world.old.overtake world.old.world client server (limits_view limits) (owned_request_view request)
-        (option_map ending_view s.ending) s.deliveries world.new.world)
+        (ending_by s.ask world.new.world.log) s.deliveries world.new.world)
         (λ f. Fails f world.old.overtake world.old.world client server (limits_view limits) (owned_request_view request) world.new.world) }
     ensures overtake { world.new.overtake ≡ world.old.overtake }
     ensures opening { world.new.opening ≡ world.old.opening }
@@ -178,10 +170,10 @@ fn ask_and_deliver(
     let since = world.log().len();
     let first = world.copies().len();
     if ask(world, client, server, limits, request)? {
-        deliver_all(alloc, world, number, since, first)
+        deliver_all(world, number, since, first)
     } else {
         Ok(StraightRun {
-            ending: None,
+            ask: None,
             deliveries: 0,
         })
     }
@@ -191,9 +183,8 @@ fn ask_and_deliver(
 /// ask has ended or no copy is left. A refused ask changes nothing.
 ///
 /// It stops at the first fault of an event, and tells it; what was done before stands. `NoSuchNode` where either node is not there, and then nothing changed;
-/// `NoMemory` also where there is none for the ending, after all was done. It tells no other fault: each copy that it delivers is there.
+/// `NoMemory` where there is none for an event. It tells no other fault: each copy that it delivers is there. It takes no memory of its own.
 pub fn straight(
-    alloc: Global,
     world: &mut World,
     client: usize,
     server: usize,
@@ -201,11 +192,11 @@ pub fn straight(
 ) -> Result<StraightRun, WorldFault>
     ensures run { WentSoFar world.old.overtake world.old.world client server (owned_request_view request) world.new.world }
     ensures goes { IfOk result (λ s. GoesAt world.old.overtake world.old.world client server (owned_request_view request)
-        (option_map ending_view s.ending) s.deliveries world.new.world) }
+        (ending_by s.ask world.new.world.log) s.deliveries world.new.world) }
     ensures stopped { IfErr result (λ f. StopsShort f world.old.overtake world.old.world client server (owned_request_view request) world.new.world) }
     ensures answered { (a b : Node) → CanBeAnswered world.old.overtake world.old.world client server a b (owned_request_view request)
         → IfOk result (λ s. IsAnsweredSoon world.old.world client server a b (owned_request_view request)
-        (option_map ending_view s.ending) s.deliveries world.new.world) }
+        (ending_by s.ask world.new.world.log) s.deliveries world.new.world) }
     ensures overtake { world.new.overtake ≡ world.old.overtake }
     ensures opening { world.new.opening ≡ world.old.opening }
     ensures once { IsOnceNow world.new }
@@ -219,7 +210,7 @@ pub fn straight(
     let Some(limits) = limits_of(world, server) else {
         return Err(WorldFault::NoSuchNode);
     };
-    let run = ask_and_deliver(alloc, world, client, server, limits, request);
+    let run = ask_and_deliver(world, client, server, limits, request);
     world.is_once();
     run
 }

@@ -12,7 +12,7 @@ returns-then-is_quiet-clause-slots g c =
 pub returns-clause-aged : goal.returns-clause-aged
 returns-clause-aged g c =
     record {
-      quiet = c.first_due-aged.ensures;
+      quiet = c.first_due-aged.ensures.quiet;
       order = ticked_in_order _ _ g.V.Aged.began g.V.Aged.IsQuiet g.V.Ticks.ticked c.args.settings.now c.args.now c.ticks.ensures.begins
           c.args.aged.now.ages.latest (g.S.SlotTable.slots c.args.aged.now.table) _ c.tick_each.ensures.slots c.requires.order;
     }

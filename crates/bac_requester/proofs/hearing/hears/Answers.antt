@@ -85,5 +85,5 @@ returns-in-Ok-clause-aged g c =
     ap first_of c.in-Ok.ensures.held ∙ next_first c.args.context.now.moment c.in-Open.ticket
     (client_gets (context_view c.args.context.now) reads_reply c.in-Open.ticket (apdu_view c.args.apdu.now)) ∙ ap began is in
     goes_on PeerKey Client began IsClientQuiet code_same_key quiet_earlier c.args.aged.now.ages _ c.due-due.result c.args.context.now.key c.in-Some.slot.now next
-    (g.S.SlotTable.slots c.args.aged.now.table) _ (sym c.in-Some.ensures.value) first c.due-due.ensures (c.get_mut.follows.holds next).0 c.comes_due.ensures
+    (g.S.SlotTable.slots c.args.aged.now.table) _ (sym c.in-Some.ensures.value) first c.due-due.ensures.quiet (c.get_mut.follows.holds next).0 c.comes_due.ensures
     c.requires.aged

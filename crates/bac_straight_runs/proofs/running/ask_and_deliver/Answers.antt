@@ -1,12 +1,10 @@
 -- What arises from the ask is delivered.
 use Rattle.std.proofs.Common.{ap, inl, subst}
-use Rattle.std.specs.Option.{option_map}
 use Rattle.bac_apdu.specs.Views.{limits_view}
 use Rattle.bac_service.specs.Views.{owned_request_view}
-use Rattle.bac_ticket.specs.Views.{ending_view}
 use Rattle.bac_straight_runs.specs.Faults.{Fails}
 use Rattle.bac_straight_runs.specs.Runs.{AsksIf}
-use Rattle.bac_straight_runs.proofs.Going.{asked_since, copies_many, cut_fails, facts_many, notes_many, stopped_goes, told_as, told_why}
+use Rattle.bac_straight_runs.proofs.Going.{asked_since, copies_many, facts_many, notes_many, stopped_goes, stuck_fails, told_as, told_why}
 use Rattle.bac_straight_runs.proofs.running.ask_and_deliver.Goals as goal
 
 pub returns-in_err-ask-clause-goes : goal.returns-in_err-ask-clause-goes
@@ -38,6 +36,6 @@ returns-then-branch-clause-goes c =
     let first = copies_many c.copies-first.result.now w.world.copies c.copies-first.ensures in
     told_as c.deliver_all.result
     (λ s h. stopped_goes w asked new c.requires c.args.client c.args.server limits r asks c.ask.ensures.overtake _ _ _ number first s.deliveries
-    (option_map ending_view s.ending) h.0 h.1)
-    (λ f h. cut_fails w asked new c.requires c.args.client c.args.server limits r asks c.ask.ensures.overtake _ _ _ number first f h)
+    s.ask h.0 h.1)
+    (λ f h. stuck_fails w asked new c.requires c.args.client c.args.server limits r asks c.ask.ensures.overtake _ _ _ number first f h)
     c.deliver_all.ensures

@@ -1,9 +1,8 @@
 -- The server takes what it takes, and the run goes as far as it goes.
 use Rattle.std.proofs.Common.{refl, inl}
-use Rattle.std.specs.Option.{option_map}
 use Rattle.bac_apdu.specs.Views.{limits_view}
 use Rattle.bac_service.specs.Views.{owned_request_view}
-use Rattle.bac_ticket.specs.Views.{ending_view}
+use Rattle.bac_straight_runs.specs.Logs.{ending_by}
 use Rattle.bac_straight_runs.proofs.Going.{either_way, fails_at, fails_went, goes_at, goes_went, tells, told_as, went_at}
 use Rattle.bac_straight_runs.proofs.running.straight.Goals as goal
 
@@ -15,7 +14,7 @@ returns-clause-run c =
     let limits = limits_view c.in-Some.limits in
     went_at w.overtake w.world c.args.client c.args.server limits r new (c.in-Some.ensures).0 (c.in-Some.ensures).1 (c.in-Some.ensures).2
     (either_way c.ask_and_deliver-run.result
-    (λ s g. goes_went w.overtake w.world c.args.client c.args.server limits r new (option_map ending_view s.ending) s.deliveries g)
+    (λ s g. goes_went w.overtake w.world c.args.client c.args.server limits r new (ending_by s.ask new.log) s.deliveries g)
     (λ f g. fails_went w.overtake w.world c.args.client c.args.server limits r new f g)
     c.ask_and_deliver-run.ensures.goes)
 
@@ -27,7 +26,7 @@ returns-clause-goes c =
     let limits = limits_view c.in-Some.limits in
     told_as c.ask_and_deliver-run.result
     (λ s g. goes_at w.overtake w.world c.args.client c.args.server limits r new (c.in-Some.ensures).0 (c.in-Some.ensures).1 (c.in-Some.ensures).2
-    (option_map ending_view s.ending) s.deliveries g)
+    (ending_by s.ask new.log) s.deliveries g)
     (λ f g. tt)
     c.ask_and_deliver-run.ensures.goes
 
@@ -49,9 +48,9 @@ returns-clause-answered c = λ a b can.
     let r = owned_request_view c.args.request in
     let limits = limits_view c.in-Some.limits in
     told_as c.ask_and_deliver-run.result
-    (λ s g. (tells w c.is_once.ensures.history).answers c.args.client c.args.server r (option_map ending_view s.ending) s.deliveries new
+    (λ s g. (tells w c.is_once.ensures.history).answers c.args.client c.args.server r (ending_by s.ask new.log) s.deliveries new
     (goes_at w.overtake w.world c.args.client c.args.server limits r new (c.in-Some.ensures).0 (c.in-Some.ensures).1 (c.in-Some.ensures).2
-    (option_map ending_view s.ending) s.deliveries g) c.is_well_made.ensures c.is_well_made-2.ensures a b can)
+    (ending_by s.ask new.log) s.deliveries g) c.is_well_made.ensures c.is_well_made-2.ensures a b can)
     (λ f g. tt)
     c.ask_and_deliver-run.ensures.goes
 
