@@ -7,12 +7,13 @@ use Rattle.bac_link.specs.Moments.{Told}
 use Rattle.bac_script.specs.Requests.{request_of}
 use Rattle.bac_text.specs.declared.status.Status.{Status}
 use Rattle.bac_run.specs.Asking.{Question}
-use Rattle.bac_run.specs.Pairs.{pair}
-use Rattle.bac_turns.specs.Turns.{on_link}
+use Rattle.bac_run.specs.Pairs.{Pair}
+use Rattle.bac_run.specs.Runs.{Timed}
+use Rattle.bac_run.specs.Stations.{Station}
 use Rattle.bac_commands.specs.Houses.{house_node}
 use Rattle.bac_commands.specs.Pairs.{TwoTexts}
 use Rattle.bac_commands.specs.Questions.{IsQuestion, local}
-use Rattle.bac_commands.specs.Reports.{AskedText, Beside, ServedText}
+use Rattle.bac_commands.specs.Reports.{AskedText, ServedText}
 use Rattle.bac_commands.specs.Statuses.{ByStatus}
 
 -- ---- links and clocks
@@ -37,17 +38,22 @@ pub record OnClock {Timer : Type 0} (IsMade : Timer → Type 0) (told_by : Timer
 abbrev pub FREE : ℕ
 FREE = 0
 
+-- a node with the house store on a link at a port
+pub record IsHouseAt (IsOn : (port : ℕ) → (address : Octets) → (failures : ℕ) → Calls → Type 0) (port : ℕ) (station : Station) : Type 0 where
+  pub address : Octets
+  pub node : station.node ≡ house_node address
+  pub on : IsOn port address station.failures station.calls
+
 -- ---- serving
 
--- a node with the house store took so many turns on a link at the port, and how many requests it performed was printed
+-- such a node took so many turns, and how many requests it performed was printed
 pub record Serves (IsOn : (port : ℕ) → (address : Octets) → (failures : ℕ) → Calls → Type 0) (IsClock : Told → Type 0) (port turns : ℕ)
     (old new : Option (List ℕ)) : Type 0 where
-  pub address : Octets
-  pub before : Beside
-  pub after : Beside
-  pub on : IsOn port address before.failures before.calls
+  pub before : Timed
+  pub after : Timed
+  pub house : IsHouseAt IsOn port before.station
   pub clock : IsClock before.told
-  pub text : ServedText address turns before after old new
+  pub text : ServedText turns before after old new
 
 abbrev pub IsServed : (IsOn : (port : ℕ) → (address : Octets) → (failures : ℕ) → Calls → Type 0) → (IsClock : Told → Type 0) → Status → (port turns : ℕ)
     → (old new : Option (List ℕ)) → Type 0
@@ -55,17 +61,16 @@ IsServed IsOn IsClock s port turns old new = ByStatus s (Serves IsOn IsClock por
 
 -- ---- asking
 
--- a node with the house store, on a link at any free port, asked the node at a port, and how that ended was printed
+-- such a node at any free port asked the node at a port, and how that ended was printed
 pub record Asks (IsOn : (port : ℕ) → (address : Octets) → (failures : ℕ) → Calls → Type 0) (IsClock : Told → Type 0) (answered : Bool) (port : ℕ)
     (words : List (List ℕ)) (old new : Option (List ℕ)) : Type 0 where
   pub question : Question
   pub is : IsQuestion (local port) words question
-  pub address : Octets
-  pub before : Beside
-  pub after : Beside
-  pub on : IsOn FREE address before.failures before.calls
+  pub before : Timed
+  pub after : Timed
+  pub house : IsHouseAt IsOn FREE before.station
   pub clock : IsClock before.told
-  pub text : AskedText answered address question before after old new
+  pub text : AskedText answered question before after old new
 
 -- the command line is refused only where the words are no request
 abbrev pub IsAsked : (IsOn : (port : ℕ) → (address : Octets) → (failures : ℕ) → Calls → Type 0) → (IsClock : Told → Type 0) → Status → (port : ℕ)
@@ -75,21 +80,15 @@ IsAsked IsOn IsClock s port words old new =
 
 -- ---- two nodes
 
--- two nodes with the house store, each on a link at a free port: both asks of the first
+-- two such nodes at free ports: both asks of the first
 pub record Pairs (IsOn : (port : ℕ) → (address : Octets) → (failures : ℕ) → Calls → Type 0) (IsClock : Told → Type 0) (answered : Bool)
     (old new : Option (List ℕ)) : Type 0 where
-  pub address : Octets
-  pub other_address : Octets
-  pub failures : ℕ
-  pub other_failures : ℕ
-  pub calls : Calls
-  pub other_calls : Calls
-  pub told : Told
-  pub on : IsOn FREE address failures calls
-  pub other_on : IsOn FREE other_address other_failures other_calls
-  pub clock : IsClock told
-  pub texts : TwoTexts answered address other_address
-      (pair (on_link (house_node address) failures calls) (on_link (house_node other_address) other_failures other_calls) told) old new
+  pub before : Pair
+  pub after : Pair
+  pub first : IsHouseAt IsOn FREE before.first
+  pub second : IsHouseAt IsOn FREE before.second
+  pub clock : IsClock before.told
+  pub texts : TwoTexts answered before after old new
 
 abbrev pub IsPair : (IsOn : (port : ℕ) → (address : Octets) → (failures : ℕ) → Calls → Type 0) → (IsClock : Told → Type 0) → Status
     → (old new : Option (List ℕ)) → Type 0

@@ -4,7 +4,7 @@ ghost use Rattle.bac_protocol.specs.Service.{Octets};
 ghost use Rattle.bac_commands.specs.Questions.{ReadsQuestion, local};
 ghost use Rattle.bac.specs.Online.{IsAsked, IsPair, IsServed, OnClock, OnPort};
 
-use bac_commands::{clock_fault, link_fault, local, read_question};
+use bac_commands::{clock_fault, house_station, link_fault, local, read_question};
 use bac_link::{Clock, Link};
 use bac_run::Question;
 use bac_script::FormFault;
@@ -50,8 +50,10 @@ pub(crate) fn serve<M: Machine, O: Write, E: Write>(
         return clock_fault(err);
     };
     let address = bound.1;
-    let mut link = bound.0;
-    bac_commands::serve(alloc, &mut link, address, &mut timer, turns, out, err)
+    let Ok(mut station) = house_station(alloc, bound.0, address) else {
+        return no_memory(err);
+    };
+    bac_commands::serve(&mut station, &mut timer, turns, out, err)
 }
 
 /// The question for a port that some words are.
@@ -91,8 +93,10 @@ pub(crate) fn ask<M: Machine, O: Write, E: Write>(
         return clock_fault(err);
     };
     let address = bound.1;
-    let mut link = bound.0;
-    bac_commands::ask(alloc, &mut link, address, &mut timer, &question, out, err)
+    let Ok(mut station) = house_station(alloc, bound.0, address) else {
+        return no_memory(err);
+    };
+    bac_commands::ask(alloc, &mut station, &mut timer, &question, out, err)
 }
 
 /// Two nodes at free ports: one asks the other.
@@ -115,17 +119,12 @@ pub(crate) fn pair<M: Machine, O: Write, E: Write>(
         return clock_fault(err);
     };
     let address = bound.1;
-    let mut link = bound.0;
+    let Ok(mut station) = house_station(alloc, bound.0, address) else {
+        return no_memory(err);
+    };
     let other_address = other_bound.1;
-    let mut other = other_bound.0;
-    bac_commands::pair(
-        alloc,
-        &mut link,
-        address,
-        &mut other,
-        other_address,
-        &mut timer,
-        out,
-        err,
-    )
+    let Ok(mut other) = house_station(alloc, other_bound.0, other_address) else {
+        return no_memory(err);
+    };
+    bac_commands::pair(alloc, &mut station, &mut other, &mut timer, out, err)
 }

@@ -1,7 +1,6 @@
 -- Two nodes in one process: what the first of them asks, what is printed, and the status.
 use Rattle.std.specs.Prelude.{◌≡◌, ℕ, negsuc, Bool, true, false, ◌&&◌, List, [], ◌∷◌, ◌++◌, Option, None}
 use Rattle.std.specs.Io.KnownBytes.{Appends}
-use Rattle.bac_protocol.specs.Service.{Octets}
 use Rattle.bac_service.specs.Values.{Request}
 use Rattle.bac_service.specs.Values.Request.{ReadProperty, WriteFile}
 use Rattle.bac_service.specs.Values.WriteAccess.{WriteStream}
@@ -28,16 +27,15 @@ pub record PairText (answered : Bool) (q : Question) (old new : Pair) (text text
   pub printed : Appends text text_after (end_line end)
   pub is : is_answered end ≡ answered
 
--- both asks, one after the other
-pub record TwoTexts (answered : Bool) (address other_address : Octets) (old : Pair) (text text_after : Option (List ℕ)) : Type 0 where
+-- both asks of the second node's address, one after the other
+pub record TwoTexts (answered : Bool) (old new : Pair) (text text_after : Option (List ℕ)) : Type 0 where
   pub appended : Bool
   pub read : Bool
   pub middle : Pair
-  pub new : Pair
   pub between : Option (List ℕ)
-  pub appends : PairText appended (question_for other_address append_request) old middle text between
-  pub reads : PairText read (question_for other_address read_request) middle new between text_after
+  pub appends : PairText appended (question_for old.second.node.link append_request) old middle text between
+  pub reads : PairText read (question_for old.second.node.link read_request) middle new between text_after
   pub both : answered ≡ appended && read
 
-abbrev pub ReportsPair : Status → (address other_address : Octets) → Pair → (text text_after : Option (List ℕ)) → Type 0
-ReportsPair s address other old text after = ByStatus s (TwoTexts true address other old text after) (TwoTexts false address other old text after) ⊥
+abbrev pub ReportsPair : Status → (old new : Pair) → (text text_after : Option (List ℕ)) → Type 0
+ReportsPair s old new text after = ByStatus s (TwoTexts true old new text after) (TwoTexts false old new text after) ⊥

@@ -1,12 +1,14 @@
-//! Nodes with the house store on links: what `bac serve`, `bac ask` and `bac pair` do, over any links and clocks.
+//! Nodes on links: what `bac serve`, `bac ask` and `bac pair` do, over any links and clocks.
 mod asking;
 mod pairing;
 mod question;
 mod serving;
+mod station;
 mod trouble;
 
 pub use asking::ask;
 pub use pairing::pair;
 pub use question::{local, read_question};
 pub use serving::serve;
+pub use station::house_station;
 pub use trouble::{clock_fault, link_fault};

@@ -4,14 +4,17 @@ ghost use Rattle.std.specs.Option.{option_map};
 ghost use Rattle.bac_link.specs.Calls.{Calls, IsCounted, received, with_call};
 ghost use Rattle.bac_link.specs.Calls.Call.{Send};
 
+use thiserror::Error;
+
 /// A call of a link failed.
-#[derive(Clone, Copy, Debug, PartialEq, Eq)]
+#[derive(Clone, Copy, Debug, PartialEq, Eq, Error)]
+#[error("a call of the link failed")]
 pub struct LinkFault;
 
 /// What carries datagrams from and to a node. Addresses are those of clause J.1.2: four octets of an IP address and two of a UDP port.
 ///
 /// A link counts its failures, and may tell which calls were made and what came of them.
-pub trait Link {
+pub trait Link: Drop {
     ghost failures: { Self → ℕ };
 
     ghost calls: { Self → Calls };
@@ -27,7 +30,7 @@ pub trait Link {
 
     /// The sender of a datagram that has come, and how many octets it has; the octets are the first of the buffer, and of a longer datagram those that fit
     /// it. None where no datagram has come.
-    fn receive(&mut self, buffer: &mut [u8]) -> Result<Option<([u8; 6], usize)>, LinkFault>
+    fn recv(&mut self, buffer: &mut [u8]) -> Result<Option<([u8; 6], usize)>, LinkFault>
         ensures within { IfOk result (λ r. IfSome r (λ d. d.1 ≤ length buffer.new)) }
         ensures counted { IsCounted result (Self.failures self.old) (Self.failures self.new) }
         ensures told { Self.calls self.new ≡ with_call (Self.calls self.old) (received buffer.new result) };

@@ -9,10 +9,10 @@ use std::io::ErrorKind;
 use std::net::{Ipv4Addr, Net, SocketAddr, UdpSocket};
 use std::time::Duration;
 
-/// How long `receive` waits for a datagram, in milliseconds.
+/// How long `recv` waits for a datagram, in milliseconds.
 const WAIT: u64 = 100;
 
-/// A UDP socket on 127.0.0.1. A call of `receive` waits for 100 milliseconds at most.
+/// A UDP socket on 127.0.0.1. A call of `recv` waits for 100 milliseconds at most.
 #[derive(Drop)]
 pub struct UdpLink {
     socket: UdpSocket,
@@ -104,7 +104,7 @@ impl Link for UdpLink {
         }
     }
 
-    fn receive(&mut self, buffer: &mut [u8]) -> Result<Option<([u8; 6], usize)>, LinkFault> {
+    fn recv(&mut self, buffer: &mut [u8]) -> Result<Option<([u8; 6], usize)>, LinkFault> {
         match self.socket.recv_from(buffer) {
             Ok((len, from)) => match link_of(from) {
                 Some(from) => Ok(Some((from, len))),

@@ -1,1 +1,3 @@
+pub mod Counts
+pub mod Turned
 pub mod Loops

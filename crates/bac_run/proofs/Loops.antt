@@ -3,7 +3,7 @@ use Rattle.std.proofs.Common.{◌≡◌, ℕ, suc, ◌+◌, ◌<◌, Bool, true,
 use Rattle.std.proofs.Common.{refl, ap, sym, arith, add-one}
 use Rattle.std.specs.Option.{option_map}
 use Rattle.bac_ends.specs.Meanings.{Ending, Finish}
-use Rattle.bac_turns.specs.Turns.{Turn}
+use Rattle.bac_run.specs.Turns.{Turn}
 use Rattle.bac_run.specs.Runs.{Timed}
 use Rattle.bac_run.specs.Serving.{Serves, ServesOnce, StopsServing}
 use Rattle.bac_run.specs.Asking.{EndsIn, NeverEnds, Stops, ending_in, ending_of}

@@ -1,5 +1,5 @@
 -- A node asks, and takes turns until its ticket has ended.
-use Rattle.std.specs.Prelude.{◌≡◌, ◌⊎◌, ◌<◌, ◌≤◌, ◌++◌, ◌==◌, ◌≢◌, ℕ, List, [], ◌∷◌, map, length, if◌then◌else◌, Option, Some, None}
+use Rattle.std.specs.Prelude.{◌≡◌, ◌⊎◌, ◌<◌, ◌≤◌, ◌++◌, ◌==◌, ◌≢◌, ℕ, List, [], ◌∷◌, length, if◌then◌else◌, Option, Some, None}
 use Rattle.bac_npdu.specs.Peers.{PeerView}
 use Rattle.bac_apdu.specs.Apdu.{Limits}
 use Rattle.bac_service.specs.Values.{Request}
@@ -11,14 +11,13 @@ use Rattle.bac_ends.specs.Sends.{Datagram}
 use Rattle.bac_world.specs.Node.{NodeAsks}
 use Rattle.bac_node.specs.Calls.{Refuses}
 use Rattle.bac_link.specs.Moments.{with_moment}
-use Rattle.bac_turns.specs.Turns.{Turn, call_of, counted, with_calls}
 use Rattle.bac_ticket.specs.Views.{ending_view}
 use Rattle.bac_ticket.specs.declared.ending.Ending as how
-use Rattle.bac_turns.specs.declared.turn.TurnFault.{TurnFault}
-use Rattle.bac_turns.specs.declared.turn.TurnFault.TheVariants as turn_fault
+use Rattle.bac_run.specs.Stations.{Station}
+use Rattle.bac_run.specs.Turns.{IsCarried, Turn}
 use Rattle.bac_run.specs.Runs.{CannotReceive, GoesBack, Run, TakesTurn, Timed}
-use Rattle.bac_run.specs.declared.fault.RunFault.{RunFault}
-use Rattle.bac_run.specs.declared.fault.RunFault.TheVariants as fault
+use Rattle.bac_run.specs.declared.fault.TurnFault.{TurnFault}
+use Rattle.bac_run.specs.declared.fault.TurnFault.TheVariants as fault
 use Rattle.bac_run.specs.declared.question.AskEnd.{AskEnd}
 use Rattle.bac_run.specs.declared.question.AskEnd.TheVariants as end
 
@@ -30,28 +29,31 @@ pub record Question : Type 0 where
 
 -- ---- the ask
 
--- the ask was accepted at the moment that the clock told, and what it sends went to the link
+-- the ask was accepted at that moment, and what it sends went to the link
+pub record IsBegun (now : ℕ) (q : Question) (old : Station) (ticket : ℕ) (new : Station) : Type 0 where
+  pub accepted : Accepted
+  pub sends : List Datagram
+  pub asks : NodeAsks now q.peer q.limits q.request old.node new.node accepted sends
+  pub ticket_is : ticket ≡ accepted.ticket
+  pub lost : ℕ
+  pub carried : IsCarried [] sends lost old new
+  pub buffer : new.buffer ≡ old.buffer
+
+-- the same at the moment that the clock told
 pub record Asks (q : Question) (old : Timed) (ticket : ℕ) (new : Timed) : Type 0 where
   pub now : ℕ
   pub told : new.told ≡ with_moment old.told now
-  pub timely : old.on.node.latest ≤ now
-  pub accepted : Accepted
-  pub sends : List Datagram
-  pub asks : NodeAsks now q.peer q.limits q.request old.on.node new.on.node accepted sends
-  pub ticket_is : ticket ≡ accepted.ticket
-  pub order : new.on.calls ≡ with_calls old.on.calls (map call_of sends)
-  pub lost : ℕ
-  pub count : new.on.failures ≡ counted old.on.failures lost
-  pub most : lost ≤ length sends
+  pub timely : old.station.node.latest ≤ now
+  pub begun : IsBegun now q old.station ticket new.station
 
 -- the node refused it at that moment, and nothing else has changed; a clock that goes back is no refusal
 pub record IsRefused (q : Question) (why : AskFault) (old new : Timed) : Type 0 where
   pub now : ℕ
   pub told : new.told ≡ with_moment old.told now
-  pub timely : old.on.node.latest ≤ now
+  pub timely : old.station.node.latest ≤ now
   pub other : why ≢ ask_fault.ClockBack
-  pub refuses : Refuses why now q.peer q.limits q.request old.on.node
-  pub same : new.on ≡ old.on
+  pub refuses : Refuses why now q.peer q.limits q.request old.station.node
+  pub same : new.station ≡ old.station
 
 -- ---- the turns
 
@@ -119,8 +121,8 @@ own_turn turn = turn
 
 -- why waiting stopped
 abbrev pub WaitingFails : TurnFault → (turns ticket : ℕ) → (old new : Timed) → Type 0
-WaitingFails turn_fault.Link turns ticket old new = Stops TakesTurn own_turn turns CannotReceive ticket old new
-WaitingFails turn_fault.ClockBack turns ticket old new = Stops TakesTurn own_turn turns GoesBack ticket old new
+WaitingFails fault.Link turns ticket old new = Stops TakesTurn own_turn turns CannotReceive ticket old new
+WaitingFails fault.ClockBack turns ticket old new = Stops TakesTurn own_turn turns GoesBack ticket old new
 
 -- how asking ended
 abbrev pub AskingEnds : Question → AskEnd → (turns : ℕ) → (old new : Timed) → Type 0
@@ -129,7 +131,6 @@ AskingEnds q (end.Refused why) turns old new = IsRefused q why old new
 AskingEnds q end.NoEnding turns old new = Begins (Asks q) (NeverEnds TakesTurn own_turn turns) old new
 
 -- why asking stopped
-abbrev pub AskingFails : Question → RunFault → (turns : ℕ) → (old new : Timed) → Type 0
+abbrev pub AskingFails : Question → TurnFault → (turns : ℕ) → (old new : Timed) → Type 0
 AskingFails q fault.Link turns old new = Begins (Asks q) (Stops TakesTurn own_turn turns CannotReceive) old new
 AskingFails q fault.ClockBack turns old new = GoesBack old new ⊎ Begins (Asks q) (Stops TakesTurn own_turn turns GoesBack) old new
-AskingFails q fault.NoMemory turns old new = new ≡ old

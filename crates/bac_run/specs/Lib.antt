@@ -1,4 +1,6 @@
 pub mod Faults
+pub mod Stations
+pub mod Turns
 pub mod Runs
 pub mod Serving
 pub mod Asking

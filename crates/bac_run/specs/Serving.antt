@@ -1,12 +1,10 @@
 -- A node serves: it takes so many turns.
 use Rattle.std.specs.Prelude.{◌≡◌, ◌<◌, ◌+◌, ℕ, List, [], ◌∷◌, length, Option, Some, None}
 use Rattle.bac_world.specs.Services.{Performed}
-use Rattle.bac_turns.specs.Turns.{Turn}
-use Rattle.bac_turns.specs.declared.turn.TurnFault.{TurnFault}
-use Rattle.bac_turns.specs.declared.turn.TurnFault.TheVariants as turn_fault
 use Rattle.bac_run.specs.Runs.{CannotReceive, GoesBack, Run, TakesTurn, Timed}
-use Rattle.bac_run.specs.declared.fault.RunFault.{RunFault}
-use Rattle.bac_run.specs.declared.fault.RunFault.TheVariants as fault
+use Rattle.bac_run.specs.Turns.{Turn}
+use Rattle.bac_run.specs.declared.fault.TurnFault.{TurnFault}
+use Rattle.bac_run.specs.declared.fault.TurnFault.TheVariants as fault
 
 -- how many requests a turn performed: one or none
 abbrev pub count_of : Option Performed → ℕ
@@ -39,13 +37,7 @@ pub record StopsServing (turns : ℕ) (fails : Timed → Timed → Type 0) (old 
   pub run : Run TakesTurn taken old middle
   pub failed : fails middle new
 
--- why a turn was not taken
-abbrev pub TurnsFail : TurnFault → (turns : ℕ) → (old new : Timed) → Type 0
-TurnsFail turn_fault.Link turns old new = StopsServing turns CannotReceive old new
-TurnsFail turn_fault.ClockBack turns old new = StopsServing turns GoesBack old new
-
 -- why serving stopped
-abbrev pub ServingFails : RunFault → (turns : ℕ) → (old new : Timed) → Type 0
+abbrev pub ServingFails : TurnFault → (turns : ℕ) → (old new : Timed) → Type 0
 ServingFails fault.Link turns old new = StopsServing turns CannotReceive old new
 ServingFails fault.ClockBack turns old new = StopsServing turns GoesBack old new
-ServingFails fault.NoMemory turns old new = new ≡ old

@@ -3,12 +3,12 @@ ghost use Rattle.std.specs.Prelude.{◌≡◌, map};
 ghost use Rattle.std.specs.Option.{option_map};
 ghost use Rattle.bac_ticket.specs.Views.{ending_view};
 ghost use Rattle.bac_requester.specs.Views.{finish_view};
-ghost use Rattle.bac_turns.specs.Views.{turn_view};
 ghost use Rattle.bac_run.specs.Asking.{ending_in, ending_of};
+ghost use Rattle.bac_run.specs.Views.{turn_view};
 
+use crate::turn::Turn;
 use bac_requester::Finish;
 use bac_ticket::Ending;
-use bac_turns::Turn;
 
 /// How a ticket ended, if it is among those that did.
 fn ending_among(finishes: Vec<Finish>, ticket: u64) -> Option<Ending>

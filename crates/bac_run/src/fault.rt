@@ -1,50 +1,38 @@
-//! Why a run stopped.
+//! Why a turn was not taken.
 ghost use Rattle.std.specs.Prelude.{◌≡◌};
-ghost use Rattle.bac_run.specs.Faults.{fault_number, fault_of};
-ghost use Rattle.bac_run.specs.declared.fault.RunFault.TheVariants as fault;
+ghost use Rattle.bac_run.specs.Faults.{fault_number};
+ghost use Rattle.bac_run.specs.declared.fault.TurnFault.TheVariants as fault;
 
-use bac_turns::TurnFault;
-use std::alloc::AllocError;
+use bac_link::LinkFault;
+use thiserror::Error;
 
-/// Why a run stopped. The turns before it stand.
-#[derive(Clone, Copy, Debug, PartialEq, Eq)]
-pub enum RunFault {
-    /// A link could not receive.
+/// Why a turn was not taken. The node is as before, and the turns before it stand.
+#[derive(Clone, Copy, Debug, PartialEq, Eq, Error)]
+pub enum TurnFault {
+    /// The link could not receive.
+    #[error("the link could not receive")]
     Link,
-    /// The clock told a moment before the latest one that a node was told.
+    /// The moment is before the latest one that the node was told. Tested first; nothing is received.
+    #[error("the clock went back")]
     ClockBack,
-    /// There is no memory for the buffer. Then nothing was done.
-    NoMemory,
 }
 
-impl RunFault {
-    /// The number of the fault, 1 to 3 (own numbers of this profile).
+impl TurnFault {
+    /// The number of the fault (own numbers of this profile): 1 `Link`, 2 `ClockBack`.
     pub fn number(self) -> u8
         ensures { result ≡ fault_number self }
     {
         match self {
-            RunFault::Link => 1,
-            RunFault::ClockBack => 2,
-            RunFault::NoMemory => 3,
+            TurnFault::Link => 1,
+            TurnFault::ClockBack => 2,
         }
     }
 }
 
-impl From<TurnFault> for RunFault {
-    ghost from_gives = { λ t e. e ≡ fault_of t };
+impl From<LinkFault> for TurnFault {
+    ghost from_gives = { λ _ e. e ≡ fault.Link };
 
-    fn from(error: TurnFault) -> RunFault {
-        match error {
-            TurnFault::Link => RunFault::Link,
-            TurnFault::ClockBack => RunFault::ClockBack,
-        }
-    }
-}
-
-impl From<AllocError> for RunFault {
-    ghost from_gives = { λ _ e. e ≡ fault.NoMemory };
-
-    fn from(_error: AllocError) -> RunFault {
-        RunFault::NoMemory
+    fn from(_error: LinkFault) -> TurnFault {
+        TurnFault::Link
     }
 }

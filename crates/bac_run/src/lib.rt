@@ -1,16 +1,20 @@
-//! Runs of nodes on links: one that serves, one that asks, and two in one process.
+//! Nodes on links, a turn at a time: what has come is heard, all that is due is done, and what the node sends goes out. And runs of them by a clock: one that
+//! serves, one that asks, and two in one process.
 #![tactic(auto)]
 
 mod asking;
-mod buffer;
 mod endings;
 mod fault;
-mod pair;
+mod pairing;
 mod question;
+mod sending;
 mod serving;
+mod station;
+mod step;
+mod turn;
 
-pub use asking::ask_over;
-pub use fault::RunFault;
-pub use pair::pair_over;
+pub use fault::TurnFault;
+pub use pairing::pair;
 pub use question::{AskEnd, Question};
-pub use serving::serve_over;
+pub use station::Station;
+pub use turn::Turn;

@@ -1,4 +1,4 @@
-//! Tests of bac_turns and bac_run: turns and runs of nodes on links in memory, of which one call may fail, and on sockets of this machine.
+//! Tests of bac_run: turns and runs of nodes on links in memory, of which one call may fail, and on sockets of this machine.
 //!
 //! They stand in a crate of their own, so that no crate is proved a second time for its tests.
 #![tactic(auto)]

@@ -4,18 +4,57 @@ ghost use Rattle.bac_link.specs.Calls.{one_more};
 
 use crate::medium::Medium;
 use bac_link::{Clock, Link, LinkFault};
+use std::alloc::Global;
 use std::cell::{Cell, RefCell};
+use std::test::Fail;
 
 /// A link of a medium. The clock goes on by 100 milliseconds at each call that receives nothing.
 #[derive(Drop)]
 pub(crate) struct MemoryLink<'a> {
-    pub(crate) medium: &'a RefCell<Medium>,
-    pub(crate) moment: &'a Cell<u64>,
-    pub(crate) link: [u8; 6],
-    pub(crate) failures: u64,
+    medium: &'a RefCell<Medium>,
+    moment: &'a Cell<u64>,
+    link: [u8; 6],
+    failures: u64,
 }
 
-impl MemoryLink<'_> {
+impl<'a> MemoryLink<'a> {
+    pub(crate) fn new(
+        medium: &'a RefCell<Medium>,
+        moment: &'a Cell<u64>,
+        link: [u8; 6],
+    ) -> MemoryLink<'a>
+        ensures { result.failures ≡ 0 }
+    {
+        MemoryLink {
+            medium,
+            moment,
+            link,
+            failures: 0,
+        }
+    }
+
+    /// Hands over a datagram that is given in hexadecimal.
+    pub(crate) fn send_hex(
+        &mut self,
+        alloc: Global,
+        to: [u8; 6],
+        octets: &str,
+    ) -> Result<(), Fail> {
+        let octets = hex::decode(alloc, octets)?;
+        // the link counts a failure
+        let _ = self.send(to, &octets).is_ok();
+        Ok(())
+    }
+
+    /// What has come next, in hexadecimal; nothing where nothing came.
+    pub(crate) fn recv_hex(&mut self, alloc: Global) -> Result<String, Fail> {
+        let mut buffer = [0u8; 2_048];
+        match self.recv(&mut buffer) {
+            Ok(Some(received)) => Ok(hex::encode_upper(alloc, &buffer[..received.1])?),
+            _ => Ok(String::new(alloc)),
+        }
+    }
+
     fn failed(&mut self) -> LinkFault
         ensures { self.new.failures ≡ one_more self.old.failures }
     {
@@ -66,7 +105,7 @@ impl Link for MemoryLink<'_> {
         }
     }
 
-    fn receive(&mut self, buffer: &mut [u8]) -> Result<Option<([u8; 6], usize)>, LinkFault> {
+    fn recv(&mut self, buffer: &mut [u8]) -> Result<Option<([u8; 6], usize)>, LinkFault> {
         match self.take(buffer) {
             Ok(received) => {
                 self.wait(&received);

@@ -34,12 +34,7 @@ impl<'a, R> TellingLink<'a, R> {
         TellingLink {
             runtime,
             alloc,
-            link: MemoryLink {
-                medium,
-                moment,
-                link,
-                failures: 0,
-            },
+            link: MemoryLink::new(medium, moment, link),
             noted: Vec::new(alloc),
         }
     }
@@ -92,8 +87,8 @@ impl<R: Abort> Link for TellingLink<'_, R> {
         self.link.send(to, octets)
     }
 
-    fn receive(&mut self, buffer: &mut [u8]) -> Result<Option<([u8; 6], usize)>, LinkFault> {
-        let gave = self.link.receive(buffer);
+    fn recv(&mut self, buffer: &mut [u8]) -> Result<Option<([u8; 6], usize)>, LinkFault> {
+        let gave = self.link.recv(buffer);
         let call = noted_of(self.runtime, self.alloc, buffer, gave);
         note(self.runtime, &mut self.noted, call);
         gave

@@ -1,16 +1,15 @@
 //! Turns and runs over links in memory. Here is what the tests share.
 use crate::journal::Journal;
 use crate::medium::{Failing, Medium};
-use crate::memory_link::MemoryClock;
-use crate::station::{LIMITS, Station, config, file_of, house_node};
+use crate::memory_link::{MemoryClock, MemoryLink};
+use crate::station::{LIMITS, MemoryStation, config, file_of, house_node, station};
 use bac_commands::print_ending;
 use bac_link::Link;
 use bac_node::Node;
 use bac_npdu::Peer;
-use bac_run::{AskEnd, Question, RunFault, ask_over, pair_over, serve_over};
+use bac_run::{AskEnd, Question, Station, TurnFault, pair};
 use bac_service::{OwnedRequest, read_request};
 use bac_ticket::Ending;
-use bac_turns::TurnFault;
 use std::alloc::Global;
 use std::cell::{Cell, RefCell};
 use std::process::Abort;
@@ -18,6 +17,7 @@ use std::test::Fail;
 
 mod clocks;
 mod failing;
+mod faults;
 mod logs;
 mod pairs;
 mod serving;
@@ -60,9 +60,9 @@ fn two_stations<'a>(
     alloc: Global,
     medium: &'a RefCell<Medium>,
     moment: &'a Cell<u64>,
-) -> Result<(Station<'a>, Station<'a>), Fail> {
-    let client = Station::new(alloc, medium, moment, CLIENT)?;
-    let server = Station::new(alloc, medium, moment, SERVER)?;
+) -> Result<(MemoryStation<'a>, MemoryStation<'a>), Fail> {
+    let client = station(alloc, medium, moment, CLIENT)?;
+    let server = station(alloc, medium, moment, SERVER)?;
     Ok((client, server))
 }
 

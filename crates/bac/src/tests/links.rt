@@ -60,7 +60,7 @@ impl Link for HouseLink {
         Ok(())
     }
 
-    fn receive(&mut self, buffer: &mut [u8]) -> Result<Option<([u8; 6], usize)>, LinkFault> {
+    fn recv(&mut self, buffer: &mut [u8]) -> Result<Option<([u8; 6], usize)>, LinkFault> {
         match self.waiting.take() {
             Some(waiting) => Ok(Some(hand_over(waiting, buffer))),
             None => Ok(None),

@@ -1,14 +1,14 @@
 //! `bac ask`: a node that asks.
 ghost use Rattle.std.specs.Prelude.{◌≡◌, IfOk, OnOk};
 ghost use Rattle.std.specs.Io.KnownBytes.{Appends};
+ghost use Rattle.bac_run.specs.Runs.{timed};
 ghost use Rattle.bac_run.specs.Views.{question_view};
-ghost use Rattle.bac_commands.specs.Reports.{AskedText, ReportsAsking, beside, end_line, is_answer, is_answered};
+ghost use Rattle.bac_commands.specs.Reports.{AskedText, ReportsAsking, end_line, is_answer, is_answered};
 
 use super::trouble::Trouble;
 use crate::facts::{print_ending_line, print_refused};
-use crate::house_node::house_node;
 use bac_link::{Clock, Link};
-use bac_run::{AskEnd, Question, ask_over};
+use bac_run::{AskEnd, Question, Station};
 use bac_text::Status;
 use bac_ticket::Ending;
 use std::alloc::Global;
@@ -48,42 +48,36 @@ pub(crate) fn print_end<W: Write>(alloc: Global, end: &AskEnd, out: &mut W) -> i
 /// Whether the ask was answered.
 fn ask_and_print<L: Link, C: Clock, O: Write>(
     alloc: Global,
-    link: &mut L,
-    address: [u8; 6],
+    station: &mut Station<L>,
     clock: &mut C,
     question: &Question,
     out: &mut O,
 ) -> Result<bool, Trouble>
-    ensures { IfOk result (λ answered. AskedText answered address (question_view question.now)
-        (beside (L.failures link.old) (L.calls link.old) (C.told clock.old)) (beside (L.failures link.new) (L.calls link.new) (C.told clock.new))
-        (O.contents out.old) (O.contents out.new)) }
+    ensures { IfOk result (λ answered. AskedText answered (question_view question.now)
+        (timed station.old (C.told clock.old)) (timed station.new (C.told clock.new)) (O.contents out.old) (O.contents out.new)) }
 {
-    let mut node = house_node(alloc, address)?;
-    let end = ask_over(alloc, &mut node, link, clock, question, TURNS)?;
+    let end = station.ask(clock, question, TURNS)?;
     print_end(alloc, &end, out)?;
     out.flush()?;
     Ok(is_answered(&end))
 }
 
-/// A node of that address with a house store of its own asks, and takes at most 100,000 turns on its link until the ask has ended; how it did is printed.
-/// Ends with `Faulty` where it was not answered.
+/// A node asks, and takes at most 100,000 turns on its link until the ask has ended; how it did is printed. Ends with `Faulty` where it was not answered.
 ///
 /// `link fault` on `err` where the link can't receive, `clock fault` where the clock goes back, both with status `Output`; `no memory` where memory is
 /// refused.
 pub fn ask<L: Link, C: Clock, O: Write, E: Write>(
     alloc: Global,
-    link: &mut L,
-    address: [u8; 6],
+    station: &mut Station<L>,
     clock: &mut C,
     question: &Question,
     out: &mut O,
     err: &mut E,
 ) -> Status
-    ensures { ReportsAsking result address (question_view question.now)
-        (beside (L.failures link.old) (L.calls link.old) (C.told clock.old)) (beside (L.failures link.new) (L.calls link.new) (C.told clock.new))
-        (O.contents out.old) (O.contents out.new) }
+    ensures { ReportsAsking result (question_view question.now)
+        (timed station.old (C.told clock.old)) (timed station.new (C.told clock.new)) (O.contents out.old) (O.contents out.new) }
 {
-    match ask_and_print(alloc, link, address, clock, question, out) {
+    match ask_and_print(alloc, station, clock, question, out) {
         Ok(true) => Status::Done,
         Ok(false) => Status::Faulty,
         Err(trouble) => trouble.tell(err),

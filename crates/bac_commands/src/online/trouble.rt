@@ -5,7 +5,7 @@ ghost use Rattle.bac_text.specs.declared.status.Status.TheVariants as status;
 ghost use Rattle.bac_commands.specs.Troubles.{IsToldBy, trouble_of};
 ghost use Rattle.bac_commands.specs.declared.online.trouble.Trouble.TheVariants as trouble;
 
-use bac_run::RunFault;
+use bac_run::TurnFault;
 use bac_text::{Status, complain, no_memory, output_failed};
 use bac_value::NoMemory;
 use std::io;
@@ -49,14 +49,13 @@ impl Trouble {
     }
 }
 
-impl From<RunFault> for Trouble {
+impl From<TurnFault> for Trouble {
     ghost from_gives = { λ f t. t ≡ trouble_of f };
 
-    fn from(fault: RunFault) -> Trouble {
+    fn from(fault: TurnFault) -> Trouble {
         match fault {
-            RunFault::Link => Trouble::Link,
-            RunFault::ClockBack => Trouble::Clock,
-            RunFault::NoMemory => Trouble::Memory,
+            TurnFault::Link => Trouble::Link,
+            TurnFault::ClockBack => Trouble::Clock,
         }
     }
 }

@@ -9,7 +9,7 @@ const MOMENTS: &[u64] = &[0, 100, 100, 250, 4_000, 4_000, 3_999];
 /// receive.
 type Served = (u8, u64, usize, u64);
 
-fn number_of(served: Result<u64, RunFault>) -> u8 {
+fn number_of(served: Result<u64, TurnFault>) -> u8 {
     match served {
         Ok(_) => 0,
         Err(fault) => fault.number(),
@@ -25,22 +25,21 @@ fn receives(medium: &RefCell<Medium>) -> u64 {
 
 /// The fault and the node's latest moment.
 fn serve<R: Abort>(
-    alloc: Global,
-    server: &mut Station<'_>,
+    server: &mut MemoryStation<'_>,
     clock: &mut ListedClock<'_, R>,
     turns: u64,
 ) -> (u8, u64) {
-    let served = serve_over(alloc, &mut server.node, &mut server.link, clock, turns);
-    (number_of(served), server.node.latest())
+    let served = server.serve(clock, turns);
+    (number_of(served), server.node().latest())
 }
 
 /// Whether a node serves so, for so many turns.
 fn serves<R: Abort>(rt: &R, alloc: Global, turns: u64, want: Served) -> Result<bool, Fail> {
     let medium = RefCell::new(Medium::new(alloc, Failing::NOTHING));
     let moment = Cell::new(0);
-    let mut server = Station::new(alloc, &medium, &moment, SERVER)?;
+    let mut server = station(alloc, &medium, &moment, SERVER)?;
     let mut clock = ListedClock::new(rt, MOMENTS);
-    let (fault, latest) = serve(alloc, &mut server, &mut clock, turns);
+    let (fault, latest) = serve(&mut server, &mut clock, turns);
     Ok((fault, latest, clock.told(), receives(&medium)) == want)
 }
 

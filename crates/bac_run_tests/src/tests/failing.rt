@@ -25,31 +25,30 @@ const TURNS_OF_APPEND: u64 = 4;
 
 /// The turn of that number, from 1 on: odd ones are the client's.
 fn take_turn_of<'a>(
-    alloc: Global,
-    client: &mut Station<'a>,
-    server: &mut Station<'a>,
+    client: &mut MemoryStation<'a>,
+    server: &mut MemoryStation<'a>,
     number: u64,
     now: u64,
 ) -> bool {
     if number % 2 == 1 {
-        client.turn(alloc, now).is_ok()
+        client.turn(now).is_ok()
     } else {
-        server.turn(alloc, now).is_ok()
+        server.turn(now).is_ok()
     }
 }
 
 /// The client asks where a turn of that number is the first of a run.
 fn begin_at(
     alloc: Global,
-    client: &mut Station<'_>,
+    client: &mut MemoryStation<'_>,
     number: u64,
     now: u64,
 ) -> Result<Option<u64>, Fail> {
     if number == 1 {
-        return Ok(client.ask(now, &append(alloc)?));
+        return Ok(client.begin(now, &append(alloc)?).ok());
     }
     if number == TURNS_OF_APPEND + 1 {
-        return Ok(client.ask(now, &read(alloc)?));
+        return Ok(client.begin(now, &read(alloc)?).ok());
     }
     Ok(None)
 }
@@ -57,14 +56,14 @@ fn begin_at(
 /// An append and then a read by hand, up to the turn of that number, which is not taken.
 fn take_turns_before<'a>(
     alloc: Global,
-    client: &mut Station<'a>,
-    server: &mut Station<'a>,
+    client: &mut MemoryStation<'a>,
+    server: &mut MemoryStation<'a>,
     moment: &'a Cell<u64>,
     number: u64,
 ) -> Result<bool, Fail> {
     for turn in 1..number {
         begin_at(alloc, client, turn, moment.get())?;
-        if !take_turn_of(alloc, client, server, turn, moment.get()) {
+        if !take_turn_of(client, server, turn, moment.get()) {
             return Ok(false);
         }
     }
@@ -72,20 +71,19 @@ fn take_turns_before<'a>(
     Ok(true)
 }
 
-/// Both nodes before the turn of that number, which nothing failed for.
-fn nodes_before(alloc: Global, number: u64) -> Result<(Node, Node), Fail> {
+/// Whether both nodes are as before the turn of that number, where nothing fails.
+fn are_before(alloc: Global, first: &Node, second: &Node, number: u64) -> Result<bool, Fail> {
     let medium = RefCell::new(Medium::new(alloc, Failing::NOTHING));
     let moment = Cell::new(0);
     let (mut client, mut server) = two_stations(alloc, &medium, &moment)?;
     take_turns_before(alloc, &mut client, &mut server, &moment, number)?;
-    Ok((client.node, server.node))
+    Ok(first.same(client.node()) && second.same(server.node()))
 }
 
-/// Whether both nodes are as before the turn of that number, and the file has been appended to after the second turn.
-fn are_before(alloc: Global, client: &Node, server: &Node, number: u64) -> Result<bool, Fail> {
-    let (first, second) = nodes_before(alloc, number)?;
+/// Whether the file of a node is as before the turn of that number: it is appended to in the second one.
+fn is_file_before(alloc: Global, server: &Node, number: u64) -> Result<bool, Fail> {
     let file = if number <= 2 { "4F4B" } else { "4F4BAABBCC" };
-    Ok(client.same(&first) && server.same(&second) && file_of(alloc, server)?.as_str() == file)
+    Ok(file_of(alloc, server)?.as_str() == file)
 }
 
 /// Whether an append and a read stop at the call to receive of that number, which fails, and both nodes are then as before its turn.
@@ -95,7 +93,9 @@ fn is_stopped(alloc: Global, number: u64) -> Result<bool, Fail> {
     let mut clock = MemoryClock::new(&moment);
     let (mut client, mut server) = two_stations(alloc, &medium, &moment)?;
     let is_stopped = pairs::stops(alloc, &mut client, &mut server, &mut clock)?;
-    Ok(is_stopped && are_before(alloc, &client.node, &server.node, number)?)
+    let is_before = are_before(alloc, client.node(), server.node(), number)?
+        && is_file_before(alloc, server.node(), number)?;
+    Ok(is_stopped && is_before)
 }
 
 /// Each call to receive fails in turn, until a run has none that does: two rounds for the append and two for the read, each with a turn of both nodes.

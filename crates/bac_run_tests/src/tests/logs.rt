@@ -32,12 +32,11 @@ fn note_endings(journal: &mut Journal, endings: &[Finish]) -> Result<(), Fail> {
 
 /// A turn of a node.
 fn take_turn_of(
-    alloc: Global,
-    station: &mut Station<'_>,
+    station: &mut MemoryStation<'_>,
     now: u64,
     journal: &mut Journal,
 ) -> Result<(), Fail> {
-    let Ok(turn) = station.turn(alloc, now) else {
+    let Ok(turn) = station.turn(now) else {
         return Err(Fail::from("no turn"));
     };
     if let Some(act) = &turn.effect {
@@ -49,20 +48,19 @@ fn take_turn_of(
 
 /// An ask, and forty turns of each node.
 fn ask_by_hand(
-    alloc: Global,
-    client: &mut Station<'_>,
-    server: &mut Station<'_>,
+    client: &mut MemoryStation<'_>,
+    server: &mut MemoryStation<'_>,
     moment: &Cell<u64>,
     question: &Question,
     journal: &mut Journal,
 ) -> Result<(), Fail> {
-    let Some(ticket) = client.ask(moment.get(), question) else {
+    let Ok(ticket) = client.begin(moment.get(), question) else {
         return Err(Fail::from("refused"));
     };
     journal.asked(ticket, &question.request)?;
     for _ in 0..40u64 {
-        take_turn_of(alloc, client, moment.get(), journal)?;
-        take_turn_of(alloc, server, moment.get(), journal)?;
+        take_turn_of(client, moment.get(), journal)?;
+        take_turn_of(server, moment.get(), journal)?;
     }
     Ok(())
 }
@@ -70,15 +68,15 @@ fn ask_by_hand(
 /// The append and the read, one after the other.
 fn ask_both(
     alloc: Global,
-    client: &mut Station<'_>,
-    server: &mut Station<'_>,
+    client: &mut MemoryStation<'_>,
+    server: &mut MemoryStation<'_>,
     moment: &Cell<u64>,
     journal: &mut Journal,
 ) -> Result<(), Fail> {
     let append = append(alloc)?;
-    ask_by_hand(alloc, client, server, moment, &append, journal)?;
+    ask_by_hand(client, server, moment, &append, journal)?;
     let read = read(alloc)?;
-    ask_by_hand(alloc, client, server, moment, &read, journal)
+    ask_by_hand(client, server, moment, &read, journal)
 }
 
 /// The log of turns by hand where that send fails.

@@ -15,7 +15,7 @@ fn told_number(alloc: Global, word: &str, number: u8) -> Result<String, Fail> {
 }
 
 /// What is told of an ask: its end, or the number of the fault.
-fn told_end(alloc: Global, end: Result<AskEnd, RunFault>) -> Result<String, Fail> {
+fn told_end(alloc: Global, end: Result<AskEnd, TurnFault>) -> Result<String, Fail> {
     match end {
         Ok(AskEnd::Ended(ending)) => told(alloc, &ending),
         Ok(AskEnd::Refused(fault)) => told_number(alloc, "refused", fault.number()),
@@ -24,55 +24,34 @@ fn told_end(alloc: Global, end: Result<AskEnd, RunFault>) -> Result<String, Fail
     }
 }
 
-/// A node asks another one, for at most so many turns.
-fn ask_other<'a>(
-    alloc: Global,
-    client: &mut Station<'a>,
-    server: &mut Station<'a>,
-    clock: &mut MemoryClock<'_>,
-    question: &Question,
-    turns: u64,
-) -> Result<AskEnd, RunFault> {
-    pair_over(
-        alloc,
-        &mut client.node,
-        &mut client.link,
-        &mut server.node,
-        &mut server.link,
-        clock,
-        question,
-        turns,
-    )
-}
-
 /// Whether a link fails to receive in an append or, where that is answered, in a read.
 pub(super) fn stops<'a>(
     alloc: Global,
-    client: &mut Station<'a>,
-    server: &mut Station<'a>,
+    client: &mut MemoryStation<'a>,
+    server: &mut MemoryStation<'a>,
     clock: &mut MemoryClock<'_>,
 ) -> Result<bool, Fail> {
-    let appended = ask_other(alloc, client, server, clock, &append(alloc)?, 10_000);
+    let appended = pair(client, server, clock, &append(alloc)?, 10_000);
     if appended.is_err() {
         return Ok(told_end(alloc, appended)?.as_str() == "fault 1");
     }
-    let was_read = ask_other(alloc, client, server, clock, &read(alloc)?, 10_000);
+    let was_read = pair(client, server, clock, &read(alloc)?, 10_000);
     Ok(told_end(alloc, was_read)?.as_str() == "fault 1")
 }
 
 /// An append and then a read, each for at most so many turns.
 fn ask_both<'a>(
     alloc: Global,
-    client: &mut Station<'a>,
-    server: &mut Station<'a>,
+    client: &mut MemoryStation<'a>,
+    server: &mut MemoryStation<'a>,
     clock: &mut MemoryClock<'_>,
     turns: u64,
 ) -> Result<(String, String), Fail> {
     let appending = append(alloc)?;
-    let appended = ask_other(alloc, client, server, clock, &appending, turns);
+    let appended = pair(client, server, clock, &appending, turns);
     let first = told_end(alloc, appended)?;
     let reading = read(alloc)?;
-    let was_read = ask_other(alloc, client, server, clock, &reading, turns);
+    let was_read = pair(client, server, clock, &reading, turns);
     let second = told_end(alloc, was_read)?;
     Ok((first, second))
 }
@@ -80,8 +59,8 @@ fn ask_both<'a>(
 /// What comes of both asks.
 fn tell_both<'a>(
     alloc: Global,
-    client: &mut Station<'a>,
-    server: &mut Station<'a>,
+    client: &mut MemoryStation<'a>,
+    server: &mut MemoryStation<'a>,
     clock: &mut MemoryClock<'_>,
     turns: u64,
 ) -> Result<Story, Fail> {
@@ -90,10 +69,10 @@ fn tell_both<'a>(
         first,
         second,
         failures: client
-            .link
+            .link()
             .failures()
-            .saturating_add(server.link.failures()),
-        file: file_of(alloc, &server.node)?,
+            .saturating_add(server.link().failures()),
+        file: file_of(alloc, server.node())?,
     })
 }
 
@@ -127,18 +106,11 @@ fn a_pair_appends_and_reads(rt: HostRuntime) -> Result<(), Fail> {
 /// A node asks, for at most 100,000 turns.
 fn ask_alone(
     alloc: Global,
-    client: &mut Station<'_>,
+    client: &mut MemoryStation<'_>,
     clock: &mut MemoryClock<'_>,
 ) -> Result<String, Fail> {
     let question = read(alloc)?;
-    let end = ask_over(
-        alloc,
-        &mut client.node,
-        &mut client.link,
-        clock,
-        &question,
-        100_000,
-    );
+    let end = client.ask(clock, &question, 100_000);
     told_end(alloc, end)
 }
 
@@ -147,7 +119,7 @@ fn ask_nobody(alloc: Global) -> Result<(String, u64), Fail> {
     let medium = RefCell::new(Medium::new(alloc, Failing::NOTHING));
     let moment = Cell::new(0);
     let mut clock = MemoryClock::new(&moment);
-    let mut client = Station::new(alloc, &medium, &moment, CLIENT)?;
+    let mut client = station(alloc, &medium, &moment, CLIENT)?;
     let how = ask_alone(alloc, &mut client, &mut clock)?;
     Ok((how, moment.get()))
 }

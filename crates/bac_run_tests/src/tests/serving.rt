@@ -5,27 +5,17 @@ use super::*;
 /// made.
 type Served = (Option<u64>, Option<u8>, u64, bool);
 
-fn serve(
-    alloc: Global,
-    server: &mut Station<'_>,
-    moment: &Cell<u64>,
-    turns: u64,
-) -> Result<u64, RunFault> {
-    let mut clock = MemoryClock::new(moment);
-    serve_over(alloc, &mut server.node, &mut server.link, &mut clock, turns)
-}
-
 /// How the server serves a datagram that the client sends.
 fn serve_read(
     alloc: Global,
-    client: &mut Station<'_>,
-    server: &mut Station<'_>,
+    client: &mut MemoryLink<'_>,
+    server: &mut MemoryStation<'_>,
     moment: &Cell<u64>,
 ) -> Result<Served, Fail> {
-    client.send(alloc, SERVER, READ)?;
-    let served = serve(alloc, server, moment, 2);
-    let failures = server.link.failures();
-    let fresh = server.node.same(&house_node(alloc, SERVER)?);
+    client.send_hex(alloc, SERVER, READ)?;
+    let served = server.serve(&mut MemoryClock::new(moment), 2);
+    let failures = server.link().failures();
+    let fresh = server.node().same(&house_node(alloc, SERVER)?);
     Ok(match served {
         Ok(effects) => (Some(effects), None, failures, fresh),
         Err(fault) => (None, Some(fault.number()), failures, fresh),
@@ -36,7 +26,8 @@ fn serve_read(
 fn serve_one(alloc: Global, failing: Failing) -> Result<Served, Fail> {
     let medium = RefCell::new(Medium::new(alloc, failing));
     let moment = Cell::new(0);
-    let (mut client, mut server) = two_stations(alloc, &medium, &moment)?;
+    let mut client = MemoryLink::new(&medium, &moment, CLIENT);
+    let mut server = station(alloc, &medium, &moment, SERVER)?;
     serve_read(alloc, &mut client, &mut server, &moment)
 }
 

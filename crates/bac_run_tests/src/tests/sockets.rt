@@ -5,7 +5,7 @@ use bac_link::{MonotonicClock, UdpLink};
 /// What a link has received next, in hexadecimal.
 fn received(alloc: Global, link: &mut UdpLink) -> Result<String, Fail> {
     let mut buffer = [0u8; 2_048];
-    match link.receive(&mut buffer) {
+    match link.recv(&mut buffer) {
         Ok(Some(received)) => Ok(hex::encode_upper(alloc, &buffer[..received.1])?),
         _ => Err(Fail::from("no answer")),
     }
@@ -15,24 +15,25 @@ fn received(alloc: Global, link: &mut UdpLink) -> Result<String, Fail> {
 fn serve_socket<R: std::time::Clock>(
     alloc: Global,
     client: &mut UdpLink,
-    link: &mut UdpLink,
+    link: UdpLink,
     clock: &mut MonotonicClock<'_, R>,
 ) -> Result<(Option<u64>, String), Fail> {
-    let mut node = house_node(alloc, link.address())?;
-    let sent = client.send(link.address(), &hex::decode(alloc, READ)?);
+    let address = link.address();
+    let mut station = Station::new(alloc, house_node(alloc, address)?, link)?;
+    let sent = client.send(address, &hex::decode(alloc, READ)?);
     if sent.is_err() {
         return Err(Fail::from("not sent"));
     }
-    let served = serve_over(alloc, &mut node, link, clock, 1).ok();
+    let served = station.serve(clock, 1).ok();
     Ok((served, received(alloc, client)?))
 }
 
 #[test]
 fn a_socket_is_served(rt: HostRuntime) -> Result<(), Fail> {
     let mut client = UdpLink::bind(&rt, 0)?;
-    let mut link = UdpLink::bind(&rt, 0)?;
+    let link = UdpLink::bind(&rt, 0)?;
     let mut clock = MonotonicClock::new(&rt)?;
-    let (served, answer) = serve_socket(rt.alloc(), &mut client, &mut link, &mut clock)?;
+    let (served, answer) = serve_socket(rt.alloc(), &mut client, link, &mut clock)?;
     assert!(&rt; served == Some(1));
     assert_eq!(&rt; answer.as_str(), VALUE);
     Ok(())

@@ -2,7 +2,6 @@
 use super::*;
 use crate::noted_call::NotedCall;
 use crate::telling_link::TellingLink;
-use bac_turns::take_turn;
 
 /// A call as a line: what was done, the port of the other address, and the octets.
 fn line(alloc: Global, word: &str, address: [u8; 6], octets: &[u8]) -> Result<String, Fail> {
@@ -21,18 +20,13 @@ fn told_call(alloc: Global, call: &NotedCall) -> Result<String, Fail> {
 }
 
 /// Two turns of the server, of which the second may not come to its end; what its link was asked to do.
-fn calls_of<R: Abort>(
-    alloc: Global,
-    link: &mut TellingLink<'_, R>,
-    now: u64,
-) -> Result<String, Fail> {
-    let mut node = house_node(alloc, SERVER)?;
-    let mut buffer = [0u8; 64];
+fn calls_of<R: Abort>(alloc: Global, link: TellingLink<'_, R>, now: u64) -> Result<String, Fail> {
+    let mut server = Station::new(alloc, house_node(alloc, SERVER)?, link)?;
     for _ in 0..2u8 {
-        let _ = take_turn(alloc, &mut node, link, now, &mut buffer).is_ok();
+        let _ = server.turn(now).is_ok();
     }
     let mut lines = String::new(alloc);
-    for call in link.noted() {
+    for call in server.link().noted() {
         lines.push_str(&told_call(alloc, call)?)?;
         lines.push_str("\n")?;
     }
@@ -43,10 +37,9 @@ fn calls_of<R: Abort>(
 fn calls<R: Abort>(rt: &R, alloc: Global, failing: Failing) -> Result<String, Fail> {
     let medium = RefCell::new(Medium::new(alloc, failing));
     let moment = Cell::new(0);
-    let mut client = Station::new(alloc, &medium, &moment, CLIENT)?;
-    client.send(alloc, SERVER, READ)?;
-    let mut link = TellingLink::new(rt, alloc, &medium, &moment, SERVER);
-    calls_of(alloc, &mut link, 5)
+    MemoryLink::new(&medium, &moment, CLIENT).send_hex(alloc, SERVER, READ)?;
+    let link = TellingLink::new(rt, alloc, &medium, &moment, SERVER);
+    calls_of(alloc, link, 5)
 }
 
 /// Calls that fail, and the calls that are told, one a line.

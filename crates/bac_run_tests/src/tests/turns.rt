@@ -5,8 +5,8 @@ use super::*;
 /// datagram and by the tick.
 type Seen = (Option<([u8; 6], usize)>, u64, u8, bool, usize, usize);
 
-fn see(alloc: Global, station: &mut Station<'_>, now: u64) -> Result<Seen, TurnFault> {
-    let turn = station.turn(alloc, now)?;
+fn see(station: &mut MemoryStation<'_>, now: u64) -> Result<Seen, TurnFault> {
+    let turn = station.turn(now)?;
     Ok((
         turn.received,
         turn.lost,
@@ -17,50 +17,37 @@ fn see(alloc: Global, station: &mut Station<'_>, now: u64) -> Result<Seen, TurnF
     ))
 }
 
-/// The client sends a request, and the server takes a turn at that moment. Answers what the client then receives.
-fn serve(
-    alloc: Global,
-    client: &mut Station<'_>,
-    server: &mut Station<'_>,
-    now: u64,
-) -> Result<(Seen, String), Fail> {
-    client.send(alloc, SERVER, READ)?;
-    let seen = see(alloc, server, now)?;
-    Ok((seen, client.received(alloc)?))
-}
-
-fn served(alloc: Global) -> Result<(Seen, String), Fail> {
+/// A client sends a request, and the server takes a turn at that moment. Answers what the client then receives, and the first octets of the server's buffer.
+fn served(alloc: Global, now: u64) -> Result<(Seen, String, String), Fail> {
     let medium = RefCell::new(Medium::new(alloc, Failing::NOTHING));
     let moment = Cell::new(0);
-    let (mut client, mut server) = two_stations(alloc, &medium, &moment)?;
-    serve(alloc, &mut client, &mut server, 5)
+    let mut client = MemoryLink::new(&medium, &moment, CLIENT);
+    let mut server = station(alloc, &medium, &moment, SERVER)?;
+    client.send_hex(alloc, SERVER, READ)?;
+    let seen = see(&mut server, now)?;
+    let heard = hex::encode_upper(alloc, &server.buffer()[..17])?;
+    Ok((seen, client.recv_hex(alloc)?, heard))
 }
 
 #[test]
 fn a_turn_hears_and_answers(rt: HostRuntime) -> Result<(), Fail> {
-    let (seen, answer) = served(rt.alloc())?;
+    let (seen, answer, heard) = served(rt.alloc(), 5)?;
     assert!(&rt; seen == (Some((CLIENT, 17)), 0, 0, true, 0, 0));
     assert_eq!(&rt; answer.as_str(), VALUE);
+    assert_eq!(&rt; heard.as_str(), READ);
     Ok(())
 }
 
 /// A server takes a turn, and after a request was sent to it one at an earlier moment. Answers the fault, and what still waits for it.
-fn go_back(
-    alloc: Global,
-    client: &mut Station<'_>,
-    server: &mut Station<'_>,
-) -> Result<(Option<TurnFault>, String), Fail> {
-    see(alloc, server, 5)?;
-    client.send(alloc, SERVER, READ)?;
-    let late = see(alloc, server, 4).err();
-    Ok((late, server.received(alloc)?))
-}
-
 fn gone_back(alloc: Global) -> Result<(Option<TurnFault>, String), Fail> {
     let medium = RefCell::new(Medium::new(alloc, Failing::NOTHING));
     let moment = Cell::new(0);
-    let (mut client, mut server) = two_stations(alloc, &medium, &moment)?;
-    go_back(alloc, &mut client, &mut server)
+    let mut server = station(alloc, &medium, &moment, SERVER)?;
+    see(&mut server, 5)?;
+    MemoryLink::new(&medium, &moment, CLIENT).send_hex(alloc, SERVER, READ)?;
+    let late = see(&mut server, 4).err();
+    let waiting = MemoryLink::new(&medium, &moment, SERVER).recv_hex(alloc)?;
+    Ok((late, waiting))
 }
 
 #[test]
@@ -72,19 +59,15 @@ fn a_clock_that_goes_back_receives_nothing(rt: HostRuntime) -> Result<(), Fail> 
 }
 
 /// A node asks, and takes a turn when the life of its ticket is over.
-fn expire(alloc: Global, client: &mut Station<'_>) -> Result<Seen, Fail> {
-    let question = read(alloc)?;
-    if client.ask(0, &question) != Some(0) {
-        return Err(Fail::from("refused"));
-    }
-    Ok(see(alloc, client, 60_001)?)
-}
-
 fn expired(alloc: Global) -> Result<Seen, Fail> {
     let medium = RefCell::new(Medium::new(alloc, Failing::NOTHING));
     let moment = Cell::new(0);
-    let mut client = Station::new(alloc, &medium, &moment, CLIENT)?;
-    expire(alloc, &mut client)
+    let mut client = station(alloc, &medium, &moment, CLIENT)?;
+    let question = read(alloc)?;
+    if client.begin(0, &question) != Ok(0) {
+        return Err(Fail::from("refused"));
+    }
+    Ok(see(&mut client, 60_001)?)
 }
 
 /// A ticket that nobody answers ends in a tick.
@@ -95,39 +78,39 @@ fn a_tick_ends_a_ticket(rt: HostRuntime) -> Result<(), Fail> {
     Ok(())
 }
 
-/// A server hears a request at moment 5, and has a second turn at moment 9, which may fail to receive. Answers its node, and the fault.
-fn heard_and(alloc: Global, failing: Failing) -> Result<(Node, Option<TurnFault>), Fail> {
+/// A server that has heard a request at moment 5 takes a second turn at moment 9, where a call may fail. Answers whether its node is then as that one, and how
+/// the turn failed.
+fn second_turn(
+    alloc: Global,
+    failing: Failing,
+    node: &Node,
+) -> Result<(bool, Option<TurnFault>), Fail> {
     let medium = RefCell::new(Medium::new(alloc, failing));
     let moment = Cell::new(0);
-    let (mut client, mut server) = two_stations(alloc, &medium, &moment)?;
-    client.send(alloc, SERVER, READ)?;
-    see(alloc, &mut server, 5)?;
-    let fault = see(alloc, &mut server, 9).err();
-    Ok((server.node, fault))
+    let mut server = station(alloc, &medium, &moment, SERVER)?;
+    MemoryLink::new(&medium, &moment, CLIENT).send_hex(alloc, SERVER, READ)?;
+    see(&mut server, 5)?;
+    let fault = see(&mut server, 9).err();
+    Ok((server.node().same(node), fault))
 }
 
-/// A server that has heard a request at moment 5 alone.
+/// A node that has heard a request, and done what is due, at moment 5.
 fn heard(alloc: Global) -> Result<Node, Fail> {
-    let medium = RefCell::new(Medium::new(alloc, Failing::NOTHING));
-    let moment = Cell::new(0);
-    let (mut client, mut server) = two_stations(alloc, &medium, &moment)?;
-    client.send(alloc, SERVER, READ)?;
-    see(alloc, &mut server, 5)?;
-    Ok(server.node)
-}
-
-/// Whether a second turn leaves the server's node as it was, and how that turn failed.
-fn second_turn(alloc: Global, failing: Failing) -> Result<(bool, Option<TurnFault>), Fail> {
-    let (node, fault) = heard_and(alloc, failing)?;
-    Ok((node.same(&heard(alloc)?), fault))
+    let mut node = house_node(alloc, SERVER)?;
+    let octets = hex::decode(alloc, READ)?;
+    if node.on(5, CLIENT, &octets).is_err() || node.tick(5).is_err() {
+        return Err(Fail::from("not heard"));
+    }
+    Ok(node)
 }
 
 /// After a turn that could not receive the node is as before it; a turn in which nothing came sets its latest moment.
 #[test]
 fn a_failed_receive_changes_nothing(rt: HostRuntime) -> Result<(), Fail> {
-    let failed = second_turn(rt.alloc(), Failing::to_receive(2))?;
+    let node = heard(rt.alloc())?;
+    let failed = second_turn(rt.alloc(), Failing::to_receive(2), &node)?;
     assert!(&rt; failed == (true, Some(TurnFault::Link)));
-    let taken = second_turn(rt.alloc(), Failing::NOTHING)?;
+    let taken = second_turn(rt.alloc(), Failing::NOTHING, &node)?;
     assert!(&rt; taken == (false, None));
     Ok(())
 }

@@ -1,7 +1,10 @@
-use Rattle.bac_commands.proofs.Reported.{both_texts, text_of}
+use Rattle.std.proofs.Common.{ap, ◌∙◌}
+use Rattle.bac_world.specs.Node.{Node}
+use Rattle.bac_commands.proofs.Reported.{both_texts}
 use Rattle.bac_commands.proofs.online.pairing.ask_both.Goals as goal
 
 pub returns : goal.returns
-returns g c = λ address.
-    both_texts _ _ _ address _ _ _ _ _ _ _ (text_of _ _ _ _ _ _ _ _ c.in_ok-append.ensures c.in_ok-first.ensures)
-    (text_of _ _ _ _ _ _ _ _ c.read_request.ensures c.in_ok-second.ensures) c.are_both.ensures
+returns g c =
+    both_texts _ _ _ _ _ _ _ _ _ _ _ _ _ _ c.in_ok-append_request.ensures c.read_request.ensures
+    (c.link-address.ensures ∙ ap (λ (n : Node). n.link) c.node.ensures) c.question_for-append.ensures c.question_for-read.ensures
+    c.in_ok-appended.ensures c.in_ok-was_read.ensures c.are_both.ensures

@@ -1,5 +1,0 @@
-use Rattle.std.proofs.Common.{rules}
-use Rattle.bac_run.proofs.asking.ask_over.Goals as goal
-
-pub returns-in-Err : goal.returns-in-Err
-returns-in-Err g c = record { ended = c.in-Err.ensures.refused (search rules); failed = tt }

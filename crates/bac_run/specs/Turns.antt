@@ -1,0 +1,105 @@
+-- One turn of a node on a link: what has come is heard, all that is due is done, and what the node sends goes out.
+use Rattle.std.specs.Prelude.{◌≡◌, ◌⊎◌, ℕ, zero, suc, ◌+◌, ◌≤◌, List, [], ◌∷◌, ◌++◌, map, length, take, Option, Some, None, Ok, IfSome}
+use Rattle.std.specs.Option.{option_map}
+use Rattle.bac_protocol.specs.Service.{Octets}
+use Rattle.bac_ends.specs.Sends.{Datagram}
+use Rattle.bac_ends.specs.Meanings.{Finish}
+use Rattle.bac_link.specs.Calls.{Call, Calls, one_more, received}
+use Rattle.bac_link.specs.Calls.Call.{Send}
+use Rattle.bac_world.specs.Node.{Node, Outcome, NodeOn, NodeTick}
+use Rattle.bac_world.specs.Services.{Performed}
+use Rattle.bac_node.specs.Calls.{IsNotHeard}
+use Rattle.bac_run.specs.Stations.{Station}
+
+-- what a turn answers: who sent the datagram that came, and how many octets it has; failed sends, and steps that found no memory; what was performed; the
+-- tickets that ended by the datagram, and by the tick
+pub record Turn : Type 0 where
+  pub received : Option (Octets × ℕ)
+  pub lost : ℕ
+  pub skipped : ℕ
+  pub performed : Option Performed
+  pub ended : List Finish
+  pub tick_ended : List Finish
+
+-- ---- the steps of the node
+
+-- what one step of the node gave; how often it was skipped: once or not
+pub record Step : Type 0 where
+  pub sends : List Datagram
+  pub performed : Option Performed
+  pub ended : List Finish
+  pub skipped : ℕ
+
+abbrev pub no_step : (skipped : ℕ) → Step
+no_step skipped = record { sends = []; performed = None; ended = []; skipped = skipped }
+
+abbrev pub step_of : Outcome → Step
+step_of o = record { sends = o.sends; performed = o.performed; ended = o.ended; skipped = 0 }
+
+-- the step was done
+pub record IsDone (goes_to : Node → Node → Outcome → Type 0) (old new : Node) (step : Step) : Type 0 where
+  pub outcome : Outcome
+  pub goes : goes_to old new outcome
+  pub gives : step ≡ step_of outcome
+
+-- it found no memory, and nothing has changed
+pub record IsSkipped (old new : Node) (step : Step) : Type 0 where
+  pub same : new ≡ old
+  pub gives : step ≡ no_step 1
+
+-- so it may be with a datagram that the node does not drop
+pub record IsUnheard (from octets : Octets) (old new : Node) (step : Step) : Type 0 where
+  pub kept : IsNotHeard old.link from octets → ⊥
+  pub skipped : IsSkipped old new step
+
+-- a datagram is heard, or dropped, as the node does
+abbrev pub HearsOne : (now : ℕ) → (from octets : Octets) → (old new : Node) → Step → Type 0
+HearsOne now from octets old new step = IsDone (NodeOn now from octets) old new step ⊎ IsUnheard from octets old new step
+
+-- the one that came, if one did; its octets are the first of the buffer
+abbrev pub Hears : (now : ℕ) → (buffer : Octets) → Option (Octets × ℕ) → (old new : Node) → Step → Type 0
+Hears now buffer None old new step = (new ≡ old) × (step ≡ no_step 0)
+Hears now buffer (Some d) old new step = HearsOne now d.0 (take d.1 buffer) old new step
+
+-- all that is due is done
+abbrev pub Ticks : (now : ℕ) → (old new : Node) → Step → Type 0
+Ticks now old new step = IsDone (NodeTick now) old new step ⊎ IsSkipped old new step
+
+-- ---- what the link is asked to do
+
+abbrev pub call_of : Datagram → Call
+call_of d = Send d.to d.octets
+
+abbrev pub with_calls : Calls → List Call → Calls
+with_calls calls more = option_map (λ (cs : List Call). cs ++ more) calls
+
+-- a count of failures after so many more, which stays at its last value
+abbrev pub counted : (failures lost : ℕ) → ℕ
+counted failures zero = failures
+counted failures (suc lost) = one_more (counted failures lost)
+
+-- ---- the turn
+
+-- both steps, one after the other
+pub record Steps (now : ℕ) (buffer : Octets) (old new : Node) (turn : Turn) (first second : Step) : Type 0 where
+  pub middle : Node
+  pub hears : Hears now buffer turn.received old middle first
+  pub ticks : Ticks now middle new second
+  pub performed : turn.performed ≡ first.performed
+  pub ended : turn.ended ≡ first.ended
+  pub tick_ended : turn.tick_ended ≡ second.ended
+  pub skipped : turn.skipped ≡ first.skipped + second.skipped
+
+-- these calls, and then all that is sent, each datagram once, in order; failed sends are counted
+pub record IsCarried (before : List Call) (sends : List Datagram) (lost : ℕ) (old new : Station) : Type 0 where
+  pub order : new.calls ≡ with_calls old.calls (before ++ map call_of sends)
+  pub count : new.failures ≡ counted old.failures lost
+  pub most : lost ≤ length sends
+
+-- the datagram that came, if one did, stands in the buffer; the link was called to receive once
+pub record IsTurn (now : ℕ) (old new : Station) (turn : Turn) : Type 0 where
+  pub within : IfSome turn.received (λ d. d.1 ≤ length new.buffer)
+  pub first : Step
+  pub second : Step
+  pub steps : Steps now new.buffer old.node new.node turn first second
+  pub carried : IsCarried (received new.buffer (Ok turn.received) ∷ []) (first.sends ++ second.sends) turn.lost old new

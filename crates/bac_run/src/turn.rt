@@ -1,0 +1,20 @@
+//! What a turn gave.
+use bac_requester::Finish;
+use bac_responder::Act;
+
+/// What a turn gave.
+#[derive(Drop)]
+pub struct Turn {
+    /// The sender of the datagram that came, and how many octets it has: they are the first of the station's buffer. None where no datagram came.
+    pub received: Option<([u8; 6], usize)>,
+    /// How many sends failed, at most 2^64 - 1.
+    pub lost: u64,
+    /// How many steps of the node found no memory: 0 to 2. They changed nothing.
+    pub skipped: u8,
+    /// What was performed.
+    pub effect: Option<Act>,
+    /// The tickets that ended by the datagram.
+    pub ended: Vec<Finish>,
+    /// The tickets that ended by the tick, in ascending order of peer and invoke ID.
+    pub tick_ended: Vec<Finish>,
+}
