@@ -26,6 +26,36 @@ fn copies_or_refuses(rt: HostRuntime) -> Result<(), Fail> {
     holds(copied(rt.alloc(), &store)?.same(&store), "a copy")
 }
 
+/// A file without a name, properties and octets.
+fn empty_file(alloc: Global, id: ObjectIdentifier) -> Object {
+    let octets = Vec::new(alloc);
+    Object {
+        id,
+        name: String::new(alloc),
+        properties: Vec::new(alloc),
+        file: Some(File {
+            octets,
+            writable: true,
+        }),
+    }
+}
+
+/// The store of it, where one allocation alone is refused.
+fn empty_file_at_last(alloc: Global) -> Result<Store, Fail> {
+    let id = ObjectIdentifier::new(10, 1).ok_or("no such identifier")?;
+    match made_of(alloc, empty_file(alloc, id)) {
+        Ok(Ok(store)) => Ok(store),
+        _ => store_of(alloc, empty_file(alloc, id)),
+    }
+}
+
+/// An empty file is copied, and its copy asks for no memory: the one allocation of `Store::copy` is that of the list of objects.
+#[test]
+fn copies_an_empty_file_or_refuses(rt: HostRuntime) -> Result<(), Fail> {
+    let store = empty_file_at_last(rt.alloc())?;
+    holds(copied(rt.alloc(), &store)?.same(&store), "a copy")
+}
+
 /// Whether a reply is the wanted one, where one allocation alone is refused.
 fn is_told(alloc: Global, reply: Reply<'_>, want: Want) -> Result<bool, NoMemory> {
     match is_wanted(alloc, reply, want) {

@@ -2,7 +2,7 @@
 ghost use Rattle.std.specs.Prelude.{◌≡◌, ℕ, map, IfSome};
 ghost use Rattle.bac_protocol.specs.Service.{Octets};
 ghost use Rattle.bac_commands.specs.Questions.{ReadsQuestion, local};
-ghost use Rattle.bac.specs.Online.{IsAsked, IsPair, IsServed, OnClock, OnPort};
+ghost use Rattle.bac_command_line.specs.Online.{IsAsked, IsPair, IsServed, OnClock, OnPort};
 
 use bac_commands::{clock_fault, house_station, link_fault, local, read_question};
 use bac_link::{Clock, Link};
@@ -13,7 +13,7 @@ use std::alloc::Global;
 use std::io::Write;
 
 /// The links and the clock of a machine.
-pub(crate) trait Machine {
+pub trait Machine {
     type Link: Link + Drop;
 
     type Timer: Clock + Drop;

@@ -1,0 +1,55 @@
+//! Files that a command line names: what `check` and `simulate` do.
+use bac_simulate::simulate_over;
+use bac_text::{Status, check_over, complain, no_memory};
+use std::alloc::Global;
+use std::io;
+use std::io::{BufReader, Read, Write};
+
+/// The files that a command line can name.
+pub trait OpenFiles {
+    type File: Read + Drop;
+
+    /// Opens a file for reading.
+    fn open(&self, path: &str) -> io::Result<Self::File>;
+}
+
+/// A file, opened for reading. Where it cannot be opened, `err` and the status tell it.
+fn opened<F: OpenFiles, E: Write>(files: &F, path: &str, err: &mut E) -> Result<F::File, Status> {
+    match files.open(path) {
+        Ok(file) => Ok(file),
+        Err(error) if error.kind() == io::ErrorKind::OutOfMemory => Err(no_memory(err)),
+        Err(_) => Err(complain(err, "cannot read", Status::CommandLine)),
+    }
+}
+
+/// Checks the capture in a file. A file that cannot be opened: `cannot read` on `err`.
+pub(crate) fn check<F: OpenFiles, O: Write, E: Write>(
+    alloc: Global,
+    files: &F,
+    path: &str,
+    out: &mut O,
+    err: &mut E,
+) -> Status {
+    let file = match opened(files, path, err) {
+        Ok(file) => file,
+        Err(status) => return status,
+    };
+    match BufReader::new(alloc, file) {
+        Ok(mut input) => check_over(alloc, &mut input, out, err),
+        Err(_) => no_memory(err),
+    }
+}
+
+/// Runs the script in a file. A file that cannot be opened: `cannot read` on `err`.
+pub(crate) fn simulate<F: OpenFiles, O: Write, E: Write>(
+    alloc: Global,
+    files: &F,
+    path: &str,
+    out: &mut O,
+    err: &mut E,
+) -> Status {
+    match opened(files, path, err) {
+        Ok(mut file) => simulate_over(alloc, &mut file, out, err),
+        Err(status) => status,
+    }
+}

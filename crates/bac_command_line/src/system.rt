@@ -1,0 +1,52 @@
+//! The files, sockets and clock of a system.
+ghost use Rattle.std.specs.Prelude.{◌≡◌};
+ghost use Rattle.bac_link.specs.Clocks.{latest_told};
+ghost use Rattle.bac_link.specs.Udp.{bound_port, udp_address};
+
+use crate::files::OpenFiles;
+use crate::online::Machine;
+use bac_link::{MonotonicClock, UdpLink};
+use std::net::Net;
+use std::rt::Files;
+use std::{fs, io};
+
+/// What a runtime has: the files, sockets and clock that command lines run on.
+#[derive(Drop)]
+pub struct System<'a, R> {
+    runtime: &'a R,
+}
+
+impl<'a, R> System<'a, R> {
+    /// The system of a runtime.
+    pub fn new(runtime: &'a R) -> System<'a, R> {
+        System { runtime }
+    }
+}
+
+impl<R: Files> OpenFiles for System<'_, R> {
+    type File = R::File;
+
+    fn open(&self, path: &str) -> io::Result<R::File> {
+        fs::open(self.runtime, path)
+    }
+}
+
+impl<'a, R: Net + std::time::Clock> Machine for System<'a, R> {
+    type Link = UdpLink;
+
+    type Timer = MonotonicClock<'a, R>;
+
+    ghost is_bound = { λ port l address. (bound_port l ≡ port) × (udp_address l ≡ address) };
+
+    ghost is_made = { λ c. latest_told c ≡ 0 };
+
+    fn bind(&self, port: u16) -> Option<(UdpLink, [u8; 6])> {
+        let link = UdpLink::bind(self.runtime, port).ok()?;
+        let address = link.address();
+        Some((link, address))
+    }
+
+    fn timer(&self) -> Option<MonotonicClock<'a, R>> {
+        MonotonicClock::new(self.runtime).ok()
+    }
+}

@@ -1,0 +1,214 @@
+//! Machines in memory: links behind which a house answers, or others do, and clocks that go on, stand or go back.
+ghost use Rattle.std.specs.Prelude.{◌≡◌, ◌≤◌, length, None, ⊤};
+ghost use Rattle.bac_link.specs.Calls.{one_more};
+
+use crate::text_file::copy_front;
+use bac_command_line::Machine;
+use bac_commands::answer_datagram;
+use bac_link::{Clock, Link, LinkFault};
+use std::alloc::Global;
+use std::cell::Cell;
+
+/// What is behind the links of a machine.
+#[derive(Clone, Copy)]
+pub(crate) enum Behind {
+    /// The system refuses each link.
+    Nothing,
+    /// Houses: at port 47,808, and at the second free port. Nobody is at the others.
+    Houses,
+    /// Nobody.
+    Nobody,
+    /// Who is asked answers with this datagram.
+    Answer(&'static [u8]),
+    /// So many requests wait at each link.
+    Requests(u8),
+    /// A link fails to receive.
+    Deaf,
+}
+
+/// Where the houses are.
+const HOUSES: [[u8; 6]; 2] = [[127, 0, 0, 1, 0xBA, 0xC0], [127, 0, 0, 1, 0xC3, 0x52]];
+
+/// Who sent the requests that wait.
+const CLIENT: [u8; 6] = [127, 0, 0, 1, 0xBA, 0xC1];
+
+/// A read of the present-value of analog-input 5, with this invoke ID.
+fn request(invoke_id: u8) -> [u8; 17] {
+    [
+        0x81, 0x0A, 0, 17, 1, 4, 0, 5, invoke_id, 12, 0x0C, 0, 0, 0, 5, 0x19, 85,
+    ]
+}
+
+/// A datagram that waits: who sent it, and its octets.
+type Waiting = ([u8; 6], Vec<u8>);
+
+/// A link with that behind it.
+#[derive(Drop)]
+pub(crate) struct BenchLink {
+    alloc: Global,
+    behind: Behind,
+    /// How many requests still wait.
+    requests: u8,
+    /// The answer to what was sent last.
+    answer: Option<Waiting>,
+    failures: u64,
+}
+
+/// The first datagram with which a house answers.
+fn house_answer(alloc: Global, octets: &[u8]) -> Option<Vec<u8>> {
+    let answers = answer_datagram(alloc, octets).ok()?;
+    answers.first()?.octets().to_vec(alloc).ok()
+}
+
+impl BenchLink {
+    /// What answers a datagram to that address, if something does.
+    fn answer_from(&self, to: [u8; 6], octets: &[u8]) -> Option<Vec<u8>> {
+        match self.behind {
+            Behind::Houses if HOUSES.contains(&to) => house_answer(self.alloc, octets),
+            Behind::Answer(answer) => answer.to_vec(self.alloc).ok(),
+            _ => None,
+        }
+    }
+
+    fn failed(&mut self) -> LinkFault
+        ensures { self.new.failures ≡ one_more self.old.failures }
+    {
+        self.failures = self.failures.saturating_add(1);
+        LinkFault
+    }
+}
+
+fn hand_over(from: [u8; 6], octets: &[u8], buffer: &mut [u8]) -> ([u8; 6], usize)
+    ensures { result.1 ≤ length buffer.new }
+{
+    let len = copy_front(octets, buffer);
+    (from, len)
+}
+
+impl Link for BenchLink {
+    ghost failures = { λ l. l.failures };
+
+    ghost calls = { λ _. None };
+
+    fn failures(&self) -> u64 {
+        self.failures
+    }
+
+    fn send(&mut self, to: [u8; 6], octets: &[u8]) -> Result<(), LinkFault> {
+        if let Some(answer) = self.answer_from(to, octets) {
+            self.answer = Some((to, answer));
+        }
+        Ok(())
+    }
+
+    fn recv(&mut self, buffer: &mut [u8]) -> Result<Option<([u8; 6], usize)>, LinkFault> {
+        if self.requests > 0 {
+            self.requests -= 1;
+            return Ok(Some(hand_over(CLIENT, &request(self.requests), buffer)));
+        }
+        match self.answer.take() {
+            Some((from, octets)) => Ok(Some(hand_over(from, &octets, buffer))),
+            None if matches!(self.behind, Behind::Deaf) => Err(self.failed()),
+            None => Ok(None),
+        }
+    }
+}
+
+/// How a clock goes each time that it is looked at.
+#[derive(Clone, Copy)]
+pub(crate) enum Pace {
+    /// On by so many milliseconds.
+    On(u64),
+    /// Back by so many.
+    Back(u64),
+}
+
+/// A clock that goes so from a moment on.
+#[derive(Clone, Copy)]
+pub(crate) struct BenchClock {
+    pub moment: u64,
+    pub pace: Pace,
+}
+
+impl Clock for BenchClock {
+    ghost told = { λ c. record { last = c.moment; all = None } };
+
+    fn now(&mut self) -> u64 {
+        self.moment = match self.pace {
+            Pace::On(step) => self.moment.saturating_add(step),
+            Pace::Back(step) => self.moment.saturating_sub(step),
+        };
+        self.moment
+    }
+}
+
+/// What a machine has: what is behind its links, and a clock, where it has one.
+#[derive(Clone, Copy)]
+pub(crate) struct Bench {
+    pub behind: Behind,
+    pub clock: Option<BenchClock>,
+}
+
+/// A machine with that. Its first free port is 50,001.
+#[derive(Drop)]
+pub(crate) struct BenchMachine {
+    alloc: Global,
+    bench: Bench,
+    last_free: Cell<u16>,
+}
+
+impl BenchMachine {
+    pub(crate) fn new(alloc: Global, bench: Bench) -> BenchMachine {
+        BenchMachine {
+            alloc,
+            bench,
+            last_free: Cell::new(50_000),
+        }
+    }
+
+    /// That port, or where it is 0 the next free one.
+    fn port(&self, port: u16) -> u16 {
+        if port == 0 {
+            self.last_free.set(self.last_free.get().saturating_add(1));
+            self.last_free.get()
+        } else {
+            port
+        }
+    }
+
+    fn link(&self) -> BenchLink {
+        let requests = match self.bench.behind {
+            Behind::Requests(count) => count,
+            _ => 0,
+        };
+        BenchLink {
+            alloc: self.alloc,
+            behind: self.bench.behind,
+            requests,
+            answer: None,
+            failures: 0,
+        }
+    }
+}
+
+impl Machine for BenchMachine {
+    type Link = BenchLink;
+
+    type Timer = BenchClock;
+
+    ghost is_bound = { λ _ _ _. ⊤ };
+
+    ghost is_made = { λ _. ⊤ };
+
+    fn bind(&self, port: u16) -> Option<(BenchLink, [u8; 6])> {
+        if matches!(self.bench.behind, Behind::Nothing) {
+            return None;
+        }
+        let [high, low] = self.port(port).to_be_bytes();
+        Some((self.link(), [127, 0, 0, 1, high, low]))
+    }
+
+    fn timer(&self) -> Option<BenchClock> {
+        self.bench.clock
+    }
+}

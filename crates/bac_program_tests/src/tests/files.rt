@@ -1,0 +1,221 @@
+//! What `check` and `simulate` print of a file.
+use super::*;
+
+/// The text of the file, a command line, and its ending.
+type FileRow = (&'static str, &'static str, Ending);
+
+fn ends_so(alloc: Global, (text, line, ending): &FileRow) -> Result<bool, Fail> {
+    Ok(run_on(alloc, text, NO_LINKS, line)?.is(ending))
+}
+
+fn all_end_so(alloc: Global, rows: &[FileRow]) -> Result<(), Fail> {
+    for row in rows {
+        holds(ends_so(alloc, row)?, row.1)?;
+    }
+    Ok(())
+}
+
+/// Captures: good lines, and each way in which a line is bad; files that can't be opened, and files that fail where their text ends.
+const CAPTURES: &[FileRow] = &[
+    (
+        "1 7F000001BAC1 7F000001BAC0 810A000801001013\n",
+        "check capture",
+        ("lines=1 good=1 bad=0\n", "", 0),
+    ),
+    (
+        "x\n",
+        "check capture",
+        ("line 1: not a capture line\nlines=1 good=0 bad=1\n", "", 1),
+    ),
+    ("", "check capture", ("lines=0 good=0 bad=0\n", "", 0)),
+    (
+        "5 7F000001BAC1 7F000001BAC0 810A000801001013
+4 7F000001BAC1 7F000001BAC0 810A000801001013
+5 7F000001BAC1 7F000001BAC0 810B0004
+5 7F000001BAC1 7F000001BAC0 810A00050200
+5 7F000001BAC1 7F000001BAC0 810A0006020000
+5 7F000001BAC1 7F000001BAC0 810A0007010080
+5 7F000001BAC1 7F000001BAC0 810A000A01040005010C
+5 7F000001BAC1 7F000001BAC0 810A000901003001 0C
+5 7F000001BAC1 7F000001BAC0 810A0009010030010C",
+        "check capture",
+        (
+            "\
+line 2: moment goes back
+line 3: fault bvll 6
+line 4: fault bvll 5
+line 5: fault bvll 5
+line 6: fault apdu 5
+line 7: fault reject 5
+line 8: not a capture line
+line 9: fault data 2
+lines=9 good=1 bad=8
+",
+            "",
+            1,
+        ),
+    ),
+    ("", "check missing", ("", "cannot read\n", 2)),
+    ("", "check starved", ("", "no memory\n", 4)),
+    (
+        "x\n",
+        "check broken",
+        ("line 1: not a capture line\n", "cannot read\n", 2),
+    ),
+    (
+        "x\n",
+        "check starving",
+        ("line 1: not a capture line\n", "no memory\n", 4),
+    ),
+];
+
+#[test]
+fn checks_captures(rt: HostRuntime) -> Result<(), Fail> {
+    all_end_so(rt.alloc(), CAPTURES)
+}
+
+/// Scripts: one event, one that could not happen, a line of no form; files that can't be opened, and files that fail where their text ends.
+const SCRIPTS: &[FileRow] = &[
+    (
+        "nodes 2\nask 0 1 read 0:5 85\n",
+        "simulate capture",
+        (
+            "asked 0 id 0\nsent 0 0>1 810A001101040275000C0C000000051955\n",
+            "",
+            0,
+        ),
+    ),
+    (
+        "nodes 2\ntick 2\n",
+        "simulate capture",
+        ("line 2: fault 1\n", "", 1),
+    ),
+    (
+        "nodes 2\ntack 1\n",
+        "simulate capture",
+        ("", "line 2: not a script line\n", 2),
+    ),
+    (
+        "",
+        "simulate capture",
+        ("", "line 1: not a script line\n", 2),
+    ),
+    ("nodes 2\n", "simulate missing", ("", "cannot read\n", 2)),
+    ("nodes 2\n", "simulate starved", ("", "no memory\n", 4)),
+    (
+        "nodes 2\ntick 0\n",
+        "simulate broken",
+        ("", "cannot read\n", 2),
+    ),
+    (
+        "nodes 2\ntick 0\n",
+        "simulate starving",
+        ("", "no memory\n", 4),
+    ),
+];
+
+#[test]
+fn runs_scripts(rt: HostRuntime) -> Result<(), Fail> {
+    all_end_so(rt.alloc(), SCRIPTS)
+}
+
+/// Each fact, each fault but that of memory, and how asks end in a network: answered in each form that a house has, too late, and not at all.
+const FACTS: &[FileRow] = &[
+    (
+        "\
+nodes 2
+ask 0 1 append 10:1 AABBCC
+deliver 0
+advance 3000
+tick 0
+deliver 2
+deliver 3
+",
+        "simulate capture",
+        (
+            "\
+asked 0 id 0
+sent 0 0>1 810A0017010402750007C4028000010E31FF63AABBCC0F
+performed 0
+sent 1 1>0 810A000B01003000070902
+nothing
+sent 2 0>1 810A0017010402750007C4028000010E31FF63AABBCC0F
+sent 3 1>0 810A000B01003000070902
+ended 0 answered position 2
+",
+            "",
+            0,
+        ),
+    ),
+    (
+        "\
+nodes 2
+ask 0 1 write 2:1 85 4443340000
+deliver 0
+deliver 1
+ask 0 1 get 10:1 0 1
+deliver 2
+deliver 3
+ask 0 1 read 0:9 85
+deliver 4
+deliver 5
+",
+        "simulate capture",
+        (
+            "\
+asked 0 id 0
+sent 0 0>1 810A001801040275000F0C0080000119553E44433400003F
+performed 0
+sent 1 1>0 810A0009010020000F
+ended 0 answered written
+asked 1 id 1
+sent 2 0>1 810A0015010402750106C4028000010E310021010F
+performed 1
+sent 3 1>0 810A00100100300106100E3100614F0F
+ended 1 answered file 0 0 4F
+asked 2 id 2
+sent 4 0>1 810A001101040275020C0C000000091955
+performed 2
+sent 5 1>0 810A000D010050020C9101911F
+ended 2 answered error 1:31
+",
+            "",
+            0,
+        ),
+    ),
+    (
+        "\
+nodes 2
+ask 0 0 read 0:5 85
+ask 0 1 read 0:5 85
+advance 60001
+tick 0
+noise 0 00
+deliver 9
+",
+        "simulate capture",
+        (
+            "\
+refused 5
+asked 0 id 0
+sent 0 0>1 810A001101040275000C0C000000051955
+nothing
+ended 0 expired
+nothing
+line 7: fault 2
+",
+            "",
+            1,
+        ),
+    ),
+    (
+        "nodes 1\nadvance 18446744073709551615\nadvance 1\n",
+        "simulate capture",
+        ("nothing\nline 3: fault 3\n", "", 1),
+    ),
+];
+
+#[test]
+fn tells_each_fact(rt: HostRuntime) -> Result<(), Fail> {
+    all_end_so(rt.alloc(), FACTS)
+}

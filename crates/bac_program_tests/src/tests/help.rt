@@ -1,0 +1,64 @@
+//! Words of no form, and words that ask for help.
+use super::*;
+
+/// Words, and a part of what is told of them.
+const WORDS: &[(&str, &str)] = &[
+    ("", "Usage: bac <COMMAND>"),
+    ("other", "other"),
+    ("answer", "<HEX>"),
+    ("decode", "<HEX>"),
+    ("check", "<FILE>"),
+    ("answer 00 00", "00"),
+    ("--help", "BACnet confirmed services, proved"),
+    ("answer --help", "Usage: bac answer <HEX>"),
+    ("decode --help", "Usage: bac decode <HEX>"),
+    ("check --help", "Usage: bac check <FILE>"),
+    ("serve", "--port <P>"),
+    ("serve --port 47899", "--turns <N>"),
+    ("serve --port 0 --turns 2", "0 is not in 1..=65535"),
+    ("serve --port 65536 --turns 2", "65536"),
+    ("serve --port 47899 --turns 0", "0 is not in 1..=1000000"),
+    ("serve --port 47899 --turns 1000001", "1000001"),
+    ("ask --port 0 read 0:5 85", "0 is not in 1..=65535"),
+    ("ask --port 65536 read 0:5 85", "65536"),
+    ("ask --port 47899", "<WORDS>"),
+    ("ask --port 47899 get 10:1 -1 5", "-1"),
+    (
+        "serve --help",
+        "Example: bac serve --port 47808 --turns 600",
+    ),
+    ("ask --help", "Example: bac ask --port 47808 read 0:5 85"),
+    (
+        "ask --help",
+        "Example: bac ask --port 47808 -- put 10:1 -1 AA",
+    ),
+    ("ask --help", "COUNT how many are got"),
+    ("pair --help", "Example: bac pair"),
+    (
+        "answer --help",
+        "Example: bac answer 810A001101040005010C0C000000051955",
+    ),
+    ("decode --help", "Example: bac decode 810A000801001013"),
+    ("check --help", "Example: bac check capture.txt"),
+    ("simulate", "<FILE>"),
+    ("simulate --help", "Usage: bac simulate <FILE>"),
+    ("simulate --help", "Example: bac simulate script.txt"),
+    ("simulate --help", "deliver K"),
+    ("simulate --help", "nodes and datagrams count from 0"),
+];
+
+/// Whether standard error has this text, the output is empty, and the status is 2.
+fn tells(alloc: Global, line: &str, text: &str) -> Result<bool, Fail> {
+    let printed = run_on(alloc, "", NO_LINKS, line)?;
+    let told = std::str::from_utf8(&printed.err)?;
+    Ok(printed.code == 2 && printed.out.is_empty() && told.contains(text))
+}
+
+/// They are told with a text on standard error, and the output stays empty.
+#[test]
+fn tells_of_words_and_help(rt: HostRuntime) -> Result<(), Fail> {
+    for (line, text) in WORDS {
+        holds(tells(rt.alloc(), line, text)?, line)?;
+    }
+    Ok(())
+}

@@ -1,0 +1,366 @@
+//! What `serve`, `ask` and `pair` print, on links and clocks in memory.
+use super::*;
+
+/// A bench, a command line, and its ending.
+type BenchRow = (Bench, &'static str, Ending);
+
+fn ends_so(alloc: Global, (bench, line, ending): &BenchRow) -> Result<bool, Fail> {
+    Ok(run_on(alloc, "", *bench, line)?.is(ending))
+}
+
+fn all_end_so(alloc: Global, rows: &[BenchRow]) -> Result<(), Fail> {
+    for row in rows {
+        holds(ends_so(alloc, row)?, row.1)?;
+    }
+    Ok(())
+}
+
+/// A clock that goes on by 100 milliseconds.
+const STEADY: BenchClock = BenchClock {
+    moment: 0,
+    pace: Pace::On(100),
+};
+
+const HOUSES: Bench = Bench {
+    behind: Behind::Houses,
+    clock: Some(STEADY),
+};
+
+const NOBODY: Bench = Bench {
+    behind: Behind::Nobody,
+    clock: Some(STEADY),
+};
+
+/// Asks that houses answer, in each form that a house has.
+const ANSWERED: &[BenchRow] = &[
+    (
+        HOUSES,
+        "ask --port 47808 read 0:5 85",
+        ("answered read 444290999A\n", "", 0),
+    ),
+    (
+        HOUSES,
+        "ask --port 47808 write 2:1 85 4443340000",
+        ("answered written\n", "", 0),
+    ),
+    (
+        HOUSES,
+        "ask --port 47808 append 10:1 AABBCC",
+        ("answered position 2\n", "", 0),
+    ),
+    (
+        HOUSES,
+        "ask --port 47808 get 10:1 0 10",
+        ("answered file 1 0 4F4B\n", "", 0),
+    ),
+    (
+        HOUSES,
+        "ask --port 47808 get 10:1 0 1",
+        ("answered file 0 0 4F\n", "", 0),
+    ),
+    (
+        HOUSES,
+        "ask --port 47808 -- put 10:1 -1 AA",
+        ("answered position 2\n", "", 0),
+    ),
+    (
+        HOUSES,
+        "ask --port 47808 read 0:9 85",
+        ("answered error 1:31\n", "", 0),
+    ),
+    (
+        HOUSES,
+        "pair",
+        ("answered position 2\nanswered read 444290999A\n", "", 0),
+    ),
+];
+
+#[test]
+fn asks_and_is_answered(rt: HostRuntime) -> Result<(), Fail> {
+    all_end_so(rt.alloc(), ANSWERED)
+}
+
+/// A datagram, the words of an ask that is answered with it, and the ending.
+type Answer = (&'static [u8], &'static str, Ending);
+
+/// Answers that no house gives to such an ask.
+const ANSWERS: &[Answer] = &[
+    (
+        b"\x81\x0A\x00\x0B\x01\x00\x30\x00\x07\x19\x02",
+        "append 10:1 AABBCC",
+        ("answered record 2\n", "", 0),
+    ),
+    (
+        b"\x81\x0A\x00\x09\x01\x00\x60\x00\x0A",
+        "read 0:5 85",
+        ("rejected 10\n", "", 1),
+    ),
+    (
+        b"\x81\x0A\x00\x09\x01\x00\x71\x00\x04",
+        "read 0:5 85",
+        ("aborted 4\n", "", 1),
+    ),
+    // service data of no form
+    (
+        b"\x81\x0A\x00\x0A\x01\x00\x30\x00\x0C\xFF",
+        "read 0:5 85",
+        ("aborted 0\n", "", 1),
+    ),
+    // no answers to a read
+    (
+        b"\x81\x0A\x00\x09\x01\x00\x20\x00\x0C",
+        "read 0:5 85",
+        ("timed-out\n", "", 1),
+    ),
+    (
+        b"\x81\x0A\x00\x0B\x01\x00\x30\x00\x07\x09\x02",
+        "read 0:5 85",
+        ("timed-out\n", "", 1),
+    ),
+];
+
+/// Whether an ask that is answered with that datagram ends so.
+fn is_ended_by(alloc: Global, (answer, words, ending): &Answer) -> Result<bool, Fail> {
+    let bench = Bench {
+        behind: Behind::Answer(answer),
+        clock: Some(STEADY),
+    };
+    let line = format!(in alloc; "ask --port 47808 {words}")?;
+    Ok(run_on(alloc, "", bench, &line)?.is(ending))
+}
+
+#[test]
+fn ends_by_other_answers(rt: HostRuntime) -> Result<(), Fail> {
+    for row in ANSWERS {
+        holds(is_ended_by(rt.alloc(), row)?, row.2.0)?;
+    }
+    Ok(())
+}
+
+/// Nobody is there, and more than 60,000 milliseconds pass between two looks at the clock.
+const LATE: Bench = Bench {
+    behind: Behind::Nobody,
+    clock: Some(BenchClock {
+        moment: 0,
+        pace: Pace::On(60_001),
+    }),
+};
+
+/// Nobody is there, and the clock stands.
+const STILL: Bench = Bench {
+    behind: Behind::Nobody,
+    clock: Some(STANDING),
+};
+
+/// Asks that nobody answers. The first free port is 50,001.
+const UNANSWERED: &[BenchRow] = &[
+    (
+        NOBODY,
+        "ask --port 47808 read 0:5 85",
+        ("timed-out\n", "", 1),
+    ),
+    // no house is at that port
+    (
+        HOUSES,
+        "ask --port 47809 read 0:5 85",
+        ("timed-out\n", "", 1),
+    ),
+    (NOBODY, "pair", ("timed-out\ntimed-out\n", "", 1)),
+    (LATE, "ask --port 47808 read 0:5 85", ("expired\n", "", 1)),
+    (LATE, "pair", ("expired\nexpired\n", "", 1)),
+    (
+        HOUSES,
+        "ask --port 50001 read 0:5 85",
+        ("refused 5\n", "", 1),
+    ),
+    (
+        STILL,
+        "ask --port 47808 read 0:5 85",
+        ("no ending\n", "", 1),
+    ),
+    (STILL, "pair", ("no ending\nno ending\n", "", 1)),
+];
+
+#[test]
+fn asks_and_is_not_answered(rt: HostRuntime) -> Result<(), Fail> {
+    all_end_so(rt.alloc(), UNANSWERED)
+}
+
+/// Whether an ask that puts so many octets into a file prints this line, and ends with status 1.
+fn puts(alloc: Global, octets: usize, line: &'static str) -> Result<bool, Fail> {
+    let zeros = zeros(alloc, octets)?;
+    let words = format!(in alloc; "ask --port 47808 put 10:1 0 {zeros}")?;
+    Ok(run_on(alloc, "", STILL, &words)?.is(&(line, "", 1)))
+}
+
+/// The service data of a put have 13 octets more than what is put, and at most 65,535.
+#[test]
+fn refuses_an_ask_that_is_too_long(rt: HostRuntime) -> Result<(), Fail> {
+    holds(puts(rt.alloc(), 65_522, "no ending\n")?, "65,522")?;
+    holds(puts(rt.alloc(), 65_523, "refused 4\n")?, "65,523")
+}
+
+const FIVE_REQUESTS: Bench = Bench {
+    behind: Behind::Requests(5),
+    clock: Some(STANDING),
+};
+
+/// Each turn performs one request, as long as there are any.
+const SERVED: &[BenchRow] = &[
+    (
+        FIVE_REQUESTS,
+        "serve --port 47808 --turns 3",
+        ("served 3\n", "", 0),
+    ),
+    (
+        FIVE_REQUESTS,
+        "serve --port 47808 --turns 9",
+        ("served 5\n", "", 0),
+    ),
+    (
+        HOUSES,
+        "serve --port 47808 --turns 3",
+        ("served 0\n", "", 0),
+    ),
+];
+
+#[test]
+fn serves_requests(rt: HostRuntime) -> Result<(), Fail> {
+    all_end_so(rt.alloc(), SERVED)
+}
+
+const NO_CLOCK: Bench = Bench {
+    behind: Behind::Nobody,
+    clock: None,
+};
+
+/// The clock tells 5 and then 4.
+const CLOCK_BACK: Bench = Bench {
+    behind: Behind::Nobody,
+    clock: Some(BenchClock {
+        moment: 6,
+        pace: Pace::Back(1),
+    }),
+};
+
+/// Clocks that can't be read, or go back.
+const CLOCKS: &[BenchRow] = &[
+    (
+        NO_CLOCK,
+        "serve --port 47808 --turns 2",
+        ("", "clock fault\n", 3),
+    ),
+    (
+        NO_CLOCK,
+        "ask --port 47808 read 0:5 85",
+        ("", "clock fault\n", 3),
+    ),
+    (NO_CLOCK, "pair", ("", "clock fault\n", 3)),
+    // the second look at the clock
+    (
+        CLOCK_BACK,
+        "serve --port 47808 --turns 1",
+        ("served 0\n", "", 0),
+    ),
+    (
+        CLOCK_BACK,
+        "serve --port 47808 --turns 2",
+        ("", "clock fault\n", 3),
+    ),
+    (
+        CLOCK_BACK,
+        "ask --port 47808 read 0:5 85",
+        ("", "clock fault\n", 3),
+    ),
+    (CLOCK_BACK, "pair", ("", "clock fault\n", 3)),
+];
+
+#[test]
+fn tells_that_the_clock_failed(rt: HostRuntime) -> Result<(), Fail> {
+    all_end_so(rt.alloc(), CLOCKS)
+}
+
+const DEAF: Bench = Bench {
+    behind: Behind::Deaf,
+    clock: Some(STANDING),
+};
+
+/// Links that can't be bound, with the least and the greatest numbers too, and links that do not receive, so that a million turns end in the first.
+const LINKS: &[BenchRow] = &[
+    (
+        NO_LINKS,
+        "serve --port 47899 --turns 2",
+        ("", "link fault\n", 3),
+    ),
+    (
+        NO_LINKS,
+        "serve --port 1 --turns 1",
+        ("", "link fault\n", 3),
+    ),
+    (
+        NO_LINKS,
+        "serve --port 65535 --turns 1000000",
+        ("", "link fault\n", 3),
+    ),
+    (
+        NO_LINKS,
+        "ask --port 47899 read 0:5 85",
+        ("", "link fault\n", 3),
+    ),
+    (
+        NO_LINKS,
+        "ask --port 1 read 0:5 85",
+        ("", "link fault\n", 3),
+    ),
+    (
+        NO_LINKS,
+        "ask --port 65535 read 0:5 85",
+        ("", "link fault\n", 3),
+    ),
+    (
+        NO_LINKS,
+        "ask --port 47899 get 10:1 -- -1 5",
+        ("", "link fault\n", 3),
+    ),
+    (
+        NO_LINKS,
+        "ask --port 47899 -- put 10:1 -1 AA",
+        ("", "link fault\n", 3),
+    ),
+    (NO_LINKS, "pair", ("", "link fault\n", 3)),
+    (
+        DEAF,
+        "serve --port 47808 --turns 1000000",
+        ("", "link fault\n", 3),
+    ),
+    (
+        DEAF,
+        "ask --port 47808 read 0:5 85",
+        ("", "link fault\n", 3),
+    ),
+    (DEAF, "pair", ("", "link fault\n", 3)),
+];
+
+#[test]
+fn tells_that_a_link_failed(rt: HostRuntime) -> Result<(), Fail> {
+    all_end_so(rt.alloc(), LINKS)
+}
+
+/// Words that are no request.
+const NO_REQUEST: &[BenchRow] = &[
+    (
+        NO_LINKS,
+        "ask --port 47899 get 10:1",
+        ("", "bad words\n", 2),
+    ),
+    (
+        NO_LINKS,
+        "ask --port 47899 append 10:1 4G",
+        ("", "bad words\n", 2),
+    ),
+];
+
+#[test]
+fn refuses_words_that_are_no_request(rt: HostRuntime) -> Result<(), Fail> {
+    all_end_so(rt.alloc(), NO_REQUEST)
+}

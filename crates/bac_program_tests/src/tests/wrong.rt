@@ -1,0 +1,20 @@
+//! Rows that do not hold are told.
+use super::*;
+
+/// A command line, and endings of which each is wrong in one thing.
+const WRONG: &[(&str, Ending)] = &[
+    ("answer 810A000801001013", ("none", "", 0)),
+    ("answer 810A000801001013", ("none\n", "x", 0)),
+    ("answer 810A000801001013", ("none\n", "", 1)),
+    ("answer 8G", ("none\n", "bad hex\n", 2)),
+    ("answer 8G", ("", "bad words\n", 2)),
+    ("answer 8G", ("", "bad hex\n", 1)),
+];
+
+#[test]
+fn wrong_rows_do_not_hold(rt: HostRuntime) -> Result<(), Fail> {
+    for (line, ending) in WRONG {
+        holds(!run_on(rt.alloc(), "", NO_LINKS, line)?.is(ending), line)?;
+    }
+    Ok(())
+}
