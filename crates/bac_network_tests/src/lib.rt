@@ -1,4 +1,4 @@
-//! Tests of bac_network: worlds event by event, with what is logged and sent.
+//! Tests of journals, nodes among others, worlds, straight runs and scripts, in rows of text.
 //!
 //! They stand in a crate of their own, so that no crate is proved a second time for its tests.
 #![tactic(auto)]

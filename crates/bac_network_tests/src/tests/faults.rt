@@ -1,6 +1,61 @@
 //! Worlds that are not made, and events that can't happen.
+use super::scene::limits_of;
 use super::*;
-use bac_network::RunFault;
+use bac_network::{Event, NewWorldFault, RunFault, World, WorldFault};
+use bac_store::{Store, house};
+
+/// Nodes and copies that there are not, and the end of the clock; refused asks.
+const IMPOSSIBLE: &str = "
+tick 7
+  line 1: fault 1
+tick 3
+  line 1: fault 1
+tick 2
+  nothing
+noise 3 _
+  line 1: fault 1
+deliver 0
+  line 1: fault 2
+ask 3 1 read 0:5 85
+  line 1: fault 1
+ask 0 3 read 0:5 85
+  line 1: fault 1
+ask 1 1 read 0:5 85
+  refused 5
+advance 1
+  nothing
+advance 18446744073709551615
+  line 1: fault 3
+advance 18446744073709551614
+  nothing
+advance 0
+  nothing
+advance 1
+  line 1: fault 3
+ask 0 1 read 0:5 85
+  asked 0 id 0
+  sent 0 0>1 810A0011_0104_0275000C_0C00000005_1955
+deliver 1
+  line 1: fault 2
+deliver 0
+  performed 0
+  sent 1 1>0 810A0017_0100_30000C_0C00000005_1955_3E_444290999A_3F
+";
+
+const TABLES: &[Table] = &[Table {
+    scene: LARGE_ONES,
+    names: &[],
+    scripts: &[IMPOSSIBLE],
+}];
+
+#[test]
+fn events_that_can_not_happen(rt: HostRuntime) -> Result<(), Fail> {
+    all_play(rt.alloc(), TABLES)
+}
+
+/// The number of the second node's link, its client slots and reply slots, the windows of both nodes, the overtaking limit, and the number of the fault, 0 where
+/// the world is made.
+type Made = (u8, usize, usize, u8, u8, u64, u8);
 
 const MADE: u8 = 0;
 
@@ -11,10 +66,6 @@ const BAD_SLOTS: u8 = 6;
 const BAD_WINDOW: u8 = 7;
 
 const BAD_BOUND: u8 = 8;
-
-/// The number of the second node's link, client slots, reply slots, windows of both nodes, the overtaking limit, and the number of the fault, 0 where the world
-/// is made.
-type Made = (u8, usize, usize, u8, u8, u64, u8);
 
 /// Each limit on both sides, and the order of the faults.
 const LIMITS: &[Made] = &[
@@ -38,93 +89,48 @@ const LIMITS: &[Made] = &[
     (1, 1, 1, 1, 1, u64::MAX, BAD_BOUND),
 ];
 
-fn configs(row: &Made) -> [Config; 2] {
-    let first = Config {
-        link: link(0),
-        limits: LARGE,
-        window: row.3,
-        client_slots: 1,
-        reply_slots: 1,
+/// A node with the house store, of that link, with such slots and that window.
+fn node(
+    alloc: Global,
+    number: u8,
+    client_slots: usize,
+    reply_slots: usize,
+    window: u8,
+) -> Result<(Config, Store), Wrong> {
+    let config = Config {
+        link: link(number),
+        limits: limits_of(alloc, "0275")?,
+        window,
+        client_slots,
+        reply_slots,
     };
-    let second = Config {
-        link: link(row.0),
-        limits: LARGE,
-        window: row.4,
-        client_slots: row.1,
-        reply_slots: row.2,
-    };
-    [first, second]
+    Ok((config, house(alloc)?))
 }
 
-fn made(alloc: Global, row: &Made) -> Result<u8, NoMemory> {
-    let nodes = housed(alloc, &configs(row))?;
+fn made(alloc: Global, row: &Made) -> Result<u8, Wrong> {
+    let mut nodes = Vec::new(alloc);
+    nodes.push(node(alloc, 0, 1, 1, row.3)?)?;
+    nodes.push(node(alloc, row.0, row.1, row.2, row.4)?)?;
     Ok(match World::new(alloc, nodes, row.5) {
         Ok(_) => MADE,
         Err(fault) => fault.number(),
     })
 }
 
-#[test]
-fn worlds_that_are_not_made(rt: HostRuntime) -> Result<(), Fail> {
-    for row in LIMITS {
-        assert!(rt; made(rt.alloc(), row)? == row.6);
+/// The place of the first row that is made otherwise.
+fn made_otherwise(alloc: Global) -> Result<Option<usize>, Wrong> {
+    for (place, row) in LIMITS.iter().enumerate() {
+        if made(alloc, row)? != row.6 {
+            return Ok(Some(place));
+        }
     }
-    Ok(())
+    Ok(None)
 }
 
-const NUMBERS: &[(WorldFault, u8)] = &[
-    (WorldFault::NoSuchNode, 1),
-    (WorldFault::NoSuchDatagram, 2),
-    (WorldFault::ClockEnd, 3),
-    (WorldFault::NoMemory, 4),
-];
-
 #[test]
-fn numbers_of_faults(rt: HostRuntime) {
-    for (fault, number) in NUMBERS {
-        assert!(rt; fault.number() == *number);
-    }
-    assert!(rt; NewWorldFault::NoMemory.number() == 4);
-}
-
-const NO_NODE: Seen = Seen::Fault(WorldFault::NoSuchNode);
-
-const NO_COPY: Seen = Seen::Fault(WorldFault::NoSuchDatagram);
-
-const CLOCK_END: Seen = Seen::Fault(WorldFault::ClockEnd);
-
-/// Nodes and copies that there are not, and the end of the clock; refused asks.
-const IMPOSSIBLE: &[Row] = &[
-    (Do::Tick(7), NO_NODE, 0, ""),
-    (Do::Tick(3), NO_NODE, 0, ""),
-    (Do::Tick(2), Seen::Nothing, 0, ""),
-    (Do::Deliver(0), NO_COPY, 0, ""),
-    (Do::Ask(3, 1, READ, INPUT), NO_NODE, 0, ""),
-    (Do::Ask(0, 3, READ, INPUT), NO_NODE, 0, ""),
-    (
-        Do::Ask(1, 1, READ, INPUT),
-        Seen::Refused(AskFault::SelfPeer),
-        0,
-        "",
-    ),
-    (Do::Advance(1), Seen::Nothing, 0, ""),
-    (Do::Advance(u64::MAX), CLOCK_END, 0, ""),
-    (Do::Advance(u64::MAX - 1), Seen::Nothing, 0, ""),
-    (Do::Advance(0), Seen::Nothing, 0, ""),
-    (Do::Advance(1), CLOCK_END, 0, ""),
-    (
-        Do::Ask(0, 1, READ, INPUT),
-        Seen::Asked(0, 0, 1),
-        1,
-        "0275000C0C",
-    ),
-    (Do::Deliver(1), NO_COPY, 0, ""),
-    (Do::Deliver(0), Seen::Performed(0), 1, "30000C0C00"),
-];
-
-#[test]
-fn events_that_can_not_happen(rt: HostRuntime) -> Result<(), Fail> {
-    Scene::large(rt.alloc())?.plays(rt.alloc(), IMPOSSIBLE)
+fn worlds_that_are_not_made(rt: HostRuntime) {
+    assert!(rt; made_otherwise(rt.alloc()) == Ok(None));
+    assert!(rt; NewWorldFault::NoMemory.number() == 4 && WorldFault::NoMemory.number() == 4);
 }
 
 /// Events of which the third can't happen.
@@ -138,20 +144,19 @@ fn events(alloc: Global) -> Result<Vec<Event>, NoMemory> {
 }
 
 /// A run stops at the first fault and tells its place: what happened before it stands.
-fn stops(alloc: Global, scene: &mut Scene) -> Result<bool, NoMemory> {
+fn stops(alloc: Global) -> Result<bool, Wrong> {
+    let mut world = LARGE_ONES.world(alloc)?;
     let events = events(alloc)?;
-    let whole = scene.world.run(events.get(..2).unwrap_or(&[]));
-    let stopped = scene.world.run(&events);
+    let whole = world.run(events.get(..2).unwrap_or(&[]));
+    let stopped = world.run(&events);
     let fault = RunFault {
         place: 2,
         fault: WorldFault::NoSuchNode,
     };
-    Ok(whole == Ok(()) && stopped == Err(fault) && scene.world.now() == 4)
+    Ok(whole == Ok(()) && stopped == Err(fault) && world.now() == 4)
 }
 
 #[test]
-fn run_that_stops(rt: HostRuntime) -> Result<(), Fail> {
-    let mut scene = Scene::large(rt.alloc())?;
-    assert!(rt; stops(rt.alloc(), &mut scene)?);
-    Ok(())
+fn run_that_stops(rt: HostRuntime) {
+    assert!(rt; stops(rt.alloc()) == Ok(true));
 }

@@ -1,75 +1,83 @@
 //! Files that are nearly full.
 use super::*;
-use bac_store::{File, Object};
 
-/// A store whose file 1 has so many octets.
-fn filed(alloc: Global, count: usize) -> Result<Store, Fail> {
-    let file = File {
-        octets: vec![in alloc; 0u8; count]?,
-        writable: true,
-    };
-    let mut objects = Vec::new(alloc);
-    objects.push(Object {
-        id: ObjectIdentifier {
-            kind: 10,
-            instance: 1,
-        },
-        name: String::from_str(alloc, "log")?,
-        properties: Vec::new(alloc),
-        file: Some(file),
-    })?;
-    Ok(Store::new(alloc, objects)?)
-}
-
-/// A client, and a server whose file 1 has so many octets.
-fn filed_nodes(alloc: Global, count: usize) -> Result<Vec<(Config, Store)>, Fail> {
-    let mut nodes = Vec::new(alloc);
-    nodes.push((config(0, LARGE), house(alloc)?))?;
-    nodes.push((config(1, LARGE), filed(alloc, count)?))?;
-    Ok(nodes)
-}
-
-const ASK: Row = (
-    Do::Ask(0, 1, PUT, APPEND),
-    Seen::Asked(0, 0, 1),
-    1,
-    "810A0017 0104 02750007 C402800001 0E 31FF 63AABBCC 0F",
-);
+const NAMES: Names = &[(
+    "append",
+    "810A0017_0104_02750007_C402800001_0E_31FF_63AABBCC_0F",
+)];
 
 /// A file has at most 60,000 octets: three are not appended to 59,998.
-const FULL: &[Row] = &[
-    ASK,
-    (
-        Do::Deliver(0),
-        Seen::Performed(0),
-        1,
-        "810A000D 0100 5000079103 9114",
-    ),
-    (Do::Deliver(1), Seen::Error(0, 3, 20), 0, ""),
-];
+const FULL: &str = "
+ask 0 1 append 10:1 AABBCC
+  asked 0 id 0
+  sent 0 0>1 <append>
+deliver 0
+  performed 0
+  sent 1 1>0 810A000D_0100_500007_9103_9114
+deliver 1
+  ended 0 answered error 3:20
+ask 0 1 get 10:1 59990 10
+  asked 1 id 1
+  sent 2 0>1 810A0017_0104_02750106_C402800001_0E_3300EA56_210A_0F
+deliver 2
+  performed 1
+  sent 3 1>0 810A001A_0100_300106_11_0E_3300EA56_6508_{8*00}_0F
+deliver 3
+  ended 1 answered file 1 59990 {8*00}
+";
 
 /// They are to 59,997.
-const FITS: &[Row] = &[
-    ASK,
-    (
-        Do::Deliver(0),
-        Seen::Performed(0),
-        1,
-        "810A000D 0100 3000070B00EA5D",
-    ),
-    (Do::Deliver(1), Seen::Written(0, 59_997), 0, ""),
-];
+const FITS: &str = "
+ask 0 1 append 10:1 AABBCC
+  asked 0 id 0
+  sent 0 0>1 <append>
+deliver 0
+  performed 0
+  sent 1 1>0 810A000D_0100_300007_0B00EA5D
+deliver 1
+  ended 0 answered position 59997
+ask 0 1 get 10:1 59990 10
+  asked 1 id 1
+  sent 2 0>1 810A0017_0104_02750106_C402800001_0E_3300EA56_210A_0F
+deliver 2
+  performed 1
+  sent 3 1>0 810A001C_0100_300106_11_0E_3300EA56_650A_{7*00}_AABBCC_0F
+deliver 3
+  ended 1 answered file 1 59990 {7*00}AABBCC
+";
 
-/// The rows go as they say where the server's file 1 has so many octets; whether its store is another one then.
-fn is_appended(alloc: Global, count: usize, rows: &[Row]) -> Result<bool, Fail> {
-    let mut scene = Scene::of(alloc, filed_nodes(alloc, count)?, 128)?;
-    scene.plays(alloc, rows)?;
-    Ok(scene.is_changed(1))
-}
+const TABLES: &[Table] = &[
+    Table {
+        scene: Scene {
+            members: &[
+                LARGE,
+                Member {
+                    after: "put 10:1 0 {59998*00}",
+                    ..LARGE
+                },
+            ],
+            overtake: 128,
+        },
+        names: NAMES,
+        scripts: &[FULL],
+    },
+    Table {
+        scene: Scene {
+            members: &[
+                LARGE,
+                Member {
+                    after: "put 10:1 0 {59997*00}",
+                    ..LARGE
+                },
+            ],
+            overtake: 128,
+        },
+        names: NAMES,
+        scripts: &[FITS],
+    },
+];
 
 #[test]
 fn appends_to_long_files(rt: HostRuntime) -> Result<(), Fail> {
-    assert!(rt; !is_appended(rt.alloc(), 59_998, FULL)?);
-    assert!(rt; is_appended(rt.alloc(), 59_997, FITS)?);
-    Ok(())
+    all_play(rt.alloc(), TABLES)
 }

@@ -1,26 +1,40 @@
 //! Octets that no node sent.
 use super::*;
+use bac_network::{Event, World};
+use bac_rows::octets_of;
 
-/// The number of the link from which they come, the octets, and whether the node looks at them.
+/// A request, fronts of it, and what means no APDU of a peer, from a link of no node: nothing comes of any.
+const FRONTS: &str = "
+noise 1 _
+  nothing
+noise 0 810A
+  nothing
+noise 1 810A0011_0104_0005010C_0C00000005_19
+  nothing
+noise 2 810A0008_0104_0005
+  nothing
+noise 1 810A0011_0104_0005010C_0C00000005_1955
+  nothing
+tick 1
+  nothing
+";
+
+const TABLES: &[Table] = &[Table {
+    scene: LARGE_ONES,
+    names: &[],
+    scripts: &[FRONTS],
+}];
+
+#[test]
+fn nothing_comes_of_noise(rt: HostRuntime) -> Result<(), Fail> {
+    all_play(rt.alloc(), TABLES)
+}
+
+/// The number of the link from which octets come to node 1, the octets, and whether the node looks at them.
 type Heard = (u8, &'static str, bool);
 
-/// Whether node 1 looks at octets, as its latest moment tells; nothing is sent or logged.
-fn is_heard(scene: &mut Scene, from: u8, octets: Vec<u8>) -> Option<bool> {
-    let advanced = scene.step(&Event::Advance { by: 1 });
-    let heard = scene.step(&Event::Noise {
-        node: 1,
-        from: link(from),
-        octets,
-    });
-    if advanced != Seen::Nothing || heard != Seen::Nothing {
-        return None;
-    }
-    if !scene.world.copies().is_empty() || !scene.world.log().is_empty() {
-        return None;
-    }
-    let node = scene.world.nodes().get(1)?;
-    Some(node.latest() == scene.world.now())
-}
+/// A read of the present-value of analog-input 5.
+const REQUEST: &str = "810A001101040005010C0C000000051955";
 
 /// What means no APDU of a peer is looked at and dropped, where it comes from a link of no node; all else is lost.
 const HEARD: &[Heard] = &[
@@ -29,48 +43,61 @@ const HEARD: &[Heard] = &[
     (1, "", false),
     (9, "00", true),
     (9, REQUEST, false),
-    (9, "810A000D 0104 0005010C 0C00000005 1955", true),
-    (9, "810A0011 0105 0005010C 0C00000005 1955", false),
-    (9, "810A0015 010C0005012A 0005010C 0C00000005 1955", false),
-    (9, "810A0009 0100 20000F", false),
-    (2, "810A000D 0104 0005010C 0C00000005 1955", false),
+    // its length is another one; a priority; a source; a SimpleACK
+    (9, "810A000D01040005010C0C000000051955", true),
+    (9, "810A001101050005010C0C000000051955", false),
+    (9, "810A0015010C0005012A0005010C0C000000051955", false),
+    (9, "810A0009010020000F", false),
+    (2, "810A000D01040005010C0C000000051955", false),
 ];
 
-const REQUEST: &str = "810A0011 0104 0005010C 0C00000005 1955";
+/// Whether node 1 looks at octets, as its latest moment tells; None where anything else is otherwise.
+fn is_heard(world: &mut World, from: u8, octets: Vec<u8>) -> Option<bool> {
+    let noise = Event::Noise {
+        node: 1,
+        from: link(from),
+        octets,
+    };
+    let is_told = world.step(&Event::Advance { by: 1 }) == Ok(None)
+        && world.step(&noise) == Ok(None);
+    if !is_told || !world.copies().is_empty() || !world.log().is_empty() {
+        return None;
+    }
+    let node = world.nodes().get(1)?;
+    Some(node.latest() == world.now())
+}
 
-#[test]
-fn octets_that_no_node_sent(rt: HostRuntime) -> Result<(), Fail> {
-    let mut scene = Scene::large(rt.alloc())?;
+/// The first row of which something else comes.
+fn heard_otherwise(alloc: Global) -> Result<Option<&'static str>, Wrong> {
+    let mut world = LARGE_ONES.world(alloc)?;
     for (from, text, wanted) in HEARD {
-        let octets = octets_of(rt.alloc(), text)?;
-        assert!(rt;
-            is_heard(&mut scene, *from, octets) == Some(*wanted),
-            "{}",
-            text
-        );
+        let octets = octets_of(alloc, text)?;
+        if is_heard(&mut world, *from, octets) != Some(*wanted) {
+            return Ok(Some(*text));
+        }
     }
-    Ok(())
+    Ok(None)
 }
 
-/// Each front of a request, the empty one too, is dropped; octets to a node that there is not are a fault.
 #[test]
-fn fronts_of_a_request(rt: HostRuntime) -> Result<(), Fail> {
-    let mut scene = Scene::large(rt.alloc())?;
-    for len in 0..17 {
-        let mut front = octets_of(rt.alloc(), REQUEST)?;
-        front.truncate(len);
-        assert!(rt; is_heard(&mut scene, 9, front) == Some(true));
-    }
-    assert!(rt; comes_to_none(rt.alloc(), &mut scene));
-    Ok(())
+fn octets_that_no_node_sent(rt: HostRuntime) {
+    assert!(rt; heard_otherwise(rt.alloc()) == Ok(None));
 }
 
-/// Whether octets to a node that there is not are a fault.
-fn comes_to_none(alloc: Global, scene: &mut Scene) -> bool {
-    let seen = scene.step(&Event::Noise {
-        node: 3,
-        from: link(9),
-        octets: Vec::new(alloc),
-    });
-    seen == Seen::Fault(WorldFault::NoSuchNode)
+/// Whether each front of the request is looked at, the empty one too.
+fn are_fronts_heard(alloc: Global) -> Result<bool, Wrong> {
+    let mut world = LARGE_ONES.world(alloc)?;
+    for len in 0..17usize {
+        let mut front = octets_of(alloc, REQUEST)?;
+        front.truncate(len);
+        if is_heard(&mut world, 9, front) != Some(true) {
+            return Ok(false);
+        }
+    }
+    Ok(true)
+}
+
+#[test]
+fn fronts_of_a_request(rt: HostRuntime) {
+    assert!(rt; are_fronts_heard(rt.alloc()) == Ok(true));
 }

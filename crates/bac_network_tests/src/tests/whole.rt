@@ -1,185 +1,233 @@
 //! Asks and answers of one datagram each.
 use super::*;
+use bac_network::World;
+use bac_store::{Store, house};
 
-/// The datagram that appends, and its answer.
-const APPENDS: &str = "810A0017 0104 02750007 C402800001 0E 31FF 63AABBCC 0F";
-
-const APPENDED: &str = "810A000B 0100 300007 0902";
+pub(super) const NAMES: Names = &[
+    (
+        "append",
+        "810A0017_0104_02750007_C402800001_0E_31FF_63AABBCC_0F",
+    ),
+    ("appended", "810A000B_0100_300007_0902"),
+    ("read", "810A0011_0104_0275000C_0C00800001_1955"),
+    (
+        "value",
+        "810A0017_0100_30000C_0C00800001_1955_3E_4400000000_3F",
+    ),
+];
 
 /// One append is delivered four times: it is performed once, and the file shows it.
-pub(super) const REPEATED: &[Row] = &[
-    (Do::Ask(0, 1, PUT, APPEND), Seen::Asked(0, 0, 1), 1, APPENDS),
-    (Do::Deliver(0), Seen::Performed(0), 1, APPENDED),
-    (Do::Deliver(0), Seen::Nothing, 1, APPENDED),
-    (Do::Deliver(0), Seen::Nothing, 1, APPENDED),
-    (Do::Deliver(0), Seen::Nothing, 1, APPENDED),
-    (Do::Deliver(1), Seen::Written(0, 2), 0, ""),
-    (Do::Deliver(2), Seen::Nothing, 0, ""),
-    (
-        Do::Ask(0, 1, GET, "C402800001 0E 3100 210A 0F"),
-        Seen::Asked(1, 0, 1),
-        1,
-        "810A0015 0104 02750106 C402800001 0E 3100 210A 0F",
-    ),
-    (
-        Do::Deliver(5),
-        Seen::Performed(1),
-        1,
-        "810A0015 0100 300106 11 0E 3100 65054F4BAABBCC 0F",
-    ),
-    (Do::Deliver(6), Seen::Read(1, 0x4F4B_AABB_CC), 0, ""),
-];
+pub(super) const REPEATED: &str = "
+ask 0 1 append 10:1 AABBCC
+  asked 0 id 0
+  sent 0 0>1 <append>
+deliver 0
+  performed 0
+  sent 1 1>0 <appended>
+deliver 0
+  sent 2 1>0 <appended>
+deliver 0
+  sent 3 1>0 <appended>
+deliver 0
+  sent 4 1>0 <appended>
+deliver 1
+  ended 0 answered position 2
+deliver 2
+  nothing
+ask 0 1 get 10:1 0 10
+  asked 1 id 1
+  sent 5 0>1 810A0015_0104_02750106_C402800001_0E_3100_210A_0F
+deliver 5
+  performed 1
+  sent 6 1>0 810A0015_0100_300106_11_0E_3100_65054F4BAABBCC_0F
+deliver 6
+  ended 1 answered file 1 0 4F4BAABBCC
+";
 
 /// An answer is lost: a tick after 3,000 milliseconds repeats the request, which is not performed again.
-pub(super) const LOST: &[Row] = &[
-    (Do::Ask(0, 1, PUT, APPEND), Seen::Asked(0, 0, 1), 1, APPENDS),
-    (Do::Deliver(0), Seen::Performed(0), 1, APPENDED),
-    (Do::Advance(2_999), Seen::Nothing, 0, ""),
-    (Do::Tick(0), Seen::Nothing, 0, ""),
-    (Do::Advance(1), Seen::Nothing, 0, ""),
-    (Do::Tick(1), Seen::Nothing, 0, ""),
-    (Do::Tick(0), Seen::Nothing, 1, APPENDS),
-    (Do::Deliver(2), Seen::Nothing, 1, APPENDED),
-    (Do::Deliver(3), Seen::Written(0, 2), 0, ""),
-    (Do::Deliver(1), Seen::Nothing, 0, ""),
-    (Do::Advance(3_000), Seen::Nothing, 0, ""),
-    (Do::Tick(0), Seen::Nothing, 0, ""),
-];
+pub(super) const LOST: &str = "
+ask 0 1 append 10:1 AABBCC
+  asked 0 id 0
+  sent 0 0>1 <append>
+deliver 0
+  performed 0
+  sent 1 1>0 <appended>
+advance 2999
+  nothing
+tick 0
+  nothing
+advance 1
+  nothing
+tick 1
+  nothing
+tick 0
+  sent 2 0>1 <append>
+deliver 2
+  sent 3 1>0 <appended>
+deliver 3
+  ended 0 answered position 2
+deliver 1
+  nothing
+advance 3000
+  nothing
+tick 0
+  nothing
+";
 
 /// Nothing is delivered: three repeats, and the end.
-const UNHEARD: &[Row] = &[
-    (Do::Ask(0, 1, PUT, APPEND), Seen::Asked(0, 0, 1), 1, APPENDS),
-    (Do::Advance(3_000), Seen::Nothing, 0, ""),
-    (Do::Tick(0), Seen::Nothing, 1, APPENDS),
-    (Do::Advance(3_000), Seen::Nothing, 0, ""),
-    (Do::Tick(0), Seen::Nothing, 1, APPENDS),
-    (Do::Advance(3_000), Seen::Nothing, 0, ""),
-    (Do::Tick(0), Seen::Nothing, 1, APPENDS),
-    (Do::Advance(3_000), Seen::Nothing, 0, ""),
-    (Do::Tick(0), Seen::TimedOut(0), 0, ""),
-];
+const UNHEARD: &str = "
+ask 0 1 append 10:1 AABBCC
+  asked 0 id 0
+  sent 0 0>1 <append>
+advance 3000
+  nothing
+tick 0
+  sent 1 0>1 <append>
+advance 3000
+  nothing
+tick 0
+  sent 2 0>1 <append>
+advance 3000
+  nothing
+tick 0
+  sent 3 0>1 <append>
+advance 3000
+  nothing
+tick 0
+  ended 0 timed-out
+";
 
 /// The first tick is at 60,000 milliseconds, and repeats the request.
-const AT_DEADLINE: &[Row] = &[
-    (Do::Ask(0, 1, PUT, APPEND), Seen::Asked(0, 0, 1), 1, APPENDS),
-    (Do::Advance(60_000), Seen::Nothing, 0, ""),
-    (Do::Tick(0), Seen::Nothing, 1, APPENDS),
-    (Do::Advance(1), Seen::Nothing, 0, ""),
-    (Do::Tick(0), Seen::Expired(0), 0, ""),
-];
+const AT_DEADLINE: &str = "
+ask 0 1 append 10:1 AABBCC
+  asked 0 id 0
+  sent 0 0>1 <append>
+advance 60000
+  nothing
+tick 0
+  sent 1 0>1 <append>
+advance 1
+  nothing
+tick 0
+  ended 0 expired
+";
 
 /// The first tick is a millisecond later.
-const AFTER_DEADLINE: &[Row] = &[
-    (Do::Ask(0, 1, PUT, APPEND), Seen::Asked(0, 0, 1), 1, APPENDS),
-    (Do::Advance(60_001), Seen::Nothing, 0, ""),
-    (Do::Tick(0), Seen::Expired(0), 0, ""),
-];
+const AFTER_DEADLINE: &str = "
+ask 0 1 append 10:1 AABBCC
+  asked 0 id 0
+  sent 0 0>1 <append>
+advance 60001
+  nothing
+tick 0
+  ended 0 expired
+";
 
-/// Each of them in a world of its own.
+const TABLES: &[Table] = &[Table {
+    scene: LARGE_ONES,
+    names: NAMES,
+    scripts: &[REPEATED, LOST, UNHEARD, AT_DEADLINE, AFTER_DEADLINE],
+}];
+
 #[test]
-fn requests_that_get_no_answer(rt: HostRuntime) -> Result<(), Fail> {
-    for rows in [UNHEARD, AT_DEADLINE, AFTER_DEADLINE] {
-        Scene::house(rt.alloc(), LARGE)?.plays(rt.alloc(), rows)?;
-    }
-    Ok(())
+fn asks_of_one_datagram(rt: HostRuntime) -> Result<(), Fail> {
+    all_play(rt.alloc(), TABLES)
 }
 
 /// A read is performed before a write; the read's request comes again after it, and gets the answer of before.
-pub(super) const READ_BEFORE: &[Row] = &[
-    (
-        Do::Ask(0, 1, READ, "0C00800001 1955"),
-        Seen::Asked(0, 0, 1),
-        1,
-        "810A0011 0104 0275000C 0C00800001 1955",
-    ),
-    (
-        Do::Deliver(0),
-        Seen::Performed(0),
-        1,
-        "810A0017 0100 30000C 0C00800001 1955 3E 4400000000 3F",
-    ),
-    (
-        Do::Ask(2, 1, 15, "0C00800001 1955 3E 4443340000 3F"),
-        Seen::Asked(1, 2, 1),
-        1,
-        "810A0018 0104 0275000F 0C00800001 1955 3E 4443340000 3F",
-    ),
-    (
-        Do::Deliver(2),
-        Seen::Performed(1),
-        1,
-        "810A0009 0100 20000F",
-    ),
-    (
-        Do::Deliver(0),
-        Seen::Nothing,
-        1,
-        "810A0017 0100 30000C 0C00800001 1955 3E 4400000000 3F",
-    ),
-    (Do::Deliver(4), Seen::Read(0, 0x44_0000_0000), 0, ""),
-    (Do::Deliver(3), Seen::Simple(1), 0, ""),
-];
+pub(super) const READ_BEFORE: &str = "
+ask 0 1 read 2:1 85
+  asked 0 id 0
+  sent 0 0>1 <read>
+deliver 0
+  performed 0
+  sent 1 1>0 <value>
+ask 2 1 write 2:1 85 4443340000
+  asked 1 id 0
+  sent 2 2>1 810A0018_0104_0275000F_0C00800001_1955_3E_4443340000_3F
+deliver 2
+  performed 1
+  sent 3 1>2 810A0009_0100_20000F
+deliver 0
+  sent 4 1>0 <value>
+deliver 4
+  ended 0 answered read 4400000000
+deliver 3
+  ended 1 answered written
+";
 
-/// Requests that get an Error.
-const REFUSED: &[Row] = &[
-    (
-        Do::Ask(0, 1, 15, "0C00000005 1955 3E 4400000000 3F"),
-        Seen::Asked(2, 0, 1),
-        1,
-        "810A0018 0104 0275010F 0C00000005 1955 3E 4400000000 3F",
-    ),
-    (
-        Do::Deliver(5),
-        Seen::Performed(2),
-        1,
-        "810A000D 0100 50010F91029128",
-    ),
-    (Do::Deliver(6), Seen::Error(2, 2, 40), 0, ""),
-    (
-        Do::Ask(0, 1, READ, "0C00000009 1955"),
-        Seen::Asked(3, 0, 1),
-        1,
-        "810A0011 0104 0275020C 0C00000009 1955",
-    ),
-    (
-        Do::Deliver(7),
-        Seen::Performed(3),
-        1,
-        "810A000D 0100 50020C9101911F",
-    ),
-    (Do::Deliver(8), Seen::Error(3, 1, 31), 0, ""),
-    (
-        Do::Ask(0, 1, GET, "C402800001 0E 3103 2101 0F"),
-        Seen::Asked(4, 0, 1),
-        1,
-        "810A0015 0104 02750306 C402800001 0E 3103 2101 0F",
-    ),
-    (
-        Do::Deliver(9),
-        Seen::Performed(4),
-        1,
-        "810A000D 0100 50030691 05910B",
-    ),
-    (Do::Deliver(10), Seen::Error(4, 5, 11), 0, ""),
-];
+/// Requests that get an Error, after a write.
+const REFUSED: &str = "
+ask 2 1 write 2:1 85 4443340000
+  asked 0 id 0
+  sent 0 2>1 810A0018_0104_0275000F_0C00800001_1955_3E_4443340000_3F
+deliver 0
+  performed 0
+  sent 1 1>2 810A0009_0100_20000F
+ask 0 1 write 0:5 85 4400000000
+  asked 1 id 0
+  sent 2 0>1 810A0018_0104_0275000F_0C00000005_1955_3E_4400000000_3F
+deliver 2
+  performed 1
+  sent 3 1>0 810A000D_0100_50000F_9102_9128
+deliver 3
+  ended 1 answered error 2:40
+ask 0 1 read 0:9 85
+  asked 2 id 1
+  sent 4 0>1 810A0011_0104_0275010C_0C00000009_1955
+deliver 4
+  performed 2
+  sent 5 1>0 810A000D_0100_50010C_9101_911F
+deliver 5
+  ended 2 answered error 1:31
+ask 0 1 get 10:1 3 1
+  asked 3 id 2
+  sent 6 0>1 810A0015_0104_02750206_C402800001_0E_3103_2101_0F
+deliver 6
+  performed 3
+  sent 7 1>0 810A000D_0100_500206_9105_910B
+deliver 7
+  ended 3 answered error 5:11
+ask 0 1 read 2:1 85
+  asked 4 id 3
+  sent 8 0>1 810A0011_0104_0275030C_0C00800001_1955
+deliver 8
+  performed 4
+  sent 9 1>0 810A0017_0100_30030C_0C00800001_1955_3E_4443340000_3F
+deliver 9
+  ended 4 answered read 4443340000
+";
+
+const READS_AND_WRITES: Table = Table {
+    scene: LARGE_ONES,
+    names: NAMES,
+    scripts: &[READ_BEFORE, REFUSED],
+};
 
 /// Whether these are house stores to which nothing has happened.
-fn are_fresh(alloc: Global, stores: &[Store]) -> Result<bool, NoMemory> {
-    let fresh = house(alloc)?;
+fn are_fresh(stores: &[Store], fresh: &Store) -> bool {
     for store in stores {
-        if !store.same(&fresh) {
-            return Ok(false);
+        if !store.same(fresh) {
+            return false;
         }
     }
-    Ok(true)
+    stores.len() == 3
+}
+
+/// Whether the opening stores are those of the house, and among the nodes' stores that of node 1 alone is another one.
+fn is_written(world: &World, fresh: &Store) -> bool {
+    let is_fresh = |node| world.store(node).is_some_and(|store| store.same(fresh));
+    are_fresh(world.opening(), fresh) && is_fresh(0) && !is_fresh(1) && is_fresh(2)
 }
 
 /// The opening stores stay, and the store of the node that was asked is another one.
 #[test]
-fn a_read_before_a_write(rt: HostRuntime) -> Result<(), Fail> {
-    let mut scene = Scene::house(rt.alloc(), LARGE)?;
-    scene.plays(rt.alloc(), READ_BEFORE)?;
-    scene.plays(rt.alloc(), REFUSED)?;
-    assert!(rt; are_fresh(rt.alloc(), scene.world.opening())? && scene.is_changed(1));
+fn reads_and_writes(rt: HostRuntime) -> Result<(), Fail> {
+    let fresh = house(rt.alloc())?;
+    let table = READS_AND_WRITES;
+    for script in table.scripts {
+        let world = played(rt.alloc(), &table, *script)?;
+        assert!(rt; is_written(&world, &fresh));
+    }
     Ok(())
 }

@@ -1,14 +1,13 @@
 //! Lines of no form: nothing is printed, whatever the lines before them say.
+use super::scripts::run_script;
 use super::*;
 
 /// A script is told to have a bad line of that number, before anything happens.
-fn is_refused(rt: &impl Abort, alloc: Global, script: &str, number: u64) -> Result<(), Fail> {
+fn is_refused(alloc: Global, script: &str, number: u64) -> Result<(), Fail> {
     let printed = run_script(alloc, script);
     let complaint = format!(in alloc; "line {number}: not a script line\n")?;
-    assert_eq!(rt; printed.out.len(), 0, "{script}");
-    assert_eq!(rt; printed.err.as_slice(), complaint.as_bytes(), "{script}");
-    assert_eq!(rt; printed.status, 2, "{script}");
-    Ok(())
+    let is_told = printed.err.as_slice() == complaint.as_bytes() && printed.status == 2;
+    holds(is_told && printed.out.is_empty(), script)
 }
 
 /// First lines of no form.
@@ -47,7 +46,7 @@ const SETTINGS: &[&str] = &[
 #[test]
 fn a_first_line_of_no_form_is_told(rt: HostRuntime) -> Result<(), Fail> {
     for line in SETTINGS {
-        is_refused(&rt, rt.alloc(), line, 1)?;
+        is_refused(rt.alloc(), line, 1)?;
     }
     Ok(())
 }
@@ -128,18 +127,29 @@ const RANGES: &[&str] = &[
 ];
 
 /// The line after an event that would print something.
-fn is_refused_later(rt: &impl Abort, alloc: Global, line: &str) -> Result<(), Fail> {
+fn is_refused_later(alloc: Global, line: &str) -> Result<(), Fail> {
     let script = format!(in alloc; "nodes 2\nask 0 1 read 0:5 85\n{line}\n")?;
-    is_refused(rt, alloc, script.as_str(), 3)
+    is_refused(alloc, script.as_str(), 3)
+}
+
+fn are_refused_later(alloc: Global, lines: &[&str]) -> Result<(), Fail> {
+    for line in lines {
+        is_refused_later(alloc, line)?;
+    }
+    Ok(())
 }
 
 #[test]
 fn a_later_line_of_no_form_is_told_before_any_event(rt: HostRuntime) -> Result<(), Fail> {
-    for line in EVENTS {
-        is_refused_later(&rt, rt.alloc(), line)?;
-    }
-    for line in RANGES {
-        is_refused_later(&rt, rt.alloc(), line)?;
+    are_refused_later(rt.alloc(), EVENTS)?;
+    are_refused_later(rt.alloc(), RANGES)
+}
+
+/// The line with each number that is none.
+fn is_refused_with_each(alloc: Global, before: &str, after: &str) -> Result<(), Fail> {
+    for number in NUMBERS {
+        let line = format!(in alloc; "{before}{number}{after}")?;
+        is_refused_later(alloc, line.as_str())?;
     }
     Ok(())
 }
@@ -147,19 +157,23 @@ fn a_later_line_of_no_form_is_told_before_any_event(rt: HostRuntime) -> Result<(
 #[test]
 fn a_number_of_no_form_is_told(rt: HostRuntime) -> Result<(), Fail> {
     for (before, after) in PLACES {
-        for number in NUMBERS {
-            let line = format!(in rt.alloc(); "{before}{number}{after}")?;
-            is_refused_later(&rt, rt.alloc(), line.as_str())?;
-        }
+        is_refused_with_each(rt.alloc(), before, after)?;
     }
     Ok(())
 }
 
 /// The first of two bad lines is told, whatever the last line lacks.
+const FIRST_OF_TWO: &[(&str, u64)] = &[
+    ("nodes 2\ntick 0\nx\ny", 3),
+    ("nodes 0\nx", 1),
+    ("nodes 2\n\n", 2),
+    ("nodes 2\ntick 9\ntick 0 ", 3),
+];
+
 #[test]
 fn the_first_bad_line_is_told(rt: HostRuntime) -> Result<(), Fail> {
-    is_refused(&rt, rt.alloc(), "nodes 2\ntick 0\nx\ny", 3)?;
-    is_refused(&rt, rt.alloc(), "nodes 0\nx", 1)?;
-    is_refused(&rt, rt.alloc(), "nodes 2\n\n", 2)?;
-    is_refused(&rt, rt.alloc(), "nodes 2\ntick 9\ntick 0 ", 3)
+    for (script, number) in FIRST_OF_TWO {
+        is_refused(rt.alloc(), script, *number)?;
+    }
+    Ok(())
 }

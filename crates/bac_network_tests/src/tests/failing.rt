@@ -1,5 +1,10 @@
 //! Readers and writers that fail.
+use super::worlds::Printed;
 use super::*;
+use bac_simulate::simulate_over;
+use std::io;
+use std::io::{ErrorKind, Read, Write};
+use std::process::Abort;
 
 /// What a script gives whose every line prints something.
 const SCRIPT: &str = "nodes 2\nask 0 1 read 0:5 85\ndeliver 0\ntick 0\ndeliver 9\n";

@@ -1,0 +1,137 @@
+//! Fronts of datagrams that come between the datagrams themselves: log, copies, stores and nodes are the same with noise and without.
+use super::script::{ranged, spelled};
+use super::worlds::run;
+use super::*;
+use bac_network::{Event, World};
+
+/// A write in three segments whose last SegmentACK and answer are lost: two segments are sent again, and the first of them gets the kept answer.
+const WRITE: &str = "\
+ask 0 1 put 10:1 0 {100*AB}
+0,1..3: deliver #
+advance 2000
+tick 0
+deliver 6
+deliver 8";
+
+/// A read whose reply goes in 90 segments is aborted for a client that takes none and for one that takes two. A third gets it: one segment is lost, and the
+/// window is sent again from it on, three times more by ticks; then the transfer stops, until the request comes again.
+const READS: &str = "\
+ask 2 1 read 2:1 28
+0,1..1: deliver #
+ask 3 1 read 2:1 28
+2,3..3: deliver #
+ask 0 1 read 2:1 28
+4,5..47: deliver #
+deliver 49
+deliver 72
+advance 2000
+tick 1
+advance 2000
+tick 1
+advance 2000
+tick 1
+advance 2000
+tick 1
+tick 0
+deliver 201";
+
+/// Octets come to a node from a link of no node.
+fn comes(world: &mut World, node: usize, octets: Vec<u8>) -> Result<(), Wrong> {
+    let from = link(9);
+    match world.step(&Event::Noise { node, from, octets }) {
+        Ok(None) => Ok(()),
+        _ => Err(Wrong::Line),
+    }
+}
+
+/// Each proper front of these octets comes to a node.
+fn fronts(alloc: Global, world: &mut World, node: usize, whole: &[u8]) -> Result<(), Wrong> {
+    for len in 0..whole.len() {
+        let front = Vec::from_slice(alloc, whole.get(..len).unwrap_or(&[]))?;
+        comes(world, node, front)?;
+    }
+    Ok(())
+}
+
+/// Each proper front of these octets comes to each node.
+fn fronts_for_all(alloc: Global, world: &mut World, whole: &[u8]) -> Result<(), Wrong> {
+    for node in 0..world.nodes().len() {
+        fronts(alloc, world, node, whole)?;
+    }
+    Ok(())
+}
+
+/// The octets of a copy.
+fn octets_of(alloc: Global, world: &World, number: usize) -> Result<Vec<u8>, Wrong> {
+    match world.copies().get(number) {
+        Some(copy) => Ok(Vec::from_slice(alloc, &copy.octets)?),
+        None => Err(Wrong::Line),
+    }
+}
+
+/// Each proper front of each datagram that was sent comes to each node.
+fn noise(alloc: Global, world: &mut World) -> Result<(), Wrong> {
+    for number in 0..world.copies().len() {
+        let whole = octets_of(alloc, world, number)?;
+        fronts_for_all(alloc, world, &whole)?;
+    }
+    Ok(())
+}
+
+/// A line happens, for each of its numbers, with noise before each copy that comes where that is so; nothing is refused.
+fn happens(alloc: Global, world: &mut World, line: &str, is_noisy: bool) -> Result<(), Wrong> {
+    let (numbers, line) = ranged(line)?;
+    let is_noisy = is_noisy && line.starts_with("deliver");
+    for place in 0..numbers.count {
+        if is_noisy {
+            noise(alloc, world)?;
+        }
+        let line = spelled(alloc, &[], line, numbers.at(place))?;
+        let out = run(alloc, world, &line)?.told()?;
+        if out.starts_with(b"refused") || out.starts_with(b"line") {
+            return Err(Wrong::Line);
+        }
+    }
+    Ok(())
+}
+
+/// The world after all lines. At last each node hears noise, so that all know the same latest moment.
+fn after(alloc: Global, scene: &Scene, lines: &str, is_noisy: bool) -> Result<World, Wrong> {
+    let mut world = scene.world(alloc)?;
+    for line in lines.lines() {
+        happens(alloc, &mut world, line, is_noisy)?;
+    }
+    fronts_for_all(alloc, &mut world, &[0])?;
+    Ok(world)
+}
+
+/// Whether the worlds with noise and without are the same, with so many facts and copies.
+fn are_same(
+    alloc: Global,
+    scene: &Scene,
+    lines: &str,
+    facts: usize,
+    copies: usize,
+) -> Result<bool, Wrong> {
+    let quiet = after(alloc, scene, lines, false)?;
+    let noisy = after(alloc, scene, lines, true)?;
+    let is_counted = quiet.log().len() == facts && quiet.copies().len() == copies;
+    Ok(is_counted && quiet.same(&noisy))
+}
+
+/// A client and a server that take APDUs of 50 octets.
+const TWO: Scene = Scene {
+    members: &[SMALL, SMALL],
+    overtake: 128,
+};
+
+#[test]
+fn noise_around_a_write(rt: HostRuntime) {
+    assert!(rt; are_same(rt.alloc(), &TWO, WRITE, 3, 9) == Ok(true));
+}
+
+#[test]
+fn noise_around_reads(rt: HostRuntime) {
+    let scene = replies::FOUR_READERS;
+    assert!(rt; are_same(rt.alloc(), &scene, READS, 6, 234) == Ok(true));
+}
