@@ -1,0 +1,10 @@
+pub mod Fields
+pub mod Packets
+pub mod Views
+pub mod Ports
+pub mod Texts
+pub mod Udp
+pub mod Ipv4
+pub mod Ipv6
+pub mod Links
+pub mod Frames
