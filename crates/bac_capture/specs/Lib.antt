@@ -8,3 +8,4 @@ pub mod Ipv4
 pub mod Ipv6
 pub mod Links
 pub mod Frames
+pub mod Runs

@@ -10,6 +10,7 @@ mod link;
 mod packet;
 mod ports;
 mod reading;
+mod run;
 mod udp;
 
 pub use fault::PacketFault;
