@@ -9,3 +9,8 @@ pub mod Ipv6
 pub mod Links
 pub mod Frames
 pub mod Runs
+pub mod Orders
+pub mod Forms
+pub mod Files
+pub mod Blocks
+pub mod BlockViews

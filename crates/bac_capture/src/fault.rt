@@ -1,6 +1,6 @@
-//! What is wrong with the packet in a frame.
+//! What is wrong with the packet in a frame, and with a capture file.
 ghost use Rattle.std.specs.Prelude.{Some};
-ghost use Rattle.bac_capture.specs.Texts.{packet_fault_text};
+ghost use Rattle.bac_capture.specs.Texts.{packet_fault_text, file_fault_text};
 
 use std::fmt;
 
@@ -26,6 +26,35 @@ impl fmt::Display for PacketFault {
             PacketFault::IpHeader => write!(f, "bad IP header"),
             PacketFault::UdpLength => write!(f, "bad UDP length"),
             PacketFault::Fragment => write!(f, "fragment"),
+        }
+    }
+}
+
+/// Why a capture file cannot be read on.
+#[derive(Clone, Copy, Debug, PartialEq, Eq)]
+pub enum FileFault {
+    /// The file ends within a record or a block.
+    Cut,
+    /// A section of pcapng whose byte order is none.
+    ByteOrder,
+    /// The length of a block is no multiple of four, or less than what stands in it.
+    BlockLength,
+    /// A frame of an interface that the section has not described.
+    NoInterface,
+    /// A section with more than 1,024 interfaces.
+    TooManyInterfaces,
+}
+
+impl fmt::Display for FileFault {
+    ghost output = { λ x. Some (file_fault_text x) };
+
+    fn fmt<W: fmt::Write>(&self, f: &mut fmt::Formatter<W>) -> fmt::Result {
+        match self {
+            FileFault::Cut => write!(f, "file ends early"),
+            FileFault::ByteOrder => write!(f, "bad byte order"),
+            FileFault::BlockLength => write!(f, "bad block length"),
+            FileFault::NoInterface => write!(f, "no such interface"),
+            FileFault::TooManyInterfaces => write!(f, "too many interfaces"),
         }
     }
 }

@@ -52,11 +52,7 @@ fn take_part<R: BufRead>(
 
 /// Reads a run of so many octets, in the place of what `kept` has; whether the input had that many. Of a long run the front is
 /// kept.
-pub(crate) fn read_run<R: BufRead>(
-    input: &mut R,
-    count: usize,
-    kept: &mut Vec<u8>,
-) -> io::Result<bool>
+pub fn read_run<R: BufRead>(input: &mut R, count: usize, kept: &mut Vec<u8>) -> io::Result<bool>
     ensures { IfOk result (IsRun (R.remaining input.old) (R.remaining input.new) count kept.new.items) }
 {
     kept.clear();
