@@ -8,6 +8,10 @@ use Rattle.bac_capture.specs.declared.form.Form.{Form}
 use Rattle.bac_capture.specs.declared.form.Form.TheVariants.{Records, Blocks}
 use Rattle.bac_capture.specs.declared.order.Order.{Order}
 use Rattle.bac_capture.specs.Files.{head_len_of, body_len_of, record_at, head_at, body_at, seen, Record, Broken, IsRecord, IsBody, IsBodyOf}
+use Rattle.bac_capture.specs.declared.file.Layout.{Layout}
+use Rattle.bac_capture.specs.Begins.{header_layout, IsBegun}
+use Rattle.bac_capture.specs.Blocks.{LayoutView}
+use Rattle.bac_capture.specs.BlockViews.{layout_view}
 use Rattle.bac_capture.specs.Runs.{RUN_LIMIT, kept, IsRun}
 use Rattle.bac_capture.proofs.Runs.{take_all}
 
@@ -82,3 +86,25 @@ pub if_read : {E : Type 0} (form : Form) (order : Order) (old mid new : Option (
     → IfOk r (IsBody shown (body_len_of form order shown) mid new body) → IfOk r (IsRecord form order old new head body)
 if_read form order old mid new n head shown body w (Ok answer) e r len same b = head_whole form order old mid new n head shown body w answer e r len same b
 if_read form order old mid new n head shown body w (Err error) e r len same b = tt
+
+-- ---- the header of a file
+
+header_len : (xs header : List ℕ) → header ≡ kept (take 24 xs) → length header ≡ min 24 (length xs)
+header_len xs header e = omega (arith, ap length e, length-take RUN_LIMIT (take 24 xs), length-take 24 xs)
+
+pub header_cut : (order : Order) (old new : Option (List ℕ)) (header : List ℕ) (w : Bool) → IsRun old new 24 header w → length header ≢ 24
+    → IsBegun Records order old new (Err Cut)
+header_cut order None new header w r other = tt
+header_cut order (Some xs) new header w r other =
+    let less : length xs < 24 = omega (arith, other, header_len xs header r.keeps) in
+    let short : nat_lt (length xs) 24 ≡ true = grind (arith, nat_tests, less) in
+    rw short refl
+
+pub header_read : (order : Order) (old new : Option (List ℕ)) (header shown : List ℕ) (w : Bool) (layout : Layout) → IsRun old new 24 header w
+    → length header ≡ 24 → shown ≡ header → layout_view layout ≡ header_layout order shown → IsBegun Records order old new (Ok layout)
+header_read order None new header shown w layout r len same is = tt
+header_read order (Some xs) new header shown w layout r len same is =
+    let enough : 24 ≤ length xs = omega (arith, len, header_len xs header r.keeps) in
+    let long : nat_lt (length xs) 24 ≡ false = grind (arith, nat_tests, enough) in
+    let front : shown ≡ take 24 xs = same ∙ r.keeps ∙ take_all (take 24 xs) RUN_LIMIT (omega (arith, length-take 24 xs)) in
+    (drop 24 xs, r.is, rw long (ap (λ (v : LayoutView). Ok (v, drop 24 xs)) (ap (header_layout order) (sym front) ∙ sym is)))

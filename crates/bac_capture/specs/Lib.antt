@@ -14,3 +14,5 @@ pub mod Forms
 pub mod Files
 pub mod Blocks
 pub mod BlockViews
+pub mod Bvlc
+pub mod Begins

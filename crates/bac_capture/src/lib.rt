@@ -1,7 +1,9 @@
 //! Capture files: which UDP datagrams of BACnet/IP the frames of a capture carry.
 #![tactic(auto)]
 
+mod begin;
 mod block;
+mod bvlc;
 mod fault;
 mod fields;
 mod file;
@@ -18,6 +20,7 @@ mod run;
 mod udp;
 
 pub use block::{Block, Frame};
+pub use bvlc::{BvlcFunction, is_other};
 pub use fault::{FileFault, PacketFault};
 pub use file::{Interface, Layout};
 pub use form::{Form, form_of};
