@@ -1,0 +1,70 @@
+//! How a capture file begins.
+ghost use Rattle.std.specs.Prelude.{◌≡◌, length, IfOk};
+ghost use Rattle.bac_capture.specs.declared.form.Form.TheVariants.{Records};
+ghost use Rattle.bac_capture.specs.Begins.{header_layout, IsBegun};
+ghost use Rattle.bac_capture.specs.BlockViews.{layout_view};
+
+use crate::fault::FileFault;
+use crate::file::{Interface, Layout};
+use crate::form::Form;
+use crate::order::Order;
+use crate::run::read_run;
+use std::alloc::{AllocError, Global};
+use std::io;
+use std::io::BufRead;
+
+/// How many octets the header of pcap has.
+const HEADER: usize = 24;
+
+/// What the header of pcap says: all frames have the link layer that it tells.
+fn header_layout(alloc: Global, order: Order, header: &[u8]) -> Result<Layout, AllocError>
+    requires { length header.now ≡ 24 }
+    ensures { IfOk result (λ layout. layout_view layout ≡ header_layout order header.now) }
+{
+    let link = (order.long(&header[20..]) % 0x1_0000) as u16;
+    let mut interfaces = Vec::new(alloc);
+    interfaces.push(Interface { link, most: 0 })?;
+    Ok(Layout {
+        form: Form::Records,
+        order,
+        interfaces,
+    })
+}
+
+/// Reads the header of pcap.
+fn read_header<R: BufRead>(
+    alloc: Global,
+    order: Order,
+    input: &mut R,
+) -> io::Result<Result<Layout, FileFault>>
+    ensures { IfOk result (IsBegun Records order (R.remaining input.old) (R.remaining input.new)) }
+{
+    let mut header = Vec::new(alloc);
+    let _ = read_run(input, HEADER, &mut header)?;
+    if header.len() != HEADER {
+        return Ok(Err(FileFault::Cut));
+    }
+    Ok(Ok(header_layout(alloc, order, &header)?))
+}
+
+impl Layout {
+    /// Reads the header of a capture file of that form and byte order, as its first four octets tell them: how the rest is to be
+    /// read. `Cut` where the file ends within the header.
+    pub fn begin<R: BufRead>(
+        alloc: Global,
+        form: Form,
+        order: Order,
+        input: &mut R,
+    ) -> io::Result<Result<Layout, FileFault>>
+        ensures { IfOk result (IsBegun form order (R.remaining input.old) (R.remaining input.new)) }
+    {
+        match form {
+            Form::Records => read_header(alloc, order, input),
+            Form::Blocks => Ok(Ok(Layout {
+                form,
+                order,
+                interfaces: Vec::new(alloc),
+            })),
+        }
+    }
+}

@@ -1,0 +1,92 @@
+//! The functions of a BVLL (Annex J).
+ghost use Rattle.std.specs.Prelude.{◌≡◌};
+ghost use Rattle.bac_capture.specs.Bvlc.{function_of, function_name, is_framed, is_other};
+
+use byteorder::{BigEndian, ByteOrder};
+
+/// The functions of a BVLL over IPv4 (clause J.2), by their numbers.
+#[derive(Clone, Copy, Debug, PartialEq, Eq)]
+pub enum BvlcFunction {
+    Result = 0x00,
+    WriteBroadcastDistributionTable = 0x01,
+    ReadBroadcastDistributionTable = 0x02,
+    ReadBroadcastDistributionTableAck = 0x03,
+    ForwardedNpdu = 0x04,
+    RegisterForeignDevice = 0x05,
+    ReadForeignDeviceTable = 0x06,
+    ReadForeignDeviceTableAck = 0x07,
+    DeleteForeignDeviceTableEntry = 0x08,
+    DistributeBroadcastToNetwork = 0x09,
+    OriginalUnicastNpdu = 0x0A,
+    OriginalBroadcastNpdu = 0x0B,
+    SecureBvll = 0x0C,
+}
+
+impl BvlcFunction {
+    /// The function of a number; None of one above 0C.
+    pub fn of(number: u8) -> Option<BvlcFunction>
+        ensures { result ≡ function_of number }
+    {
+        match number {
+            0x00 => Some(BvlcFunction::Result),
+            0x01 => Some(BvlcFunction::WriteBroadcastDistributionTable),
+            0x02 => Some(BvlcFunction::ReadBroadcastDistributionTable),
+            0x03 => Some(BvlcFunction::ReadBroadcastDistributionTableAck),
+            0x04 => Some(BvlcFunction::ForwardedNpdu),
+            0x05 => Some(BvlcFunction::RegisterForeignDevice),
+            0x06 => Some(BvlcFunction::ReadForeignDeviceTable),
+            0x07 => Some(BvlcFunction::ReadForeignDeviceTableAck),
+            0x08 => Some(BvlcFunction::DeleteForeignDeviceTableEntry),
+            0x09 => Some(BvlcFunction::DistributeBroadcastToNetwork),
+            0x0A => Some(BvlcFunction::OriginalUnicastNpdu),
+            0x0B => Some(BvlcFunction::OriginalBroadcastNpdu),
+            0x0C => Some(BvlcFunction::SecureBvll),
+            _ => None,
+        }
+    }
+
+    /// The name that the standard has for it.
+    pub fn name(self) -> &'static str
+        ensures { result.now ≡ function_name self }
+    {
+        match self {
+            BvlcFunction::Result => "BVLC-Result",
+            BvlcFunction::WriteBroadcastDistributionTable => "Write-Broadcast-Distribution-Table",
+            BvlcFunction::ReadBroadcastDistributionTable => "Read-Broadcast-Distribution-Table",
+            BvlcFunction::ReadBroadcastDistributionTableAck => {
+                "Read-Broadcast-Distribution-Table-Ack"
+            }
+            BvlcFunction::ForwardedNpdu => "Forwarded-NPDU",
+            BvlcFunction::RegisterForeignDevice => "Register-Foreign-Device",
+            BvlcFunction::ReadForeignDeviceTable => "Read-Foreign-Device-Table",
+            BvlcFunction::ReadForeignDeviceTableAck => "Read-Foreign-Device-Table-Ack",
+            BvlcFunction::DeleteForeignDeviceTableEntry => "Delete-Foreign-Device-Table-Entry",
+            BvlcFunction::DistributeBroadcastToNetwork => "Distribute-Broadcast-To-Network",
+            BvlcFunction::OriginalUnicastNpdu => "Original-Unicast-NPDU",
+            BvlcFunction::OriginalBroadcastNpdu => "Original-Broadcast-NPDU",
+            BvlcFunction::SecureBvll => "Secure-BVLL",
+        }
+    }
+}
+
+/// Whether the length that a BVLL tells is that of its datagram.
+fn is_framed(datagram: &[u8]) -> bool
+    ensures { result ≡ is_framed datagram.now }
+{
+    datagram.len() >= 4 && usize::from(BigEndian::read_u16(&datagram[2..])) == datagram.len()
+}
+
+/// Whether a datagram is a BVLL of another function than Original-Unicast-NPDU: of one over IPv4 (81), a function that Annex J
+/// has; or any over IPv6 (82, Annex U).
+pub fn is_other(datagram: &[u8]) -> bool
+    ensures { result ≡ is_other datagram.now }
+{
+    if !is_framed(datagram) {
+        return false;
+    }
+    match datagram[0] {
+        0x81 => datagram[1] <= 0x0C && datagram[1] != 0x0A,
+        0x82 => true,
+        _ => false,
+    }
+}

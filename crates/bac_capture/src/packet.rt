@@ -1,0 +1,48 @@
+//! What stands in a frame, layer by layer.
+
+/// One end of a datagram.
+#[derive(Clone, Copy, Debug)]
+pub struct Endpoint<'a> {
+    /// The address: 4 octets of IPv4, or 16 of IPv6.
+    pub host: &'a [u8],
+    /// The UDP port.
+    pub port: u16,
+}
+
+/// A UDP datagram.
+#[derive(Clone, Copy, Debug)]
+pub struct Datagram<'a> {
+    /// Who sent it.
+    pub from: Endpoint<'a>,
+    /// Whom it was sent to.
+    pub to: Endpoint<'a>,
+    /// Its octets.
+    pub octets: &'a [u8],
+}
+
+/// The two versions of IP.
+#[derive(Clone, Copy, Debug, PartialEq, Eq)]
+pub(crate) enum Network {
+    Ipv4,
+    Ipv6,
+}
+
+/// Which part of an IP packet a frame has.
+#[derive(Clone, Copy, Debug, PartialEq, Eq)]
+pub(crate) enum Part {
+    Whole,
+    /// The first fragment of several.
+    First,
+    /// Another fragment than the first.
+    Later,
+}
+
+/// An IP packet of UDP.
+#[derive(Clone, Copy, Debug)]
+pub(crate) struct Packet<'a> {
+    pub from: &'a [u8],
+    pub to: &'a [u8],
+    pub part: Part,
+    /// What stands after the headers of IP.
+    pub contents: &'a [u8],
+}

@@ -1,0 +1,4 @@
+//! What the tests share.
+
+mod frames;
+mod rows;
