@@ -22,8 +22,8 @@ fn answered(
     run: &Run,
 ) -> Result<Result<Option<usize>, WorldFault>, Wrong> {
     let request = request_of(alloc, run.2)?;
-    Ok(match straight(alloc, world, run.0, run.1, request) {
-        Ok(run) => match run.ending {
+    Ok(match straight(world, run.0, run.1, request) {
+        Ok(run) => match run.ending(world) {
             Some(Ending::Answered(AnyReply::Complex(_))) => Ok(Some(run.deliveries)),
             _ => Ok(None),
         },
