@@ -76,7 +76,7 @@ const READS: &[Row] = &[
     (
         12,
         "0C00000005194D",
-        Want::Complex("0C00000005194D3E7500666C6F773F"),
+        Want::Complex("0C00000005194D3E750500666C6F773F"),
     ),
     (
         12,
@@ -278,7 +278,7 @@ fn is_described(
 ) -> Result<Result<(), ChangeFault>, Fail> {
     let object = ObjectIdentifier::new(2, 1).ok_or("no such identifier")?;
     let mut octets = octets_of(alloc, head)?;
-    octets.resize(octets.len() + len, b'a')?;
+    octets.extend_from_slice(&octets_alike(alloc, b'a', len)?)?;
     Ok(store.set_value(alloc, object, 28, &octets))
 }
 
