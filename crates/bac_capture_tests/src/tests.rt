@@ -1,4 +1,6 @@
 //! What the tests share.
 
+mod file_rows;
+mod files;
 mod frames;
 mod rows;

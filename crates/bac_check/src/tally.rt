@@ -1,0 +1,59 @@
+//! How many frames there are so far, and what they are.
+ghost use Rattle.std.specs.Prelude.{◌≡◌, ◌≤◌, ◌+◌, ◌-◌, ◌^◌, ◌<◌, ◌↔◌, IsSome, IfSome};
+ghost use Rattle.bac_check.specs.Counts.{good_in, bad_in, other_in, IsTallied};
+
+use crate::fault::Verdict;
+use bac_text::Status;
+
+/// The frames so far.
+#[derive(Clone, Copy)]
+pub(crate) struct Tally {
+    pub frames: u64,
+    pub good: u64,
+    pub bad: u64,
+    pub other: u64,
+    pub ghost counted: { good + bad + other ≤ frames },
+}
+
+impl Tally {
+    pub(crate) const NONE: Tally = Tally {
+        frames: 0,
+        good: 0,
+        bad: 0,
+        other: 0,
+    };
+
+    /// The frames with one more; None exactly where their number does not fit.
+    pub(crate) fn with(self, verdict: Verdict) -> Option<Tally>
+        ensures some { IsSome result ↔ (self.frames < 2 ^ 64 - 1) }
+        ensures frames { IfSome result (λ t. t.frames ≡ self.frames + 1) }
+        ensures good { IfSome result (λ t. t.good ≡ self.good + good_in verdict) }
+        ensures bad { IfSome result (λ t. t.bad ≡ self.bad + bad_in verdict) }
+        ensures other { IfSome result (λ t. t.other ≡ self.other + other_in verdict) }
+    {
+        let frames = self.frames.checked_add(1)?;
+        let (good, bad, other) = match verdict {
+            Verdict::Nothing => (0, 0, 0),
+            Verdict::Good => (1, 0, 0),
+            Verdict::Bad(_) => (0, 1, 0),
+            Verdict::Other => (0, 0, 1),
+        };
+        Some(Tally {
+            frames,
+            good: self.good + good,
+            bad: self.bad + bad,
+            other: self.other + other,
+        })
+    }
+
+    /// Whether no frame is bad.
+    pub(crate) fn status(self) -> Status
+        ensures { IsTallied self.bad result }
+    {
+        if self.bad == 0 {
+            Status::Done
+        } else {
+            Status::Faulty
+        }
+    }
+}
