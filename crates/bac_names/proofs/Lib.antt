@@ -1,0 +1,3 @@
+pub mod Inverse
+pub mod Appended
+pub mod Looking
