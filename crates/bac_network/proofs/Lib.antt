@@ -2,6 +2,7 @@ pub mod Histories
 pub mod Entered
 pub mod Happening
 pub mod Delivered
+pub mod Changed
 pub mod Alike
 pub mod Asked
 pub mod Makers

@@ -1,16 +1,16 @@
 //! Changes that nodes make to their own stores.
-ghost use Rattle.std.specs.Prelude.{◌≡◌, ◌<◌, ℕ, OnErr, OnOk, None, Some, length, slice_get};
+ghost use Rattle.std.specs.Prelude.{◌≡◌, ◌+◌, ◌<◌, ◌≤◌, ℕ, OnErr, OnOk, None, Some, length, slice_get, vec_capacity};
 ghost use Rattle.bac_store.specs.AtNode.{change_fault};
 ghost use Rattle.bac_store.specs.Views.{change_view};
 ghost use Rattle.bac_world.specs.Node as node_view;
 ghost use Rattle.bac_world.specs.World.{IsChanged};
-ghost use Rattle.bac_world.specs.World.Event as happening;
+ghost use Rattle.bac_world.specs.World.Event.{Change as Happening};
 ghost use Rattle.bac_network.specs.Networks.{world_of};
 ghost use Rattle.bac_network.specs.Steps.{Happens};
 
 use crate::fact::Fact;
 use crate::fault::WorldFault;
-use crate::going::change as change_node;
+use crate::going::change_node;
 use crate::network::Network;
 use bac_store::Change;
 use bac_value::NoMemory;
@@ -25,7 +25,7 @@ impl Network {
         change: &Change,
     ) -> Result<(), WorldFault>
         ensures happens { (overtake : ℕ)
-            → Happens overtake (world_of self.old) (happening.Change node (change_view change.now)) result (world_of self.new) }
+            → Happens overtake (world_of self.old) (Happening node (change_view change.now)) result (world_of self.new) }
         ensures links { self.new.journal.links ≡ self.old.journal.links }
     {
         if node >= self.nodes.len() {
@@ -47,6 +47,19 @@ impl Network {
     {
         let kept = change.copy(alloc)?;
         self.make_room(1, 0)?;
+        self.make_change(node, change, kept)
+    }
+
+    /// A node that there is makes a change without a fault, and the copy of it enters the log, which has room for it.
+    fn make_change(&mut self, node: usize, change: &Change, kept: Change) -> Result<(), NoMemory>
+        requires there { node < length self.old.nodes.items }
+        requires may { (a : node_view.Node) → slice_get self.old.nodes.items node ≡ Some a → change_fault a.store (change_view change.now) ≡ None }
+        requires kept { change_view kept ≡ change_view change.now }
+        requires room { length self.old.log.items + 1 ≤ vec_capacity self.old.log }
+        ensures changed { OnOk result (IsChanged (world_of self.old) node (change_view change.now) (world_of self.new)) }
+        ensures err { OnErr result (world_of self.new ≡ world_of self.old) }
+        ensures links { self.new.journal.links ≡ self.old.journal.links }
+    {
         change_node(&mut self.nodes, node, change)?;
         self.log.push_reserved(Fact::Changed { node, change: kept });
         Ok(())
