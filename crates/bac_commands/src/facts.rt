@@ -6,6 +6,6 @@ mod reply;
 pub use ending::print_ending;
 pub(crate) use ending::print_ending_line;
 pub use lines::{
-    print_asked, print_changed, print_ended, print_fault, print_nothing, print_performed, print_refused,
-    print_sent,
+    print_asked, print_changed, print_ended, print_fault, print_nothing, print_performed,
+    print_refused, print_sent,
 };

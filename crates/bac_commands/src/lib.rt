@@ -9,7 +9,7 @@ mod online;
 
 pub use answering::{CLIENT, answer_datagram, answer_over};
 pub use facts::{
-    print_asked, print_changed, print_ended, print_ending, print_fault, print_nothing, print_performed,
-    print_refused, print_sent,
+    print_asked, print_changed, print_ended, print_ending, print_fault, print_nothing,
+    print_performed, print_refused, print_sent,
 };
 pub use online::{ask, clock_fault, house_station, link_fault, local, pair, read_question, serve};

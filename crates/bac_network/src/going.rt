@@ -103,11 +103,7 @@ pub(crate) fn ask(
 }
 
 /// A node makes a change of its own store that has no fault.
-pub(crate) fn change_node(
-    nodes: &mut [Node],
-    i: usize,
-    change: &Change,
-) -> Result<(), NoMemory>
+pub(crate) fn change_node(nodes: &mut [Node], i: usize, change: &Change) -> Result<(), NoMemory>
     requires there { i < length nodes.old }
     requires may { (a : NodeView) → slice_get nodes.old i ≡ Some a → change_fault a.store (change_view change.now) ≡ None }
     ensures went { OnOk result (Goes nodes.old i (λ a b. b ≡ with_change (change_view change.now) a) nodes.new) }

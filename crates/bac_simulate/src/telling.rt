@@ -8,7 +8,8 @@ ghost use Rattle.bac_commands.specs.Facts.{sent_line};
 ghost use Rattle.bac_simulate.specs.Told.{asked_text, copies_text, fact_text, facts_text, is_as_before, news_text, outcome_text};
 
 use bac_commands::{
-    print_asked, print_changed, print_ended, print_nothing, print_performed, print_refused, print_sent,
+    print_asked, print_changed, print_ended, print_nothing, print_performed, print_refused,
+    print_sent,
 };
 use bac_journal::{Copy, Note};
 use bac_network::{Fact, World};
