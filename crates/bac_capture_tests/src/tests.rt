@@ -1,5 +1,6 @@
 //! What the tests share.
 
+mod failing;
 mod file_rows;
 mod files;
 mod frames;
