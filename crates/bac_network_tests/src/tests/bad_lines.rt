@@ -1,14 +1,33 @@
 //! Lines of no form: nothing is printed, whatever the lines before them say.
-use super::scripts::run_script;
+use super::scripts::all_printed;
 use super::*;
 
-/// A script is told to have a bad line of that number, before anything happens.
-fn is_refused(alloc: Global, script: &str, number: u64) -> Result<(), Fail> {
-    let printed = run_script(alloc, script);
-    let complaint = format!(in alloc; "line {number}: not a script line\n")?;
-    let is_told = printed.err.as_slice() == complaint.as_bytes() && printed.status == 2;
-    holds(is_told && printed.out.is_empty(), script)
+/// Whether each of these lines, between those texts, makes a script of which nothing is printed but that.
+fn are_refused(
+    alloc: Global,
+    before: &str,
+    lines: &[&str],
+    after: &str,
+    wanted: &str,
+) -> Result<(), Fail> {
+    for line in lines {
+        let mut script = String::new(alloc);
+        script.push_str(before)?;
+        script.push_str(line)?;
+        script.push_str(after)?;
+        let is_told = match all_printed(alloc, &script) {
+            Ok(printed) => printed.as_slice() == wanted.as_bytes(),
+            Err(_) => false,
+        };
+        holds(is_told, line)?;
+    }
+    Ok(())
 }
+
+/// What is printed where the first line is wrong, and where the third one is.
+const FIRST: &str = "! line 1: not a script line\nstatus 2\n";
+
+const THIRD: &str = "! line 3: not a script line\nstatus 2\n";
 
 /// First lines of no form.
 const SETTINGS: &[&str] = &[
@@ -42,14 +61,6 @@ const SETTINGS: &[&str] = &[
     "nodes 0 window 32 overtake 128",
     "nodes 2 window 32 overtake 128 0",
 ];
-
-#[test]
-fn a_first_line_of_no_form_is_told(rt: HostRuntime) -> Result<(), Fail> {
-    for line in SETTINGS {
-        is_refused(rt.alloc(), line, 1)?;
-    }
-    Ok(())
-}
 
 /// Later lines of no form: other words, too few and too many, and numbers and octets that are none.
 const EVENTS: &[&str] = &[
@@ -88,18 +99,18 @@ const EVENTS: &[&str] = &[
 /// Numbers that are none, or outside their range, each in a line that is good with 0 in its place.
 const NUMBERS: &[&str] = &["x", "-1", "+1", "0x1", "1.0", "18446744073709551616", ""];
 
-/// A line before and after a number.
+/// A script with an event that would print something, up to a number, and what stands after that.
 const PLACES: &[(&str, &str)] = &[
-    ("deliver ", ""),
-    ("tick ", ""),
-    ("advance ", ""),
-    ("noise ", " 00"),
-    ("ask ", " 1 read 0:5 85"),
-    ("ask 0 ", " read 0:5 85"),
-    ("ask 0 1 read ", ":5 85"),
-    ("ask 0 1 read 0:", " 85"),
-    ("ask 0 1 read 0:5 ", ""),
-    ("ask 0 1 get 10:1 0 ", ""),
+    ("nodes 2\nask 0 1 read 0:5 85\ndeliver ", "\n"),
+    ("nodes 2\nask 0 1 read 0:5 85\ntick ", "\n"),
+    ("nodes 2\nask 0 1 read 0:5 85\nadvance ", "\n"),
+    ("nodes 2\nask 0 1 read 0:5 85\nnoise ", " 00\n"),
+    ("nodes 2\nask 0 1 read 0:5 85\nask ", " 1 read 0:5 85\n"),
+    ("nodes 2\nask 0 1 read 0:5 85\nask 0 ", " read 0:5 85\n"),
+    ("nodes 2\nask 0 1 read 0:5 85\nask 0 1 read ", ":5 85\n"),
+    ("nodes 2\nask 0 1 read 0:5 85\nask 0 1 read 0:", " 85\n"),
+    ("nodes 2\nask 0 1 read 0:5 85\nask 0 1 read 0:5 ", "\n"),
+    ("nodes 2\nask 0 1 read 0:5 85\nask 0 1 get 10:1 0 ", "\n"),
 ];
 
 /// Numbers above the ranges of an object's type, its instance, a property and a place in a file, and octets that are no hexadecimal or no data.
@@ -126,54 +137,27 @@ const RANGES: &[&str] = &[
     "ask 0 1 write 2:1 85 00FF",
 ];
 
-/// The line after an event that would print something.
-fn is_refused_later(alloc: Global, line: &str) -> Result<(), Fail> {
-    let script = format!(in alloc; "nodes 2\nask 0 1 read 0:5 85\n{line}\n")?;
-    is_refused(alloc, script.as_str(), 3)
-}
+/// What stands before them: an event that would print something.
+const EVENT: &str = "nodes 2\nask 0 1 read 0:5 85\n";
 
-fn are_refused_later(alloc: Global, lines: &[&str]) -> Result<(), Fail> {
-    for line in lines {
-        is_refused_later(alloc, line)?;
-    }
-    Ok(())
+/// Two bad lines: the first one is told, whatever the last line lacks.
+const FIRST_OF_TWO: &[&str] = &["nodes 0\nx", "\nnodes 2"];
+
+const THIRD_OF_FOUR: &[&str] = &["nodes 2\ntick 0\nx\ny", "nodes 2\ntick 9\ntick 0 "];
+
+#[test]
+fn bad_lines_are_told_before_any_event(rt: HostRuntime) -> Result<(), Fail> {
+    are_refused(rt.alloc(), "", SETTINGS, "", FIRST)?;
+    are_refused(rt.alloc(), "", FIRST_OF_TWO, "", FIRST)?;
+    are_refused(rt.alloc(), "", THIRD_OF_FOUR, "", THIRD)?;
+    are_refused(rt.alloc(), EVENT, EVENTS, "\n", THIRD)?;
+    are_refused(rt.alloc(), EVENT, RANGES, "\n", THIRD)
 }
 
 #[test]
-fn a_later_line_of_no_form_is_told_before_any_event(rt: HostRuntime) -> Result<(), Fail> {
-    are_refused_later(rt.alloc(), EVENTS)?;
-    are_refused_later(rt.alloc(), RANGES)
-}
-
-/// The line with each number that is none.
-fn is_refused_with_each(alloc: Global, before: &str, after: &str) -> Result<(), Fail> {
-    for number in NUMBERS {
-        let line = format!(in alloc; "{before}{number}{after}")?;
-        is_refused_later(alloc, line.as_str())?;
-    }
-    Ok(())
-}
-
-#[test]
-fn a_number_of_no_form_is_told(rt: HostRuntime) -> Result<(), Fail> {
+fn numbers_of_no_form_are_told(rt: HostRuntime) -> Result<(), Fail> {
     for (before, after) in PLACES {
-        is_refused_with_each(rt.alloc(), before, after)?;
-    }
-    Ok(())
-}
-
-/// The first of two bad lines is told, whatever the last line lacks.
-const FIRST_OF_TWO: &[(&str, u64)] = &[
-    ("nodes 2\ntick 0\nx\ny", 3),
-    ("nodes 0\nx", 1),
-    ("nodes 2\n\n", 2),
-    ("nodes 2\ntick 9\ntick 0 ", 3),
-];
-
-#[test]
-fn the_first_bad_line_is_told(rt: HostRuntime) -> Result<(), Fail> {
-    for (script, number) in FIRST_OF_TWO {
-        is_refused(rt.alloc(), script, *number)?;
+        are_refused(rt.alloc(), before, NUMBERS, after, THIRD)?;
     }
     Ok(())
 }

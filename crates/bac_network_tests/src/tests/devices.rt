@@ -20,11 +20,6 @@ const FRONTS: &[&str] = &[
     "0 hear 810A0011_01040005010C0C000000051955\n  performed\n  sent 810A0017_0100_30010C_0C00000005_1955_3E_444290999A_3F",
 ];
 
-#[test]
-fn fronts_that_claim_to_be_whole(rt: HostRuntime) -> Result<(), Fail> {
-    node_plays(rt.alloc(), &LARGE, &[], FRONTS)
-}
-
 /// 1,024 slots for replies.
 const WIDE: Member = Member {
     reply_slots: 1_024,
@@ -144,6 +139,7 @@ const BEGINNINGS: &str = "
 const DEVICES: &[&str] = &[READS, BEGINNINGS];
 
 #[test]
-fn devices_behind_one_router(rt: HostRuntime) -> Result<(), Fail> {
+fn fronts_and_devices_behind_one_router(rt: HostRuntime) -> Result<(), Fail> {
+    node_plays(rt.alloc(), &LARGE, &[], FRONTS)?;
     node_plays(rt.alloc(), &WIDE, NAMES, DEVICES)
 }

@@ -196,16 +196,9 @@ fn writes_in_other_windows(rt: HostRuntime) -> Result<(), Fail> {
     all_go(rt.alloc(), WINDOWS)
 }
 
-const LONGEST: &[Transfer] = &[WRITE_65522];
+const OTHERS: &[Transfer] = &[WRITE_65522, READ_60000, DESCRIPTION];
 
 #[test]
-fn write_of_65_522_octets(rt: HostRuntime) -> Result<(), Fail> {
-    all_go(rt.alloc(), LONGEST)
-}
-
-const READS: &[Transfer] = &[READ_60000, DESCRIPTION];
-
-#[test]
-fn long_reads(rt: HostRuntime) -> Result<(), Fail> {
-    all_go(rt.alloc(), READS)
+fn longest_write_and_reads(rt: HostRuntime) -> Result<(), Fail> {
+    all_go(rt.alloc(), OTHERS)
 }

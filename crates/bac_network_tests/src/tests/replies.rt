@@ -112,11 +112,6 @@ const LONG: &[Table] = &[Table {
     scripts: &[REFUSED, STOPPED],
 }];
 
-#[test]
-fn replies_in_90_segments(rt: HostRuntime) -> Result<(), Fail> {
-    all_play(rt.alloc(), LONG)
-}
-
 /// A reply of 47 octets goes whole.
 const WHOLE: &str = "
 ask 0 1 read 2:1 28
@@ -264,5 +259,6 @@ const SHORT: &[Table] = &[
 
 #[test]
 fn replies_whole_and_in_segments(rt: HostRuntime) -> Result<(), Fail> {
+    all_play(rt.alloc(), LONG)?;
     all_play(rt.alloc(), SHORT)
 }

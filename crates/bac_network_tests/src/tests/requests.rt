@@ -153,11 +153,6 @@ const LATE: &[Table] = &[Table {
     scripts: &[LOST, CROSSED, IN_TIME, TOO_LATE, UNANSWERED],
 }];
 
-#[test]
-fn segments_that_come_late(rt: HostRuntime) -> Result<(), Fail> {
-    all_play(rt.alloc(), LATE)
-}
-
 /// Service data of 46 octets go whole in an APDU of 50.
 const WHOLE: &str = "
 ask 0 1 put 10:1 0 {35*AB}
@@ -181,11 +176,6 @@ const CUT: &[Table] = &[Table {
     names: NAMES,
     scripts: &[WHOLE, IN_TWO],
 }];
-
-#[test]
-fn writes_whole_and_in_segments(rt: HostRuntime) -> Result<(), Fail> {
-    all_play(rt.alloc(), CUT)
-}
 
 /// A large client, and a server that takes two segments of 50 octets; three are wanted.
 const TWO_SEGMENTS: Scene = Scene {
@@ -252,8 +242,10 @@ const LIMITED: &[Table] = &[
     },
 ];
 
-/// How many segments a server takes, and how long service data may be.
+/// Segments that come late, requests whole and in segments, and how many segments a server takes and how long service data may be.
 #[test]
-fn limits_of_requests(rt: HostRuntime) -> Result<(), Fail> {
+fn requests_in_segments(rt: HostRuntime) -> Result<(), Fail> {
+    all_play(rt.alloc(), LATE)?;
+    all_play(rt.alloc(), CUT)?;
     all_play(rt.alloc(), LIMITED)
 }

@@ -50,7 +50,7 @@ impl Sheet {
 }
 
 /// All that is printed, on both outputs, and the status.
-fn all_printed(alloc: Global, script: &str) -> Result<Vec<u8>, Wrong> {
+pub(super) fn all_printed(alloc: Global, script: &str) -> Result<Vec<u8>, Wrong> {
     let Printed {
         mut out,
         err,
@@ -167,13 +167,6 @@ ask 1 0 append 10:1 _
   sent 4 1>0 810A0014010402750207C4028000010E31FF600F
 ";
 
-const ANSWERED: &[&str] = &[APPEND, READ_AND_WRITE, GET, PUT];
-
-#[test]
-fn tells_of_each_event(rt: HostRuntime) -> Result<(), Fail> {
-    are_printed(rt.alloc(), ANSWERED)
-}
-
 /// Nobody answers: the request is sent again three times, and then the ask has ended.
 const UNANSWERED: &str = "
 nodes 2
@@ -236,12 +229,15 @@ deliver 4
   ended 0 aborted 0
 ";
 
-const ENDED: &[&str] = &[UNANSWERED, EXPIRED, ABORTED];
-
-#[test]
-fn tells_of_endings(rt: HostRuntime) -> Result<(), Fail> {
-    are_printed(rt.alloc(), ENDED)
-}
+const SCRIPTS: &[&str] = &[
+    APPEND,
+    READ_AND_WRITE,
+    GET,
+    PUT,
+    UNANSWERED,
+    EXPIRED,
+    ABORTED,
+];
 
 /// A node that asks itself; no event at all.
 const NOTHING: &[&str] = &[
@@ -321,12 +317,6 @@ advance 1
 ",
 ];
 
-#[test]
-fn tells_of_nothing_and_of_faults(rt: HostRuntime) -> Result<(), Fail> {
-    are_printed(rt.alloc(), NOTHING)?;
-    are_printed(rt.alloc(), FAULTS)
-}
-
 /// First lines with limits that may be, and a line of no form after an event.
 const SETTINGS: &[&str] = &[
     "nodes 1",
@@ -344,24 +334,27 @@ tock 0
 ];
 
 #[test]
-fn takes_each_setting_that_may_be(rt: HostRuntime) -> Result<(), Fail> {
+fn tells_of_each_event(rt: HostRuntime) -> Result<(), Fail> {
+    are_printed(rt.alloc(), SCRIPTS)?;
+    are_printed(rt.alloc(), NOTHING)?;
+    are_printed(rt.alloc(), FAULTS)?;
     are_printed(rt.alloc(), SETTINGS)
 }
 
-/// The last line may lack its end.
+/// Scripts whose last line lacks its end, and what they print.
 const WITHOUT_END: &[(&str, &str)] = &[
     ("nodes 2", ""),
-    ("nodes 2\ntick 0", "nothing\n"),
     ("nodes 2\ntick 0\nadvance 1", "nothing\nnothing\n"),
 ];
 
 #[test]
 fn takes_a_last_line_without_end(rt: HostRuntime) -> Result<(), Fail> {
     for (script, wanted) in WITHOUT_END {
-        let Ok(printed) = all_printed(rt.alloc(), script) else {
-            return Err(Fail::from("no memory"));
+        let is_told = match all_printed(rt.alloc(), script) {
+            Ok(printed) => printed.as_slice() == wanted.as_bytes(),
+            Err(_) => false,
         };
-        holds(printed.as_slice() == wanted.as_bytes(), script)?;
+        holds(is_told, script)?;
     }
     Ok(())
 }
@@ -381,7 +374,7 @@ const WRONG: &[&str] = &[
 #[test]
 fn wrong_scripts_fail(rt: HostRuntime) -> Result<(), Fail> {
     for row in WRONG {
-        holds(is_printed(rt.alloc(), row) != Ok(true), row)?;
+        holds(!matches!(is_printed(rt.alloc(), row), Ok(true)), row)?;
     }
     Ok(())
 }

@@ -35,20 +35,25 @@ tick 1
 tick 0
 deliver 201";
 
-/// Octets come to a node from a link of no node.
-fn comes(world: &mut World, node: usize, octets: Vec<u8>) -> Result<(), Wrong> {
-    let from = link(9);
-    match world.step(&Event::Noise { node, from, octets }) {
-        Ok(None) => Ok(()),
-        _ => Err(Wrong::Line),
+/// The octets lose their last one.
+fn shorten(noise: &mut Event) {
+    if let Event::Noise { octets, .. } = noise {
+        let _ = octets.pop();
     }
 }
 
-/// Each proper front of these octets comes to a node.
+/// Each proper front of these octets comes to a node from a link of no node, the longest first.
 fn fronts(alloc: Global, world: &mut World, node: usize, whole: &[u8]) -> Result<(), Wrong> {
-    for len in 0..whole.len() {
-        let front = Vec::from_slice(alloc, whole.get(..len).unwrap_or(&[]))?;
-        comes(world, node, front)?;
+    let mut noise = Event::Noise {
+        node,
+        from: link(9),
+        octets: Vec::from_slice(alloc, whole)?,
+    };
+    for _ in 0..whole.len() {
+        shorten(&mut noise);
+        if !matches!(world.step(&noise), Ok(None)) {
+            return Err(Wrong::Line);
+        }
     }
     Ok(())
 }
@@ -127,11 +132,11 @@ const TWO: Scene = Scene {
 
 #[test]
 fn noise_around_a_write(rt: HostRuntime) {
-    assert!(rt; are_same(rt.alloc(), &TWO, WRITE, 3, 9) == Ok(true));
+    assert!(rt; matches!(are_same(rt.alloc(), &TWO, WRITE, 3, 9), Ok(true)));
 }
 
 #[test]
 fn noise_around_reads(rt: HostRuntime) {
     let scene = replies::FOUR_READERS;
-    assert!(rt; are_same(rt.alloc(), &scene, READS, 6, 234) == Ok(true));
+    assert!(rt; matches!(are_same(rt.alloc(), &scene, READS, 6, 234), Ok(true)));
 }

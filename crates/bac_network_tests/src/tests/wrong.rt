@@ -6,7 +6,7 @@ use std::test::Fail;
 use std::{fmt, io};
 
 /// Why a row does not hold.
-#[derive(Clone, Copy, PartialEq)]
+#[derive(Clone, Copy)]
 pub(super) enum Wrong {
     /// The test's own memory was refused.
     NoMemory,
