@@ -78,11 +78,11 @@ impl BenchLink {
     }
 }
 
-fn hand_over(from: [u8; 6], octets: &[u8], buffer: &mut [u8]) -> ([u8; 6], usize)
+fn hand_over(waiting: Waiting, buffer: &mut [u8]) -> ([u8; 6], usize)
     ensures { result.1 ≤ length buffer.new }
 {
-    let len = copy_front(octets, buffer);
-    (from, len)
+    let len = copy_front(&waiting.1, buffer);
+    (waiting.0, len)
 }
 
 impl Link for BenchLink {
@@ -104,10 +104,11 @@ impl Link for BenchLink {
     fn receive(&mut self, buffer: &mut [u8]) -> Result<Option<([u8; 6], usize)>, LinkFault> {
         if self.requests > 0 {
             self.requests -= 1;
-            return Ok(Some(hand_over(CLIENT, &request(self.requests), buffer)));
+            let len = copy_front(&request(self.requests), buffer);
+            return Ok(Some((CLIENT, len)));
         }
         match self.answer.take() {
-            Some((from, octets)) => Ok(Some(hand_over(from, &octets, buffer))),
+            Some(waiting) => Ok(Some(hand_over(waiting, buffer))),
             None if matches!(self.behind, Behind::Deaf) => Err(self.failed()),
             None => Ok(None),
         }

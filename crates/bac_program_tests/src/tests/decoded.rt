@@ -189,14 +189,31 @@ fn decodes(alloc: Global, (npdu, lines, code): &Layers) -> Result<bool, Fail> {
     Ok(printed.code == *code && printed.out.as_slice() == want.as_bytes() && printed.err.is_empty())
 }
 
-#[test]
-fn decodes_each_layer(rt: HostRuntime) -> Result<(), Fail> {
-    for rows in [FRAMES, REQUESTS, ANSWERS, FAULTS] {
-        for row in rows {
-            holds(decodes(rt.alloc(), row)?, row.0)?;
-        }
+fn all_decoded(alloc: Global, rows: &[Layers]) -> Result<(), Fail> {
+    for row in rows {
+        holds(decodes(alloc, row)?, row.0)?;
     }
     Ok(())
+}
+
+#[test]
+fn decodes_frames(rt: HostRuntime) -> Result<(), Fail> {
+    all_decoded(rt.alloc(), FRAMES)
+}
+
+#[test]
+fn decodes_requests(rt: HostRuntime) -> Result<(), Fail> {
+    all_decoded(rt.alloc(), REQUESTS)
+}
+
+#[test]
+fn decodes_answers(rt: HostRuntime) -> Result<(), Fail> {
+    all_decoded(rt.alloc(), ANSWERS)
+}
+
+#[test]
+fn decodes_faults(rt: HostRuntime) -> Result<(), Fail> {
+    all_decoded(rt.alloc(), FAULTS)
 }
 
 /// Words, and their endings.
