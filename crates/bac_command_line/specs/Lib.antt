@@ -1,1 +1,3 @@
+pub mod Files
 pub mod Online
+pub mod Tasks

@@ -1,4 +1,8 @@
 //! Doing what a command line asks for: over any files, links and writers.
+ghost use Rattle.bac_command_line.specs.Files.{OnFile};
+ghost use Rattle.bac_command_line.specs.Online.{OnClock, OnPort};
+ghost use Rattle.bac_command_line.specs.Tasks.{IsPerformed};
+
 use crate::files::{OpenFiles, check, simulate};
 use crate::grammar::matches;
 use crate::online;
@@ -9,6 +13,29 @@ use bac_text::{Status, complain, decode_over, no_memory};
 use clap::error::ErrorKind;
 use std::alloc::Global;
 use std::io::Write;
+
+/// Does what was asked for.
+fn perform<F: OpenFiles, M: Machine, O: Write, E: Write>(
+    alloc: Global,
+    task: Task<'_, '_>,
+    files: &F,
+    machine: &M,
+    out: &mut O,
+    err: &mut E,
+) -> Status
+    ensures { IsPerformed (OnFile F.is_file F.File.remaining) (OnPort M.is_bound M.Link.failures M.Link.calls) (OnClock M.is_made M.Timer.told)
+        task.entry result (O.contents out.old) (O.contents out.new) }
+{
+    match task {
+        Task::Answer(datagram) => answer_over(alloc, datagram, out, err),
+        Task::Decode(datagram) => decode_over(alloc, datagram, out, err),
+        Task::Check(path) => check(alloc, files, path, out, err),
+        Task::Simulate(path) => simulate(alloc, files, path, out, err),
+        Task::Serve { port, turns } => online::serve(alloc, machine, port, turns, out, err),
+        Task::Ask { port, words } => online::ask(alloc, machine, port, words, out, err),
+        Task::Pair => online::pair(alloc, machine, out, err),
+    }
+}
 
 /// Does what the words of a command line ask for; the first word is the program's name.
 ///
@@ -31,13 +58,7 @@ pub fn run<F: OpenFiles, M: Machine, O: Write, E: Write>(
         }
     };
     match task_of(&matches) {
-        Some(Task::Answer(datagram)) => answer_over(alloc, datagram, out, err),
-        Some(Task::Decode(datagram)) => decode_over(alloc, datagram, out, err),
-        Some(Task::Check(path)) => check(alloc, files, path, out, err),
-        Some(Task::Simulate(path)) => simulate(alloc, files, path, out, err),
-        Some(Task::Serve { port, turns }) => online::serve(alloc, machine, port, turns, out, err),
-        Some(Task::Ask { port, words }) => online::ask(alloc, machine, port, words, out, err),
-        Some(Task::Pair) => online::pair(alloc, machine, out, err),
+        Some(task) => perform(alloc, task, files, machine, out, err),
         None => complain(err, "no command", Status::CommandLine),
     }
 }

@@ -1,4 +1,8 @@
 //! Files that a command line names: what `check` and `simulate` do.
+ghost use Rattle.std.specs.Prelude.{◌≡◌, ℕ, List, IfOk, IfErr};
+ghost use Rattle.bac_text.specs.Statuses.{IsStop};
+ghost use Rattle.bac_command_line.specs.Files.{IsCheckedFile, IsSimulatedFile, OnFile};
+
 use bac_simulate::simulate_over;
 use bac_text::{Status, check_over, complain, no_memory};
 use std::alloc::Global;
@@ -9,12 +13,18 @@ use std::io::{BufReader, Read, Write};
 pub trait OpenFiles {
     type File: Read + Drop;
 
+    ghost is_file: { (path : List ℕ) → Self.File → Type 0 };
+
     /// Opens a file for reading.
-    fn open(&self, path: &str) -> io::Result<Self::File>;
+    fn open(&self, path: &str) -> io::Result<Self::File>
+        ensures { IfOk result (λ f. Self.is_file path.now f) };
 }
 
 /// A file, opened for reading. Where it cannot be opened, `err` and the status tell it.
-fn opened<F: OpenFiles, E: Write>(files: &F, path: &str, err: &mut E) -> Result<F::File, Status> {
+fn opened<F: OpenFiles, E: Write>(files: &F, path: &str, err: &mut E) -> Result<F::File, Status>
+    ensures opened { IfOk result (λ f. F.is_file path.now f) }
+    ensures told { IfErr result IsStop }
+{
     match files.open(path) {
         Ok(file) => Ok(file),
         Err(error) if error.kind() == io::ErrorKind::OutOfMemory => Err(no_memory(err)),
@@ -29,7 +39,9 @@ pub(crate) fn check<F: OpenFiles, O: Write, E: Write>(
     path: &str,
     out: &mut O,
     err: &mut E,
-) -> Status {
+) -> Status
+    ensures { IsCheckedFile (OnFile F.is_file F.File.remaining) path.now result (O.contents out.old) (O.contents out.new) }
+{
     let file = match opened(files, path, err) {
         Ok(file) => file,
         Err(status) => return status,
@@ -47,7 +59,9 @@ pub(crate) fn simulate<F: OpenFiles, O: Write, E: Write>(
     path: &str,
     out: &mut O,
     err: &mut E,
-) -> Status {
+) -> Status
+    ensures { IsSimulatedFile (OnFile F.is_file F.File.remaining) path.now result (O.contents out.old) (O.contents out.new) }
+{
     match opened(files, path, err) {
         Ok(mut file) => simulate_over(alloc, &mut file, out, err),
         Err(status) => status,

@@ -1,5 +1,5 @@
 //! The files, sockets and clock of a system.
-ghost use Rattle.std.specs.Prelude.{◌≡◌};
+ghost use Rattle.std.specs.Prelude.{◌≡◌, ⊤};
 ghost use Rattle.bac_link.specs.Clocks.{latest_told};
 ghost use Rattle.bac_link.specs.Udp.{bound_port, udp_address};
 
@@ -25,6 +25,8 @@ impl<'a, R> System<'a, R> {
 
 impl<R: Files> OpenFiles for System<'_, R> {
     type File = R::File;
+
+    ghost is_file = { λ _ _. ⊤ };
 
     fn open(&self, path: &str) -> io::Result<R::File> {
         fs::open(self.runtime, path)

@@ -1,5 +1,5 @@
 //! Files in memory.
-ghost use Rattle.std.specs.Prelude.{◌≤◌, length};
+ghost use Rattle.std.specs.Prelude.{◌≤◌, length, ⊤};
 
 use bac_command_line::OpenFiles;
 use std::io;
@@ -51,6 +51,8 @@ impl Folder {
 
 impl OpenFiles for Folder {
     type File = TextFile;
+
+    ghost is_file = { λ _ _. ⊤ };
 
     fn open(&self, path: &str) -> io::Result<TextFile> {
         match path {
