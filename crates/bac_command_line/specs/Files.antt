@@ -1,6 +1,6 @@
 -- What `check` and `simulate` print of a file, and their statuses.
-use Rattle.std.specs.Prelude.{◌≡◌, ℕ, List, Option, ⊤}
-use Rattle.bac_text.specs.Checked.{IsReportOf}
+use Rattle.std.specs.Prelude.{◌≡◌, ℕ, List, Option, None, ⊤}
+use Rattle.bac_check.specs.Checked.{IsReportOf}
 use Rattle.bac_text.specs.declared.status.Status.{Status}
 use Rattle.bac_simulate.specs.Runs.{Simulates}
 use Rattle.bac_commands.specs.Statuses.{ByStatus}
@@ -23,7 +23,7 @@ pub record OfFile (IsAt : (path : List ℕ) → (content : Option (List ℕ)) �
 -- the capture in the file was checked to its end
 abbrev pub IsCheckedFile : (IsAt : (path : List ℕ) → (content : Option (List ℕ)) → Type 0) → (path : List ℕ) → Status → (old new : Option (List ℕ)) → Type 0
 IsCheckedFile IsAt path s old new =
-    ByStatus s (OfFile IsAt path (λ content. IsReportOf content old new s)) (OfFile IsAt path (λ content. IsReportOf content old new s)) ⊤
+    ByStatus s (OfFile IsAt path (λ content. IsReportOf None content old new s)) (OfFile IsAt path (λ content. IsReportOf None content old new s)) ⊤
 
 -- the events of the script in the file happened, all of them or up to the first that could not
 abbrev pub IsSimulatedFile : (IsAt : (path : List ℕ) → (content : Option (List ℕ)) → Type 0) → (path : List ℕ) → Status → (old new : Option (List ℕ)) → Type 0

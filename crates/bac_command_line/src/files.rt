@@ -3,8 +3,9 @@ ghost use Rattle.std.specs.Prelude.{◌≡◌, ℕ, List, IfOk, IfErr};
 ghost use Rattle.bac_text.specs.Statuses.{IsStop};
 ghost use Rattle.bac_command_line.specs.Files.{IsCheckedFile, IsSimulatedFile, OnFile};
 
+use bac_check::{Ports, check_capture_over};
 use bac_simulate::simulate_over;
-use bac_text::{Status, check_over, complain, no_memory};
+use bac_text::{Status, complain, no_memory};
 use std::alloc::Global;
 use std::io;
 use std::io::{BufReader, Read, Write};
@@ -32,7 +33,7 @@ fn opened<F: OpenFiles, E: Write>(files: &F, path: &str, err: &mut E) -> Result<
     }
 }
 
-/// Checks the capture in a file. A file that cannot be opened: `cannot read` on `err`.
+/// Checks the capture in a file: one of pcap or pcapng, or of lines. A file that cannot be opened: `cannot read` on `err`.
 pub(crate) fn check<F: OpenFiles, O: Write, E: Write>(
     alloc: Global,
     files: &F,
@@ -47,7 +48,7 @@ pub(crate) fn check<F: OpenFiles, O: Write, E: Write>(
         Err(status) => return status,
     };
     match BufReader::new(alloc, file) {
-        Ok(mut input) => check_over(alloc, &mut input, out, err),
+        Ok(mut input) => check_capture_over(alloc, &mut input, Ports { also: None }, out, err),
         Err(_) => no_memory(err),
     }
 }

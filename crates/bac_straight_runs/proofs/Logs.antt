@@ -1,8 +1,9 @@
 -- The endings of an ask in a log, in code.
 use Rattle.std.proofs.Common.{◌≡◌, ℕ, zero, suc, ◌+◌, ◌≤◌, List, [], ◌∷◌, ◌++◌, length, map, take, drop, Some, None, slice_get, sym, ap}
-use Rattle.std.proofs.Common.{◌∙◌, length-append, arith}
+use Rattle.std.proofs.Common.{◌∙◌, length-append, refl, arith}
 use Rattle.std.specs.Prelude.{reverse}
-use Rattle.std.proofs.lemmas.List.{length-map, length-reverse, map-append, reverse-append, take-append-drop, length-take}
+use Rattle.std.proofs.lemmas.List.{append-nil, length-map, length-reverse, map-append, reverse-append, take-append-drop, length-take}
+use Rattle.bac_world.specs.Once.{Fact}
 use Rattle.bac_network.specs.declared.fact.Fact as code
 use Rattle.bac_network.specs.Views.{fact_view, log_view}
 use Rattle.bac_completion.specs.StraightRuns.{ending_in}
@@ -43,3 +44,7 @@ one_more log at f is =
     taken (y ∷ xs) zero x e = let same : y ≡ x = cc in ap (λ z. z ∷ []) same
     taken (y ∷ xs) (suc n) x e =
         let next : suc n + 1 ≡ suc (n + 1) = omega arith in ap (λ k. take k (y ∷ xs)) next ∙ ap (λ l. y ∷ l) (taken xs n x e)
+
+-- of any log all facts can be looked at
+pub since_all : (ask : ℕ) (log : List Fact) → IsSince 0 ask log
+since_all ask log = record { newer = log; older = []; is = sym (append-nil log); many = refl; none = refl }

@@ -15,7 +15,7 @@ pub record IsSince (since ask : ℕ) (log : List Fact) : Type 0 where
   pub none : ending_in ask older ≡ None
 
 -- how the ask of that number has ended by then, if there was one and it has
-pub ending_by : Option ℕ → List Fact → Option Ending
+abbrev pub ending_by : Option ℕ → List Fact → Option Ending
 ending_by None log = None
 ending_by (Some ask) log = ending_in ask log
 

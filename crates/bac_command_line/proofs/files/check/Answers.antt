@@ -9,4 +9,4 @@ returns-in-Ok-new g c =
     let same : reader_remaining g.F.File.Read.remaining c.in-Ok-new.input ≡ g.F.File.Read.remaining c.in-Ok.file =
     rw (c.in-Ok-new.ensures.capacity, c.in-Ok-new.ensures.empty, c.in-Ok-new.ensures.inner) (prepend_nothing _) in
     checked_file g.F.OpenFiles.is_file g.F.File.Read.remaining c.args.path.now c.in-Ok.file _
-    (g.O.Write.contents c.args.out.now) (g.O.Write.contents c.check_over.new.out) c.check_over.result c.in-Ok.ensures.opened same c.check_over.ensures
+    (g.O.Write.contents c.args.out.now) (g.O.Write.contents c.check_capture_over.new.out) c.check_capture_over.result c.in-Ok.ensures.opened same c.check_capture_over.ensures

@@ -14,4 +14,4 @@ returns-in_err-step-clause-fault c =
     let event = Ask c.args.client c.args.server (limits_view c.args.limits) (owned_request_view c.args.request) in
     told_why _ (λ f. IsFault f w.overtake w.world event) _ c.from_residual.result c.from_residual.ensures.1
     (fault_is _ w.overtake w.world event _ refl c.in_err-step.ensures.node c.in_err-step.ensures.datagram c.in_err-step.ensures.clock
-    c.in_err-step.ensures.memory)
+    c.in_err-step.ensures.change c.in_err-step.ensures.memory)

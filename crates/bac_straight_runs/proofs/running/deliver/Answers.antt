@@ -12,4 +12,4 @@ returns-in_err-step-clause-fault c =
     let event = Deliver c.args.number in
     told_why _ (λ f. IsFault f w.overtake w.world event) _ c.from_residual.result c.from_residual.ensures.1
     (fault_is _ w.overtake w.world event _ refl c.in_err-step.ensures.node c.in_err-step.ensures.datagram c.in_err-step.ensures.clock
-    c.in_err-step.ensures.memory)
+    c.in_err-step.ensures.change c.in_err-step.ensures.memory)
