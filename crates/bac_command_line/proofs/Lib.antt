@@ -1,1 +1,2 @@
 pub mod CheckedFiles
+pub mod Statuses

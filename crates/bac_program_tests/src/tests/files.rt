@@ -58,15 +58,18 @@ lines=9 good=1 bad=8
     ("", "check missing", ("", "cannot read\n", 2)),
     ("", "check starved", ("", "no memory\n", 4)),
     (
-        "x\n",
+        "wrong\n",
         "check broken",
         ("line 1: not a capture line\n", "cannot read\n", 2),
     ),
     (
-        "x\n",
+        "wrong\n",
         "check starving",
         ("line 1: not a capture line\n", "no memory\n", 4),
     ),
+    // the first four octets tell whether it is a file of pcap or pcapng
+    ("x\n", "check broken", ("", "cannot read\n", 2)),
+    ("x\n", "check starving", ("", "no memory\n", 4)),
 ];
 
 #[test]

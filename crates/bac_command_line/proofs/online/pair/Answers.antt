@@ -1,0 +1,27 @@
+-- Both stations are on links that were bound, and the clock was made.
+use Rattle.std.proofs.Common.{refl}
+use Rattle.bac_command_line.specs.Online.{FREE, IsHouseAt, OnClock, OnPort}
+use Rattle.bac_command_line.proofs.Statuses.{lifted}
+use Rattle.bac_command_line.proofs.online.pair.Goals as goal
+
+pub returns : goal.returns
+returns g c =
+    let first : IsHouseAt (OnPort g.M.Machine.is_bound g.M.Link.Link.failures g.M.Link.Link.calls) FREE c.in-Ok.station = record {
+      address = c.in-Some.bound.1;
+      node = c.in-Ok.ensures.node;
+      on = record { link = c.in-Some.bound.0; bound = c.in-Some.ensures; failed = c.in-Ok.ensures.failures; made = c.in-Ok.ensures.calls };
+    } in
+    let second : IsHouseAt (OnPort g.M.Machine.is_bound g.M.Link.Link.failures g.M.Link.Link.calls) FREE c.in-Ok-house_station.other = record {
+      address = c.in-Some-bind.other_bound.1;
+      node = c.in-Ok-house_station.ensures.node;
+      on = record {
+        link = c.in-Some-bind.other_bound.0;
+        bound = c.in-Some-bind.ensures;
+        failed = c.in-Ok-house_station.ensures.failures;
+        made = c.in-Ok-house_station.ensures.calls;
+      };
+    } in
+    let clock : OnClock g.M.Machine.is_made g.M.Timer.Clock.told (g.M.Timer.Clock.told c.in-Some-timer.timer) =
+    record { timer = c.in-Some-timer.timer; made = c.in-Some-timer.ensures; is = refl } in
+    lifted c.pair.result (λ t. record { before = _; after = _; first = first; second = second; clock = clock; texts = t })
+    (λ t. record { before = _; after = _; first = first; second = second; clock = clock; texts = t }) (λ n. n) c.pair.ensures
