@@ -1,10 +1,10 @@
 //! Requests in words.
-ghost use Rattle.std.specs.Prelude.{◌≡◌, map};
+ghost use Rattle.std.specs.Prelude.{◌≡◌, ◌-◌, ◌^◌, map};
 ghost use Rattle.std.specs.Option.{option_map};
 ghost use Rattle.bac_value.specs.Views.{object_identifier_view};
 ghost use Rattle.bac_service.specs.Views.{owned_request_view, property_reference_view};
 ghost use Rattle.bac_script.specs.Reading.{Reads};
-ghost use Rattle.bac_script.specs.Words.{object_of};
+ghost use Rattle.bac_script.specs.Words.{number_up_to, object_of};
 ghost use Rattle.bac_script.specs.Requests.{data_in, content_in, reference_of, read_of, write_of, written_at};
 ghost use Rattle.bac_script.specs.Requests.{append_of, put_of, get_of, one_more, two_more, request_of};
 
@@ -17,17 +17,25 @@ use bac_service::{
 use bac_value::{DataBuf, ObjectIdentifier, OctetString, take_data};
 use std::alloc::Global;
 
+/// The number of a property, of at most 32 bits.
+pub(crate) fn property_or_fault(word: &[u8]) -> Result<u32, FormFault>
+    ensures { Reads (λ n. n) result (number_up_to (2 ^ 32 - 1) word.now) }
+{
+    match number_up_to(u64::from(u32::MAX), word) {
+        Some(number) => Ok(number as u32),
+        None => Err(FormFault::NoForm),
+    }
+}
+
 /// A property of an object, not of one element alone.
 #[tactic(auto, unfolding(crate::specs::Requests::reference_of))]
 fn reference_in(object: ObjectIdentifier, word: &[u8]) -> Result<PropertyReference, FormFault>
     ensures { Reads property_reference_view result (reference_of (object_identifier_view object) word.now) }
 {
-    let Some(number) = number_up_to(u64::from(u32::MAX), word) else {
-        return Err(FormFault::NoForm);
-    };
+    let property = property_or_fault(word)?;
     Ok(PropertyReference {
         object,
-        property: number as u32,
+        property,
         index: None,
     })
 }
@@ -170,7 +178,7 @@ fn with_two(
     }
 }
 
-fn object_or_fault(word: &[u8]) -> Result<ObjectIdentifier, FormFault>
+pub(crate) fn object_or_fault(word: &[u8]) -> Result<ObjectIdentifier, FormFault>
     ensures { Reads object_identifier_view result (object_of word.now) }
 {
     match object_in(word) {
