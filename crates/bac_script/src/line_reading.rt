@@ -167,12 +167,7 @@ fn set_property(
 }
 
 #[tactic(auto, unfolding(crate::specs::Lines::set_file_of))]
-fn set_file(
-    alloc: Global,
-    node: &[u8],
-    object: &[u8],
-    octets: &[u8],
-) -> Result<Step, FormFault>
+fn set_file(alloc: Global, node: &[u8], object: &[u8], octets: &[u8]) -> Result<Step, FormFault>
     ensures { Reads step_view result (set_file_of node.now object.now octets.now) }
 {
     let node = number_or_fault(node)?;

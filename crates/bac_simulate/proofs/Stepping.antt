@@ -18,7 +18,7 @@ use Rattle.bac_network.specs.declared.fault.WorldFault.TheVariants as fault
 use Rattle.bac_commands.specs.Facts.{fault_line, refused_line}
 use Rattle.bac_text.specs.Texts.{AppendsText}
 use Rattle.bac_simulate.specs.Told.{outcome_text}
-use Rattle.bac_simulate.specs.Runs.{Halts, IsStep, IsRun, Passed}
+use Rattle.bac_simulate.specs.Runs.{IsStep, IsRun, Passed, change_fault_in}
 use Rattle.bac_simulate.proofs.Appending.{drop_seen, joined}
 
 -- ---- one event
@@ -40,36 +40,44 @@ happened line e told old new facts copies a b fs cs went tells same printed = (
   ),
 )
 
-pub turned_down : (line : ℕ) (e : world.Event) (why : ChangeFault) (old new : WorldView) (number : ℕ) (a b : Option (List ℕ))
-    → RefusesChange old.world e why → new ≡ old → number ≡ change_fault_number why → Appends a b (refused_line number)
-    → AppendsText a b (IsStep line true e old new)
-turned_down line e why old new number a b refuses same is printed = (
-  refused_line number,
-  (inr (record { fault = why; why = refuses; same = same; is = ap refused_line is }), printed),
-)
-
 abbrev pub the_err : WorldFault → Result (Option AskFault) WorldFault
 the_err f = Err f
 
-pub stopped : (line : ℕ) (e : world.Event) (f : WorldFault) (old new : WorldView) (number : ℕ) (a b : Option (List ℕ)) → Halts f
+pub stopped : (line : ℕ) (e : world.Event) (f : WorldFault) (old new : WorldView) (number : ℕ) (a b : Option (List ℕ)) → change_fault_in f ≡ None
     → (IsErrOf (the_err f) fault.NoSuchNode ↔ NamesNoNode old.world e)
     → (IsErrOf (the_err f) fault.NoSuchDatagram ↔ NamesNoCopy old.world e)
     → (IsErrOf (the_err f) fault.ClockEnd ↔ PassesClock old.world e)
     → ((why : ChangeFault) → (IsErrOf (the_err f) (fault.BadChange why) ↔ RefusesChange old.world e why))
     → (IsErrOf (the_err f) fault.NoMemory → TakesMemory old.overtake old.world e)
     → new ≡ old → number ≡ fault_number f → Appends a b (fault_line line number) → AppendsText a b (IsStep line false e old new)
-stopped line e f old new number a b halts node copy clock change memory same is printed = (
+stopped line e f old new number a b ends node copy clock change memory same is printed = (
   fault_line line number,
   (
     record {
       fault = f;
-      halts = halts;
+      ends = ends;
       why = fault_is f old.overtake old.world e (the_err f) refl node copy clock change memory;
       same = same;
       is = ap (λ (n : ℕ). fault_line line n) is;
     },
     printed,
   ),
+)
+
+bad_change : (f : WorldFault) (why : ChangeFault) → change_fault_in f ≡ Some why → the_err f ≡ the_err (fault.BadChange why)
+bad_change fault.NoSuchNode why e = absurd cc
+bad_change fault.NoSuchDatagram why e = absurd cc
+bad_change fault.ClockEnd why e = absurd cc
+bad_change (fault.BadChange other) why e = ap (λ (w : ChangeFault). the_err (fault.BadChange w)) (let same : Some other ≡ Some why = e in cc)
+bad_change fault.NoMemory why e = absurd cc
+
+pub turned_down : (line : ℕ) (e : world.Event) (f : WorldFault) (why : ChangeFault) (old new : WorldView) (number : ℕ) (a b : Option (List ℕ))
+    → change_fault_in f ≡ Some why
+    → ((w : ChangeFault) → (IsErrOf (the_err f) (fault.BadChange w) ↔ RefusesChange old.world e w))
+    → new ≡ old → number ≡ change_fault_number why → Appends a b (refused_line number) → AppendsText a b (IsStep line true e old new)
+turned_down line e f why old new number a b bad change same is printed = (
+  refused_line number,
+  (inr (record { fault = why; why = (change why).to (bad_change f why bad); same = same; is = ap refused_line is }), printed),
 )
 
 -- ---- one event more

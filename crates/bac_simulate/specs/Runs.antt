@@ -43,18 +43,18 @@ pub record TurnedDown (event : Event) (old new : WorldView) (text : List ℕ) : 
 abbrev pub Passed : Event → (old new : WorldView) → (text : List ℕ) → Type 0
 Passed event old new text = Happened event old new text ⊎ TurnedDown event old new text
 
--- a fault that ends a script: any but that of a change
-abbrev pub Halts : WorldFault → Type 0
-Halts world_fault.NoSuchNode = Unit {0}
-Halts world_fault.NoSuchDatagram = Unit {0}
-Halts world_fault.ClockEnd = Unit {0}
-Halts (world_fault.BadChange why) = ⊥
-Halts world_fault.NoMemory = Unit {0}
+-- the fault of a change; any other ends a script
+abbrev pub change_fault_in : WorldFault → Option ChangeFault
+change_fault_in world_fault.NoSuchNode = None
+change_fault_in world_fault.NoSuchDatagram = None
+change_fault_in world_fault.ClockEnd = None
+change_fault_in (world_fault.BadChange why) = Some why
+change_fault_in world_fault.NoMemory = None
 
 -- the event of that line did not happen, nothing changed, and the number of the fault is told
 pub record Stopped (line : ℕ) (event : Event) (old new : WorldView) (text : List ℕ) : Type 0 where
   pub fault : WorldFault
-  pub halts : Halts fault
+  pub ends : change_fault_in fault ≡ None
   pub why : IsFault fault old.overtake old.world event
   pub same : new ≡ old
   pub is : text ≡ fault_line line (fault_number fault)
