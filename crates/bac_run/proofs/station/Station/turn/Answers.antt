@@ -5,7 +5,8 @@ use Rattle.bac_run.proofs.station.Station.turn.Goals as goal
 
 pub returns-clause-turned : goal.returns-clause-turned
 returns-clause-turned g c =
-    turned _ c.recv.new.buffer c.deref.result.now _ _ _ _ (step_view c.hear_received-first.result) (step_view c.tick-second.result) c.self.view_is
+    turned _ c.wait_at.result c.recv.new.buffer c.deref.result.now _ _ _ _ (step_view c.hear_received-first.result) (step_view c.tick-second.result)
+    c.wait_at.ensures c.self.view_is
     (lent_whole _ c.recv.new.buffer _ (c.recv.auto.buffer ∙ c.deref_mut.ensures.len))
     (c.deref.ensures.value ∙ lent_whole _ c.recv.new.buffer _ (c.recv.auto.buffer ∙ c.deref_mut.ensures.len))
     c.in_ok-received.ensures.within
