@@ -46,15 +46,16 @@ lent_whole n xs ys size = subst (λ (m : ℕ). take m (xs ++ ys) ≡ xs) size (t
 
 -- the turn of a station that was so before it, with that buffer after it, of which this was heard
 pub turned : (now wait : ℕ) (buffer seen : Octets) (before old new : Station) (turn : Turn) (first second : Step)
-    → IsWait now before.node wait → before ≡ old → new.buffer ≡ buffer → seen ≡ buffer
+    → before ≡ old → new.buffer ≡ buffer → seen ≡ buffer
     → IfSome turn.received (λ d. d.1 ≤ length buffer) → Steps now seen before.node new.node turn first second
-    → IsCarried (received wait buffer (Ok turn.received) ∷ []) (first.sends ++ second.sends) turn.lost before new → IsTurn now old new turn
-turned now wait buffer seen before old new turn first second waits is same seen_is within steps carried =
+    → IsCarried (received wait buffer (Ok turn.received) ∷ []) (first.sends ++ second.sends) turn.lost before new → IsWait now old.node wait
+    → IsTurn now old new turn
+turned now wait buffer seen before old new turn first second is same seen_is within steps carried waits =
     subst (λ (o : Station). IsTurn now o new turn) is
     (record {
       within = subst (λ (b : Octets). IfSome turn.received (λ d. d.1 ≤ length b)) (sym same) within;
       wait = wait;
-      waits = waits;
+      waits = subst (λ (o : Station). IsWait now o.node wait) (sym is) waits;
       first = first;
       second = second;
       steps = subst (λ (b : Octets). Steps now b before.node new.node turn first second) (seen_is ∙ sym same) steps;

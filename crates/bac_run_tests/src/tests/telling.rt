@@ -87,7 +87,7 @@ fn tells<R: Abort>(rt: &R, alloc: Global, failing: Failing, lines: &[&str]) -> R
     Ok(told.as_str() == want.as_str())
 }
 
-/// The moments of turns of a client that asks at moment 0 and gets no answer: its request is sent again at 3,000, 6,000 and 9,000, and its ticket ends at 12,000.
+/// The moments of turns of a client that asks at moment 0 and gets no answer: its request is sent again 3,000 milliseconds after each sending.
 const MOMENTS: &[u64] = &[
     0, 2_899, 2_900, 2_901, 2_999, 3_000, 3_000, 5_950, 7_000, 10_000, 12_000, 12_000,
 ];
