@@ -1,9 +1,9 @@
 -- The lines of a script.
-use Rattle.std.specs.Prelude.{ℕ, ◌+◌, ◌-◌, ◌*◌, ◌^◌, nat_le, ◌&&◌, List, [], ◌∷◌, codes, if◌then◌else◌, Option, Some, None}
+use Rattle.std.specs.Prelude.{ℕ, ◌+◌, ◌*◌, nat_le, ◌&&◌, List, [], ◌∷◌, codes, if◌then◌else◌, Option, Some, None}
 use Rattle.std.specs.Str.{bytes_eq}
 use Rattle.bac_value.specs.Value.{ObjectId}
 use Rattle.bac_service.specs.Values.{Request}
-use Rattle.bac_script.specs.Words.{◌>>=◌, words_of, number_of, number_up_to, octets_of, object_of}
+use Rattle.bac_script.specs.Words.{◌>>=◌, words_of, number_of, number_up_to, octets_of, object_of, property_of}
 use Rattle.bac_script.specs.Requests.{request_of}
 
 -- ---- the first line: nodes N, or nodes N window W overtake V
@@ -75,12 +75,12 @@ noise_of node octets = do
   octets ← octets_of octets
   Some (Noise node octets)
 
--- other values of a property, whose number has at most 32 bits; any octets: whether they are values for it, says the node's store
+-- other values of a property; any octets: whether they are values for it, says the node's store
 unfoldable pub set_property_of : (node object property octets : List ℕ) → Option Step
 set_property_of node object property octets = do
   node ← number_of node
   object ← object_of object
-  property ← number_up_to (2 ^ 32 - 1) property
+  property ← property_of property
   octets ← octets_of octets
   Some (SetProperty node object property octets)
 

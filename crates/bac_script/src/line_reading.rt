@@ -3,15 +3,15 @@ ghost use Rattle.std.specs.Prelude.{◌≡◌, ◌&&◌, codes, map};
 ghost use Rattle.std.specs.Str.{bytes_eq};
 ghost use Rattle.std.specs.Option.{option_map};
 ghost use Rattle.bac_script.specs.Reading.{Reads};
-ghost use Rattle.bac_script.specs.Words.{number_of};
+ghost use Rattle.bac_script.specs.Words.{number_of, property_of};
 ghost use Rattle.bac_script.specs.Lines.{number_from_one, bounded, setting_with, usual_setting, setting_of};
 ghost use Rattle.bac_script.specs.Lines.{setting_at, ask_of, noise_of, numbered, set_property_of, set_file_of, change_of, step_of, step_at};
 ghost use Rattle.bac_script.specs.Views.{setting_view, step_view};
 
 use crate::form_fault::FormFault;
 use crate::line::{Ask, Noise, SetFile, SetProperty, Setting, Step};
-use crate::request_reading::{object_or_fault, property_or_fault, read_request_words};
-use crate::words::{number_in, number_up_to, octets_in, words_in};
+use crate::request_reading::{object_or_fault, read_request_words};
+use crate::words::{number_in, number_up_to, octets_in, property_in, words_in};
 use std::alloc::Global;
 
 /// A number from 1 to that.
@@ -141,6 +141,15 @@ fn with_number(word: &[u8], number: &[u8]) -> Result<Step, FormFault>
         Ok(Step::Advance(number))
     } else {
         Err(FormFault::NoForm)
+    }
+}
+
+fn property_or_fault(word: &[u8]) -> Result<u32, FormFault>
+    ensures { Reads (λ n. n) result (property_of word.now) }
+{
+    match property_in(word) {
+        Some(property) => Ok(property),
+        None => Err(FormFault::NoForm),
     }
 }
 

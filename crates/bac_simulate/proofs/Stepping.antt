@@ -1,5 +1,5 @@
 -- Events, one after the other, and what is told of them.
-use Rattle.std.proofs.Common.{◌≡◌, ◌↔◌, ℕ, ◌+◌, true, false, Bool, List, ◌∷◌, ◌++◌, length, map, drop, Option, Some, Result, Err, IsErrOf, inl, inr}
+use Rattle.std.proofs.Common.{◌≡◌, ◌↔◌, ℕ, ◌+◌, true, false, Bool, List, ◌∷◌, ◌++◌, length, map, drop, Option, Some, None, Result, Err, IsErrOf, inl, inr}
 use Rattle.std.proofs.Common.{refl, sym, ap, subst, ◌∙◌, slice_get}
 use Rattle.std.specs.Io.KnownBytes.{Appends}
 use Rattle.bac_requester.specs.declared.ask_fault.AskFault.{AskFault}
@@ -77,7 +77,7 @@ pub turned_down : (line : ℕ) (e : world.Event) (f : WorldFault) (why : ChangeF
     → new ≡ old → number ≡ change_fault_number why → Appends a b (refused_line number) → AppendsText a b (IsStep line true e old new)
 turned_down line e f why old new number a b bad change same is printed = (
   refused_line number,
-  (inr (record { fault = why; why = (change why).to (bad_change f why bad); same = same; is = ap refused_line is }), printed),
+  (inr (record { fault = why; why = (change why).0 (bad_change f why bad); same = same; is = ap refused_line is }), printed),
 )
 
 -- ---- one event more

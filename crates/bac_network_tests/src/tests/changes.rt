@@ -100,7 +100,7 @@ ask 0 1 read 2:1 28
 deliver 0
   performed 0
   sent 1 1>0 <beginning>
-set 1 2:1 28 7100
+set 1 analog-value:1 description 7100
   changed 1
 advance 2000
   nothing
