@@ -12,7 +12,7 @@ use Rattle.bac_protocol.specs.Server.{Entry, is_live, live_entry, is_none_live}
 use Rattle.bac_protocol.specs.Log.{Shop}
 use Rattle.bac_protocol.specs.Transaction.{Key, Rules, ended, performed, client_context, server_context}
 use Rattle.bac_protocol.specs.World.{World, Post, Event, count_of, later, post_of, stored, serves, reacts, takes_at_client, takes_at_server}
-use Rattle.bac_protocol.specs.World.{delivered, happens}
+use Rattle.bac_protocol.specs.World.{is_room, delivered, happens}
 use Rattle.bac_protocol.specs.World.Event.{Deliver}
 use Rattle.bac_protocol.specs.Straight.{IsLike, WorldSteps, is_ended, Straight, Stops}
 use Rattle.bac_protocol.proofs.Keys.{same_key_self, set_same}
@@ -65,6 +65,7 @@ module _ (S : Type 0) (shop : Shop S) (x : Rules) (now number : ℕ) (key : Key)
     pub stores : w.stores ≡ q.stores
     pub log : w.net.log ≡ q.log
     pub moment : w.net.now ≡ now
+    pub opens : w.net.serves_from key.server ≤ now
 
   pub like_shows : (u v : World S) (q : Duo S) (first : ℕ) → IsLike S key u v → Shows v q first → Shows u q first
   like_shows u v q first e h = record {
@@ -79,6 +80,7 @@ module _ (S : Type 0) (shop : Shop S) (x : Rules) (now number : ℕ) (key : Key)
     log = e.log ∙ h.log;
     moment = e.moment
         ∙ h.moment;
+    opens = subst (λ (m : ℕ). m ≤ now) (sym e.serves) h.opens;
   }
 
   -- the oldest copy that is left is p, and then xs
@@ -111,6 +113,7 @@ module _ (S : Type 0) (shop : Shop S) (x : Rules) (now number : ℕ) (key : Key)
       stores = λ i. stored S shop key.server (same.effect i) (h.stores i);
       log = λ i. performed (h.number_is i) (same.effect i) (h.log i);
       moment = h.moment;
+      opens = h.opens;
     }
 
     reacts_shows : (r s : client.Reaction) → r ≡ s → Shows (reacts S w key q.ticket r) (reacted S shop x now number key q xs s) (suc first)
@@ -124,6 +127,7 @@ module _ (S : Type 0) (shop : Shop S) (x : Rules) (now number : ℕ) (key : Key)
       stores = h.stores;
       log = λ i. ended (h.number_is i) (client.ending_of (same i)) (h.log i);
       moment = h.moment;
+      opens = h.opens;
     }
 
     abbrev serving : (m : ℕ) → (ℕ → S) → Option Entry → Bool → server.Reaction
@@ -173,9 +177,17 @@ module _ (S : Type 0) (shop : Shop S) (x : Rules) (now number : ℕ) (key : Key)
     abbrev steps : Bool → Duo S
     steps up = if up then served S shop x now number key q xs (serving now q.stores q.entry true) else reacted S shop x now number key q xs (reacting now)
 
+    room_left : (free : Bool) → IsRoom free q.entry → IsRoom (is_room w.net key free) q.entry
+    room_left free (inr live) = inr live
+    room_left free (inl e) =
+        let le = h.opens in
+        let same = h.moment in
+        let room : nat_le (w.net.serves_from key.server) w.net.now ≡ true = grind (arith, nat_tests) in
+        inl (λ i. e i && room i)
+
     acts_shows : (free : Bool) → IsRoom free q.entry → (up : Bool) → Shows (acts free up) (steps up) (suc first)
-    acts_shows free room true = serves_shows (serving w.net.now w.stores (w.net.entries key) free) (serving now q.stores q.entry true)
-        (service_same free room)
+    acts_shows free room true = serves_shows (serving w.net.now w.stores (w.net.entries key) (is_room w.net key free)) (serving now q.stores q.entry true)
+        (service_same (is_room w.net key free) (room_left free room))
     acts_shows free room false =
         subst (λ (o : Option Ticket). Shows (takes_at_client S x w key a o) (reacted S shop x now number key q xs (reacting now)) (suc first)) (sym h.ticket)
         (reacts_shows (reacting w.net.now) (reacting now) (λ i. reacting (h.moment i)))

@@ -75,10 +75,12 @@ by_requests S shop opening (Changed s c ∷ log) stores none h = absurd none
 module _ (S : Type 0) (shop : Shop S) (opening : ℕ → S) (W : ℕ) (x : Rules) (bound : IsBounded W x) where
   pub record Kept (w : World S) : Type 0 where
     pub net : NetSound W w.net
+    pub calm : Calm w.net
     pub once : IsOnce S shop opening w.net.log w.stores
 
-  reacts_kept : (w : World S) → Kept w → (key : Key) (t : Ticket) (r : client.Reaction) → NetSound W (client_acts w.net key t r) → Kept (reacts S w key t r)
-  reacts_kept w s key t r sound = record { net = sound; once = go (client.ending_of r) ((net_log W (client_acts w.net key t r) sound).orderly) }
+  reacts_kept : (w : World S) → Kept w → (key : Key) (t : Ticket) (r : client.Reaction) → NetSound W (client_acts w.net key t r) → Calm (client_acts w.net key t r)
+      → Kept (reacts S w key t r)
+  reacts_kept w s key t r sound calm = record { net = sound; calm = calm; once = go (client.ending_of r) ((net_log W (client_acts w.net key t r) sound).orderly) }
     where
       go : (o : Option Ending) → IsOrderly (ended (w.net.numbers key) o w.net.log) → IsOnce S shop opening (ended (w.net.numbers key) o w.net.log) w.stores
       go None h = s.once
@@ -96,30 +98,31 @@ module _ (S : Type 0) (shop : Shop S) (opening : ℕ → S) (W : ℕ) (x : Rules
       (w.stores, (key.client, key.server, subst (λ r. Has (Asked n key.client key.server r) w.net.log) same own.asked, right.1, is, λ node. refl), s.once)
 
   serves_kept : (w : World S) → Kept w → (key : Key) (t : Ticket) → w.net.tickets key ≡ Some t → (v : server.Reaction)
-      → IsServed (service_of S shop w key) v.effect → NetSound W (server_acts w.net key v) → Kept (serves S shop w key v)
-  serves_kept w s key t at v is sound = go v.effect is sound
+      → IsServed (service_of S shop w key) v.effect → NetSound W (server_acts w.net key v) → Calm (server_acts w.net key v) → Kept (serves S shop w key v)
+  serves_kept w s key t at v is sound calm = go v.effect is sound
     where
       go : (o : Option Effect) → IsServed (service_of S shop w key) o → NetSound W (server_acts w.net key (record v { effect = o }))
           → Kept (serves S shop w key (record v { effect = o }))
-      go None is sound = record { net = sound; once = s.once }
+      go None is sound = record { net = sound; calm = calm; once = s.once }
       go (Some e) is sound = record {
         net = sound;
+        calm = calm;
         once = effect_once w s key t at e is
             (net_log W (server_acts w.net key (record v { effect = Some e })) sound).orderly;
       }
 
   asks_kept : (w : World S) → Kept w → (key : Key) (choice : ℕ) (whole : Bool) (front : Octets) (rest : List Octets) (b : Bool)
-      → is_key_held w.net.now (w.net.tickets key) ≡ b
+      → is_id_held w.net key ≡ b
       → Kept (if b then w else ask_made S x w key (record { first = w.net.now; choice = choice; whole = whole; pieces = front ∷ rest }))
   asks_kept w s key choice whole front rest true e = s
   asks_kept w s key choice whole front rest false e =
-      record { net = sound; once = (w.stores, ((net_log W (asked_at x w.net key ask) sound).orderly.0, λ node. refl), s.once) }
+      record { net = sound; calm = calm_asked x w.net s.calm key (id_free w.net key e).0 choice whole (front ∷ rest); once = (w.stores, ((net_log W (asked_at x w.net key ask) sound).orderly.0, λ node. refl), s.once) }
     where
       ask : Ask
       ask = record { first = w.net.now; choice = choice; whole = whole; pieces = front ∷ rest }
 
       sound : NetSound W (asked_at x w.net key ask)
-      sound = net_asked W bound.some x w.net key s.net (spent_at W w.net key (w.net.tickets key) refl (s.net.each key) e) choice whole front rest
+      sound = net_asked W bound.some x w.net key s.net (spent_free W w.net s.net s.calm key e) choice whole front rest
 
   -- the copy whose number that is arrives
   module _ (w : World S) (s : Kept w) (number : ℕ) (p : Post) (at_number : slice_get w.net.posts number ≡ Some p) where
@@ -127,21 +130,23 @@ module _ (S : Type 0) (shop : Shop S) (opening : ℕ → S) (W : ℕ) (x : Rules
     k = later p.key number w.net.posts
 
     arrives_kept : (o : Option Ticket) → w.net.tickets p.key ≡ o → w.net.now - p.copy.moment ≤ LIFE → later p.key number w.net.posts ≤ x.overtake
-        → (free up : Bool) → Kept (if up then takes_at_server S shop x w p.key free p.copy.apdu else takes_at_client S x w p.key p.copy.apdu o)
-    arrives_kept None at young few free up =
+        → (free up : Bool) → is_from_client p.copy.apdu ≡ up → Kept (if up then takes_at_server S shop x w p.key free p.copy.apdu else takes_at_client S x w p.key p.copy.apdu o)
+    arrives_kept None at young few free up way =
         absurd (none_there (later p.key number w.net.posts) p.copy
         (subst (λ (cs : List Copy). slice_get cs (later p.key number w.net.posts) ≡ Some p.copy) (sound_at W w.net p.key None at s.net).no_copies
         (copy_at number w.net.posts p at_number)))
-    arrives_kept (Some t) at young few free true =
+    arrives_kept (Some t) at young few free true way =
         let f = sound_at W w.net p.key (Some t) at s.net in
         let says = ((f.2).arriving (later p.key number w.net.posts) p.copy (copy_at number w.net.posts p at_number) young).1 in
-        let v = server.server_gets (server_context x p.key w.net.now) (service_of S shop w p.key) (w.net.entries p.key) free p.copy.apdu in
+        let v = server.server_gets (server_context x p.key w.net.now) (service_of S shop w p.key) (w.net.entries p.key) (is_room w.net p.key free) p.copy.apdu in
         serves_kept w s p.key t at v (gets_served (server_context x p.key w.net.now) (service_of S shop w p.key)
-        (w.net.entries p.key) free p.copy.apdu)
+        (w.net.entries p.key) (is_room w.net p.key free) p.copy.apdu)
         (net_server W w.net p.key t at s.net v
         (server_gets_kept W x.overtake bound.some bound.room (x.settings p.key.server) (bound.windows p.key.server) (service_of S shop w p.key) p.key
-        (one w.net p.key) t (w.net.entries p.key) f.0 f.1 f.2 free p.copy.moment (later p.key number w.net.posts) few young p.copy.apdu says))
-    arrives_kept (Some t) at young few free false =
+        (one w.net p.key) t (w.net.entries p.key) f.0 f.1 f.2 (is_room w.net p.key free) (room_opens w.net p.key free) p.copy.moment (later p.key number w.net.posts) few young p.copy.apdu says))
+        (calm_gets w.net s.calm p.key (server_context x p.key w.net.now) refl refl (service_of S shop w p.key) (is_room w.net p.key free)
+        (later p.key number w.net.posts) p.copy (copy_at number w.net.posts p at_number) young way)
+    arrives_kept (Some t) at young few free false way =
         let f = sound_at W w.net p.key (Some t) at s.net in
         let says = ((f.2).arriving (later p.key number w.net.posts) p.copy (copy_at number w.net.posts p at_number) young).1 in
         let r = client.client_gets (client_context x p.key w.net.now) x.readable t p.copy.apdu in
@@ -149,11 +154,12 @@ module _ (S : Type 0) (shop : Shop S) (opening : ℕ → S) (W : ℕ) (x : Rules
         (net_client W w.net p.key t at s.net r
         (client_gets_kept W x.overtake bound.some bound.room (x.settings p.key.client) (bound.windows p.key.client) x.readable p.key
         (one w.net p.key) t f.0 f.1 f.2 p.copy.moment (later p.key number w.net.posts) few p.copy.apdu says))
+        (calm_client w.net s.calm p.key t at r (ended_is_silent.gets (client_context x p.key w.net.now) x.readable t p.copy.apdu))
 
     by_test : (free a b : Bool) → nat_le (w.net.now - p.copy.moment) LIFE ≡ a → nat_le (later p.key number w.net.posts) x.overtake ≡ b
         → Kept (if a && b then arrives S shop x w p.key free p.copy.apdu else w)
     by_test free true true young few = arrives_kept (w.net.tickets p.key) refl (grind (arith, nat_tests)) (grind (arith, nat_tests)) free
-        (is_from_client p.copy.apdu)
+        (is_from_client p.copy.apdu) refl
     by_test free true false young few = s
     by_test free false b young few = s
 
@@ -172,6 +178,7 @@ module _ (S : Type 0) (shop : Shop S) (opening : ℕ → S) (W : ℕ) (x : Rules
       reacts_kept w s key t r (net_client W w.net key t at s.net r
       (client_ticks_kept W x.overtake bound.some bound.room (x.settings key.client) (bound.windows key.client) x.readable key
       (one w.net key) t f.0 f.1 f.2))
+      (calm_client w.net s.calm key t at r (ended_is_silent.ticks (client_context x key w.net.now) t))
 
   clients_kept : (keys : List Key) (w : World S) → Kept w → Kept (ticks_as_client S x keys w)
   clients_kept [] w s = s
@@ -189,6 +196,7 @@ module _ (S : Type 0) (shop : Shop S) (opening : ℕ → S) (W : ℕ) (x : Rules
       serves_kept w s key t at v (quiet w key v (ticks_quiet (server_context x key w.net.now) (w.net.entries key)))
       (net_server W w.net key t at s.net v (server_ticks_kept W x.overtake bound.some bound.room (x.settings key.server) (bound.windows key.server)
       (service_of S shop w key) key (one w.net key) t (w.net.entries key) f.0 f.1 f.2))
+      (calm_ticks w.net s.calm key (server_context x key w.net.now) refl refl)
   entry_kept w s key None at = go (w.net.entries key) refl (sound_at W w.net key None at s.net).no_entry
     where
       all_there : (posts : List Post) → posts ++ [] ≡ posts

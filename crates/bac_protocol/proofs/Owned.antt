@@ -1,6 +1,6 @@
 -- In every run all copies are their transactions' own, and have the windows of their ends.
 use Rattle.std.proofs.Common.{◌≡◌, ℕ, zero, suc, ◌-◌, ◌⊎◌, Bool, true, false, ◌&&◌, List, [], ◌∷◌, ◌++◌, map, Option, Some, None, slice_get}
-use Rattle.std.proofs.Common.{if◌then◌else◌, nat_le, refl, sym, subst, inl, inr, arith}
+use Rattle.std.proofs.Common.{if◌then◌else◌, nat_le, nat_eq, refl, sym, subst, inl, inr, arith}
 use Rattle.bac_apdu.specs.Apdu.{Apdu}
 use Rattle.bac_apdu.specs.Apdu.Apdu.{ConfirmedRequest, ComplexAck}
 use Rattle.bac_protocol.specs.Times.{LIFE}
@@ -161,8 +161,8 @@ module _ (x : Rules) where
         → Owned (if up then takes_at_server S shop x w key free a else takes_at_client S x w key a (w.net.tickets key)).net
     arrives_owned w h key free a sent true up =
         let c = server_context x key w.net.now in
-        server_owned w.net h key (server.server_gets c (service_of S shop w key) (w.net.entries key) free a)
-        (server_gets_own c (service_of S shop w key) (IsSentByServer x key) (IsLesser x key) (server_has key w.net.now) (w.net.entries key) free a
+        server_owned w.net h key (server.server_gets c (service_of S shop w key) (w.net.entries key) (is_room w.net key free) a)
+        (server_gets_own c (service_of S shop w key) (IsSentByServer x key) (IsLesser x key) (server_has key w.net.now) (w.net.entries key) (is_room w.net key free) a
         (begins_request key a up sent) (h.entries key))
     arrives_owned w h key free a sent false down = takes_owned w h key a down sent (w.net.tickets key) (h.tickets key)
 

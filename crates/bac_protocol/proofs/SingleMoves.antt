@@ -1,5 +1,5 @@
 -- After any moves a net is in order.
-use Rattle.std.proofs.Common.{◌≡◌, ℕ, ◌-◌, ◌≤◌, ◌⊎◌, Bool, true, false, ◌&&◌, List, [], ◌∷◌, ◌++◌, Option, Some, None, slice_get, nat_le, refl, sym, ap, subst}
+use Rattle.std.proofs.Common.{◌≡◌, ℕ, ◌-◌, ◌≤◌, ◌⊎◌, Bool, true, false, ◌&&◌, List, [], ◌∷◌, ◌++◌, Option, Some, None, slice_get, nat_le, nat_eq, refl, sym, ap, subst}
 use Rattle.std.proofs.Common.{inl, inr, arith, if◌then◌else◌}
 use Rattle.std.proofs.lemmas.Bool.Decides.{nat_tests}
 use Rattle.bac_protocol.specs.Times.{LIFE}
@@ -36,6 +36,7 @@ all_there (p ∷ posts) = ap (λ ps. p ∷ ps) (all_there posts)
 module _ (W : ℕ) (x : Rules) (bound : IsBounded W x) where
   record Sound (n : Net) : Type 0 where
     net : NetSound W n
+    calm : Calm n
     own : (key : Key) → IsOwnEntry key.invoke_id (n.entries key)
 
   own_set : (n : Net) → Sound n → (key : Key) (o : Option Entry) → IsOwnEntry key.invoke_id o → (k : Key) → IsOwnEntry k.invoke_id (set_at n.entries key o k)
@@ -52,21 +53,23 @@ module _ (W : ℕ) (x : Rules) (bound : IsBounded W x) where
       (copy_at number n.posts p at))
 
   arrives_sound : (n : Net) → Sound n → (number : ℕ) (p : Post) → slice_get n.posts number ≡ Some p → n.now - p.copy.moment ≤ LIFE
-      → later p.key number n.posts ≤ x.overtake → (free : Bool) (service : Service) (o : Option Ticket) → n.tickets p.key ≡ o → (up : Bool)
+      → later p.key number n.posts ≤ x.overtake → (free : Bool) (service : Service) (o : Option Ticket) → n.tickets p.key ≡ o → (up : Bool) → is_from_client p.copy.apdu ≡ up
       → Sound (if up then taken_by_server x n p free service else taken_by_client x n p o)
-  arrives_sound n s number p at young few free service None is up = absurd (posted n s number p at is)
-  arrives_sound n s number p at young few free service (Some t) is true =
+  arrives_sound n s number p at young few free service None is up way = absurd (posted n s number p at is)
+  arrives_sound n s number p at young few free service (Some t) is true way =
       let f = sound_at W n p.key (Some t) is s.net in
       let says = ((f.2).arriving (later p.key number n.posts) p.copy (copy_at number n.posts p at) young).1 in
-      let v = server.server_gets (server_context x p.key n.now) service (n.entries p.key) free p.copy.apdu in
+      let v = server.server_gets (server_context x p.key n.now) service (n.entries p.key) (is_room n p.key free) p.copy.apdu in
       record {
         net = net_server W n p.key t is s.net v
             (server_gets_kept W x.overtake bound.some bound.room (x.settings p.key.server) (bound.windows p.key.server) service p.key
-            (one n p.key) t (n.entries p.key) f.0 f.1 f.2 free p.copy.moment (later p.key number n.posts) few young p.copy.apdu says);
+            (one n p.key) t (n.entries p.key) f.0 f.1 f.2 (is_room n p.key free) (room_opens n p.key free) p.copy.moment (later p.key number n.posts) few young p.copy.apdu says);
+        calm = calm_gets n s.calm p.key (server_context x p.key n.now) refl refl service (is_room n p.key free) (later p.key number n.posts) p.copy
+            (copy_at number n.posts p at) young way;
         own = own_set n s p.key v.entry
-            (server_sends_own.gets (server_context x p.key n.now) service (n.entries p.key) free p.copy.apdu (s.own p.key)).1;
+            (server_sends_own.gets (server_context x p.key n.now) service (n.entries p.key) (is_room n p.key free) p.copy.apdu (s.own p.key)).1;
       }
-  arrives_sound n s number p at young few free service (Some t) is false =
+  arrives_sound n s number p at young few free service (Some t) is false way =
       let f = sound_at W n p.key (Some t) is s.net in
       let says = ((f.2).arriving (later p.key number n.posts) p.copy (copy_at number n.posts p at) young).1 in
       let r = client.client_gets (client_context x p.key n.now) x.readable t p.copy.apdu in
@@ -74,6 +77,7 @@ module _ (W : ℕ) (x : Rules) (bound : IsBounded W x) where
         net = net_client W n p.key t is s.net r
             (client_gets_kept W x.overtake bound.some bound.room (x.settings p.key.client) (bound.windows p.key.client) x.readable p.key
             (one n p.key) t f.0 f.1 f.2 p.copy.moment (later p.key number n.posts) few p.copy.apdu says);
+        calm = calm_client n s.calm p.key t is r (ended_is_silent.gets (client_context x p.key n.now) x.readable t p.copy.apdu);
         own = s.own;
       }
 
@@ -85,7 +89,7 @@ module _ (W : ℕ) (x : Rules) (bound : IsBounded W x) where
       go : (a b : Bool) → nat_le (n.now - p.copy.moment) LIFE ≡ a → nat_le (later p.key number n.posts) x.overtake ≡ b
           → Sound (if a && b then (if is_from_client p.copy.apdu then taken_by_server x n p free service else taken_by_client x n p (n.tickets p.key)) else n)
       go true true young few = arrives_sound n s number p at (grind (arith, nat_tests)) (grind (arith, nat_tests)) free service (n.tickets p.key) refl
-          (is_from_client p.copy.apdu)
+          (is_from_client p.copy.apdu) refl
       go true false young few = s
       go false b young few = s
 
@@ -98,6 +102,7 @@ module _ (W : ℕ) (x : Rules) (bound : IsBounded W x) where
         net = net_client W n key t is s.net r
             (client_ticks_kept W x.overtake bound.some bound.room (x.settings key.client) (bound.windows key.client) x.readable key
             (one n key) t f.0 f.1 f.2);
+        calm = calm_client n s.calm key t is r (ended_is_silent.ticks (client_context x key n.now) t);
         own = s.own;
       }
 
@@ -110,6 +115,7 @@ module _ (W : ℕ) (x : Rules) (bound : IsBounded W x) where
         net = net_server W n key t is s.net v
             (server_ticks_kept W x.overtake bound.some bound.room (x.settings key.server) (bound.windows key.server)
             (λ choice octets. Rejects 0) key (one n key) t (n.entries key) f.0 f.1 f.2);
+        calm = calm_ticks n s.calm key (server_context x key n.now) refl refl;
         own = own_set n s key v.entry (server_sends_own.ticks (server_context x key n.now) (n.entries key) (s.own key)).1;
       }
   entry_sound n s key None is = go (n.entries key) refl (sound_at W n key None is s.net).no_entry
@@ -153,7 +159,7 @@ module _ (W : ℕ) (x : Rules) (bound : IsBounded W x) where
         posted = posted n s;
         entered = λ key is. (sound_at W n key None is s.net).no_entry;
         own = s.own;
-        dead = λ key free. none_live_of n.now (n.entries key) (spent_at W n key (n.tickets key) refl (s.net.each key) free).dead;
+        dead = λ key free. none_live_of n.now (n.entries key) (spent_free W n s.net s.calm key free).dead;
       }
 
 -- One place of a table.
