@@ -1,6 +1,6 @@
 -- After every run the log is right with the stores.
 use Rattle.std.proofs.Common.{◌≡◌, ℕ, ◌-◌, ◌<◌, ◌≤◌, Bool, true, false, ◌&&◌, List, [], ◌∷◌, ◌++◌, Option, Some, None, slice_get, if◌then◌else◌}
-use Rattle.std.proofs.Common.{nat_le, refl, sym, ap, subst, inl, inr, arith}
+use Rattle.std.proofs.Common.{nat_le, nat_eq, ◌∙◌, refl, sym, ap, subst, inl, inr, arith}
 use Rattle.std.proofs.lemmas.Bool.Decides.{nat_tests}
 use Rattle.bac_protocol.specs.Times.{LIFE}
 use Rattle.bac_protocol.specs.Service.{Octets, Request, Ending}
@@ -9,19 +9,23 @@ use Rattle.bac_protocol.specs.Client as client
 use Rattle.bac_protocol.specs.Client.{Ask, request_of, Ticket}
 use Rattle.bac_protocol.specs.Server as server
 use Rattle.bac_protocol.specs.Server.{Entry, Effect}
-use Rattle.bac_protocol.specs.Log.{Fact, Has, asks_in, Shop, IsOnce, HasNoChange, IsOnceByRequests, IsOrderly}
-use Rattle.bac_protocol.specs.Log.Fact.{Asked, Performed, Ended, Changed}
+use Rattle.bac_protocol.specs.Log.{Fact, Has, asks_in, Shop, AreSame, MayEnter, IsOnce, HasNoRestart, IsOnceInOneLife, HasNoChange, IsOnceByRequests, IsOrderly}
+use Rattle.bac_protocol.specs.Log.Fact.{Asked, Performed, Ended, Changed, Restarted}
 use Rattle.bac_protocol.specs.Transaction.{Key, Rules, Copy, ended, client_context, server_context}
-use Rattle.bac_protocol.specs.World.{Net, World, Post, Event, later, client_acts, server_acts, asked_at, is_key_held, service_of, reacts}
+use Rattle.bac_protocol.specs.World.{Net, World, Post, Event, later, client_acts, server_acts, asked_at, is_id_held, is_room, service_of, reacts}
 use Rattle.bac_protocol.specs.World.{serves, ask_made, takes_at_client, takes_at_server, arrives, delivered, ticks_ticket, ticks_as_client}
 use Rattle.bac_protocol.specs.World.{ticks_as_server, stored, happens, run, start}
-use Rattle.bac_protocol.specs.World.Event.{MakeAsk, Deliver, Tick, Noise, Advance, Change}
+use Rattle.bac_protocol.specs.World.Event.{MakeAsk, Deliver, Tick, Noise, Advance, Change, RestartClient, RestartServer}
 use Rattle.bac_protocol.specs.Claims.{IsBounded}
 use Rattle.bac_protocol.proofs.Alone.{one}
 use Rattle.bac_protocol.proofs.ClientKeeps.{client_gets_kept, client_ticks_kept}
 use Rattle.bac_protocol.proofs.ServerKeeps.{server_gets_kept, server_ticks_kept}
 use Rattle.bac_protocol.proofs.Keys.{copy_at, set_nothing}
-use Rattle.bac_protocol.proofs.Nets.{IsLogOf, log_of, NetSound, sound_at, net_client, net_server, net_asked, spent_at, net_changed, net_later, net_starts}
+use Rattle.bac_protocol.proofs.Nets.{IsLogOf, log_of, NetSound, sound_at, net_client, net_server, net_asked, net_changed, net_later, net_starts}
+use Rattle.bac_protocol.proofs.Nets.{room_opens, net_client_restarted, net_server_restarted}
+use Rattle.bac_protocol.proofs.Calm.{Calm, calm_client, calm_gets, calm_ticks, calm_asked, calm_later, calm_server_restarted, calm_client_restarted}
+use Rattle.bac_protocol.proofs.Calm.{calm_changed, calm_start, id_free, spent_free}
+use Rattle.bac_protocol.proofs.Dead.{ended_is_silent}
 use Rattle.bac_protocol.proofs.Served.{IsServed, gets_served, ticks_quiet}
 
 -- An ask has one request.
@@ -36,6 +40,8 @@ has_below n c s r (Ended m how ∷ log) o (inl e) = absurd cc
 has_below n c s r (Ended m how ∷ log) o (inr h) = has_below n c s r log o.2 h
 has_below n c s r (Changed a b ∷ log) o (inl e) = absurd cc
 has_below n c s r (Changed a b ∷ log) o (inr h) = has_below n c s r log o h
+has_below n c s r (Restarted a b ∷ log) o (inl e) = absurd cc
+has_below n c s r (Restarted a b ∷ log) o (inr h) = has_below n c s r log o h
 
 -- the two facts that a log has of one ask are one
 pub asked_once : (n c s d u : ℕ) (q r : Request) (log : List Fact) → IsOrderly log → Has (Asked n c s q) log → Has (Asked n d u r) log → q ≡ r
@@ -55,6 +61,9 @@ asked_once n c s d u q r (Ended m how ∷ log) o (inr h) (inr k) = asked_once n 
 asked_once n c s d u q r (Changed a b ∷ log) o (inl e) k = absurd cc
 asked_once n c s d u q r (Changed a b ∷ log) o (inr h) (inl f) = absurd cc
 asked_once n c s d u q r (Changed a b ∷ log) o (inr h) (inr k) = asked_once n c s d u q r log o h k
+asked_once n c s d u q r (Restarted a b ∷ log) o (inl e) k = absurd cc
+asked_once n c s d u q r (Restarted a b ∷ log) o (inr h) (inl f) = absurd cc
+asked_once n c s d u q r (Restarted a b ∷ log) o (inr h) (inr k) = asked_once n c s d u q r log o h k
 
 pub net_log : (W : ℕ) (n : Net) → NetSound W n → IsLogOf n.asks n.log
 net_log W n s = let key : Key = record { client = 0; server = 0; invoke_id = 0 } in log_of W key (n.tickets key) (one n key) (s.each key)
@@ -70,6 +79,25 @@ by_requests S shop opening (Asked n c s r ∷ log) stores none h = (h.0, h.1, by
 by_requests S shop opening (Performed n r p ∷ log) stores none h = (h.0, h.1, by_requests S shop opening log h.0 none h.2)
 by_requests S shop opening (Ended n how ∷ log) stores none h = (h.0, h.1, by_requests S shop opening log h.0 none h.2)
 by_requests S shop opening (Changed s c ∷ log) stores none h = absurd none
+by_requests S shop opening (Restarted s o ∷ log) stores none h = (h.0, (none.0, kept o none.0 h.1), by_requests S shop opening log h.0 none.1 h.2)
+  where
+    same : (node : ℕ) (b : Bool) → nat_eq node s ≡ b → (if b then h.0 s else h.0 node) ≡ h.0 node
+    same node true e = let is : s ≡ node = grind (arith, nat_tests) in ap h.0 is
+    same node false e = refl
+
+    kept : (o : Option Octets) → o ≡ None → MayEnter S shop (Restarted s o) log h.0 stores → AreSame S h.0 stores
+    kept None is may = λ node. may node ∙ same node (nat_eq node s) refl
+    kept (Some store) is may = absurd cc
+
+-- Where no server restarts, the log is right without restarts.
+pub in_one_life : (S : Type 0) (shop : Shop S) (opening : ℕ → S) (log : List Fact) (stores : ℕ → S) → HasNoRestart log → IsOnce S shop opening log stores
+    → IsOnceInOneLife S shop opening log stores
+in_one_life S shop opening [] stores none h = h
+in_one_life S shop opening (Asked n c s r ∷ log) stores none h = (h.0, h.1, in_one_life S shop opening log h.0 none h.2)
+in_one_life S shop opening (Performed n r p ∷ log) stores none h = (h.0, h.1, in_one_life S shop opening log h.0 none h.2)
+in_one_life S shop opening (Ended n how ∷ log) stores none h = (h.0, h.1, in_one_life S shop opening log h.0 none h.2)
+in_one_life S shop opening (Changed s c ∷ log) stores none h = (h.0, h.1, in_one_life S shop opening log h.0 none h.2)
+in_one_life S shop opening (Restarted s o ∷ log) stores none h = absurd none
 
 -- No event moves the log and the stores apart.
 module _ (S : Type 0) (shop : Shop S) (opening : ℕ → S) (W : ℕ) (x : Rules) (bound : IsBounded W x) where
@@ -214,20 +242,33 @@ module _ (S : Type 0) (shop : Shop S) (opening : ℕ → S) (W : ℕ) (x : Rules
       (server.server_ticks (server_context x key w.net.now) (w.net.entries key))) (entry_kept w s key (w.net.tickets key) refl)
 
   pub event_kept : (w : World S) → Kept w → (e : Event) → Kept (happens S shop x w e)
-  event_kept w s (MakeAsk key choice whole front rest) = asks_kept w s key choice whole front rest (is_key_held w.net.now (w.net.tickets key)) refl
+  event_kept w s (MakeAsk key choice whole front rest) = asks_kept w s key choice whole front rest (is_id_held w.net key) refl
   event_kept w s (Deliver number free) = delivered_kept w s number free (slice_get w.net.posts number) refl
   event_kept w s (Tick as_client as_server) = servers_kept as_server (ticks_as_client S x as_client w) (clients_kept as_client w s)
   event_kept w s Noise = s
-  event_kept w s (Advance by) = record { net = net_later W by w.net s.net; once = s.once }
-  event_kept w s (Change node change) =
-      record { net = net_changed W w.net node change s.net; once = (w.stores, λ n. refl, s.once) }
+  event_kept w s (Advance by) = record { net = net_later W by w.net s.net; calm = calm_later w.net by s.calm; once = s.once }
+  event_kept w s (Change node change) = record {
+    net = net_changed W w.net node change s.net;
+    calm = calm_changed w.net node change s.calm;
+    once = (w.stores, λ n. refl, s.once);
+  }
+  event_kept w s (RestartClient node) = record {
+    net = net_client_restarted W w.net node s.net;
+    calm = calm_client_restarted w.net node s.calm;
+    once = s.once;
+  }
+  event_kept w s (RestartServer node store) = record {
+    net = net_server_restarted W w.net node store s.net;
+    calm = calm_server_restarted w.net node store s.calm;
+    once = (w.stores, λ n. refl, s.once);
+  }
 
   pub run_kept : (events : List Event) (w : World S) → Kept w → Kept (run S shop x events w)
   run_kept [] w s = s
   run_kept (e ∷ es) w s = run_kept es (happens S shop x w e) (event_kept w s e)
 
   pub start_kept : Kept (start S opening)
-  start_kept = record { net = net_starts W; once = λ node. refl }
+  start_kept = record { net = net_starts W; calm = calm_start; once = λ node. refl }
 
   pub headline : (events : List Event) → IsOnce S shop opening (run S shop x events (start S opening)).net.log (run S shop x events (start S opening)).stores
   headline events = (run_kept events (start S opening) start_kept).once

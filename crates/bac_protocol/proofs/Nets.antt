@@ -1,10 +1,11 @@
 -- What holds of one transaction holds of each of many.
-use Rattle.std.proofs.Common.{◌≡◌, ℕ, ◌+◌, ◌-◌, ◌<◌, ◌≤◌, ◌≢◌, ◌⊎◌, Bool, true, false, ◌||◌, not, List, ◌∷◌, Option, Some, None, nat_le, nat_lt, nat_eq, refl, sym, if◌then◌else◌}
+use Rattle.std.proofs.Common.{◌≡◌, ℕ, ◌+◌, ◌-◌, ◌<◌, ◌≤◌, ◌≢◌, ◌⊎◌, Bool, true, false, ◌||◌, not, List, ◌∷◌, Option, Some, None}
+use Rattle.std.proofs.Common.{nat_lt, nat_eq, refl, sym, if◌then◌else◌}
 use Rattle.std.proofs.Common.{ap, subst, inl, inr, ◌∙◌, arith, zero-add}
 use Rattle.std.proofs.lemmas.Bool.Decides.{nat_tests}
 use Rattle.bac_apdu.specs.Apdu.{Apdu}
 use Rattle.bac_apdu.specs.Apdu.Apdu.{SimpleAck, ComplexAck, Error, Reject, Abort}
-use Rattle.bac_protocol.specs.Times.{KEEP, HOLD}
+use Rattle.bac_protocol.specs.Times.{KEEP}
 use Rattle.bac_protocol.specs.Service.{Octets, Ending}
 use Rattle.bac_protocol.specs.Client as client
 use Rattle.bac_protocol.specs.Client.{Ask, request_of, Phase, Ticket}
@@ -13,15 +14,17 @@ use Rattle.bac_protocol.specs.Server as server
 use Rattle.bac_protocol.specs.Server.{State, Entry, Effect}
 use Rattle.bac_protocol.specs.Server.State.{Done, SegmentedResponse, Dropped}
 use Rattle.bac_protocol.specs.Log.{Fact, asks_in, IsUnperformed, IsUnended, IsOrderly}
-use Rattle.bac_protocol.specs.Log.Fact.{Asked, Performed, Ended, Changed}
+use Rattle.bac_protocol.specs.Log.Fact.{Asked, Performed, Ended, Changed, Restarted}
 use Rattle.bac_protocol.specs.Transaction.{Key, Rules, ended, performed, client_context}
-use Rattle.bac_protocol.specs.World.{Net, set_at, client_acts, server_acts, asked_at, notes_change, is_key_held, net_start}
+use Rattle.bac_protocol.specs.World.{Net, set_at, client_acts, server_acts, asked_at, notes_change, is_room, net_start}
+use Rattle.bac_protocol.specs.World.{lost, client_restarted, server_restarted}
 use Rattle.bac_protocol.proofs.Alone.{Transaction, client_does, server_does, asked_by, one}
-use Rattle.bac_protocol.proofs.Sound.{OfAsk, IsOfOther, IsBelow, Up, Down, IsKeptFor, IsUnbegun, StateFits, ServerFits, IsOpenIn, IsSoundAt, IsSound}
+use Rattle.bac_protocol.proofs.Sound.{OfAsk, IsOfOther, IsBelow, Up, Down, IsKeptFor, IsUnbegun, StateFits, WasGiven, ServerFits, IsOpenIn, IsSoundAt, IsSound}
 use Rattle.bac_protocol.proofs.Sound.Up.{Reading}
-use Rattle.bac_protocol.proofs.Sound.Down.{Unsent}
+use Rattle.bac_protocol.proofs.Sound.Down.{Unsent, Sent}
+use Rattle.bac_protocol.proofs.ClientKeeps.{lost_more, state_read, state_performed}
 use Rattle.bac_protocol.proofs.Facts.{of_ask, below_has, says_goes, up_same, down_same, grows_more}
-use Rattle.bac_protocol.proofs.Asks.{IsSpent, spent_fresh, asked_sound, spent_of}
+use Rattle.bac_protocol.proofs.Asks.{IsSpent, asked_sound}
 use Rattle.bac_protocol.proofs.Keys.{decide_key, set_same, set_other, copies_posted, copies_other}
 
 -- What one transaction does is nothing to another.
@@ -31,12 +34,14 @@ unperformed_more n (Asked m c s r) log ne h = h
 unperformed_more n (Performed m r p) log ne h = (ne, h)
 unperformed_more n (Ended m how) log ne h = h
 unperformed_more n (Changed s c) log ne h = h
+unperformed_more n (Restarted s o) log ne h = h
 
 unended_more : (n : ℕ) (f : Fact) (log : List Fact) → IsOfOther n f → IsUnended n log → IsUnended n (f ∷ log)
 unended_more n (Asked m c s r) log ne h = h
 unended_more n (Performed m r p) log ne h = h
 unended_more n (Ended m how) log ne h = (ne, h)
 unended_more n (Changed s c) log ne h = h
+unended_more n (Restarted s o) log ne h = h
 
 open_more : (phase : Phase) (n : ℕ) (f : Fact) (log : List Fact) → IsOfOther n f → IsOpenIn phase n log → IsOpenIn phase n (f ∷ log)
 open_more (Phase.SegmentedRequest out all_sent) n f log ne h = unended_more n f log ne h
@@ -68,11 +73,13 @@ state_more W number ask f log (SegmentedResponse out transfer since) up down ne 
 state_more W number ask f log Dropped (Reading t s) Unsent ne h = (h.0, unperformed_more number f log ne h.1)
 state_more W number ask f log _ _ _ ne h = absurd h
 
-server_more : (W number : ℕ) (ask : Ask) (f : Fact) (log : List Fact) (up : Up) (down : Down) (o : Option Entry) → IsOfOther number f
-    → ServerFits W number ask o up down log → ServerFits W number ask o up down (f ∷ log)
-server_more W number ask f log up down None ne h = unbegun_more number f log up down ne h
-server_more W number ask f log up down (Some e) ne (inl h) = inl (record { dead = h.dead; unbegun = unbegun_more number f log up down ne h.unbegun })
-server_more W number ask f log up down (Some e) ne (inr h) = inr
+server_more : (W opens number : ℕ) (ask : Ask) (f : Fact) (log : List Fact) (up : Up) (down : Down) (o : Option Entry) → IsOfOther number f
+    → ServerFits W opens number ask o up down log → ServerFits W opens number ask o up down (f ∷ log)
+server_more W opens number ask f log up down None ne (inl h) = inl (unbegun_more number f log up down ne h)
+server_more W opens number ask f log up down None ne (inr h) = inr (lost_more opens number ask f log up down h)
+server_more W opens number ask f log up down (Some e) ne (inl h) =
+    inl (record { dead = h.dead; unbegun = unbegun_more number f log up down ne h.unbegun })
+server_more W opens number ask f log up down (Some e) ne (inr h) = inr
     (record { after = h.after; before = h.before; choice = h.choice; state = state_more W number ask f log e.state up down ne h.state })
 
 -- what any transaction's soundness says of the log
@@ -284,7 +291,11 @@ net_asked W some x n key s spent choice whole front rest = net_keeps W n (asked_
 
 -- a server that begins entries does not wait
 pub room_opens : (n : Net) (key : Key) (free : Bool) → is_room n key free ≡ true → n.serves_from key.server ≤ n.now
-room_opens n key true e = grind (arith, nat_tests)
+room_opens n key true e = go (nat_lt n.now (n.serves_from key.server)) refl e
+  where
+    go : (b : Bool) → nat_lt n.now (n.serves_from key.server) ≡ b → not b ≡ true → n.serves_from key.server ≤ n.now
+    go true is h = absurd cc
+    go false is h = grind (arith, nat_tests)
 room_opens n key false e = absurd cc
 
 -- Restarts.
@@ -326,10 +337,10 @@ loses_entry W key w (Some t) s = (
   },
 )
 
-pub net_server_restarted : (W : ℕ) (n : Net) (node seed : ℕ) → NetSound W n → NetSound W (server_restarted n node seed)
-net_server_restarted W n node seed s = record { each = λ key. each key (nat_eq key.server node); apart = s.apart }
+pub net_server_restarted : (W : ℕ) (n : Net) (node : ℕ) (store : Option Octets) → NetSound W n → NetSound W (server_restarted n node store)
+net_server_restarted W n node store s = record { each = λ key. each key (nat_eq key.server node); apart = s.apart }
   where
-    log : (key : Key) → IsLogOf n.asks (Restarted node seed ∷ n.log)
+    log : (key : Key) → IsLogOf n.asks (Restarted node store ∷ n.log)
     log key =
         let h = log_of W key (n.tickets key) (one n key) (s.each key) in
         record { numbers = (tt, h.numbers); counted = h.counted; orderly = h.orderly }
@@ -337,11 +348,11 @@ net_server_restarted W n node seed s = record { each = λ key. each key (nat_eq 
     each : (key : Key) (b : Bool) → IsSoundAt W key (n.tickets key) (record (one n key) {
       entry = if b then None else n.entries key;
       opens = if b then n.now + KEEP + 1 else n.serves_from key.server;
-      log = Restarted node seed ∷ n.log;
+      log = Restarted node store ∷ n.log;
     })
-    each key true = elsewhere W n.asks key (Restarted node seed) (record (one n key) { entry = None; opens = n.now + KEEP + 1 }) (n.tickets key) (log key)
+    each key true = elsewhere W n.asks key (Restarted node store) (record (one n key) { entry = None; opens = n.now + KEEP + 1 }) (n.tickets key) (log key)
         (λ t at. tt) (loses_entry W key (one n key) (n.tickets key) (s.each key))
-    each key false = elsewhere W n.asks key (Restarted node seed) (one n key) (n.tickets key) (log key) (λ t at. tt) (s.each key)
+    each key false = elsewhere W n.asks key (Restarted node store) (one n key) (n.tickets key) (log key) (λ t at. tt) (s.each key)
 
 -- the ticket is lost
 loses_ticket : (W : ℕ) (key : Key) (w : Transaction) (o : Option Ticket) → IsSoundAt W key o w → IsSoundAt W key (lost o) w

@@ -71,6 +71,19 @@ stays_in : (e : Entry) (o : Option Entry) → StaysAs e e.state o → StaysIn e 
 stays_in e None h = absurd h
 stays_in e (Some d) h = h
 
+-- what holds of the moment at which an entry began
+abbrev pub BeginIs : (ℕ → Type 0) → Option Entry → Type 0
+BeginIs P None = Unit {0}
+BeginIs P (Some e) = P e.begin
+
+same_begin : (P : ℕ → Type 0) (e : Entry) (o : Option Entry) → P e.begin → SameIn e o → BeginIs P o
+same_begin P e None p h = absurd h
+same_begin P e (Some d) p h = subst P (sym h.begin) p
+
+same_state_begin : (P : ℕ → Type 0) (e : Entry) (st : State) (o : Option Entry) → P e.begin → StaysAs e st o → BeginIs P o
+same_state_begin P e st None p h = absurd h
+same_state_begin P e st (Some d) p h = subst P (sym h.0.begin) p
+
 -- What comes.
 module _ (c : Context) (service : Service) where
   abbrev Performs : (Octets → Type 0) → (Entry → Type 0) → Reaction → Type 0
@@ -173,6 +186,30 @@ module _ (c : Context) (service : Service) where
       choice limits g octets (λ m. (m, refl))
       (λ d h. record { begin = h.begin; said = (h.choice, h.limits); request = h.request })
   idle_served dead free _ = tt
+
+  idle_begin : (P : ℕ → Type 0) → P c.now → (dead : Option Entry) → BeginIs P dead → (free : Bool) (a : Apdu)
+      → BeginIs P (server.idle_gets c service dead free a).entry
+  idle_begin P now dead h true (ConfirmedRequest limits i None choice octets) =
+      let e = server.begins c choice limits (Some octets) in
+      same_begin P e (server.performs c service e [] octets).entry now (performs_served (λ o. Unit {0}) e [] octets tt).1
+  idle_begin P now dead h false (ConfirmedRequest limits i None choice octets) = h
+  idle_begin P now dead h free (ConfirmedRequest limits i (Some g) choice octets) = go (nat_eq g.number 0) free
+    where
+      e : Entry
+      e = server.begins c choice limits None
+
+      inc : Incoming
+      inc = incoming c.settings.window g.window
+
+      first : Reaction
+      first = server.request_segment_taken c service e g.number inc.window (takes inc g.number g.more octets)
+
+      go : (b d : Bool) → BeginIs P (if not b then server.rests dead [] else if d then first
+          else server.rests dead (server.server_abort c OTHER ∷ [])).entry
+      go true true = same_begin P e first.entry now (request_segment_served (λ o. Unit {0}) e inc g.number inc.window g.more octets (λ m. tt)).1
+      go true false = h
+      go false d = h
+  idle_begin P now dead h free _ = h
 
   -- a live one is receiving
   segmented_request_served : (e : Entry) (inc : Incoming) (since : ℕ) (a : Apdu)
@@ -277,6 +314,16 @@ module _ (c : Context) (service : Service) where
       go true is = stays_in e (server.live_gets c service e e.state a).entry (live_served e e.state a (stays e.state)).1
       go false is = absurd cc
 
+  -- an entry begins now, or as the one before it
+  pub gets_begin : (P : ℕ → Type 0) → P c.now → (o : Option Entry) → BeginIs P o → (free : Bool) (a : Apdu)
+      → BeginIs P (server.server_gets c service o free a).entry
+  gets_begin P now None h free a = idle_begin P now None h free a
+  gets_begin P now (Some e) h free a = go (is_live c.now e)
+    where
+      go : (b : Bool) → BeginIs P (if b then server.live_gets c service e e.state a else server.idle_gets c service (Some e) free a).entry
+      go true = same_state_begin P e e.state (server.live_gets c service e e.state a).entry h (live_served e e.state a (stays e.state)).1
+      go false = idle_begin P now (Some e) h free a
+
   -- who may perform
   may_perform : (entry : Option Entry) (free : Bool) (a : Apdu) → MayPerform c.now entry ⊎ ((server.server_gets c service entry free a).effect ≡ None)
   may_perform None free a = inl tt
@@ -362,6 +409,10 @@ module _ (c : Context) where
       go : (b : Bool) → Ticks e e.state (if b then server.live_ticks c e e.state else server.rests (Some e) [])
       go true = live_ticks e e.state (stays e.state)
       go false = (refl, (same e, stays e.state))
+
+  pub ticks_begin : (P : ℕ → Type 0) (o : Option Entry) → BeginIs P o → BeginIs P (server.server_ticks c o).entry
+  ticks_begin P None h = tt
+  ticks_begin P (Some e) h = same_state_begin P e e.state (server.server_ticks c (Some e)).entry h (entry_ticks e).1
 
   pub ticks_quiet : (entry : Option Entry) → (server.server_ticks c entry).effect ≡ None
   ticks_quiet None = refl

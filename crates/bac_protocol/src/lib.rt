@@ -1,8 +1,8 @@
 //! The transaction state machines of both ends (clause 5.4) as definitions, and what holds of every run of them.
 //!
 //! The definitions stand in `specs/`; the code of the client's and the server's end cites them. The functions here have no body: each carries
-//! a law as its contract. A run is any list of asks, deliveries, losses, repeats, reorderings, ticks, noise, clock steps and changes of their own
-//! stores among nodes.
+//! a law as its contract. A run is any list of asks, deliveries, losses, repeats, reorderings, ticks, noise, clock steps, changes of their own
+//! stores and restarts among nodes.
 #![tactic(auto)]
 
 pub mod examples;
@@ -15,9 +15,9 @@ pub mod times;
 
 ghost use Rattle.std.specs.Prelude.{◌≡◌, ℕ, ◌+◌, ◌*◌, ◌%◌, ◌<◌, ◌≤◌, List, Some, length, take, slice_get};
 ghost use Rattle.bac_segment.specs.Numbers.{ahead};
-ghost use Rattle.bac_protocol.specs.Log.{Fact, Shop, IsOnce, HasNoChange, IsOnceByRequests};
+ghost use Rattle.bac_protocol.specs.Log.{Fact, Shop, IsOnce, HasNoRestart, IsOnceInOneLife, HasNoChange, IsOnceByRequests};
 ghost use Rattle.bac_protocol.specs.Transaction.{Key, Rules};
-ghost use Rattle.bac_protocol.specs.World.{Post, Event, Net, count_of, later, run, start, MakeNoChange};
+ghost use Rattle.bac_protocol.specs.World.{Post, Event, Net, count_of, later, run, start, MakeNoChange, MakeNoRestart, NeverRestarted};
 ghost use Rattle.bac_protocol.specs.Beyond.{Misread};
 ghost use Rattle.bac_protocol.specs.Own.{ClientSendsOwn, ServerSendsOwn, AreOwn};
 ghost use Rattle.bac_protocol.specs.Claims.{IsBounded, IsInPlace, AreOfNewest, RequestsAreInWindow, RepliesAreInWindow, LaterPassesFindReply};
@@ -32,21 +32,31 @@ pub fn never_misread()
 {}
 
 /// After every run, from whatever stores it began: each accepted ask takes effect at most once, and exactly once where a service answer reached
-/// its client; the request performed and the answer are its own, whole; and each server's store is its opening store after the performed
-/// requests and the changes made at that node, in the log's order.
+/// its client; the request performed and the answer are its own, whole; and each server's store is that of its last start, after the performed
+/// requests and the changes made at that node since, in the log's order: at a restart it stays, or is the one that the log tells.
 pub fn at_most_once<S>()
     ensures { (shop : Shop S) (opening : ℕ → S) (W : ℕ) (rules : Rules) → IsBounded W rules → (events : List Event)
         → (let w = run S shop rules events (start S opening) in IsOnce S shop opening w.net.log w.stores) }
 {}
 
-/// Where the log has no change that was made at a node, each server's store is its opening store after the performed requests in their order; and
-/// where no event is such a change, the log has none.
+/// Where the log has no change that was made at a node, nor a restart with another store, each server's store is its opening store after the
+/// performed requests in their order; and where no event is such a one, the log has none.
 #[tactic(auto, using(crate::proofs::Headline::by_requests, crate::proofs::Unchanged::no_change_in_run))]
 pub fn requests_alone_change_stores<S>()
     ensures log { (shop : Shop S) (opening : ℕ → S) (log : List Fact) (stores : ℕ → S) → HasNoChange log → IsOnce S shop opening log stores
         → IsOnceByRequests S shop opening log stores }
     ensures run { (shop : Shop S) (rules : Rules) (opening : ℕ → S) (events : List Event) → MakeNoChange events
         → HasNoChange (run S shop rules events (start S opening)).net.log }
+{}
+
+/// Where the log has no restart, each server's store is its opening store after the performed requests and the changes made at that node, in the log's
+/// order; and where no event is a restart, the log has none, and each end asks and begins entries from the first moment on.
+#[tactic(auto, using(crate::proofs::Headline::in_one_life, crate::proofs::Unchanged::no_restart_in_run))]
+pub fn one_life_without_restarts<S>()
+    ensures log { (shop : Shop S) (opening : ℕ → S) (log : List Fact) (stores : ℕ → S) → HasNoRestart log → IsOnce S shop opening log stores
+        → IsOnceInOneLife S shop opening log stores }
+    ensures run { (shop : Shop S) (rules : Rules) (opening : ℕ → S) (events : List Event) → MakeNoRestart events
+        → (let w = run S shop rules events (start S opening) in HasNoRestart w.net.log × NeverRestarted w.net) }
 {}
 
 /// In every run, each copy that may arrive belongs to the newest ask of its client, server and invoke ID: it was sent since that ask was made and
@@ -61,21 +71,22 @@ pub fn only_newest_arrives<S>()
 /// In every run, in the first pass of each request in segments, whatever state its client and its server are in: taken <= sent <= taken + W; while
 /// the client sends, acknowledged <= taken and sent <= acknowledged + W; and each segment and SegmentACK that may arrive, with k later copies of
 /// its transaction, is of a whole number p with p < sent <= p + 1 + W + k and is read as it was meant: where it has the number of the next piece, it
-/// is the next piece; what it acknowledges was taken.
+/// is the next piece; what it acknowledges was taken. Where a server restarted since the ask, what it had taken before is not known.
 #[tactic(auto, using(crate::proofs::Claimed::requests_in_run))]
 pub fn requests_in_window<S>()
     ensures { (shop : Shop S) (opening : ℕ → S) (W : ℕ) (rules : Rules) → IsBounded W rules → (events : List Event)
         → RequestsAreInWindow W rules (run S shop rules events (start S opening)).net }
 {}
 
-/// The same in the one pass of a reply, from its first segment on and beyond the ticket's end; before it, no segment of a reply may arrive.
+/// The same in the one pass of a reply, from its first segment on and beyond the ticket's end; before it, no segment of a reply may arrive. A server that
+/// restarts in it sends no more of it, and its copies that may still arrive are of that one reply.
 pub fn replies_in_window<S>()
     ensures { (shop : Shop S) (opening : ℕ → S) (W : ℕ) (rules : Rules) → IsBounded W rules → (events : List Event)
         → RepliesAreInWindow W rules (run S shop rules events (start S opening)).net }
 {}
 
 /// In every run, once the first pass of a request in segments was acknowledged, or a repeat was made, or a segment of the reply came, a segment of
-/// the request that may still arrive finds its entry live, with a kept reply.
+/// the request that may still arrive finds its entry live, with a kept reply, or its server restarted since the ask.
 pub fn later_passes_find_reply<S>()
     ensures { (shop : Shop S) (opening : ℕ → S) (W : ℕ) (rules : Rules) → IsBounded W rules → (events : List Event)
         → LaterPassesFindReply rules (run S shop rules events (start S opening)).net }
