@@ -37,8 +37,8 @@ IsOver from c = c.moment + (if is_from_client c.apdu then REST else LIFE) < from
 -- a ticket that its client's restart took, and all that is left of it
 pub record HasLeft (from : ℕ) (t : Ticket) (entry : Option Entry) (copies : List Copy) : Type 0 where
   pub idle : is_idle t.phase ≡ true
-  pub copies : EachCopy (λ k c. IsOver from c) copies
-  pub entry : BeginIs (λ begin. begin + LIFE + KEEP < from) entry
+  pub copies_over : EachCopy (λ k c. IsOver from c) copies
+  pub entry_over : BeginIs (λ begin. begin + LIFE + KEEP < from) entry
 
 abbrev Left : (from : ℕ) → Option Ticket → Option Entry → List Copy → Type 0
 Left from None entry copies = Unit {0}
@@ -194,7 +194,7 @@ server_calm from key w s v sends own begun left = record {
     go (Some t) is h = λ lost.
         let old = h lost in
         let new = left t is old in
-        record { idle = old.idle; copies = all_sent (IsOver from) w.now v.sends w.copies new.0 old.copies; entry = new.1 }
+        record { idle = old.idle; copies_over = all_sent (IsOver from) w.now v.sends w.copies new.0 old.copies_over; entry_over = new.1 }
 
 pub calm_server : (n : Net) → Calm n → (key : Key) (v : server.Reaction) → CalmIn (n.asks_from key.client) key (server_does (one n key) v)
     → Calm (server_acts n key v)
@@ -218,10 +218,10 @@ calm_gets n s key c now id service free k p at young way =
     calm_server n s key v (server_calm (n.asks_from key.client) key (one n key) (s key) v (of key.invoke_id id).0 (of key.invoke_id id).1
     (gets_begin c service (λ begin. begin ≤ n.now) (omega arith) (n.entries key) (s key).begun free p.apdu)
     (λ t is left.
-        let over = subst (λ (b : Bool). p.moment + (if b then REST else LIFE) < n.asks_from key.client) way (left.copies k p at) in
+        let over = subst (λ (b : Bool). p.moment + (if b then REST else LIFE) < n.asks_from key.client) way (left.copies_over k p at) in
         (all_map (IsOfServer key.invoke_id) (λ a. IsOver (n.asks_from key.client) (record { moment = n.now; apdu = a }))
         (server_over (n.asks_from key.client) n.now key.invoke_id (omega arith)) v.sends (of key.invoke_id id).0,
-        gets_begin c service (λ begin. begin + LIFE + KEEP < n.asks_from key.client) (omega arith) (n.entries key) left.entry free p.apdu)))
+        gets_begin c service (λ begin. begin + LIFE + KEEP < n.asks_from key.client) (omega arith) (n.entries key) left.entry_over free p.apdu)))
   where
     v : server.Reaction
     v = server.server_gets c service (n.entries key) free p.apdu
@@ -236,8 +236,8 @@ pub calm_ticks : (n : Net) → Calm n → (key : Key) (c : Context) → c.now �
 calm_ticks n s key c now id =
     calm_server n s key v (server_calm (n.asks_from key.client) key (one n key) (s key) v (of key.invoke_id id).0 (of key.invoke_id id).1
     (ticks_begin c (λ begin. begin ≤ n.now) (n.entries key) (s key).begun)
-    (λ t is left. (over (n.entries key) left.entry (of key.invoke_id id).0,
-        ticks_begin c (λ begin. begin + LIFE + KEEP < n.asks_from key.client) (n.entries key) left.entry)))
+    (λ t is left. (over (n.entries key) left.entry_over (of key.invoke_id id).0,
+        ticks_begin c (λ begin. begin + LIFE + KEEP < n.asks_from key.client) (n.entries key) left.entry_over)))
   where
     v : server.Reaction
     v = server.server_ticks c (n.entries key)
@@ -286,7 +286,7 @@ calm_server_restarted n node store s key = go (nat_eq key.server node)
     no_entry : (o : Option Ticket) → Left (n.asks_from key.client) o (n.entries key) (one n key).copies
         → Left (n.asks_from key.client) o None (one n key).copies
     no_entry None h = tt
-    no_entry (Some t) h = λ lost. let left = h lost in record { idle = left.idle; copies = left.copies; entry = tt }
+    no_entry (Some t) h = λ lost. let left = h lost in record { idle = left.idle; copies_over = left.copies_over; entry_over = tt }
 
     go : (b : Bool) → IsCalm (n.asks_from key.client) n.now key (n.tickets key) (if b then None else n.entries key) (one n key).copies
     go true = record { sent = (s key).sent; begun = tt; own = tt; left = no_entry (n.tickets key) (s key).left }
@@ -307,8 +307,8 @@ calm_client_restarted n node s key = go (nat_eq key.client node)
     left None = tt
     left (Some t) = λ lost. record {
       idle = refl;
-      copies = λ k c at. over c ((s key).sent k c at) (is_from_client c.apdu);
-      entry = begin_more (λ m. m ≤ n.now) (λ m. m + LIFE + KEEP < from) (λ m le. omega arith) (n.entries key) (s key).begun;
+      copies_over = λ k c at. over c ((s key).sent k c at) (is_from_client c.apdu);
+      entry_over = begin_more (λ m. m ≤ n.now) (λ m. m + LIFE + KEEP < from) (λ m le. omega arith) (n.entries key) (s key).begun;
     }
 
     go : (b : Bool) → IsCalm (if b then from else n.asks_from key.client) n.now key (if b then lost (n.tickets key) else n.tickets key) (n.entries key)
@@ -357,8 +357,8 @@ spent_by W n key calm from (Some t) at s free = go (nat_le (n.asks_from key.clie
       numbers = (s.2).numbers;
       counted = (s.2).counted;
       orderly = (s.2).orderly;
-      old = λ k c e young. old c (is_from_client c.apdu) (left.copies k c e) young;
-      dead = begun (n.entries key) left.entry;
+      old = λ k c e young. old c (is_from_client c.apdu) (left.copies_over k c e) young;
+      dead = begun (n.entries key) left.entry_over;
     }
 
     go : (b : Bool) → nat_le (n.asks_from key.client) (t.ask.first + REST) ≡ b → (b && is_held n.now t) ≡ false → IsSpent (one n key)
