@@ -64,9 +64,9 @@ first_pass : (ask : Ask) (repeats t s : ℕ) → ask.whole ≡ false → PassFit
 first_pass ask repeats t s whole (inl is) = absurd (let z = sym whole ∙ is in cc)
 first_pass ask repeats t s whole (inr is) = is
 
-module _ (W : ℕ) (x : Rules) (bound : IsBounded W x) (key : Key) (some : 0 < lesser_window x key) (now asks number : ℕ) (t : Ticket) (o : Option Entry)
+module _ (W : ℕ) (x : Rules) (bound : IsBounded W x) (key : Key) (some : 0 < lesser_window x key) (opens now asks number : ℕ) (t : Ticket) (o : Option Entry)
     (copies : List Copy) (log : List Fact) (flow : Flow W x key now t.ask t.repeats t.phase o copies) (up : Up) (down : Down)
-    (s : Sound W key now asks number t o copies log up down) (young : now - t.ask.first ≤ DEADLINE)
+    (s : Sound W key opens now asks number t o copies log up down) (stays : opens ≤ t.ask.first + KEEP) (young : now - t.ask.first ≤ DEADLINE)
     (entry_window : EntryHas (IsSentByServer x key) (IsLesser x key) o) (ticket_window : TicketHas (IsLesser x key) (Some t)) where
   abbrev L : ℕ
   L = lesser_window x key
@@ -84,8 +84,9 @@ module _ (W : ℕ) (x : Rules) (bound : IsBounded W x) (key : Key) (some : 0 < l
   unbegun : live_entry now o ≡ None → IsUnbegun number up down log
   unbegun none = go o refl none s.server
     where
-      go : (y : Option Entry) → o ≡ y → live_entry now y ≡ None → ServerFits W number ask y up down log → IsUnbegun number up down log
-      go None is dead h = h
+      go : (y : Option Entry) → o ≡ y → live_entry now y ≡ None → ServerFits W opens number ask y up down log → IsUnbegun number up down log
+      go None is dead (inl h) = h
+      go None is dead (inr lost) = let since = lost.before in absurd (omega arith)
       go (Some e) is dead (inl past) = past.unbegun
       go (Some e) is dead (inr begun) =
           let after = begun.after in
@@ -247,9 +248,9 @@ module _ (W : ℕ) (x : Rules) (bound : IsBounded W x) (key : Key) (some : 0 < l
         }
 
   live_begun_for : (e : Entry) → o ≡ Some e → is_live now e ≡ true → IsBegunFor W number ask e up down log
-  live_begun_for e at live = go (subst (λ (y : Option Entry). ServerFits W number ask y up down log) at s.server)
+  live_begun_for e at live = go (subst (λ (y : Option Entry). ServerFits W opens number ask y up down log) at s.server)
     where
-      go : ServerFits W number ask (Some e) up down log → IsBegunFor W number ask e up down log
+      go : ServerFits W opens number ask (Some e) up down log → IsBegunFor W number ask e up down log
       go (inl past) = let d = past.dead in let c = s.clock in absurd (grind (arith, nat_tests))
       go (inr begun) = begun
 
@@ -261,7 +262,7 @@ module _ (W : ℕ) (x : Rules) (bound : IsBounded W x) (key : Key) (some : 0 < l
 
 pub ends_in_step : (S : Type 0) (shop : Shop S) (opening : ℕ → S) (W : ℕ) (x : Rules) → IsBounded W x → (events : List Event)
     → EndsAreInStep S x (run S shop x events (start S opening))
-ends_in_step S shop opening W x bound events key windows t at young =
+ends_in_step S shop opening W x bound events key windows t at stays young =
     let w = run S shop x events (start S opening) in
     let s = run_kept S shop opening W x bound events (start S opening) (start_kept S shop opening W x bound) in
     let a = windows.client in
@@ -270,8 +271,8 @@ ends_in_step S shop opening W x bound events key windows t at young =
     let flow = flows_in_run W x bound key some S shop opening events t at in
     let own = own_in_run x S shop opening events in
     let f = sound_at W w.net key (Some t) at s.net in
-    in_step W x bound key some w.net.now w.net.asks (w.net.numbers key) t (w.net.entries key) (copies_of key w.net.posts) w.net.log flow f.0 f.1 f.2
-    young (own.entries key) (subst (λ (y : Option Ticket). TicketHas (IsLesser x key) y) at (own.tickets key))
+    in_step W x bound key some (w.net.serves_from key.server) w.net.now w.net.asks (w.net.numbers key) t (w.net.entries key) (copies_of key w.net.posts) w.net.log flow f.0 f.1 f.2
+    stays young (own.entries key) (subst (λ (y : Option Ticket). TicketHas (IsLesser x key) y) at (own.tickets key))
     (live_entry w.net.now (w.net.entries key)) refl
 
 module _ (S : Type 0) (shop : Shop S) (opening : ℕ → S) (W : ℕ) (x : Rules) (bound : IsBounded W x) (events : List Event) where
@@ -279,12 +280,12 @@ module _ (S : Type 0) (shop : Shop S) (opening : ℕ → S) (W : ℕ) (x : Rules
   reached = run S shop x events (start S opening)
 
   pub after_any_past : AfterAnyPast S shop x reached
-  after_any_past key t at good p can as_client as_server turn count v straight stops =
+  after_any_past key t at stays good p can as_client as_server turn count v straight stops =
       in_step_is_answered S shop opening W x bound events key t at
-      (ends_in_step S shop opening W x bound events key (record { client = good.client; server = good.server }) t at can.in_time)
+      (ends_in_step S shop opening W x bound events key (record { client = good.client; server = good.server }) t at stays can.in_time)
       good p can as_client as_server turn count v straight stops
 
   pub answering_run : AnsweringRunExists S shop x reached
-  answering_run key t at good p can =
+  answering_run key t at stays good p can =
       in_step_runs S shop opening W x bound reached (run_kept S shop opening W x bound events (start S opening) (start_kept S shop opening W x bound))
-      key t at good p can (ends_in_step S shop opening W x bound events key (record { client = good.client; server = good.server }) t at can.in_time)
+      key t at good p can (ends_in_step S shop opening W x bound events key (record { client = good.client; server = good.server }) t at stays can.in_time)

@@ -44,15 +44,17 @@ abbrev Left : (from : ℕ) → Option Ticket → Option Entry → List Copy → 
 Left from None entry copies = Unit {0}
 Left from (Some t) entry copies = t.ask.first + REST < from → HasLeft from t entry copies
 
--- one transaction: nothing of it is later than now, its entry is its own, and what a lost ticket has left is over in time
-pub record IsCalm (from now : ℕ) (key : Key) (ticket : Option Ticket) (entry : Option Entry) (copies : List Copy) : Type 0 where
+-- one transaction: nothing of it is later than now, its entry is its own and began when its server did not wait, and what a lost ticket has left is over
+-- in time
+pub record IsCalm (from opens now : ℕ) (key : Key) (ticket : Option Ticket) (entry : Option Entry) (copies : List Copy) : Type 0 where
   pub sent : EachCopy (λ k c. c.moment ≤ now) copies
   pub begun : BeginIs (λ begin. begin ≤ now) entry
+  pub opened : BeginIs (λ begin. opens ≤ begin) entry
   pub own : IsOwnEntry key.invoke_id entry
   pub left : Left from ticket entry copies
 
 abbrev CalmIn : (from : ℕ) → Key → Transaction → Type 0
-CalmIn from key w = IsCalm from w.now key w.ticket w.entry w.copies
+CalmIn from key w = IsCalm from w.opens w.now key w.ticket w.entry w.copies
 
 abbrev pub Calm : Net → Type 0
 Calm n = (key : Key) → CalmIn (n.asks_from key.client) key (one n key)
@@ -95,6 +97,7 @@ client_calm : (from : ℕ) (key : Key) (w : Transaction) (t : Ticket) → CalmIn
 client_calm from key w t s r silent = record {
   sent = sent_by_now w.now (client.sends_of r) w.copies s.sent;
   begun = s.begun;
+  opened = s.opened;
   own = s.own;
   left = λ lost.
       let before = subst (λ (ask : Ask). ask.first + REST < from) (after_ask w.now t r) lost in
@@ -134,6 +137,7 @@ calm_asked x n s key from choice whole pieces = calm_keeps n (asked_at x n key a
     (record {
       sent = sent_by_now n.now sends (one n key).copies (s key).sent;
       begun = (s key).begun;
+      opened = (s key).opened;
       own = (s key).own;
       left = λ lost.
           let early = subst (λ (a : Ask). a.first + REST < n.asks_from key.client)
@@ -178,13 +182,14 @@ server_over from now id lt a h = subst (λ (b : Bool). now + (if b then REST els
 -- a server acts: at each step something is over in time that makes its sending and its entry so
 server_calm : (from : ℕ) (key : Key) (w : Transaction) → CalmIn from key w → (v : server.Reaction)
     → Each (IsOfServer key.invoke_id) v.sends → IsOwnEntry key.invoke_id v.entry
-    → BeginIs (λ begin. begin ≤ w.now) v.entry
+    → BeginIs (λ begin. begin ≤ w.now) v.entry → BeginIs (λ begin. w.opens ≤ begin) v.entry
     → ((t : Ticket) → w.ticket ≡ Some t → HasLeft from t w.entry w.copies
     → Each (λ a. IsOver from (record { moment = w.now; apdu = a })) v.sends × BeginIs (λ begin. begin + LIFE + KEEP < from) v.entry)
     → CalmIn from key (server_does w v)
-server_calm from key w s v sends own begun left = record {
+server_calm from key w s v sends own begun opened left = record {
   sent = sent_by_now w.now v.sends w.copies s.sent;
   begun = begun;
+  opened = opened;
   own = own;
   left = go w.ticket refl s.left;
 }
@@ -212,16 +217,17 @@ calm_server n s key v own = calm_keeps n (server_acts n key v) key s refl
 
 -- a copy of the client arrives: it was sent at the client's restart or before
 pub calm_gets : (n : Net) → Calm n → (key : Key) (c : Context) → c.now ≡ n.now → c.invoke_id ≡ key.invoke_id → (service : Service) (free : Bool)
-    → (k : ℕ) (p : Copy) → slice_get (one n key).copies k ≡ Some p → n.now - p.moment ≤ LIFE → is_from_client p.apdu ≡ true
+    → (free ≡ true → n.serves_from key.server ≤ n.now) → (k : ℕ) (p : Copy) → slice_get (one n key).copies k ≡ Some p → n.now - p.moment ≤ LIFE → is_from_client p.apdu ≡ true
     → Calm (server_acts n key (server.server_gets c service (n.entries key) free p.apdu))
-calm_gets n s key c now id service free k p at young way =
+calm_gets n s key c now id service free unwaited k p at young way =
     calm_server n s key v (server_calm (n.asks_from key.client) key (one n key) (s key) v (of key.invoke_id id).0 (of key.invoke_id id).1
-    (gets_begin c service (λ begin. begin ≤ n.now) (omega arith) (n.entries key) (s key).begun free p.apdu)
+    (gets_begin c service (λ begin. begin ≤ n.now) (n.entries key) (s key).begun free (λ room. omega arith) p.apdu)
+    (gets_begin c service (λ begin. n.serves_from key.server ≤ begin) (n.entries key) (s key).opened free (λ room. let le = unwaited room in omega arith) p.apdu)
     (λ t is left.
         let over = subst (λ (b : Bool). p.moment + (if b then REST else LIFE) < n.asks_from key.client) way (left.copies_over k p at) in
         (all_map (IsOfServer key.invoke_id) (λ a. IsOver (n.asks_from key.client) (record { moment = n.now; apdu = a }))
         (server_over (n.asks_from key.client) n.now key.invoke_id (omega arith)) v.sends (of key.invoke_id id).0,
-        gets_begin c service (λ begin. begin + LIFE + KEEP < n.asks_from key.client) (omega arith) (n.entries key) left.entry_over free p.apdu)))
+        gets_begin c service (λ begin. begin + LIFE + KEEP < n.asks_from key.client) (n.entries key) left.entry_over free (λ room. omega arith) p.apdu)))
   where
     v : server.Reaction
     v = server.server_gets c service (n.entries key) free p.apdu
@@ -236,6 +242,7 @@ pub calm_ticks : (n : Net) → Calm n → (key : Key) (c : Context) → c.now �
 calm_ticks n s key c now id =
     calm_server n s key v (server_calm (n.asks_from key.client) key (one n key) (s key) v (of key.invoke_id id).0 (of key.invoke_id id).1
     (ticks_begin c (λ begin. begin ≤ n.now) (n.entries key) (s key).begun)
+    (ticks_begin c (λ begin. n.serves_from key.server ≤ begin) (n.entries key) (s key).opened)
     (λ t is left. (over (n.entries key) left.entry_over (of key.invoke_id id).0,
         ticks_begin c (λ begin. begin + LIFE + KEEP < n.asks_from key.client) (n.entries key) left.entry_over)))
   where
@@ -273,6 +280,7 @@ pub calm_later : (n : Net) (by : ℕ) → Calm n → Calm (record n { now = n.no
 calm_later n by s key = record {
   sent = λ k c at. let le = (s key).sent k c at in omega arith;
   begun = begin_more (λ m. m ≤ n.now) (λ m. m ≤ n.now + by) (λ m le. omega arith) (n.entries key) (s key).begun;
+  opened = (s key).opened;
   own = (s key).own;
   left = (s key).left;
 }
@@ -288,8 +296,9 @@ calm_server_restarted n node store s key = go (nat_eq key.server node)
     no_entry None h = tt
     no_entry (Some t) h = λ lost. let left = h lost in record { idle = left.idle; copies_over = left.copies_over; entry_over = tt }
 
-    go : (b : Bool) → IsCalm (n.asks_from key.client) n.now key (n.tickets key) (if b then None else n.entries key) (one n key).copies
-    go true = record { sent = (s key).sent; begun = tt; own = tt; left = no_entry (n.tickets key) (s key).left }
+    go : (b : Bool) → IsCalm (n.asks_from key.client) (if b then n.now + KEEP + 1 else n.serves_from key.server) n.now key (n.tickets key)
+        (if b then None else n.entries key) (one n key).copies
+    go true = record { sent = (s key).sent; begun = tt; opened = tt; own = tt; left = no_entry (n.tickets key) (s key).left }
     go false = s key
 
 -- all that there is at the restart is over in time
@@ -311,13 +320,13 @@ calm_client_restarted n node s key = go (nat_eq key.client node)
       entry_over = begin_more (λ m. m ≤ n.now) (λ m. m + LIFE + KEEP < from) (λ m le. omega arith) (n.entries key) (s key).begun;
     }
 
-    go : (b : Bool) → IsCalm (if b then from else n.asks_from key.client) n.now key (if b then lost (n.tickets key) else n.tickets key) (n.entries key)
+    go : (b : Bool) → IsCalm (if b then from else n.asks_from key.client) (n.serves_from key.server) n.now key (if b then lost (n.tickets key) else n.tickets key) (n.entries key)
         (one n key).copies
-    go true = record { sent = (s key).sent; begun = (s key).begun; own = (s key).own; left = left (n.tickets key) }
+    go true = record { sent = (s key).sent; begun = (s key).begun; opened = (s key).opened; own = (s key).own; left = left (n.tickets key) }
     go false = s key
 
 pub calm_start : Calm net_start
-calm_start key = record { sent = λ k c at. absurd (none_there k c at); begun = tt; own = tt; left = tt }
+calm_start key = record { sent = λ k c at. absurd (none_there k c at); begun = tt; opened = tt; own = tt; left = tt }
   where
     none_there : (k : ℕ) (c : Copy) → slice_get [] k ≡ Some c → ⊥
     none_there k c e = cc

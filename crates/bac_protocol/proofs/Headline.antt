@@ -173,7 +173,7 @@ module _ (S : Type 0) (shop : Shop S) (opening : ℕ → S) (W : ℕ) (x : Rules
         (server_gets_kept W x.overtake bound.some bound.room (x.settings p.key.server) (bound.windows p.key.server) (service_of S shop w p.key) p.key
         (one w.net p.key) t (w.net.entries p.key) f.0 f.1 f.2 (is_room w.net p.key free) (room_opens w.net p.key free) p.copy.moment (later p.key number w.net.posts) few young p.copy.apdu says))
         (calm_gets w.net s.calm p.key (server_context x p.key w.net.now) refl refl (service_of S shop w p.key) (is_room w.net p.key free)
-        (later p.key number w.net.posts) p.copy (copy_at number w.net.posts p at_number) young way)
+        (room_opens w.net p.key free) (later p.key number w.net.posts) p.copy (copy_at number w.net.posts p at_number) young way)
     arrives_kept (Some t) at young few free false way =
         let f = sound_at W w.net p.key (Some t) at s.net in
         let says = ((f.2).arriving (later p.key number w.net.posts) p.copy (copy_at number w.net.posts p at_number) young).1 in

@@ -57,7 +57,7 @@ module _ (W : ℕ) (x : Rules) (bound : IsBounded W x) where
         net = net_server W n p.key t is s.net v
             (server_gets_kept W x.overtake bound.some bound.room (x.settings p.key.server) (bound.windows p.key.server) service p.key
             (one n p.key) t (n.entries p.key) f.0 f.1 f.2 (is_room n p.key free) (room_opens n p.key free) p.copy.moment (later p.key number n.posts) few young p.copy.apdu says);
-        calm = calm_gets n s.calm p.key (server_context x p.key n.now) refl refl service (is_room n p.key free) (later p.key number n.posts) p.copy
+        calm = calm_gets n s.calm p.key (server_context x p.key n.now) refl refl service (is_room n p.key free) (room_opens n p.key free) (later p.key number n.posts) p.copy
             (copy_at number n.posts p at) young way;
       }
   arrives_sound n s number p at young few free service (Some t) is false way =

@@ -7,7 +7,7 @@ use Rattle.bac_segment.specs.Limits.{RETRIES}
 use Rattle.bac_segment.specs.Numbers.{ahead}
 use Rattle.bac_segment.specs.Pieces.{join, piece_at}
 use Rattle.bac_segment.specs.Window.{Outgoing, in_window, Incoming}
-use Rattle.bac_protocol.specs.Times.{LIFE, DEADLINE, KEEP}
+use Rattle.bac_protocol.specs.Times.{LIFE, DEADLINE, KEEP, REST}
 use Rattle.bac_protocol.specs.Service.{Octets, Reply as reply}
 use Rattle.bac_protocol.specs.Wire.{is_from_client}
 use Rattle.bac_protocol.specs.Client.{Ask, request_of, Phase, Ticket}
@@ -180,6 +180,14 @@ StateHasTaken pieces (State.SegmentedRequest inc since) taken = HasFront pieces 
 StateHasTaken pieces (Done kept) taken = taken ≡ length pieces
 StateHasTaken pieces (SegmentedResponse out transfer since) taken = taken ≡ length pieces
 StateHasTaken pieces Dropped taken = taken < length pieces
+
+-- the client has not restarted since the ask was made: it would wait longer
+abbrev pub ClientStays : Net → Key → Ask → Type 0
+ClientStays n key ask = n.asks_from key.client ≤ ask.first + REST
+
+-- nor has the server
+abbrev pub ServerStays : Net → Key → Ask → Type 0
+ServerStays n key ask = n.serves_from key.server ≤ ask.first + KEEP
 
 -- the server restarted since the ask was made
 abbrev pub RestartedSince : Net → Key → Ask → Type 0
