@@ -101,7 +101,7 @@ module _ (x : Rules) (Q : Net → ℕ → Bool → Service → Type 0) where
   restarted_since : (n m : Net) (key : Key) (ask : Ask) → m.asks_from key.client ≡ n.now + REST + 1 → ask.first ≤ n.now → ClientStays m key ask → ⊥
   restarted_since n m key ask from clock stays = omega arith
 
-  stays_before : (n m : Net) → Step x Q n m → Bounded n → (key : Key) (ask : Ask) → ClientStays m key ask → ClientStays n key ask
+  pub stays_before : (n m : Net) → Step x Q n m → Bounded n → (key : Key) (ask : Ask) → ClientStays m key ask → ClientStays n key ask
   stays_before n m s b key ask stays = let le = step_asks_from x Q n m s b key.client in omega arith
 
   logged_step : (n m : Net) → Step x Q n m → Bounded n → IdleIsLogged n → IdleIsLogged m
