@@ -1,10 +1,13 @@
 -- Where no node changes its own store, the log of a run has no change; where none restarts, it has no restart, and no end waits.
-use Rattle.std.proofs.Common.{◌≡◌, ℕ, Bool, true, false, List, [], ◌∷◌, Option, Some, None, slice_get, if◌then◌else◌, refl}
+use Rattle.std.proofs.Common.{◌≡◌, ℕ, ◌+◌, Bool, true, false, ◌&&◌, ◌||◌, not, List, [], ◌∷◌, Option, Some, None, slice_get, if◌then◌else◌, nat_le, nat_lt}
+use Rattle.std.proofs.Common.{refl, ap, ◌∙◌, arith}
+use Rattle.std.proofs.lemmas.Bool.Decides.{nat_tests}
 use Rattle.bac_apdu.specs.Apdu.{Apdu}
+use Rattle.bac_protocol.specs.Times.{REST}
 use Rattle.bac_protocol.specs.Service.{Octets, Request, Reply, Ending}
 use Rattle.bac_protocol.specs.Wire.{is_from_client}
 use Rattle.bac_protocol.specs.Client as client
-use Rattle.bac_protocol.specs.Client.{Ask, Ticket, request_of}
+use Rattle.bac_protocol.specs.Client.{Ask, Ticket, request_of, is_held}
 use Rattle.bac_protocol.specs.Server as server
 use Rattle.bac_protocol.specs.Server.{Effect}
 use Rattle.bac_protocol.specs.Log.{Fact, Shop, HasNoChange, HasNoRestart}
@@ -12,7 +15,7 @@ use Rattle.bac_protocol.specs.Log.Fact.{Asked, Performed, Ended}
 use Rattle.bac_protocol.specs.Transaction.{Key, Rules, ended, performed, client_context, server_context}
 use Rattle.bac_protocol.specs.World.{Net, World, Post, Event, is_deliverable, is_id_held, is_room, ask_made, arrives, takes_at_client, takes_at_server}
 use Rattle.bac_protocol.specs.World.{delivered, ticks_ticket, ticks_as_client, ticks_as_server, serves, happens, run, start}
-use Rattle.bac_protocol.specs.World.{MakeNoChange, MakeNoRestart, NeverRestarted}
+use Rattle.bac_protocol.specs.World.{is_key_held, is_held_since, MakeNoChange, MakeNoRestart, NeverRestarted, NeverWaits}
 use Rattle.bac_protocol.specs.World.Event.{MakeAsk, Deliver, Tick, Noise, Advance, Change, RestartClient, RestartServer}
 
 -- what is said of a log, and of the moments from which each end asks and serves, and stays so as asks are made, performed and ended
@@ -149,3 +152,29 @@ module _ (S : Type 0) (shop : Shop S) (x : Rules) where
       → (let v = run S shop x events (start S opening) in HasNoRestart v.net.log × NeverRestarted v.net)
   no_restart_in_run opening events none =
       let h = no_restart events (start S opening) none (tt, λ node. refl, λ node. refl) in (h.0, record { asks = h.1; serves = h.2 })
+
+-- Where no end restarted, none waits.
+pub never_waits : (n : Net) → NeverRestarted n → NeverWaits n
+never_waits n h = record { held = held; room = room }
+  where
+    none : (from : ℕ) → from ≡ 0 → nat_lt n.now from ≡ false
+    none from is = grind (arith, nat_tests)
+
+    since : (from first : ℕ) → from ≡ 0 → nat_le from (first + REST) ≡ true
+    since from first is = grind (arith, nat_tests)
+
+    by_ticket : (from : ℕ) → from ≡ 0 → (o : Option Ticket) → is_held_since from n.now o ≡ is_key_held n.now o
+    by_ticket from is None = refl
+    by_ticket from is (Some t) = ap (λ (b : Bool). b && is_held n.now t) (since from t.ask.first is)
+
+    held : (key : Key) → is_id_held n key ≡ is_key_held n.now (n.tickets key)
+    held key =
+        ap (λ (b : Bool). b || is_held_since (n.asks_from key.client) n.now (n.tickets key)) (none (n.asks_from key.client) (h.asks key.client))
+        ∙ by_ticket (n.asks_from key.client) (h.asks key.client) (n.tickets key)
+
+    room : (key : Key) (free : Bool) → is_room n key free ≡ free
+    room key free = ap (λ (b : Bool). free && not b) (none (n.serves_from key.server) (h.serves key.server)) ∙ go free
+      where
+        go : (b : Bool) → (b && true) ≡ b
+        go true = refl
+        go false = refl

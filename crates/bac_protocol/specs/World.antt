@@ -280,6 +280,11 @@ pub record NeverRestarted (n : Net) : Type 0 where
   pub asks : (node : ℕ) → n.asks_from node ≡ 0
   pub serves : (node : ℕ) → n.serves_from node ≡ 0
 
+-- so no end waits: an invoke ID is held by its ticket alone, and a free slot is room for an entry
+pub record NeverWaits (n : Net) : Type 0 where
+  pub held : (key : Key) → is_id_held n key ≡ is_key_held n.now (n.tickets key)
+  pub room : (key : Key) (free : Bool) → is_room n key free ≡ free
+
 -- nothing was asked or sent yet, and nothing restarted
 abbrev pub net_start : Net
 net_start =

@@ -17,7 +17,8 @@ ghost use Rattle.std.specs.Prelude.{◌≡◌, ℕ, ◌+◌, ◌*◌, ◌%◌, �
 ghost use Rattle.bac_segment.specs.Numbers.{ahead};
 ghost use Rattle.bac_protocol.specs.Log.{Fact, Shop, IsOnce, HasNoRestart, IsOnceInOneLife, HasNoChange, IsOnceByRequests};
 ghost use Rattle.bac_protocol.specs.Transaction.{Key, Rules};
-ghost use Rattle.bac_protocol.specs.World.{Post, Event, Net, count_of, later, run, start, MakeNoChange, MakeNoRestart, NeverRestarted};
+ghost use Rattle.bac_protocol.specs.World.{Post, Event, Net, count_of, later, run, start, MakeNoChange, MakeNoRestart};
+ghost use Rattle.bac_protocol.specs.World.{NeverRestarted, NeverWaits};
 ghost use Rattle.bac_protocol.specs.Beyond.{Misread};
 ghost use Rattle.bac_protocol.specs.Own.{ClientSendsOwn, ServerSendsOwn, AreOwn};
 ghost use Rattle.bac_protocol.specs.Claims.{IsBounded, IsInPlace, AreOfNewest, RequestsAreInWindow, RepliesAreInWindow, LaterPassesFindReply};
@@ -50,13 +51,15 @@ pub fn requests_alone_change_stores<S>()
 {}
 
 /// Where the log has no restart, each server's store is its opening store after the performed requests and the changes made at that node, in the log's
-/// order; and where no event is a restart, the log has none, and each end asks and begins entries from the first moment on.
-#[tactic(auto, using(crate::proofs::Headline::in_one_life, crate::proofs::Unchanged::no_restart_in_run))]
+/// order; where no event is a restart, the log has none, and no end ever waits; and then an invoke ID is held by its ticket alone, and a free slot is room
+/// for an entry.
+#[tactic(auto, using(crate::proofs::Headline::in_one_life, crate::proofs::Unchanged::no_restart_in_run, crate::proofs::Unchanged::never_waits))]
 pub fn one_life_without_restarts<S>()
     ensures log { (shop : Shop S) (opening : ℕ → S) (log : List Fact) (stores : ℕ → S) → HasNoRestart log → IsOnce S shop opening log stores
         → IsOnceInOneLife S shop opening log stores }
     ensures run { (shop : Shop S) (rules : Rules) (opening : ℕ → S) (events : List Event) → MakeNoRestart events
         → (let w = run S shop rules events (start S opening) in HasNoRestart w.net.log × NeverRestarted w.net) }
+    ensures waits { (net : Net) → NeverRestarted net → NeverWaits net }
 {}
 
 /// In every run, each copy that may arrive belongs to the newest ask of its client, server and invoke ID: it was sent since that ask was made and
