@@ -79,13 +79,6 @@ module _ (W : ℕ) (x : Rules) (bound : IsBounded W x) where
       go None = s.1
       go (Some p) = if_young p (is_deliverable x n.now number n.posts p)
 
-  pub gets_at_server : (n : Net) → Sound x n → (number : ℕ) (p : Post) → slice_get n.posts number ≡ Some p → n.now - p.copy.moment ≤ LIFE
-      → later p.key number n.posts ≤ x.overtake → is_from_client p.copy.apdu ≡ true → (service : Service) (free : Bool)
-      → Sound x (server_acts n p.key (server.server_gets (server_context x p.key n.now) service (n.entries p.key) free p.copy.apdu))
-  gets_at_server n s number p at young few up service free =
-      subst (λ (b : Bool). Sound x (server_acts n p.key (server.server_gets (server_context x p.key n.now) service (n.entries p.key) b p.copy.apdu)))
-      ((never_waits n s.1).room p.key free) (by_room n s number p at young few up service free)
-
   by_room : (n : Net) → Sound x n → (number : ℕ) (p : Post) → slice_get n.posts number ≡ Some p → n.now - p.copy.moment ≤ LIFE
       → later p.key number n.posts ≤ x.overtake → is_from_client p.copy.apdu ≡ true → (service : Service) (free : Bool)
       → Sound x (server_acts n p.key (server.server_gets (server_context x p.key n.now) service (n.entries p.key) (is_room n p.key free) p.copy.apdu))
@@ -94,6 +87,13 @@ module _ (W : ℕ) (x : Rules) (bound : IsBounded W x) where
       subst (λ (m : Net). Sound x m)
       (ap (arrived x n number free service) at ∙ ap (λ b. if b then way (is_from_client p.copy.apdu) else n) (may_arrive n number p young few) ∙ ap way up)
       (arrived_sound n s number free service)
+
+  pub gets_at_server : (n : Net) → Sound x n → (number : ℕ) (p : Post) → slice_get n.posts number ≡ Some p → n.now - p.copy.moment ≤ LIFE
+      → later p.key number n.posts ≤ x.overtake → is_from_client p.copy.apdu ≡ true → (service : Service) (free : Bool)
+      → Sound x (server_acts n p.key (server.server_gets (server_context x p.key n.now) service (n.entries p.key) free p.copy.apdu))
+  gets_at_server n s number p at young few up service free =
+      subst (λ (b : Bool). Sound x (server_acts n p.key (server.server_gets (server_context x p.key n.now) service (n.entries p.key) b p.copy.apdu)))
+      ((never_waits n s.1).room p.key free) (by_room n s number p at young few up service free)
 
   pub gets_at_client : (n : Net) → Sound x n → (number : ℕ) (p : Post) → slice_get n.posts number ≡ Some p → n.now - p.copy.moment ≤ LIFE
       → later p.key number n.posts ≤ x.overtake → is_from_client p.copy.apdu ≡ false → (service : Service) → (t : Ticket) → n.tickets p.key ≡ Some t
