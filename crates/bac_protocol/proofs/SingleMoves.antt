@@ -140,6 +140,9 @@ module _ (W : ℕ) (x : Rules) (bound : IsBounded W x) where
   pub reached_net : (n : Net) → IsReached x net_start n → NetSound W n
   reached_net n h = (reached_sound n h).net
 
+  pub reached_calm : (n : Net) → IsReached x net_start n → Calm n
+  reached_calm n h = (reached_sound n h).calm
+
   pub in_order : (n : Net) → IsReached x net_start n → IsInOrder n
   in_order n h =
       let s = reached_sound n h in
