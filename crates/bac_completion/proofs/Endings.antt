@@ -83,6 +83,7 @@ some_ended n (f ∷ log) = go f (some_ended n log)
     go (octets.Fact.Asked m c s q) (inl none) = inl none
     go (octets.Fact.Performed m q p) (inl none) = inl none
     go (octets.Fact.Changed node change) (inl none) = inl none
+    go (octets.Fact.Restarted node store) (inl none) = inl none
     go (octets.Fact.Ended m how) (inl none) = by (nat_eq m n) refl
       where
         by : (b : Bool) → nat_eq m n ≡ b → (net.endings_of n (octets.Fact.Ended m how ∷ log) ≡ 0) ⊎ HasEnded n (octets.Fact.Ended m how ∷ log)

@@ -148,7 +148,7 @@ module _ (links : ℕ → Option Octets) (apart : (i j : ℕ) (l : Octets) → l
   gives w m over (Deliver number) f = λ w' y d t up on none.
       let same = some_is y on.post (sym t.at ∙ on.at) in
       let found = finds w w' m over number y d t (ap (λ (z : Post). z.key) same ∙ on.key_is) (ap (λ (z : Post). z.copy.apdu) same ∙ on.apdu_is) f none in
-      (found.0, (never_waits m over.sound.1).room its_key (is_free m.now t.before.servers) ∙ found.1, found.2)
+      (found.0, (never_waits m over.sound.1).room its_key (is_free m.now t.before.servers) ∙ found.1, found.2, found.3)
   gives w m over (Event.Noise node from data') f = tt
   gives w m over (Event.Tick node) f = tt
   gives w m over (Event.Advance by) f = tt

@@ -233,7 +233,7 @@ module _ (links : ℕ → Option Octets) (apart : (i j : ℕ) (l : Octets) → l
     -- the request is performed, so its reply can be read
     reads : (c : Complex) → m ≡ machine.Reply.Complex (complex_spelling c) → x.readable (choice_of r) (complex_spelling c) ≡ true
     reads c is =
-        let has = was_performed (Option Store) shop x v0 key good (choice_of r) parts.front parts.rest m dead outcome way_goes parts.whole request_fits count
+        let has = was_performed (Option Store) shop x v0 key good (choice_of r) parts.front parts.rest m dead outcome way_goes serving parts.whole request_fits count
         end f.run (stops end f.fit) in
         let was = performed_as n.asks (record { choice = choice_of r; service = join pieces }) m end.net.log new.log f.fit.over.log has in
         ap (λ (y : machine.Readable). y (choice_of r) (complex_spelling c)) readable
