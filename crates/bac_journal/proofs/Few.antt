@@ -381,11 +381,11 @@ module _ (W : ℕ) (x : Rules) (bound : IsBounded W x) where
   moved_small n s (Passes by) = s
   moved_small n s (Changes node change) = s
   moved_small n s (RestartsClient node) = s
-  moved_small n s (RestartsServer node store) key = go (nat_eq key.server node)
+  moved_small n s (RestartsServer node store) = λ key. go key (nat_eq key.server node)
     where
-      go : (b : Bool) → EntryFew W (if b then None else n.entries key)
-      go true = tt
-      go false = s key
+      go : (key : Key) (b : Bool) → EntryFew W (if b then None else n.entries key)
+      go key true = tt
+      go key false = s key
 
   pub entries_few : (n : Net) → IsReached x net_start n → (key : Key) → EntryFew W (n.entries key)
   entries_few _ Still = λ key. tt

@@ -224,10 +224,11 @@ calm_gets n s key c now id service free unwaited k p at young way =
     (gets_begin c service (λ begin. begin ≤ n.now) (n.entries key) (s key).begun free (λ room. omega arith) p.apdu)
     (gets_begin c service (λ begin. n.serves_from key.server ≤ begin) (n.entries key) (s key).opened free (λ room. let le = unwaited room in omega arith) p.apdu)
     (λ t is left.
-        let over = subst (λ (b : Bool). p.moment + (if b then REST else LIFE) < n.asks_from key.client) way (left.copies_over k p at) in
-        (all_map (IsOfServer key.invoke_id) (λ a. IsOver (n.asks_from key.client) (record { moment = n.now; apdu = a }))
-        (server_over (n.asks_from key.client) n.now key.invoke_id (omega arith)) v.sends (of key.invoke_id id).0,
-        gets_begin c service (λ begin. begin + LIFE + KEEP < n.asks_from key.client) (n.entries key) left.entry_over free (λ room. omega arith) p.apdu)))
+    let over = subst (λ (b : Bool). p.moment + (if b then REST else LIFE) < n.asks_from key.client) way (left.copies_over k p at) in (
+      all_map (IsOfServer key.invoke_id) (λ a. IsOver (n.asks_from key.client) (record { moment = n.now; apdu = a }))
+          (server_over (n.asks_from key.client) n.now key.invoke_id (omega arith)) v.sends (of key.invoke_id id).0,
+      gets_begin c service (λ begin. begin + LIFE + KEEP < n.asks_from key.client) (n.entries key) left.entry_over free (λ room. omega arith) p.apdu,
+    )))
   where
     v : server.Reaction
     v = server.server_gets c service (n.entries key) free p.apdu
@@ -243,8 +244,10 @@ calm_ticks n s key c now id =
     calm_server n s key v (server_calm (n.asks_from key.client) key (one n key) (s key) v (of key.invoke_id id).0 (of key.invoke_id id).1
     (ticks_begin c (λ begin. begin ≤ n.now) (n.entries key) (s key).begun)
     (ticks_begin c (λ begin. n.serves_from key.server ≤ begin) (n.entries key) (s key).opened)
-    (λ t is left. (over (n.entries key) left.entry_over (of key.invoke_id id).0,
-        ticks_begin c (λ begin. begin + LIFE + KEEP < n.asks_from key.client) (n.entries key) left.entry_over)))
+    (λ t is left. (
+      over (n.entries key) left.entry_over (of key.invoke_id id).0,
+      ticks_begin c (λ begin. begin + LIFE + KEEP < n.asks_from key.client) (n.entries key) left.entry_over,
+    )))
   where
     v : server.Reaction
     v = server.server_ticks c (n.entries key)
