@@ -7,5 +7,5 @@ mod properties;
 mod rows;
 
 pub use laws::names_and_numbers_are_inverse;
-pub use object_types::{object_type_name, object_type_number};
-pub use properties::{property_name, property_number};
+pub use object_types::{object_type_name, object_type_named, object_type_number};
+pub use properties::{property_name, property_named, property_number};
