@@ -203,7 +203,7 @@ fn with_two(
     }
 }
 
-fn object_or_fault(word: &[u8]) -> Result<ObjectIdentifier, FormFault>
+pub(crate) fn object_or_fault(word: &[u8]) -> Result<ObjectIdentifier, FormFault>
     ensures { Reads object_identifier_view result (object_of word.now) }
 {
     match object_in(word) {
