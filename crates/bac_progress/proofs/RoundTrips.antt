@@ -1,6 +1,6 @@
 -- One round trip suffices.
 use Rattle.std.proofs.Common.{◌≡◌, ℕ, ◌-◌, ◌≤◌, ◌⊎◌, Bool, true, false, List, [], ◌∷◌, Option, Some, None}
-use Rattle.std.proofs.Common.{refl, sym, ap, subst, inl, inr, ◌∙◌, arith}
+use Rattle.std.proofs.Common.{nat_lt, ◌&&◌, not, refl, sym, ap, subst, inl, inr, ◌∙◌, arith}
 use Rattle.std.proofs.lemmas.Bool.Decides.{nat_tests}
 use Rattle.bac_apdu.specs.Apdu.{Apdu}
 use Rattle.bac_segment.specs.Window.{Outgoing}
@@ -19,9 +19,9 @@ use Rattle.bac_protocol.specs.Server.State.{Done}
 use Rattle.bac_protocol.specs.Log.{Fact, Has, Shop}
 use Rattle.bac_protocol.specs.Log.Fact.{Performed, Ended}
 use Rattle.bac_protocol.specs.Transaction.{Key, Rules, client_context, server_context, performed}
-use Rattle.bac_protocol.specs.World.{Net, World, Event, takes_at_client, takes_at_server, reacts, serves, service_of, happens, run, start}
+use Rattle.bac_protocol.specs.World.{Net, World, Event, is_room, takes_at_client, reacts, serves, service_of, happens, run, start}
 use Rattle.bac_protocol.specs.World.Event.{Deliver}
-use Rattle.bac_protocol.specs.Claims.{IsBounded, WasPerformed}
+use Rattle.bac_protocol.specs.Claims.{IsBounded, WasPerformed, ServerStays}
 use Rattle.bac_protocol.specs.Straight.{is_ended}
 use Rattle.bac_protocol.proofs.Alone.{one}
 use Rattle.bac_protocol.proofs.Sound.{Up, Down, ClientFits, StateFits, ServerFits, IsBegunFor, IsKeptFor, Sound}
@@ -29,11 +29,12 @@ use Rattle.bac_protocol.proofs.Sound.Down.{Unsent, Sent}
 use Rattle.bac_protocol.proofs.Nets.{NetSound, sound_at}
 use Rattle.bac_protocol.proofs.Headline.{Kept, run_kept, event_kept, start_kept}
 use Rattle.bac_protocol.proofs.Keys.{set_same}
+use Rattle.bac_protocol.proofs.Served.{BeginIs}
 use Rattle.bac_progress.specs.Runs.{IsOnItsWay}
 use Rattle.bac_progress.specs.RoundTrip.{request_to, segment_to, answer_to, FitsInOne, CanPerform, HasPerformed, IsOpenInTime}
 use Rattle.bac_progress.specs.RoundTrip.{IsAnsweredNow, IsServed, RoundTripSuffices}
-use Rattle.bac_progress.proofs.Paths.{some_is, Any, run_steps}
-use Rattle.bac_progress.proofs.Endings.{request_now, answer_now}
+use Rattle.bac_progress.proofs.Paths.{some_is, Any, Bounded, path_bounded, event_steps, run_steps}
+use Rattle.bac_progress.proofs.Endings.{bounded_in_run, request_now, answer_now}
 use Rattle.bac_progress.proofs.Serving.{answer_any_time, answer_not_from_client, answer_ends, answer_ends_sending, performed_entry, answers_first}
 use Rattle.bac_progress.proofs.Serving.{answers_again, serves_new, serves_again, serves_segment}
 use Rattle.bac_progress.proofs.Kept.{IsKept, kept_path}
@@ -78,14 +79,14 @@ kept_was W number ask kept up (Sent ps t n) log s = absurd s
 
 -- what is known of a ticket in a net that was reached
 abbrev pub SoundIn : ℕ → Net → Key → Ticket → Up → Down → Type 0
-SoundIn W n key t up down = Sound W key n.now n.asks (n.numbers key) t (n.entries key) (one n key).copies n.log up down
+SoundIn W n key t up down = Sound W key (n.serves_from key.server) n.now n.asks (n.numbers key) t (n.entries key) (one n key).copies n.log up down
 
 -- an entry that is live, or was begun since the ask was made, was begun for it
 begun_in : (W : ℕ) (n : Net) (key : Key) (t : Ticket) (up : Up) (down : Down) → SoundIn W n key t up down → (e : Entry) → n.entries key ≡ Some e
     → ((server.is_live n.now e ≡ true) ⊎ (t.ask.first ≤ e.begin)) → IsBegunFor W (n.numbers key) t.ask e up down n.log
-begun_in W n key t up down s e at when = go (subst (λ (o : Option Entry). ServerFits W (n.numbers key) t.ask o up down n.log) at s.server) when
+begun_in W n key t up down s e at when = go (subst (λ (o : Option Entry). ServerFits W (n.serves_from key.server) (n.numbers key) t.ask o up down n.log) at s.server) when
   where
-    go : ServerFits W (n.numbers key) t.ask (Some e) up down n.log → ((server.is_live n.now e ≡ true) ⊎ (t.ask.first ≤ e.begin))
+    go : ServerFits W (n.serves_from key.server) (n.numbers key) t.ask (Some e) up down n.log → ((server.is_live n.now e ≡ true) ⊎ (t.ask.first ≤ e.begin))
         → IsBegunFor W (n.numbers key) t.ask e up down n.log
     go (inr begun) y = begun
     go (inl past) (inl live) = let d = past.dead in let k = s.clock in absurd (grind (arith, nat_tests))
@@ -130,6 +131,11 @@ there_takes W x key ask number begin p since n s h going ready = go ready
         (known.2).client)
     go (inr all) = by all
 
+-- a free slot of a server that does not wait
+pub room_is : {S : Type 0} (w : World S) (key : Key) (free : Bool) → free ≡ true → w.net.serves_from key.server ≤ w.net.now → is_room w.net key free ≡ true
+room_is w key free slot serving =
+    let waits : nat_lt w.net.now (w.net.serves_from key.server) ≡ false = grind (arith, nat_tests) in λ i. slot i && not (waits i)
+
 module _ (S : Type 0) (shop : Shop S) (opening : ℕ → S) (W : ℕ) (x : Rules) (bound : IsBounded W x) where
   -- what is known of a ticket in a world that was reached
   abbrev pub SoundWith : World S → Key → Ticket → Up → Down → Type 0
@@ -142,6 +148,15 @@ module _ (S : Type 0) (shop : Shop S) (opening : ℕ → S) (W : ℕ) (x : Rules
   pub begun_for : (w : World S) (key : Key) (t : Ticket) (up : Up) (down : Down) → SoundWith w key t up down → (e : Entry) → w.net.entries key ≡ Some e
       → ((server.is_live w.net.now e ≡ true) ⊎ (t.ask.first ≤ e.begin)) → IsBegunFor W (w.net.numbers key) t.ask e up down w.net.log
   begun_for w key t up down s e at when = begun_in W w.net key t up down s e at when
+
+  -- where a live entry was begun for an ask, its server has not restarted since
+  pub entry_stays : (w : World S) → Kept S shop opening W x bound w → (key : Key) (t : Ticket) → w.net.tickets key ≡ Some t → (e : Entry)
+      → w.net.entries key ≡ Some e → server.is_live w.net.now e ≡ true → ServerStays w.net key t.ask
+  entry_stays w s key t at e there live =
+      let known = sound w s key t at in
+      let before = (begun_for w key t known.0 known.1 known.2 e there (inl live)).before in
+      let opened = subst (BeginIs (λ (begin : ℕ). w.net.serves_from key.server ≤ begin)) there (s.calm key).opened in
+      omega arith
 
   -- an answer on its way ends a ticket that takes it
   ends : (v : World S) (key : Key) (t : Ticket) (p : Reply) (number : ℕ) (free : Bool) → IsOnItsWay x v.net key (answer_to x key t.ask p) number
@@ -167,11 +182,11 @@ module _ (S : Type 0) (shop : Shop S) (opening : ℕ → S) (W : ℕ) (x : Rules
     abbrev KeptIn : World S → Type 0
     KeptIn u = IsKept x Any key number ask begin (answer_to x key ask p) since u.net
 
-    answered : (u : World S) → Kept S shop opening W x bound u → KeptIn u → (ask.whole ≡ true) ⊎ SendsAllFrom key ask p u → (events : List Event)
-        → (let v = run S shop x events u in IsOpenInTime v.net key ask
+    answered : (u : World S) → Kept S shop opening W x bound u → Bounded u.net → KeptIn u → (ask.whole ≡ true) ⊎ SendsAllFrom key ask p u
+        → (events : List Event) → (let v = run S shop x events u in IsOpenInTime v.net key ask → ServerStays v.net key ask
         → (k : ℕ) → IsOnItsWay x v.net key (answer_to x key ask p) k → (free : Bool)
         → IsAnsweredNow S key number p v (happens S shop x v (Deliver k free)))
-    answered u s h ready events o k m free = record {
+    answered u s b h ready events o stays k m free = record {
       log = ap (λ (y : World S). y.net.log) path ∙ ap (λ (n : ℕ). Ended n (Answered p) ∷ v.net.log) there.there.number_is;
       over = ap (λ (y : World S). is_ended (y.net.tickets key)) path
           ∙ ap is_ended (set_same v.net.tickets key (Some (client.after v.net.now there.there.ticket (Ends [] (Answered p)))));
@@ -181,7 +196,8 @@ module _ (S : Type 0) (shop : Shop S) (opening : ℕ → S) (W : ℕ) (x : Rules
         v = run S shop x events u
 
         there : KeptIn v
-        there = kept_path x Any key number ask begin (answer_to x key ask p) since u.net v.net (run_steps x S shop events u) h o.in_time
+        there = kept_path x Any key number ask begin (answer_to x key ask p) since u.net v.net (run_steps x S shop events u) b h o.in_time
+            stays
 
         same : o.ticket ≡ there.there.ticket
         same = some_is o.ticket there.there.ticket (sym o.at ∙ there.there.at)
@@ -202,19 +218,20 @@ module _ (S : Type 0) (shop : Shop S) (opening : ℕ → S) (W : ℕ) (x : Rules
             (subst (λ (a : Ask). FitsInOne x key a p) (sym there.there.is) fits)
 
   -- a delivery performs the request, or finds it performed
-  module _ (w : World S) (s : Kept S shop opening W x bound w) (key : Key) (t : Ticket) (at : w.net.tickets key ≡ Some t) (p : Reply)
-      (fits : FitsInOne x key t.ask p) where
+  module _ (w : World S) (s : Kept S shop opening W x bound w) (limit : Bounded w.net) (key : Key) (t : Ticket) (at : w.net.tickets key ≡ Some t)
+      (p : Reply) (fits : FitsInOne x key t.ask p) where
     -- an entry is done, and its answer was sent
     served_by : (e : Entry) (effect : Option server.Effect) → e.state ≡ Done (answer_to x key t.ask p) → t.ask.first ≤ e.begin
-        → Has (Performed (w.net.numbers key) (client.request_of t.ask) p) (performed (w.net.numbers key) effect w.net.log)
+        → e.begin ≤ w.net.now → Has (Performed (w.net.numbers key) (client.request_of t.ask) p) (performed (w.net.numbers key) effect w.net.log)
         → (number : ℕ) (free : Bool) → (t.ask.whole ≡ true) ⊎ SendsAllFrom key t.ask p (happens S shop x w (Deliver number free))
         → happens S shop x w (Deliver number free)
         ≡ serves S shop w key (record { entry = Some e; sends = answer_to x key t.ask p ∷ []; effect = effect })
         → IsServed S shop x key t.ask p w (happens S shop x w (Deliver number free))
-    served_by e effect state since has number free ready path = record {
+    served_by e effect state since past has number free ready path = record {
       performed = subst (λ (y : World S). Has (Performed (w.net.numbers key) (client.request_of t.ask) p) y.net.log) (sym path) has;
       sent = ap (λ (y : World S). y.net.posts) path;
-      answered = answered key t.ask (w.net.numbers key) e.begin p since fits u (event_kept S shop opening W x bound w s (Deliver number free)) kept ready;
+      answered = answered key t.ask (w.net.numbers key) e.begin p since fits u (event_kept S shop opening W x bound w s (Deliver number free))
+          (path_bounded x Any w.net u.net (event_steps x S shop w (Deliver number free)) limit) kept ready;
     }
       where
         u : World S
@@ -226,6 +243,7 @@ module _ (S : Type 0) (shop : Shop S) (opening : ℕ → S) (W : ℕ) (x : Rules
           entry = e;
           at = set_same w.net.entries key (Some e);
           begun = refl;
+          past = past;
           state = state;
         })
 
@@ -233,17 +251,17 @@ module _ (S : Type 0) (shop : Shop S) (opening : ℕ → S) (W : ℕ) (x : Rules
     again : (request : Option Octets) → (h : HasPerformed x w.net key t.ask request p) → (a : Apdu) → is_from_client a ≡ true
         → (number : ℕ) (free : Bool) → (t.ask.whole ≡ true) ⊎ SendsAllFrom key t.ask p (happens S shop x w (Deliver number free))
         → IsOnItsWay x w.net key a number
-        → (h.entry.choice ≡ t.ask.choice → server.server_gets (server_context x key w.net.now) (service_of S shop w key) (Some h.entry) free a
+        → (h.entry.choice ≡ t.ask.choice → server.server_gets (server_context x key w.net.now) (service_of S shop w key) (Some h.entry) (is_room w.net key free) a
         ≡ answers_again h.entry (answer_to x key t.ask p))
         → IsServed S shop x key t.ask p w (happens S shop x w (Deliver number free))
     again request h a up number free ready m gets =
-        served_by h.entry None h.state begun.after
+        served_by h.entry None h.state begun.after past
         (reply_was x key (w.net.numbers key) t.ask.first t.ask.choice t.ask w.net.log p
         (kept_was W (w.net.numbers key) t.ask (answer_to x key t.ask p) known.0 known.1 w.net.log
         (subst (λ (st : State). StateFits W (w.net.numbers key) t.ask st known.0 known.1 w.net.log) h.state begun.state)))
         number free ready
         (request_now S shop x w key a number free up m
-        ∙ ap (λ (o : Option Entry). serves S shop w key (server.server_gets (server_context x key w.net.now) (service_of S shop w key) o free a)) h.at
+        ∙ ap (λ (o : Option Entry). serves S shop w key (server.server_gets (server_context x key w.net.now) (service_of S shop w key) o (is_room w.net key free) a)) h.at
         ∙ ap (serves S shop w key) (gets begun.choice))
       where
         known : (up : Up) × (down : Down) × SoundWith w key t up down
@@ -252,19 +270,24 @@ module _ (S : Type 0) (shop : Shop S) (opening : ℕ → S) (W : ℕ) (x : Rules
         begun : IsBegunFor W (w.net.numbers key) t.ask h.entry known.0 known.1 w.net.log
         begun = begun_for w key t known.0 known.1 known.2 h.entry h.at (inl h.live)
 
+        past : h.entry.begin ≤ w.net.now
+        past = subst (BeginIs (λ (begin : ℕ). begin ≤ w.net.now)) h.at (s.calm key).begun
+
     -- a request of one APDU
     pub trip : t.ask.whole ≡ true → (free : Bool)
         → CanPerform S shop w key t.ask free p ⊎ HasPerformed x w.net key t.ask (Some (join t.ask.pieces)) p
         → (number : ℕ) → IsOnItsWay x w.net key (request_to x key t.ask) number
         → IsServed S shop x key t.ask p w (happens S shop x w (Deliver number free))
     trip whole free (inr h) number m = again (Some (join t.ask.pieces)) h (request_to x key t.ask) refl number free (inl whole) m
-        (λ choice. serves_again (server_context x key w.net.now) (client_context x key t.ask.first) (service_of S shop w key) h.entry free t.ask
+        (λ choice. serves_again (server_context x key w.net.now) (client_context x key t.ask.first) (service_of S shop w key) h.entry (is_room w.net key free) t.ask
         (answer_to x key t.ask p) h.live h.state choice h.request_is)
     trip whole free (inl c) number m = served_by
         (performed_entry w.net.now (client_context x key t.ask.first) t.ask (answer_to x key t.ask p))
-        (Some (record { request = client.request_of t.ask; reply = p })) refl (((sound w s key t at).2).clock) (inl refl) number free (inl whole)
+        (Some (record { request = client.request_of t.ask; reply = p })) refl (((sound w s key t at).2).clock) (omega arith) (inl refl) number free
+        (inl whole)
         (request_now S shop x w key (request_to x key t.ask) number free refl m
-        ∙ ap (λ b. takes_at_server S shop x w key b (request_to x key t.ask)) c.slot
+        ∙ ap (λ b. serves S shop w key (server.server_gets (server_context x key w.net.now) (service_of S shop w key) (w.net.entries key) b
+        (request_to x key t.ask))) (room_is w key free c.slot c.serving)
         ∙ ap (serves S shop w key) (serves_new (server_context x key w.net.now) (client_context x key t.ask.first) (service_of S shop w key)
         (w.net.entries key) t.ask p c.none c.outcome fits.way)
         ∙ ap (λ (a : Apdu). serves S shop w key (answers_first (performed_entry w.net.now (client_context x key t.ask.first) t.ask a) t.ask p a))
@@ -275,7 +298,7 @@ module _ (S : Type 0) (shop : Shop S) (opening : ℕ → S) (W : ℕ) (x : Rules
         → SendsAllFrom key t.ask p (happens S shop x w (Deliver number free)) → IsOnItsWay x w.net key (segment_to x key t.ask piece) number
         → IsServed S shop x key t.ask p w (happens S shop x w (Deliver number free))
     trip_of_segment h number piece free all m = again None h (segment_to x key t.ask piece) refl number free (inr all) m
-        (λ choice. serves_segment (server_context x key w.net.now) (client_context x key t.ask.first) (service_of S shop w key) h.entry free t.ask
+        (λ choice. serves_segment (server_context x key w.net.now) (client_context x key t.ask.first) (service_of S shop w key) h.entry (is_room w.net key free) t.ask
         (answer_to x key t.ask p) h.live h.state h.request_is piece)
 
   pub reached : (events : List Event) → Kept S shop opening W x bound (run S shop x events (start S opening))
@@ -283,4 +306,4 @@ module _ (S : Type 0) (shop : Shop S) (opening : ℕ → S) (W : ℕ) (x : Rules
 
   pub round_trips : (events : List Event) → RoundTripSuffices S shop x (run S shop x events (start S opening))
   round_trips events key t at whole p fits free can number m =
-      trip (run S shop x events (start S opening)) (reached events) key t at p fits whole free can number m
+      trip (run S shop x events (start S opening)) (reached events) (bounded_in_run S shop opening W x bound events) key t at p fits whole free can number m

@@ -16,7 +16,8 @@ use Rattle.bac_protocol.specs.Claims.{IsBounded}
 use Rattle.bac_progress.specs.RoundTrip.{answer_to, RoundTripSufficesInSegments}
 use Rattle.bac_progress.specs.Runs.{HasWindows}
 use Rattle.bac_progress.specs.InStep.{StandsSending, Stands}
-use Rattle.bac_progress.proofs.RoundTrips.{HasSentAll, SendsAll, trip_of_segment, reached}
+use Rattle.bac_progress.proofs.RoundTrips.{HasSentAll, SendsAll, entry_stays, trip_of_segment, reached}
+use Rattle.bac_progress.proofs.Endings.{bounded_in_run}
 use Rattle.bac_progress.proofs.Turned.{live_self}
 use Rattle.bac_progress.proofs.Standing.{ends_in_step}
 
@@ -35,7 +36,8 @@ module _ (S : Type 0) (shop : Shop S) (opening : ℕ → S) (W : ℕ) (x : Rules
       let v = run S shop x events (start S opening) in
       let in_time : v.net.now - t.ask.first ≤ DEADLINE = subst (λ (a : Ask). v.net.now - a.first ≤ DEADLINE) (sym is) young in
       let entry : live_entry v.net.now (v.net.entries key) ≡ Some e = ap (live_entry v.net.now) at ∙ live_self v.net.now e live in
-      let step = ends_in_step S shop opening W x bound events key windows t there in_time in
+      let stays = entry_stays S shop opening W x bound v (reached S shop opening W x bound events) key t there e at live in
+      let step = ends_in_step S shop opening W x bound events key windows t there stays in_time in
       all_beside (lesser_window x key) t.ask t.phase e (answer_to x key ask p) state
       (subst (λ (y : Option Entry). Stands (lesser_window x key) t.ask t.phase y) entry step.stand)
 
@@ -45,7 +47,8 @@ module _ (S : Type 0) (shop : Shop S) (opening : ℕ → S) (W : ℕ) (x : Rules
 
   pub round_trips_in_segments : (events : List Event) → RoundTripSufficesInSegments S shop x (run S shop x events (start S opening))
   round_trips_in_segments events key windows t at p fits h number piece free =
-      trip_of_segment S shop opening W x bound (run S shop x events (start S opening)) (reached S shop opening W x bound events) key t at p fits h
+      trip_of_segment S shop opening W x bound (run S shop x events (start S opening)) (reached S shop opening W x bound events)
+      (bounded_in_run S shop opening W x bound events) key t at p fits h
       number piece free
       (λ after. subst (SentIn key t.ask p) (run_join events (Deliver number free ∷ after) (start S opening))
       (sends_all (events ++ Deliver number free ∷ after) key windows t.ask p))

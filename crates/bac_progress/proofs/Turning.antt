@@ -1,10 +1,10 @@
 -- One turn suffices.
-use Rattle.std.proofs.Common.{◌≡◌, ℕ, ◌+◌, ◌-◌, ◌⊎◌, Bool, true, false, ◌&&◌, List, [], ◌∷◌, ◌++◌, length, Some, slice_get}
+use Rattle.std.proofs.Common.{◌≡◌, ℕ, ◌+◌, ◌-◌, ◌≤◌, ◌⊎◌, Bool, true, false, ◌&&◌, List, [], ◌∷◌, ◌++◌, length, Some, slice_get}
 use Rattle.std.proofs.Common.{if◌then◌else◌, nat_le, nat_eq, refl, sym, ap, subst, inl, inr, ◌∙◌, arith}
 use Rattle.std.proofs.lemmas.Bool.Decides.{nat_tests}
 use Rattle.bac_apdu.specs.Apdu.{Apdu}
 use Rattle.bac_segment.specs.Pieces.{join}
-use Rattle.bac_protocol.specs.declared.times.TheConstants.{T_OUT, LIFE}
+use Rattle.bac_protocol.specs.declared.times.TheConstants.{T_OUT, LIFE, KEEP}
 use Rattle.bac_protocol.specs.Context.{Context}
 use Rattle.bac_protocol.specs.Service.{Reply}
 use Rattle.bac_protocol.specs.Service.Ending.{TimedOut, Expired}
@@ -17,14 +17,15 @@ use Rattle.bac_protocol.specs.Log.Fact.{Performed}
 use Rattle.bac_protocol.specs.Transaction.{Key, Rules, client_context}
 use Rattle.bac_protocol.specs.World.{World, Post, Event, later, is_deliverable, post_of, happens, run, start, reacts, ticks_ticket, takes_at_server}
 use Rattle.bac_protocol.specs.World.Event.{Tick, Deliver}
-use Rattle.bac_protocol.specs.Claims.{IsBounded}
+use Rattle.bac_protocol.specs.Claims.{IsBounded, ServerStays}
 use Rattle.bac_protocol.proofs.Headline.{Kept, run_kept, event_kept, start_kept}
 use Rattle.bac_protocol.proofs.Keys.{set_same}
 use Rattle.bac_progress.specs.Runs.{IsOnItsWay}
 use Rattle.bac_progress.specs.RoundTrip.{request_to, answer_to, FitsInOne, CanPerform, HasPerformed, IsAnsweredNow, IsServed}
 use Rattle.bac_progress.specs.Turns.{IsDue, OneTurnSuffices}
-use Rattle.bac_progress.proofs.Endings.{request_now}
-use Rattle.bac_progress.proofs.RoundTrips.{trip}
+use Rattle.bac_progress.proofs.Paths.{Bounded}
+use Rattle.bac_progress.proofs.Endings.{bounded_in_run, request_now}
+use Rattle.bac_progress.proofs.RoundTrips.{entry_stays, trip}
 use Rattle.bac_progress.proofs.Robust.{at_end}
 
 -- the last copy that was sent has no later ones, and may arrive at once
@@ -73,7 +74,8 @@ due_repeats c t whole d =
     left = let y = d.left in grind (arith, nat_tests)
 
 module _ (S : Type 0) (shop : Shop S) (opening : ℕ → S) (W : ℕ) (x : Rules) (bound : IsBounded W x) where
-  module _ (w : World S) (s : Kept S shop opening W x bound w) (key : Key) (t : Ticket) (at : w.net.tickets key ≡ Some t) (whole : t.ask.whole ≡ true)
+  module _ (w : World S) (s : Kept S shop opening W x bound w) (limit : Bounded w.net) (key : Key) (t : Ticket) (at : w.net.tickets key ≡ Some t)
+      (whole : t.ask.whole ≡ true)
       (d : IsDue w.net.now t) (p : Reply) (fits : FitsInOne x key t.ask p) (free other : Bool)
       (can : CanPerform S shop w key t.ask free p ⊎ HasPerformed x w.net key t.ask (Some (join t.ask.pieces)) p) where
     -- the tick
@@ -100,7 +102,7 @@ module _ (S : Type 0) (shop : Shop S) (opening : ℕ → S) (W : ℕ) (x : Rules
 
     can_now : CanPerform S shop w key t.ask free p ⊎ HasPerformed x w.net key t.ask (Some (join t.ask.pieces)) p
         → CanPerform S shop v key t.ask free p ⊎ HasPerformed x v.net key t.ask (Some (join t.ask.pieces)) p
-    can_now (inl c) = inl (record { none = c.none; slot = c.slot; outcome = c.outcome })
+    can_now (inl c) = inl (record { none = c.none; slot = c.slot; serving = c.serving; outcome = c.outcome })
     can_now (inr h) = inr (record { entry = h.entry; at = h.at; live = h.live; request_is = h.request_is; state = h.state })
 
     -- the first delivery
@@ -108,7 +110,7 @@ module _ (S : Type 0) (shop : Shop S) (opening : ℕ → S) (W : ℕ) (x : Rules
     u = happens S shop x v (Deliver (length w.net.posts) free)
 
     served : IsServed S shop x key t.ask p v u
-    served = trip S shop opening W x bound v v_sound key t_next t_there p fits whole free (can_now can) (length w.net.posts) request
+    served = trip S shop opening W x bound v v_sound (record { asks = limit.asks; serves = limit.serves }) key t_next t_there p fits whole free (can_now can) (length w.net.posts) request
 
     u_is : u ≡ takes_at_server S shop x v key free (request_to x key t.ask)
     u_is = request_now S shop x v key (request_to x key t.ask) (length w.net.posts) free refl request
@@ -124,6 +126,13 @@ module _ (S : Type 0) (shop : Shop S) (opening : ℕ → S) (W : ℕ) (x : Rules
     number_is [] q = refl
     number_is (y ∷ xs) q = let h = number_is xs q in omega arith
 
+    stays_before : CanPerform S shop w key t.ask free p ⊎ HasPerformed x w.net key t.ask (Some (join t.ask.pieces)) p → ServerStays w.net key t.ask
+    stays_before (inl c) = let serving = c.serving in let y = d.in_time in omega arith
+    stays_before (inr h) = entry_stays S shop opening W x bound w s key t at h.entry h.at h.live
+
+    stays : ServerStays u.net key t.ask
+    stays = subst (λ (m : ℕ). m ≤ t.ask.first + KEEP) (sym (ap (λ (y : World S). y.net.serves_from key.server) u_is)) (stays_before can)
+
     -- the second
     turn_at_v : Has (Performed (w.net.numbers key) (request_of t.ask) p) u.net.log
         × IsAnsweredNow S key (w.net.numbers key) p u (happens S shop x u (Deliver (length w.net.posts + 1) other))
@@ -136,7 +145,7 @@ module _ (S : Type 0) (shop : Shop S) (opening : ℕ → S) (W : ℕ) (x : Rules
             at = ap (λ (y : World S). y.net.tickets key) u_is ∙ t_there;
             going = ap is_idle d.waits;
             in_time = let y = d.in_time in let z = u_now in omega arith;
-          }) (length v.net.posts) answer other),
+          }) stays (length v.net.posts) answer other),
     )
 
     pub turn : (let y = happens S shop x (happens S shop x w (Tick (key ∷ []) [])) (Deliver (length w.net.posts) free) in
@@ -149,4 +158,5 @@ module _ (S : Type 0) (shop : Shop S) (opening : ℕ → S) (W : ℕ) (x : Rules
   pub turns : (events : List Event) → OneTurnSuffices S shop x (run S shop x events (start S opening))
   turns events key t at whole d p fits free other can =
       turn (run S shop x events (start S opening)) (run_kept S shop opening W x bound events (start S opening) (start_kept S shop opening W x bound))
+      (bounded_in_run S shop opening W x bound events)
       key t at whole d p fits free other can

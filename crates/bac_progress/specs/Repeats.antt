@@ -12,8 +12,9 @@ use Rattle.bac_protocol.specs.Server.{is_none_live}
 use Rattle.bac_protocol.specs.Log.{Fact, Has, Shop}
 use Rattle.bac_protocol.specs.Log.Fact.{Performed, Ended}
 use Rattle.bac_protocol.specs.Transaction.{Key, Rules}
-use Rattle.bac_protocol.specs.World.{Net, World, Event, is_key_held, copies_of, happens, run}
+use Rattle.bac_protocol.specs.World.{Net, World, Event, is_id_held, copies_of, happens, run}
 use Rattle.bac_protocol.specs.World.Event.{MakeAsk, Deliver, Tick}
+use Rattle.bac_protocol.specs.Claims.{ClientStays, ServerStays}
 use Rattle.bac_progress.specs.Runs.{Throughout, IsOnItsWay}
 use Rattle.bac_progress.specs.RoundTrip.{FitsInOne, CanPerform, request_to}
 
@@ -45,26 +46,29 @@ pub record IsSentAgain (x : Rules) (key : Key) (ask : Ask) (t : Ticket) (old new
   pub sent : copies_of key new.posts ≡ record { moment = old.now; apdu = request_to x key ask } ∷ copies_of key old.posts
   pub ticket : new.tickets key ≡ Some (record t { repeats = t.repeats - 1; since = old.now })
 
--- ask n, of one APDU, was made in this world; until PATIENCE has passed, and as long as each copy of it that is delivered finds its server:
+-- ask n, of one APDU, was made in this world; until PATIENCE has passed, and as long as each copy of it that is delivered finds its server (and so none
+-- comes to one that waits after a restart):
 pub record IsRobust (S : Type 0) (shop : Shop S) (x : Rules) (key : Key) (ask : Ask) (n : ℕ) (asked : World S) : Type 0 where
-  -- it is waited for or answered, whatever is lost, repeated, reordered or asked of others
+  -- it is waited for or answered, whatever is lost, repeated, reordered or asked of others, where its client has not restarted
   pub waits : (events : List Event) → Throughout S shop x (FindsServer S shop x key ask) events asked
-      → (let v = run S shop x events asked in v.net.now < ask.first + PATIENCE → IsWaiting v.net key ask ⊎ IsAnswered n ask v.net.log)
+      → (let v = run S shop x events asked in ClientStays v.net key ask → v.net.now < ask.first + PATIENCE
+      → IsWaiting v.net key ask ⊎ IsAnswered n ask v.net.log)
   -- a tick of its client that is due sends it again
   pub repeats : (events : List Event) (as_client as_server : List Key) → Throughout S shop x (FindsServer S shop x key ask) events asked
       → (let v = run S shop x events asked in v.net.now < ask.first + PATIENCE
       → (t : Ticket) → v.net.tickets key ≡ Some t → t.phase ≡ AwaitConfirmation → T_OUT ≤ v.net.now - t.since
       → Contains as_client key → IsSentAgain x key ask t v.net (happens S shop x v (Tick as_client as_server)).net)
-  -- where any copy of it and then the copy that this delivery sent are delivered, it is answered
+  -- where any copy of it and then the copy that this delivery sent are delivered, and neither end has restarted, it is answered
   pub answered : (before between : List Event) (number : ℕ) (free other : Bool) (answer : Apdu)
       → (let v = run S shop x before asked in let u = run S shop x between (happens S shop x v (Deliver number free)) in
-      Throughout S shop x (FindsServer S shop x key ask) (before ++ Deliver number free ∷ between) asked → u.net.now < ask.first + PATIENCE
+      Throughout S shop x (FindsServer S shop x key ask) (before ++ Deliver number free ∷ between) asked → ClientStays u.net key ask
+      → ServerStays u.net key ask → u.net.now < ask.first + PATIENCE
       → IsOnItsWay x v.net key (request_to x key ask) number → IsOnItsWay x u.net key answer (length v.net.posts)
       → IsAnswered n ask (happens S shop x u (Deliver (length v.net.posts) other)).net.log)
 
 -- of each ask of one APDU, made where its invoke ID is free
 abbrev pub RepeatsSuffice : (S : Type 0) → Shop S → Rules → World S → Type 0
 RepeatsSuffice S shop x w =
-    (key : Key) (choice : ℕ) (front : Octets) (rest : List Octets) → is_key_held w.net.now (w.net.tickets key) ≡ false
+    (key : Key) (choice : ℕ) (front : Octets) (rest : List Octets) → is_id_held w.net key ≡ false
     → IsRobust S shop x key (record { first = w.net.now; choice = choice; whole = true; pieces = front ∷ rest }) w.net.asks
     (happens S shop x w (MakeAsk key choice true front rest))

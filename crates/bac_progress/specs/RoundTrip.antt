@@ -17,6 +17,7 @@ use Rattle.bac_protocol.specs.Transaction.{Key, Rules, client_context, server_co
 use Rattle.bac_protocol.specs.World.{Net, World, Event, happens, run, post_of}
 use Rattle.bac_protocol.specs.World.Event.{Deliver}
 use Rattle.bac_protocol.specs.Straight.{KindFits, way_to, is_ended}
+use Rattle.bac_protocol.specs.Claims.{ServerStays}
 use Rattle.bac_progress.specs.Runs.{IsOnItsWay, HasWindows}
 
 -- the request of an ask in one APDU, piece n of it as a segment, and a reply to it in one APDU
@@ -34,10 +35,11 @@ pub record FitsInOne (x : Rules) (key : Key) (ask : Ask) (p : Reply) : Type 0 wh
   pub way : way_to x key p ≡ InOne
   pub kind : KindFits x.readable ask.choice p
 
--- the server performs the request when it comes: no entry is live, a slot is free, and its store gives that reply
+-- the server performs the request when it comes: no entry is live, a slot is free, it does not wait after a restart, and its store gives that reply
 pub record CanPerform (S : Type 0) (shop : Shop S) (w : World S) (key : Key) (ask : Ask) (free : Bool) (p : Reply) : Type 0 where
   pub none : is_none_live w.net.now (w.net.entries key) ≡ true
   pub slot : free ≡ true
+  pub serving : w.net.serves_from key.server ≤ w.net.now
   pub outcome : shop.outcome (w.stores key.server) ask.choice (join ask.pieces) ≡ Replies p
 
 -- or it has performed it: its entry is done and keeps that reply, and beside it the service data of a request that came without SEG
@@ -61,12 +63,12 @@ pub record IsAnsweredNow (S : Type 0) (key : Key) (number : ℕ) (p : Reply) (ol
   pub over : is_ended (new.net.tickets key) ≡ true
 
 -- a delivery leads from world w to world u: the request was performed with that reply, and the answer was sent; and whatever happens then, as long
--- as the ticket is open and in time, each copy of the answer that is delivered ends it with that reply
+-- as the ticket is open and in time, and its server has not restarted since the ask, each copy of the answer that is delivered ends it with that reply
 pub record IsServed (S : Type 0) (shop : Shop S) (x : Rules) (key : Key) (ask : Ask) (p : Reply) (w u : World S) : Type 0 where
   pub performed : Has (Performed (w.net.numbers key) (request_of ask) p) u.net.log
   pub sent : u.net.posts ≡ w.net.posts ++ post_of key w.net.now (answer_to x key ask p) ∷ []
   pub answered : (events : List Event)
-      → (let v = run S shop x events u in IsOpenInTime v.net key ask
+      → (let v = run S shop x events u in IsOpenInTime v.net key ask → ServerStays v.net key ask
       → (number : ℕ) → IsOnItsWay x v.net key (answer_to x key ask p) number → (free : Bool)
       → IsAnsweredNow S key (w.net.numbers key) p v (happens S shop x v (Deliver number free)))
 

@@ -19,21 +19,22 @@ ghost use Rattle.bac_progress.specs.Stopped.{StoppedGoesOn};
 ghost use Rattle.bac_progress.specs.Turns.{OneTurnSuffices};
 
 /// Each ask ends: after any run, more than 60,000 ms after its first sending, a tick of its client leaves it ended, and so does each APDU of a server
-/// that comes for it, whatever happens in between. The log then has one ending of that ask.
+/// that comes for it, whatever happens in between, but for a restart of that client, which loses the ask. The log then has one ending of that ask.
 pub fn asks_end<S>()
     ensures { (shop : Shop S) (opening : ℕ → S) (W : ℕ) (rules : Rules) → IsBounded W rules → (events : List Event)
         → EndsInTime S shop rules (run S shop rules events (start S opening)) }
 {}
 
-/// After any run the log has exactly one ending of each ask whose ticket is idle, and none of one whose ticket is open.
+/// After any run the log has exactly one ending of each ask whose ticket is idle, and none of one whose ticket is open, where its client has not
+/// restarted since.
 pub fn endings_are_logged<S>()
     ensures { (shop : Shop S) (opening : ℕ → S) (W : ℕ) (rules : Rules) → IsBounded W rules → (events : List Event)
         → EndingsAreLogged (run S shop rules events (start S opening)).net }
 {}
 
 /// One round trip suffices: after any run, where a copy of a request of one APDU is delivered to a server that performs it then, or has performed it and
-/// keeps its reply of one APDU, an answer is sent; and whatever happens from then on, as long as the ticket is open and in time, each copy of that answer
-/// that is delivered ends it with the reply with which it was performed.
+/// keeps its reply of one APDU, an answer is sent; and whatever happens from then on, as long as the ticket is open and in time and its server does not
+/// restart, each copy of that answer that is delivered ends it with the reply with which it was performed.
 pub fn round_trip_suffices<S>()
     ensures { (shop : Shop S) (opening : ℕ → S) (W : ℕ) (rules : Rules) → IsBounded W rules → (events : List Event)
         → RoundTripSuffices S shop rules (run S shop rules events (start S opening)) }
@@ -47,16 +48,16 @@ pub fn round_trip_suffices_in_segments<S>()
 {}
 
 /// Repeats suffice: an ask of one APDU that is made after any run, each delivered copy of which finds its server, is waited for or answered until
-/// 12,000 ms have passed since its first sending, whatever is lost, repeated, reordered or asked of others. Until then each tick of its client that is due
-/// finds a repeat left and sends the request again; and where any copy of the request and then the answer that it brought are delivered, the ask has ended
-/// with the reply with which it was performed.
+/// 12,000 ms have passed since its first sending, whatever is lost, repeated, reordered or asked of others, where its client does not restart. Until then
+/// each tick of its client that is due finds a repeat left and sends the request again; and where any copy of the request and then the answer that it
+/// brought are delivered, and neither end restarts, the ask has ended with the reply with which it was performed.
 pub fn repeats_suffice<S>()
     ensures { (shop : Shop S) (opening : ℕ → S) (W : ℕ) (rules : Rules) → IsBounded W rules → (events : List Event)
         → RepeatsSuffice S shop rules (run S shop rules events (start S opening)) }
 {}
 
-/// One turn suffices: after any run, where an ask of one APDU waits, in time, with a repeat left and its timer due, and its server can perform it or has
-/// performed it, a tick and the delivery of the copy that it sends, and then of the answer that this brings, end it with the reply with which it was
+/// One turn suffices: after any run, where an ask of one APDU waits, in time, with a repeat left and its timer due, and its server can perform it, so does
+/// not wait after a restart, or has performed it, a tick and the delivery of the copy that it sends, and then of the answer that this brings, end it with the reply with which it was
 /// performed.
 pub fn one_turn_suffices<S>()
     ensures { (shop : Shop S) (opening : ℕ → S) (W : ℕ) (rules : Rules) → IsBounded W rules → (events : List Event)
@@ -72,19 +73,19 @@ pub fn stopped_reply_goes_on<S>()
 
 /// In step, one turn answers: after any run, whatever was lost, where the two ends of a transaction are in step, one timer that is due, and then each copy
 /// that is sent from then on, delivered once, in order of sending, end the ask with the reply with which it was performed, after at most 3n + 3m deliveries,
-/// for a request in n segments and a reply in m.
+/// for a request in n segments and a reply in m. Its server does not wait after a restart.
 pub fn in_step_is_answered<S>()
     ensures { (shop : Shop S) (opening : ℕ → S) (W : ℕ) (rules : Rules) → IsBounded W rules → (events : List Event)
         → InStepIsAnswered S shop rules (run S shop rules events (start S opening)) }
 {}
 
-/// After every run the two ends of each transaction are in step whose ask is in time, where windows are from 1 on.
+/// After every run the two ends of each transaction are in step whose ask is in time and whose server has not restarted since, where windows are from 1 on.
 pub fn ends_are_in_step<S>()
     ensures { (shop : Shop S) (opening : ℕ → S) (W : ℕ) (rules : Rules) → IsBounded W rules → (events : List Event)
         → EndsAreInStep S rules (run S shop rules events (start S opening)) }
 {}
 
-/// After any past one turn answers: after any run, whatever was lost, one timer of an ask in time that is due, and then each copy that is sent from then on,
+/// After any past in which its server has not restarted since the ask one turn answers: after any run, whatever was lost, one timer of an ask in time that is due, and then each copy that is sent from then on,
 /// delivered once, in order of sending, at one moment, end the ask with the reply with which it was performed, after at most 3n + 3m deliveries.
 pub fn after_any_past<S>()
     ensures { (shop : Shop S) (opening : ℕ → S) (W : ℕ) (rules : Rules) → IsBounded W rules → (events : List Event)
