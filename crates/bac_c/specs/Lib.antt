@@ -1,3 +1,4 @@
+pub mod Asking
 pub mod Devices
 pub mod Endings
 pub mod Listing

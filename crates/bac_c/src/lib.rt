@@ -4,6 +4,7 @@
 //! requires anything of what a handle holds: each answers a status.
 #![tactic(auto)]
 
+mod asking;
 mod copying;
 mod device;
 mod ending;
@@ -14,6 +15,7 @@ mod listing;
 mod opening;
 mod parked;
 mod records;
+mod requests;
 mod results;
 mod settings;
 mod starting;
