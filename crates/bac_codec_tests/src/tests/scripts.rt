@@ -165,7 +165,7 @@ const NO_STEPS: &[&str] = &[
     "ask 0 1 write 2:1 85 null priority 0",
     "ask 0 1 write 2:1 85 null priority 17",
     "ask 0 1 write 2:1 85 null priority 8 null",
-    "ask 0 1 write 2:1 85 3E null 3F",
+    "ask 0 1 write 2:1 85 3E null",
     "ask 0 1 append 10:1 A",
     "ask 0 1 append 10:1 AA BB",
     "ask 0 1 put 10:1 0 AA BB",
