@@ -11,6 +11,7 @@ pub mod Asks
 pub mod Keys
 pub mod Nets
 pub mod Served
+pub mod Calm
 pub mod Headline
 pub mod Unchanged
 pub mod Claimed
