@@ -28,7 +28,7 @@ pub(crate) fn member<'a>(table: &'a Table, key: &str) -> Option<&'a Value>
 }
 
 /// How many keys there are.
-fn count(table: &Table) -> usize
+pub(crate) fn count(table: &Table) -> usize
     ensures { result ≡ count_of (table_view table.now) }
 {
     table.len()
