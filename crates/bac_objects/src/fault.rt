@@ -28,10 +28,7 @@ pub struct Place {
 pub enum DocumentFault {
     /// The octets are no TOML in UTF-8, in that line.
     #[error("line {line}: {}", .error.message())]
-    NoToml {
-        line: usize,
-        error: toml::de::Error,
-    },
+    NoToml { line: usize, error: toml::de::Error },
     /// At a key something else is given than is wanted.
     #[error("{place}{problem}")]
     Wrong { place: Place, problem: Problem },

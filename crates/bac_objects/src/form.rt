@@ -44,8 +44,10 @@ pub(crate) const FORMS: &[(&str, Form)] = &[
 ];
 
 /// The words for the octets of a file.
-pub(crate) const FILE_FORMS: &[(&str, Form)] =
-    &[("hex", Form::Hex), ("text", Form::Value(Kind::Text))];
+pub(crate) const FILE_FORMS: &[(&str, Form)] = &[
+    ("hex", Form::Hex),
+    ("text", Form::Value(Kind::Text)),
+];
 
 impl Kind {
     /// The word for it.

@@ -212,12 +212,7 @@ fn right_at(kind: u16, number: u32, form: Form, values: DataBuf) -> Result<DataB
 
 /// The property of an object of a type.
 #[tactic(auto, unfolding(crate::specs::Properties::property_of))]
-fn property_in(
-    alloc: Global,
-    kind: u16,
-    key: &str,
-    value: &Value,
-) -> Result<Property, ValueFault>
+fn property_in(alloc: Global, kind: u16, key: &str, value: &Value) -> Result<Property, ValueFault>
     ensures { Reads property_view result (property_of kind key.now (view value.now)) }
 {
     let number = listed_number(key)?;

@@ -169,11 +169,7 @@ fn object(value: &toml::Value) -> Result<Value, Problem>
 }
 
 /// A value of a kind.
-pub(crate) fn value_in(
-    alloc: Global,
-    kind: Kind,
-    value: &toml::Value,
-) -> Result<Value, ValueFault>
+pub(crate) fn value_in(alloc: Global, kind: Kind, value: &toml::Value) -> Result<Value, ValueFault>
     ensures { Reads value_view result (value_of kind (view value.now)) }
 {
     match kind {
