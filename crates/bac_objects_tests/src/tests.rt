@@ -116,8 +116,14 @@ fn values_have_their_spelling(rt: HostRuntime) -> Result<(), Fail> {
 
 /// Documents, and what is told of them.
 const FAULTS: &[(&str, &str)] = &[
-    ("a = ", "line 1: "),
-    ("\n\n= 1", "line 3: "),
+    (
+        "a = ",
+        "line 1: invalid value, expected a string, number, boolean, date-time, array or inline table",
+    ),
+    (
+        "\n\n= 1",
+        "line 3: invalid key, expected letters, numbers, `-`, `_` or a quoted key",
+    ),
     ("", "object: tables [[object]] alone wanted, nothing given"),
     (
         "object = 1",
@@ -283,7 +289,7 @@ fn is_told(alloc: Global, document: &str, told: &str) -> Result<bool, Fail> {
         Ok(_) => Ok(false),
         Err(fault) => {
             let text = format!(in alloc; "{fault}")?;
-            Ok(text.as_str().starts_with(told))
+            Ok(text.as_str() == told)
         }
     }
 }
