@@ -1,5 +1,7 @@
 -- Requests in words: read T:I P, write T:I P HEX, append T:I HEX, put T:I POSITION HEX, get T:I POSITION COUNT.
-use Rattle.std.specs.Prelude.{ℕ, ℤ, negsuc, ◌-◌, ◌^◌, nat_lt, List, [], ◌∷◌, length, codes, if◌then◌else◌, Option, Some, None, Result, Ok, Err}
+-- T and P are numbers or names; P may have an index in brackets.
+use Rattle.std.specs.Prelude.{ℕ, ℤ, negsuc, ◌+◌, ◌^◌, nat_lt, List, [], ◌∷◌, length, take, drop, codes, if◌then◌else◌, Option, Some, None, Result, Ok, Err}
+use Rattle.std.specs.List.{position}
 use Rattle.std.specs.Str.{bytes_eq}
 use Rattle.bac_value.specs.Value.{ObjectId}
 use Rattle.bac_value.specs.Reading.{data_of}
@@ -8,13 +10,29 @@ use Rattle.bac_service.specs.Values.{Reference, Request}
 use Rattle.bac_service.specs.Values.ReadAccess.{ReadStream}
 use Rattle.bac_service.specs.Values.WriteAccess.{WriteStream}
 use Rattle.bac_service.specs.Values.Request.{ReadFile, WriteFile, ReadProperty, WriteProperty}
-use Rattle.bac_script.specs.Words.{◌>>=◌, number_of, number_up_to, position_of, octets_of, object_of}
+use Rattle.bac_script.specs.Words.{◌>>=◌, number_of, position_of, octets_of, object_of, property_of, index_of, is_opening}
 
--- a property of an object, not of one element alone; its number has at most 32 bits
-unfoldable pub reference_of : ObjectId → List ℕ → Option Reference
-reference_of object word = do
-  number ← number_up_to (2 ^ 32 - 1) word
-  Some (record { object = object; property = number; index = None })
+-- a property as a whole
+unfoldable pub whole_of : ObjectId → List ℕ → Option Reference
+whole_of object word = do
+  property ← property_of word
+  Some (record { object = object; property = property; index = None })
+
+-- one element of it, whose index stands in the brackets
+unfoldable pub element_of : ObjectId → (before behind : List ℕ) → Option Reference
+element_of object before behind = do
+  property ← property_of before
+  index ← index_of behind
+  Some (record { object = object; property = property; index = Some index })
+
+-- with the place of the opening bracket
+abbrev pub reference_at : ObjectId → List ℕ → (opening : Option ℕ) → Option Reference
+reference_at object word None = whole_of object word
+reference_at object word (Some place) = element_of object (take place word) (drop (place + 1) word)
+
+-- a property of an object, or one element of it
+abbrev pub reference_of : ObjectId → List ℕ → Option Reference
+reference_of object word = reference_at object word (position is_opening word)
 
 -- the octets, where they spell data as a whole (clause 20.2)
 abbrev pub whole_data : List ℕ → Result (List ℕ) FaultKind → Option (List ℕ)

@@ -1,4 +1,5 @@
 -- From each type in code to its plain value.
+use Rattle.bac_value.specs.Views.{object_identifier_view}
 use Rattle.bac_service.specs.Views.{owned_request_view}
 use Rattle.bac_script.specs.Lines as plain
 use Rattle.bac_script.specs.declared.line.Setting.{Setting}
@@ -14,3 +15,5 @@ step_view (code.Deliver copy) = plain.Step.Deliver copy
 step_view (code.Noise n) = plain.Step.Noise n.node n.octets.items
 step_view (code.Tick node) = plain.Step.Tick node
 step_view (code.Advance by) = plain.Step.Advance by
+step_view (code.SetProperty s) = plain.Step.SetProperty s.node (object_identifier_view s.object) s.property s.octets.items
+step_view (code.SetFile s) = plain.Step.SetFile s.node (object_identifier_view s.object) s.octets.items

@@ -8,6 +8,6 @@ mod request_reading;
 mod words;
 
 pub use form_fault::FormFault;
-pub use line::{Ask, Noise, Setting, Step};
+pub use line::{Ask, Noise, SetFile, SetProperty, Setting, Step};
 pub use line_reading::{read_setting, read_step};
 pub use request_reading::read_request_words;

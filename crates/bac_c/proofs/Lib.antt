@@ -1,0 +1,6 @@
+pub mod Heap
+pub mod LetsGo
+pub mod Lists
+pub mod Numbers
+pub mod Starts
+pub mod Words
