@@ -2,5 +2,6 @@ pub mod Heap
 pub mod LetsGo
 pub mod Lists
 pub mod Numbers
+pub mod Refusals
 pub mod Starts
 pub mod Words

@@ -1,5 +1,5 @@
 -- The status of a call tells what it answered.
-use Rattle.std.proofs.Common.{◌≡◌, ℕ, refl, sym, ap, ◌∙◌}
+use Rattle.std.proofs.Common.{◌≡◌, ℕ, refl, sym, ap, subst, ◌∙◌}
 use Rattle.std.specs.Prelude.{◌↔◌, Result, Ok, Err, IsErrOf, if◌then◌else◌, nat_eq}
 use Rattle.bac_c.specs.Statuses.{fault_number, status_of}
 use Rattle.bac_c.specs.declared.fault.Fault.{Fault}
@@ -40,3 +40,18 @@ told (Err fault.BadValue) = refl
 
 pub status_tells : (r : Result (Unit {0}) Fault) (f : Fault) → (status_of r ≡ fault_number f) ↔ IsErrOf r f
 status_tells r f = ((λ e. sym (told r) ∙ ap answer_at e ∙ told (Err f)), (λ e. ap status_of e))
+
+-- the fault that was answered; any one where none was
+abbrev fault_in : Result (Unit {0}) Fault → Fault
+fault_in (Ok _) = fault.ClockBack
+fault_in (Err f) = f
+
+pub number_tells : (e f : Fault) → fault_number e ≡ fault_number f → e ≡ f
+number_tells e f same = ap fault_in (sym (told (Err e)) ∙ ap answer_at same ∙ told (Err f))
+
+abbrev IsDone : Result (Unit {0}) Fault → Type 0
+IsDone (Ok _) = Unit {0}
+IsDone (Err _) = ⊥
+
+pub done_is_none : (f : Fault) → 0 ≡ fault_number f → ⊥
+done_is_none f e = subst (λ (r : Result (Unit {0}) Fault). IsDone r) (sym (told (Ok tt)) ∙ ap answer_at e ∙ told (Err f)) tt

@@ -4,6 +4,8 @@
 //! requires anything of what a handle holds: each answers a status.
 #![tactic(auto)]
 
+mod asking;
+mod changing;
 mod copying;
 mod device;
 mod ending;
@@ -13,8 +15,11 @@ mod listed;
 mod listing;
 mod opening;
 mod parked;
+mod performing;
 mod records;
+mod requests;
 mod results;
 mod settings;
+mod slots;
 mod starting;
 mod turns;

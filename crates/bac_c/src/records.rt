@@ -35,3 +35,53 @@ pub struct End {
     /// The position of the first octet in the file, otherwise 0.
     pub position: i64,
 }
+
+/// Whom a node asks, and what that takes.
+#[repr(C)]
+#[derive(Clone, Copy, Debug, PartialEq, Eq)]
+pub struct Target {
+    /// The peer's link: four octets of IPv4 address, and two of UDP port, the high one first.
+    pub link: [u8; 6],
+    /// The code of the longest APDU that it takes, as of `Settings`.
+    pub max_apdu: u8,
+    /// Whether it takes requests in segments.
+    pub takes_segments: bool,
+    /// The code of how many segments it takes, as of `Settings`.
+    pub max_segments: u8,
+}
+
+/// A property of an object.
+#[repr(C)]
+#[derive(Clone, Copy, Debug, PartialEq, Eq)]
+pub struct Reference {
+    /// The object's type, 0 to 1,023.
+    pub object_type: u16,
+    /// The object's instance, 0 to 4,194,303.
+    pub instance: u32,
+    /// The property's number.
+    pub property: u32,
+    /// The index of an element; 4,294,967,295: the property as a whole.
+    pub index: u32,
+}
+
+/// A request that was performed.
+#[repr(C)]
+#[derive(Clone, Copy, Debug, PartialEq, Eq)]
+pub struct Performed {
+    /// The link of the peer that asked.
+    pub link: [u8; 6],
+    /// The service choice: 6 AtomicReadFile, 7 AtomicWriteFile, 12 ReadProperty, 15 WriteProperty; 0 where none was performed.
+    pub service: u8,
+    /// Whether it was answered with something else than an Error.
+    pub done: bool,
+    /// The object's type.
+    pub object_type: u16,
+    /// The object's instance.
+    pub instance: u32,
+    /// The property's number; 0 of a file.
+    pub property: u32,
+    /// The index of an element; 4,294,967,295: the property as a whole; 0 of a file.
+    pub index: u32,
+    /// The position that was asked for in a file, -1 its end; 0 of a property.
+    pub position: i64,
+}
