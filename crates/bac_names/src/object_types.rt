@@ -83,6 +83,13 @@ fn rows() -> &'static [(&'static str, u32)]
 pub fn object_type_number(name: &str) -> Option<u32>
     ensures { result ≡ number_of OBJECT_TYPES name.now }
 {
+    object_type_named(name.as_bytes())
+}
+
+/// The number of an object type by the octets of its name.
+pub fn object_type_named(name: &[u8]) -> Option<u32>
+    ensures { result ≡ number_of OBJECT_TYPES name.now }
+{
     number_in(rows(), name)
 }
 

@@ -16,8 +16,15 @@ mod t_to_z;
 use crate::rows::{name_in, number_in};
 
 /// The number of a property by its name, as `present-value`; None where the standard has no such name.
-#[tactic(auto, using(crate::proofs::Appended::number_in_both))]
 pub fn property_number(name: &str) -> Option<u32>
+    ensures { result ≡ number_of PROPERTIES name.now }
+{
+    property_named(name.as_bytes())
+}
+
+/// The number of a property by the octets of its name.
+#[tactic(auto, using(crate::proofs::Appended::number_in_both))]
+pub fn property_named(name: &[u8]) -> Option<u32>
     ensures { result ≡ number_of PROPERTIES name.now }
 {
     number_in(a_to_b::rows(), name)

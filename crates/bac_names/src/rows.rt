@@ -3,13 +3,13 @@ ghost use Rattle.std.specs.Prelude.{◌≡◌, IfSome};
 ghost use Rattle.std.specs.Option.{option_map};
 ghost use Rattle.bac_names.specs.Names.{name_in as name_of, number_in as number_of, plain};
 
-/// The number of a name.
+/// The number of a name, of which the octets are given.
 #[tactic(auto, using(crate::proofs::Looking::number_next))]
-pub(crate) fn number_in(rows: &[(&str, u32)], name: &str) -> Option<u32>
+pub(crate) fn number_in(rows: &[(&str, u32)], name: &[u8]) -> Option<u32>
     ensures { result ≡ number_of (plain rows.now) name.now }
 {
     for row in rows {
-        if row.0 == name {
+        if row.0.as_bytes() == name {
             return Some(row.1);
         }
     }

@@ -3,9 +3,13 @@ use Rattle.std.specs.Prelude.{ℕ, ℤ, pos, neg_ℤ, ◌+◌, ◌-◌, ◌*◌,
 use Rattle.std.specs.Prelude.{Option, Some, None, Result, Ok, Err}
 use Rattle.std.specs.List.{list_all, position}
 use Rattle.std.specs.Char.{is_ascii_digit}
+use Rattle.std.specs.Option.{option_or}
 use Rattle.hex.specs.Hex.{decode_of}
 use Rattle.hex.specs.declared.error.FromHexError.{FromHexError}
 use Rattle.bac_value.specs.Value.{ObjectId}
+use Rattle.bac_names.specs.Names.{number_in}
+use Rattle.bac_names.specs.ObjectTypes.{OBJECT_TYPES}
+use Rattle.bac_names.specs.Properties.{PROPERTIES}
 
 infixl 10 ◌>>=◌
 abbrev pub ◌>>=◌ : {A B : Type 0} → Option A → (A → Option B) → Option B
@@ -82,10 +86,36 @@ abbrev pub separated : List ℕ → Option ℕ → Option (List ℕ × List ℕ)
 separated word None = None
 separated word (Some place) = Some (take place word, drop (place + 1) word)
 
+-- an object type, by its number or its name in the standard
+abbrev pub type_of : List ℕ → Option ℕ
+type_of word = option_or (number_of word) (number_in OBJECT_TYPES word) >>= at_most 1023
+
 -- an object, as its type and its instance with a colon between them (clause 20.2.14: 10 bits and 22 bits)
 unfoldable pub object_of : List ℕ → Option ObjectId
 object_of word = do
   halves ← separated word (position is_colon word)
-  kind ← number_up_to 1023 halves.0
+  kind ← type_of halves.0
   instance ← number_up_to 4194303 halves.1
   Some (record { kind = kind; instance = instance })
+
+-- a property, by its number or its name in the standard
+abbrev pub property_of : List ℕ → Option ℕ
+property_of word = option_or (number_of word) (number_in PROPERTIES word) >>= at_most (2 ^ 32 - 1)
+
+abbrev pub is_opening : ℕ → Bool
+is_opening octet = octet == 91
+
+abbrev pub is_closing : ℕ → Bool
+is_closing octet = octet == 93
+
+-- the number, where nothing stands behind it
+abbrev pub ends_with : ℕ → (behind : List ℕ) → Option ℕ
+ends_with number [] = Some number
+ends_with number (octet ∷ octets) = None
+
+-- the index in brackets, from behind the opening one on
+unfoldable pub index_of : List ℕ → Option ℕ
+index_of word = do
+  halves ← separated word (position is_closing word)
+  index ← number_up_to (2 ^ 32 - 1) halves.0
+  ends_with index halves.1

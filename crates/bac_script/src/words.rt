@@ -1,14 +1,15 @@
 //! The words of a line, and the numbers and octets that words are.
 ghost use Rattle.std.specs.Prelude.{◌≡◌, ◌<◌, [], ◌∷◌, length, map, IfOk, MatchOption};
-ghost use Rattle.std.specs.Option.{option_map};
+ghost use Rattle.std.specs.Option.{option_map, option_or};
 ghost use Rattle.std.specs.List.{list_all, position};
 ghost use Rattle.std.specs.Char.{is_ascii_digit};
 ghost use Rattle.bac_value.specs.Views.{object_identifier_view};
 ghost use Rattle.bac_script.specs.Reading.{Reads};
-ghost use Rattle.bac_script.specs.Words.{is_space, is_colon, words_of, number_of, number_up_to};
-ghost use Rattle.bac_script.specs.Words.{is_minus, negative_of, positive_of, position_of, octets_of, object_of};
+ghost use Rattle.bac_script.specs.Words.{at_most, is_space, is_colon, is_closing, is_opening, words_of, number_of, number_up_to};
+ghost use Rattle.bac_script.specs.Words.{is_minus, negative_of, positive_of, position_of, octets_of, object_of, type_of, property_of, ends_with, index_of};
 
 use crate::form_fault::FormFault;
+use bac_names::{object_type_named, property_named};
 use bac_value::ObjectIdentifier;
 use hex::FromHexError;
 use std::alloc::{AllocError, Global};
@@ -18,6 +19,20 @@ fn space_in(text: &[u8]) -> Option<usize>
     ensures { result ≡ position is_space text.now }
 {
     text.iter().position(|octet| *octet == b' ')
+}
+
+/// The place of the first bracket that opens.
+pub(crate) fn opening_in(text: &[u8]) -> Option<usize>
+    ensures { result ≡ position is_opening text.now }
+{
+    text.iter().position(|octet| *octet == b'[')
+}
+
+/// The place of the first bracket that closes.
+fn closing_in(text: &[u8]) -> Option<usize>
+    ensures { result ≡ position is_closing text.now }
+{
+    text.iter().position(|octet| *octet == b']')
 }
 
 /// The place of the first colon.
@@ -76,8 +91,7 @@ pub(crate) fn number_in(word: &[u8]) -> Option<u64>
 pub(crate) fn number_up_to(most: u64, word: &[u8]) -> Option<u64>
     ensures { result ≡ number_up_to most word.now }
 {
-    let number = number_in(word)?;
-    if number <= most { Some(number) } else { None }
+    at_most(most, number_in(word)?)
 }
 
 fn is_minus(word: &[u8]) -> bool
@@ -127,16 +141,63 @@ pub(crate) fn octets_in(alloc: Global, word: &[u8]) -> Result<Vec<u8>, FormFault
     }
 }
 
+/// The number that a word is, or otherwise the number that it names.
+fn number_or(word: &[u8], named: Option<u32>) -> Option<u64>
+    ensures { result ≡ option_or (number_of word.now) named }
+{
+    match number_in(word) {
+        Some(number) => Some(number),
+        None => Some(u64::from(named?)),
+    }
+}
+
+/// The number, where it is at most that.
+fn at_most(most: u64, number: u64) -> Option<u64>
+    ensures { result ≡ at_most most number }
+{
+    if number <= most { Some(number) } else { None }
+}
+
+/// An object type, by its number or its name.
+fn type_in(word: &[u8]) -> Option<u16>
+    ensures { result ≡ type_of word.now }
+{
+    let number = at_most(1023, number_or(word, object_type_named(word))?)?;
+    Some(number as u16)
+}
+
+/// A property, by its number or its name.
+pub(crate) fn property_in(word: &[u8]) -> Option<u32>
+    ensures { result ≡ property_of word.now }
+{
+    let number = at_most(u64::from(u32::MAX), number_or(word, property_named(word))?)?;
+    Some(number as u32)
+}
+
+/// The index in brackets, from behind the opening one on.
+#[tactic(auto, unfolding(crate::specs::Words::index_of))]
+pub(crate) fn index_in(word: &[u8]) -> Option<u32>
+    ensures { result ≡ index_of word.now }
+{
+    let closing = closing_in(word)?;
+    let index = number_up_to(u64::from(u32::MAX), &word[..closing])?;
+    if word[closing + 1..].is_empty() {
+        Some(index as u32)
+    } else {
+        None
+    }
+}
+
 /// An object, as its type and its instance with a colon between them.
 #[tactic(auto, unfolding(crate::specs::Words::object_of))]
 pub(crate) fn object_in(word: &[u8]) -> Option<ObjectIdentifier>
     ensures { option_map object_identifier_view result ≡ object_of word.now }
 {
     let colon = colon_in(word)?;
-    let kind = number_up_to(1023, &word[..colon])?;
+    let kind = type_in(&word[..colon])?;
     let instance = number_up_to(4_194_303, &word[colon + 1..])?;
     Some(ObjectIdentifier {
-        kind: kind as u16,
+        kind,
         instance: instance as u32,
     })
 }

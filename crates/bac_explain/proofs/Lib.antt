@@ -1,0 +1,3 @@
+pub mod Seen
+pub mod Rooms
+pub mod Hearing

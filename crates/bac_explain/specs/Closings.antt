@@ -1,0 +1,18 @@
+-- The plain values of a transaction that was closed, and of what became of a sighting.
+use Rattle.std.specs.Prelude.{◌≡◌}
+use Rattle.std.specs.Option.{option_map}
+use Rattle.bac_explain.specs.declared.table.Closed.{Closed}
+use Rattle.bac_explain.specs.KeyViews.{key_view}
+use Rattle.bac_explain.specs.declared.explainer.Heard as code
+use Rattle.bac_explain.specs.Tables.{Transactions, ClosedView, Heard}
+use Rattle.bac_explain.specs.Views.{transaction_view}
+
+abbrev pub closed_view : Closed → ClosedView
+closed_view c = record { key = key_view c.key; transaction = transaction_view c.transaction }
+
+-- what became of a sighting, and the transactions then
+abbrev pub heard_view : (slots : Transactions) → code.Heard → Heard
+heard_view slots h = record { slots = slots; closed = option_map closed_view h.closed; finding = h.finding }
+
+abbrev pub IsHeard : Heard → (slots : Transactions) → code.Heard → Type 0
+IsHeard expected slots h = heard_view slots h ≡ expected

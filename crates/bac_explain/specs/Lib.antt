@@ -1,0 +1,12 @@
+pub mod Keys
+pub mod KeyViews
+pub mod Parts
+pub mod Texts
+pub mod Appends
+pub mod Sent
+pub mod SentViews
+pub mod Transactions
+pub mod Tables
+pub mod Views
+pub mod Closings
+pub mod Sightings

@@ -1,0 +1,33 @@
+-- What an APDU is in its transaction (clause 5.4): which side sent it, and whether it asks, answers, acknowledges or gives up.
+use Rattle.std.specs.Prelude.{ℕ, Bool, true, false, not, Option, Some, None}
+use Rattle.bac_apdu.specs.Apdu.{Segment, Apdu, ConfirmedRequest, UnconfirmedRequest, SimpleAck, ComplexAck, SegmentAck, Error, Reject, Abort}
+use Rattle.bac_explain.specs.declared.part.Part.{Part}
+use Rattle.bac_explain.specs.declared.part.Role.{Role}
+use Rattle.bac_explain.specs.declared.part.Role.TheVariants.{Request, Answer, Acknowledgement, GivesUp}
+
+-- what is whole has no number
+abbrev pub number_of : Option Segment → Option ℕ
+number_of None = None
+number_of (Some s) = Some s.number
+
+abbrev pub by_client : ℕ → Role → Option Part
+by_client invoke_id role = Some (record { by_client = true; invoke_id = invoke_id; role = role })
+
+abbrev pub by_server : ℕ → Role → Option Part
+by_server invoke_id role = Some (record { by_client = false; invoke_id = invoke_id; role = role })
+
+-- an Abort of the client gives up; one of the server is an answer
+abbrev pub abort_part : Bool → ℕ → Option Part
+abort_part true invoke_id = by_server invoke_id (Answer None)
+abort_part false invoke_id = by_client invoke_id GivesUp
+
+abbrev pub part_of : Apdu → Option Part
+part_of (ConfirmedRequest limits invoke_id segment choice service) = by_client invoke_id (Request (number_of segment))
+part_of (UnconfirmedRequest choice service) = None
+part_of (SimpleAck invoke_id choice) = by_server invoke_id (Answer None)
+part_of (ComplexAck invoke_id segment choice service) = by_server invoke_id (Answer (number_of segment))
+part_of (SegmentAck server invoke_id acknowledgement) =
+    Some (record { by_client = not server; invoke_id = invoke_id; role = Acknowledgement acknowledgement.nak })
+part_of (Error invoke_id choice class code) = by_server invoke_id (Answer None)
+part_of (Reject invoke_id reason) = by_server invoke_id (Answer None)
+part_of (Abort server invoke_id reason) = abort_part server invoke_id

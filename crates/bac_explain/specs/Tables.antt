@@ -1,0 +1,115 @@
+-- The transactions that are open, in the order of their beginning, and what a sighting makes of them.
+use Rattle.std.specs.Prelude.{ℕ, nat_lt, Bool, false, not, if◌then◌else◌, List, [], ◌∷◌, ◌++◌, length, Option, Some, None}
+use Rattle.bac_slots.specs.declared.slot.Slot.{Slot}
+use Rattle.bac_slots.specs.Slots.{value_at, with_value, without, keep}
+use Rattle.bac_explain.specs.declared.finding.Finding.{Finding}
+use Rattle.bac_explain.specs.declared.finding.Finding.TheVariants.{AnswerToNoRequest, InvokeIdReused}
+use Rattle.bac_explain.specs.declared.part.Role.{Role}
+use Rattle.bac_explain.specs.declared.part.Role.TheVariants.{Request, Answer, Acknowledgement, GivesUp}
+use Rattle.bac_explain.specs.declared.sent.Place.{Place}
+use Rattle.bac_explain.specs.declared.table.TheConstants.{OPEN_LIMIT}
+use Rattle.bac_explain.specs.Keys.{Key, same_key}
+use Rattle.bac_explain.specs.Sent.{is_other, place_of}
+use Rattle.bac_explain.specs.Transactions.{TransactionView, first_request, is_live, requested, answered, acknowledged, given_up}
+
+abbrev pub Transactions : Type 0
+Transactions = List (Slot Key TransactionView)
+
+-- a transaction of which nothing more is looked for
+pub record ClosedView : Type 0 where
+  pub key : Key
+  pub transaction : TransactionView
+
+-- what became of a sighting: the transactions then, one that was closed by it, and what is wrong
+pub record Heard : Type 0 where
+  pub slots : Transactions
+  pub closed : Option ClosedView
+  pub finding : Option Finding
+
+-- ---- closing
+
+abbrev pub closed_of : Slot Key TransactionView → ClosedView
+closed_of s = record { key = s.key; transaction = s.value }
+
+-- the one of a key
+abbrev pub closed_in : Key → Option TransactionView → Option ClosedView
+closed_in key None = None
+closed_in key (Some t) = Some (record { key = key; transaction = t })
+
+abbrev pub closed_at : Key → Transactions → Option ClosedView
+closed_at key slots = closed_in key (value_at same_key key slots)
+
+-- the transaction that began first, and the others
+abbrev pub oldest_out : Transactions → Option ClosedView × Transactions
+oldest_out [] = (None, [])
+oldest_out (s ∷ slots) = (Some (closed_of s), slots)
+
+abbrev pub is_oldest_over : ℕ → Transactions → Bool
+is_oldest_over now [] = false
+is_oldest_over now (s ∷ slots) = not (is_live now s.value)
+
+-- where it is not live any more
+abbrev pub over_out : ℕ → Transactions → Option ClosedView × Transactions
+over_out now slots = if is_oldest_over now slots then oldest_out slots else (None, slots)
+
+-- at most so many are open; where another one begins, the oldest closes
+abbrev pub full_out : Transactions → Option ClosedView × Transactions
+full_out slots = if nat_lt (length slots) OPEN_LIMIT then (None, slots) else oldest_out slots
+
+-- a transaction with the same key closes
+abbrev pub room_in : Option TransactionView → Key → Transactions → Option ClosedView × Transactions
+room_in None key slots = full_out slots
+room_in (Some t) key slots = (Some (record { key = key; transaction = t }), without same_key key slots)
+
+abbrev pub room_for : Key → Transactions → Option ClosedView × Transactions
+room_for key slots = room_in (value_at same_key key slots) key slots
+
+-- ---- one sighting
+
+-- the live transaction of a key
+abbrev pub live : ℕ → Key → Transactions → Option TransactionView
+live now key slots = keep (is_live now) (value_at same_key key slots)
+
+-- nothing changes
+abbrev pub unheard : Option Finding → Transactions → Heard
+unheard finding slots = record { slots = slots; closed = None; finding = finding }
+
+-- the transaction of a key goes on
+abbrev pub goes_on : Key → Transactions → TransactionView × Option Finding → Heard
+goes_on key slots next = record { slots = with_value same_key key next.0 slots; closed = None; finding = next.1 }
+
+-- a transaction begins, last
+abbrev pub begins_in : Key → ℕ → TransactionView → Option Finding → Option ClosedView × Transactions → Heard
+begins_in key now t finding room =
+    record { slots = room.1 ++ record { key = key; begin = now; value = t } ∷ []; closed = room.0; finding = finding }
+
+abbrev pub begins : ℕ → Key → Option ℕ → List ℕ → Option Finding → Transactions → Heard
+begins now key number octets finding slots = begins_in key now (first_request now number octets) finding (room_for key slots)
+
+-- a request stands there after that of the live transaction of its key: another one begins a transaction, whose invoke ID is used again
+abbrev pub request_at : Place → ℕ → Key → Option ℕ → List ℕ → TransactionView → Transactions → Heard
+request_at place now key number octets t slots =
+    if is_other place then begins now key number octets (Some InvokeIdReused) slots else goes_on key slots (requested place number t)
+
+abbrev pub request_heard : ℕ → Key → Option ℕ → List ℕ → Option TransactionView → Transactions → Heard
+request_heard now key number octets None slots = begins now key number octets None slots
+request_heard now key number octets (Some t) slots = request_at (place_of t.request number octets) now key number octets t slots
+
+abbrev pub answer_heard : ℕ → Key → Option ℕ → List ℕ → Option TransactionView → Transactions → Heard
+answer_heard now key number octets None slots = unheard (Some AnswerToNoRequest) slots
+answer_heard now key number octets (Some t) slots = goes_on key slots (answered now number octets t)
+
+abbrev pub acknowledgement_heard : Key → Bool → Option TransactionView → Transactions → Heard
+acknowledgement_heard key nak None slots = unheard None slots
+acknowledgement_heard key nak (Some t) slots = goes_on key slots (acknowledged nak t)
+
+abbrev pub giving_up_heard : Key → Option TransactionView → Transactions → Heard
+giving_up_heard key None slots = unheard None slots
+giving_up_heard key (Some t) slots = goes_on key slots (given_up t, None)
+
+-- an APDU with that role in the transaction of a key is seen
+abbrev pub heard : ℕ → Key → Role → List ℕ → Transactions → Heard
+heard now key (Request number) octets slots = request_heard now key number octets (live now key slots) slots
+heard now key (Answer number) octets slots = answer_heard now key number octets (live now key slots) slots
+heard now key (Acknowledgement nak) octets slots = acknowledgement_heard key nak (live now key slots) slots
+heard now key GivesUp octets slots = giving_up_heard key (live now key slots) slots

@@ -1,0 +1,83 @@
+//! Appends, and what they are answered with.
+ghost use Rattle.std.specs.Prelude.{◌≡◌, ◌&&◌, not};
+ghost use Rattle.bac_apdu.specs.Views.{apdu_view};
+ghost use Rattle.bac_service.specs.Requests.{request_view};
+ghost use Rattle.bac_explain.specs.Appends.{is_append, is_append_in, is_append_request, is_written, is_written_in, is_performed_twice};
+
+use bac_apdu::{Apdu, read};
+use bac_service::{ATOMIC_WRITE_FILE, AnyRequest, Request, WriteAccess, read_reply, read_request};
+
+/// Whether a request appends to a file: it writes at -1.
+fn is_append_request(request: Request<'_>) -> bool
+    ensures { result ≡ is_append_request (request_view request.entry) }
+{
+    match request {
+        AnyRequest::WriteFile(write) => match write.access {
+            WriteAccess::Stream(stream) => stream.start == -1,
+            WriteAccess::Records(records) => records.start == -1,
+        },
+        _ => false,
+    }
+}
+
+/// Whether an APDU is a whole request that appends to a file.
+fn is_append_in(apdu: Apdu<'_>) -> bool
+    ensures { result ≡ is_append_in (apdu_view apdu.entry) }
+{
+    let Apdu::ConfirmedRequest {
+        segment: None,
+        choice: ATOMIC_WRITE_FILE,
+        service,
+        ..
+    } = apdu
+    else {
+        return false;
+    };
+    match read_request(ATOMIC_WRITE_FILE, service) {
+        Ok(request) => is_append_request(request),
+        Err(_) => false,
+    }
+}
+
+/// Whether the octets are an APDU that is a whole request that appends to a file.
+fn is_append(octets: &[u8]) -> bool
+    ensures { result ≡ is_append octets.now }
+{
+    match read(octets) {
+        Ok(apdu) => is_append_in(apdu),
+        Err(_) => false,
+    }
+}
+
+/// Whether an APDU is a whole ComplexACK that tells where a file was written.
+fn is_written_in(apdu: Apdu<'_>) -> bool
+    ensures { result ≡ is_written_in (apdu_view apdu.entry) }
+{
+    let Apdu::ComplexAck {
+        segment: None,
+        choice: ATOMIC_WRITE_FILE,
+        service,
+        ..
+    } = apdu
+    else {
+        return false;
+    };
+    read_reply(ATOMIC_WRITE_FILE, service).is_ok()
+}
+
+/// Whether the octets are an APDU that is a whole ComplexACK that tells where a file was written.
+fn is_written(octets: &[u8]) -> bool
+    ensures { result ≡ is_written octets.now }
+{
+    match read(octets) {
+        Ok(apdu) => is_written_in(apdu),
+        Err(_) => false,
+    }
+}
+
+/// Whether two answers that differ show that a request was performed twice: it appends to a file, and both tell where it was written.
+pub(crate) fn is_performed_twice(request: &[u8], first: &[u8], other: &[u8]) -> bool
+    ensures { result ≡ is_performed_twice request.now first.now other.now }
+{
+    is_append(request) && is_written(first) && is_written(other)
+}

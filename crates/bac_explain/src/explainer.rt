@@ -1,0 +1,234 @@
+//! What a capture says of transactions, sighting by sighting.
+ghost use Rattle.std.specs.Prelude.{◌≡◌, [], None, Some, IfOk, OnErr, is_some};
+ghost use Rattle.std.specs.Option.{option_map};
+ghost use Rattle.bac_explain.specs.KeyViews.{key_view};
+ghost use Rattle.bac_explain.specs.Tables.{acknowledgement_heard, begins, giving_up_heard, goes_on, heard, live, oldest_out, over_out};
+ghost use Rattle.bac_slots.specs.Slots.{value_at};
+ghost use Rattle.bac_explain.specs.Keys.{same_key};
+ghost use Rattle.bac_explain.specs.Transactions.{TransactionView, requested};
+ghost use Rattle.bac_explain.specs.Sent.{place_of};
+ghost use Rattle.bac_explain.specs.Closings.{IsHeard, closed_view};
+
+use crate::finding::Finding;
+use crate::key::TransactionKey;
+use crate::part::Role;
+use crate::sent::Place;
+use crate::table::{Closed, OPEN_LIMIT, OpenTable, enter, find, take_oldest, take_over};
+use crate::transaction::Transaction;
+use bac_slots::SlotTable;
+use std::alloc::{AllocError, Global};
+use std::marker::Model;
+
+/// What became of a sighting.
+#[derive(Debug, Drop)]
+pub struct Heard {
+    /// What is wrong with it.
+    pub finding: Option<Finding>,
+    /// The transaction that was closed by it.
+    pub closed: Option<Closed>,
+}
+
+/// The transactions that are open, in the order of their beginning. All memory for the table is taken when it is made.
+#[derive(Drop)]
+pub struct Explainer {
+    table: OpenTable,
+}
+
+impl Model for Explainer {
+    ghost use Rattle.std.specs.Prelude.{◌≡◌};
+    ghost use Rattle.bac_explain.specs.declared.table.TheConstants.{OPEN_LIMIT};
+    ghost use Rattle.bac_explain.specs.Tables.{Transactions};
+    ghost use Rattle.bac_explain.specs.Views.{slots_view};
+
+    ghost Value = { Transactions };
+
+    ghost view = { λ e. slots_view e.table.0 };
+
+    ghost invariant = { λ e. e.table.1 ≡ OPEN_LIMIT };
+}
+
+impl Explainer {
+    /// No transaction is open; an Err where the memory for the table is refused.
+    pub fn new(alloc: Global) -> Result<Explainer, AllocError>
+        ensures { IfOk result (λ e. e ≡ []) }
+    {
+        let table = OpenTable::new(alloc, OPEN_LIMIT)?;
+        Ok(Explainer { table })
+    }
+
+    /// Closes the transaction that began first; None where none is open.
+    pub fn pop(&mut self) -> Option<Closed>
+        ensures closed { option_map closed_view result ≡ (oldest_out self.old).0 }
+        ensures left { self.new ≡ (oldest_out self.old).1 }
+    {
+        take_oldest(&mut self.table)
+    }
+
+    /// Closes the transaction that began first, where its request was first seen more than 65,000 ms before.
+    pub fn pop_over(&mut self, now: u64) -> Option<Closed>
+        ensures closed { option_map closed_view result ≡ (over_out now self.old).0 }
+        ensures left { self.new ≡ (over_out now self.old).1 }
+    {
+        take_over(&mut self.table, now)
+    }
+
+    /// Whether a transaction of that key is live.
+    fn is_live(&self, now: u64, key: &TransactionKey) -> bool
+        ensures { result ≡ is_some (live now (key_view key.now) self.now) }
+    {
+        match find(&self.table, key) {
+            Some(transaction) => transaction.is_live(now),
+            None => false,
+        }
+    }
+
+    /// Where a request stands after that of the live transaction of its key; None where there is no such transaction.
+    fn place(
+        &self,
+        now: u64,
+        key: &TransactionKey,
+        number: Option<u8>,
+        octets: &[u8],
+    ) -> Option<Place>
+        ensures { result ≡ option_map (λ t. place_of t.request number octets.now) (live now (key_view key.now) self.now) }
+    {
+        let transaction = find(&self.table, key)?;
+        if !transaction.is_live(now) {
+            return None;
+        }
+        Some(transaction.request.place(number, octets))
+    }
+
+    /// A transaction begins with a request that is seen.
+    fn begin(
+        &mut self,
+        alloc: Global,
+        now: u64,
+        key: TransactionKey,
+        number: Option<u8>,
+        octets: &[u8],
+        finding: Option<Finding>,
+    ) -> Result<Heard, AllocError>
+        ensures ok { IfOk result (IsHeard (begins now (key_view key) number octets.now finding self.old) self.new) }
+        ensures err { OnErr result (self.new ≡ self.old) }
+    {
+        let transaction = Transaction::begin(alloc, now, number, octets)?;
+        let closed = enter(&mut self.table, key, now, transaction);
+        Ok(Heard { finding, closed })
+    }
+
+    /// The request of the live transaction of a key is seen again, or a segment of it.
+    fn repeat(&mut self, key: &TransactionKey, place: Place, number: Option<u8>) -> Option<Finding>
+        ensures { (t : TransactionView) → value_at same_key (key_view key.now) self.old ≡ Some t
+            → record { slots = self.new; closed = None; finding = result } ≡ goes_on (key_view key.now) self.old (requested place number t) }
+    {
+        let Some(transaction) = self.table.get_mut(key) else {
+            return None;
+        };
+        transaction.requested(place, number)
+    }
+
+    /// A request is seen, or a segment of one.
+    fn hear_request(
+        &mut self,
+        alloc: Global,
+        now: u64,
+        key: TransactionKey,
+        number: Option<u8>,
+        octets: &[u8],
+    ) -> Result<Heard, AllocError>
+        ensures ok { IfOk result (IsHeard (heard now (key_view key) (Role.Request number) octets.now self.old) self.new) }
+        ensures err { OnErr result (self.new ≡ self.old) }
+    {
+        let Some(place) = self.place(now, &key, number, octets) else {
+            return self.begin(alloc, now, key, number, octets, None);
+        };
+        if place.is_other() {
+            let finding = Some(Finding::InvokeIdReused);
+            return self.begin(alloc, now, key, number, octets, finding);
+        }
+        Ok(Heard {
+            finding: self.repeat(&key, place, number),
+            closed: None,
+        })
+    }
+
+    /// An answer is seen, or a segment of one.
+    fn hear_answer(
+        &mut self,
+        alloc: Global,
+        now: u64,
+        key: &TransactionKey,
+        number: Option<u8>,
+        octets: &[u8],
+    ) -> Result<Option<Finding>, AllocError>
+        ensures ok { IfOk result (λ f. record { slots = self.new; closed = None; finding = f }
+            ≡ heard now (key_view key.now) (Role.Answer number) octets.now self.old) }
+        ensures err { OnErr result (self.new ≡ self.old) }
+    {
+        if !self.is_live(now, key) {
+            return Ok(Some(Finding::AnswerToNoRequest));
+        }
+        let Some(transaction) = self.table.get_mut(key) else {
+            return Ok(Some(Finding::AnswerToNoRequest));
+        };
+        transaction.answered(alloc, now, number, octets)
+    }
+
+    /// A SegmentACK is seen.
+    fn hear_acknowledgement(&mut self, now: u64, key: &TransactionKey, nak: bool) -> Option<Finding>
+        ensures { record { slots = self.new; closed = None; finding = result }
+            ≡ acknowledgement_heard (key_view key.now) nak (live now (key_view key.now) self.old) self.old }
+    {
+        if !self.is_live(now, key) {
+            return None;
+        }
+        let Some(transaction) = self.table.get_mut(key) else {
+            return None;
+        };
+        transaction.acknowledged(nak)
+    }
+
+    /// The client's Abort is seen.
+    fn hear_giving_up(&mut self, now: u64, key: &TransactionKey)
+        ensures { record { slots = self.new; closed = None; finding = None }
+            ≡ giving_up_heard (key_view key.now) (live now (key_view key.now) self.old) self.old }
+    {
+        if !self.is_live(now, key) {
+            return;
+        }
+        let Some(transaction) = self.table.get_mut(key) else {
+            return;
+        };
+        transaction.given_up();
+    }
+
+    /// An APDU with that role in the transaction of that key is seen at a moment: what is wrong with it, and the transaction that it
+    /// closes: an earlier one of that key, where it begins another one, or the oldest, where 16,384 are open. An Err only where
+    /// memory is refused; nothing has changed then.
+    pub fn hear(
+        &mut self,
+        alloc: Global,
+        now: u64,
+        key: TransactionKey,
+        role: Role,
+        octets: &[u8],
+    ) -> Result<Heard, AllocError>
+        ensures ok { IfOk result (IsHeard (heard now (key_view key) role octets.now self.old) self.new) }
+        ensures err { OnErr result (self.new ≡ self.old) }
+    {
+        let finding = match role {
+            Role::Request(number) => return self.hear_request(alloc, now, key, number, octets),
+            Role::Answer(number) => self.hear_answer(alloc, now, &key, number, octets)?,
+            Role::Acknowledgement(nak) => self.hear_acknowledgement(now, &key, nak),
+            Role::GivesUp => {
+                self.hear_giving_up(now, &key);
+                None
+            }
+        };
+        Ok(Heard {
+            finding,
+            closed: None,
+        })
+    }
+}

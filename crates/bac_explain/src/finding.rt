@@ -1,0 +1,43 @@
+//! What is wrong with a datagram of a transaction.
+ghost use Rattle.std.specs.Prelude.{Some};
+ghost use Rattle.bac_explain.specs.Texts.{finding_text};
+
+use std::fmt;
+
+/// What is wrong with a datagram, in view of those before it.
+#[derive(Clone, Copy, Debug, PartialEq, Eq)]
+pub enum Finding {
+    /// It answers no request of the last 65,000 ms.
+    AnswerToNoRequest,
+    /// Its request was answered otherwise before.
+    AnotherAnswer,
+    /// Its request appends to a file, and was answered with another position before: as far as can be seen it was performed twice.
+    PerformedTwice,
+    /// It asks with an invoke ID that had another request at most 65,000 ms before.
+    InvokeIdReused,
+    /// It asks for the fifth time, or later: once, and three retries, is the default of the standard (clause 12.11.28).
+    SentTooOften,
+    /// It is a segment after one or more that were not seen.
+    SegmentMissing,
+    /// It is a negative SegmentACK.
+    NegativeAck,
+}
+
+impl fmt::Display for Finding {
+    ghost output = { λ x. Some (finding_text x) };
+
+    fn fmt<W: fmt::Write>(&self, f: &mut fmt::Formatter<W>) -> fmt::Result {
+        match self {
+            Finding::AnswerToNoRequest => write!(f, "an answer to no request"),
+            Finding::AnotherAnswer => write!(f, "another answer than before"),
+            Finding::PerformedTwice => write!(f, "an append performed twice"),
+            Finding::InvokeIdReused => write!(
+                f,
+                "another request with the invoke ID of an earlier one"
+            ),
+            Finding::SentTooOften => write!(f, "a request sent more than four times"),
+            Finding::SegmentMissing => write!(f, "a segment before it is missing"),
+            Finding::NegativeAck => write!(f, "a negative SegmentACK"),
+        }
+    }
+}

@@ -1,0 +1,21 @@
+//! What a capture says of transactions (clause 5.4), from its datagrams alone: what each asked, how it was answered, and what was wrong.
+#![tactic(auto)]
+
+mod appends;
+mod explainer;
+mod finding;
+mod key;
+mod part;
+mod sent;
+mod sighting;
+mod table;
+mod transaction;
+
+pub use explainer::{Explainer, Heard};
+pub use finding::Finding;
+pub use key::TransactionKey;
+pub use part::{Part, Role, part_of};
+pub use sent::Sent;
+pub use sighting::{Sighting, read_sighting};
+pub use table::{Closed, OPEN_LIMIT};
+pub use transaction::Transaction;

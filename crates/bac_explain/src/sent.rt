@@ -1,0 +1,137 @@
+//! A request or an answer, as it was seen.
+ghost use Rattle.std.specs.Prelude.{◌≡◌, IfOk};
+ghost use Rattle.bac_explain.specs.SentViews.{sent_view};
+ghost use Rattle.bac_explain.specs.Sent.{are_same, counted, first_sent, is_next, is_other, number_in, numbered_place, one_more, place_of, unlike_next};
+
+use std::alloc::{AllocError, Global};
+
+/// A request or an answer, as it was seen: by the first of its APDUs, and how many came after it.
+#[derive(Debug, Drop)]
+pub struct Sent {
+    /// When it was first seen, in milliseconds.
+    pub moment: u64,
+    /// The octets of that APDU: the whole, or one segment.
+    pub octets: Vec<u8>,
+    /// How many times they were seen, at least 1; the count stays at its last value.
+    pub times: u64,
+    /// How many other segments were seen, those that were sent again too; the count stays at its last value.
+    pub segments: u64,
+    /// The number of the last segment that was seen, modulo 256; 0 of what is whole.
+    pub number: u8,
+}
+
+/// Where an APDU stands after what was seen.
+#[derive(Clone, Copy, Debug, PartialEq, Eq)]
+pub(crate) enum Place {
+    /// The first APDU again.
+    Again,
+    /// The segment after the last one.
+    Next,
+    /// A segment that was seen before.
+    Back,
+    /// A later segment than the next.
+    Ahead,
+    /// Another request or answer.
+    Other,
+}
+
+impl Place {
+    pub(crate) fn is_other(self) -> bool
+        ensures { result ≡ is_other self }
+    {
+        matches!(self, Place::Other)
+    }
+}
+
+/// A count with one more; it stays at its last value.
+pub(crate) fn one_more(count: u64) -> u64
+    ensures { result ≡ one_more count }
+{
+    count.saturating_add(1)
+}
+
+fn number_in(number: Option<u8>) -> u8
+    ensures { result ≡ number_in number }
+{
+    number.unwrap_or(0)
+}
+
+/// Where a segment of that number stands after the last one, where it is not the next: numbers are compared modulo 256.
+fn numbered_place(last: u8, number: u8) -> Place
+    ensures { result ≡ numbered_place last number }
+{
+    let ahead = (u16::from(number) + 256 - u16::from(last)) % 256;
+    if 0 < ahead && ahead < 128 {
+        Place::Ahead
+    } else {
+        Place::Back
+    }
+}
+
+/// Whether the octets are the same.
+fn are_same(one: &[u8], other: &[u8]) -> bool
+    ensures { result ≡ are_same one.now other.now }
+{
+    one == other
+}
+
+impl Sent {
+    /// What is seen for the first time; an Err only where the memory for it is refused.
+    pub(crate) fn first(
+        alloc: Global,
+        now: u64,
+        number: Option<u8>,
+        octets: &[u8],
+    ) -> Result<Sent, AllocError>
+        ensures { IfOk result (λ s. sent_view s ≡ first_sent now number octets.now) }
+    {
+        Ok(Sent {
+            moment: now,
+            octets: Vec::from_slice(alloc, octets)?,
+            times: 1,
+            segments: 0,
+            number: number_in(number),
+        })
+    }
+
+    fn is_next(&self, number: u8) -> bool
+        ensures { result ≡ is_next (sent_view self.now) number }
+    {
+        (u16::from(self.number) + 1) % 256 == u16::from(number)
+    }
+
+    /// Where an APDU stands that is not the next segment.
+    fn unlike_next(&self, number: Option<u8>, octets: &[u8]) -> Place
+        ensures { result ≡ unlike_next (sent_view self.now) number octets.now }
+    {
+        if are_same(&self.octets, octets) {
+            return Place::Again;
+        }
+        match number {
+            None | Some(0) => Place::Other,
+            Some(number) => numbered_place(self.number, number),
+        }
+    }
+
+    /// Where an APDU stands after what was seen: a segment of that number, or a whole.
+    pub(crate) fn place(&self, number: Option<u8>, octets: &[u8]) -> Place
+        ensures { result ≡ place_of (sent_view self.now) number octets.now }
+    {
+        match number {
+            Some(number) if self.is_next(number) => Place::Next,
+            _ => self.unlike_next(number, octets),
+        }
+    }
+
+    /// Counts an APDU that stands there.
+    pub(crate) fn count(&mut self, place: Place, number: Option<u8>)
+        ensures { sent_view self.new ≡ counted place number (sent_view self.old) }
+    {
+        match place {
+            Place::Again => self.times = one_more(self.times),
+            Place::Next | Place::Back | Place::Ahead => self.segments = one_more(self.segments),
+            Place::Other => return,
+        }
+        self.number = number_in(number);
+    }
+}
