@@ -1,30 +1,20 @@
--- While an ask is in time, and its server has not restarted since, an entry that is done for it stays as it is, and its ticket is there.
-use Rattle.std.proofs.Common.{◌≡◌, ℕ, ◌+◌, ◌-◌, ◌≤◌, ◌⊎◌, Bool, true, false, ◌&&◌, ◌||◌, not, Option, Some, None, nat_le, nat_lt, nat_eq}
-use Rattle.std.proofs.Common.{if◌then◌else◌, refl, sym, ap, subst, inl, inr, ◌∙◌, arith}
+-- While an ask is in time its invoke ID is held, or its client waits after a restart; and an entry that is done for an ask.
+use Rattle.std.proofs.Common.{◌≡◌, ℕ, ◌+◌, ◌-◌, ◌≤◌, Bool, true, false, ◌&&◌, ◌||◌, not, Option, Some, nat_le, nat_lt, refl, ap, ◌∙◌, arith}
 use Rattle.std.proofs.lemmas.Bool.Decides.{nat_tests}
 use Rattle.bac_apdu.specs.Apdu.{Apdu}
-use Rattle.bac_protocol.specs.declared.times.TheConstants.{DEADLINE, KEEP, HOLD, REST}
+use Rattle.bac_protocol.specs.declared.times.TheConstants.{HOLD, REST}
 use Rattle.bac_protocol.specs.Client.{Ask, is_idle, is_held}
-use Rattle.bac_protocol.specs.Server as server
-use Rattle.bac_protocol.specs.Server.{Entry, Service, State, is_live}
+use Rattle.bac_protocol.specs.Server.{Entry, Service}
 use Rattle.bac_protocol.specs.Server.State.{Done}
-use Rattle.bac_protocol.specs.Transaction.{Key, Rules, server_context}
-use Rattle.bac_protocol.specs.World.{Net, is_held_since, is_id_held, is_room, server_acts}
-use Rattle.bac_protocol.specs.Claims.{ServerStays}
-use Rattle.bac_protocol.specs.Steps.{IsSameEntry, StateStays, StaysIn}
-use Rattle.bac_protocol.proofs.Keys.{decide_key, set_same, set_other}
-use Rattle.bac_protocol.proofs.Served.{live_stays_law}
-use Rattle.bac_progress.proofs.Paths.{Step, Path, Bounded, step_now, step_serves_from, path_bounded}
-use Rattle.bac_progress.proofs.Paths.Step.{Asks, Serves, Hears, TicksTicket, TicksEntry, Passes, Changes, RestartsClient, RestartsServer}
-use Rattle.bac_progress.proofs.Paths.Path.{Here, Then}
-use Rattle.bac_progress.proofs.Changes.{IsThere, there_step}
+use Rattle.bac_protocol.specs.Transaction.{Key, Rules}
+use Rattle.bac_protocol.specs.World.{Net, is_held_since, is_id_held}
+use Rattle.bac_progress.proofs.Changes.{IsThere}
 
 module _ (x : Rules) (Q : Net → ℕ → Bool → Service → Type 0) where
   module _ (key : Key) (number : ℕ) (ask : Ask) where
     -- while an ask is in time its invoke ID is held, or its client waits after a restart
     pub held_in_time : (n : Net) → IsThere x Q key number ask n → n.now - ask.first ≤ REST → is_id_held n key ≡ true
-    held_in_time n h young =
-        by_wait (nat_lt n.now (n.asks_from key.client)) refl
+    held_in_time n h young = by_wait (nat_lt n.now (n.asks_from key.client)) refl
       where
         first : h.ticket.ask.first ≡ ask.first
         first = ap (λ (a : Ask). a.first) h.is

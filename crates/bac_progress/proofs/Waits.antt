@@ -31,6 +31,7 @@ use Rattle.bac_progress.specs.Repeats.{IsAnswered, PATIENCE}
 use Rattle.bac_progress.proofs.Paths.{some_is, ask_of, Comes, Step, Path, step_now, grows_ended, grows_performed}
 use Rattle.bac_progress.proofs.Paths.Step.{Asks, Serves, Hears, TicksTicket, TicksEntry, Passes, Changes, RestartsClient, RestartsServer}
 use Rattle.bac_progress.proofs.Paths.Path.{Here, Then}
+use Rattle.bac_progress.proofs.Kept.{held_in_time}
 use Rattle.bac_progress.proofs.Serving.{answer_any_time, answer_not_from_client, answer_ends, performed_entry, answers_first, serves_new, serves_again}
 
 -- Lists of copies.
@@ -441,28 +442,8 @@ module _ (x : Rules) (key : Key) (ask : Ask) (number : ℕ) where
   fine_down log a down (inr r) = r
 
   key_held : (n : Net) → Waits n → InPatience n → is_id_held n key ≡ true
-  key_held n h young = by_wait (nat_lt n.now (n.asks_from key.client)) refl
-    where
-      t : Ticket
-      t = h.ticket.ticket
-
-      first : t.ask.first ≡ ask.first
-      first = ap (λ (a : Ask). a.first) h.ticket.is
-
-      held : (b : Bool) → (not b || nat_le (n.now - t.ask.first) HOLD) ≡ true
-      held false = refl
-      held true = let f = first in grind (arith, nat_tests)
-
-      since : nat_lt n.now (n.asks_from key.client) ≡ false → nat_le (n.asks_from key.client) (t.ask.first + REST) ≡ true
-      since e = let f = first in grind (arith, nat_tests)
-
-      by_wait : (b : Bool) → nat_lt n.now (n.asks_from key.client) ≡ b → is_id_held n key ≡ true
-      by_wait true e = ap (λ (c : Bool). c || is_held_since (n.asks_from key.client) n.now (n.tickets key)) e
-      by_wait false e =
-          ap (λ (c : Bool). c || is_held_since (n.asks_from key.client) n.now (n.tickets key)) e
-          ∙ ap (is_held_since (n.asks_from key.client) n.now) h.ticket.at
-          ∙ ap (λ (c : Bool). c && is_held n.now t) (since e)
-          ∙ held (is_idle t.phase)
+  key_held n h young = held_in_time x Finds key number ask n
+      (record { ticket = h.ticket.ticket; at = h.ticket.at; is = h.ticket.is; number_is = h.number_is }) (omega arith)
 
   -- another transaction's ask
   asked_waits : (n : Net) (k : Key) (other : Ask) → (k ≡ key → ⊥) → Waits n → Waits (asked_at x n k other)
