@@ -200,6 +200,10 @@ uint32_t bac_cause(bac_node *node);
  * BAC_TOO_LONG, BAC_NO_MEMORY. */
 bac_status bac_set_value(bac_node *node, uint16_t object_type, uint32_t instance, uint32_t property, const uint8_t *octets, size_t len);
 
+/* Copies the values of a property out, computed ones too, and puts out how many octets they are. BAC_BAD_REQUEST, BAC_NO_SUCH_OBJECT, BAC_NO_SUCH_PROPERTY,
+ * BAC_NO_MEMORY. */
+bac_status bac_get_value(bac_node *node, const bac_reference *reference, uint8_t *out, size_t room, size_t *len);
+
 /* Sets all octets of a file. */
 bac_status bac_set_file(bac_node *node, uint32_t file, const uint8_t *octets, size_t len);
 

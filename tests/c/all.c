@@ -67,6 +67,7 @@ static int closed_rows(bac_node *node)
     CALL(BAC_NOT_OPEN, bac_ask_get(node, 0, &t, 1, 0, 1, &ticket));
     CALL(BAC_NOT_OPEN, bac_set_value(node, 0, 5, 85, REAL_10, 5));
     CALL(BAC_NOT_OPEN, bac_set_file(node, 1, out, 1));
+    CALL(BAC_NOT_OPEN, bac_get_value(node, &r, out, sizeof out, &n));
     HOLDS(bac_next_due(node) == UINT64_MAX && bac_sends(node) == 0 && bac_ends(node) == 0 && bac_cause(node) == 0);
     HOLDS(bac_send(node, 0, to, out, sizeof out) == 0 && bac_end(node, 0, &e, out, sizeof out) == 0);
     HOLDS(bac_performed(node, &a, out, sizeof out) == 0 && a.service == 0);
@@ -112,6 +113,7 @@ static int house_rows(bac_node *node)
 static int own_rows(bac_node *node)
 {
     bac_settings s = BAC_SETTINGS(127, 0, 0, 1, 0xBA, 0xC2);
+    bac_reference r = { 2, 1, 85, BAC_WHOLE };
     static const uint8_t name[] = { 's', 'e', 't' }, latin[] = { 0xE4 };
     CALL(BAC_OK, bac_open(node));
     CALL(BAC_BAD_OBJECT, bac_add_property(node, 85, REAL_10, 5, true));
@@ -129,6 +131,16 @@ static int own_rows(bac_node *node)
     CALL(BAC_BAD_VALUE, bac_set_value(node, 2, 1, 85, name, 3));
     CALL(BAC_BAD_REQUEST, bac_set_value(node, 1024, 1, 85, REAL_10, 5));
     CALL(BAC_OK, bac_set_value(node, 2, 1, 85, REAL_20, 5));
+    CALL(BAC_OK, bac_get_value(node, &r, out, sizeof out, &n));
+    HOLDS(n == 5 && memcmp(out, REAL_20, 5) == 0);
+    CALL(BAC_OK, bac_get_value(node, &r, out, 4, &n));
+    HOLDS(n == 5);
+    r.property = 28;
+    CALL(BAC_NO_SUCH_PROPERTY, bac_get_value(node, &r, out, sizeof out, &n));
+    r.instance = 9;
+    CALL(BAC_NO_SUCH_OBJECT, bac_get_value(node, &r, out, sizeof out, &n));
+    r.object_type = 1024;
+    CALL(BAC_BAD_REQUEST, bac_get_value(node, &r, out, sizeof out, &n));
     CALL(BAC_NO_SUCH_OBJECT, bac_set_file(node, 2, name, 3));
     CALL(BAC_OK, bac_set_file(node, 1, name, 2));
     return 0;
