@@ -1,6 +1,5 @@
 -- Where no end of a net restarted, each ask was made since its client started.
-use Rattle.std.proofs.Common.{◌≡◌, ℕ, ◌+◌, ◌≤◌, arith}
-use Rattle.bac_protocol.specs.declared.times.TheConstants.{REST}
+use Rattle.std.proofs.Common.{arith}
 use Rattle.bac_protocol.specs.Client.{Ask}
 use Rattle.bac_protocol.specs.Transaction.{Key}
 use Rattle.bac_protocol.specs.World.{Net, NeverRestarted}

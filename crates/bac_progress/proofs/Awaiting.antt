@@ -1,14 +1,14 @@
 -- Once an entry keeps the answer to an ask, in one APDU, its ticket takes that answer whenever it comes in time, also where its server restarts: no segment
 -- of a reply can come, and a request that was sent whole stays so.
-use Rattle.std.proofs.Common.{◌≡◌, ℕ, ◌+◌, ◌-◌, ◌<◌, ◌≤◌, ◌⊎◌, Bool, true, false, ◌&&◌, ◌||◌, not, List, [], ◌∷◌, ◌++◌, length, Option, Some, None}
+use Rattle.std.proofs.Common.{◌≡◌, ℕ, ◌+◌, ◌-◌, ◌<◌, ◌≤◌, ◌⊎◌, Bool, true, false, ◌&&◌, ◌||◌, not, List, [], ◌∷◌, ◌++◌, Option, Some, None}
 use Rattle.std.proofs.Common.{slice_get, if◌then◌else◌, nat_eq, nat_le, nat_lt, refl, sym, ap, subst, inl, inr, ◌∙◌, arith}
 use Rattle.std.specs.Prelude.{is_some}
 use Rattle.std.proofs.lemmas.Bool.Decides.{nat_tests}
 use Rattle.bac_apdu.specs.Apdu.{Apdu}
-use Rattle.bac_apdu.specs.Apdu.Apdu.{ConfirmedRequest, UnconfirmedRequest, SimpleAck, ComplexAck, SegmentAck, Error, Reject, Abort}
+use Rattle.bac_apdu.specs.Apdu.Apdu.{ConfirmedRequest, SimpleAck, ComplexAck, SegmentAck, Error, Reject, Abort}
 use Rattle.bac_segment.specs.Window.{Outgoing, outgoing, is_finished, acknowledged, again}
 use Rattle.bac_service.specs.Choices.{has_simple_ack, has_complex_ack}
-use Rattle.bac_protocol.specs.declared.times.TheConstants.{T_OUT, T_SEG, LIFE, DEADLINE, KEEP, REST}
+use Rattle.bac_protocol.specs.declared.times.TheConstants.{T_OUT, T_SEG, LIFE, DEADLINE, KEEP}
 use Rattle.bac_protocol.specs.Context.{Context}
 use Rattle.bac_protocol.specs.Service.{Octets, OTHER, Readable, Reply as reply}
 use Rattle.bac_protocol.specs.Service.Ending.{Answered, Aborted, TimedOut, Expired}
@@ -21,7 +21,7 @@ use Rattle.bac_protocol.specs.Server as server
 use Rattle.bac_protocol.specs.Server.{State, Entry, Service, is_live}
 use Rattle.bac_protocol.specs.Server.State.{Done}
 use Rattle.bac_protocol.specs.Transaction.{Key, Rules, Copy, client_context, server_context}
-use Rattle.bac_protocol.specs.World.{Net, Post, later, is_room, lost, set_at, copies_of, client_acts, server_acts, asked_at, notes_change, is_id_held}
+use Rattle.bac_protocol.specs.World.{Net, Post, later, is_room, lost, set_at, copies_of, client_acts, server_acts, asked_at, is_id_held}
 use Rattle.bac_protocol.specs.World.{client_restarted, server_restarted}
 use Rattle.bac_protocol.specs.Claims.{EachCopy}
 use Rattle.bac_protocol.specs.Own.{IsOfClient}
@@ -241,14 +241,15 @@ module _ (x : Rules) (Q : Net → ℕ → Bool → Service → Type 0) (key : Ke
 
         go : IsDoneOrLost (n.serves_from key.server) (n.entries key) → Goes (gets service free a)
         go (inl d) = subst Goes (sym (ap (λ (o : Option Entry). server.server_gets (server_context x key n.now) service o (is_room n key free) a) d.at
-            ∙ kept_gets (server_context x key n.now) service d.entry kept (live d.entry d.since) d.state (is_room n key free) a))
-            (done_sends (server_context x key n.now) service d.entry kept whole a,
-            inl (record {
-              entry = d.entry;
-              at = done_entry (server_context x key n.now) service d.entry kept a;
-              since = d.since;
-              state = d.state;
-            }))
+            ∙ kept_gets (server_context x key n.now) service d.entry kept (live d.entry d.since) d.state (is_room n key free) a)) (
+              done_sends (server_context x key n.now) service d.entry kept whole a,
+              inl (record {
+                entry = d.entry;
+                at = done_entry (server_context x key n.now) service d.entry kept a;
+                since = d.since;
+                state = d.state;
+              }),
+            )
         go (inr lost) =
             let none = closed_sends (server_context x key n.now) service a in
             subst Goes (λ i. server.server_gets (server_context x key n.now) service (sym lost.0 i) (sym (closed lost.1 free) i) a) (none.0, inr (none.1, lost.1))
