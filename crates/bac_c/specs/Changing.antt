@@ -15,6 +15,10 @@ use Rattle.bac_c.specs.declared.device.Device.{Device}
 use Rattle.bac_c.specs.declared.fault.Fault.{Fault}
 use Rattle.bac_c.specs.declared.fault.Fault.TheVariants as fault
 
+-- a property has other values
+abbrev pub value_of : (object_type instance property : ℕ) → (octets : List ℕ) → Change
+value_of t i n octets = Change.Value (record { kind = t; instance = i }) n octets
+
 -- the change was made at the node, and nothing else
 abbrev pub Changes : Change → Device → Device → Type 0
 Changes c d e = MatchOption d.node ⊥ (λ m. e.node ≡ Some (with_change c m))

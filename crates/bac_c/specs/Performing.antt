@@ -1,5 +1,5 @@
 -- The request that was performed, as a C program is told.
-use Rattle.std.specs.Prelude.{ℕ, ℤ, pos, Bool, true, false, List, [], ◌∷◌, Option, Some, None}
+use Rattle.std.specs.Prelude.{◌≡◌, MatchOption, ℕ, ℤ, pos, Bool, true, false, List, [], ◌∷◌, Option, Some, None}
 use Rattle.bac_service.specs.Values.{Request, Reference, ReadAccess, WriteAccess}
 use Rattle.bac_service.specs.Values.Request.{ReadFile, WriteFile, ReadProperty, WriteProperty}
 use Rattle.bac_service.specs.Values.ReadAccess.{ReadStream, ReadRecords}
@@ -7,6 +7,8 @@ use Rattle.bac_service.specs.Values.WriteAccess.{WriteStream, WriteRecords}
 use Rattle.bac_service.specs.Replies as reply
 use Rattle.bac_value.specs.Value.{ObjectId}
 use Rattle.bac_world.specs.Services as world
+use Rattle.bac_node.specs.Views.{performed_view}
+use Rattle.bac_c.specs.declared.device.Device.{Device}
 use Rattle.bac_c.specs.declared.records.Performed.{Performed}
 
 -- 2^32 - 1 stands for the property as a whole
@@ -55,3 +57,8 @@ performed_told p = request_told p.key.peer.link (is_done p.reply) p.request
 abbrev pub nothing_performed : Performed
 nothing_performed =
     record { link = 0 ∷ 0 ∷ 0 ∷ 0 ∷ 0 ∷ 0 ∷ []; service = 0; done = false; object_type = 0; instance = 0; property = 0; index = 0; position = pos 0 }
+
+-- the request that was performed last is told, or that none was
+abbrev pub TellsAct : Option Device → Performed → Type 0
+TellsAct held p =
+    MatchOption held (p ≡ nothing_performed) (λ d. MatchOption d.outcome.effect (p ≡ nothing_performed) (λ a. p ≡ performed_told (performed_view a)))

@@ -3,7 +3,7 @@ ghost use Rattle.std.specs.Prelude.{◌≡◌, ◌≢◌, ◌↔◌, IfErr, IfSo
 ghost use Rattle.bac_store.specs.AtNode.{Change as ChangeView};
 ghost use Rattle.bac_store.specs.Views.{change_view};
 ghost use Rattle.bac_c.specs.Asking.{file_of as plain_file};
-ghost use Rattle.bac_c.specs.Changing.{fault_for_change, ChangeRefused, Changes, HasChanged, IsRefusedChange};
+ghost use Rattle.bac_c.specs.Changing.{fault_for_change, value_of, ChangeRefused, Changes, HasChanged, IsRefusedChange};
 ghost use Rattle.bac_c.specs.Statuses.{DONE, NOT_OPEN};
 
 use crate::device::Device;
@@ -73,9 +73,9 @@ pub extern "C" fn bac_set_value(
     property: u32,
     octets: &[u8],
 ) -> u32
-    ensures went { result ≡ DONE → HasChanged (ChangeView.Value (record { kind = object_type; instance = instance }) property octets.now) handle.old.parked.device handle.new.parked.device }
+    ensures went { result ≡ DONE → HasChanged (value_of object_type instance property octets.now) handle.old.parked.device handle.new.parked.device }
     ensures closed { (result ≡ NOT_OPEN) ↔ (handle.old.parked.device ≡ None) }
-    ensures refused { IfSome handle.old.parked.device (IsRefusedChange result (ChangeView.Value (record { kind = object_type; instance = instance }) property octets.now)) }
+    ensures refused { IfSome handle.old.parked.device (IsRefusedChange result (value_of object_type instance property octets.now)) }
     ensures err { result ≢ DONE → handle.new.parked.device ≡ handle.old.parked.device }
 {
     if !handle.is_open() {

@@ -1,10 +1,10 @@
 //! The request that was performed, so that a C program acts on it.
-ghost use Rattle.std.specs.Prelude.{◌≡◌, MatchOption, IfSome};
+ghost use Rattle.std.specs.Prelude.{◌≡◌, IfSome};
 ghost use Rattle.bac_node.specs.Views.{performed_view};
 ghost use Rattle.bac_service.specs.Values.{held};
 ghost use Rattle.bac_service.specs.Views.{owned_reply_view, owned_request_view, property_reference_view};
 ghost use Rattle.bac_value.specs.Views.{object_identifier_view};
-ghost use Rattle.bac_c.specs.Performing.{is_done, nothing_performed, of_file as plain_file, of_property as plain_property, performed_told, request_told};
+ghost use Rattle.bac_c.specs.Performing.{is_done, nothing_performed, of_file as plain_file, of_property as plain_property, performed_told, request_told, TellsAct};
 ghost use Rattle.bac_c.specs.Results.{IsCopied};
 
 use crate::copying::copy_out;
@@ -130,7 +130,7 @@ pub extern "C" fn bac_performed(
     performed: &mut Performed,
     out: &mut [u8],
 ) -> usize
-    ensures told { MatchOption handle.old.parked.device (performed.new ≡ nothing_performed) (λ d. MatchOption d.outcome.effect (performed.new ≡ nothing_performed) (λ a. performed.new ≡ performed_told (performed_view a))) }
+    ensures told { TellsAct handle.old.parked.device performed.new }
     ensures octets { IfSome handle.old.parked.device (λ d. IfSome d.outcome.effect (λ a. IsCopied (held (performed_view a).request) out.old result out.new)) }
     ensures same { handle.new.parked.device ≡ handle.old.parked.device }
 {

@@ -1,9 +1,8 @@
 //! What came of the last call that did something, read by index.
-ghost use Rattle.std.specs.Prelude.{◌≡◌, IfSome, MatchOption, length, map, slice_get};
+ghost use Rattle.std.specs.Prelude.{◌≡◌, MatchOption, length};
 ghost use Rattle.bac_node.specs.Faults.{cause_number};
-ghost use Rattle.bac_requester.specs.Views.{finish_view};
 ghost use Rattle.bac_c.specs.Endings.{end_of as plain_end, octets_of as plain_octets};
-ghost use Rattle.bac_c.specs.Results.{IsCopied, IsSendAt};
+ghost use Rattle.bac_c.specs.Results.{IsCopied, IsSendAt, OfEnd};
 
 use crate::copying::copy_out;
 use crate::ending::{end_of, octets_of};
@@ -76,8 +75,8 @@ pub extern "C" fn bac_end(
     end: &mut End,
     out: &mut [u8],
 ) -> usize
-    ensures ended { IfSome handle.old.parked.device (λ d. IfSome (slice_get d.outcome.ended.items index) (λ f. end.new ≡ plain_end (finish_view f))) }
-    ensures octets { IfSome handle.old.parked.device (λ d. IfSome (slice_get d.outcome.ended.items index) (λ f. IsCopied (plain_octets (finish_view f)) out.old result out.new)) }
+    ensures ended { OfEnd index (λ f. end.new ≡ plain_end f) handle.old.parked.device }
+    ensures octets { OfEnd index (λ f. IsCopied (plain_octets f) out.old result out.new) handle.old.parked.device }
     ensures same { handle.new.parked.device ≡ handle.old.parked.device }
 {
     let Some(device) = handle.take(alloc) else {
