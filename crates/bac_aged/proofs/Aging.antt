@@ -1,16 +1,21 @@
 -- What is known of the ages of slots stays so, whatever comes, goes on or is due; so those that are not alive are not young.
 use Rattle.std.proofs.Common.{◌≡◌, ℕ, ◌<◌, ◌≤◌, Bool, true, false, ◌&&◌, nat_le, nat_lt, min, if◌then◌else◌, List, [], ◌∷◌, ◌++◌, map, filter}
-use Rattle.std.proofs.Common.{Option, Some, None, refl, ap, sym, subst, ◌∙◌, arith}
+use Rattle.std.proofs.Common.{Option, Some, None, MatchOption, refl, ap, sym, subst, ◌∙◌, arith}
 use Rattle.std.proofs.lemmas.Bool.Decides.{nat_tests}
 use Rattle.bac_slots.specs.declared.slot.Slot.{Slot}
 use Rattle.bac_slots.specs.Slots.{Ascends, EachSlot, YoungPass, value_at, with_value}
 use Rattle.bac_slots.proofs.Ages.{ascends_kept, ascends_put, ascends_set, each_kept, each_more, each_put, each_set}
-use Rattle.bac_aged.specs.Ages.{AreInOrder, AreInOrderIf, AreQuiet, HasBegun, IsAged, changed, later_of, ticked_in}
+use Rattle.bac_aged.specs.Ages.{AreInOrder, AreInOrderIf, AreQuiet, HasBegun, IsAged, IsKnownBy, changed, later_of, ticked_in}
 use Rattle.bac_aged.specs.declared.ages.Ages.{Ages}
 
 -- a moment between two
 pub between : (from due now : ℕ) → nat_le from now && nat_lt now due ≡ true → (from ≤ now) × (now < due)
 between from due now h = (grind (arith, nat_tests), grind (arith, nat_tests))
+
+-- the latest moment stays known when a value comes
+pub stays_known : (now : ℕ) (old new : Option ℕ) → MatchOption old (new ≡ None) (λ l. l ≤ now → new ≡ Some now) → IsKnownBy now old → IsKnownBy now new
+stays_known now None new h known = absurd known
+stays_known now (Some l) new h known = subst (IsKnownBy now) (sym (h known)) (omega arith)
 
 module _ (K V : Type 0) (began : V → ℕ) (Quiet : ℕ → ℕ → V → Type 0) where
   abbrev Slots : Type 0

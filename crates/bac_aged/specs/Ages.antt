@@ -23,6 +23,11 @@ abbrev pub later_of : (latest : Option ℕ) → (moment : ℕ) → Option ℕ
 later_of None moment = None
 later_of (Some latest) moment = if nat_le latest moment then Some moment else None
 
+-- there is a latest moment, and it is not after that one; while moments never go back it stays so, and sweeps look from the oldest slot on
+abbrev pub IsKnownBy : (moment : ℕ) → (latest : Option ℕ) → Type 0
+IsKnownBy moment None = ⊥
+IsKnownBy moment (Some latest) = latest ≤ moment
+
 -- a tick from the one moment on and before the other finds nothing to do for any of the values
 abbrev pub AreQuiet : {K V : Type 0} → (ℕ → ℕ → V → Type 0) → (from due : ℕ) → List (Slot K V) → Type 0
 AreQuiet Quiet from due slots = EachSlot (λ s. Quiet from due s.value) slots

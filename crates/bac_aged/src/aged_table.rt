@@ -1,5 +1,5 @@
 //! A table with what is known of its slots' ages.
-ghost use Rattle.std.specs.Prelude.{◌≡◌, [], IfOk};
+ghost use Rattle.std.specs.Prelude.{◌≡◌, [], IfOk, Some};
 ghost use Rattle.bac_aged.specs.Ages.{IsAged};
 
 use crate::aged::Aged;
@@ -25,6 +25,7 @@ pub fn empty_table<E, K: Ord + Copy, V: Aged<E>, S: SlotTable<K, V>>(
     room: usize,
 ) -> Result<AgedTable<E, S>, AllocError>
     ensures slots { IfOk result (λ t. (S.slots t.table ≡ []) × (S.capacity t.table ≡ room)) }
+    ensures known { IfOk result (λ t. t.ages.latest ≡ Some 0) }
     ensures aged { IfOk result (λ t. IsAged K V V.began V.IsQuiet t.ages (S.slots t.table)) }
 {
     let table = S::new(alloc, room)?;

@@ -6,6 +6,7 @@ ghost use Rattle.bac_command_line.specs.Online.{IsAsked, IsPair, IsServed, OnClo
 
 use bac_commands::{clock_fault, house_station, link_fault, local, read_question};
 use bac_link::{Clock, Link};
+use bac_npdu::LinkAddress;
 use bac_run::Question;
 use bac_script::FormFault;
 use bac_text::{Status, complain, no_memory};
@@ -23,7 +24,7 @@ pub trait Machine {
     ghost is_made: { Self.Timer → Type 0 };
 
     /// A link at that port of 127.0.0.1, and its address; port 0 is any free one. None where the system refuses it.
-    fn bind(&self, port: u16) -> Option<(Self::Link, [u8; 6])>
+    fn bind(&self, port: u16) -> Option<(Self::Link, LinkAddress)>
         ensures { IfSome result (λ b. Self.is_bound port b.0 b.1) };
 
     /// A clock; None where it can't be read.

@@ -6,6 +6,7 @@ ghost use Rattle.bac_link.specs.Udp.{bound_port, udp_address};
 use crate::files::OpenFiles;
 use crate::online::Machine;
 use bac_link::{MonotonicClock, UdpLink};
+use bac_npdu::LinkAddress;
 use std::net::Net;
 use std::rt::Files;
 use std::{fs, io};
@@ -42,7 +43,7 @@ impl<'a, R: Net + std::time::Clock> Machine for System<'a, R> {
 
     ghost is_made = { λ c. latest_told c ≡ 0 };
 
-    fn bind(&self, port: u16) -> Option<(UdpLink, [u8; 6])> {
+    fn bind(&self, port: u16) -> Option<(UdpLink, LinkAddress)> {
         let link = UdpLink::bind(self.runtime, port).ok()?;
         let address = link.address();
         Some((link, address))

@@ -16,7 +16,7 @@ house_node link =
       link = link;
       settings = record { limits = most_limits; window = 32 };
       latest = 0;
-      clients = record { slots = []; capacity = 64; asked = 0 };
-      servers = record { slots = []; capacity = 64 };
+      clients = record { slots = []; capacity = 64; asked = 0; asks_from = 0 };
+      servers = record { slots = []; capacity = 64; serves_from = 0 };
       store = house;
     }

@@ -11,15 +11,16 @@ mod printing;
 use crate::house_node::house_node;
 use bac_ends::Datagram;
 use bac_node::{Node, NodeFault, Outcome};
+use bac_npdu::LinkAddress;
 use bac_value::NoMemory;
 pub use printing::answer_over;
 use std::alloc::Global;
 
 /// The link that a datagram comes from: 127.0.0.1, port 47,809.
-pub const CLIENT: [u8; 6] = [0x7F, 0, 0, 1, 0xBA, 0xC1];
+pub const CLIENT: LinkAddress = [0x7F, 0, 0, 1, 0xBA, 0xC1];
 
 /// The link of the node that answers: 127.0.0.1, port 47,808.
-const SERVER: [u8; 6] = [0x7F, 0, 0, 1, 0xBA, 0xC0];
+const SERVER: LinkAddress = [0x7F, 0, 0, 1, 0xBA, 0xC0];
 
 /// The node hears a datagram at moment 0.
 fn hears(node: &mut Node, octets: &[u8]) -> Result<Outcome, NoMemory>

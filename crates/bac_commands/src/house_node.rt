@@ -4,6 +4,7 @@ ghost use Rattle.bac_commands.specs.Houses.{house_node};
 
 use bac_apdu::Limits;
 use bac_node::{Config, NewNodeFault, Node};
+use bac_npdu::LinkAddress;
 use bac_store::house;
 use bac_value::NoMemory;
 use std::alloc::Global;
@@ -16,7 +17,7 @@ pub(crate) const LIMITS: Limits = Limits {
 };
 
 /// A node of that link with the house store, windows of 32 segments, and 64 slots at each end.
-pub(crate) fn house_node(alloc: Global, link: [u8; 6]) -> Result<Node, NoMemory>
+pub(crate) fn house_node(alloc: Global, link: LinkAddress) -> Result<Node, NoMemory>
     ensures { IfOk result (λ n. n ≡ house_node link) }
 {
     let config = Config {

@@ -1,5 +1,6 @@
 -- Runs that are computed.
-use Rattle.std.proofs.Common.{◌≡◌, ℕ, zero, suc, List, [], ◌∷◌, Some, None, slice_get, refl, sym, ap, subst, inr, ◌≢◌, IsTrue, arith}
+use Rattle.std.proofs.Common.{◌≡◌, ℕ, zero, suc, List, [], ◌∷◌, Some, None, slice_get, refl, sym, ap, subst, inr, ◌≢◌, IsTrue, true, not, nat_lt, arith}
+use Rattle.std.proofs.lemmas.Bool.Decides.{nat_tests}
 use Rattle.bac_apdu.specs.Apdu.{Apdu}
 use Rattle.bac_apdu.specs.Spelling.{SpellsApdu, apdu_fits, apdu_spelling}
 use Rattle.bac_npdu.specs.Datagram.{Means}
@@ -80,8 +81,12 @@ late_tick = record {
 
 -- A round trip.
 
+-- no moment is before 0
+awake : (now : ℕ) → not (nat_lt now 0) ≡ true
+awake now = grind (arith, nat_tests)
+
 performs : (now : ℕ) → CanPerform now (node 0) (node 1) 0 REQUEST
-performs now = record { none = refl; slot = refl; reply = machine.Reply.Error 1 31; outcome = refl; way = refl }
+performs now = record { none = refl; slot = awake now; reply = machine.Reply.Error 1 31; outcome = refl; way = refl }
 
 is_first : (c : Copy) → c.key ≡ (copy 0 1 ASK).key → c.octets ≡ (copy 0 1 ASK).octets → IsRequest (copy 0 1 ASK ∷ []) c
 is_first c key octets = record { first = copy 0 1 ASK; is = refl; key = key; octets = octets }

@@ -15,12 +15,12 @@ use Rattle.bac_protocol.specs.Service.{Octets, Readable}
 use Rattle.bac_protocol.specs.Client.{Ask, client_gets}
 use Rattle.bac_ends.specs.Keys.{PeerKey, same_key}
 use Rattle.bac_ends.specs.Ends.{Client, ClientSlot, ClientEnd, Held, Accepted, AskRefusal, AskOutcome, MOST_ASKS}
-use Rattle.bac_ends.specs.Ends.{is_held, is_held_there, is_slot_held, is_id_held, has_no_slot, least_not, context_of, key_of, held_ticked, client_after}
+use Rattle.bac_ends.specs.Ends.{is_held, is_held_there, is_slot_held, is_id_held, is_id_taken, waits_to_ask, has_no_slot, least_not, context_of, key_of, held_ticked, client_after}
 use Rattle.bac_ends.specs.Ends.{client_hears_at, client_hears_held, client_asks, asks_by_way, asks_for, asks_with_id, accepts}
 use Rattle.bac_ends.specs.Ends.Held.{Open, Closed}
 use Rattle.bac_ends.specs.Ends.AskOutcome.{Asked}
 use Rattle.bac_ends.specs.Tables.{IsOrderlyClient, ClientStaysOrderly, ClientOthersStay, client_ticked_at}
-use Rattle.bac_ends.specs.Tables.{IsLeastFree, TakesLeastFree, CanGo, AllHeld, OneFree, RefusesAsks}
+use Rattle.bac_ends.specs.Tables.{IsLeastFree, TakesLeastFree, CanGo, AllTaken, OneFree, RefusesAsks}
 use Rattle.bac_ends.proofs.KeyedSlots.{keys_equivalent, with_distinct, passing, passing_value, passing_distinct, put_distinct}
 use Rattle.bac_ends.proofs.KeyedSlots.{changed_value, distinct_changed, value_changed}
 
@@ -77,6 +77,22 @@ none_refused test (suc count) from h =
     ap (λ b. if b then least_not test count (from + 1) else Some from) (h from (omega arith) (omega arith))
     ∙ none_refused test count (from + 1) (λ n a b. h n (omega (arith, a)) (omega (arith, b)))
 
+-- What is free is not held, and the end does not wait.
+
+pub no_wait : (now : ℕ) (e : ClientEnd) (peer : PeerView) (id : ℕ) → is_id_taken now e peer id ≡ false → waits_to_ask now e ≡ false
+no_wait now e peer id f = go (waits_to_ask now e) f
+  where
+    go : (b : Bool) → (b || is_id_held now e.slots peer id) ≡ false → b ≡ false
+    go true f = f
+    go false f = refl
+
+pub is_untaken : (now : ℕ) (e : ClientEnd) (peer : PeerView) (id : ℕ) → is_id_taken now e peer id ≡ false → is_id_held now e.slots peer id ≡ false
+is_untaken now e peer id f = go (waits_to_ask now e) f
+  where
+    go : (b : Bool) → (b || is_id_held now e.slots peer id) ≡ false → is_id_held now e.slots peer id ≡ false
+    go true f = absurd cc
+    go false f = f
+
 -- An accepted ask.
 
 pub has_room : (now : ℕ) (e : ClientEnd) → has_no_slot now e ≡ false → count_by (is_slot_held now) e.slots < e.capacity
@@ -88,7 +104,7 @@ has_room now e f = go (count_by (is_slot_held now) e.slots) e.capacity (nat_le M
 
 module _ (c : Settings) (now : ℕ) (peer : PeerView) (limits : Limits) (choice : ℕ) (octets : Octets) (e : ClientEnd) where
   abbrev held : ℕ → Bool
-  held = is_id_held now e.slots peer
+  held = is_id_taken now e peer
 
   abbrev key : ℕ → PeerKey
   key id = record { peer = peer; invoke_id = id }
@@ -122,37 +138,37 @@ module _ (c : Settings) (now : ℕ) (peer : PeerView) (limits : Limits) (choice 
                 let same : accepts c now (key id) ask e ≡ x = cc in
                 record { id = id; ask = ask; can_go = goes; least = least; room = room; is = sym same }
 
-    no_id_for : asks_for c now peer ask e ≡ AskOutcome.Refused AskRefusal.NoInvokeId → AllHeld now e.slots peer
+    no_id_for : asks_for c now peer ask e ≡ AskOutcome.Refused AskRefusal.NoInvokeId → AllTaken now e peer
     no_id_for is = go (least_not held 256 0) refl is
       where
         go : (o : Option ℕ) → least_not held 256 0 ≡ o → asks_with_id c now peer ask e o ≡ AskOutcome.Refused AskRefusal.NoInvokeId
-            → AllHeld now e.slots peer
+            → AllTaken now e peer
         go None least is = λ n lt. all_pass held 256 0 least n (omega arith) (omega (arith, lt))
         go (Some id) least is = slots (has_no_slot now e) is
           where
-            slots : (b : Bool) → chosen id b ≡ AskOutcome.Refused AskRefusal.NoInvokeId → AllHeld now e.slots peer
+            slots : (b : Bool) → chosen id b ≡ AskOutcome.Refused AskRefusal.NoInvokeId → AllTaken now e peer
             slots true is = absurd cc
             slots false is = absurd cc
 
-    all_held_for : AllHeld now e.slots peer → asks_for c now peer ask e ≡ AskOutcome.Refused AskRefusal.NoInvokeId
+    all_held_for : AllTaken now e peer → asks_for c now peer ask e ≡ AskOutcome.Refused AskRefusal.NoInvokeId
     all_held_for h = ap (λ o. asks_with_id c now peer ask e o) (none_refused held 256 0 (λ n le lt. h n (omega (arith, lt))))
 
-    no_slot_for : asks_for c now peer ask e ≡ AskOutcome.Refused AskRefusal.NoSlot → OneFree now e.slots peer × (has_no_slot now e ≡ true)
+    no_slot_for : asks_for c now peer ask e ≡ AskOutcome.Refused AskRefusal.NoSlot → OneFree now e peer × (has_no_slot now e ≡ true)
     no_slot_for is = go (least_not held 256 0) refl is
       where
         go : (o : Option ℕ) → least_not held 256 0 ≡ o → asks_with_id c now peer ask e o ≡ AskOutcome.Refused AskRefusal.NoSlot
-            → OneFree now e.slots peer × (has_no_slot now e ≡ true)
+            → OneFree now e peer × (has_no_slot now e ≡ true)
         go None least is = absurd cc
         go (Some id) least is = slots (has_no_slot now e) refl is
           where
             slots : (b : Bool) → has_no_slot now e ≡ b → chosen id b ≡ AskOutcome.Refused AskRefusal.NoSlot
-                → OneFree now e.slots peer × (has_no_slot now e ≡ true)
+                → OneFree now e peer × (has_no_slot now e ≡ true)
             slots true room is =
                 let first = least_not_is held 256 0 id least in
                 (((id, omega (arith, first.most), first.refused)), room)
             slots false room is = absurd cc
 
-    full_for : OneFree now e.slots peer → has_no_slot now e ≡ true → asks_for c now peer ask e ≡ AskOutcome.Refused AskRefusal.NoSlot
+    full_for : OneFree now e peer → has_no_slot now e ≡ true → asks_for c now peer ask e ≡ AskOutcome.Refused AskRefusal.NoSlot
     full_for free room = go (least_not held 256 0) refl
       where
         go : (o : Option ℕ) → least_not held 256 0 ≡ o → asks_with_id c now peer ask e o ≡ AskOutcome.Refused AskRefusal.NoSlot
@@ -186,23 +202,23 @@ module _ (c : Settings) (now : ℕ) (peer : PeerView) (limits : Limits) (choice 
       go (Refused why) w is = absurd cc
 
   -- each reason
-  no_id_by : (way : Way RequestFault) → by_way way ≡ AskOutcome.Refused AskRefusal.NoInvokeId → CanGo way × AllHeld now e.slots peer
+  no_id_by : (way : Way RequestFault) → by_way way ≡ AskOutcome.Refused AskRefusal.NoInvokeId → CanGo way × AllTaken now e peer
   no_id_by InOne is = (tt, no_id_for (record { first = now; choice = choice; whole = true; pieces = octets ∷ [] }) is)
   no_id_by (InSegments pieces) is = (tt, no_id_for (record { first = now; choice = choice; whole = false; pieces = pieces }) is)
   no_id_by (Refused why) is = absurd cc
 
-  all_held_by : (way : Way RequestFault) → CanGo way → AllHeld now e.slots peer → by_way way ≡ AskOutcome.Refused AskRefusal.NoInvokeId
+  all_held_by : (way : Way RequestFault) → CanGo way → AllTaken now e peer → by_way way ≡ AskOutcome.Refused AskRefusal.NoInvokeId
   all_held_by InOne goes h = all_held_for (record { first = now; choice = choice; whole = true; pieces = octets ∷ [] }) h
   all_held_by (InSegments pieces) goes h = all_held_for (record { first = now; choice = choice; whole = false; pieces = pieces }) h
   all_held_by (Refused why) goes h = absurd goes
 
   no_slot_by : (way : Way RequestFault) → by_way way ≡ AskOutcome.Refused AskRefusal.NoSlot
-      → CanGo way × OneFree now e.slots peer × (has_no_slot now e ≡ true)
+      → CanGo way × OneFree now e peer × (has_no_slot now e ≡ true)
   no_slot_by InOne is = let r = no_slot_for (record { first = now; choice = choice; whole = true; pieces = octets ∷ [] }) is in (tt, r.0, r.1)
   no_slot_by (InSegments pieces) is = let r = no_slot_for (record { first = now; choice = choice; whole = false; pieces = pieces }) is in (tt, r.0, r.1)
   no_slot_by (Refused why) is = absurd cc
 
-  full_by : (way : Way RequestFault) → CanGo way → OneFree now e.slots peer → has_no_slot now e ≡ true → by_way way ≡ AskOutcome.Refused AskRefusal.NoSlot
+  full_by : (way : Way RequestFault) → CanGo way → OneFree now e peer → has_no_slot now e ≡ true → by_way way ≡ AskOutcome.Refused AskRefusal.NoSlot
   full_by InOne goes free room = full_for (record { first = now; choice = choice; whole = true; pieces = octets ∷ [] }) free room
   full_by (InSegments pieces) goes free room = full_for (record { first = now; choice = choice; whole = false; pieces = pieces }) free room
   full_by (Refused why) goes free room = absurd goes
@@ -223,8 +239,8 @@ pub takes_least_free : TakesLeastFree
 takes_least_free c now peer limits choice octets e x is =
     let a = accepted_is c now peer limits choice octets e x is in
     let id : x.invoke_id ≡ a.id = ap (λ (y : Accepted). y.invoke_id) a.is in
-    let first = least_not_is (is_id_held now e.slots peer) 256 0 a.id a.least in
-    subst (IsLeastFree now e.slots peer) (sym id) (record {
+    let first = least_not_is (is_id_taken now e peer) 256 0 a.id a.least in
+    subst (IsLeastFree now e peer) (sym id) (record {
       octet = omega (arith, first.most);
       free = first.refused;
       least = λ n lt. first.before n (omega arith) lt;
@@ -289,7 +305,7 @@ client_stays_orderly = record {
   asks = λ c now peer limits choice octets e x is h.
       let a = accepted_is c now peer limits choice octets e x is in
       let key : PeerKey = record { peer = peer; invoke_id = a.id } in
-      let free = (least_not_is (is_id_held now e.slots peer) 256 0 a.id a.least).refused in
+      let free = is_untaken now e peer a.id (least_not_is (is_id_taken now e peer) 256 0 a.id a.least).refused in
       let slots : List ClientSlot = passing Client (holds now) e.slots in
       let gone : value_at same_key key slots ≡ None =
       passing_value Client (holds now) key e.slots h.distinct ∙ free_gone now (value_at same_key key e.slots) free in

@@ -1,6 +1,6 @@
 -- The examples, computed.
 use Rattle.std.proofs.Common.{refl}
-use Rattle.bac_ends.specs.Examples.{LeastInvokeId, HeldFor, SlotHeldFor, TickOrder, KeptReply, FullTable}
+use Rattle.bac_ends.specs.Examples.{LeastInvokeId, HeldFor, SlotHeldFor, TickOrder, KeptReply, FullTable, WaitsToAsk, WaitsToServe}
 
 pub least_invoke_id : LeastInvokeId
 least_invoke_id = record { gap = refl; other_peer = refl }
@@ -19,3 +19,9 @@ kept_reply = refl
 
 pub full_table : FullTable
 full_table = record { full = refl; replaced = refl; performed = refl }
+
+pub waits_to_ask : WaitsToAsk
+waits_to_ask = record { last = refl; after = refl }
+
+pub waits_to_serve : WaitsToServe
+waits_to_serve = record { last = refl; after = refl }

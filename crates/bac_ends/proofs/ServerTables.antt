@@ -13,7 +13,7 @@ use Rattle.bac_protocol.specs.Service.{OTHER}
 use Rattle.bac_protocol.specs.Server as server
 use Rattle.bac_protocol.specs.Server.{Entry, Reaction, Service, is_live, is_none_live, live_gets, idle_gets, server_gets, server_abort, server_ticks}
 use Rattle.bac_ends.specs.Keys.{PeerKey, same_key}
-use Rattle.bac_ends.specs.Ends.{ServerSlot, is_slot_live, is_free, set_or_put, put_entry}
+use Rattle.bac_ends.specs.Ends.{ServerEnd, ServerSlot, is_slot_live, is_free, set_or_put, put_entry, waits_to_serve}
 use Rattle.bac_ends.specs.Ends.{context_of, key_of, entry_or}
 use Rattle.bac_ends.specs.Tables.{ServerStaysOrderly, ServerOthersStay, comes_new, server_ticked_at}
 use Rattle.bac_ends.proofs.KeyedSlots.{keys_equivalent, passing, passing_value, changed_value, distinct_changed, value_changed}
@@ -134,6 +134,14 @@ begins_free c service o false a d is live dead =
     let gone = dead_of (is_live c.now d) (ap (is_none_live c.now) (sym same) ∙ dead) in
     absurd cc
 
+-- where an entry may begin, a slot has no live one
+pub has_space : (now : ℕ) (e : ServerEnd) → is_free now e ≡ true → nat_lt (count_by (is_slot_live now) e.slots) e.capacity ≡ true
+has_space now e f = go (nat_lt (count_by (is_slot_live now) e.slots) e.capacity) (waits_to_serve now e) f
+  where
+    go : (space waits : Bool) → space && not waits ≡ true → space ≡ true
+    go true waits f = refl
+    go false waits f = f
+
 -- an entry's tick, as a change of what is found at its key
 abbrev ticked : Settings → ℕ → PeerKey → Entry → Entry
 ticked c now q x = entry_or x (server_ticks (context_of c now q) (Some x)).entry
@@ -151,7 +159,7 @@ server_stays_orderly = record {
       let v = server_gets context service o (is_free now e) a in
       record {
         distinct = entry_distinct now key e.slots h.distinct v.entry;
-        within = entry_within now key e.slots e.capacity h.within v.entry (λ d is live dead. begins_free context service o (is_free now e) a d is live dead);
+        within = entry_within now key e.slots e.capacity h.within v.entry (λ d is live dead. has_space now e (begins_free context service o (is_free now e) a d is live dead));
       };
   ticks = λ c now e h. record {
     distinct = distinct_changed Entry (ticked c now) e.slots h.distinct;

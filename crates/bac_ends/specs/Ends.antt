@@ -1,11 +1,11 @@
 -- Both ends of a node as plain lists of slots, and what each call makes of them, by the machines on the one slot.
-use Rattle.std.specs.Prelude.{ℕ, zero, suc, ◌+◌, ◌-◌, Bool, true, false, ◌||◌, List, [], ◌∷◌, ◌++◌, map, filter, count_by, Option, Some, None}
+use Rattle.std.specs.Prelude.{ℕ, zero, suc, ◌+◌, ◌-◌, Bool, true, false, ◌||◌, ◌&&◌, not, List, [], ◌∷◌, ◌++◌, map, filter, count_by, Option, Some, None}
 use Rattle.std.specs.Prelude.{if◌then◌else◌, nat_lt, nat_le}
 use Rattle.bac_apdu.specs.Apdu.{Apdu, Limits}
 use Rattle.bac_npdu.specs.Peers.{PeerView}
 use Rattle.bac_slots.specs.declared.slot.Slot.{Slot}
 use Rattle.bac_slots.specs.Slots.{value_at, with_value, in_order}
-use Rattle.bac_protocol.specs.declared.times.TheConstants.{HOLD}
+use Rattle.bac_protocol.specs.declared.times.TheConstants.{HOLD, KEEP, REST}
 use Rattle.bac_protocol.specs.Context.{Settings, Context}
 use Rattle.bac_protocol.specs.Sizes.{Way, RequestFault, request_way_of}
 use Rattle.bac_protocol.specs.Service.{Octets, Ending, Readable}
@@ -56,6 +56,7 @@ pub record ClientEnd : Type 0 where
   pub slots : List ClientSlot
   pub capacity : ℕ
   pub asked : ℕ
+  pub asks_from : ℕ  -- the first moment at which it asks; 0 where it never restarted
 
 -- a slot is held, and with it its invoke ID, while its ticket is open or no more than HOLD has passed (own rule of this profile)
 abbrev pub is_held : ℕ → Held → Bool
@@ -173,6 +174,14 @@ is_held_there now (Some s) = is_held now s.held
 abbrev pub is_id_held : ℕ → List ClientSlot → PeerView → ℕ → Bool
 is_id_held now slots peer invoke_id = is_held_there now (value_at same_key (record { peer = peer; invoke_id = invoke_id }) slots)
 
+-- a restarted end asks nothing before that moment (own rule of this profile)
+abbrev pub waits_to_ask : ℕ → ClientEnd → Bool
+waits_to_ask now e = nat_lt now e.asks_from
+
+-- an invoke ID can't be taken for the peer: the end waits, as if all were held, or a held slot has it
+abbrev pub is_id_taken : ℕ → ClientEnd → PeerView → ℕ → Bool
+is_id_taken now e peer invoke_id = waits_to_ask now e || is_id_held now e.slots peer invoke_id
+
 -- the least of so many numbers from one on that a test refuses
 abbrev pub least_not : (ℕ → Bool) → (count from : ℕ) → Option ℕ
 least_not test zero from = None
@@ -207,9 +216,8 @@ new_client c number ask = record { number = number; held = kept (asked_ticket c 
 abbrev pub accepts : Settings → (now : ℕ) → PeerKey → Ask → ClientEnd → Accepted
 accepts c now key ask e =
     record {
-      end = record {
+      end = record e {
         slots = filter (is_slot_held now) e.slots ++ record { key = key; begin = now; value = new_client (context_of c now key) e.asked ask } ∷ [];
-        capacity = e.capacity;
         asked = e.asked + 1;
       };
       ticket = e.asked;
@@ -224,9 +232,9 @@ asks_with_id c now peer ask e None = AskOutcome.Refused NoInvokeId
 asks_with_id c now peer ask e (Some invoke_id) =
     if has_no_slot now e then AskOutcome.Refused NoSlot else Asked (accepts c now (record { peer = peer; invoke_id = invoke_id }) ask e)
 
--- it takes the least invoke ID that is not held for the peer
+-- it takes the least invoke ID that is not taken for the peer
 abbrev pub asks_for : Settings → (now : ℕ) → PeerView → Ask → ClientEnd → AskOutcome
-asks_for c now peer ask e = asks_with_id c now peer ask e (least_not (is_id_held now e.slots peer) 256 0)
+asks_for c now peer ask e = asks_with_id c now peer ask e (least_not (is_id_taken now e peer) 256 0)
 
 -- an ask goes the way of its request: in one APDU, in segments, or not at all (clause 5.2)
 abbrev pub asks_by_way : Settings → (now : ℕ) → PeerView → (choice : ℕ) → Octets → ClientEnd → Way RequestFault → AskOutcome
@@ -250,6 +258,7 @@ ServerSlot = Slot PeerKey Entry
 pub record ServerEnd : Type 0 where
   pub slots : List ServerSlot
   pub capacity : ℕ
+  pub serves_from : ℕ  -- the first moment at which it begins entries; 0 where it never restarted
 
 -- an effect, and for which transaction
 pub record Act : Type 0 where
@@ -266,9 +275,13 @@ pub record ServerTurn : Type 0 where
 abbrev pub is_slot_live : ℕ → ServerSlot → Bool
 is_slot_live now s = is_live now s.value
 
--- a slot has no live entry
+-- a restarted end begins no entry before that moment (own rule of this profile)
+abbrev pub waits_to_serve : ℕ → ServerEnd → Bool
+waits_to_serve now e = nat_lt now e.serves_from
+
+-- an entry may begin: a slot has no live one, and the end does not wait
 abbrev pub is_free : ℕ → ServerEnd → Bool
-is_free now e = nat_lt (count_by (is_slot_live now) e.slots) e.capacity
+is_free now e = nat_lt (count_by (is_slot_live now) e.slots) e.capacity && not (waits_to_serve now e)
 
 -- an entry that is live is set in its place; where none was, those that are not live go, and the new one comes
 abbrev pub set_or_put : ℕ → PeerKey → Entry → List ServerSlot → (dead : Bool) → List ServerSlot
@@ -318,3 +331,18 @@ servers_tick c now e =
       sends = from_each (server_tick_sends c now) (in_order peer_key_cmp e.slots);
       act = None;
     }
+
+-- Restarts (own rule of this profile): the table is lost, and tickets are numbered anew.
+
+-- the first moment after a wait from a restart on; 0 where there was none
+abbrev pub first_after : (wait : ℕ) → (restart : Option ℕ) → ℕ
+first_after wait None = 0
+first_after wait (Some restart) = restart + wait + 1
+
+-- while a copy of its old life, or an answer to one, may come, a client asks nothing
+abbrev pub client_restarted : (now : ℕ) → ClientEnd → ClientEnd
+client_restarted now e = record { slots = []; capacity = e.capacity; asked = 0; asks_from = now + REST + 1 }
+
+-- while a request may come again that was performed before, a server begins no entry
+abbrev pub server_restarted : (now : ℕ) → ServerEnd → ServerEnd
+server_restarted now e = record { slots = []; capacity = e.capacity; serves_from = now + KEEP + 1 }

@@ -10,8 +10,8 @@ use Rattle.bac_protocol.specs.Server as server
 use Rattle.bac_protocol.specs.Server.{Service}
 use Rattle.bac_ends.specs.Keys.{PeerKey}
 use Rattle.bac_ends.specs.Sends.{Send}
-use Rattle.bac_ends.specs.Ends.{Held, ClientSlot, ClientEnd, AskRefusal, AskOutcome, context_of, client_asks, clients_tick}
-use Rattle.bac_ends.specs.Ends.{ServerSlot, ServerEnd, ServerTurn, server_hears}
+use Rattle.bac_ends.specs.Ends.{Held, ClientSlot, ClientEnd, AskRefusal, AskOutcome, context_of, client_asks, clients_tick, client_restarted}
+use Rattle.bac_ends.specs.Ends.{ServerSlot, ServerEnd, ServerTurn, server_hears, server_restarted}
 
 abbrev pub LIMITS : Limits
 LIMITS = record { takes_segments = true; max_segments = 0; max_apdu = 0 }
@@ -35,7 +35,7 @@ abbrev pub ended : (invoke_id : ℕ) → ClientSlot
 ended invoke_id = record { key = key 2 invoke_id; begin = 0; value = record { number = invoke_id; held = Held.Closed 0 } }
 
 abbrev pub clients : List ClientSlot → (capacity : ℕ) → ClientEnd
-clients slots capacity = record { slots = slots; capacity = capacity; asked = 9 }
+clients slots capacity = record { slots = slots; capacity = capacity; asked = 9; asks_from = 0 }
 
 abbrev pub asks_at : (now n : ℕ) → ClientEnd → AskOutcome
 asks_at now n e = client_asks SETTINGS now (peer n) LIMITS 12 SERVICE_DATA e
@@ -66,6 +66,11 @@ pub record HeldFor : Type 0 where
 pub record SlotHeldFor : Type 0 where
   pub last : refusal_in (asks_at 135000 3 (clients (ended 0 ∷ []) 1)) ≡ Some AskRefusal.NoSlot
   pub after : keys_in (asks_at 135001 3 (clients (ended 0 ∷ []) 1)) ≡ key 3 0 ∷ []
+
+-- a client's end that restarted at 0 asks nothing while no more than 75,000 ms have passed, as if all invoke IDs were held
+pub record WaitsToAsk : Type 0 where
+  pub last : refusal_in (asks_at 75000 2 (client_restarted 0 (clients (ended 0 ∷ []) 8))) ≡ Some AskRefusal.NoInvokeId
+  pub after : invoke_id_in (asks_at 75001 2 (client_restarted 0 (clients (ended 0 ∷ []) 8))) ≡ Some 0
 
 -- A tick.
 
@@ -104,7 +109,7 @@ KEPT =
     }
 
 abbrev pub servers : ServerEnd
-servers = record { slots = KEPT ∷ []; capacity = 1 }
+servers = record { slots = KEPT ∷ []; capacity = 1; serves_from = 0 }
 
 abbrev pub hears_at : (now n : ℕ) → ServerTurn
 hears_at now n = server_hears SETTINGS now SERVICE (peer n) REQUEST servers
@@ -121,3 +126,9 @@ pub record FullTable : Type 0 where
   pub full : hears_at 65000 3 ≡ record { end = servers; sends = record { peer = peer 3; apdu = Abort true 7 0 } ∷ []; act = None }
   pub replaced : keys_of (hears_at 65001 3).end ≡ key 3 7 ∷ []
   pub performed : (hears_at 65001 3).sends ≡ record { peer = peer 3; apdu = SimpleAck 7 15 } ∷ []
+
+-- a server's end that restarted at 0 turns all requests away while no more than 65,000 ms have passed, those that were answered before too
+pub record WaitsToServe : Type 0 where
+  pub last : server_hears SETTINGS 65000 SERVICE (peer 2) REQUEST (server_restarted 0 servers)
+      ≡ record { end = server_restarted 0 servers; sends = record { peer = peer 2; apdu = Abort true 7 0 } ∷ []; act = None }
+  pub after : (server_hears SETTINGS 65001 SERVICE (peer 2) REQUEST (server_restarted 0 servers)).sends ≡ record { peer = peer 2; apdu = SimpleAck 7 15 } ∷ []

@@ -14,8 +14,8 @@ use Rattle.bac_protocol.specs.Service.{Octets, Readable, OTHER}
 use Rattle.bac_protocol.specs.Server.{Service, Entry, is_live, is_none_live, server_ticks}
 use Rattle.bac_ends.specs.Keys.{PeerKey, same_key}
 use Rattle.bac_ends.specs.Sends.{to_peer}
-use Rattle.bac_ends.specs.Ends.{Client, ClientSlot, ClientEnd, Accepted, AskRefusal, AskOutcome, ServerSlot, ServerEnd, ServerTurn}
-use Rattle.bac_ends.specs.Ends.{is_held, is_id_held, has_no_slot, context_of, key_of, held_ticked, entry_or, is_free}
+use Rattle.bac_ends.specs.Ends.{Client, ClientEnd, Accepted, AskRefusal, AskOutcome, ServerSlot, ServerEnd, ServerTurn}
+use Rattle.bac_ends.specs.Ends.{is_held, is_id_taken, has_no_slot, context_of, key_of, held_ticked, entry_or, is_free}
 use Rattle.bac_ends.specs.Ends.{client_hears, clients_tick, client_asks, server_hears, servers_tick}
 
 -- a table in order: no two slots have one key, and there are no more than it can have
@@ -51,39 +51,39 @@ pub record ClientOthersStay : Type 0 where
       → same_key (record { peer = peer; invoke_id = x.invoke_id }) q ≡ false
       → value_at same_key q x.end.slots ≡ keep (λ (s : Client). is_held now s.held) (value_at same_key q e.slots)
 
--- the least invoke ID that is not held for the peer
-pub record IsLeastFree (now : ℕ) (slots : List ClientSlot) (peer : PeerView) (invoke_id : ℕ) : Type 0 where
+-- the least invoke ID that is not taken for the peer
+pub record IsLeastFree (now : ℕ) (e : ClientEnd) (peer : PeerView) (invoke_id : ℕ) : Type 0 where
   pub octet : invoke_id < 256
-  pub free : is_id_held now slots peer invoke_id ≡ false
-  pub least : (n : ℕ) → n < invoke_id → is_id_held now slots peer n ≡ true
+  pub free : is_id_taken now e peer invoke_id ≡ false
+  pub least : (n : ℕ) → n < invoke_id → is_id_taken now e peer n ≡ true
 
 -- an accepted ask has that one (clause 5.4.1: no two transactions of one pair of peers have one invoke ID at a time)
 abbrev pub TakesLeastFree : Type 0
 TakesLeastFree =
     (c : Settings) (now : ℕ) (peer : PeerView) (limits : Limits) (choice : ℕ) (octets : Octets) (e : ClientEnd) (x : Accepted)
-    → client_asks c now peer limits choice octets e ≡ AskOutcome.Asked x → IsLeastFree now e.slots peer x.invoke_id
+    → client_asks c now peer limits choice octets e ≡ AskOutcome.Asked x → IsLeastFree now e peer x.invoke_id
 
 abbrev pub CanGo : Way RequestFault → Type 0
 CanGo InOne = Unit {0}
 CanGo (InSegments pieces) = Unit {0}
 CanGo (Refused why) = ⊥
 
--- all 256 invoke IDs are held for the peer
-abbrev pub AllHeld : (now : ℕ) → List ClientSlot → PeerView → Type 0
-AllHeld now slots peer = (n : ℕ) → n < 256 → is_id_held now slots peer n ≡ true
+-- all 256 invoke IDs are held for the peer, or the end waits after a restart
+abbrev pub AllTaken : (now : ℕ) → ClientEnd → PeerView → Type 0
+AllTaken now e peer = (n : ℕ) → n < 256 → is_id_taken now e peer n ≡ true
 
--- one of them is not
-abbrev pub OneFree : (now : ℕ) → List ClientSlot → PeerView → Type 0
-OneFree now slots peer = (n : ℕ) × (n < 256) × (is_id_held now slots peer n ≡ false)
+-- one of them is free
+abbrev pub OneFree : (now : ℕ) → ClientEnd → PeerView → Type 0
+OneFree now e peer = (n : ℕ) × (n < 256) × (is_id_taken now e peer n ≡ false)
 
--- when an ask is refused, and why: its request can't go; it can, but all invoke IDs of the peer are held; or one is free, but no slot
+-- when an ask is refused, and why: its request can't go; it can, but all invoke IDs of the peer are taken; or one is free, but no slot
 pub record RefusesAsks (c : Settings) (now : ℕ) (peer : PeerView) (limits : Limits) (choice : ℕ) (octets : Octets) (e : ClientEnd) : Type 0 where
   pub cannot_go : (why : RequestFault)
       → (client_asks c now peer limits choice octets e ≡ AskOutcome.Refused (AskRefusal.CannotGo why)) ↔ (request_way_of c limits octets ≡ Refused why)
   pub no_invoke_id : (client_asks c now peer limits choice octets e ≡ AskOutcome.Refused AskRefusal.NoInvokeId)
-      ↔ (CanGo (request_way_of c limits octets) × AllHeld now e.slots peer)
+      ↔ (CanGo (request_way_of c limits octets) × AllTaken now e peer)
   pub no_slot : (client_asks c now peer limits choice octets e ≡ AskOutcome.Refused AskRefusal.NoSlot)
-      ↔ (CanGo (request_way_of c limits octets) × OneFree now e.slots peer × (has_no_slot now e ≡ true))
+      ↔ (CanGo (request_way_of c limits octets) × OneFree now e peer × (has_no_slot now e ≡ true))
 
 -- The server's end (clause 5.4.5).
 
@@ -132,7 +132,7 @@ pub record IsWithoutCapacity (one other : ServerTurn) : Type 0 where
   pub sends : other.sends ≡ one.sends
   pub act : other.act ≡ one.act
 
--- a request that finds no live entry of its key is turned away exactly where no slot is free; one that finds a live entry never looks at that
+-- a request that finds no live entry of its key is turned away exactly where no slot is free or the end waits; one that finds a live entry never looks at that
 pub record TurnsAway : Type 0 where
   pub full : (c : Settings) (now : ℕ) (service : Service) (peer : PeerView) (a : Apdu) (e : ServerEnd) → BeginsRequest a
       → is_none_live now (value_at same_key (key_of peer a) e.slots) ≡ true

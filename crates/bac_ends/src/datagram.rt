@@ -6,15 +6,15 @@ ghost use Rattle.bac_protocol.specs.Short.{IsShort};
 ghost use Rattle.bac_ends.specs.Sends.{to_peer, IsSent};
 
 use bac_apdu::{Apdu, apdu_len, write};
-use bac_npdu::{Peer, write_frame_head};
+use bac_npdu::{LinkAddress, Peer, write_frame_head};
 use bac_value::NoMemory;
 use std::alloc::Global;
 use std::marker::Model;
 
-/// A datagram for a link: four octets of IPv4 address and two of UDP port (clause J.1.2), and its octets.
+/// A datagram for a link: the address, and its octets.
 #[derive(Drop)]
 pub struct Datagram {
-    to: [u8; 6],
+    to: LinkAddress,
     octets: Vec<u8>,
 }
 
@@ -28,7 +28,7 @@ impl Model for Datagram {
 
 impl Datagram {
     /// The link that it goes to.
-    pub fn to(&self) -> [u8; 6]
+    pub fn to(&self) -> LinkAddress
         ensures { result ≡ self.now.to }
     {
         self.to

@@ -1,5 +1,5 @@
 //! Ends that are computed: they show that the definitions do what the protocol's tables say.
-ghost use Rattle.bac_ends.specs.Examples.{LeastInvokeId, HeldFor, SlotHeldFor, TickOrder, KeptReply, FullTable};
+ghost use Rattle.bac_ends.specs.Examples.{LeastInvokeId, HeldFor, SlotHeldFor, TickOrder, KeptReply, FullTable, WaitsToAsk, WaitsToServe};
 
 /// Which invoke ID an ask takes, and how long a slot is held.
 #[tactic(auto, using(crate::proofs::Computed::least_invoke_id, crate::proofs::Computed::held_for, crate::proofs::Computed::slot_held_for))]
@@ -20,4 +20,11 @@ pub fn order_of_a_tick()
 pub fn reply_table()
     ensures kept { KeptReply }
     ensures full { FullTable }
+{}
+
+/// How long a restarted end waits.
+#[tactic(auto, using(crate::proofs::Computed::waits_to_ask, crate::proofs::Computed::waits_to_serve))]
+pub fn waits()
+    ensures asks { WaitsToAsk }
+    ensures serves { WaitsToServe }
 {}

@@ -35,7 +35,8 @@ pub fn client_tables_stay_in_order()
 {}
 
 /// An accepted ask has the least invoke ID that is not held for its peer. An ask whose request can go is refused for lack of an invoke ID exactly where
-/// all 256 are held, and for lack of a slot exactly where one is free, but all slots are held or no number is left for a further ticket.
+/// all 256 are held or the end waits after a restart, and for lack of a slot exactly where one is free, but all slots are held or no number is left for a
+/// further ticket.
 pub fn asks_take_the_least_invoke_id()
     ensures least { TakesLeastFree }
     ensures refused { (c : Settings) (now : ℕ) (peer : PeerView) (limits : Limits) (choice : ℕ) (octets : Octets) (e : ClientEnd)
@@ -50,7 +51,7 @@ pub fn server_tables_stay_in_order()
     ensures others { ServerOthersStay }
 {}
 
-/// A request of which no live entry is there is turned away with an Abort of reason 'other', with nothing else done, exactly where no slot is free; what
+/// A request of which no live entry is there is turned away with an Abort of reason 'other', with nothing else done, exactly where no slot is free or the end waits after a restart; what
 /// becomes of one that finds a live entry does not rest on that.
 #[tactic(auto, using(crate::proofs::TurnedAway::turns_away))]
 pub fn full_tables_turn_requests_away()

@@ -12,6 +12,7 @@ mod laws;
 mod peer_key;
 mod peer_key_order;
 mod peer_key_same;
+mod restart;
 mod settings;
 mod short_sending;
 mod sizes;
@@ -25,6 +26,7 @@ pub use laws::{
     keys_in_order, server_tables_stay_in_order, slots_are_held_as_tickets,
 };
 pub use peer_key::PeerKey;
+pub use restart::is_waiting;
 pub use settings::Settings;
 pub use short_sending::{abort_datagram, ack_datagram};
 pub use sizes::{allows_segments, apdu_size, transfer_size};

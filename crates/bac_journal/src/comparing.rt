@@ -6,6 +6,7 @@ ghost use Rattle.bac_journal.specs.Views.{key_view, copy_view};
 use crate::copies::Copy;
 use crate::noting::Note;
 use crate::transaction::Transaction;
+use bac_npdu::LinkAddress;
 
 fn is_same_transaction(one: &Transaction, other: &Transaction) -> bool
     ensures { MatchBool result (key_view one.now ≡ key_view other.now) (key_view one.now ≡ key_view other.now → ⊥) }
@@ -77,7 +78,7 @@ pub(crate) fn are_same_notes(ones: &[Note], others: &[Note]) -> bool
 }
 
 /// Whether both are the same links in the same order.
-pub(crate) fn are_same_links(ones: &[[u8; 6]], others: &[[u8; 6]]) -> bool
+pub(crate) fn are_same_links(ones: &[LinkAddress], others: &[LinkAddress]) -> bool
     ensures { IsTrue result ↔ (ones.now ≡ others.now) }
 {
     ones == others

@@ -8,6 +8,7 @@ ghost use Rattle.bac_journal.specs.Views.{copy_view, AreLinks};
 use crate::meaning::{meaning, transaction_of};
 use crate::transaction::Transaction;
 use bac_ends::Datagram;
+use bac_npdu::LinkAddress;
 
 /// A datagram that was sent: when, in milliseconds, from which node to which, and in which transaction.
 #[derive(Debug, Drop)]
@@ -27,14 +28,14 @@ pub struct Copy {
 }
 
 /// Whether two links are one.
-fn is_link(one: [u8; 6], other: [u8; 6]) -> bool
+fn is_link(one: LinkAddress, other: LinkAddress) -> bool
     ensures { IsTrue result ↔ (one ≡ other) }
 {
     one == other
 }
 
 /// Whether a node is at that link.
-fn is_at(links: &[[u8; 6]], node: usize, link: [u8; 6]) -> bool
+fn is_at(links: &[LinkAddress], node: usize, link: LinkAddress) -> bool
     ensures { IsTrue result ↔ (slice_get links.now node ≡ Some link) }
 {
     match links.get(node) {
@@ -44,7 +45,7 @@ fn is_at(links: &[[u8; 6]], node: usize, link: [u8; 6]) -> bool
 }
 
 /// The node at a link, if there is one.
-pub(crate) fn node_at(links: &[[u8; 6]], link: [u8; 6]) -> Option<usize>
+pub(crate) fn node_at(links: &[LinkAddress], link: LinkAddress) -> Option<usize>
     ensures some { IfSome result (λ n. slice_get links.now n ≡ Some link) }
     ensures none { result ≡ None → (n : ℕ) → slice_get links.now n ≢ Some link }
 {
@@ -58,7 +59,7 @@ pub(crate) fn node_at(links: &[[u8; 6]], link: [u8; 6]) -> Option<usize>
 
 /// What a datagram becomes that a node sends, where it means an APDU and goes to a node.
 pub(crate) fn copy_of(
-    links: &[[u8; 6]],
+    links: &[LinkAddress],
     now: u64,
     sender: usize,
     datagram: Datagram,

@@ -19,6 +19,7 @@ use crate::noting::{Note, add_note};
 use crate::sending::send_all;
 use crate::transaction::Transaction;
 use bac_ends::Datagram;
+use bac_npdu::LinkAddress;
 use bac_value::NoMemory;
 use std::alloc::Global;
 use std::marker::Model;
@@ -27,7 +28,7 @@ use std::marker::Model;
 /// known from counts, so it costs the same however many there are.
 #[derive(Drop)]
 pub struct Journal {
-    links: Vec<[u8; 6]>,
+    links: Vec<LinkAddress>,
     moment: u64,
     copies: Vec<Copy>,
     notes: Vec<Note>,
@@ -79,7 +80,7 @@ fn fresh_rows(alloc: Global, nodes: usize) -> Result<Vec<Row>, NoMemory>
 impl Journal {
     /// Nothing has happened: the moment is 0. The places for the transactions of all nodes are made: 256 for each client and server. `NoMemory` where the
     /// memory for them is refused.
-    pub fn new(alloc: Global, links: Vec<[u8; 6]>) -> Result<Journal, NoMemory>
+    pub fn new(alloc: Global, links: Vec<LinkAddress>) -> Result<Journal, NoMemory>
         ensures { IfOk result (λ j. j ≡ record (j) { links = links.items; moment = 0; copies = []; notes = [] }) }
     {
         let rows = fresh_rows(alloc, links.len())?;
@@ -124,7 +125,7 @@ impl Journal {
     }
 
     /// The node at a link, by its number; None where there is none. It takes no memory.
-    pub fn node_of(&self, link: [u8; 6]) -> Option<usize>
+    pub fn node_of(&self, link: LinkAddress) -> Option<usize>
         ensures some { IfSome result (λ node. slice_get self.now.links node ≡ Some link) }
         ensures none { result ≡ None → (node : ℕ) → slice_get self.now.links node ≢ Some link }
     {
@@ -132,14 +133,14 @@ impl Journal {
     }
 
     /// The link of a node; None where there is no such node.
-    pub fn link_of(&self, node: usize) -> Option<[u8; 6]>
+    pub fn link_of(&self, node: usize) -> Option<LinkAddress>
         ensures { result ≡ slice_get self.now.links node }
     {
         self.links.get(node).copied()
     }
 
     /// Whether octets from a link are noise: the link is no node's, and they mean no APDU of a peer. It takes no memory.
-    pub fn is_noise(&self, from: [u8; 6], octets: &[u8]) -> bool
+    pub fn is_noise(&self, from: LinkAddress, octets: &[u8]) -> bool
         ensures { (nodes : List Node) → AreLinks nodes self.now.links → (IsTrue result ↔ IsNoise nodes from octets.now) }
     {
         is_noise(&self.links, from, octets)

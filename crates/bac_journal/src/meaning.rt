@@ -14,10 +14,10 @@ use crate::copies::node_at;
 use crate::transaction::Transaction;
 use bac_apdu::Apdu;
 use bac_ends::invoke_id_of;
-use bac_npdu::read_datagram;
+use bac_npdu::{LinkAddress, read_datagram};
 
 /// The APDU of a peer that octets from a link mean; None where they mean none. It takes no memory.
-pub(crate) fn meaning(from: [u8; 6], octets: &[u8]) -> Option<Apdu<'_>>
+pub(crate) fn meaning(from: LinkAddress, octets: &[u8]) -> Option<Apdu<'_>>
     ensures means { IfSome result (λ a. (peer : PeerView) × Means SpellsApdu from octets.now peer (apdu_view a)) }
     ensures none { result ≡ None → IsMeaningless from octets.now }
 {
@@ -31,7 +31,7 @@ pub(crate) fn meaning(from: [u8; 6], octets: &[u8]) -> Option<Apdu<'_>>
 }
 
 /// Whether octets from a link mean no APDU of a peer. It takes no memory.
-fn is_meaningless(from: [u8; 6], octets: &[u8]) -> bool
+fn is_meaningless(from: LinkAddress, octets: &[u8]) -> bool
     ensures { IsTrue result ↔ IsMeaningless from octets.now }
 {
     match meaning(from, octets) {
@@ -41,7 +41,7 @@ fn is_meaningless(from: [u8; 6], octets: &[u8]) -> bool
 }
 
 /// Whether octets are noise: they come from a link of no node, and mean no APDU of a peer. It takes no memory.
-pub(crate) fn is_noise(links: &[[u8; 6]], from: [u8; 6], octets: &[u8]) -> bool
+pub(crate) fn is_noise(links: &[LinkAddress], from: LinkAddress, octets: &[u8]) -> bool
     ensures { (nodes : List Node) → AreLinks nodes links.now → (IsTrue result ↔ IsNoise nodes from octets.now) }
 {
     match node_at(links, from) {

@@ -12,6 +12,7 @@ ghost use Rattle.bac_journal.specs.Views.{key_view, copy_view, AreLinks};
 use crate::asks::{Cell, Row, known, set_known};
 use crate::copies::{Copy, copy_of};
 use bac_ends::Datagram;
+use bac_npdu::LinkAddress;
 
 /// A copy comes to the end of the list, which has room for it; its transaction is one of two nodes that there are.
 pub(crate) fn add_copy(copies: &mut Vec<Copy>, rows: &mut [Row], copy: Copy)
@@ -45,7 +46,7 @@ pub(crate) fn add_copy(copies: &mut Vec<Copy>, rows: &mut [Row], copy: Copy)
 
 /// A datagram that a node sends becomes the newest copy.
 fn send_one(
-    links: &[[u8; 6]],
+    links: &[LinkAddress],
     now: u64,
     sender: usize,
     copies: &mut Vec<Copy>,
@@ -72,7 +73,7 @@ fn send_one(
 
 /// The datagrams that a node sends become the newest copies, for which there is room.
 pub(crate) fn send_all(
-    links: &[[u8; 6]],
+    links: &[LinkAddress],
     now: u64,
     sender: usize,
     copies: &mut Vec<Copy>,

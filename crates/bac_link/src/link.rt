@@ -4,6 +4,7 @@ ghost use Rattle.std.specs.Option.{option_map};
 ghost use Rattle.bac_link.specs.Calls.{Calls, IsCounted, received, with_call};
 ghost use Rattle.bac_link.specs.Calls.Call.{Send};
 
+use bac_npdu::LinkAddress;
 use thiserror::Error;
 
 /// A call of a link failed.
@@ -24,13 +25,17 @@ pub trait Link: Drop {
         ensures { result ≡ Self.failures self.now };
 
     /// Hands a datagram over to be sent to an address. After an Err it is lost.
-    fn send(&mut self, to: [u8; 6], octets: &[u8]) -> Result<(), LinkFault>
+    fn send(&mut self, to: LinkAddress, octets: &[u8]) -> Result<(), LinkFault>
         ensures counted { IsCounted result (Self.failures self.old) (Self.failures self.new) }
         ensures told { Self.calls self.new ≡ with_call (Self.calls self.old) (Send to octets.now) };
 
     /// Waits for a datagram, so many milliseconds at most. Its sender, and how many octets it has; the octets are the first of the buffer, and of a longer
     /// datagram those that fit it. None where no datagram has come.
-    fn recv(&mut self, buffer: &mut [u8], wait: u64) -> Result<Option<([u8; 6], usize)>, LinkFault>
+    fn recv(
+        &mut self,
+        buffer: &mut [u8],
+        wait: u64,
+    ) -> Result<Option<(LinkAddress, usize)>, LinkFault>
         ensures within { IfOk result (λ r. IfSome r (λ d. d.1 ≤ length buffer.new)) }
         ensures counted { IsCounted result (Self.failures self.old) (Self.failures self.new) }
         ensures told { Self.calls self.new ≡ with_call (Self.calls self.old) (received wait buffer.new result) };

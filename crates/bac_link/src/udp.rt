@@ -4,6 +4,7 @@ ghost use Rattle.bac_link.specs.Calls.{one_more};
 ghost use Rattle.bac_link.specs.Udp.{bound_port, udp_address};
 
 use crate::link::{Link, LinkFault};
+use bac_npdu::LinkAddress;
 use std::io;
 use std::io::ErrorKind;
 use std::net::{Ipv4Addr, Net, SocketAddr, UdpSocket};
@@ -19,14 +20,14 @@ pub struct UdpLink {
     /// The port that was asked for.
     port: u16,
     /// The address that the system tells.
-    address: [u8; 6],
+    address: LinkAddress,
     /// How long the socket waits for a datagram, in milliseconds.
     wait: u64,
     failures: u64,
 }
 
 /// The address of a link.
-fn link_of(address: SocketAddr) -> Option<[u8; 6]> {
+fn link_of(address: SocketAddr) -> Option<LinkAddress> {
     let SocketAddr::V4(address) = address else {
         return None;
     };
@@ -36,7 +37,7 @@ fn link_of(address: SocketAddr) -> Option<[u8; 6]> {
 }
 
 /// The socket address of a link.
-fn address_of(link: [u8; 6]) -> SocketAddr {
+fn address_of(link: LinkAddress) -> SocketAddr {
     let [a, b, c, d, high, low] = link;
     let port = u16::from_be_bytes([high, low]);
     SocketAddr::from((Ipv4Addr::new(a, b, c, d), port))
@@ -69,7 +70,7 @@ impl UdpLink {
     }
 
     /// The address of this link.
-    pub fn address(&self) -> [u8; 6]
+    pub fn address(&self) -> LinkAddress
         ensures { result ≡ udp_address self.now }
     {
         self.address
@@ -113,7 +114,7 @@ impl Link for UdpLink {
         self.failures
     }
 
-    fn send(&mut self, to: [u8; 6], octets: &[u8]) -> Result<(), LinkFault> {
+    fn send(&mut self, to: LinkAddress, octets: &[u8]) -> Result<(), LinkFault> {
         match self.socket.send_to(octets, address_of(to)) {
             Ok(len) if len == octets.len() => Ok(()),
             _ => Err(self.failed()),
@@ -124,7 +125,7 @@ impl Link for UdpLink {
         &mut self,
         buffer: &mut [u8],
         wait: u64,
-    ) -> Result<Option<([u8; 6], usize)>, LinkFault> {
+    ) -> Result<Option<(LinkAddress, usize)>, LinkFault> {
         if self.set_wait(wait).is_err() {
             return Err(self.failed());
         }

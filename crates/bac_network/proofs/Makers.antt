@@ -125,7 +125,7 @@ module _ (overtake : ℕ) (makers : List Maker) (right : IsRight overtake makers
   fresh = record {
     nodes = λ i n at.
         let m = maker_of makers i n at in
-        subst IsFreshNode m.2 (record { latest = refl; slots = refl; asked = refl; entries = refl });
+        subst IsFreshNode m.2 (record { latest = refl; slots = refl; asked = refl; asks_from = refl; entries = refl; serves_from = refl });
     apart = apart;
     now = refl;
     copies = refl;

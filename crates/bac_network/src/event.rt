@@ -1,5 +1,6 @@
 //! What can happen in a simulated network.
 use bac_apdu::Limits;
+use bac_npdu::LinkAddress;
 use bac_service::OwnedRequest;
 use bac_store::Change;
 
@@ -27,7 +28,7 @@ pub enum Event {
         /// The node to which they come.
         node: usize,
         /// The link from which they come: four octets of IPv4 address and two of UDP port (clause J.1.2).
-        from: [u8; 6],
+        from: LinkAddress,
         /// The octets.
         octets: Vec<u8>,
     },

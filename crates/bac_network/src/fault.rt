@@ -6,19 +6,25 @@ ghost use Rattle.bac_network.specs.declared.fault.WorldFault.TheVariants as faul
 
 use bac_store::ChangeFault;
 use bac_value::NoMemory;
+use thiserror::Error;
 
 /// Why an event did not happen: the world is as before.
-#[derive(Clone, Copy, Debug, PartialEq, Eq)]
+#[derive(Clone, Copy, Debug, PartialEq, Eq, Error)]
 pub enum WorldFault {
     /// The event names a node that there is not.
+    #[error("no such node")]
     NoSuchNode,
     /// The event names a copy that there is not.
+    #[error("no such datagram")]
     NoSuchDatagram,
     /// The moment would pass 64 bits.
+    #[error("the clock is at its end")]
     ClockEnd,
     /// A change of a node's own store has that fault, which is never `NoMemory`.
+    #[error("the change is refused: {0}")]
     BadChange(ChangeFault),
     /// Memory was refused.
+    #[error("no memory")]
     NoMemory,
 }
 
@@ -47,17 +53,22 @@ impl From<NoMemory> for WorldFault {
 }
 
 /// Why a world was not made: the first of these that holds.
-#[derive(Clone, Copy, Debug, PartialEq, Eq)]
+#[derive(Clone, Copy, Debug, PartialEq, Eq, Error)]
 pub enum NewWorldFault {
     /// Two nodes have one link.
+    #[error("two nodes have one link")]
     SameLink,
     /// A number of slots is not 1 to 1,024.
+    #[error("a number of slots is out of range")]
     BadSlots,
     /// A window is not 1 to 64.
+    #[error("a window is out of range")]
     BadWindow,
     /// The overtaking limit and twice the greatest window are more than 255 together.
+    #[error("the overtaking limit and the windows are too great together")]
     BadBound,
     /// Memory was refused.
+    #[error("no memory")]
     NoMemory,
 }
 
@@ -85,7 +96,8 @@ impl From<NoMemory> for NewWorldFault {
 }
 
 /// Where a run stopped: the events before that place happened, and the one there did not.
-#[derive(Clone, Copy, Debug, PartialEq, Eq)]
+#[derive(Clone, Copy, Debug, PartialEq, Eq, Error)]
+#[error("{fault} at event {place}")]
 pub struct RunFault {
     /// The place of the event in the list, from 0.
     pub place: usize,

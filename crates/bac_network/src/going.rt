@@ -15,7 +15,7 @@ ghost use Rattle.bac_network.specs.Goings.{ArePunctual, Goes, IsBetween, IsHeard
 use bac_apdu::Limits;
 use bac_journal::Journal;
 use bac_node::{Node, NodeFault, Outcome};
-use bac_npdu::Peer;
+use bac_npdu::{LinkAddress, Peer};
 use bac_requester::{AskFault, Asked};
 use bac_service::OwnedRequest;
 use bac_store::{Change, ChangeFault};
@@ -26,7 +26,7 @@ pub(crate) fn hear(
     nodes: &mut [Node],
     i: usize,
     now: u64,
-    from: [u8; 6],
+    from: LinkAddress,
     octets: &[u8],
 ) -> Result<Outcome, NoMemory>
     requires there { i < length nodes.old }

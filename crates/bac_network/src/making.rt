@@ -10,19 +10,20 @@ use crate::network::Network;
 use crate::world::World;
 use bac_journal::Journal;
 use bac_node::{Config, NewNodeFault, Node};
+use bac_npdu::LinkAddress;
 use bac_store::Store;
 use bac_value::NoMemory;
 use std::alloc::Global;
 
 /// Whether a node is to have that link.
-fn is_linked(maker: &(Config, Store), link: [u8; 6]) -> bool
+fn is_linked(maker: &(Config, Store), link: LinkAddress) -> bool
     ensures { IsTrue result ↔ ((maker.now.0).link ≡ link) }
 {
     maker.0.link == link
 }
 
 /// Whether one of the nodes before a place is to have that link.
-fn is_taken(makers: &[(Config, Store)], place: usize, link: [u8; 6]) -> bool
+fn is_taken(makers: &[(Config, Store)], place: usize, link: LinkAddress) -> bool
     requires { place ≤ length makers.now }
     ensures { IsTrue result ↔ IsTaken makers.now place link }
 {
@@ -154,7 +155,7 @@ fn nodes_made(alloc: Global, makers: Vec<(Config, Store)>) -> Result<Vec<Node>, 
 }
 
 /// The nodes' links.
-fn links_of(alloc: Global, makers: &[(Config, Store)]) -> Result<Vec<[u8; 6]>, NoMemory>
+fn links_of(alloc: Global, makers: &[(Config, Store)]) -> Result<Vec<LinkAddress>, NoMemory>
     ensures { IfOk result (λ links. links.items ≡ links_of makers.now) }
 {
     let mut links = Vec::with_capacity(alloc, makers.len())?;

@@ -10,13 +10,14 @@ ghost use Rattle.bac_network.specs.Steps.{Happens};
 use crate::fault::WorldFault;
 use crate::going::hear;
 use crate::network::Network;
+use bac_npdu::LinkAddress;
 
 impl Network {
     /// Octets that mean no APDU of a peer come to a node from a link of no node; others are lost. It takes no memory.
     pub(crate) fn hear_noise(
         &mut self,
         node: usize,
-        from: [u8; 6],
+        from: LinkAddress,
         octets: &[u8],
     ) -> Result<(), WorldFault>
         requires punctual { ArePunctual self.old.nodes.items self.old.journal.moment }
@@ -34,7 +35,7 @@ impl Network {
     }
 
     /// A node drops what means nothing.
-    fn drop_noise(&mut self, node: usize, from: [u8; 6], octets: &[u8])
+    fn drop_noise(&mut self, node: usize, from: LinkAddress, octets: &[u8])
         requires punctual { ArePunctual self.old.nodes.items self.old.journal.moment }
         requires there { node < length self.old.nodes.items }
         requires noise { IsNoise self.old.nodes.items from octets.now }

@@ -1,5 +1,6 @@
 //! Worlds and scripts, in rows of text (`script` says how they are written). Here is what the tests share.
 use bac_node::Config;
+use bac_npdu::LinkAddress;
 use bac_rows::holds;
 use bac_value::NoMemory;
 use std::alloc::Global;
@@ -67,6 +68,6 @@ const SMALL_ONES: Scene = Scene {
 };
 
 /// The link of the node with that number.
-fn link(number: u8) -> [u8; 6] {
+fn link(number: u8) -> LinkAddress {
     [10, 0, 0, number, 0xBA, 0xC0]
 }

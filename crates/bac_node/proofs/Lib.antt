@@ -1,3 +1,4 @@
 pub mod Turns
 pub mod Asks
 pub mod Capacities
+pub mod Waits

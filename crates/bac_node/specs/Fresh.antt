@@ -1,11 +1,7 @@
 -- Which nodes are made, and what they are then.
-use Rattle.std.specs.Prelude.{◌≡◌, ℕ, Bool, ◌&&◌, [], nat_le}
-use Rattle.bac_protocol.specs.Context.{Settings}
-use Rattle.bac_protocol.specs.Service.{Octets}
-use Rattle.bac_requester.specs.Views.{Requester}
-use Rattle.bac_responder.specs.Turns.{Serving}
+use Rattle.std.specs.Prelude.{ℕ, Option, Some, None, Bool, ◌&&◌, [], nat_le}
 use Rattle.bac_store.specs.Stores.{Store}
-use Rattle.bac_world.specs.Node.{Node}
+use Rattle.bac_world.specs.Node.{Node, restarted}
 use Rattle.bac_node.specs.Views.{settings_of}
 use Rattle.bac_node.specs.declared.config.Config.{Config}
 
@@ -27,18 +23,12 @@ fresh_node c s =
       link = c.link;
       settings = settings_of c;
       latest = 0;
-      clients = record { slots = []; capacity = c.client_slots; asked = 0 };
-      servers = record { slots = []; capacity = c.reply_slots };
+      clients = record { slots = []; capacity = c.client_slots; asked = 0; asks_from = 0 };
+      servers = record { slots = []; capacity = c.reply_slots; serves_from = 0 };
       store = s;
     }
 
--- a node of its parts
-abbrev pub node_of : Octets → Settings → (latest : ℕ) → Requester → Serving → Store → Node
-node_of link c latest clients servers s =
-    record { link = link; settings = c; latest = latest; clients = clients.end; servers = servers.end; store = s }
-
--- both ends are of one node
-pub record AreOneNode (link : Octets) (settings : Settings) (clients : Requester) (servers : Serving) : Type 0 where
-  pub link_is : clients.link ≡ link
-  pub client_set : clients.settings ≡ settings
-  pub server_set : servers.settings ≡ settings
+-- one that restarts at that moment, if it does
+abbrev pub made_node : Config → Store → (restart : Option ℕ) → Node
+made_node c s None = fresh_node c s
+made_node c s (Some now) = restarted now s (fresh_node c s)

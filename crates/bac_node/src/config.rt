@@ -1,11 +1,12 @@
 //! What a node is made of.
 use bac_apdu::Limits;
+use bac_npdu::LinkAddress;
 
 /// What a node is made of, beside its store.
 #[derive(Clone, Copy, Debug, PartialEq, Eq)]
 pub struct Config {
-    /// The node's own link: four octets of IPv4 address and two of UDP port (clause J.1.2).
-    pub link: [u8; 6],
+    /// The node's own link.
+    pub link: LinkAddress,
     /// What it takes of APDUs, and of replies in segments.
     pub limits: Limits,
     /// The greatest window that it proposes or grants: 1 to 64 segments.

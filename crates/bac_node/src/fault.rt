@@ -5,15 +5,19 @@ ghost use Rattle.bac_node.specs.declared.fault.NewNodeFault.TheVariants as new_f
 ghost use Rattle.bac_node.specs.declared.fault.NodeFault.TheVariants as fault;
 
 use bac_value::NoMemory;
+use thiserror::Error;
 
 /// Why a node was not made. They are tested in this order.
-#[derive(Clone, Copy, Debug, PartialEq, Eq)]
+#[derive(Clone, Copy, Debug, PartialEq, Eq, Error)]
 pub enum NewNodeFault {
     /// A number of slots is not 1 to 1,024.
+    #[error("a number of slots is out of range")]
     BadSlots,
     /// The window is not 1 to 64.
+    #[error("the window is out of range")]
     BadWindow,
     /// Memory was refused.
+    #[error("no memory")]
     NoMemory,
 }
 
@@ -39,11 +43,13 @@ impl From<NoMemory> for NewNodeFault {
 }
 
 /// Why a call did nothing: the node is as before, its latest moment too.
-#[derive(Clone, Copy, Debug, PartialEq, Eq)]
+#[derive(Clone, Copy, Debug, PartialEq, Eq, Error)]
 pub enum NodeFault {
     /// The moment is before the latest one that the node was told. Tested first.
+    #[error("the clock went back")]
     ClockBack,
     /// Memory was refused.
+    #[error("no memory")]
     NoMemory,
 }
 

@@ -11,7 +11,7 @@ ghost use Rattle.bac_node.specs.Views.{cause_view};
 
 use crate::cause::Cause;
 use bac_apdu::Apdu;
-use bac_npdu::{Dropped, Peer, read_datagram};
+use bac_npdu::{Dropped, LinkAddress, Peer, read_datagram};
 
 /// Whether an APDU is one that the client of a transaction sends, and its server hears (clause 20.1).
 pub(crate) fn is_from_client(apdu: &Apdu<'_>) -> bool
@@ -43,8 +43,8 @@ fn cause_of(dropped: Dropped) -> Cause
 
 /// The peer and the APDU that a datagram from another link means, or why it is dropped. It takes no memory.
 pub(crate) fn heard<'a>(
-    link: [u8; 6],
-    from: [u8; 6],
+    link: LinkAddress,
+    from: LinkAddress,
     octets: &'a [u8],
 ) -> Result<(Peer, Apdu<'a>), Cause>
     ensures foreign { IfOk result (λ r. from ≢ link) }

@@ -16,9 +16,9 @@ ghost use Rattle.bac_requester.specs.Short.{AreRepliesShort};
 ghost use Rattle.bac_requester.specs.Views.{finish_view, finishes_of};
 ghost use Rattle.bac_responder.specs.Short.{AreRequestsShort};
 ghost use Rattle.bac_world.specs.Keys.{HasKeysApart};
-ghost use Rattle.bac_world.specs.Node.{NodeOn, NodeTick, IsHeardBy, dropped_for, with_change};
+ghost use Rattle.bac_world.specs.Node.{NodeOn, NodeTick, IsHeardBy, dropped_for, restarted, store_after_restart, with_change};
 ghost use Rattle.bac_node.specs.Calls.{Hears, IsAsked, IsDue, IsNotHeard, Refuses, ticked};
-ghost use Rattle.bac_node.specs.Fresh.{fresh_node, has_slots, slots_fit, window_fits};
+ghost use Rattle.bac_node.specs.Fresh.{fresh_node, has_slots, made_node, slots_fit, window_fits};
 ghost use Rattle.bac_node.specs.Views.{cause_view, outcome_view, settings_of};
 ghost use Rattle.bac_node.specs.Waiting.{MovesAt, RestsUntil};
 ghost use Rattle.bac_ticket.specs.Timers.{LAST_MOMENT};
@@ -31,7 +31,7 @@ use crate::outcome::Outcome;
 use bac_apdu::{Apdu, Limits, Window};
 use bac_ends::{PeerKey, Settings};
 use bac_entry::Entry;
-use bac_npdu::Peer;
+use bac_npdu::{LinkAddress, Peer};
 use bac_requester::{AskFault, Asked, Client, Due, Finish, Requester, Turn};
 use bac_responder::{Responder, Served};
 use bac_service::OwnedRequest;
@@ -45,7 +45,7 @@ use std::marker::Model;
 #[derive(Drop)]
 pub struct Node {
     alloc: Global,
-    link: [u8; 6],
+    link: LinkAddress,
     settings: Settings,
     latest: u64,
     clients: Requester<IndexSlots<PeerKey, Client>>,
@@ -59,11 +59,8 @@ impl Model for Node {
     ghost Value = { world.Node };
 
     ghost use Rattle.bac_ends.specs.Views.{settings_view};
-    ghost use Rattle.bac_node.specs.Fresh.{AreOneNode, node_of};
 
-    ghost view = { λ n. node_of n.link (settings_view n.settings) n.latest n.clients n.servers n.store };
-
-    ghost invariant = { λ n. AreOneNode n.link (settings_view n.settings) n.clients n.servers };
+    ghost view = { λ n. record { link = n.link; settings = settings_view n.settings; latest = n.latest; clients = n.clients; servers = n.servers; store = n.store } };
 }
 
 /// Whether a table may have so many slots.
@@ -123,27 +120,60 @@ impl Node {
         ensures slots { IsErrOf result NewNodeFault.BadSlots ↔ (has_slots config ≡ false) }
         ensures window { IsErrOf result NewNodeFault.BadWindow ↔ ((has_slots config ≡ true) × (window_fits config.window ≡ false)) }
     {
+        Node::made(alloc, config, store, None)
+    }
+
+    /// A node that is there again at a moment, in milliseconds, after it has lost its asks and its reply table: its process was started anew, or its power
+    /// came back. Its store is that one.
+    ///
+    /// So that no request of its old life is performed twice, and no answer to one is taken for another's, it waits (own rules of this profile): each new
+    /// request is turned away with an Abort of reason 0 while no more than 65,000 ms have passed since, and each ask is refused with `NoInvokeId` while no
+    /// more than 75,000 ms have. The faults are those of `new`.
+    pub fn restarted(
+        alloc: Global,
+        config: Config,
+        store: Store,
+        now: u64,
+    ) -> Result<Node, NewNodeFault>
+        ensures restarted { IfOk result (λ n. n ≡ restarted now store (fresh_node config store)) }
+        ensures slots { IsErrOf result NewNodeFault.BadSlots ↔ (has_slots config ≡ false) }
+        ensures window { IsErrOf result NewNodeFault.BadWindow ↔ ((has_slots config ≡ true) × (window_fits config.window ≡ false)) }
+    {
+        Node::made(alloc, config, store, Some(now))
+    }
+
+    /// A node without asks and entries, which restarts at that moment if there is one.
+    fn made(
+        alloc: Global,
+        config: Config,
+        store: Store,
+        restart: Option<u64>,
+    ) -> Result<Node, NewNodeFault>
+        ensures made { IfOk result (λ n. n ≡ made_node config store restart) }
+        ensures slots { IsErrOf result NewNodeFault.BadSlots ↔ (has_slots config ≡ false) }
+        ensures window { IsErrOf result NewNodeFault.BadWindow ↔ ((has_slots config ≡ true) × (window_fits config.window ≡ false)) }
+    {
         if !slots_fit(config.client_slots) || !slots_fit(config.reply_slots) {
             return Err(NewNodeFault::BadSlots);
         }
         let Some(settings) = settings_of(&config) else {
             return Err(NewNodeFault::BadWindow);
         };
-        let clients = Requester::new(alloc, config.link, settings, config.client_slots)?;
-        let servers = Responder::new(alloc, settings, config.reply_slots)?;
+        let clients = Requester::new(alloc, config.client_slots, restart)?;
+        let servers = Responder::new(alloc, config.reply_slots, restart)?;
         Ok(Node {
             alloc,
             link: config.link,
             settings,
-            latest: 0,
+            latest: restart.unwrap_or(0),
             clients,
             servers,
             store,
         })
     }
 
-    /// The node's own link: four octets of IPv4 address and two of UDP port (clause J.1.2).
-    pub fn link(&self) -> [u8; 6]
+    /// The node's own link.
+    pub fn link(&self) -> LinkAddress
         ensures { result ≡ self.now.link }
     {
         self.link
@@ -244,7 +274,7 @@ impl Node {
     ///
     /// One that comes from the node's own link or means no APDU of a peer is dropped: it changes the latest moment alone, and takes no memory.
     /// `ClockBack` exactly where the moment is before the latest one, `NoMemory` where memory is refused. After an Err the node is as before.
-    pub fn on(&mut self, now: u64, from: [u8; 6], octets: &[u8]) -> Result<Outcome, NodeFault>
+    pub fn on(&mut self, now: u64, from: LinkAddress, octets: &[u8]) -> Result<Outcome, NodeFault>
         ensures went { IfOk result (λ o. NodeOn now from octets.now self.old self.new (outcome_view o)) }
         ensures early { IsErrOf result NodeFault.ClockBack ↔ (now < self.old.latest) }
         ensures dropped { IsNotHeard self.old.link from octets.now → IsErrOf result NodeFault.NoMemory → ⊥ }
@@ -278,9 +308,14 @@ impl Node {
         ensures heard { IfOk result (λ o. IsHeardBy true (peer_view peer.now) (apdu_view apdu.now) now self.old self.new (outcome_view o)) }
         ensures err { OnErr result (self.new ≡ self.old) }
     {
-        let Served { sends, act } = self
-            .servers
-            .on(self.alloc, now, peer, apdu, &mut self.store)?;
+        let Served { sends, act } = self.servers.on(
+            self.alloc,
+            &self.settings,
+            now,
+            peer,
+            apdu,
+            &mut self.store,
+        )?;
         self.latest = now;
         Ok(Outcome {
             sends,
@@ -296,7 +331,9 @@ impl Node {
         ensures err { OnErr result (self.new ≡ self.old) }
     {
         let room = Vec::with_capacity(self.alloc, 1)?;
-        let Turn { sends, ended } = self.clients.on(self.alloc, now, peer, apdu)?;
+        let Turn { sends, ended } = self
+            .clients
+            .on(self.alloc, &self.settings, now, peer, apdu)?;
         self.latest = now;
         Ok(Outcome {
             sends,
@@ -341,8 +378,8 @@ impl Node {
     fn due(&self, now: u64) -> Result<Due, NoMemory>
         ensures { IfOk result (IsDue now self.now) }
     {
-        let Due { mut sends, ended } = self.clients.prepare_tick(self.alloc, now)?;
-        let mut more = self.servers.prepare_tick(self.alloc, now)?;
+        let Due { mut sends, ended } = self.clients.prepare_tick(self.alloc, &self.settings, now)?;
+        let mut more = self.servers.prepare_tick(self.alloc, &self.settings, now)?;
         sends.append(&mut more)?;
         Ok(Due { sends, ended })
     }
@@ -352,8 +389,8 @@ impl Node {
         requires { self.old.latest ≤ now }
         ensures { self.new ≡ ticked now self.old }
     {
-        self.clients.commit_tick(now);
-        self.servers.commit_tick(now);
+        self.clients.commit_tick(&self.settings, now);
+        self.servers.commit_tick(&self.settings, now);
         self.latest = now;
     }
 
@@ -415,7 +452,10 @@ impl Node {
         ensures early { IsErrOf result AskFault.ClockBack → ⊥ }
         ensures err { OnErr result (self.new ≡ self.old) }
     {
-        match self.clients.ask(self.alloc, now, peer, limits, request) {
+        let result = self
+            .clients
+            .ask(self.alloc, &self.settings, now, peer, limits, request);
+        match result {
             Ok(asked) => {
                 self.latest = now;
                 Ok(asked)
@@ -437,10 +477,33 @@ impl Node {
         self.store.change(self.alloc, change)
     }
 
+    /// The node restarts at a moment in milliseconds, whatever it was told before: as after `restarted`, with the store that it has, or with another one.
+    /// `NoMemory` where the memory for its slots is refused: it is as before then.
+    pub fn restart(&mut self, now: u64, store: Option<Store>) -> Result<(), NoMemory>
+        ensures went { OnOk result (self.new ≡ restarted now (store_after_restart self.old.store store) self.old) }
+        ensures err { OnErr result (self.new ≡ self.old) }
+    {
+        let clients = Requester::new(self.alloc, self.clients.capacity(), Some(now))?;
+        let servers = Responder::new(self.alloc, self.servers.capacity(), Some(now))?;
+        if let Some(store) = store {
+            self.store = store;
+        }
+        self.clients = clients;
+        self.servers = servers;
+        self.latest = now;
+        Ok(())
+    }
+
     /// Whether contracts see no difference between two nodes: the same link, settings, latest moment, slots, entries and store.
     pub fn same(&self, other: &Node) -> bool
         ensures { IsTrue result ↔ (self.now ≡ other.now) }
     {
+        if self.link != other.link {
+            return false;
+        }
+        if self.settings != other.settings {
+            return false;
+        }
         if self.latest != other.latest {
             return false;
         }

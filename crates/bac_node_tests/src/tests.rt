@@ -1,6 +1,7 @@
 //! Nodes, event by event, in rows of text (`script` says how they are written). Here is what the tests share.
 use bac_apdu::Limits;
 use bac_node::{Config, NewNodeFault, Node};
+use bac_npdu::LinkAddress;
 use bac_store::house;
 use std::alloc::Global;
 use std::test::Fail;
@@ -15,6 +16,7 @@ mod playing;
 mod reassembly;
 mod replies;
 mod requests;
+mod restarts;
 mod scene;
 mod script;
 mod sending;
@@ -69,7 +71,7 @@ fn all_hold<T: Holds>(alloc: Global, rows: &[T]) -> Result<(), Fail> {
     Ok(())
 }
 
-fn link(number: u8) -> [u8; 6] {
+fn link(number: u8) -> LinkAddress {
     [10, 0, 0, number, 0xBA, 0xC0]
 }
 

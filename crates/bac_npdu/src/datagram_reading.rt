@@ -8,11 +8,11 @@ ghost use Rattle.bac_npdu.specs.Views.{peer_view};
 use crate::bvll::read_bvll;
 use crate::fault::Dropped;
 use crate::npdu_reading::read_npdu;
-use crate::peer::Peer;
+use crate::peer::{LinkAddress, Peer};
 
 /// The peer and the octets of the APDU that a datagram from a link means (clause 6, Annex J), or why it means none: the first of the reasons of `Dropped`
 /// that holds.
-pub fn read_datagram(link: [u8; 6], octets: &[u8]) -> Result<(Peer, &[u8]), Dropped>
+pub fn read_datagram(link: LinkAddress, octets: &[u8]) -> Result<(Peer, &[u8]), Dropped>
     ensures carried { IfOk result (λ r. Carries link octets.now (peer_view r.0) r.1.now) }
     ensures none { IfErr result (λ e. (peer : PeerView) (apdu : List ℕ) → Carries link octets.now peer apdu → ⊥) }
     ensures cause { IfErr result (IsCause octets.now) }

@@ -26,5 +26,5 @@ pub use laws::{
 };
 pub use npdu::{Destination, Message, Npdu};
 pub use npdu_reading::read_npdu;
-pub use peer::Peer;
+pub use peer::{LinkAddress, Peer};
 pub use route::Route;

@@ -10,15 +10,18 @@ ghost use Rattle.bac_npdu.specs.Views.{peer_view};
 use crate::route::Route;
 use std::cmp::Ordering;
 
-/// The other end of a transaction: its BACnet/IP address (four octets of IPv4 and two of the UDP port, clause J.1.2), and the way
-/// on from there where it stands on a network behind a router.
+/// A BACnet/IP address, by which a node stands on its link: four octets of IPv4 address, then two of the UDP port, most significant first (clause
+/// J.1.2).
+pub type LinkAddress = [u8; 6];
+
+/// The other end of a transaction: its BACnet/IP address, and the way on from there where it stands on a network behind a router.
 ///
 /// Peers are ordered by link, then no route before a route, then by network number, then by the octets of the address, a front
 /// first.
 #[derive(Clone, Copy, Debug)]
 pub struct Peer {
-    /// The BACnet/IP address: four octets of IPv4, then two of the UDP port.
-    pub link: [u8; 6],
+    /// The BACnet/IP address.
+    pub link: LinkAddress,
     /// The way on from a router; None for a peer at the address itself.
     pub route: Option<Route>,
 }

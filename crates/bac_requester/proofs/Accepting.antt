@@ -13,11 +13,12 @@ use Rattle.bac_segment.specs.Window.{outgoing}
 use Rattle.bac_protocol.specs.Service.{Octets}
 use Rattle.bac_protocol.specs.Sizes as sizes
 use Rattle.bac_ends.specs.Ends.{Client, ClientEnd, ClientSlot, AskOutcome, AskRefusal, CannotGo, Held, MOST_ASKS, context_of, kept, is_held, is_held_there}
-use Rattle.bac_ends.specs.Ends.{is_id_held, is_slot_held, has_no_slot, least_not, accepts, asks_by_way, asks_for, asks_with_id}
+use Rattle.bac_ends.specs.Ends.{is_id_held, is_id_taken, waits_to_ask, is_slot_held, has_no_slot, least_not, accepts, asks_by_way, asks_for, asks_with_id}
 use Rattle.bac_ends.specs.Ends.Held.{Open}
 use Rattle.bac_ends.specs.Keys as keys
 use Rattle.bac_ends.specs.Views.{code_same_key, peer_key_view, slot_view, slots_view}
 use Rattle.bac_ends.specs.declared.peer_key.PeerKey.{PeerKey}
+use Rattle.bac_ends.proofs.ClientTables.{none_refused}
 use Rattle.bac_ends.proofs.Keyed.{value_viewed, put_viewed, filter_viewed}
 use Rattle.bac_aged.proofs.Viewed.{count_viewed}
 use Rattle.bac_service.specs.Spellings.{request_spelling}
@@ -27,8 +28,8 @@ use Rattle.bac_ticket.specs.Views.{fault_view, way_view}
 use Rattle.bac_ticket.specs.declared.outgoing_request.RequestFault.{RequestFault}
 use Rattle.bac_ticket.specs.declared.outgoing_request.RequestWay.{RequestWay}
 use Rattle.bac_ticket.specs.declared.outgoing_request.RequestWay.TheVariants as way
-use Rattle.bac_requester.specs.Turns.{Asks, AsksTable, MayBegin}
-use Rattle.bac_requester.specs.Views.{Requester, end_of}
+use Rattle.bac_requester.specs.Turns.{MayBegin}
+use Rattle.bac_requester.specs.Views.{end_of}
 use Rattle.bac_requester.specs.declared.asking.Asked.{Asked}
 use Rattle.bac_requester.specs.declared.ask_fault.AskFault.{AskFault}
 
@@ -89,9 +90,21 @@ entered now key v slots new put =
 
 -- The outcome.
 
-module _ (c : Settings) (now : ℕ) (peer : PeerView) (ask : Ask) (e : ClientEnd) where
+-- an end that does not wait refuses the invoke IDs that are held, and no other
+untaken : (now : ℕ) (peer : PeerView) (e : ClientEnd) → waits_to_ask now e ≡ false
+    → least_not (is_id_held now e.slots peer) 256 0 ≡ least_not (is_id_taken now e peer) 256 0
+untaken now peer e awake = ap (λ (b : Bool). least_not (λ id. b || is_id_held now e.slots peer id) 256 0) (sym awake)
+
+-- one that waits has none to give
+pub waiting : (c : Settings) (now : ℕ) (peer : PeerView) (ask : Ask) (e : ClientEnd) → waits_to_ask now e ≡ true
+    → asks_for c now peer ask e ≡ AskOutcome.Refused AskRefusal.NoInvokeId
+waiting c now peer ask e waits =
+    ap (λ o. asks_with_id c now peer ask e o)
+    (none_refused (is_id_taken now e peer) 256 0 (λ n le lt. ap (λ (b : Bool). b || is_id_held now e.slots peer n) waits))
+
+module _ (c : Settings) (now : ℕ) (peer : PeerView) (ask : Ask) (e : ClientEnd) (awake : waits_to_ask now e ≡ false) where
   with_id : (o : Option ℕ) → o ≡ least_not (is_id_held now e.slots peer) 256 0 → asks_for c now peer ask e ≡ asks_with_id c now peer ask e o
-  with_id o is = ap (λ p. asks_with_id c now peer ask e p) (sym is)
+  with_id o is = ap (λ p. asks_with_id c now peer ask e p) (sym (is ∙ untaken now peer e awake))
 
   pub no_id : (o : Option ℕ) → o ≡ least_not (is_id_held now e.slots peer) 256 0 → o ≡ None
       → asks_for c now peer ask e ≡ AskOutcome.Refused AskRefusal.NoInvokeId
@@ -112,9 +125,9 @@ module _ (c : Settings) (now : ℕ) (peer : PeerView) (ask : Ask) (e : ClientEnd
       → MayBegin (asks_for c now peer ask e)
   may_begin o id is some full = subst MayBegin (sym (accepted o id is some full)) tt
 
-pub has_room : (now : ℕ) (slots : Slots) (capacity asked : ℕ) → has_no_slot now (end_of slots capacity asked) ≡ false
+pub has_room : (now : ℕ) (slots : Slots) (capacity asked from : ℕ) → has_no_slot now (end_of slots capacity asked from) ≡ false
     → count_by (λ s. is_held now s.value.held) slots < capacity
-has_room now slots capacity asked f =
+has_room now slots capacity asked from f =
     subst (λ (n : ℕ). n < capacity) (count_viewed Client (λ (v : Client). is_held now v.held) slots)
     (go (count_by (is_slot_held now) (slots_view slots)) capacity (nat_le MOST_ASKS asked) f)
   where
@@ -166,23 +179,14 @@ can_go c now peer choice octets e w r x is can =
 
 -- The end after an ask.
 
-pub entered_end : (c : Settings) (now : ℕ) (key : keys.PeerKey) (ask : Ask) (slots new : List ClientSlot) (capacity room number : ℕ) (t : Ticket)
+pub entered_end : (c : Settings) (now : ℕ) (key : keys.PeerKey) (ask : Ask) (slots new : List ClientSlot) (capacity room number from : ℕ) (t : Ticket)
     → t ≡ asked_ticket (context_of c now key) ask
     → new ≡ filter (is_slot_held now) slots ++ record { key = key; begin = now; value = record { number = number; held = Open t } } ∷ [] → room ≡ capacity
-    → (let e : ClientEnd = record { slots = new; capacity = room; asked = number + 1 } in e)
-    ≡ (accepts c now key ask (record { slots = slots; capacity = capacity; asked = number })).end
-entered_end c now key ask slots new capacity room number t is put same =
-    let with_slots : List ClientSlot → ℕ → ClientEnd = λ l k. record { slots = l; capacity = k; asked = number + 1 } in
+    → (let e : ClientEnd = record { slots = new; capacity = room; asked = number + 1; asks_from = from } in e)
+    ≡ (accepts c now key ask (record { slots = slots; capacity = capacity; asked = number; asks_from = from })).end
+entered_end c now key ask slots new capacity room number from t is put same =
+    let with_slots : List ClientSlot → ℕ → ClientEnd = λ l k. record { slots = l; capacity = k; asked = number + 1; asks_from = from } in
     let with_held : Held → List ClientSlot = λ h. filter (is_slot_held now) slots
     ++ record { key = key; begin = now; value = record { number = number; held = h } } ∷ [] in
     ap (λ l. with_slots l room) put ∙ ap (λ k. with_slots (with_held (Open t)) k) same
     ∙ ap (λ h. with_slots (with_held h) capacity) (ap (λ u. Open u) is ∙ sym (kept_open (context_of c now key) ask))
-
-pub asked_so : (s : Requester) (outcome other : AskOutcome) (result : Result Asked AskFault) (new : ClientEnd) → outcome ≡ other
-    → AsksTable other s.end result new → Asks outcome s result (record s { end = new })
-asked_so s outcome other result new is did = go result outcome (subst (λ (o : AskOutcome). AsksTable o s.end result new) (sym is) did)
-  where
-    go : (result : Result Asked AskFault) (outcome : AskOutcome) → AsksTable outcome s.end result new → Asks outcome s result (record s { end = new })
-    go (Ok x) (AskOutcome.Refused why) did = absurd did
-    go (Ok x) (AskOutcome.Asked a) did = record { end = ap (λ k. record s { end = k }) did.0; ticket = did.1; invoke_id = did.2; sends = did.3 }
-    go (Err e) outcome did = (did.0, ap (λ k. record s { end = k }) did.1)

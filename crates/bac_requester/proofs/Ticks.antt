@@ -3,7 +3,7 @@ use Rattle.std.proofs.Common.{◌≡◌, ℕ, ◌<◌, List, [], ◌∷◌, map,
 use Rattle.bac_slots.specs.declared.slot.Slot.{Slot}
 use Rattle.bac_slots.proofs.Ages.{each_more}
 use Rattle.bac_ends.specs.declared.settings.Settings.{Settings}
-use Rattle.bac_ends.specs.Ends.{Client, ClientSlot, client_tick_ends, client_tick_sends, client_ticked, clients_tick, context_of}
+use Rattle.bac_ends.specs.Ends.{Client, ClientEnd, ClientSlot, client_tick_ends, client_tick_sends, client_ticked, clients_tick, context_of}
 use Rattle.bac_ends.specs.Meanings.{Finish, IsFinish}
 use Rattle.bac_ends.specs.Sends.{Datagram, IsSent}
 use Rattle.bac_ends.specs.Views.{peer_key_view, settings_view, slot_view, slots_view}
@@ -12,7 +12,7 @@ use Rattle.bac_aged.specs.Ages.{AreQuiet, changed, ticked_in}
 use Rattle.bac_aged.proofs.Telling.{told_none}
 use Rattle.bac_requester.specs.Aging.{IsClientQuiet, value_ticked}
 use Rattle.bac_requester.specs.Turns.{IsTold}
-use Rattle.bac_requester.specs.Views.{Requester, end_of}
+use Rattle.bac_requester.specs.Views.{end_of}
 use Rattle.bac_requester.proofs.Aging.{held_ends, held_sends}
 
 abbrev Slots : Type 0
@@ -23,23 +23,21 @@ ticked_viewed : (c : Settings) (now : ℕ) (slots : Slots)
 ticked_viewed c now [] = refl
 ticked_viewed c now (s ∷ slots) = ap (λ l. client_ticked (settings_view c) now (slot_view s) ∷ l) (ticked_viewed c now slots)
 
-pub committed : (link : List ℕ) (c : Settings) (now : ℕ) (old new : Slots) (capacity room asked : ℕ)
-    → new ≡ map (changed (ticked_in value_ticked c now)) old → room ≡ capacity
-    → (let r : Requester = record { link = link; settings = settings_view c; end = end_of new room asked } in r)
-    ≡ record { link = link; settings = settings_view c; end = record { slots = map (client_ticked (settings_view c) now) (slots_view old); capacity = capacity; asked = asked } }
-committed link c now old new capacity room asked e f =
-    let with_slots : List ClientSlot → ℕ → Requester = λ l k. record { link = link; settings = settings_view c; end = record { slots = l; capacity = k; asked = asked } } in
+pub committed : (c : Settings) (now : ℕ) (old new : Slots) (capacity room asked from : ℕ) → new ≡ map (changed (ticked_in value_ticked c now)) old → room ≡ capacity
+    → end_of new room asked from ≡ (clients_tick (settings_view c) now (end_of old capacity asked from)).end
+committed c now old new capacity room asked from e f =
+    let with_slots : List ClientSlot → ℕ → ClientEnd = λ l k. record { slots = l; capacity = k; asked = asked; asks_from = from } in
     ap (λ l. with_slots (slots_view l) room) e ∙ ap (λ l. with_slots l room) (ticked_viewed c now old)
     ∙ ap (λ k. with_slots (map (client_ticked (settings_view c) now) (slots_view old)) k) f
 
-pub nothing_due : (c : Settings) (now from due : ℕ) (before : now < due) (slots : Slots) (capacity asked : ℕ) (sent : List Datagram) (ended : List Finish)
-    → AreQuiet IsClientQuiet from due slots → sent ≡ [] → ended ≡ [] → IsTold (clients_tick (settings_view c) now (end_of slots capacity asked)) sent ended
-nothing_due c now from due before slots capacity asked sent ended q no_sent no_ended =
+pub nothing_due : (c : Settings) (now begin due : ℕ) (before : now < due) (slots : Slots) (capacity asked from : ℕ) (sent : List Datagram) (ended : List Finish)
+    → AreQuiet IsClientQuiet begin due slots → sent ≡ [] → ended ≡ [] → IsTold (clients_tick (settings_view c) now (end_of slots capacity asked from)) sent ended
+nothing_due c now begin due before slots capacity asked from sent ended q no_sent no_ended =
     record {
       sends = told_none Client IsSent (client_tick_sends (settings_view c) now) slots sent
-          (each_more (λ s. IsClientQuiet from due s.value) (λ s. client_tick_sends (settings_view c) now (slot_view s) ≡ []) slots
+          (each_more (λ s. IsClientQuiet begin due s.value) (λ s. client_tick_sends (settings_view c) now (slot_view s) ≡ []) slots
           (λ s h. held_sends (context_of (settings_view c) now (peer_key_view s.key)) due before (peer_key_view s.key).peer s.value.held h) q) no_sent;
       finishes = told_none Client IsFinish (client_tick_ends (settings_view c) now) slots ended
-          (each_more (λ s. IsClientQuiet from due s.value) (λ s. client_tick_ends (settings_view c) now (slot_view s) ≡ []) slots
+          (each_more (λ s. IsClientQuiet begin due s.value) (λ s. client_tick_ends (settings_view c) now (slot_view s) ≡ []) slots
           (λ s h. held_ends (context_of (settings_view c) now (peer_key_view s.key)) due before s.value.number s.value.held h) q) no_ended;
     }

@@ -5,6 +5,7 @@ use Rattle.bac_apdu.specs.Apdu.{Apdu}
 use Rattle.bac_service.specs.Services.{reads_reply}
 use Rattle.bac_slots.specs.declared.slot.Slot.{Slot}
 use Rattle.bac_slots.specs.Slots.{value_at, with_value}
+use Rattle.bac_protocol.specs.Context.{Settings}
 use Rattle.bac_protocol.specs.Service as machine
 use Rattle.bac_protocol.specs.Client.{Ticket, client_gets, ending_of, sends_of}
 use Rattle.bac_ends.specs.Ends.{Client, ClientEnd, ClientTurn, client_hears, client_hears_at, key_of, client_after, ended_with}
@@ -24,8 +25,8 @@ use Rattle.bac_ends.specs.declared.context.Context.{Context}
 use Rattle.bac_ticket.specs.declared.reaction.Reaction.{Reaction}
 use Rattle.bac_npdu.specs.Peers.{PeerView}
 use Rattle.bac_value.specs.declared.memory.NoMemory.{NoMemory}
-use Rattle.bac_requester.specs.Turns.{Hears, HearsTable, IsTold, finishes_with, hears_key}
-use Rattle.bac_requester.specs.Views.{Requester, end_of, finishes_of}
+use Rattle.bac_requester.specs.Turns.{Hears, IsTold, finishes_with, hears_key}
+use Rattle.bac_requester.specs.Views.{end_of, finishes_of}
 use Rattle.bac_requester.specs.declared.turn.Turn.{Turn}
 use Rattle.bac_aged.proofs.Viewed.{put_back}
 
@@ -43,15 +44,15 @@ finishes_are number choice None (Some f) m = absurd m
 finishes_are number choice (Some e) None m = absurd m
 finishes_are number choice (Some e) (Some f) m = (record { ticket = refl; how = m }, tt)
 
-turn_at : (c : Context) (a : Apdu) (slots : Slots) (capacity asked : ℕ) (o : Option Client) → value_at code_same_key c.key slots ≡ o
-    → turn_of c a (end_of slots capacity asked)
-    ≡ client_hears_at (settings_view c.settings) reads_reply c.moment a (end_of slots capacity asked) (peer_key_view c.key) o
-turn_at c a slots capacity asked o is =
-    ap (λ p. client_hears_at (settings_view c.settings) reads_reply c.moment a (end_of slots capacity asked) (peer_key_view c.key) p)
+turn_at : (c : Context) (a : Apdu) (slots : Slots) (capacity asked from : ℕ) (o : Option Client) → value_at code_same_key c.key slots ≡ o
+    → turn_of c a (end_of slots capacity asked from)
+    ≡ client_hears_at (settings_view c.settings) reads_reply c.moment a (end_of slots capacity asked from) (peer_key_view c.key) o
+turn_at c a slots capacity asked from o is =
+    ap (λ p. client_hears_at (settings_view c.settings) reads_reply c.moment a (end_of slots capacity asked from) (peer_key_view c.key) p)
     (sym (value_viewed Client c.key slots) ∙ is)
 
-same_end : (old new : Slots) (capacity room asked : ℕ) → new ≡ old → room ≡ capacity → end_of new room asked ≡ end_of old capacity asked
-same_end old new capacity room asked e f = ap (λ l. end_of l room asked) e ∙ ap (λ k. end_of old k asked) f
+same_end : (old new : Slots) (capacity room asked from : ℕ) → new ≡ old → room ≡ capacity → end_of new room asked from ≡ end_of old capacity asked from
+same_end old new capacity room asked from e f = ap (λ l. end_of l room asked from) e ∙ ap (λ k. end_of old k asked from) f
 
 nothing_told : (e : ClientEnd) (x : Turn) → x.sends.items ≡ [] → finishes_of x.ended ≡ []
     → IsTold (record { end = e; sends = []; ended = [] }) x.sends.items (finishes_of x.ended)
@@ -61,63 +62,56 @@ nothing_told e x f g = record {
 }
 
 -- the key has no slot
-pub heard_nothing : (c : Context) (a : Apdu) (old new : Slots) (capacity room asked : ℕ) (x : Turn)
+pub heard_nothing : (c : Context) (a : Apdu) (old new : Slots) (capacity room asked from : ℕ) (x : Turn)
     → value_at code_same_key c.key old ≡ None → new ≡ old → room ≡ capacity → x.sends.items ≡ [] → finishes_of x.ended ≡ []
-    → HearsTable (turn_of c a (end_of old capacity asked)) (end_of old capacity asked) (Ok x) (end_of new room asked)
-heard_nothing c a old new capacity room asked x is stays same sent ended =
-    let e : ClientEnd = end_of old capacity asked in
-    subst (λ (t : ClientTurn). HearsTable t e (Ok x) (end_of new room asked)) (sym (turn_at c a old capacity asked None is))
-    (same_end old new capacity room asked stays same, nothing_told e x sent ended)
+    → Hears (turn_of c a (end_of old capacity asked from)) (end_of old capacity asked from) (Ok x) (end_of new room asked from)
+heard_nothing c a old new capacity room asked from x is stays same sent ended =
+    let e : ClientEnd = end_of old capacity asked from in
+    subst (λ (t : ClientTurn). Hears t e (Ok x) (end_of new room asked from)) (sym (turn_at c a old capacity asked from None is))
+    (record { end = same_end old new capacity room asked from stays same; told = nothing_told e x sent ended })
 
 -- its ticket has ended
-pub heard_closed : (c : Context) (a : Apdu) (old new : Slots) (w : Client) (capacity room asked number first : ℕ) (x : Turn)
+pub heard_closed : (c : Context) (a : Apdu) (old new : Slots) (w : Client) (capacity room asked from number first : ℕ) (x : Turn)
     → value_at code_same_key c.key old ≡ Some (record { number = number; held = Closed first }) → w ≡ record { number = number; held = Closed first }
     → new ≡ with_value code_same_key c.key w old → room ≡ capacity → x.sends.items ≡ [] → finishes_of x.ended ≡ []
-    → HearsTable (turn_of c a (end_of old capacity asked)) (end_of old capacity asked) (Ok x) (end_of new room asked)
-heard_closed c a old new w capacity room asked number first x is same set kept sent ended =
-    let e : ClientEnd = end_of old capacity asked in
-    subst (λ (t : ClientTurn). HearsTable t e (Ok x) (end_of new room asked)) (sym (turn_at c a old capacity asked _ is))
-    (same_end old new capacity room asked (put_back Client c.key _ w old new is same set) kept, nothing_told e x sent ended)
+    → Hears (turn_of c a (end_of old capacity asked from)) (end_of old capacity asked from) (Ok x) (end_of new room asked from)
+heard_closed c a old new w capacity room asked from number first x is same set kept sent ended =
+    let e : ClientEnd = end_of old capacity asked from in
+    subst (λ (t : ClientTurn). Hears t e (Ok x) (end_of new room asked from)) (sym (turn_at c a old capacity asked from _ is))
+    (record { end = same_end old new capacity room asked from (put_back Client c.key _ w old new is same set) kept; told = nothing_told e x sent ended })
 
 -- out of memory
-pub heard_unchanged : (key : PeerKey) (old new : Slots) (u w : Client) (capacity room asked : ℕ) → value_at code_same_key key old ≡ Some u
-    → w ≡ u → new ≡ with_value code_same_key key w old → room ≡ capacity → end_of new room asked ≡ end_of old capacity asked
-heard_unchanged key old new u w capacity room asked is same set kept = same_end old new capacity room asked (put_back Client key u w old new is same set) kept
+pub heard_unchanged : (key : PeerKey) (old new : Slots) (u w : Client) (capacity room asked from : ℕ) → value_at code_same_key key old ≡ Some u
+    → w ≡ u → new ≡ with_value code_same_key key w old → room ≡ capacity → end_of new room asked from ≡ end_of old capacity asked from
+heard_unchanged key old new u w capacity room asked from is same set kept = same_end old new capacity room asked from (put_back Client key u w old new is same set) kept
 
 -- its ticket goes on
-pub heard_open : (c : Context) (a : Apdu) (old new : Slots) (w : Client) (capacity room asked number : ℕ) (t : Ticket) (r : Reaction) (x : Turn)
+pub heard_open : (c : Context) (a : Apdu) (old new : Slots) (w : Client) (capacity room asked from number : ℕ) (t : Ticket) (r : Reaction) (x : Turn)
     → value_at code_same_key c.key old ≡ Some (record { number = number; held = Open t })
     → IsReaction c t (client_gets (context_view c) reads_reply t a) r
     → w ≡ record { number = number; held = held_view r.held } → new ≡ with_value code_same_key c.key w old → room ≡ capacity
     → x.sends.items ≡ r.sends.items → finishes_of x.ended ≡ finishes_with number (option_map ending_view r.ended)
-    → HearsTable (turn_of c a (end_of old capacity asked)) (end_of old capacity asked) (Ok x) (end_of new room asked)
-heard_open c a old new w capacity room asked number t r x is did same set kept sent ended =
-    let e : ClientEnd = end_of old capacity asked in
+    → Hears (turn_of c a (end_of old capacity asked from)) (end_of old capacity asked from) (Ok x) (end_of new room asked from)
+heard_open c a old new w capacity room asked from number t r x is did same set kept sent ended =
+    let e : ClientEnd = end_of old capacity asked from in
     let next : Client = client_after c.moment number t (client_gets (context_view c) reads_reply t a) in
     let value : w ≡ next = same ∙ ap (λ h. record { number = number; held = h }) did.held in
     let slots : new ≡ with_value code_same_key c.key next old = set ∙ ap (λ y. with_value code_same_key c.key y old) value in
     let viewed : slots_view new ≡ with_value same_key (peer_key_view c.key) next (slots_view old) =
     ap (λ l. slots_view l) slots ∙ with_value_viewed Client c.key next old in
-    let after : end_of new room asked ≡ record e { slots = with_value same_key (peer_key_view c.key) next (slots_view old) } =
-    ap (λ k. end_of new k asked) kept ∙ ap (λ l. record e { slots = l }) viewed in
-    subst (λ (t : ClientTurn). HearsTable t e (Ok x) (end_of new room asked)) (sym (turn_at c a old capacity asked _ is)) (
-      after,
-      record {
+    let after : end_of new room asked from ≡ record e { slots = with_value same_key (peer_key_view c.key) next (slots_view old) } =
+    ap (λ k. end_of new k asked from) kept ∙ ap (λ l. record e { slots = l }) viewed in
+    subst (λ (t : ClientTurn). Hears t e (Ok x) (end_of new room asked from)) (sym (turn_at c a old capacity asked from _ is)) (record {
+      end = after;
+      told = record {
         sends = subst (λ (l : List Datagram). Pairwise IsSent (to_all (peer_key_view c.key).peer (sends_of (client_gets (context_view c) reads_reply t a))) l)
             (sym sent) did.sends;
         finishes = subst (λ (l : List Finish). Pairwise IsFinish (ended_with number t.ask.choice (ending_of (client_gets (context_view c) reads_reply t a))) l)
             (sym ended) (finishes_are number t.ask.choice _ _ did.ended);
-      },
-    )
+      };
+    })
 
 -- the turn at the key that the APDU has for its peer
-pub heard : (s : Requester) (now : ℕ) (peer : PeerView) (a : Apdu) (key : keys.PeerKey) (result : Result Turn NoMemory) (new : ClientEnd) → key ≡ key_of peer a
-    → HearsTable (hears_key s.settings now key a s.end) s.end result new
-    → Hears (client_hears s.settings reads_reply now peer a s.end) s result (record s { end = new })
-heard s now peer a key result new is did =
-    go result (subst (λ (k : keys.PeerKey). HearsTable (hears_key s.settings now k a s.end) s.end result new) is did)
-  where
-    go : (result : Result Turn NoMemory) → HearsTable (hears_key s.settings now (key_of peer a) a s.end) s.end result new
-        → Hears (client_hears s.settings reads_reply now peer a s.end) s result (record s { end = new })
-    go (Ok x) did = record { end = ap (λ k. record s { end = k }) did.0; told = did.1 }
-    go (Err e) did = ap (λ k. record s { end = k }) did
+pub heard : (c : Settings) (now : ℕ) (peer : PeerView) (a : Apdu) (key : keys.PeerKey) (e : ClientEnd) (result : Result Turn NoMemory) (new : ClientEnd)
+    → key ≡ key_of peer a → Hears (hears_key c now key a e) e result new → Hears (client_hears c reads_reply now peer a e) e result new
+heard c now peer a key e result new is did = subst (λ (k : keys.PeerKey). Hears (hears_key c now k a e) e result new) is did

@@ -11,7 +11,7 @@ use Rattle.bac_ends.specs.Keys.{same_key}
 use Rattle.bac_ends.specs.Meanings as meanings
 use Rattle.bac_ends.specs.Meanings.{Finish, IsFinish}
 use Rattle.bac_ends.specs.Sends.{Datagram, IsSent, Pairwise}
-use Rattle.bac_requester.specs.Views.{Requester, finish_view, finishes_of}
+use Rattle.bac_requester.specs.Views.{finish_view, finishes_of}
 use Rattle.bac_requester.specs.declared.turn.Turn.{Turn}
 use Rattle.bac_requester.specs.declared.turn.Due.{Due}
 use Rattle.bac_requester.specs.declared.asking.Asked.{Asked}
@@ -26,13 +26,13 @@ pub record IsTold (turn : ClientTurn) (sent : List Datagram) (ended : List Finis
   pub finishes : Pairwise IsFinish turn.ended ended
 
 -- the turn was done
-pub record IsDone (turn : ClientTurn) (old new : Requester) (x : Turn) : Type 0 where
-  pub end : new ≡ record old { end = turn.end }
+pub record IsDone (turn : ClientTurn) (new : ClientEnd) (x : Turn) : Type 0 where
+  pub end : new ≡ turn.end
   pub told : IsTold turn x.sends.items (finishes_of x.ended)
 
 -- or there was no memory, and nothing has changed
-abbrev pub Hears : ClientTurn → Requester → Result Turn NoMemory → Requester → Type 0
-Hears turn old (Ok x) new = IsDone turn old new x
+abbrev pub Hears : ClientTurn → (old : ClientEnd) → Result Turn NoMemory → (new : ClientEnd) → Type 0
+Hears turn old (Ok x) new = IsDone turn new x
 Hears turn old (Err e) new = new ≡ old
 
 -- what a tick sends and ends
@@ -42,15 +42,15 @@ IsDue turn x = IsTold turn x.sends.items (map finish_view x.ended.items)
 -- An ask.
 
 -- an ask was accepted
-pub record IsAccepted (a : Accepted) (old new : Requester) (x : Asked) : Type 0 where
-  pub end : new ≡ record old { end = a.end }
+pub record IsAccepted (a : Accepted) (new : ClientEnd) (x : Asked) : Type 0 where
+  pub end : new ≡ a.end
   pub ticket : x.ticket ≡ a.ticket
   pub invoke_id : x.invoke_id ≡ a.invoke_id
   pub sends : Pairwise IsSent a.sends x.sends.items
 
-abbrev pub Accepts : AskOutcome → Requester → Requester → Asked → Type 0
-Accepts (AskOutcome.Refused why) old new x = ⊥
-Accepts (AskOutcome.Asked a) old new x = IsAccepted a old new x
+abbrev pub Accepts : AskOutcome → (new : ClientEnd) → Asked → Type 0
+Accepts (AskOutcome.Refused why) new x = ⊥
+Accepts (AskOutcome.Asked a) new x = IsAccepted a new x
 
 -- an ask with that outcome would be accepted
 abbrev pub MayBegin : AskOutcome → Type 0
@@ -68,8 +68,8 @@ Refuses fault.NoSlot outcome = outcome ≡ AskOutcome.Refused AskRefusal.NoSlot
 Refuses fault.NoMemory outcome = MayBegin outcome
 
 -- what an ask of another link answers; after a fault nothing has changed
-abbrev pub Asks : AskOutcome → Requester → Result Asked AskFault → Requester → Type 0
-Asks outcome old (Ok x) new = Accepts outcome old new x
+abbrev pub Asks : AskOutcome → (old : ClientEnd) → Result Asked AskFault → (new : ClientEnd) → Type 0
+Asks outcome old (Ok x) new = Accepts outcome new x
 Asks outcome old (Err e) new = Refuses e outcome × (new ≡ old)
 
 -- Steps.
@@ -86,16 +86,3 @@ pub record IsSlotTold (c : Settings) (now : ℕ) (s : ClientSlot) (sent : List D
 -- an APDU comes for a key
 abbrev pub hears_key : Settings → (now : ℕ) → keys.PeerKey → Apdu → ClientEnd → ClientTurn
 hears_key c now key a e = client_hears_at c reads_reply now a e key (value_at same_key key e.slots)
-
-abbrev pub HearsTable : ClientTurn → (old : ClientEnd) → Result Turn NoMemory → (new : ClientEnd) → Type 0
-HearsTable turn old (Ok x) new = (new ≡ turn.end) × IsTold turn x.sends.items (finishes_of x.ended)
-HearsTable turn old (Err e) new = new ≡ old
-
--- the ask of a table
-abbrev pub AcceptsTable : AskOutcome → (new : ClientEnd) → Asked → Type 0
-AcceptsTable (AskOutcome.Refused why) new x = ⊥
-AcceptsTable (AskOutcome.Asked a) new x = (new ≡ a.end) × (x.ticket ≡ a.ticket) × (x.invoke_id ≡ a.invoke_id) × Pairwise IsSent a.sends x.sends.items
-
-abbrev pub AsksTable : AskOutcome → (old : ClientEnd) → Result Asked AskFault → (new : ClientEnd) → Type 0
-AsksTable outcome old (Ok x) new = AcceptsTable outcome new x
-AsksTable outcome old (Err e) new = Refuses e outcome × (new ≡ old)

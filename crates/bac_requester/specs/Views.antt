@@ -1,7 +1,6 @@
 -- What contracts see of the types in code.
 use Rattle.std.specs.Prelude.{ℕ, List, [], ◌∷◌, Option, Some, None}
 use Rattle.bac_slots.specs.declared.slot.Slot.{Slot}
-use Rattle.bac_protocol.specs.Context.{Settings}
 use Rattle.bac_ends.specs.Ends.{Client, ClientEnd}
 use Rattle.bac_ends.specs.Meanings as meanings
 use Rattle.bac_ends.specs.Views.{slots_view}
@@ -9,15 +8,9 @@ use Rattle.bac_ends.specs.declared.peer_key.PeerKey.{PeerKey}
 use Rattle.bac_ticket.specs.Views.{ending_view}
 use Rattle.bac_requester.specs.declared.turn.Finish.{Finish}
 
--- a client's end with its node's link and settings
-pub record Requester : Type 0 where
-  pub link : List ℕ
-  pub settings : Settings
-  pub end : ClientEnd
-
 -- the end whose table has these slots
-abbrev pub end_of : List (Slot PeerKey Client) → (capacity asked : ℕ) → ClientEnd
-end_of slots capacity asked = record { slots = slots_view slots; capacity = capacity; asked = asked }
+abbrev pub end_of : List (Slot PeerKey Client) → (capacity asked asks_from : ℕ) → ClientEnd
+end_of slots capacity asked asks_from = record { slots = slots_view slots; capacity = capacity; asked = asked; asks_from = asks_from }
 
 abbrev pub finish_view : Finish → meanings.Finish
 finish_view f = record { ticket = f.ticket; how = ending_view f.how }

@@ -2,22 +2,31 @@
 ghost use Rattle.std.specs.Prelude.{◌≡◌};
 ghost use Rattle.bac_requester.specs.Faults.{ask_fault_number};
 
+use thiserror::Error;
+
 /// Why an ask was refused: the first of these that holds. `number` is the number by which it is printed.
-#[derive(Clone, Copy, Debug, PartialEq, Eq)]
+#[derive(Clone, Copy, Debug, PartialEq, Eq, Error)]
 pub enum AskFault {
     /// The moment is less than the latest that the node was told. It is a node that answers this, never `Requester::ask`.
+    #[error("the clock went back")]
     ClockBack = 6,
-    /// The peer's link is the node's own.
+    /// The peer's link is the node's own. It is a node that answers this, never `Requester::ask`.
+    #[error("the peer is at the node's own link")]
     SelfPeer = 5,
     /// The service data have more than 65,535 octets.
+    #[error("the request has too many octets")]
     TooLong = 4,
     /// The request does not fit one APDU, and the peer takes no segments or fewer than are needed (clause 5.2).
+    #[error("the request needs more segments than the peer takes")]
     NeedsSegments = 3,
-    /// All 256 invoke IDs are held for that peer.
+    /// All 256 invoke IDs are held for that peer, or the node restarted no more than 75,000 milliseconds ago.
+    #[error("no invoke ID is free for the peer")]
     NoInvokeId = 2,
     /// All slots are held, or 2^64 - 1 asks were accepted.
+    #[error("no slot is free")]
     NoSlot = 1,
     /// Memory was refused.
+    #[error("no memory")]
     NoMemory = 7,
 }
 

@@ -1,7 +1,8 @@
 //! An ask.
-ghost use Rattle.std.specs.Prelude.{◌≡◌, ℕ, ◌+◌, ◌-◌, ◌<◌, ◌&&◌, ◌||◌, IfOk, Some, None, length, nat_le, nat_lt, not};
+ghost use Rattle.std.specs.Prelude.{◌≡◌, ℕ, ◌+◌, ◌-◌, ◌<◌, ◌&&◌, ◌||◌, IfOk, Some, None, false, length, nat_le, nat_lt, not};
 ghost use Rattle.bac_npdu.specs.Views.{peer_view};
 ghost use Rattle.bac_slots.specs.Slots.{rank};
+ghost use Rattle.bac_aged.specs.Ages.{IsKnownBy};
 ghost use Rattle.bac_ends.specs.Ends.{asks_for, has_no_slot, is_held, is_id_held, least_not};
 ghost use Rattle.bac_ends.specs.Views.{code_key_cmp, code_same_key, settings_view, slots_view};
 ghost use Rattle.bac_service.specs.Spellings.{request_spelling};
@@ -11,7 +12,7 @@ ghost use Rattle.bac_ticket.specs.Fits.{IsWayFor};
 ghost use Rattle.bac_ticket.specs.Reacts.{IsBegun};
 ghost use Rattle.bac_ticket.specs.Requests.{ask_at, request_by};
 ghost use Rattle.bac_requester.specs.Aging.{AreAged};
-ghost use Rattle.bac_requester.specs.Turns.{AsksTable};
+ghost use Rattle.bac_requester.specs.Turns.{Asks};
 ghost use Rattle.bac_requester.specs.Views.{end_of};
 
 use crate::ask_fault::AskFault;
@@ -96,7 +97,7 @@ fn has_no_slot<S: SlotTable<PeerKey, Client>>(
     now: u64,
 ) -> bool
     requires { AreAged aged.now.ages (S.slots aged.now.table) }
-    ensures { result ≡ has_no_slot now (end_of (S.slots aged.now.table) (S.capacity aged.now.table) asked) }
+    ensures { (asks_from : ℕ) → result ≡ has_no_slot now (end_of (S.slots aged.now.table) (S.capacity aged.now.table) asked asks_from) }
 {
     !has_room(aged, now) || asked == u64::MAX
 }
@@ -131,7 +132,7 @@ fn begin(
     Ticket::begin(alloc, context, outgoing)
 }
 
-/// A request that can go that way is asked. Memory is taken once an invoke ID and a slot are found.
+/// A request that can go that way is asked, by an end that does not wait. Memory is taken once an invoke ID and a slot are found.
 pub(crate) fn ask<S: SlotTable<PeerKey, Client>>(
     alloc: Global,
     settings: &Settings,
@@ -144,11 +145,12 @@ pub(crate) fn ask<S: SlotTable<PeerKey, Client>>(
 ) -> Result<Asked, AskFault>
     requires aged { AreAged aged.old.ages (S.slots aged.old.table) }
     requires way { IsWayFor way (length (request_spelling (request_view request))) }
-    ensures asks { AsksTable (asks_for (settings_view settings.now) now (peer_view peer.now)
+    ensures asks { (asks_from : ℕ) → nat_lt now asks_from ≡ false → Asks (asks_for (settings_view settings.now) now (peer_view peer.now)
         (ask_at now (request_by (choice_of (request_view request.entry)) (request_spelling (request_view request.entry)) way))
-        (end_of (S.slots aged.old.table) (S.capacity aged.old.table) asked.old)) (end_of (S.slots aged.old.table) (S.capacity aged.old.table) asked.old) result
-        (end_of (S.slots aged.new.table) (S.capacity aged.new.table) asked.new) }
+        (end_of (S.slots aged.old.table) (S.capacity aged.old.table) asked.old asks_from)) (end_of (S.slots aged.old.table) (S.capacity aged.old.table) asked.old asks_from) result
+        (end_of (S.slots aged.new.table) (S.capacity aged.new.table) asked.new asks_from) }
     ensures aged { AreAged aged.new.ages (S.slots aged.new.table) }
+    ensures known { IsKnownBy now aged.old.ages.latest → IsKnownBy now aged.new.ages.latest }
 {
     let Some(invoke_id) = least_id(&aged.table, peer, now) else {
         return Err(AskFault::NoInvokeId);

@@ -5,7 +5,7 @@ ghost use Rattle.bac_ticket.specs.Views.{ending_view};
 ghost use Rattle.bac_apdu.specs.Views.{apdu_view};
 ghost use Rattle.bac_ends.specs.Views.{peer_key_view, settings_view};
 ghost use Rattle.bac_requester.specs.Aging.{AreAged};
-ghost use Rattle.bac_requester.specs.Turns.{HearsTable, finishes_with, hears_key};
+ghost use Rattle.bac_requester.specs.Turns.{Hears, finishes_with, hears_key};
 ghost use Rattle.bac_requester.specs.Views.{end_of, finishes_of};
 
 use crate::client::{Client, ClientRules};
@@ -55,10 +55,11 @@ pub(crate) fn hears<S: SlotTable<PeerKey, Client>>(
     apdu: &Apdu<'_>,
 ) -> Result<Turn, NoMemory>
     requires aged { AreAged aged.old.ages (S.slots aged.old.table) }
-    ensures turn { (asked : ℕ) → HearsTable (hears_key (settings_view context.now.settings) context.now.moment (peer_key_view context.now.key)
-        (apdu_view apdu.now) (end_of (S.slots aged.old.table) (S.capacity aged.old.table) asked)) (end_of (S.slots aged.old.table)
-        (S.capacity aged.old.table) asked) result (end_of (S.slots aged.new.table) (S.capacity aged.new.table) asked) }
+    ensures turn { (asked asks_from : ℕ) → Hears (hears_key (settings_view context.now.settings) context.now.moment (peer_key_view context.now.key)
+        (apdu_view apdu.now) (end_of (S.slots aged.old.table) (S.capacity aged.old.table) asked asks_from)) (end_of (S.slots aged.old.table)
+        (S.capacity aged.old.table) asked asks_from) result (end_of (S.slots aged.new.table) (S.capacity aged.new.table) asked asks_from) }
     ensures aged { AreAged aged.new.ages (S.slots aged.new.table) }
+    ensures known { aged.new.ages.latest ≡ aged.old.ages.latest }
 {
     let from = aged.ages.from;
     let Some(slot) = aged.table.get_mut(&context.key) else {

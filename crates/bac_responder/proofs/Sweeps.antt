@@ -8,6 +8,7 @@ use Rattle.bac_protocol.specs.Server.{Entry, is_live, is_none_live}
 use Rattle.bac_ends.specs.Ends.{is_free, is_slot_live, set_or_put}
 use Rattle.bac_ends.specs.Views.{peer_key_view, slots_view, code_same_key}
 use Rattle.bac_ends.specs.declared.peer_key.PeerKey.{PeerKey as CodeKey}
+use Rattle.bac_ends.proofs.ServerTables.{has_space}
 use Rattle.bac_ends.proofs.Keyed.{put_viewed, filter_viewed, with_value_viewed}
 use Rattle.bac_aged.proofs.Viewed.{count_viewed}
 use Rattle.bac_responder.specs.Views.{end_of}
@@ -31,9 +32,11 @@ keep_none now (Some d) e = go (is_live now d) e
     go false e = refl
 
 -- where a slot is free in the end, one has no live entry in the table
-pub room : (now capacity : ℕ) (slots : Slots) → is_free now (end_of slots capacity) ≡ true → count_by (λ s. is_live now s.value) slots < capacity
-room now capacity slots free =
-    let lt : count_by (is_slot_live now) (slots_view slots) < capacity = grind (arith, nat_tests) in
+pub room : (now capacity : ℕ) (restart : Option ℕ) (slots : Slots) → is_free now (end_of slots capacity restart) ≡ true
+    → count_by (λ s. is_live now s.value) slots < capacity
+room now capacity restart slots free =
+    let space : nat_lt (count_by (is_slot_live now) (slots_view slots)) capacity ≡ true = has_space now (end_of slots capacity restart) free in
+    let lt : count_by (is_slot_live now) (slots_view slots) < capacity = grind (arith, nat_tests, space) in
     let same : count_by (is_slot_live now) (slots_view slots) ≡ count_by (λ s. is_live now s.value) slots = count_viewed Entry (is_live now) slots in
     omega (arith, lt, same)
 
@@ -51,5 +54,5 @@ pub set_there : (now : ℕ) (key : CodeKey) (d : Entry) (old new : Slots) → ne
     → slots_view new ≡ set_or_put now (peer_key_view key) d (slots_view old) false
 set_there now key d old new set = ap slots_view set ∙ with_value_viewed Entry key d old
 
-pub same_end : (a b : Slots) (m n : ℕ) → a ≡ b → m ≡ n → end_of a m ≡ end_of b n
-same_end a b m n e f = ap (λ (k : ℕ). end_of a k) f ∙ ap (λ (l : Slots). end_of l n) e
+pub same_end : (a b : Slots) (m n : ℕ) (restart : Option ℕ) → a ≡ b → m ≡ n → end_of a m restart ≡ end_of b n restart
+same_end a b m n restart e f = ap (λ (k : ℕ). end_of a k restart) f ∙ ap (λ (l : Slots). end_of l n restart) e

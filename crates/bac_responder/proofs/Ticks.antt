@@ -1,10 +1,11 @@
 -- A tick of the server's end: the slots after it, and what is sent before anything is due.
-use Rattle.std.proofs.Common.{◌≡◌, ℕ, ◌<◌, ◌≤◌, List, [], ◌∷◌, map, refl, ap, ◌∙◌}
+use Rattle.std.proofs.Common.{◌≡◌, ℕ, ◌<◌, ◌≤◌, Option, List, [], ◌∷◌, map, refl, ap, ◌∙◌}
 use Rattle.bac_slots.specs.declared.slot.Slot.{Slot}
 use Rattle.bac_slots.proofs.Ages.{each_more}
 use Rattle.bac_ends.specs.declared.settings.Settings.{Settings}
+use Rattle.bac_protocol.specs.declared.times.TheConstants.{KEEP}
 use Rattle.bac_protocol.specs.Server.{Entry}
-use Rattle.bac_ends.specs.Ends.{ServerSlot, context_of, server_tick_sends, server_ticked, servers_tick}
+use Rattle.bac_ends.specs.Ends.{ServerEnd, ServerSlot, first_after, context_of, server_tick_sends, server_ticked, servers_tick}
 use Rattle.bac_ends.specs.Sends.{Datagram, IsSent, Pairwise, to_all}
 use Rattle.bac_ends.specs.Views.{peer_key_view, settings_view, slot_view, slots_view}
 use Rattle.bac_ends.specs.declared.peer_key.PeerKey.{PeerKey}
@@ -12,7 +13,6 @@ use Rattle.bac_aged.specs.Ages.{AreQuiet, changed, ticked_in}
 use Rattle.bac_aged.proofs.Telling.{told_none}
 use Rattle.bac_entry.specs.Timers.{IsQuiet}
 use Rattle.bac_responder.specs.Aging.{entry_ticked}
-use Rattle.bac_responder.specs.Turns.{Serving}
 use Rattle.bac_responder.specs.Views.{end_of}
 use Rattle.bac_responder.proofs.Timers.{stays}
 
@@ -24,17 +24,16 @@ ticked_viewed : (c : Settings) (now : ℕ) (slots : Slots)
 ticked_viewed c now [] = refl
 ticked_viewed c now (s ∷ slots) = ap (λ l. server_ticked (settings_view c) now (slot_view s) ∷ l) (ticked_viewed c now slots)
 
-pub committed : (c : Settings) (now : ℕ) (old new : Slots) (capacity room : ℕ) → new ≡ map (changed (ticked_in entry_ticked c now)) old → room ≡ capacity
-    → (let r : Serving = record { settings = settings_view c; end = end_of new room } in r)
-    ≡ record { settings = settings_view c; end = record { slots = map (server_ticked (settings_view c) now) (slots_view old); capacity = capacity } }
-committed c now old new capacity room e f =
-    let with_slots : List ServerSlot → ℕ → Serving = λ l k. record { settings = settings_view c; end = record { slots = l; capacity = k } } in
+pub committed : (c : Settings) (now : ℕ) (old new : Slots) (capacity room : ℕ) (restart : Option ℕ) → new ≡ map (changed (ticked_in entry_ticked c now)) old → room ≡ capacity
+    → end_of new room restart ≡ (servers_tick (settings_view c) now (end_of old capacity restart)).end
+committed c now old new capacity room restart e f =
+    let with_slots : List ServerSlot → ℕ → ServerEnd = λ l k. record { slots = l; capacity = k; serves_from = first_after KEEP restart } in
     ap (λ l. with_slots (slots_view l) room) e ∙ ap (λ l. with_slots l room) (ticked_viewed c now old)
     ∙ ap (λ k. with_slots (map (server_ticked (settings_view c) now) (slots_view old)) k) f
 
-pub nothing_due : (c : Settings) (now from due : ℕ) (started : from ≤ now) (before : now < due) (slots : Slots) (capacity : ℕ) (sent : List Datagram)
-    → AreQuiet IsQuiet from due slots → sent ≡ [] → Pairwise IsSent (servers_tick (settings_view c) now (end_of slots capacity)).sends sent
-nothing_due c now from due started before slots capacity sent q no_sent =
+pub nothing_due : (c : Settings) (now from due : ℕ) (started : from ≤ now) (before : now < due) (slots : Slots) (capacity : ℕ) (restart : Option ℕ) (sent : List Datagram)
+    → AreQuiet IsQuiet from due slots → sent ≡ [] → Pairwise IsSent (servers_tick (settings_view c) now (end_of slots capacity restart)).sends sent
+nothing_due c now from due started before slots capacity restart sent q no_sent =
     told_none Entry IsSent (server_tick_sends (settings_view c) now) slots sent
     (each_more (λ s. IsQuiet from due s.value) (λ s. server_tick_sends (settings_view c) now (slot_view s) ≡ []) slots
     (λ s h. ap (λ r. to_all (peer_key_view s.key).peer r.sends) (stays (context_of (settings_view c) now (peer_key_view s.key)) from due started before s.value h)) q) no_sent

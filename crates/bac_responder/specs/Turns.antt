@@ -1,16 +1,10 @@
 -- What an event makes of the server's end, in code.
 use Rattle.std.specs.Prelude.{◌≡◌, List, Option, Some, None}
 use Rattle.bac_store.specs.Stores.{Store}
-use Rattle.bac_protocol.specs.Context.{Settings}
 use Rattle.bac_ends.specs.Keys.{PeerKey}
 use Rattle.bac_ends.specs.Sends.{Datagram, Pairwise, IsSent}
 use Rattle.bac_ends.specs.Ends.{Act, ServerEnd, ServerTurn}
 use Rattle.bac_entry.specs.Services.{Performed, IsPerformed, store_after}
-
--- the server's end with its node's settings
-pub record Serving : Type 0 where
-  pub settings : Settings
-  pub end : ServerEnd
 
 -- a request was performed, for that transaction
 pub record Acted : Type 0 where

@@ -10,7 +10,8 @@ use Rattle.bac_ends.specs.Keys.{same_key}
 use Rattle.bac_store.specs.Stores.{Store}
 use Rattle.bac_protocol.specs.Server.{Entry, server_gets}
 use Rattle.bac_value.specs.declared.memory.NoMemory.{NoMemory}
-use Rattle.bac_ends.specs.Ends.{ServerEnd, ServerTurn, is_free, server_goes}
+use Rattle.bac_protocol.specs.declared.times.TheConstants.{KEEP}
+use Rattle.bac_ends.specs.Ends.{ServerEnd, ServerTurn, first_after, is_free, server_goes}
 use Rattle.bac_ends.specs.Views.{peer_key_view, slots_view}
 use Rattle.bac_ends.specs.declared.peer_key.PeerKey.{PeerKey}
 use Rattle.bac_ends.specs.Views.{context_view}
@@ -26,8 +27,8 @@ abbrev pub acted_view : Option Act → Option Acted
 acted_view a = option_map act_view a
 
 -- a table as an end
-abbrev pub end_of : (slots : List (Slot PeerKey Entry)) → (capacity : ℕ) → ServerEnd
-end_of slots capacity = record { slots = slots_view slots; capacity = capacity }
+abbrev pub end_of : (slots : List (Slot PeerKey Entry)) → (capacity : ℕ) → (restart : Option ℕ) → ServerEnd
+end_of slots capacity restart = record { slots = slots_view slots; capacity = capacity; serves_from = first_after KEEP restart }
 
 -- the turn that an APDU for the context's transaction makes of an end, with a store as the service
 abbrev pub turn_of : code.Context → Store → Apdu → ServerEnd → ServerTurn

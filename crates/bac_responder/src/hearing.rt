@@ -3,6 +3,7 @@ ghost use Rattle.std.specs.Prelude.{◌≡◌, ◌&&◌, true};
 ghost use Rattle.bac_apdu.specs.Views.{apdu_view};
 ghost use Rattle.bac_slots.specs.Slots.{value_at};
 ghost use Rattle.bac_protocol.specs.Server.{is_none_live};
+ghost use Rattle.bac_aged.specs.Ages.{IsKnownBy};
 ghost use Rattle.bac_ends.specs.Ends.{is_free};
 ghost use Rattle.bac_ends.specs.Views.{code_same_key, peer_key_view};
 ghost use Rattle.bac_entry.specs.Views.{performed_view};
@@ -14,8 +15,9 @@ use crate::aging::ServerRules;
 use crate::served::{Act, Served};
 use bac_aged::{AgedTable, enter, has_room};
 use bac_apdu::Apdu;
-use bac_ends::{Context, Datagram, PeerKey};
+use bac_ends::{Context, Datagram, PeerKey, is_waiting};
 use bac_entry::{Effect, Entry, IdleReaction, Reaction, idle_gets, live_gets};
+use bac_protocol::times::KEEP;
 use bac_slots::SlotTable;
 use bac_store::Store;
 use bac_value::NoMemory;
@@ -49,16 +51,17 @@ fn begins_request(apdu: &Apdu<'_>) -> bool
     }
 }
 
-/// Whether an APDU begins a request and a slot has no live entry. For any other APDU no entry is looked at.
+/// Whether an APDU begins a request, a slot has no live entry, and the end does not wait after a restart. For any other APDU no entry is looked at.
 fn has_place<S: SlotTable<PeerKey, Entry>>(
     aged: &AgedTable<ServerRules, S>,
+    restart: Option<u64>,
     moment: u64,
     apdu: &Apdu<'_>,
 ) -> bool
     requires { AreAged aged.now.ages (S.slots aged.now.table) }
-    ensures { result ≡ (begins_request (apdu_view apdu.now) && is_free moment (end_of (S.slots aged.now.table) (S.capacity aged.now.table))) }
+    ensures { result ≡ (begins_request (apdu_view apdu.now) && is_free moment (end_of (S.slots aged.now.table) (S.capacity aged.now.table) restart)) }
 {
-    begins_request(apdu) && has_room(aged, moment)
+    begins_request(apdu) && has_room(aged, moment) && !is_waiting(restart, KEEP, moment)
 }
 
 /// No entry of the context's key is live. Whether a slot is free is asked where the APDU begins a request.
@@ -66,16 +69,18 @@ fn idle_hears<S: SlotTable<PeerKey, Entry>>(
     alloc: Global,
     context: &Context,
     aged: &mut AgedTable<ServerRules, S>,
+    restart: Option<u64>,
     apdu: &Apdu<'_>,
     store: &mut Store,
 ) -> Result<Served, NoMemory>
     requires dead { is_none_live context.now.moment (value_at code_same_key context.now.key (S.slots aged.old.table)) ≡ true }
     requires aged { AreAged aged.old.ages (S.slots aged.old.table) }
-    ensures turn { Serves (turn_of context.now store.old (apdu_view apdu.now) (end_of (S.slots aged.old.table) (S.capacity aged.old.table)))
-        (end_of (S.slots aged.old.table) (S.capacity aged.old.table)) store.old result (end_of (S.slots aged.new.table) (S.capacity aged.new.table)) store.new }
+    ensures turn { Serves (turn_of context.now store.old (apdu_view apdu.now) (end_of (S.slots aged.old.table) (S.capacity aged.old.table) restart))
+        (end_of (S.slots aged.old.table) (S.capacity aged.old.table) restart) store.old result (end_of (S.slots aged.new.table) (S.capacity aged.new.table) restart) store.new }
     ensures aged { AreAged aged.new.ages (S.slots aged.new.table) }
+    ensures known { IsKnownBy context.now.moment aged.old.ages.latest → IsKnownBy context.now.moment aged.new.ages.latest }
 {
-    let free = has_place(aged, context.moment, apdu);
+    let free = has_place(aged, restart, context.moment, apdu);
     match idle_gets(alloc, context, free, apdu, store)? {
         IdleReaction::Stays(sends) => Ok(Served { sends, act: None }),
         IdleReaction::Begins(reaction) => {
@@ -95,20 +100,22 @@ pub(crate) fn hears<S: SlotTable<PeerKey, Entry>>(
     alloc: Global,
     context: &Context,
     aged: &mut AgedTable<ServerRules, S>,
+    restart: Option<u64>,
     apdu: &Apdu<'_>,
     store: &mut Store,
 ) -> Result<Served, NoMemory>
     requires aged { AreAged aged.old.ages (S.slots aged.old.table) }
-    ensures turn { Serves (turn_of context.now store.old (apdu_view apdu.now) (end_of (S.slots aged.old.table) (S.capacity aged.old.table)))
-        (end_of (S.slots aged.old.table) (S.capacity aged.old.table)) store.old result (end_of (S.slots aged.new.table) (S.capacity aged.new.table)) store.new }
+    ensures turn { Serves (turn_of context.now store.old (apdu_view apdu.now) (end_of (S.slots aged.old.table) (S.capacity aged.old.table) restart))
+        (end_of (S.slots aged.old.table) (S.capacity aged.old.table) restart) store.old result (end_of (S.slots aged.new.table) (S.capacity aged.new.table) restart) store.new }
     ensures aged { AreAged aged.new.ages (S.slots aged.new.table) }
+    ensures known { IsKnownBy context.now.moment aged.old.ages.latest → IsKnownBy context.now.moment aged.new.ages.latest }
 {
     let from = aged.ages.from;
     let Some(slot) = aged.table.get_mut(&context.key) else {
-        return idle_hears(alloc, context, aged, apdu, store);
+        return idle_hears(alloc, context, aged, restart, apdu, store);
     };
     if !slot.is_live(context.moment) {
-        return idle_hears(alloc, context, aged, apdu, store);
+        return idle_hears(alloc, context, aged, restart, apdu, store);
     }
     let entry = std::mem::replace(slot, Entry::placeholder());
     match live_gets(alloc, context, entry, apdu, store) {

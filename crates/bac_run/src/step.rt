@@ -6,6 +6,7 @@ ghost use Rattle.bac_run.specs.Views.{step_view};
 
 use bac_ends::Datagram;
 use bac_node::{Node, NodeFault, Outcome};
+use bac_npdu::LinkAddress;
 use bac_requester::Finish;
 use bac_responder::Act;
 use std::alloc::Global;
@@ -49,7 +50,7 @@ impl Step {
 }
 
 /// The node hears a datagram, at a moment that is not before its latest one.
-fn hear(alloc: Global, node: &mut Node, now: u64, from: [u8; 6], octets: &[u8]) -> Step
+fn hear(alloc: Global, node: &mut Node, now: u64, from: LinkAddress, octets: &[u8]) -> Step
     requires { node.old.latest ≤ now }
     ensures heard { HearsOne now from octets.now node.old node.new (step_view result) }
     ensures most { result.skipped ≤ 1 }
@@ -66,7 +67,7 @@ pub(crate) fn hear_received(
     alloc: Global,
     node: &mut Node,
     now: u64,
-    received: Option<([u8; 6], usize)>,
+    received: Option<(LinkAddress, usize)>,
     buffer: &[u8],
 ) -> Step
     requires within { IfSome received (λ d. d.1 ≤ length buffer.now) }

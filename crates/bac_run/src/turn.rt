@@ -1,4 +1,5 @@
 //! What a turn gave.
+use bac_npdu::LinkAddress;
 use bac_requester::Finish;
 use bac_responder::Act;
 
@@ -6,7 +7,7 @@ use bac_responder::Act;
 #[derive(Drop)]
 pub struct Turn {
     /// The sender of the datagram that came, and how many octets it has: they are the first of the station's buffer. None where no datagram came.
-    pub received: Option<([u8; 6], usize)>,
+    pub received: Option<(LinkAddress, usize)>,
     /// How many sends failed, at most 2^64 - 1.
     pub lost: u64,
     /// How many steps of the node found no memory: 0 to 2. They changed nothing.

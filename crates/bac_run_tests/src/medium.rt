@@ -1,6 +1,7 @@
 //! What carries datagrams between links in memory.
 ghost use Rattle.std.specs.Prelude.{◌≤◌, length, IfSome};
 
+use bac_npdu::LinkAddress;
 use std::alloc::Global;
 
 /// Which call to send fails, and which to receive, counted from 1 over all links; 0 is none.
@@ -40,8 +41,8 @@ impl Failing {
 /// A datagram under way.
 #[derive(Drop)]
 pub(crate) struct Mail {
-    pub(crate) from: [u8; 6],
-    pub(crate) to: [u8; 6],
+    pub(crate) from: LinkAddress,
+    pub(crate) to: LinkAddress,
     pub(crate) octets: Vec<u8>,
 }
 
@@ -76,7 +77,7 @@ impl Medium {
     }
 
     /// Takes a datagram over; None where the call fails.
-    pub(crate) fn send(&mut self, from: [u8; 6], to: [u8; 6], octets: &[u8]) -> Option<()> {
+    pub(crate) fn send(&mut self, from: LinkAddress, to: LinkAddress, octets: &[u8]) -> Option<()> {
         self.sends = self.sends.saturating_add(1);
         if self.failing.send == self.sends {
             return None;
@@ -103,7 +104,11 @@ impl Medium {
     }
 
     /// Hands over the oldest datagram for a link.
-    pub(crate) fn receive(&mut self, link: [u8; 6], buffer: &mut [u8]) -> Option<([u8; 6], usize)>
+    pub(crate) fn receive(
+        &mut self,
+        link: LinkAddress,
+        buffer: &mut [u8],
+    ) -> Option<(LinkAddress, usize)>
         ensures { IfSome result (λ d. d.1 ≤ length buffer.new) }
     {
         let place = self.mail.iter().position(|mail| mail.to == link)?;

@@ -4,6 +4,7 @@ ghost use Rattle.bac_link.specs.Calls.{one_more};
 
 use crate::medium::Medium;
 use bac_link::{Clock, Link, LinkFault};
+use bac_npdu::LinkAddress;
 use std::alloc::Global;
 use std::cell::{Cell, RefCell};
 use std::test::Fail;
@@ -13,7 +14,7 @@ use std::test::Fail;
 pub(crate) struct MemoryLink<'a> {
     medium: &'a RefCell<Medium>,
     moment: &'a Cell<u64>,
-    link: [u8; 6],
+    link: LinkAddress,
     failures: u64,
 }
 
@@ -21,7 +22,7 @@ impl<'a> MemoryLink<'a> {
     pub(crate) fn new(
         medium: &'a RefCell<Medium>,
         moment: &'a Cell<u64>,
-        link: [u8; 6],
+        link: LinkAddress,
     ) -> MemoryLink<'a>
         ensures { result.failures ≡ 0 }
     {
@@ -37,7 +38,7 @@ impl<'a> MemoryLink<'a> {
     pub(crate) fn send_hex(
         &mut self,
         alloc: Global,
-        to: [u8; 6],
+        to: LinkAddress,
         octets: &str,
     ) -> Result<(), Fail> {
         let octets = hex::decode(alloc, octets)?;
@@ -62,14 +63,14 @@ impl<'a> MemoryLink<'a> {
         LinkFault
     }
 
-    fn hand_over(&self, to: [u8; 6], octets: &[u8]) -> Option<()> {
+    fn hand_over(&self, to: LinkAddress, octets: &[u8]) -> Option<()> {
         match self.medium.try_borrow_mut() {
             Ok(mut medium) => medium.send(self.link, to, octets),
             Err(_) => None,
         }
     }
 
-    fn take(&self, buffer: &mut [u8]) -> Result<Option<([u8; 6], usize)>, LinkFault>
+    fn take(&self, buffer: &mut [u8]) -> Result<Option<(LinkAddress, usize)>, LinkFault>
         ensures { IfOk result (λ r. IfSome r (λ d. d.1 ≤ length buffer.new)) }
     {
         let Ok(mut medium) = self.medium.try_borrow_mut() else {
@@ -82,7 +83,7 @@ impl<'a> MemoryLink<'a> {
     }
 
     /// Time passes where nothing came.
-    fn wait(&self, received: &Option<([u8; 6], usize)>) {
+    fn wait(&self, received: &Option<(LinkAddress, usize)>) {
         if received.is_none() {
             self.moment.set(self.moment.get().saturating_add(100));
         }
@@ -98,7 +99,7 @@ impl Link for MemoryLink<'_> {
         self.failures
     }
 
-    fn send(&mut self, to: [u8; 6], octets: &[u8]) -> Result<(), LinkFault> {
+    fn send(&mut self, to: LinkAddress, octets: &[u8]) -> Result<(), LinkFault> {
         match self.hand_over(to, octets) {
             Some(()) => Ok(()),
             None => Err(self.failed()),
@@ -109,7 +110,7 @@ impl Link for MemoryLink<'_> {
         &mut self,
         buffer: &mut [u8],
         _wait: u64,
-    ) -> Result<Option<([u8; 6], usize)>, LinkFault> {
+    ) -> Result<Option<(LinkAddress, usize)>, LinkFault> {
         match self.take(buffer) {
             Ok(received) => {
                 self.wait(&received);

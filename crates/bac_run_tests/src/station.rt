@@ -3,6 +3,7 @@ use crate::medium::Medium;
 use crate::memory_link::MemoryLink;
 use bac_apdu::Limits;
 use bac_node::{Config, NewNodeFault, Node};
+use bac_npdu::LinkAddress;
 use bac_run::Station;
 use bac_service::{AnyComplex, AnyReply, read_request};
 use bac_store::house;
@@ -17,7 +18,7 @@ pub(crate) const LIMITS: Limits = Limits {
 };
 
 /// What the nodes of the tests are set to, on that link.
-pub(crate) fn config(link: [u8; 6]) -> Config {
+pub(crate) fn config(link: LinkAddress) -> Config {
     Config {
         link,
         limits: LIMITS,
@@ -28,7 +29,7 @@ pub(crate) fn config(link: [u8; 6]) -> Config {
 }
 
 /// A node of that link with the house store.
-pub(crate) fn house_node(alloc: Global, link: [u8; 6]) -> Result<Node, NewNodeFault> {
+pub(crate) fn house_node(alloc: Global, link: LinkAddress) -> Result<Node, NewNodeFault> {
     Node::new(alloc, config(link), house(alloc)?)
 }
 
@@ -53,7 +54,7 @@ pub(crate) fn station<'a>(
     alloc: Global,
     medium: &'a RefCell<Medium>,
     moment: &'a Cell<u64>,
-    link: [u8; 6],
+    link: LinkAddress,
 ) -> Result<MemoryStation<'a>, Fail> {
     let node = house_node(alloc, link)?;
     Ok(Station::new(alloc, node, MemoryLink::new(medium, moment, link))?)

@@ -7,12 +7,13 @@ use crate::medium::Medium;
 use crate::memory_link::MemoryLink;
 use crate::noted_call::NotedCall;
 use bac_link::{Link, LinkFault};
+use bac_npdu::LinkAddress;
 use std::alloc::Global;
 use std::cell::{Cell, RefCell};
 use std::process::Abort;
 
 /// What receiving gave.
-type Received = Result<Option<([u8; 6], usize)>, LinkFault>;
+type Received = Result<Option<(LinkAddress, usize)>, LinkFault>;
 
 /// A link in memory that notes each call. It stops the test where memory fails.
 #[derive(Drop)]
@@ -29,7 +30,7 @@ impl<'a, R> TellingLink<'a, R> {
         alloc: Global,
         medium: &'a RefCell<Medium>,
         moment: &'a Cell<u64>,
-        link: [u8; 6],
+        link: LinkAddress,
     ) -> TellingLink<'a, R> {
         TellingLink {
             runtime,
@@ -87,7 +88,7 @@ impl<R: Abort> Link for TellingLink<'_, R> {
         self.link.failures()
     }
 
-    fn send(&mut self, to: [u8; 6], octets: &[u8]) -> Result<(), LinkFault> {
+    fn send(&mut self, to: LinkAddress, octets: &[u8]) -> Result<(), LinkFault> {
         let copy = copied(self.runtime, self.alloc, octets);
         note(self.runtime, &mut self.noted, NotedCall::Sent(to, copy));
         self.link.send(to, octets)
@@ -97,7 +98,7 @@ impl<R: Abort> Link for TellingLink<'_, R> {
         &mut self,
         buffer: &mut [u8],
         wait: u64,
-    ) -> Result<Option<([u8; 6], usize)>, LinkFault> {
+    ) -> Result<Option<(LinkAddress, usize)>, LinkFault> {
         let gave = self.link.recv(buffer, wait);
         let call = noted_of(self.runtime, self.alloc, wait, buffer, gave);
         note(self.runtime, &mut self.noted, call);

@@ -6,7 +6,7 @@ use crate::station::{LIMITS, MemoryStation, config, file_of, house_node, station
 use bac_commands::print_ending;
 use bac_link::Link;
 use bac_node::Node;
-use bac_npdu::Peer;
+use bac_npdu::{LinkAddress, Peer};
 use bac_run::{AskEnd, Question, Station, TurnFault, pair};
 use bac_service::{OwnedRequest, read_request};
 use bac_ticket::Ending;
@@ -26,9 +26,9 @@ mod telling;
 mod turns;
 
 /// The node that asks, and the one that is asked.
-const CLIENT: [u8; 6] = [127, 0, 0, 1, 0xBA, 0xC0];
+const CLIENT: LinkAddress = [127, 0, 0, 1, 0xBA, 0xC0];
 
-const SERVER: [u8; 6] = [127, 0, 0, 1, 0xBA, 0xC1];
+const SERVER: LinkAddress = [127, 0, 0, 1, 0xBA, 0xC1];
 
 /// A read of the present-value of analog-input 5, and its answer.
 const READ: &str = "810A001101040005010C0C000000051955";

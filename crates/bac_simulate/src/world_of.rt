@@ -12,6 +12,7 @@ ghost use Rattle.bac_simulate.specs.Scripts.{IsModest, event_of, limits_in};
 use bac_apdu::Limits;
 use bac_network::{Event, NewWorldFault, World};
 use bac_node::Config;
+use bac_npdu::LinkAddress;
 use bac_script::{SetFile, SetProperty, Setting, Step};
 use bac_store::{Change, Store, house};
 use bac_value::NoMemory;
@@ -25,10 +26,10 @@ const LIMITS: Limits = Limits {
 };
 
 /// The link of no node.
-const NOWHERE: [u8; 6] = [0, 0, 0, 0, 0, 0];
+const NOWHERE: LinkAddress = [0, 0, 0, 0, 0, 0];
 
 /// The link of a node: 127.0.0.1, and for the first node the UDP port 47,808 (BAC0 in hexadecimal); each node after it has the next one.
-fn link_of(node: u8) -> [u8; 6]
+fn link_of(node: u8) -> LinkAddress
     requires { node < 64 }
     ensures { result ≡ link_at node }
 {

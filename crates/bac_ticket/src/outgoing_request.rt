@@ -11,6 +11,7 @@ use bac_apdu::Limits;
 use bac_ends::{Settings, allows_segments, transfer_size};
 use bac_segment::{DATA, Outgoing};
 use std::marker::Model;
+use thiserror::Error;
 
 /// The octets in front of the service data of a request that goes in one APDU (clause 20.1.2).
 const WHOLE_HEAD: usize = 4;
@@ -22,11 +23,13 @@ const SEGMENT_HEAD: usize = 6;
 const LONGEST_PIECE: usize = 1_470;
 
 /// Why a request can't go.
-#[derive(Clone, Copy, Debug, PartialEq, Eq)]
+#[derive(Clone, Copy, Debug, PartialEq, Eq, Error)]
 pub enum RequestFault {
     /// It does not fit one APDU, and the peer takes no segments or fewer than are needed.
+    #[error("the request needs more segments than the peer takes")]
     NeedsSegments,
     /// Its service data have more than 65,535 octets.
+    #[error("the request has too many octets")]
     TooLong,
 }
 

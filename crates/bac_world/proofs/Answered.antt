@@ -85,7 +85,7 @@ key n = record { peer = peer_at (link n); invoke_id = 0 }
 
 abbrev pub ACCEPTED : Accepted
 ACCEPTED = accepts SETTINGS 0 (key 1) (record { first = 0; choice = 12; whole = true; pieces = SERVICE_DATA ∷ [] })
-    (record { slots = []; capacity = 1; asked = 0 })
+    (record { slots = []; capacity = 1; asked = 0; asks_from = 0 })
 
 abbrev pub ASKED_NODE : Node
 ASKED_NODE = record (node 0) { clients = ACCEPTED.end }
@@ -172,13 +172,13 @@ abbrev PERFORMED : Performed
 PERFORMED = record { key = key 0; request = REQUEST; reply = REPLY }
 
 abbrev SERVED_NODE : Node
-SERVED_NODE = record (node 1) { servers = (server_goes 0 (record { slots = []; capacity = 1 }) (key 0) (done_by REPLIES)).end }
+SERVED_NODE = record (node 1) { servers = (server_goes 0 (record { slots = []; capacity = 1; serves_from = 0 }) (key 0) (done_by REPLIES)).end }
 
 abbrev SERVED : Outcome
 SERVED = record { sends = datagram (link 0) ANSWER ∷ []; performed = Some PERFORMED; ended = []; dropped = None }
 
 abbrev ServerTurn : machine.Outcome → Type 0
-ServerTurn o = IsServerTurn (server_goes 0 (record { slots = []; capacity = 1 }) (key 0) (done_by o)) 0 (node 1) SERVED_NODE SERVED
+ServerTurn o = IsServerTurn (server_goes 0 (record { slots = []; capacity = 1; serves_from = 0 }) (key 0) (done_by o)) 0 (node 1) SERVED_NODE SERVED
 
 turn : ServerTurn REPLIES
 turn = record {
@@ -287,7 +287,7 @@ answer_delivered = record { copy = copy 1 0 ANSWER; there = refl; goes = record 
 -- The world at its beginning.
 
 fresh_node : (n : ℕ) → IsFreshNode (node n)
-fresh_node n = record { latest = refl; slots = refl; asked = refl; entries = refl }
+fresh_node n = record { latest = refl; slots = refl; asked = refl; asks_from = refl; entries = refl; serves_from = refl }
 
 -- what holds of both nodes holds of each
 each_node : (P : Node → Type 0) → P (node 0) → P (node 1) → (i : ℕ) (n : Node) → slice_get OPENING.nodes i ≡ Some n → P n

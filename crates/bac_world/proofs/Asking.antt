@@ -21,9 +21,10 @@ use Rattle.bac_protocol.proofs.Short.{requests_are_short}
 use Rattle.bac_slots.specs.Slots.{value_at, keep}
 use Rattle.bac_ends.specs.Keys.{PeerKey, same_key}
 use Rattle.bac_ends.specs.Sends.{Pairwise, IsSent}
-use Rattle.bac_ends.specs.Ends.{Client, ClientEnd, kept, is_held, is_held_there, is_id_held, least_not, has_no_slot}
+use Rattle.bac_ends.specs.Ends.{Client, ClientEnd, kept, is_held, is_held_there, is_id_held, is_id_taken, waits_to_ask, least_not, has_no_slot}
 use Rattle.bac_ends.specs.Ends.{Accepted, AskRefusal, AskOutcome, accepts, asks_with_id, asks_for, asks_by_way, client_asks}
 use Rattle.bac_ends.specs.Ends.AskOutcome.{Asked}
+use Rattle.bac_ends.proofs.ClientTables.{is_untaken, no_wait}
 use Rattle.bac_ends.proofs.Holding.{held_is}
 use Rattle.bac_world.specs.Node.{Node}
 use Rattle.bac_world.specs.Once.{Fact, Stores, IsOnce}
@@ -48,7 +49,7 @@ least_is test (suc count) from id e = go (test from) refl e (λ f. least_is test
     go false t e again = let same : from ≡ id = cc in subst (λ (k : ℕ). test k ≡ false) same t
 
 module _ (c : Settings) (now : ℕ) (peer : PeerView) (choice : ℕ) (octets : Octets) (e : ClientEnd) (a : Accepted) where
-  -- its pieces, its invoke ID, which is not held, and what becomes of the end
+  -- its pieces, its invoke ID, which is not held, that the end does not wait, and what becomes of the end
   pub record IsAccepted : Type 0 where
     pub id : ℕ
     pub whole : Bool
@@ -56,17 +57,18 @@ module _ (c : Settings) (now : ℕ) (peer : PeerView) (choice : ℕ) (octets : O
     pub rest : List Octets
     pub joined : join (front ∷ rest) ≡ octets
     pub free : is_id_held now e.slots peer id ≡ false
+    pub awake : waits_to_ask now e ≡ false
     pub is : a ≡ accepts c now (record { peer = peer; invoke_id = id }) (record { first = now; choice = choice; whole = whole; pieces = front ∷ rest }) e
 
   with_id : (whole : Bool) (front : Octets) (rest : List Octets) → join (front ∷ rest) ≡ octets
       → asks_for c now peer (record { first = now; choice = choice; whole = whole; pieces = front ∷ rest }) e ≡ Asked a
       → (p : IsAccepted) × (p.whole ≡ whole)
-  with_id whole front rest joined is = go (least_not (is_id_held now e.slots peer) 256 0) refl is
+  with_id whole front rest joined is = go (least_not (is_id_taken now e peer) 256 0) refl is
     where
       ask : Ask
       ask = record { first = now; choice = choice; whole = whole; pieces = front ∷ rest }
 
-      go : (o : Option ℕ) → least_not (is_id_held now e.slots peer) 256 0 ≡ o → asks_with_id c now peer ask e o ≡ Asked a
+      go : (o : Option ℕ) → least_not (is_id_taken now e peer) 256 0 ≡ o → asks_with_id c now peer ask e o ≡ Asked a
           → (p : IsAccepted) × (p.whole ≡ whole)
       go None least is = absurd cc
       go (Some id) least is = slots (has_no_slot now e) is
@@ -82,7 +84,8 @@ module _ (c : Settings) (now : ℕ) (peer : PeerView) (choice : ℕ) (octets : O
               front = front;
               rest = rest;
               joined = joined;
-              free = least_is (is_id_held now e.slots peer) 256 0 id least;
+              free = is_untaken now e peer id (least_is (is_id_taken now e peer) 256 0 id least);
+              awake = no_wait now e peer id (least_is (is_id_taken now e peer) 256 0 id least);
               is = let same : accepts c now (record { peer = peer; invoke_id = id }) ask e ≡ a = cc in sym same;
             },
             refl,
@@ -181,7 +184,7 @@ module _ (links : ℕ → Option Octets) (apart : (i j : ℕ) (l : Octets) → l
     p = slot_key l key.invoke_id
 
     abbrev pub ended : ClientEnd
-    ended = record { slots = passing Client (holds n.now) e.slots ++ slot Client p n.now client ∷ []; capacity = e.capacity; asked = e.asked + 1 }
+    ended = record e { slots = passing Client (holds n.now) e.slots ++ slot Client p n.now client ∷ []; asked = e.asked + 1 }
 
     gone : value_at same_key p (passing Client (holds n.now) e.slots) ≡ None
     gone = passing_value Client (holds n.now) p e.slots h.distinct ∙ free_kept n.now (value_at same_key p e.slots) free

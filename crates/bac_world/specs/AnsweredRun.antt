@@ -27,8 +27,8 @@ node n =
       link = link n;
       settings = SETTINGS;
       latest = 0;
-      clients = record { slots = []; capacity = 1; asked = 0 };
-      servers = record { slots = []; capacity = 1 };
+      clients = record { slots = []; capacity = 1; asked = 0; asks_from = 0 };
+      servers = record { slots = []; capacity = 1; serves_from = 0 };
       store = STORE;
     }
 

@@ -261,7 +261,9 @@ pub record IsFreshNode (n : Node) : Type 0 where
   pub latest : n.latest ≡ 0
   pub slots : n.clients.slots ≡ []
   pub asked : n.clients.asked ≡ 0
+  pub asks_from : n.clients.asks_from ≡ 0
   pub entries : n.servers.slots ≡ []
+  pub serves_from : n.servers.serves_from ≡ 0
 
 -- no two nodes have one link, and nothing has happened
 pub record IsFresh (w : World) : Type 0 where

@@ -7,14 +7,14 @@ use bac_ends::{
     Context, Datagram, PeerKey, Settings, allows_segments, apdu_size, datagram_of, invoke_id_of,
     only_abort, only_apdu, step_acks, transfer_size,
 };
-use bac_npdu::{Peer, Route};
+use bac_npdu::{LinkAddress, Peer, Route};
 use bac_segment::Step;
 use bac_slots::Same;
 use bac_value::NoMemory;
 use std::alloc::Global;
 use std::test::Fail;
 
-const LINK: [u8; 6] = [10, 0, 0, 2, 0xBA, 0xC0];
+const LINK: LinkAddress = [10, 0, 0, 2, 0xBA, 0xC0];
 
 const LIMITS: Limits = Limits {
     max_apdu: 5,

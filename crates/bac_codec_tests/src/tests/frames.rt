@@ -1,14 +1,14 @@
 //! Datagrams: tables of octets whose readings and writings were worked out by hand.
 use super::{holds, holds_of};
 use bac_npdu::{
-    Dropped, FrameFault, Peer, Route, read_bvll, read_datagram, read_npdu, write_datagram,
-    write_frame_head,
+    Dropped, FrameFault, LinkAddress, Peer, Route, read_bvll, read_datagram, read_npdu,
+    write_datagram, write_frame_head,
 };
 use bac_value::NoMemory;
 use std::alloc::Global;
 use std::test::Fail;
 
-const LINK: [u8; 6] = [0x7F, 0, 0, 1, 0xBA, 0xC1];
+const LINK: LinkAddress = [0x7F, 0, 0, 1, 0xBA, 0xC1];
 
 const REQUEST: [u8; 17] = [
     0x81, 0x0A, 0x00, 0x11, 0x01, 0x04, 0x00, 0x05, 0x01, 0x0C, 0x0C, 0x00, 0x00, 0x00, 0x05, 0x19,

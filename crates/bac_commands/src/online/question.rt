@@ -5,14 +5,14 @@ ghost use Rattle.bac_run.specs.Views.{question_view};
 ghost use Rattle.bac_commands.specs.Questions.{ReadsQuestion, local, question_for};
 
 use crate::house_node::LIMITS;
-use bac_npdu::Peer;
+use bac_npdu::{LinkAddress, Peer};
 use bac_run::Question;
 use bac_script::{FormFault, read_request_words};
 use bac_service::OwnedRequest;
 use std::alloc::Global;
 
 /// The address of a port of this machine: 127.0.0.1 and the port (clause J.1.2).
-pub fn local(port: u16) -> [u8; 6]
+pub fn local(port: u16) -> LinkAddress
     ensures { result ≡ local port }
 {
     let [high, low] = port.to_be_bytes();
@@ -20,7 +20,7 @@ pub fn local(port: u16) -> [u8; 6]
 }
 
 /// A question for the peer at an address, which takes APDUs of 1,476 octets and any number of segments.
-pub(crate) fn question_for(link: [u8; 6], request: OwnedRequest) -> Question
+pub(crate) fn question_for(link: LinkAddress, request: OwnedRequest) -> Question
     ensures { question_view result ≡ question_for link (owned_request_view request) }
 {
     Question {
@@ -33,7 +33,11 @@ pub(crate) fn question_for(link: [u8; 6], request: OwnedRequest) -> Question
 /// The question that some words are, for the peer at an address, which takes APDUs of 1,476 octets and any number of segments.
 ///
 /// `NoForm` where the words are no request, `NoMemory` where memory was refused.
-pub fn read_question(alloc: Global, link: [u8; 6], words: &[&[u8]]) -> Result<Question, FormFault>
+pub fn read_question(
+    alloc: Global,
+    link: LinkAddress,
+    words: &[&[u8]],
+) -> Result<Question, FormFault>
     ensures { ReadsQuestion link (map (λ w. w.now) words.now) result }
 {
     let request = read_request_words(alloc, words)?;

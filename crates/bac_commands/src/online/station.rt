@@ -4,6 +4,7 @@ ghost use Rattle.bac_commands.specs.Houses.{house_node};
 
 use crate::house_node::house_node;
 use bac_link::Link;
+use bac_npdu::LinkAddress;
 use bac_run::Station;
 use bac_value::NoMemory;
 use std::alloc::Global;
@@ -12,7 +13,7 @@ use std::alloc::Global;
 pub fn house_station<L: Link>(
     alloc: Global,
     link: L,
-    address: [u8; 6],
+    address: LinkAddress,
 ) -> Result<Station<L>, NoMemory>
     ensures node { IfOk result (λ s. s.node ≡ house_node address) }
     ensures failures { IfOk result (λ s. s.failures ≡ L.failures link) }

@@ -87,7 +87,7 @@ slot n = record { peer = peer_at (link n); invoke_id = 0 }
 
 abbrev ACCEPTED : Accepted
 ACCEPTED = accepts SETTINGS 0 (slot 1) (record { first = 0; choice = 7; whole = false; pieces = FRONT ∷ BACK ∷ [] })
-    (record { slots = []; capacity = 1; asked = 0 })
+    (record { slots = []; capacity = 1; asked = 0; asks_from = 0 })
 
 abbrev hears : Apdu → ClientEnd → ClientEnd
 hears a e = (client_hears SETTINGS reads_reply 0 (peer_at (link 1)) a e).end
@@ -105,7 +105,7 @@ abbrev CLOSED : ClientEnd
 CLOSED = hears ANSWER WAITS
 
 abbrev TAKEN : ServerEnd
-TAKEN = (server_hears SETTINGS 0 (service_of STORE) (peer_at (link 0)) FIRST (record { slots = []; capacity = 1 })).end
+TAKEN = (server_hears SETTINGS 0 (service_of STORE) (peer_at (link 0)) FIRST (record { slots = []; capacity = 1; serves_from = 0 })).end
 
 abbrev CONTEXT : Context
 CONTEXT = context_of SETTINGS 0 (slot 0)
@@ -132,7 +132,7 @@ abbrev nodes : ClientEnd → ServerEnd → List Node
 nodes c s = client c ∷ servant s ∷ []
 
 abbrev EMPTY : ServerEnd
-EMPTY = record { slots = []; capacity = 1 }
+EMPTY = record { slots = []; capacity = 1; serves_from = 0 }
 
 -- The ask.
 

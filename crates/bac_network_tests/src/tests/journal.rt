@@ -1,14 +1,15 @@
 //! A small journal.
 use bac_journal::{Journal, Note, Transaction};
+use bac_npdu::LinkAddress;
 use bac_value::NoMemory;
 use std::alloc::Global;
 use std::test::Fail;
 
-const FIRST: [u8; 6] = [127, 0, 0, 1, 0xBA, 0xC0];
+const FIRST: LinkAddress = [127, 0, 0, 1, 0xBA, 0xC0];
 
-const SECOND: [u8; 6] = [127, 0, 0, 1, 0xBA, 0xC1];
+const SECOND: LinkAddress = [127, 0, 0, 1, 0xBA, 0xC1];
 
-fn links(alloc: Global) -> Result<Vec<[u8; 6]>, NoMemory> {
+fn links(alloc: Global) -> Result<Vec<LinkAddress>, NoMemory> {
     let mut links = Vec::new(alloc);
     links.push(FIRST)?;
     links.push(SECOND)?;

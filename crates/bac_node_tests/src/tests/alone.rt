@@ -40,13 +40,13 @@ const READS: &[Read] = &[
 
 /// Whether each read is performed as its row says.
 fn are_performed(alloc: Global, rows: &[Read]) -> Result<bool, Wrong> {
-    let mut end: Responder<IndexSlots<PeerKey, Entry>> = Responder::new(alloc, SETTINGS, 2)?;
+    let mut end: Responder<IndexSlots<PeerKey, Entry>> = Responder::new(alloc, 2, None)?;
     let mut store = house(alloc)?;
     let Ok(apdu) = read(READ) else {
         return Err(Wrong::Line);
     };
     for row in rows {
-        let served = end.on(alloc, row.0, &peer(row.1), &apdu, &mut store)?;
+        let served = end.on(alloc, &SETTINGS, row.0, &peer(row.1), &apdu, &mut store)?;
         if served.act.is_some() != row.2 || served.sends.len() != 1 {
             return Ok(false);
         }
@@ -78,7 +78,7 @@ fn are_accepted(alloc: Global, end: &mut Indexed, rows: &[Asking]) -> Result<boo
         return Err(Wrong::Line);
     };
     for row in rows {
-        let asked = end.ask(alloc, row.0, &peer(row.1), &SMALL, &request);
+        let asked = end.ask(alloc, &SETTINGS, row.0, &peer(row.1), &SMALL, &request);
         if asked.map(|asked| (asked.ticket, asked.invoke_id)) != row.2 {
             return Ok(false);
         }
@@ -91,11 +91,15 @@ fn is_rejected(alloc: Global, end: &mut Indexed) -> Result<bool, Wrong> {
     let Ok(apdu) = read(b"\x60\x00\x09") else {
         return Err(Wrong::Line);
     };
-    Ok(end.on(alloc, 3_000, &peer(2), &apdu)?.ended.is_some())
+    Ok(
+        end.on(alloc, &SETTINGS, 3_000, &peer(2), &apdu)?
+            .ended
+            .is_some(),
+    )
 }
 
 fn make_room(alloc: Global) -> Result<bool, Wrong> {
-    let mut end: Indexed = Requester::new(alloc, link(OWN), SETTINGS, 2)?;
+    let mut end: Indexed = Requester::new(alloc, 2, None)?;
     Ok(
         are_accepted(alloc, &mut end, BEFORE)?
             && is_rejected(alloc, &mut end)?

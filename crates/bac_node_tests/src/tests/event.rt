@@ -8,6 +8,7 @@ use bac_npdu::Peer;
 use bac_requester::{AskFault, Asked};
 use bac_script::{FormFault, read_request_words};
 use bac_service::OwnedRequest;
+use bac_value::NoMemory;
 use hex::FromHexError;
 use std::alloc::Global;
 
@@ -34,6 +35,8 @@ pub(super) enum Event {
     /// What a tick would make is said, and not made.
     Prepare,
     Ask(Ask),
+    /// The node restarts, and keeps its store.
+    Restart,
     /// How many slots are held and entries live is asked.
     Count,
     /// Whether the node and its store are as at first is asked.
@@ -48,6 +51,7 @@ pub(super) enum Came {
     Asked(Asked),
     Refused(AskFault),
     Fault(NodeFault),
+    Restarted,
     /// How many slots are held and entries live.
     Counted(usize, usize),
     /// Whether the node and its store are as those of a new one.
@@ -160,6 +164,7 @@ pub(super) fn event_of(alloc: Global, line: &str) -> Result<(u64, Event), Wrong>
         b"ask" => peer_is_asked(alloc, rest)?,
         b"tick" => Event::Tick,
         b"prepare" => Event::Prepare,
+        b"restart" => Event::Restart,
         b"count" => Event::Count,
         b"compare" => Event::Compare,
         _ => return Err(Wrong::Line),
@@ -190,6 +195,13 @@ fn asks(node: &mut Node, now: u64, ask: &Ask) -> Came {
     }
 }
 
+fn restarts(node: &mut Node, now: u64) -> Came {
+    match node.restart(now, None) {
+        Ok(()) => Came::Restarted,
+        Err(NoMemory) => Came::Fault(NodeFault::NoMemory),
+    }
+}
+
 impl Event {
     /// What comes of it at a node; `fresh` is one to which nothing happened.
     pub(super) fn happens(&self, node: &mut Node, fresh: &Node, now: u64) -> Came {
@@ -198,6 +210,7 @@ impl Event {
             Event::Tick => outcome_of(node.tick(now)),
             Event::Prepare => prepared(node, now),
             Event::Ask(ask) => asks(node, now, ask),
+            Event::Restart => restarts(node, now),
             Event::Count => Came::Counted(node.held(now), node.live(now)),
             Event::Compare => Came::Compared(node.same(fresh), node.store().same(fresh.store())),
         }
@@ -215,7 +228,7 @@ impl Came {
 
     /// Whether the event was told to the node, which knows its moment since.
     pub(super) fn is_told(&self) -> bool {
-        matches!(self, Came::Outcome(_) | Came::Asked(_))
+        matches!(self, Came::Outcome(_) | Came::Asked(_) | Came::Restarted)
     }
 
     /// Whether it was neither dropped nor refused.

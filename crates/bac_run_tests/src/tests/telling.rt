@@ -2,9 +2,10 @@
 use super::*;
 use crate::noted_call::NotedCall;
 use crate::telling_link::TellingLink;
+use bac_npdu::LinkAddress;
 
 /// A call as a line: what was done, the port of the other address, and the octets; or how long it waited in vain.
-fn line(alloc: Global, word: &str, address: [u8; 6], octets: &[u8]) -> Result<String, Fail> {
+fn line(alloc: Global, word: &str, address: LinkAddress, octets: &[u8]) -> Result<String, Fail> {
     let port = u16::from_be_bytes([address[4], address[5]]);
     let octets = hex::encode_upper(alloc, octets)?;
     Ok(format!(in alloc; "{word} {port} {octets}")?)

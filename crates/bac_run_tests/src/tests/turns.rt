@@ -1,9 +1,10 @@
 //! Single turns.
 use super::*;
+use bac_npdu::LinkAddress;
 
 /// What a turn is seen to do: who sent how many octets, failed sends, skipped steps, whether something was performed, and how many tickets ended by the
 /// datagram and by the tick.
-type Seen = (Option<([u8; 6], usize)>, u64, u8, bool, usize, usize);
+type Seen = (Option<(LinkAddress, usize)>, u64, u8, bool, usize, usize);
 
 fn see(station: &mut MemoryStation<'_>, now: u64) -> Result<Seen, TurnFault> {
     let turn = station.turn(now)?;

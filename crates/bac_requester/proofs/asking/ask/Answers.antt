@@ -7,36 +7,37 @@ use Rattle.bac_ends.specs.Ends.Held.{Open}
 use Rattle.bac_ends.specs.Keys.{PeerKey}
 use Rattle.bac_ends.specs.Views.{settings_view, slots_view}
 use Rattle.bac_service.specs.Views.{request_view}
-use Rattle.bac_requester.specs.Turns.{AcceptsTable}
+use Rattle.bac_aged.proofs.Aging.{stays_known}
+use Rattle.bac_requester.specs.Turns.{Accepts}
 use Rattle.bac_requester.specs.Views.{end_of}
 use Rattle.bac_requester.proofs.Accepting.{asked_by, no_id, no_slot, may_begin, least_free, has_room, has_number, accepted, entered, entered_end, not_alive}
 use Rattle.bac_requester.proofs.Aging.{asked_first}
 use Rattle.bac_requester.proofs.asking.ask.Goals as goal
 
 pub returns-in_default-clause-asks : goal.returns-in_default-clause-asks
-returns-in_default-clause-asks g c =
-    let e : ClientEnd = end_of (g.S.SlotTable.slots c.args.aged.now.table) (g.S.SlotTable.capacity c.args.aged.now.table) c.args.asked.now in (
+returns-in_default-clause-asks g c = λ from awake.
+    let e : ClientEnd = end_of (g.S.SlotTable.slots c.args.aged.now.table) (g.S.SlotTable.capacity c.args.aged.now.table) c.args.asked.now from in (
       no_id (settings_view c.args.settings.now) c.args.now (peer_view c.args.peer.now) (asked_by c.args.now
-          (request_view c.args.request) c.args.way) e c.least_id.result
+          (request_view c.args.request) c.args.way) e awake c.least_id.result
           c.least_id.ensures c.in_default.is,
       refl,
     )
 
 pub returns-then-has_no_slot-clause-asks : goal.returns-then-has_no_slot-clause-asks
-returns-then-has_no_slot-clause-asks g c =
-    let e : ClientEnd = end_of (g.S.SlotTable.slots c.args.aged.now.table) (g.S.SlotTable.capacity c.args.aged.now.table) c.args.asked.now in (
+returns-then-has_no_slot-clause-asks g c = λ from awake.
+    let e : ClientEnd = end_of (g.S.SlotTable.slots c.args.aged.now.table) (g.S.SlotTable.capacity c.args.aged.now.table) c.args.asked.now from in (
       no_slot (settings_view c.args.settings.now) c.args.now (peer_view c.args.peer.now) (asked_by c.args.now
-          (request_view c.args.request) c.args.way) e c.least_id.result
-          c.in-Some.invoke_id c.least_id.ensures c.in-Some.is (sym c.has_no_slot.ensures ∙ c.if-has_no_slot.true),
+          (request_view c.args.request) c.args.way) e awake c.least_id.result
+          c.in-Some.invoke_id c.least_id.ensures c.in-Some.is (sym (c.has_no_slot.ensures from) ∙ c.if-has_no_slot.true),
       refl,
     )
 
 pub returns-in_default-begin-clause-asks : goal.returns-in_default-begin-clause-asks
-returns-in_default-begin-clause-asks g c =
-    let e : ClientEnd = end_of (g.S.SlotTable.slots c.args.aged.now.table) (g.S.SlotTable.capacity c.args.aged.now.table) c.args.asked.now in (
+returns-in_default-begin-clause-asks g c = λ from awake.
+    let e : ClientEnd = end_of (g.S.SlotTable.slots c.args.aged.now.table) (g.S.SlotTable.capacity c.args.aged.now.table) c.args.asked.now from in (
       may_begin (settings_view c.args.settings.now) c.args.now (peer_view c.args.peer.now) (asked_by c.args.now
-          (request_view c.args.request) c.args.way) e c.least_id.result
-          c.in-Some.invoke_id c.least_id.ensures c.in-Some.is (sym c.has_no_slot.ensures ∙ c.if-has_no_slot.false),
+          (request_view c.args.request) c.args.way) e awake c.least_id.result
+          c.in-Some.invoke_id c.least_id.ensures c.in-Some.is (sym (c.has_no_slot.ensures from) ∙ c.if-has_no_slot.false),
       refl,
     )
 
@@ -54,30 +55,33 @@ enter-requires-clause-absent g c =
 
 pub enter-requires-clause-room : goal.enter-requires-clause-room
 enter-requires-clause-room g c =
-    has_room c.args.now (g.S.SlotTable.slots c.args.aged.now.table) (g.S.SlotTable.capacity c.args.aged.now.table) c.args.asked.now
-    (sym c.has_no_slot.ensures ∙ c.if-has_no_slot.false)
+    has_room c.args.now (g.S.SlotTable.slots c.args.aged.now.table) (g.S.SlotTable.capacity c.args.aged.now.table) c.args.asked.now 0
+    (sym (c.has_no_slot.ensures 0) ∙ c.if-has_no_slot.false)
 
 pub overflow_add-asked : goal.overflow_add-asked
 overflow_add-asked g c =
     let lt : c.args.asked.now < 18446744073709551615 =
-    has_number c.args.now (end_of (g.S.SlotTable.slots c.args.aged.now.table) (g.S.SlotTable.capacity c.args.aged.now.table) c.args.asked.now)
-    (sym c.has_no_slot.ensures ∙ c.if-has_no_slot.false) in
+    has_number c.args.now (end_of (g.S.SlotTable.slots c.args.aged.now.table) (g.S.SlotTable.capacity c.args.aged.now.table) c.args.asked.now 0)
+    (sym (c.has_no_slot.ensures 0) ∙ c.if-has_no_slot.false) in
     omega (arith, lt)
 
 pub returns-clause-asks : goal.returns-clause-asks
-returns-clause-asks g c =
-    let e : ClientEnd = end_of (g.S.SlotTable.slots c.args.aged.now.table) (g.S.SlotTable.capacity c.args.aged.now.table) c.args.asked.now in
+returns-clause-asks g c = λ from awake.
+    let e : ClientEnd = end_of (g.S.SlotTable.slots c.args.aged.now.table) (g.S.SlotTable.capacity c.args.aged.now.table) c.args.asked.now from in
     let ask : Ask = asked_by c.args.now (request_view c.args.request) c.args.way in
     let key : PeerKey = record { peer = peer_view c.args.peer.now; invoke_id = c.in-Some.invoke_id } in
-    let is = accepted (settings_view c.args.settings.now) c.args.now (peer_view c.args.peer.now) ask e c.least_id.result c.in-Some.invoke_id c.least_id.ensures
-    c.in-Some.is (sym c.has_no_slot.ensures ∙ c.if-has_no_slot.false) in
-    subst (λ (o : AskOutcome). AcceptsTable o
-    (end_of (g.S.SlotTable.slots c.enter.new.aged.table) (g.S.SlotTable.capacity c.enter.new.aged.table) (c.args.asked.now + 1))
-    (record { ticket = c.args.asked.now; invoke_id = c.in-Some.invoke_id; sends = c.in-Ok.begun.sends })) (sym is) (
-      entered_end (settings_view c.args.settings.now) c.args.now key ask (slots_view (g.S.SlotTable.slots c.args.aged.now.table)) _
-          (g.S.SlotTable.capacity c.args.aged.now.table) _ c.args.asked.now c.in-Ok.begun.ticket c.in-Ok.ensures.ticket (entered c.args.now (record { peer = c.args.peer.now; invoke_id = c.in-Some.invoke_id })
-          (record { number = c.args.asked.now; held = Open c.in-Ok.begun.ticket }) (g.S.SlotTable.slots c.args.aged.now.table) _ c.enter.ensures.slots) c.enter.ensures.same,
-      refl,
-      refl,
-      c.in-Ok.ensures.sends,
-    )
+    let is = accepted (settings_view c.args.settings.now) c.args.now (peer_view c.args.peer.now) ask e awake c.least_id.result c.in-Some.invoke_id c.least_id.ensures
+    c.in-Some.is (sym (c.has_no_slot.ensures from) ∙ c.if-has_no_slot.false) in
+    subst (λ (o : AskOutcome). Accepts o
+    (end_of (g.S.SlotTable.slots c.enter.new.aged.table) (g.S.SlotTable.capacity c.enter.new.aged.table) (c.args.asked.now + 1) from)
+    (record { ticket = c.args.asked.now; invoke_id = c.in-Some.invoke_id; sends = c.in-Ok.begun.sends })) (sym is) (record {
+      end = entered_end (settings_view c.args.settings.now) c.args.now key ask (slots_view (g.S.SlotTable.slots c.args.aged.now.table)) _
+          (g.S.SlotTable.capacity c.args.aged.now.table) _ c.args.asked.now from c.in-Ok.begun.ticket c.in-Ok.ensures.ticket (entered c.args.now (record { peer = c.args.peer.now; invoke_id = c.in-Some.invoke_id })
+          (record { number = c.args.asked.now; held = Open c.in-Ok.begun.ticket }) (g.S.SlotTable.slots c.args.aged.now.table) _ c.enter.ensures.slots) c.enter.ensures.same;
+      ticket = refl;
+      invoke_id = refl;
+      sends = c.in-Ok.ensures.sends;
+    })
+
+pub returns-clause-known : goal.returns-clause-known
+returns-clause-known g c = stays_known c.args.now c.args.aged.now.ages.latest c.enter.new.aged.ages.latest c.enter.ensures.known

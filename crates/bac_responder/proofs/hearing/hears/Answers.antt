@@ -26,7 +26,7 @@ use Rattle.bac_responder.proofs.hearing.hears.Goals as goal
 
 pub returns-in_default-clause-turn : goal.returns-in_default-clause-turn
 returns-in_default-clause-turn g c =
-    let same = same_end _ _ _ _ c.get_mut.follows.holds-at-none.0 c.get_mut.follows.holds-at-none.1 in
+    let same = same_end _ _ _ _ c.args.restart c.get_mut.follows.holds-at-none.0 c.get_mut.follows.holds-at-none.1 in
     serves_as c.args.context.now c.args.store.now (apdu_view c.args.apdu.now) _ _ _ _ _ same c.idle_hears.ensures.turn
 
 -- Its entry is not live.
@@ -49,7 +49,7 @@ pub returns-then-not-is_live-clause-turn : goal.returns-then-not-is_live-clause-
 returns-then-not-is_live-clause-turn g c =
     let d : Entry = c.in-Some.slot.now in
     let unchanged = put_back Entry c.args.context.now.key d d (g.S.SlotTable.slots c.args.aged.now.table) _ (sym c.in-Some.ensures.value) refl (c.get_mut.follows.holds d).0 in
-    let same = same_end _ _ _ _ unchanged (c.get_mut.follows.holds d).1 in
+    let same = same_end _ _ _ _ c.args.restart unchanged (c.get_mut.follows.holds d).1 in
     serves_as c.args.context.now c.args.store.now (apdu_view c.args.apdu.now) _ _ _ _ _ same c.idle_hears-then-not-is_live.ensures.turn
 
 -- It is live and goes on.
@@ -59,7 +59,7 @@ returns-in-Ok-clause-turn g c =
     let key : CodeKey = c.args.context.now.key in
     let now : ℕ = c.args.context.now.moment in
     let slots : List (Slot CodeKey Entry) = g.S.SlotTable.slots c.args.aged.now.table in
-    let e : ServerEnd = end_of slots (g.S.SlotTable.capacity c.args.aged.now.table) in
+    let e : ServerEnd = end_of slots (g.S.SlotTable.capacity c.args.aged.now.table) c.args.restart in
     let k : PeerKey = peer_key_view key in
     let set : Context = context_view c.args.context.now in
     let d : Entry = c.replace-entry.result in
@@ -73,7 +73,7 @@ returns-in-Ok-clause-turn g c =
     let put = set_there now key x slots _ (c.get_mut.follows.holds x).0 in
     let r = served_so now e k _ _ c.args.store.now _ x false _ _ _ same c.in-Ok.ensures stays live put in
     served_with _ c.args.store.now _ _ _ _ _ _ _ r c.served.ensures.sends c.served.ensures.act
-    (ap (λ (n : ℕ). end_of (g.S.SlotTable.slots (c.get_mut.follows.lender x)) n) (c.get_mut.follows.holds x).1)
+    (ap (λ (n : ℕ). end_of (g.S.SlotTable.slots (c.get_mut.follows.lender x)) n c.args.restart) (c.get_mut.follows.holds x).1)
 
 pub returns-in-Ok-clause-aged : goal.returns-in-Ok-clause-aged
 returns-in-Ok-clause-aged g c =
@@ -97,7 +97,7 @@ returns-in-Err-clause-turn g c =
     let x : Entry = c.in-Err.entry in
     let unchanged = put_back Entry c.args.context.now.key d x (g.S.SlotTable.slots c.args.aged.now.table) _ (sym c.in-Some.ensures.value)
     (c.in-Err.ensures.0 ∙ c.replace-entry.ensures.value) (c.get_mut.follows.holds x).0 in (
-      same_end _ _ _ _ unchanged (c.get_mut.follows.holds x).1,
+      same_end _ _ _ _ c.args.restart unchanged (c.get_mut.follows.holds x).1,
       c.in-Err.ensures.1,
     )
 

@@ -12,6 +12,7 @@ use Rattle.bac_ends.specs.declared.peer_key.PeerKey.{PeerKey as CodeKey}
 use Rattle.bac_ends.proofs.Keyed.{value_viewed}
 use Rattle.bac_entry.specs.Services.{service_of}
 use Rattle.bac_ends.specs.Views.{context_view}
+use Rattle.bac_aged.proofs.Aging.{stays_known}
 use Rattle.bac_responder.specs.Views.{end_of}
 use Rattle.bac_responder.proofs.Turned.{served_so, served_still, served_with, idle_is, begun_live, where_it_begins, its_place}
 use Rattle.bac_responder.proofs.Sweeps.{entered, keep_none, room}
@@ -22,7 +23,7 @@ returns-in-Stays-clause-turn g c =
     let key : CodeKey = c.args.context.now.key in
     let now : ℕ = c.args.context.now.moment in
     let slots : List (Slot CodeKey Entry) = g.S.SlotTable.slots c.args.aged.now.table in
-    let e : ServerEnd = end_of slots (g.S.SlotTable.capacity c.args.aged.now.table) in
+    let e : ServerEnd = end_of slots (g.S.SlotTable.capacity c.args.aged.now.table) c.args.restart in
     let k : PeerKey = peer_key_view key in
     let set : Context = context_view c.args.context.now in
     let o : Option Entry = value_at same_key k e.slots in
@@ -40,7 +41,7 @@ returns-in-Begins-clause-turn g c =
     let key : CodeKey = c.args.context.now.key in
     let now : ℕ = c.args.context.now.moment in
     let slots : List (Slot CodeKey Entry) = g.S.SlotTable.slots c.args.aged.now.table in
-    let e : ServerEnd = end_of slots (g.S.SlotTable.capacity c.args.aged.now.table) in
+    let e : ServerEnd = end_of slots (g.S.SlotTable.capacity c.args.aged.now.table) c.args.restart in
     let k : PeerKey = peer_key_view key in
     let set : Context = context_view c.args.context.now in
     let o : Option Entry = value_at same_key k e.slots in
@@ -56,7 +57,7 @@ returns-in-Begins-clause-turn g c =
     let r = served_so now e k _ _ c.args.store.now _ x true _ _ _ same (did o) (begun_live now x begin) dead
     (entered now key x slots _ begin c.enter.ensures.slots) in
     served_with _ c.args.store.now _ _ _ _ _ _ _ r c.served.ensures.sends c.served.ensures.act
-    (ap (λ (n : ℕ). end_of (g.S.SlotTable.slots c.enter.new.aged.table) n) c.enter.ensures.same)
+    (ap (λ (n : ℕ). end_of (g.S.SlotTable.slots c.enter.new.aged.table) n c.args.restart) c.enter.ensures.same)
 
 pub enter-requires-clause-begins : goal.enter-requires-clause-begins
 enter-requires-clause-begins g c = rw c.in-Begins.is at c.in_ok-sends.ensures.begin
@@ -67,7 +68,11 @@ enter-requires-clause-absent g c = keep_none c.args.context.now.moment _ c.requi
 pub enter-requires-clause-room : goal.enter-requires-clause-room
 enter-requires-clause-room g c =
     let free = rw c.in-Begins.is at c.in_ok-sends.ensures.free in
-    room c.args.context.now.moment (g.S.SlotTable.capacity c.args.aged.now.table) (g.S.SlotTable.slots c.args.aged.now.table)
+    room c.args.context.now.moment (g.S.SlotTable.capacity c.args.aged.now.table) c.args.restart (g.S.SlotTable.slots c.args.aged.now.table)
     (its_place (apdu_view c.args.apdu.now)
-    (is_free c.args.context.now.moment (end_of (g.S.SlotTable.slots c.args.aged.now.table) (g.S.SlotTable.capacity c.args.aged.now.table)))
+    (is_free c.args.context.now.moment (end_of (g.S.SlotTable.slots c.args.aged.now.table) (g.S.SlotTable.capacity c.args.aged.now.table) c.args.restart))
     (sym c.has_place-free.ensures ∙ free))
+
+pub returns-in-Begins-clause-known : goal.returns-in-Begins-clause-known
+returns-in-Begins-clause-known g c =
+    stays_known c.args.context.now.moment c.args.aged.now.ages.latest c.enter.new.aged.ages.latest c.enter.ensures.known

@@ -1,7 +1,6 @@
 -- What is due first in the table is due first at the end.
 use Rattle.std.proofs.Common.{◌∙◌, sym}
 use Rattle.bac_protocol.specs.Server.{Entry}
-use Rattle.bac_ends.specs.Views.{settings_view}
 use Rattle.bac_aged.proofs.Viewed.{due_viewed, each_viewed}
 use Rattle.bac_entry.specs.Timers.{IsQuiet, due_of}
 use Rattle.bac_responder.specs.Views.{end_of}
@@ -11,13 +10,13 @@ use Rattle.bac_responder.proofs.responder.Responder.next_due.Goals as goal
 pub returns-clause-rests : goal.returns-clause-rests
 returns-clause-rests g c =
     let slots = g.S.SlotTable.slots c.self.inside.aged.table in
-    let end = end_of slots (g.S.SlotTable.capacity c.self.inside.aged.table) in
-    rw (← c.self.view_is) (λ moment started before. servers_rest (settings_view c.self.inside.settings) moment c.args.from c.first_due.result started before end
+    let end = end_of slots (g.S.SlotTable.capacity c.self.inside.aged.table) c.self.inside.restart in
+    rw (← c.self.view_is) (λ settings moment started before. servers_rest settings moment c.args.from c.first_due.result started before end
     (each_viewed Entry (IsQuiet c.args.from c.first_due.result) slots c.first_due.ensures.quiet))
 
 pub returns-clause-moves : goal.returns-clause-moves
 returns-clause-moves g c =
     let slots = g.S.SlotTable.slots c.self.inside.aged.table in
-    let end = end_of slots (g.S.SlotTable.capacity c.self.inside.aged.table) in
-    rw (← c.self.view_is) (λ within. servers_move (settings_view c.self.inside.settings) c.args.from c.first_due.result end within
+    let end = end_of slots (g.S.SlotTable.capacity c.self.inside.aged.table) c.self.inside.restart in
+    rw (← c.self.view_is) (λ settings within. servers_move settings c.args.from c.first_due.result end within
     (due_viewed Entry (due_of c.args.from) slots ∙ sym c.first_due.ensures.due))
