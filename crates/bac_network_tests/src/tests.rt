@@ -26,6 +26,7 @@ mod requests;
 mod scene;
 mod script;
 mod scripts;
+mod sleeping;
 mod straight_runs;
 mod transfer;
 mod twins;

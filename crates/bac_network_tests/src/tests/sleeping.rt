@@ -1,0 +1,203 @@
+//! Two drivers of the same nodes: one sleeps until a node says that something is due, the other lets all do what is due at each millisecond. Both go by
+//! schedules that are made up from a number, and send the same datagrams at the same moments.
+use super::scene::{limits_of, request_of};
+use super::*;
+use bac_network::{Event, World, WorldFault};
+
+/// What nodes ask, in words.
+const REQUESTS: &[&str] = &[
+    "read 0:5 85",
+    "append 10:1 {100*AB}",
+    "get 10:1 0 200",
+    "write 2:1 28 7564{100*00}",
+    "read 2:1 28",
+];
+
+/// From which numbers schedules are made up.
+const SEEDS: u64 = 6;
+
+/// Numbers that follow one from the other, without an order that can be seen.
+#[derive(Clone, Copy)]
+struct Numbers {
+    state: u64,
+}
+
+impl Numbers {
+    /// The next one, below that limit.
+    fn below(&mut self, limit: usize) -> usize {
+        self.state = self
+            .state
+            .wrapping_mul(6_364_136_223_846_793_005)
+            .wrapping_add(1_442_695_040_888_963_407);
+        let number = (self.state >> 33) as usize;
+        number.checked_rem(limit).unwrap_or(0)
+    }
+}
+
+/// Which nodes do what is due at a moment.
+#[derive(Clone, Copy)]
+enum Driver {
+    /// Those that say that something is.
+    Sleeps,
+    /// All.
+    Ticks,
+}
+
+fn happens(world: &mut World, event: &Event) -> Result<(), Wrong> {
+    match world.step(event) {
+        Ok(_) => Ok(()),
+        Err(WorldFault::NoMemory) => Err(Wrong::NoMemory),
+        Err(_) => Err(Wrong::Line),
+    }
+}
+
+fn is_due(world: &World, node: usize) -> bool {
+    match world.nodes().get(node) {
+        Some(node) => matches!(node.next_due(), Some(due) if due <= world.now()),
+        None => false,
+    }
+}
+
+/// The moment at which the first node has something to do; if none has, the last of all.
+fn next_due(world: &World) -> u64 {
+    let mut first = u64::MAX;
+    for node in world.nodes() {
+        if let Some(due) = node.next_due() {
+            first = first.min(due);
+        }
+    }
+    first
+}
+
+/// Nodes do what is due.
+fn settle(world: &mut World, driver: Driver) -> Result<(), Wrong> {
+    for node in 0..world.nodes().len() {
+        if matches!(driver, Driver::Ticks) || is_due(world, node) {
+            happens(world, &Event::Tick { node })?;
+        }
+    }
+    Ok(())
+}
+
+/// An event happens, and then nodes do what is due.
+fn goes_on(world: &mut World, driver: Driver, event: &Event) -> Result<(), Wrong> {
+    happens(world, event)?;
+    settle(world, driver)
+}
+
+/// So many milliseconds pass, one after the other.
+fn tick(world: &mut World, milliseconds: u64) -> Result<(), Wrong> {
+    for _ in 0..milliseconds {
+        goes_on(world, Driver::Ticks, &Event::Advance { by: 1 })?;
+    }
+    Ok(())
+}
+
+/// The same, in one sleep after the other: each ends where something is due, and the last one where all have passed.
+fn sleep(world: &mut World, milliseconds: u64) -> Result<(), Wrong> {
+    let end = world.now().saturating_add(milliseconds);
+    for _ in 0..milliseconds {
+        let by = next_due(world).min(end).saturating_sub(world.now());
+        goes_on(world, Driver::Sleeps, &Event::Advance { by })?;
+        if world.now() == end {
+            return Ok(());
+        }
+    }
+    Err(Wrong::Line)
+}
+
+/// A world, once for each driver.
+#[derive(Drop)]
+struct Drivers {
+    sleeps: World,
+    ticks: World,
+}
+
+impl Drivers {
+    fn new(alloc: Global) -> Result<Drivers, Wrong> {
+        Ok(Drivers {
+            sleeps: SMALL_ONES.world(alloc)?,
+            ticks: SMALL_ONES.world(alloc)?,
+        })
+    }
+
+    fn go_on(&mut self, event: &Event) -> Result<(), Wrong> {
+        goes_on(&mut self.sleeps, Driver::Sleeps, event)?;
+        goes_on(&mut self.ticks, Driver::Ticks, event)
+    }
+
+    fn pass(&mut self, milliseconds: u64) -> Result<(), Wrong> {
+        sleep(&mut self.sleeps, milliseconds)?;
+        tick(&mut self.ticks, milliseconds)
+    }
+
+    /// One node asks another one, or itself, which is refused.
+    fn ask(&mut self, alloc: Global, numbers: &mut Numbers) -> Result<(), Wrong> {
+        let words = REQUESTS.get(numbers.below(REQUESTS.len())).unwrap_or(&"");
+        let event = Event::Ask {
+            client: numbers.below(3),
+            server: numbers.below(3),
+            limits: limits_of(alloc, "0270")?,
+            request: request_of(alloc, words)?,
+        };
+        self.go_on(&event)
+    }
+
+    /// One of the last copies comes.
+    fn deliver(&mut self, numbers: &mut Numbers) -> Result<(), Wrong> {
+        let copies = self.sleeps.copies().len();
+        match copies.checked_sub(1 + numbers.below(6)) {
+            Some(number) => self.go_on(&Event::Deliver { number }),
+            None => Ok(()),
+        }
+    }
+
+    /// Some time passes: mostly little, and at most 3,100 milliseconds.
+    fn wait(&mut self, numbers: &mut Numbers) -> Result<(), Wrong> {
+        let most = match numbers.below(4) {
+            0 | 1 => 10,
+            2 => 2_100,
+            _ => 3_100,
+        };
+        self.pass(1 + numbers.below(most) as u64)
+    }
+
+    fn follow(&mut self, alloc: Global, numbers: &mut Numbers) -> Result<(), Wrong> {
+        match numbers.below(10) {
+            0 | 1 => self.ask(alloc, numbers),
+            2 => self.wait(numbers),
+            _ => self.deliver(numbers),
+        }
+    }
+
+    /// Whether as many datagrams were sent and as much was logged; and, once all nodes know the same latest moment, whether nothing differs.
+    fn are_same(&mut self) -> Result<bool, Wrong> {
+        let is_sent = self.sleeps.copies().len() == self.ticks.copies().len();
+        let is_logged = self.sleeps.log().len() == self.ticks.log().len();
+        settle(&mut self.sleeps, Driver::Ticks)?;
+        Ok(is_sent && is_logged && self.sleeps.same(&self.ticks))
+    }
+}
+
+/// Both drivers go by a schedule, and then all is sent again until it is given up; how many datagrams were sent, None where they differ.
+fn sent_by_both(alloc: Global, seed: u64) -> Result<Option<usize>, Wrong> {
+    let mut drivers = Drivers::new(alloc)?;
+    let mut numbers = Numbers { state: seed };
+    for _ in 0..150u8 {
+        drivers.follow(alloc, &mut numbers)?;
+    }
+    drivers.pass(12_500)?;
+    let is_same = drivers.are_same()?;
+    Ok(is_same.then_some(drivers.ticks.copies().len()))
+}
+
+#[test]
+fn sleeping_and_ticking_send_the_same(rt: HostRuntime) -> Result<(), Fail> {
+    for seed in 0..SEEDS {
+        match sent_by_both(rt.alloc(), seed) {
+            Ok(Some(sent)) if sent > 80 => {}
+            _ => return Err(Fail::from("another datagram")),
+        }
+    }
+    Ok(())
+}
