@@ -146,7 +146,7 @@ impl Drivers {
     /// One of the last copies comes.
     fn deliver(&mut self, numbers: &mut Numbers) -> Result<(), Wrong> {
         let copies = self.sleeps.copies().len();
-        match copies.checked_sub(1 + numbers.below(6)) {
+        match copies.checked_sub(numbers.below(6).saturating_add(1)) {
             Some(number) => self.go_on(&Event::Deliver { number }),
             None => Ok(()),
         }
@@ -159,7 +159,8 @@ impl Drivers {
             2 => 2_100,
             _ => 3_100,
         };
-        self.pass(1 + numbers.below(most) as u64)
+        let more = numbers.below(most) as u64;
+        self.pass(more.saturating_add(1))
     }
 
     fn follow(&mut self, alloc: Global, numbers: &mut Numbers) -> Result<(), Wrong> {
