@@ -22,6 +22,15 @@ fn number<'a>(alloc: Global, name: &'a str, value: &'a str, most: u64, help: &'a
         .help(help)
 }
 
+/// A file of objects, in place of the house.
+fn objects<'a>(alloc: Global) -> Arg<'a> {
+    Arg::new(alloc, "objects")
+        .long("objects")
+        .action(ArgAction::Set)
+        .value_name("FILE")
+        .help("A document of the objects that it has, in TOML; without it those of the house")
+}
+
 fn port<'a>(alloc: Global, help: &'a str) -> Arg<'a> {
     number(alloc, "port", "P", 65_535, help)
 }
@@ -53,10 +62,15 @@ fn simulate_command<'a>(alloc: Global) -> Result<Command<'a>, clap::Error> {
     Ok(simulate)
 }
 
+/// Nodes that may serve.
+const SERVE_EXAMPLES: &str = "\
+Example: bac serve --port 47808 --turns 600
+Example: bac serve --port 47808 --turns 600 --objects plant.toml";
+
 fn serve_command<'a>(alloc: Global) -> Result<Command<'a>, clap::Error> {
     let serve = Command::new(alloc, "serve")
         .about("Serves a house over UDP on 127.0.0.1, and prints how many requests it performed")
-        .after_help("Example: bac serve --port 47808 --turns 600")
+        .after_help(SERVE_EXAMPLES)
         .arg(port(alloc, "The UDP port that it listens at, 1 to 65535"))?
         .arg(number(
             alloc,
@@ -64,7 +78,8 @@ fn serve_command<'a>(alloc: Global) -> Result<Command<'a>, clap::Error> {
             "N",
             1_000_000,
             "How many turns it takes, 1 to 1000000; each waits at most 100 milliseconds for a datagram",
-        ))?;
+        ))?
+        .arg(objects(alloc))?;
     Ok(serve)
 }
 
@@ -110,7 +125,8 @@ fn command<'a>(alloc: Global) -> Result<Command<'a>, clap::Error> {
     let answer = Command::new(alloc, "answer")
         .about("Prints the datagrams that answer a datagram, one a line, or `none`")
         .after_help("Example: bac answer 810A001101040005010C0C000000051955")
-        .arg(word(alloc, "HEX", "The datagram, in hexadecimal"))?;
+        .arg(word(alloc, "HEX", "The datagram, in hexadecimal"))?
+        .arg(objects(alloc))?;
     let decode = Command::new(alloc, "decode")
         .about("Prints the layers of a datagram, one a line, up to the first that has a fault")
         .after_help("Example: bac decode 810A000801001013")

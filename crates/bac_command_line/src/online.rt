@@ -2,12 +2,13 @@
 ghost use Rattle.std.specs.Prelude.{◌≡◌, ℕ, map, IfSome};
 ghost use Rattle.bac_protocol.specs.Service.{Octets};
 ghost use Rattle.bac_commands.specs.Questions.{ReadsQuestion, local};
-ghost use Rattle.bac_command_line.specs.Online.{IsAsked, IsPair, IsServed, OnClock, OnPort};
+ghost use Rattle.bac_command_line.specs.Online.{IsAsked, IsPair, IsServedBy, OnClock, OnPort};
 
-use bac_commands::{clock_fault, house_station, link_fault, local, read_question};
+use bac_commands::{clock_fault, house_station, link_fault, local, read_question, station_with};
 use bac_link::{Clock, Link};
 use bac_run::Question;
 use bac_script::FormFault;
+use bac_store::Store;
 use bac_text::{Status, complain, no_memory};
 use std::alloc::Global;
 use std::io::Write;
@@ -31,16 +32,17 @@ pub trait Machine {
         ensures { IfSome result Self.is_made };
 }
 
-/// A node at a port takes so many turns.
+/// A node with a store at a port takes so many turns.
 pub(crate) fn serve<M: Machine, O: Write, E: Write>(
     alloc: Global,
     machine: &M,
+    store: Store,
     port: u16,
     turns: u64,
     out: &mut O,
     err: &mut E,
 ) -> Status
-    ensures { IsServed (OnPort M.is_bound M.Link.failures M.Link.calls) (OnClock M.is_made M.Timer.told) result port turns
+    ensures { IsServedBy store (OnPort M.is_bound M.Link.failures M.Link.calls) (OnClock M.is_made M.Timer.told) result port turns
         (O.contents out.old) (O.contents out.new) }
 {
     let Some(bound) = machine.bind(port) else {
@@ -50,7 +52,7 @@ pub(crate) fn serve<M: Machine, O: Write, E: Write>(
         return clock_fault(err);
     };
     let address = bound.1;
-    let Ok(mut station) = house_station(alloc, bound.0, address) else {
+    let Ok(mut station) = station_with(alloc, bound.0, address, store) else {
         return no_memory(err);
     };
     bac_commands::serve(&mut station, &mut timer, turns, out, err)

@@ -10,5 +10,5 @@ pub use asking::ask;
 pub use pairing::pair;
 pub use question::{local, read_question};
 pub use serving::serve;
-pub use station::house_station;
+pub use station::{house_station, station_with};
 pub use trouble::{clock_fault, link_fault};
