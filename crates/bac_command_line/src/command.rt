@@ -27,9 +27,7 @@ fn perform<F: OpenFiles, M: Machine, O: Write, E: Write>(
         task.entry result (O.contents out.old) (O.contents out.new) }
 {
     match task {
-        Task::Answer { datagram, objects } => {
-            answer(alloc, files, datagram, objects, out, err)
-        }
+        Task::Answer { datagram, objects } => { answer(alloc, files, datagram, objects, out, err) }
         Task::Decode(datagram) => decode_over(alloc, datagram, out, err),
         Task::Check(path) => check(alloc, files, path, out, err),
         Task::Simulate(path) => simulate(alloc, files, path, out, err),

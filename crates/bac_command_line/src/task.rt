@@ -21,7 +21,10 @@ pub(crate) enum Task<'m, 'a> {
         objects: Option<&'a str>,
     },
     /// The request that some words are, of the node at a port.
-    Ask { port: u16, words: &'m [&'a str] },
+    Ask {
+        port: u16,
+        words: &'m [&'a str],
+    },
     /// Two nodes.
     Pair,
 }

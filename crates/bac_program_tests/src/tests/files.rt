@@ -254,11 +254,7 @@ present-value = { real = -40.0 }
     (
         "x",
         "serve --port 47899 --turns 2 --objects capture",
-        (
-            "",
-            "capture: line 1: key with no value, expected `=`\n",
-            2,
-        ),
+        ("", "capture: line 1: key with no value, expected `=`\n", 2),
     ),
     (
         "[[object]]\ntype = \"boiler\"\n",
