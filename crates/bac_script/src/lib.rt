@@ -5,6 +5,7 @@ mod form_fault;
 mod line;
 mod line_reading;
 mod request_reading;
+mod values;
 mod words;
 
 pub use form_fault::FormFault;
