@@ -1,7 +1,7 @@
-"""Holds the names of object types and properties of bac_names against tshark's own tables:
+"""Holds the names of bac_names against tshark's own tables:
     python3 tests/outside/names.py
 Each number that both have must have the same name, but for the spellings below, which are tshark's. The last line is
-`types=T properties=P wrong=N`, and the status is 1 where N is not 0."""
+`types=T properties=P classes=C codes=E rejects=R aborts=A wrong=N`, and the status is 1 where N is not 0."""
 import glob
 import os
 import re
@@ -30,6 +30,17 @@ SPELLED_OTHERWISE = {
     489: "subordinate-relationship",
 }
 
+CODES_SPELLED_OTHERWISE = {14: "invalid-time-stamp"}
+# Of each table the files of its rows, tshark's field, and tshark's own spellings.
+TABLES = {
+    "types": ("object_types.rt", "objectType", {}),
+    "properties": ("properties/*.rt", "property_identifier", SPELLED_OTHERWISE),
+    "classes": ("error_classes.rt", "error_class", {}),
+    "codes": ("error_codes/*.rt", "error_code", CODES_SPELLED_OTHERWISE),
+    "rejects": ("reject_reasons.rt", "reject_reason", {}),
+    "aborts": ("abort_reasons.rt", "abort_reason", {}),
+}
+
 
 def rows_of(pattern):
     rows = {}
@@ -47,7 +58,7 @@ def tshark_tables():
         part = line.split("\t")
         if len(part) >= 4 and part[0] == "V" and part[1].startswith("bacapp."):
             name = re.sub(r"\(.*?\)", "", part[3].lower()).strip()
-            tables.setdefault(part[1], {})[int(part[2], 0)] = re.sub(r"[\s_/]+", "-", name)
+            tables.setdefault(part[1], {})[int(part[2], 0)] = re.sub(r"[\s_/-]+", "-", name)
     return tables
 
 
@@ -64,11 +75,13 @@ def wrong_in(rows, table, otherwise):
 
 def main():
     tables = tshark_tables()
-    types, properties = rows_of("object_types.rt"), rows_of("properties/*.rt")
-    wrong = wrong_in(types, tables["bacapp.objectType"], {})
-    wrong += wrong_in(properties, tables["bacapp.property_identifier"], SPELLED_OTHERWISE)
-    print(f"types={len(types)} properties={len(properties)} wrong={wrong}")
-    sys.exit(wrong > 0 or not types or not properties)
+    wrong, counts = 0, []
+    for what, (files, field, otherwise) in TABLES.items():
+        rows = rows_of(files)
+        counts.append(f"{what}={len(rows)}")
+        wrong += wrong_in(rows, tables[f"bacapp.{field}"], otherwise) + (not rows)
+    print(" ".join(counts), f"wrong={wrong}")
+    sys.exit(wrong > 0)
 
 
 main()

@@ -14,6 +14,7 @@ mod segments;
 mod services;
 mod slots;
 mod texts;
+mod value_texts;
 mod values;
 
 /// An Err about these octets where it is not so.

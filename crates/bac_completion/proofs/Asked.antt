@@ -20,7 +20,7 @@ use Rattle.bac_protocol.specs.World.{Net, Post, post_of}
 use Rattle.bac_protocol.specs.Claims as claims
 use Rattle.bac_protocol.proofs.Keys.{set_same}
 use Rattle.bac_progress.specs.RoundTrip.{request_to}
-use Rattle.bac_progress.proofs.Paths.{ask_of, Step, Path}
+use Rattle.bac_progress.proofs.Paths.{ask_of, Bounded, Step, Path}
 use Rattle.bac_progress.proofs.Paths.Path.{Here, Then}
 use Rattle.bac_progress.proofs.Changes.{IsThere}
 use Rattle.bac_ends.specs.Sends.{Pairwise}
@@ -28,6 +28,7 @@ use Rattle.bac_world.specs.World.{World, Copy, IsAsked, peer_at}
 use Rattle.bac_world.proofs.Bridge.{IsCopyOf, IsBetween, key_of, framed_means}
 use Rattle.bac_world.proofs.Steps.{Over}
 use Rattle.bac_completion.specs.RoundTrip.{IsRequest}
+use Rattle.bac_completion.proofs.Never.{never_bounded}
 use Rattle.bac_completion.proofs.Following.{Parts, asked_free, asked_net, asked_over}
 
 pub after_ask : (now : ℕ) (t : Ticket) (r : Reaction) → (client.after now t r).ask ≡ t.ask
@@ -71,6 +72,9 @@ module _ (links : ℕ → Option Octets) (apart : (i j : ℕ) (l : Octets) → l
 
   pub made_over : Over links apart W x asked made
   made_over = asked_over links apart W x bound readable old n h c s limits r asked a p
+
+  pub made_bounded : Bounded made
+  made_bounded = never_bounded made made_over.sound.1
 
   pub made_path : (Q : Net → ℕ → Bool → Service → Type 0) → Path x Q n made
   made_path Q = Then n made Here (Step.Asks (key_of c s p.id) (choice_of r) p.whole p.front p.rest

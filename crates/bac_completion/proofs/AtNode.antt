@@ -283,7 +283,7 @@ module _ (links : ℕ → Option Octets) (apart : (i j : ℕ) (l : Octets) → l
         let numbers : n.numbers (node_key i one.server p.invoke_id) ≡ n.numbers (node_key i two.server q.invoke_id) =
         (let e : Some (n.numbers (node_key i one.server p.invoke_id)) ≡ Some (n.numbers (node_key i two.server q.invoke_id)) =
         sym one.number_is ∙ two.number_is in cc) in
-        let key = (reached_net W x bound n over.sound).apart (node_key i one.server p.invoke_id) (node_key i two.server q.invoke_id) t u
+        let key = (reached_net W x bound n over.sound.0).apart (node_key i one.server p.invoke_id) (node_key i two.server q.invoke_id) t u
         one.ticket two.ticket numbers in
         let link : one.link ≡ two.link =
         (let e : Some one.link ≡ Some two.link = sym one.linked ∙ ap (λ (k : Key). links k.server) key ∙ two.linked in cc) in

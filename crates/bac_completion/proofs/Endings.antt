@@ -26,7 +26,7 @@ use Rattle.bac_protocol.proofs.Nets.{sound_at}
 use Rattle.bac_protocol.proofs.SingleMoves.{reached_net}
 use Rattle.bac_protocol.proofs.Dead.{ended_is_silent}
 use Rattle.bac_progress.specs.Runs as net
-use Rattle.bac_progress.proofs.Paths.{Any, Path, path_then, path_log}
+use Rattle.bac_progress.proofs.Paths.{Any, Path, bounded_start, path_then, path_log}
 use Rattle.bac_progress.proofs.Changes.{IdleIsLogged, HasEnded, IsThere, ended_grows, logged_path}
 use Rattle.bac_progress.proofs.Endings.{Tracked, tracked_path, ended_once}
 use Rattle.bac_slots.specs.Slots.{value_at}
@@ -51,7 +51,8 @@ use Rattle.bac_world.proofs.Headline.{fresh_over, rules_of, rules_bounded}
 use Rattle.bac_completion.specs.Runs.{Throughout, endings_of}
 use Rattle.bac_completion.specs.RoundTrip.{MayArrive, IsFromServer}
 use Rattle.bac_completion.specs.Ends.{IsOpen, EndsInTime, AsksEnd}
-use Rattle.bac_completion.proofs.Asked.{after_ask, key, ask, made, made_over, made_path, there, server_link, foreign}
+use Rattle.bac_completion.proofs.Never.{never_bounded, client_stays}
+use Rattle.bac_completion.proofs.Asked.{after_ask, key, ask, made, made_over, made_bounded, made_path, there, server_link, foreign}
 use Rattle.bac_completion.proofs.Following.{Followed, Parts, IsTaken, accepted, post, heard_now, told_over, Gives, step_followed, run_followed}
 
 -- Endings are counted alike in a log of octets and in the same log as values.
@@ -82,6 +83,7 @@ some_ended n (f ∷ log) = go f (some_ended n log)
     go (octets.Fact.Asked m c s q) (inl none) = inl none
     go (octets.Fact.Performed m q p) (inl none) = inl none
     go (octets.Fact.Changed node change) (inl none) = inl none
+    go (octets.Fact.Restarted node store) (inl none) = inl none
     go (octets.Fact.Ended m how) (inl none) = by (nat_eq m n) refl
       where
         by : (b : Bool) → nat_eq m n ≡ b → (net.endings_of n (octets.Fact.Ended m how ∷ log) ≡ 0) ⊎ HasEnded n (octets.Fact.Ended m how ∷ log)
@@ -291,17 +293,20 @@ module _ (links : ℕ → Option Octets) (apart : (i j : ℕ) (l : Octets) → l
         now = then.over.now ∙ ticks.acts.now
 
         logged_first : IdleIsLogged first
-        logged_first = logged_path x Any n first (made_path links apart W x bound readable old n h c s limits r asked a parts Any) logged
+        logged_first = logged_path x Any n first (made_path links apart W x bound readable old n h c s limits r asked a parts Any)
+            (never_bounded n h.sound.1) logged
 
         logged_then : IdleIsLogged then.net
-        logged_then = logged_path x Any first then.net path logged_first
+        logged_then = logged_path x Any first then.net path
+            (made_bounded links apart W x bound readable old n h c s limits r asked a parts) logged_first
 
         go : Tracked x asks_key n.asks its_ask then.net → HasEnded n.asks then.net.log
         go (inr e) = e
         go (inl t) = by (is_idle t.ticket.phase) refl
           where
             by : (b : Bool) → is_idle t.ticket.phase ≡ b → HasEnded n.asks then.net.log
-            by true idle = subst (λ (k : ℕ). HasEnded k then.net.log) t.number_is (logged_then asks_key t.ticket t.at idle)
+            by true idle = subst (λ (k : ℕ). HasEnded k then.net.log) t.number_is ((logged_then asks_key t.ticket t.at).1
+                (client_stays then.net then.over.sound.1 asks_key t.ticket.ask) idle)
             by false going = absurd (
                 let young = open_in_time late ticked then.net then.over c ticks now asks_key refl t.ticket t.at going a.link
                 (server_link links apart W x bound readable old n h c s limits r asked a parts) in
@@ -311,7 +316,8 @@ module _ (links : ℕ → Option Octets) (apart : (i j : ℕ) (l : Octets) → l
                 )
 
         ended : HasEnded n.asks then.net.log
-        ended = go (tracked_path x asks_key n.asks its_ask first then.net path logged_first
+        ended = go (tracked_path x asks_key n.asks its_ask first then.net path
+            (made_bounded links apart W x bound readable old n h c s limits r asked a parts) (client_stays then.net then.over.sound.1 asks_key its_ask) logged_first
             (inl (there links apart W x bound readable old n h c s limits r asked a parts Any)))
 
     -- a copy of its server's that is heard
@@ -343,9 +349,9 @@ module _ (links : ℕ → Option Octets) (apart : (i j : ℕ) (l : Octets) → l
       at : m.tickets z.other.key ≡ Some t.ticket
       at = ap m.tickets key_is ∙ t.at
 
-      known : (up : Up) × (down : Down) × Sound W z.other.key m.now m.asks (m.numbers z.other.key) t.ticket (m.entries z.other.key)
+      known : (up : Up) × (down : Down) × Sound W z.other.key (m.serves_from z.other.key.server) m.now m.asks (m.numbers z.other.key) t.ticket (m.entries z.other.key)
           (one m z.other.key).copies m.log up down
-      known = sound_at W m z.other.key (Some t.ticket) at (reached_net W x bound m over.sound)
+      known = sound_at W m z.other.key (Some t.ticket) at (reached_net W x bound m over.sound.0)
 
       of_server : is_from_server z.other.copy.apdu ≡ true
       of_server = from_server W (m.numbers z.other.key) t.ticket.ask m.log known.0 known.1 z.other.copy.moment (later z.other.key number m.posts)
@@ -378,14 +384,16 @@ module _ (links : ℕ → Option Octets) (apart : (i j : ℕ) (l : Octets) → l
         → (number : ℕ) (d : Copy) → MayArrive x.overtake late number d → IsFromServer c s a.accepted.invoke_id d
         → WorldStep x.overtake late (Deliver number) answered
         → (after : List Event) (w : World) → WorldRun x.overtake answered after w → endings_of (length old.notes) w.log ≡ 1
-    answer between late answered run over number d may from did after w run' = go (tracked_path x asks_key n.asks its_ask first f.net f.path logged_first
+    answer between late answered run over number d may from did after w run' = go (tracked_path x asks_key n.asks its_ask first f.net f.path
+        (made_bounded links apart W x bound readable old n h c s limits r asked a parts) (client_stays f.net f.over.sound.1 asks_key its_ask) logged_first
         (inl (there links apart W x bound readable old n h c s limits r asked a parts Any)))
       where
         f : Followed links apart W x bound readable Any late first
         f = followed between late run
 
         logged_first : IdleIsLogged first
-        logged_first = logged_path x Any n first (made_path links apart W x bound readable old n h c s limits r asked a parts Any) logged
+        logged_first = logged_path x Any n first (made_path links apart W x bound readable old n h c s limits r asked a parts Any)
+            (never_bounded n h.sound.1) logged
 
         then : Followed links apart W x bound readable Any answered f.net
         then = on_step late answered f.net f.over (Deliver number) did
@@ -404,7 +412,8 @@ module _ (links : ℕ → Option Octets) (apart : (i j : ℕ) (l : Octets) → l
           where
             by : (b : Bool) → is_idle t.ticket.phase ≡ b → endings_of (length old.notes) w.log ≡ 1
             by true idle = was (subst (λ (k : ℕ). HasEnded k f.net.log) t.number_is
-                (logged_path x Any first f.net f.path logged_first asks_key t.ticket t.at idle))
+                ((logged_path x Any first f.net f.path (made_bounded links apart W x bound readable old n h c s limits r asked a parts) logged_first asks_key
+                t.ticket t.at).1 (client_stays f.net f.over.sound.1 asks_key t.ticket.ask) idle))
             by false going = conclude (client_acts f.net _ t.ticket _) (told late answered f.net f.over over number d may from did t going)
                 (has_ended late answered f.net f.over over number d may from did t going)
 
@@ -419,4 +428,4 @@ asks_end W overtake opening reached fresh bounded events run c s limits r asked 
     let bound = rules_bounded W overtake opening bounded in
     let f = on_run links fresh.apart W x bound refl events opening reached net_start (fresh_over W overtake opening fresh bounded) run in
     ends links fresh.apart W x bound refl reached f.net f.over
-    (logged_path x Any net_start f.net f.path (λ key t at idle. absurd cc)) c s limits r asked a
+    (logged_path x Any net_start f.net f.path bounded_start (λ key t at. absurd cc)) c s limits r asked a

@@ -16,10 +16,11 @@ use Rattle.bac_protocol.specs.Client.{Ticket}
 use Rattle.bac_protocol.specs.Server as server
 use Rattle.bac_protocol.specs.Server.{Service, server_ticks}
 use Rattle.bac_protocol.specs.Transaction.{Key, Rules, server_context}
-use Rattle.bac_protocol.specs.World.{Net, Post, asked_at, server_acts, notes_change, is_key_held}
+use Rattle.bac_protocol.specs.World.{Net, Post, asked_at, server_acts, notes_change, is_key_held, is_id_held}
 use Rattle.bac_protocol.specs.World as machine
 use Rattle.bac_protocol.specs.Moves.{taken_by_client, taken_by_server, ticket_ticked}
 use Rattle.bac_protocol.specs.Claims as claims
+use Rattle.bac_protocol.proofs.Unchanged.{never_waits}
 use Rattle.bac_slots.specs.Slots.{value_at}
 use Rattle.bac_ends.specs.Keys.{same_key}
 use Rattle.bac_ends.specs.Ends.{AskOutcome, act_at, is_free, client_asks}
@@ -67,9 +68,12 @@ module _ (links : ℕ → Option Octets) (apart : (i j : ℕ) (l : Octets) → l
     abbrev pub asked_key : Key
     asked_key = key_of c s p.id
 
-    pub asked_free : is_key_held n.now (n.tickets (key_of c s p.id)) ≡ false
-    asked_free = free_ticket n.now w.notes c (n.numbers (key_of c s p.id)) (value_at same_key (slot_key a.link p.id) a.before.clients.slots)
+    asked_unheld : is_key_held n.now (n.tickets (key_of c s p.id)) ≡ false
+    asked_unheld = free_ticket n.now w.notes c (n.numbers (key_of c s p.id)) (value_at same_key (slot_key a.link p.id) a.before.clients.slots)
         (n.tickets (key_of c s p.id)) ((h.nodes c a.before a.at).clients.found s a.link p.id (sym (h.linked s) ∙ a.peer)) p.free
+
+    pub asked_free : is_id_held n (key_of c s p.id) ≡ false
+    asked_free = (never_waits n h.sound.1).held (key_of c s p.id) ∙ asked_unheld
 
     abbrev pub asked_net : Net
     asked_net = asked_at x n (key_of c s p.id) (ask_of n.now (choice_of r) p.whole p.front p.rest)
@@ -251,8 +255,10 @@ module _ (links : ℕ → Option Octets) (apart : (i j : ℕ) (l : Octets) → l
             record {
               net = server_acts n p.key (served_so links apart W x n p (service_of t.before.store) t.before.servers);
               over = s.over;
-              path = Then n (taken_by_server x n p (is_free n.now t.before.servers) (service_of t.before.store)) Here
-                  (Step.Serves number p (is_free n.now t.before.servers) (service_of t.before.store) comes_now up (gives w' p c t up));
+              path = subst (λ (b : Bool). Path x Q n (server_acts n p.key (server.server_gets (server_context x p.key n.now)
+                  (service_of t.before.store) (n.entries p.key) b p.copy.apdu))) ((never_waits n h.sound.1).room p.key (is_free n.now t.before.servers))
+                  (Then n (taken_by_server x n p (is_free n.now t.before.servers) (service_of t.before.store)) Here
+                  (Step.Serves number p (is_free n.now t.before.servers) (service_of t.before.store) comes_now up (gives w' p c t up)));
             }
         go false down = record {
           net = taken_by_client x n p (n.tickets p.key);

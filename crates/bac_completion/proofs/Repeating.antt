@@ -27,13 +27,14 @@ use Rattle.bac_protocol.specs.Moves.{taken_by_client}
 use Rattle.bac_protocol.specs.Straight.{KindFits}
 use Rattle.bac_protocol.specs.Claims as claims
 use Rattle.bac_protocol.proofs.Dead.{ended_is_silent}
-use Rattle.bac_protocol.proofs.SingleMoves.{reached_net}
+use Rattle.bac_protocol.proofs.SingleMoves.{reached_net, reached_calm}
+use Rattle.bac_protocol.proofs.Unchanged.{never_waits}
 use Rattle.bac_progress.specs.RoundTrip.{FitsInOne, request_to, answer_to}
 use Rattle.bac_progress.specs.Repeats as machine
 use Rattle.bac_progress.specs.Repeats.{PATIENCE}
 use Rattle.bac_progress.proofs.Paths.{some_is, ask_of}
 use Rattle.bac_progress.proofs.Serving.{answer_not_from_client}
-use Rattle.bac_progress.proofs.Waits.{Waits, Finds, PatientOrAnswered, WasGiven, waits_path, repeat_left, fine_comes, fine_down, told_answered}
+use Rattle.bac_progress.proofs.Waits.{Waits, Finds, PatientOrOver, WasGiven, waits_path, repeat_left, fine_comes, fine_down, told_answered}
 use Rattle.bac_progress.proofs.Waits.{brings_answer}
 use Rattle.bac_progress.proofs.Robust.{asked_on}
 use Rattle.bac_slots.specs.Slots.{value_at}
@@ -57,6 +58,7 @@ use Rattle.bac_completion.specs.RoundTrip.{MayArrive, IsRequest, CanPerform, IsA
 use Rattle.bac_completion.specs.Repeats.{FindsServer, IsWaiting, IsRobust, RepeatsSuffice}
 use Rattle.bac_completion.proofs.Following.{Gives, Followed, Parts, IsTaken, IsServedBy, served_reaction, accepted, asked_free, post, comes, heard_now}
 use Rattle.bac_completion.proofs.Following.{served_over, told_over, run_followed}
+use Rattle.bac_completion.proofs.Never.{client_stays}
 use Rattle.bac_completion.proofs.Asked.{key, ask, made, made_over, client_link, server_link, foreign, request_is, is_request, pairwise_rest, just_one}
 use Rattle.bac_completion.proofs.Endings.{on_run}
 use Rattle.bac_completion.proofs.Performing.{id_is, is_none, entry_is, slot, outcome, way, does, reaction}
@@ -145,7 +147,8 @@ module _ (links : ℕ → Option Octets) (apart : (i j : ℕ) (l : Octets) → l
   gives w m over (Event.Ask client server' limits' r') f = tt
   gives w m over (Deliver number) f = λ w' y d t up on none.
       let same = some_is y on.post (sym t.at ∙ on.at) in
-      finds w w' m over number y d t (ap (λ (z : Post). z.key) same ∙ on.key_is) (ap (λ (z : Post). z.copy.apdu) same ∙ on.apdu_is) f none
+      let found = finds w w' m over number y d t (ap (λ (z : Post). z.key) same ∙ on.key_is) (ap (λ (z : Post). z.copy.apdu) same ∙ on.apdu_is) f none in
+      (found.0, (never_waits m over.sound.1).room its_key (is_free m.now t.before.servers) ∙ found.1, found.2, found.3)
   gives w m over (Event.Noise node from data') f = tt
   gives w m over (Event.Tick node) f = tt
   gives w m over (Event.Advance by) f = tt
@@ -156,7 +159,7 @@ module _ (links : ℕ → Option Octets) (apart : (i j : ℕ) (l : Octets) → l
   first_on : On first
   first_on = subst (λ (b : Bool). Waits x its_key (ask_of n.now (choice_of r) b p.front p.rest) n.asks
       (asked_at x n its_key (ask_of n.now (choice_of r) b p.front p.rest))) (sym whole)
-      (asked_on W x n (reached_net W x bound n h.sound) its_key (choice_of r) p.front p.rest
+      (asked_on W x n (reached_net W x bound n h.sound.0) its_key (choice_of r) p.front p.rest (reached_calm W x bound n h.sound.0)
       (asked_free links apart W x bound readable old n h c s limits r asked a p))
 
   followed : (events : List Event) (w : World) (run : WorldRun x.overtake asked events w) → Throughout x.overtake Finding asked events w run
@@ -218,11 +221,12 @@ module _ (links : ℕ → Option Octets) (apart : (i j : ℕ) (l : Octets) → l
       o : On f.net
       o = on_of w f young
 
-      go : PatientOrAnswered x its_key its_ask n.asks f.net.now o.ticket.ticket f.net.log
+      go : PatientOrOver x its_key its_ask n.asks (f.net.asks_from its_key.client) f.net.now o.ticket.ticket f.net.log
           → IsWaiting w c a.link a.accepted.invoke_id ⊎ IsAnswered (length old.notes) r w.log
       go (inl k) = inl (waiting w f.net f.over (patience w f.net f.over young) o o.ticket.ticket o.ticket.at k.waits
           (λ due. repeat_left x its_key its_ask n.asks f.net.now o.ticket.ticket k (patience w f.net f.over young) due))
-      go (inr k) = inr (answered_as w f.net f.net.log f.over.log (once events w run) k.1)
+      go (inr (idle, inl answered)) = inr (answered_as w f.net f.net.log f.over.log (once events w run) answered)
+      go (inr (idle, inr lost)) = let stays = client_stays f.net f.over.sound.1 its_key its_ask in absurd (omega arith)
 
   -- A copy of the request brings an answer.
 
@@ -321,7 +325,7 @@ module _ (links : ℕ → Option Octets) (apart : (i j : ℕ) (l : Octets) → l
         (once (events ++ Deliver number ∷ []) answered
         (run_join x.overtake events (Deliver number ∷ []) asked w answered run (answered, did, refl)))
         (subst (λ (k : ℕ). machine.IsAnswered n.asks its_ask (log_after k)) (sym on.number_is)
-        (told_answered x its_key its_ask n.asks m on young on.ticket.ticket on.ticket.at fine.0 fine.2))
+        (told_answered x its_key its_ask n.asks m on young (client_stays m over.sound.1 its_key its_ask) on.ticket.ticket on.ticket.at fine.0 fine.2))
 
   pub robust : IsRobust x.overtake old c s limits r asked a
   robust = record {

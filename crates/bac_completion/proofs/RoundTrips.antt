@@ -26,12 +26,13 @@ use Rattle.bac_protocol.specs.Claims as claims
 use Rattle.bac_protocol.proofs.Keys.{set_same}
 use Rattle.bac_protocol.proofs.SingleMoves.{reached_net}
 use Rattle.bac_progress.specs.RoundTrip.{FitsInOne, request_to, answer_to}
-use Rattle.bac_progress.proofs.Paths.{Any, some_is, Path, path_now, path_log, path_posts}
+use Rattle.bac_progress.proofs.Paths.{Any, some_is, Path, bounded_start, path_now, path_log, path_posts}
 use Rattle.bac_progress.proofs.Changes.{IdleIsLogged, HasEnded, IsThere, logged_path}
 use Rattle.bac_progress.proofs.Endings.{Tracked, tracked_path}
 use Rattle.bac_progress.proofs.Serving.{answer_not_from_client, performed_entry}
-use Rattle.bac_progress.proofs.Kept.{IsKept, kept_path}
-use Rattle.bac_progress.proofs.RoundTrips.{TakesAnswer, takes_ends, there_takes}
+use Rattle.bac_progress.proofs.Kept.{IsKept}
+use Rattle.bac_progress.proofs.Awaiting.{IsAwaited, awaited_path}
+use Rattle.bac_progress.proofs.RoundTrips.{TakesAnswer, takes_ends, awaited_at, takes_awaited, answer_whole}
 use Rattle.bac_progress.proofs.Robust.{at_end}
 use Rattle.bac_ends.specs.Sends.{Pairwise}
 use Rattle.bac_world.specs.Node.{Node}
@@ -46,7 +47,9 @@ use Rattle.bac_world.proofs.Headline.{headline, fresh_over, rules_of, rules_boun
 use Rattle.bac_completion.specs.Runs.{endings_of}
 use Rattle.bac_completion.specs.RoundTrip.{MayArrive, IsRequest, CanPerform, IsAnswered, IsServed, RoundTripSuffices}
 use Rattle.bac_completion.proofs.Following.{Followed, Parts, IsTaken, IsServedBy, served_reaction, accepted, post, heard_now, served_over, told_over}
-use Rattle.bac_completion.proofs.Asked.{key, ask, made, made_over, made_path, there, foreign, request_is, pairwise_rest, pairwise_length, just_one}
+use Rattle.bac_completion.proofs.Never.{never_bounded, client_stays}
+use Rattle.bac_completion.proofs.Asked.{key, ask, made, made_over, made_bounded, made_path, there, foreign, request_is, pairwise_rest, pairwise_length}
+use Rattle.bac_completion.proofs.Asked.{just_one}
 use Rattle.bac_completion.proofs.Endings.{on_run, once_in}
 use Rattle.bac_completion.proofs.Performing.{way, does, reaction}
 use Rattle.bac_completion.proofs.Values.{answered_values, kind_fits}
@@ -70,8 +73,8 @@ module _ (links : ℕ → Option Octets) (apart : (i j : ℕ) (l : Octets) → l
   first = made links apart W x bound readable old n h c s limits r asked a p
 
   logged_on : (m : Net) → Path x Any first m → IdleIsLogged m
-  logged_on m path = logged_path x Any first m path
-      (logged_path x Any n first (made_path links apart W x bound readable old n h c s limits r asked a p Any) logged)
+  logged_on m path = logged_path x Any first m path (made_bounded links apart W x bound readable old n h c s limits r asked a p)
+      (logged_path x Any n first (made_path links apart W x bound readable old n h c s limits r asked a p Any) (never_bounded n h.sound.1) logged)
 
   -- an ask that has no ending is open
   abbrev IsOpenIn : Net → Type 0
@@ -84,7 +87,8 @@ module _ (links : ℕ → Option Octets) (apart : (i j : ℕ) (l : Octets) → l
       go : (b : Bool) → is_idle t.ticket.phase ≡ b → IsOpenIn m
       go false e = (t, e)
       go true e = absurd (
-          let ended = subst (λ (k : ℕ). HasEnded k m.log) t.number_is (log its_key t.ticket t.at e) in
+          let ended = subst (λ (k : ℕ). HasEnded k m.log) t.number_is
+          ((log its_key t.ticket t.at).1 (client_stays m over.sound.1 its_key t.ticket.ask) e) in
           let one = once_in links apart W x bound readable w m over n.asks ended in
           let zero = subst (λ (k : ℕ). endings_of k w.log ≡ 0) (sym h.asks) none in
           omega arith
@@ -92,7 +96,8 @@ module _ (links : ℕ → Option Octets) (apart : (i j : ℕ) (l : Octets) → l
 
   open_in : (w : World) (m : Net) → Path x Any first m → Over links apart W x w m → endings_of (length old.notes) w.log ≡ 0 → IsOpenIn m
   open_in w m path over none = go (tracked_path x its_key n.asks its_ask first m path
-      (logged_path x Any n first (made_path links apart W x bound readable old n h c s limits r asked a p Any) logged)
+      (made_bounded links apart W x bound readable old n h c s limits r asked a p) (client_stays m over.sound.1 its_key its_ask)
+      (logged_path x Any n first (made_path links apart W x bound readable old n h c s limits r asked a p Any) (never_bounded n h.sound.1) logged)
       (inl (there links apart W x bound readable old n h c s limits r asked a p Any)))
     where
       go : Tracked x its_key n.asks its_ask m → IsOpenIn m
@@ -206,11 +211,13 @@ module _ (links : ℕ → Option Octets) (apart : (i j : ℕ) (l : Octets) → l
       in_time : f.net.now - its_ask.first ≤ DEADLINE
       in_time = let one = f.over.now in let two = h.now in omega arith
 
-      kept_then : IsKept x Any its_key n.asks its_ask m.now answer since f.net
-      kept_then = kept_path x Any its_key n.asks its_ask m.now answer since u f.net f.path kept in_time
+      kept_then : IsAwaited x Any its_key n.asks its_ask answer (answer_whole x its_key its_ask can.reply) f.net
+      kept_then = awaited_path x Any its_key n.asks its_ask answer (answer_whole x its_key its_ask can.reply) u f.net f.path
+          (awaited_at W x its_key its_ask n.asks m.now can.reply since u (reached_net W x bound u u_over.sound.0) kept (inl whole)) in_time
 
       logged_then : IdleIsLogged f.net
-      logged_then = logged_path x Any u f.net f.path (λ k z is_at idle. let e = logged_on m path k z is_at idle in (e.0, inr e.1))
+      logged_then = logged_path x Any u f.net f.path (never_bounded u u_over.sound.1)
+          (λ k z is_at. let e = logged_on m path k z is_at in (e.0, λ stays idle. let ended = e.1 stays idle in (ended.0, inr ended.1)))
 
       going : is_idle kept_then.there.ticket.phase ≡ false
       going = still (unended_open v f.net f.over unended logged_then kept_then.there)
@@ -234,7 +241,7 @@ module _ (links : ℕ → Option Octets) (apart : (i j : ℕ) (l : Octets) → l
           (once (before ++ Deliver number ∷ between) v run_v) performed_then)
 
       takes : TakesAnswer kept_then.there.ticket.phase
-      takes = there_takes W x its_key its_ask n.asks m.now can.reply since f.net (reached_net W x bound f.net f.over.sound) kept_then going (inl whole)
+      takes = takes_awaited kept_then.there.ticket.phase going kept_then.phase
 
       ends : client.client_gets (client_context x its_key f.net.now) x.readable kept_then.there.ticket answer ≡ Ends [] (Answered can.reply)
       ends = subst (λ (k : Ask). client.client_gets (client_context x its_key f.net.now) x.readable kept_then.there.ticket (answer_to x its_key k can.reply)
@@ -297,6 +304,6 @@ round_trip_suffices W overtake opening reached fresh bounded events run c s limi
     (accepted links fresh.apart W x bound refl reached f.net f.over c s limits r asked a)
     (subst (λ (z : Settings). request_way_of z limits a.asks.octets ≡ InOne) (f.over.nodes c a.before a.at).settings in_one) in
     suffices links fresh.apart W x bound refl (stores_of opening.nodes) reached f.net f.over
-    (logged_path x Any net_start f.net f.path (λ key t at idle. absurd cc)) c s limits r asked a p.0 p.1
+    (logged_path x Any net_start f.net f.path bounded_start (λ key t at. absurd cc)) c s limits r asked a p.0 p.1
     (λ more w after. headline W overtake opening w fresh bounded (events ++ Event.Ask c s limits r ∷ more)
     (run_join overtake events (Event.Ask c s limits r ∷ more) opening reached w run (asked, inl a, after)))

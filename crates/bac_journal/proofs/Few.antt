@@ -27,10 +27,10 @@ use Rattle.bac_protocol.specs.Server.Transfer.{Running, Stopped, Finished}
 use Rattle.bac_protocol.specs.Server.State.{Done, SegmentedResponse, Dropped}
 use Rattle.bac_protocol.specs.Sizes.Way.{InOne, InSegments, Refused}
 use Rattle.bac_protocol.specs.Transaction.{Key, Rules, server_context}
-use Rattle.bac_protocol.specs.World.{Net, Post, net_start, set_at, is_key_held, asked_at, is_deliverable}
+use Rattle.bac_protocol.specs.World.{Net, Post, net_start, set_at, is_id_held, is_room, asked_at, is_deliverable}
 use Rattle.bac_protocol.specs.Claims.{IsBounded}
 use Rattle.bac_protocol.specs.Moves.{Move, taken_by_client, taken_by_server, arrived, ticket_ticked, moved, IsReached}
-use Rattle.bac_protocol.specs.Moves.Move.{Asks, Arrives, TicksTicket, TicksEntry, Passes, Changes}
+use Rattle.bac_protocol.specs.Moves.Move.{Asks, Arrives, TicksTicket, TicksEntry, Passes, Changes, RestartsClient, RestartsServer}
 use Rattle.bac_protocol.specs.Moves.IsReached.{Still, Moved}
 use Rattle.bac_protocol.proofs.Keys.{set_same, set_other, decide_key}
 use Rattle.bac_protocol.proofs.Facts.{pieces_length}
@@ -346,8 +346,8 @@ module _ (W : ℕ) (x : Rules) (bound : IsBounded W x) where
   served_small : (n : Net) → Small n → (p : Post) (free : Bool) (service : Service) → Small (taken_by_server x n p free service)
   served_small n s p free service =
       let c = server_context x p.key n.now in
-      small_set n s p.key (server.server_gets c service (n.entries p.key) free p.copy.apdu).entry
-      (server_gets_few c service W bound.some (bound.windows p.key.server) (n.entries p.key) free p.copy.apdu (s p.key)).entry
+      small_set n s p.key (server.server_gets c service (n.entries p.key) (is_room n p.key free) p.copy.apdu).entry
+      (server_gets_few c service W bound.some (bound.windows p.key.server) (n.entries p.key) (is_room n p.key free) p.copy.apdu (s p.key)).entry
 
   heard_small : (n : Net) → Small n → (p : Post) (o : Option Ticket) → Small (taken_by_client x n p o)
   heard_small n s p None = s
@@ -367,7 +367,7 @@ module _ (W : ℕ) (x : Rules) (bound : IsBounded W x) where
   ticked_small n s key (Some t) = s
 
   moved_small : (n : Net) → Small n → (m : Move) → Small (moved x n m)
-  moved_small n s (Asks key choice whole front rest) = go (is_key_held n.now (n.tickets key))
+  moved_small n s (Asks key choice whole front rest) = go (is_id_held n key)
     where
       go : (b : Bool) → Small (if b then n else asked_at x n key (record { first = n.now; choice = choice; whole = whole; pieces = front ∷ rest }))
       go true = s
@@ -380,6 +380,12 @@ module _ (W : ℕ) (x : Rules) (bound : IsBounded W x) where
       (server_ticks_few c W bound.some (bound.windows key.server) (n.entries key) (s key)).entry
   moved_small n s (Passes by) = s
   moved_small n s (Changes node change) = s
+  moved_small n s (RestartsClient node) = s
+  moved_small n s (RestartsServer node store) = λ key. go key (nat_eq key.server node)
+    where
+      go : (key : Key) (b : Bool) → EntryFew W (if b then None else n.entries key)
+      go key true = tt
+      go key false = s key
 
   pub entries_few : (n : Net) → IsReached x net_start n → (key : Key) → EntryFew W (n.entries key)
   entries_few _ Still = λ key. tt

@@ -152,7 +152,7 @@ module _ (links : ℕ → Option Octets) (apart : (i j : ℕ) (l : Octets) → l
     few : length o.sends ≤ W + 1
     few =
         let small : length u.sends ≤ W + 1 = (server_gets_few context service W bound.some (bound.windows key.server) (n.entries key) free apdu
-        (entries_few W x bound n h.sound key)).sends in
+        (entries_few W x bound n h.sound.0 key)).sends in
         let all : length o.sends ≡ length u.sends = paired_length IsSent (to_all (peer_at l) u.sends) o.sends sent ∙ sent_length l u.sends in
         omega arith
 

@@ -3,11 +3,11 @@ use Rattle.std.specs.Prelude.{◌≡◌, ◌⊎◌, ℕ, ◌+◌, ◌<◌, ◌�
 use Rattle.std.specs.Option.{option_map}
 use Rattle.bac_link.specs.declared.link.LinkFault.{LinkFault}
 
--- a datagram was handed over to be sent; a datagram came from a link, or none did; receiving failed
+-- a datagram was handed over to be sent; within so many milliseconds a datagram came from a link, or none did; receiving failed
 pub data Call : Type 0 where
   Send : (to octets : List ℕ) → Call
-  Receive : (from octets : List ℕ) → Call
-  ReceiveNothing : Call
+  Receive : (wait : ℕ) (from octets : List ℕ) → Call
+  ReceiveNothing : (wait : ℕ) → Call
   FailedReceive : Call
 
 -- the calls so far in their order, where the link tells
@@ -29,8 +29,8 @@ abbrev pub IsCounted : {A : Type 0} → Result A LinkFault → (old new : ℕ) �
 IsCounted (Ok x) old new = new ≡ old
 IsCounted (Err fault) old new = new ≡ one_more old
 
--- the call that receiving was; a datagram's octets are the first of the buffer
-abbrev pub received : (buffer : List ℕ) → Result (Option (List ℕ × ℕ)) LinkFault → Call
-received buffer (Ok (Some r)) = Call.Receive r.0 (take r.1 buffer)
-received buffer (Ok None) = Call.ReceiveNothing
-received buffer (Err fault) = Call.FailedReceive
+-- the call that receiving was, which was to wait so long; a datagram's octets are the first of the buffer
+abbrev pub received : (wait : ℕ) → (buffer : List ℕ) → Result (Option (List ℕ × ℕ)) LinkFault → Call
+received wait buffer (Ok (Some r)) = Call.Receive wait r.0 (take r.1 buffer)
+received wait buffer (Ok None) = Call.ReceiveNothing wait
+received wait buffer (Err fault) = Call.FailedReceive

@@ -28,10 +28,10 @@ pub trait Link: Drop {
         ensures counted { IsCounted result (Self.failures self.old) (Self.failures self.new) }
         ensures told { Self.calls self.new ≡ with_call (Self.calls self.old) (Send to octets.now) };
 
-    /// The sender of a datagram that has come, and how many octets it has; the octets are the first of the buffer, and of a longer datagram those that fit
-    /// it. None where no datagram has come.
-    fn recv(&mut self, buffer: &mut [u8]) -> Result<Option<([u8; 6], usize)>, LinkFault>
+    /// Waits for a datagram, so many milliseconds at most. Its sender, and how many octets it has; the octets are the first of the buffer, and of a longer
+    /// datagram those that fit it. None where no datagram has come.
+    fn recv(&mut self, buffer: &mut [u8], wait: u64) -> Result<Option<([u8; 6], usize)>, LinkFault>
         ensures within { IfOk result (λ r. IfSome r (λ d. d.1 ≤ length buffer.new)) }
         ensures counted { IsCounted result (Self.failures self.old) (Self.failures self.new) }
-        ensures told { Self.calls self.new ≡ with_call (Self.calls self.old) (received buffer.new result) };
+        ensures told { Self.calls self.new ≡ with_call (Self.calls self.old) (received wait buffer.new result) };
 }

@@ -9,10 +9,10 @@ use std::io::ErrorKind;
 use std::net::{Ipv4Addr, Net, SocketAddr, UdpSocket};
 use std::time::Duration;
 
-/// How long `recv` waits for a datagram, in milliseconds.
-const WAIT: u64 = 100;
+/// The shortest wait for a datagram, in milliseconds: a socket takes no time-out of 0.
+const LEAST_WAIT: u64 = 1;
 
-/// A UDP socket on 127.0.0.1. A call of `recv` waits for 100 milliseconds at most.
+/// A UDP socket on 127.0.0.1. A call of `recv` that is to wait 0 milliseconds waits 1.
 #[derive(Drop)]
 pub struct UdpLink {
     socket: UdpSocket,
@@ -20,6 +20,8 @@ pub struct UdpLink {
     port: u16,
     /// The address that the system tells.
     address: [u8; 6],
+    /// How long the socket waits for a datagram, in milliseconds.
+    wait: u64,
     failures: u64,
 }
 
@@ -46,7 +48,7 @@ impl UdpLink {
         ensures { IfOk result (λ l. bound_port l ≡ port) }
     {
         let socket = UdpSocket::bind(net, SocketAddr::from((Ipv4Addr::LOCALHOST, port)))?;
-        socket.set_read_timeout(Some(Duration::from_millis(WAIT)))?;
+        socket.set_read_timeout(Some(Duration::from_millis(LEAST_WAIT)))?;
         let Some(address) = link_of(socket.local_addr()?) else {
             return Err(io::Error::from(ErrorKind::AddrNotAvailable));
         };
@@ -54,6 +56,7 @@ impl UdpLink {
             socket,
             port,
             address,
+            wait: LEAST_WAIT,
             failures: 0,
         })
     }
@@ -70,6 +73,19 @@ impl UdpLink {
         ensures { result ≡ udp_address self.now }
     {
         self.address
+    }
+
+    /// The socket waits so long from now on.
+    fn set_wait(&mut self, wait: u64) -> io::Result<()>
+        ensures { self.new.failures ≡ self.old.failures }
+    {
+        let wait = wait.max(LEAST_WAIT);
+        if wait != self.wait {
+            self.socket
+                .set_read_timeout(Some(Duration::from_millis(wait)))?;
+            self.wait = wait;
+        }
+        Ok(())
     }
 
     fn failed(&mut self) -> LinkFault
@@ -104,7 +120,14 @@ impl Link for UdpLink {
         }
     }
 
-    fn recv(&mut self, buffer: &mut [u8]) -> Result<Option<([u8; 6], usize)>, LinkFault> {
+    fn recv(
+        &mut self,
+        buffer: &mut [u8],
+        wait: u64,
+    ) -> Result<Option<([u8; 6], usize)>, LinkFault> {
+        if self.set_wait(wait).is_err() {
+            return Err(self.failed());
+        }
         match self.socket.recv_from(buffer) {
             Ok((len, from)) => match link_of(from) {
                 Some(from) => Ok(Some((from, len))),

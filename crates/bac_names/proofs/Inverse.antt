@@ -1,11 +1,11 @@
 -- In a table in which no name and no number stands twice, look-ups are inverse.
-use Rattle.std.proofs.Common.{◌≡◌, ℕ, Bool, true, false, not, ◌&&◌, ◌==◌, List, [], ◌∷◌, Option, Some, None, refl, sym, ap, subst, arith}
+use Rattle.std.proofs.Common.{◌≡◌, ℕ, Bool, true, false, not, ◌&&◌, ◌==◌, List, [], ◌∷◌, Option, Some, refl, ap, subst, arith}
 use Rattle.std.specs.List.{find}
 use Rattle.std.specs.Option.{option_map}
 use Rattle.std.specs.Str.{bytes_eq}
 use Rattle.std.proofs.lemmas.Bool.Decides.{nat_tests}
 use Rattle.std.proofs.lemmas.Slice.Eq.{bytes_eq-Decides}
-use Rattle.bac_names.specs.Names.{AreInverse, Row, name_in, number_in}
+use Rattle.bac_names.specs.Names.{AreInverse, Row}
 
 module _ {R A B : Type 0} (f : R → A) (g : R → B) (same_a : A → A → Bool) (same_b : B → B → Bool)
     (sound : (x y : A) → same_a x y ≡ true → x ≡ y) (whole : (x : B) → same_b x x ≡ true) where

@@ -7,6 +7,7 @@ use std::test::Fail;
 
 mod asks;
 mod bad_lines;
+mod changes;
 mod devices;
 mod endings;
 mod failing;

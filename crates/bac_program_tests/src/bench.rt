@@ -101,7 +101,11 @@ impl Link for BenchLink {
         Ok(())
     }
 
-    fn recv(&mut self, buffer: &mut [u8]) -> Result<Option<([u8; 6], usize)>, LinkFault> {
+    fn recv(
+        &mut self,
+        buffer: &mut [u8],
+        _wait: u64,
+    ) -> Result<Option<([u8; 6], usize)>, LinkFault> {
         if self.requests > 0 {
             self.requests -= 1;
             let len = copy_front(&request(self.requests), buffer);

@@ -1,6 +1,6 @@
 -- Each event of a run keeps a transaction in step.
 use Rattle.std.proofs.Common.{◌≡◌, ℕ, ◌+◌, ◌-◌, ◌<◌, ◌≤◌, ◌⊎◌, Bool, true, false, ◌||◌, List, [], ◌∷◌, ◌++◌, map, length, Option, Some, None}
-use Rattle.std.proofs.Common.{slice_get, if◌then◌else◌, nat_le, refl, sym, subst, inl, inr, ◌∙◌, arith, append_assoc, append-nil}
+use Rattle.std.proofs.Common.{slice_get, if◌then◌else◌, nat_le, nat_eq, refl, sym, subst, inl, inr, ◌∙◌, arith, append_assoc, append-nil}
 use Rattle.std.proofs.lemmas.Bool.Decides.{nat_tests}
 use Rattle.bac_apdu.specs.Apdu.{Apdu}
 use Rattle.bac_segment.specs.Limits.{RETRIES}
@@ -11,16 +11,17 @@ use Rattle.bac_protocol.specs.Service.{Octets}
 use Rattle.bac_protocol.specs.Wire.{is_from_client, Each}
 use Rattle.bac_protocol.specs.Client as client
 use Rattle.bac_protocol.specs.Client.{Ask, Phase, Ticket}
-use Rattle.bac_protocol.specs.Client.Phase.{SegmentedRequest, SegmentedConf}
+use Rattle.bac_protocol.specs.Client.Phase.{SegmentedRequest, SegmentedConf, Idle}
 use Rattle.bac_protocol.specs.Server as server
 use Rattle.bac_protocol.specs.Server.{Entry}
 use Rattle.bac_protocol.specs.Log.{Shop}
 use Rattle.bac_protocol.specs.Own.{lesser_window, IsOwnPost, AreOwn}
 use Rattle.bac_protocol.specs.Transaction.{Key, Rules, Copy, client_context, server_context}
-use Rattle.bac_protocol.specs.World.{Net, World, Post, Event, later, is_deliverable, copies_of, is_key_held, asked_at, ask_made, client_acts, server_acts}
+use Rattle.bac_protocol.specs.World.{Net, World, Post, Event, later, is_deliverable, copies_of, is_id_held, is_room, lost, asked_at, ask_made, client_acts, server_acts}
+use Rattle.bac_protocol.specs.World.{client_restarted, server_restarted}
 use Rattle.bac_protocol.specs.World.{delivered, arrives, takes_at_client, takes_at_server, ticks_ticket, ticks_as_client, ticks_as_server, serves, service_of}
 use Rattle.bac_protocol.specs.World.{happens, run, start, post_of}
-use Rattle.bac_protocol.specs.World.Event.{MakeAsk, Deliver, Tick, Noise, Advance, Change}
+use Rattle.bac_protocol.specs.World.Event.{MakeAsk, Deliver, Tick, Noise, Advance, Change, RestartClient, RestartServer}
 use Rattle.bac_protocol.specs.Claims.{IsBounded, EachCopy}
 use Rattle.bac_protocol.proofs.Alone.{one, sent}
 use Rattle.bac_protocol.proofs.Asks.{IsSpent}
@@ -28,10 +29,11 @@ use Rattle.bac_protocol.proofs.Claimed.{in_place}
 use Rattle.bac_protocol.proofs.Facts.{pieces_all, pieces_length}
 use Rattle.bac_protocol.proofs.Headline.{Kept, run_kept, start_kept}
 use Rattle.bac_protocol.proofs.Keys.{decide_key, set_same, set_other, copies_posted, copies_other, copy_at}
-use Rattle.bac_protocol.proofs.Nets.{NetSound, sound_at, spent_at}
+use Rattle.bac_protocol.proofs.Nets.{NetSound, sound_at, room_opens}
+use Rattle.bac_protocol.proofs.Calm.{spent_free}
 use Rattle.bac_protocol.proofs.Owned.{own_in_run}
 use Rattle.bac_progress.proofs.Paths.{some_is}
-use Rattle.bac_progress.proofs.Flow.{reach, SaysLimits, AllUp, all_up, all_limits, request_window_near, PhaseFlows, Flow, flow_later}
+use Rattle.bac_progress.proofs.Flow.{reach, SaysLimits, AllUp, all_up, all_limits, request_window_near, PhaseFlows, Flow, flow_later, client_flows}
 use Rattle.bac_progress.proofs.InRun.{L_small, ticks_flow, entry_ticks_flow, served_flow, served_by, heard_by}
 
 module _ (W : ℕ) (x : Rules) (bound : IsBounded W x) (key : Key) (some : 0 < lesser_window x key) where
@@ -173,9 +175,47 @@ module _ (W : ℕ) (x : Rules) (bound : IsBounded W x) (key : Key) (some : 0 < l
       go (Some t) at = (flow t at).limits
       go None at = subst LimitsIn (sym ((sound_at W n key None at s).no_copies)) (λ k d e. absurd cc)
 
+  -- Restarts: a ticket that was lost is idle, and of an entry that was lost nothing is said.
+
+  client_lost : (n : Net) → FlowAt n → (node : ℕ) → FlowAt (client_restarted n node)
+  client_lost n flow node = go (nat_eq key.client node)
+    where
+      idle : (o : Option Ticket) → n.tickets key ≡ o → (u : Ticket) → lost o ≡ Some u → FlowOf n.now u (n.entries key) (copies_of key n.posts)
+      idle None was u is = absurd cc
+      idle (Some t) was u is =
+          let f = flow t was in
+          let same : record t { phase = Idle } ≡ u = some_is (record t { phase = Idle }) u is in
+          subst (λ (y : Ticket). FlowOf n.now y (n.entries key) (copies_of key n.posts)) same
+          (client_flows W x key n.now t.ask t.phase (n.entries key) (copies_of key n.posts) t.repeats t.repeats Idle [] (λ e. e) f.few f tt tt tt)
+
+      go : (b : Bool) → (t : Ticket) → (if b then lost (n.tickets key) else n.tickets key) ≡ Some t
+          → FlowOf n.now t (n.entries key) (copies_of key n.posts)
+      go true = idle (n.tickets key) refl
+      go false = flow
+
+  server_lost : (n : Net) → FlowAt n → (node : ℕ) (store : Option Octets) → FlowAt (server_restarted n node store)
+  server_lost n flow node store t at = go (nat_eq key.server node)
+    where
+      f : FlowOf n.now t (n.entries key) (copies_of key n.posts)
+      f = flow t at
+
+      go : (b : Bool) → FlowOf n.now t (if b then None else n.entries key) (copies_of key n.posts)
+      go true = record {
+        some = f.some;
+        few = f.few;
+        limits = f.limits;
+        client = f.client;
+        sent_up = f.sent_up;
+        taken_up = λ out all is full e there. absurd cc;
+        made = λ e there. absurd cc;
+        sent_down = λ e there. absurd cc;
+        taken_down = λ inc is e there. absurd cc;
+      }
+      go false = f
+
   module _ (S : Type 0) (shop : Shop S) (opening : ℕ → S) where
     asks_on : (w : World S) → Kept S shop opening W x bound w → FlowAt w.net → (k : Key) (choice : ℕ) (whole : Bool) (front : Octets) (rest : List Octets)
-        → (b : Bool) → is_key_held w.net.now (w.net.tickets k) ≡ b
+        → (b : Bool) → is_id_held w.net k ≡ b
         → FlowAt (if b then w
         else ask_made S x w k (record { first = w.net.now; choice = choice; whole = whole; pieces = front ∷ rest })).net
     asks_on w s flow k choice whole front rest true held = flow
@@ -187,9 +227,9 @@ module _ (W : ℕ) (x : Rules) (bound : IsBounded W x) (key : Key) (some : 0 < l
         go : ((k ≡ key) ⊎ (k ≡ key → ⊥)) → FlowAt (asked_at x w.net k ask)
         go (inr ne) = ask_other w.net k ask ne flow
         go (inl is) =
-            let free' : is_key_held w.net.now (w.net.tickets key) ≡ false = subst (λ (j : Key). is_key_held w.net.now (w.net.tickets j) ≡ false) is free in
+            let free' : is_id_held w.net key ≡ false = subst (λ (j : Key). is_id_held w.net j ≡ false) is free in
             subst (λ (j : Key). FlowAt (asked_at x w.net j ask)) (sym is)
-            (ask_own w.net (spent_at W w.net key (w.net.tickets key) refl (s.net.each key) free') (limits_at w.net s.net flow) choice front rest whole)
+            (ask_own w.net (spent_free W w.net s.net s.calm key free') (limits_at w.net s.net flow) choice front rest whole)
 
     -- A delivery.
 
@@ -202,7 +242,7 @@ module _ (W : ℕ) (x : Rules) (bound : IsBounded W x) (key : Key) (some : 0 < l
         n = w.net
 
         v : Key → server.Reaction
-        v j = server.server_gets (server_context x j n.now) (service_of S shop w j) (n.entries j) free p.copy.apdu
+        v j = server.server_gets (server_context x j n.now) (service_of S shop w j) (n.entries j) (is_room n j free) p.copy.apdu
 
         mine : p.key ≡ key → (t : Ticket) → n.tickets key ≡ Some t → FlowOf n.now t (v key).entry (sent n.now (v key).sends (copies_of key n.posts))
         mine is t there =
@@ -211,8 +251,8 @@ module _ (W : ℕ) (x : Rules) (bound : IsBounded W x) (key : Key) (some : 0 < l
             let late = subst (λ (j : Key). later j number n.posts ≤ x.overtake) is few in
             let sent_is = subst (λ (j : Key). IsOwnPost x (record { key = j; copy = p.copy })) is (own.posts number p at) in
             served_flow W x bound key some n.now t (n.entries key) (copies_of key n.posts) (flow t there) (v key)
-            (served_by W x bound key some n.now t (n.entries key) (copies_of key n.posts) (flow t there) n.asks (n.numbers key) n.log f.0 f.1 f.2
-            (service_of S shop w key) free (later key number n.posts) p.copy.moment late p.copy.apdu place young up sent_is (n.entries key) refl)
+            (served_by W x bound key some n.now t (n.entries key) (copies_of key n.posts) (flow t there) (n.serves_from key.server) n.asks (n.numbers key)
+            n.log f.0 f.1 f.2 (service_of S shop w key) (is_room n key free) (room_opens n key free) (later key number n.posts) p.copy.moment late p.copy.apdu place young up sent_is (n.entries key) refl)
 
         go : ((p.key ≡ key) ⊎ (p.key ≡ key → ⊥)) → FlowAt (server_acts n p.key (v p.key))
         go (inr ne) = server_other n p.key (v p.key) ne flow
@@ -238,8 +278,8 @@ module _ (W : ℕ) (x : Rules) (bound : IsBounded W x) (key : Key) (some : 0 < l
             let place = subst (λ (j : Key). slice_get (copies_of j n.posts) (later j number n.posts) ≡ Some p.copy) is (copy_at number n.posts p at) in
             let late = subst (λ (j : Key). later j number n.posts ≤ x.overtake) is few in
             let sent_is = subst (λ (j : Key). IsOwnPost x (record { key = j; copy = p.copy })) is (own.posts number p at) in
-            heard_by W x bound key some n.now t (n.entries key) (copies_of key n.posts) (flow t there') n.asks (n.numbers key) n.log f.0 f.1 f.2
-            x.readable (later key number n.posts) p.copy.moment late p.copy.apdu place young down sent_is
+            heard_by W x bound key some n.now t (n.entries key) (copies_of key n.posts) (flow t there') (n.serves_from key.server) n.asks
+            (n.numbers key) n.log f.0 f.1 f.2 x.readable (later key number n.posts) p.copy.moment late p.copy.apdu place young down sent_is
 
         go : ((p.key ≡ key) ⊎ (p.key ≡ key → ⊥)) → FlowAt (client_acts n p.key t (r p.key))
         go (inr ne) = client_other n p.key t (r p.key) ne flow
@@ -308,13 +348,15 @@ module _ (W : ℕ) (x : Rules) (bound : IsBounded W x) (key : Key) (some : 0 < l
 
     event_on : (w : World S) → Kept S shop opening W x bound w → AreOwn x w.net → FlowAt w.net → (e : Event) → FlowAt (happens S shop x w e).net
     event_on w s own flow (MakeAsk k choice whole front rest) =
-        asks_on w s flow k choice whole front rest (is_key_held w.net.now (w.net.tickets k)) refl
+        asks_on w s flow k choice whole front rest (is_id_held w.net k) refl
     event_on w s own flow (Deliver number free) = delivers_on w s own flow number free (slice_get w.net.posts number) refl
     event_on w s own flow (Tick as_client as_server) = entries_on as_server (ticks_as_client S x as_client w) (tickets_on as_client w flow)
     event_on w s own flow Noise = flow
     event_on w s own flow (Advance by) = λ t there.
         flow_later W x key w.net.now by t.ask t.repeats t.phase (w.net.entries key) (copies_of key w.net.posts) (flow t there)
     event_on w s own flow (Change node change) = flow
+    event_on w s own flow (RestartClient node) = client_lost w.net flow node
+    event_on w s own flow (RestartServer node store) = server_lost w.net flow node store
 
     -- Runs.
 

@@ -16,14 +16,15 @@ use Rattle.bac_protocol.specs.Server.{Entry, is_live, is_none_live}
 use Rattle.bac_protocol.specs.Log.{Fact, Has, Shop}
 use Rattle.bac_protocol.specs.Log.Fact.{Asked, Performed, Ended}
 use Rattle.bac_protocol.specs.Transaction.{Key, Rules, client_context}
-use Rattle.bac_protocol.specs.World.{Net, World, Post, Event, is_deliverable, is_key_held, asked_at, ask_made}
+use Rattle.bac_protocol.specs.World.{Net, World, Post, Event, is_deliverable, is_id_held, asked_at, ask_made}
 use Rattle.bac_protocol.specs.World.{happens, run, start, post_of, later, copies_of, service_of}
-use Rattle.bac_protocol.specs.World.Event.{MakeAsk, Deliver, Tick, Noise, Advance, Change}
-use Rattle.bac_protocol.specs.Claims.{IsBounded}
+use Rattle.bac_protocol.specs.World.Event.{MakeAsk, Deliver, Tick, Noise, Advance, Change, RestartClient, RestartServer}
+use Rattle.bac_protocol.specs.Claims.{IsBounded, ClientStays}
 use Rattle.bac_protocol.proofs.Alone.{one}
 use Rattle.bac_protocol.proofs.Asks.{IsSpent}
 use Rattle.bac_protocol.proofs.Facts.{Grows}
-use Rattle.bac_protocol.proofs.Nets.{NetSound, spent_at}
+use Rattle.bac_protocol.proofs.Nets.{NetSound}
+use Rattle.bac_protocol.proofs.Calm.{Calm, spent_free}
 use Rattle.bac_protocol.proofs.Headline.{Kept, run_kept, event_kept, start_kept}
 use Rattle.bac_protocol.proofs.Keys.{copy_at, set_same}
 use Rattle.bac_progress.specs.Runs.{Throughout, IsOnItsWay}
@@ -31,9 +32,9 @@ use Rattle.bac_progress.specs.RoundTrip.{FitsInOne, CanPerform, HasPerformed, Is
 use Rattle.bac_progress.specs.Repeats.{PATIENCE, FindsServer, IsAnswered, IsWaiting, IsSentAgain, IsRobust, RepeatsSuffice}
 use Rattle.bac_progress.proofs.Paths.{some_is, ask_of, Gives, event_steps, run_steps, path_now, path_log, path_posts, run_path}
 use Rattle.bac_progress.proofs.Paths.{Any}
-use Rattle.bac_progress.proofs.RoundTrips.{trip}
+use Rattle.bac_progress.proofs.RoundTrips.{room_is, trip}
 use Rattle.bac_progress.proofs.Ticking.{tick_sends}
-use Rattle.bac_progress.proofs.Waits.{IsFine, IsDoneFor, PatientOrAnswered, Waits, Finds, answered_grows, done_live, repeat_left}
+use Rattle.bac_progress.proofs.Waits.{IsFine, IsDoneFor, PatientOrOver, Waits, Finds, answered_grows, done_live, repeat_left}
 use Rattle.bac_progress.proofs.Waits.{waits_path, got, of_map}
 
 pub at_end : (xs : List Post) (q : Post) → slice_get (xs ++ q ∷ []) (length xs) ≡ Some q
@@ -53,11 +54,13 @@ module _ (S : Type 0) (shop : Shop S) (x : Rules) (key : Key) (ask : Ask) (numbe
   finds_event w (Deliver i free) h = λ p at up arrives m none.
       let f = h m none in
       let same : p.key ≡ key = ap (λ (y : Post). y.key) (some_is p m.post (sym at ∙ m.at)) ∙ m.key_is in
-      (f.0, (f.1).slot, ap (λ (k : Key). service_of S shop w k ask.choice (join ask.pieces)) same ∙ (f.1).outcome, f.2)
+      (f.0, room_is w key free (f.1).slot (f.1).serving, ap (λ (k : Key). service_of S shop w k ask.choice (join ask.pieces)) same ∙ (f.1).outcome, f.2)
   finds_event w (Tick as_client as_server) h = tt
   finds_event w Noise h = tt
   finds_event w (Advance by) h = tt
   finds_event w (Change node change) h = tt
+  finds_event w (RestartClient node) h = tt
+  finds_event w (RestartServer node store) h = tt
 
   finds_run : (events : List Event) (w : World S) → Throughout S shop x (FindsServer S shop x key ask) events w
       → Throughout S shop x (Gives x (Finds x key ask number) S shop) events w
@@ -80,24 +83,26 @@ module _ (S : Type 0) (shop : Shop S) (x : Rules) (key : Key) (ask : Ask) (numbe
   split [] e between w h = (tt, h.0, h.1)
   split (f ∷ before) e between w h = let r = split before e between (happens S shop x w f) h.1 in ((h.0, r.0), r.1, r.2)
 
-  waiting_of : (w : World S) → On w → IsWaiting w.net key ask ⊎ IsAnswered number ask w.net.log
-  waiting_of w h = go h.ticket.state
+  waiting_of : (w : World S) → ClientStays w.net key ask → On w → IsWaiting w.net key ask ⊎ IsAnswered number ask w.net.log
+  waiting_of w stays h = go h.ticket.state
     where
-      go : PatientOrAnswered x key ask number w.net.now h.ticket.ticket w.net.log → IsWaiting w.net key ask ⊎ IsAnswered number ask w.net.log
+      go : PatientOrOver x key ask number (w.net.asks_from key.client) w.net.now h.ticket.ticket w.net.log
+          → IsWaiting w.net key ask ⊎ IsAnswered number ask w.net.log
       go (inl p) = inl (record { ticket = h.ticket.ticket; at = h.ticket.at; ask_is = h.ticket.is; waits = p.waits })
-      go (inr o) = inr o.1
+      go (inr (idle, inl answered)) = inr answered
+      go (inr (idle, inr lost)) = absurd (omega arith)
 
   -- a tick that is due
   sent_again : (v : World S) → On v → Young v → (t : Ticket) → v.net.tickets key ≡ Some t → t.phase ≡ AwaitConfirmation → T_OUT ≤ v.net.now - t.since
       → (as_client as_server : List Key) → Contains as_client key
       → IsSentAgain x key ask t v.net (happens S shop x v (Tick as_client as_server)).net
   sent_again v h young t at awaits due as_client as_server i =
-      go (subst (λ (y : Ticket). PatientOrAnswered x key ask number v.net.now y v.net.log) same h.ticket.state)
+      go (subst (λ (y : Ticket). PatientOrOver x key ask number (v.net.asks_from key.client) v.net.now y v.net.log) same h.ticket.state)
     where
       same : h.ticket.ticket ≡ t
       same = some_is h.ticket.ticket t (sym h.ticket.at ∙ at)
 
-      go : PatientOrAnswered x key ask number v.net.now t v.net.log
+      go : PatientOrOver x key ask number (v.net.asks_from key.client) v.net.now t v.net.log
           → IsSentAgain x key ask t v.net (happens S shop x v (Tick as_client as_server)).net
       go (inr o) = absurd (let z = sym o.0 ∙ ap is_idle awaits in cc)
       go (inl w) =
@@ -138,9 +143,9 @@ module _ (S : Type 0) (shop : Shop S) (x : Rules) (key : Key) (ask : Ask) (numbe
     through : (v : World S) → Kept S shop opening W x bound v → On v → Young v → (i : ℕ) (free : Bool) → IsOnItsWay x v.net key (request_to x key ask) i
         → FindsServer S shop x key ask v (Deliver i free) → (between : List Event) (answer : Apdu) (other : Bool)
         → (let u = run S shop x between (happens S shop x v (Deliver i free)) in
-        On u → Young u → IsOnItsWay x u.net key answer (length v.net.posts)
+        On u → ClientStays u.net key ask → Young u → IsOnItsWay x u.net key answer (length v.net.posts)
         → IsAnswered number ask (happens S shop x u (Deliver (length v.net.posts) other)).net.log)
-    through v s h young i free m finds between answer other on young_u m_u = go on.ticket.state
+    through v s h young i free m finds between answer other on stays young_u m_u = go on.ticket.state
       where
         b : World S
         b = happens S shop x v (Deliver i free)
@@ -175,8 +180,9 @@ module _ (S : Type 0) (shop : Shop S) (x : Rules) (key : Key) (ask : Ask) (numbe
             (path_log x Any b.net u.net (run_steps x S shop between b) (Performed number (request_of ask) r.reply)
             (subst (λ (k : ℕ). Has (Performed k (request_of ask) r.reply) b.net.log) h.number_is (r.served).performed))
 
-        go : PatientOrAnswered x key ask number u.net.now on.ticket.ticket u.net.log → IsAnswered number ask z.net.log
-        go (inr o) = answered_grows x key ask number u.net.log z.net.log grown o.1
+        go : PatientOrOver x key ask number (u.net.asks_from key.client) u.net.now on.ticket.ticket u.net.log → IsAnswered number ask z.net.log
+        go (inr (idle, inl answered)) = answered_grows x key ask number u.net.log z.net.log grown answered
+        go (inr (idle, inr lost)) = absurd (omega arith)
         go (inl p) =
             let now = (r.served).answered between
             (record { ticket = on.ticket.ticket; at = on.ticket.at; going = ap is_idle p.waits; in_time = omega arith }) (length v.net.posts)
@@ -189,10 +195,10 @@ module _ (S : Type 0) (shop : Shop S) (x : Rules) (key : Key) (ask : Ask) (numbe
 
     robust : (w : World S) → Kept S shop opening W x bound w → On w → IsRobust S shop x key ask number w
     robust w s h = record {
-      waits = λ events served young. waiting_of (run S shop x events w) (run_on events w served h young);
+      waits = λ events served stays young. waiting_of (run S shop x events w) stays (run_on events w served h young);
       repeats = λ events as_client as_server served young t at awaits due there.
           sent_again (run S shop x events w) (run_on events w served h young) young t at awaits due as_client as_server there;
-      answered = λ before between i free other answer served young m m_u.
+      answered = λ before between i free other answer served stays young m m_u.
           let sp = split before (Deliver i free) between w served in
           let v = run S shop x before w in
           let b = happens S shop x v (Deliver i free) in
@@ -201,14 +207,14 @@ module _ (S : Type 0) (shop : Shop S) (x : Rules) (key : Key) (ask : Ask) (numbe
           let first = path_now x Any v.net b.net (event_steps x S shop v (Deliver i free)) in
           let on_v = run_on before w sp.0 h (omega arith) in
           through v (run_kept S shop opening W x bound before w s) on_v (omega arith) i free m sp.1 between answer other
-          (run_on between b sp.2 (event_on v (Deliver i free) sp.1 on_v (omega arith)) young) young m_u;
+          (run_on between b sp.2 (event_on v (Deliver i free) sp.1 on_v (omega arith)) young) stays young m_u;
     }
 
 -- An ask is made.
 pub asked_on : (W : ℕ) (x : Rules) (n : Net) → NetSound W n → (key : Key) (choice : ℕ) (front : Octets) (rest : List Octets)
-    → is_key_held n.now (n.tickets key) ≡ false
+    → Calm n → is_id_held n key ≡ false
     → Waits x key (ask_of n.now choice true front rest) n.asks (asked_at x n key (ask_of n.now choice true front rest))
-asked_on W x n s key choice front rest free = record {
+asked_on W x n s key choice front rest calm free = record {
   clock = omega arith;
   entry = inl (none_live (n.entries key) (λ e at. spent.dead e at));
   posts = λ i q at is young. posts i q at is young (got n.posts (post_of key n.now (request_to x key ask) ∷ []) i q at);
@@ -225,7 +231,7 @@ asked_on W x n s key choice front rest free = record {
     ask = ask_of n.now choice true front rest
 
     spent : IsSpent (one n key)
-    spent = spent_at W n key (n.tickets key) refl (s.each key) free
+    spent = spent_free W n s calm key free
 
     none_live : (o : Option Entry) → ((e : Entry) → o ≡ Some e → e.begin + KEEP < n.now) → is_none_live n.now o ≡ true
     none_live None d = refl
@@ -253,7 +259,7 @@ module _ (S : Type 0) (shop : Shop S) (opening : ℕ → S) (W : ℕ) (x : Rules
       subst (λ (u : World S). IsRobust S shop x key ask w.net.asks u) (sym path)
       (robust S shop x key ask w.net.asks refl opening W bound (ask_made S x w key ask)
       (subst (λ (u : World S). Kept S shop opening W x bound u) path (event_kept S shop opening W x bound w s (MakeAsk key choice true front rest)))
-      (asked_on W x w.net s.net key choice front rest free))
+      (asked_on W x w.net s.net key choice front rest s.calm free))
     where
       ask : Ask
       ask = ask_of w.net.now choice true front rest

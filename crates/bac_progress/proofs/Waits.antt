@@ -1,26 +1,27 @@
--- An ask of one APDU whose copies find their server is waited for, or answered.
-use Rattle.std.proofs.Common.{◌≡◌, ℕ, zero, suc, ◌+◌, ◌-◌, ◌*◌, ◌<◌, ◌≤◌, ◌⊎◌, Bool, true, false, ◌&&◌, ◌||◌, not, List, [], ◌∷◌, ◌++◌, map}
+-- An ask of one APDU whose copies find their server is waited for, or answered, or lost by its client's restart.
+use Rattle.std.proofs.Common.{◌≡◌, ℕ, zero, suc, ◌+◌, ◌-◌, ◌*◌, ◌<◌, ◌≤◌, ◌⊎◌, Bool, true, false, ◌&&◌, List, [], ◌∷◌, ◌++◌, map}
 use Rattle.std.proofs.Common.{Option, Some, None, slice_get, if◌then◌else◌, nat_le, nat_eq, refl, sym, ap, subst, inl, inr, ◌∙◌, arith}
 use Rattle.std.proofs.lemmas.Bool.Decides.{nat_tests}
 use Rattle.bac_apdu.specs.Apdu.{Apdu}
 use Rattle.bac_segment.specs.Pieces.{join}
-use Rattle.bac_protocol.specs.declared.times.TheConstants.{T_OUT, LIFE, HOLD}
+use Rattle.bac_protocol.specs.declared.times.TheConstants.{T_OUT, LIFE, REST}
 use Rattle.bac_protocol.specs.Context.{Context}
 use Rattle.bac_protocol.specs.Service.{Octets, Reply}
 use Rattle.bac_protocol.specs.Service.Outcome.{Replies}
 use Rattle.bac_protocol.specs.Service.Ending.{Answered, TimedOut, Expired}
 use Rattle.bac_protocol.specs.Wire.{Each, is_from_client}
 use Rattle.bac_protocol.specs.Client as client
-use Rattle.bac_protocol.specs.Client.{Ask, Phase, Ticket, is_idle, is_expired, after, sends_of, ending_of, request_of}
+use Rattle.bac_protocol.specs.Client.{Ask, Phase, Ticket, is_idle, is_held, is_expired, after, sends_of, ending_of, request_of}
 use Rattle.bac_protocol.specs.Client.Phase.{AwaitConfirmation, Idle}
 use Rattle.bac_protocol.specs.Client.Reaction.{Stays, Repeats, Ends}
 use Rattle.bac_protocol.specs.Server as server
 use Rattle.bac_protocol.specs.Server.{State, Entry, Service, is_live, is_none_live}
 use Rattle.bac_protocol.specs.Server.State.{Done}
 use Rattle.bac_protocol.specs.Log.{Fact, Has}
-use Rattle.bac_protocol.specs.Log.Fact.{Asked, Performed, Ended, Changed}
+use Rattle.bac_protocol.specs.Log.Fact.{Asked, Performed, Ended, Changed, Restarted}
 use Rattle.bac_protocol.specs.Transaction.{Key, Rules, client_context, server_context, ended, performed}
-use Rattle.bac_protocol.specs.World.{Net, Post, is_key_held, asked_at, client_acts, server_acts, notes_change, post_of, set_at, later}
+use Rattle.bac_protocol.specs.World.{Net, Post, is_id_held, is_room, lost, asked_at, client_acts, server_acts, notes_change, client_restarted, server_restarted}
+use Rattle.bac_protocol.specs.World.{post_of, set_at, later}
 use Rattle.bac_protocol.proofs.Facts.{Grows, grows_more}
 use Rattle.bac_protocol.proofs.Keys.{decide_key, set_same, set_other}
 use Rattle.bac_protocol.proofs.Dead.{ended_is_silent}
@@ -28,8 +29,9 @@ use Rattle.bac_progress.specs.Runs.{IsOnItsWay}
 use Rattle.bac_progress.specs.RoundTrip.{FitsInOne, request_to, answer_to}
 use Rattle.bac_progress.specs.Repeats.{IsAnswered, PATIENCE}
 use Rattle.bac_progress.proofs.Paths.{some_is, ask_of, Comes, Step, Path, step_now, grows_ended, grows_performed}
-use Rattle.bac_progress.proofs.Paths.Step.{Asks, Serves, Hears, TicksTicket, TicksEntry, Passes, Changes}
+use Rattle.bac_progress.proofs.Paths.Step.{Asks, Serves, Hears, TicksTicket, TicksEntry, Passes, Changes, RestartsClient, RestartsServer}
 use Rattle.bac_progress.proofs.Paths.Path.{Here, Then}
+use Rattle.bac_progress.proofs.Kept.{held_in_time}
 use Rattle.bac_progress.proofs.Serving.{answer_any_time, answer_not_from_client, answer_ends, performed_entry, answers_first, serves_new, serves_again}
 
 -- Lists of copies.
@@ -89,20 +91,24 @@ module _ (x : Rules) (key : Key) (ask : Ask) (number : ℕ) where
     pub since : ask.first + (3 - t.repeats) * 3000 ≤ t.since
     pub passed : t.since ≤ now
 
-  abbrev pub PatientOrAnswered : ℕ → Ticket → List Fact → Type 0
-  PatientOrAnswered now t log = Patient now t ⊎ ((is_idle t.phase ≡ true) × IsAnswered number ask log)
+  -- the ask is answered, or its client restarted since
+  abbrev pub IsOver : (from : ℕ) → List Fact → Type 0
+  IsOver from log = IsAnswered number ask log ⊎ (ask.first + REST < from)
 
-  pub record TicketFits (now : ℕ) (o : Option Ticket) (log : List Fact) : Type 0 where
+  abbrev pub PatientOrOver : (from now : ℕ) → Ticket → List Fact → Type 0
+  PatientOrOver from now t log = Patient now t ⊎ ((is_idle t.phase ≡ true) × IsOver from log)
+
+  pub record TicketFits (from now : ℕ) (o : Option Ticket) (log : List Fact) : Type 0 where
     pub ticket : Ticket
     pub at : o ≡ Some ticket
     pub is : ticket.ask ≡ ask
-    pub state : PatientOrAnswered now ticket log
+    pub state : PatientOrOver from now ticket log
 
   pub record Waits (n : Net) : Type 0 where
     pub clock : ask.first ≤ n.now
     pub entry : EntryFits n.now (n.entries key) n.log
     pub posts : (i : ℕ) (q : Post) → slice_get n.posts i ≡ Some q → q.key ≡ key → n.now - q.copy.moment ≤ LIFE → IsFine n.log q.copy.apdu
-    pub ticket : TicketFits n.now (n.tickets key) n.log
+    pub ticket : TicketFits (n.asks_from key.client) n.now (n.tickets key) n.log
     pub number_is : n.numbers key ≡ number
 
   -- All this stays as the log grows.
@@ -127,12 +133,16 @@ module _ (x : Rules) (key : Key) (ask : Ask) (number : ℕ) where
   pub answered_grows : (log new : List Fact) → Grows log new → IsAnswered number ask log → IsAnswered number ask new
   answered_grows log new g h = (h.0, g (Performed number (request_of ask) h.0) h.1, g (Ended number (Answered h.0)) h.2)
 
-  ticket_grows : (now : ℕ) (o : Option Ticket) (log new : List Fact) → Grows log new → TicketFits now o log → TicketFits now o new
-  ticket_grows now o log new g h = record { ticket = h.ticket; at = h.at; is = h.is; state = go h.state }
+  over_grows : (from : ℕ) (log new : List Fact) → Grows log new → IsOver from log → IsOver from new
+  over_grows from log new g (inl h) = inl (answered_grows log new g h)
+  over_grows from log new g (inr h) = inr h
+
+  ticket_grows : (from now : ℕ) (o : Option Ticket) (log new : List Fact) → Grows log new → TicketFits from now o log → TicketFits from now o new
+  ticket_grows from now o log new g h = record { ticket = h.ticket; at = h.at; is = h.is; state = go h.state }
     where
-      go : PatientOrAnswered now h.ticket log → PatientOrAnswered now h.ticket new
+      go : PatientOrOver from now h.ticket log → PatientOrOver from now h.ticket new
       go (inl p) = inl p
-      go (inr o) = inr (o.0, answered_grows log new g o.1)
+      go (inr o) = inr (o.0, over_grows from log new g o.1)
 
   -- the copies after some were sent
   posts_on : (n : Net) (k : Key) (sends : List Apdu) (log : List Fact) → Waits n → Grows n.log log → (k ≡ key → Each (IsFine log) sends)
@@ -147,7 +157,7 @@ module _ (x : Rules) (key : Key) (ask : Ask) (number : ℕ) where
   -- What one end does.
 
   abbrev ClientGoal : Net → Ticket → client.Reaction → Type 0
-  ClientGoal n t r = TicketFits n.now (Some (after n.now t r)) (ended number (ending_of r) n.log) × Each (IsFine n.log) (sends_of r)
+  ClientGoal n t r = TicketFits (n.asks_from key.client) n.now (Some (after n.now t r)) (ended number (ending_of r) n.log) × Each (IsFine n.log) (sends_of r)
 
   abbrev ServerGoal : Net → server.Reaction → Type 0
   ServerGoal n v = EntryFits n.now v.entry (performed number v.effect n.log) × Each (IsFine (performed number v.effect n.log)) v.sends
@@ -174,21 +184,21 @@ module _ (x : Rules) (key : Key) (ask : Ask) (number : ℕ) where
       made : Option Ticket
       made = Some (after n.now t r)
 
-      go : ((k ≡ key) ⊎ (k ≡ key → ⊥)) → TicketFits n.now (set_at n.tickets k made key) log
+      go : ((k ≡ key) ⊎ (k ≡ key → ⊥)) → TicketFits (n.asks_from key.client) n.now (set_at n.tickets k made key) log
       go (inl is) =
           let own_log : n.numbers k ≡ number = ap n.numbers is ∙ h.number_is in
-          subst (λ (o : Option Ticket). TicketFits n.now o log)
+          subst (λ (o : Option Ticket). TicketFits (n.asks_from key.client) n.now o log)
           (sym (subst (λ (j : Key). set_at n.tickets k made j ≡ made) is (set_same n.tickets k made)))
-          (subst (λ (m : ℕ). TicketFits n.now made (ended m (ending_of r) n.log)) (sym own_log) (own is).0)
-      go (inr ne) = subst (λ (o : Option Ticket). TicketFits n.now o log) (sym (set_other n.tickets k made key ne))
-          (ticket_grows n.now (n.tickets key) n.log log g h.ticket)
+          (subst (λ (m : ℕ). TicketFits (n.asks_from key.client) n.now made (ended m (ending_of r) n.log)) (sym own_log) (own is).0)
+      go (inr ne) = subst (λ (o : Option Ticket). TicketFits (n.asks_from key.client) n.now o log) (sym (set_other n.tickets k made key ne))
+          (ticket_grows (n.asks_from key.client) n.now (n.tickets key) n.log log g h.ticket)
 
   server_waits : (n : Net) (k : Key) (v : server.Reaction) → Waits n → (k ≡ key → ServerGoal n v) → Waits (server_acts n k v)
   server_waits n k v h own = record {
     clock = h.clock;
     entry = go (decide_key k key);
     posts = posts_on n k v.sends log h g (λ is. subst (λ (m : ℕ). Each (IsFine (performed m v.effect n.log)) v.sends) (sym (own_log is)) (own is).1);
-    ticket = ticket_grows n.now (n.tickets key) n.log log g h.ticket;
+    ticket = ticket_grows (n.asks_from key.client) n.now (n.tickets key) n.log log g h.ticket;
     number_is = h.number_is;
   }
     where
@@ -213,16 +223,16 @@ module _ (x : Rules) (key : Key) (ask : Ask) (number : ℕ) where
 
   -- The ticket is over, or an answer or its timer comes.
 
-  idle_stays : (n : Net) (t : Ticket) → t.ask ≡ ask → is_idle t.phase ≡ true → IsAnswered number ask n.log → ClientGoal n t Stays
-  idle_stays n t is idle answered = (record { ticket = t; at = refl; is = is; state = inr (idle, answered) }, tt)
+  idle_stays : (n : Net) (t : Ticket) → t.ask ≡ ask → is_idle t.phase ≡ true → IsOver (n.asks_from key.client) n.log → ClientGoal n t Stays
+  idle_stays n t is idle over = (record { ticket = t; at = refl; is = is; state = inr (idle, over) }, tt)
 
   -- what is known of the ticket, by its name
-  pub known : (n : Net) (t : Ticket) → n.tickets key ≡ Some t → Waits n → (t.ask ≡ ask) × PatientOrAnswered n.now t n.log
+  pub known : (n : Net) (t : Ticket) → n.tickets key ≡ Some t → Waits n → (t.ask ≡ ask) × PatientOrOver (n.asks_from key.client) n.now t n.log
   known n t at h =
       let same : h.ticket.ticket ≡ t = some_is h.ticket.ticket t (sym h.ticket.at ∙ at) in
-      (subst (λ (y : Ticket). y.ask ≡ ask) same h.ticket.is, subst (λ (y : Ticket). PatientOrAnswered n.now y n.log) same h.ticket.state)
+      (subst (λ (y : Ticket). y.ask ≡ ask) same h.ticket.is, subst (λ (y : Ticket). PatientOrOver (n.asks_from key.client) n.now y n.log) same h.ticket.state)
 
-  hears_answer : (n : Net) → InPatience n → (p : Reply) → WasGiven p n.log → (t : Ticket) → t.ask ≡ ask → PatientOrAnswered n.now t n.log
+  hears_answer : (n : Net) → InPatience n → (p : Reply) → WasGiven p n.log → (t : Ticket) → t.ask ≡ ask → PatientOrOver (n.asks_from key.client) n.now t n.log
       → ClientGoal n t (client.client_gets (client_context x key n.now) x.readable t (answer_to x key ask p))
   hears_answer n young p given t is (inr o) =
       subst (ClientGoal n t) (sym (ended_is_silent.gets (client_context x key n.now) x.readable t (answer_to x key ask p) o.0)) (idle_stays n t is o.0 o.1)
@@ -232,18 +242,19 @@ module _ (x : Rules) (key : Key) (ask : Ask) (number : ℕ) where
       subst (ClientGoal n t) (sym (subst (λ (a : Ask). client.client_gets c x.readable t (answer_to x key a p) ≡ Ends [] (Answered p)) is
       (answer_ends c (server_context x key t.ask.first) x.readable t p w.waits (grind (arith, nat_tests))
       (subst (λ (a : Ask). FitsInOne x key a p) (sym is) given.0).kind)))
-      (record { ticket = record t { phase = Idle }; at = refl; is = is; state = inr (refl, (p, inr given.1, inl refl)) }, tt)
+      (record { ticket = record t { phase = Idle }; at = refl; is = is; state = inr (refl, inl (p, inr given.1, inl refl)) }, tt)
 
-  -- an answer that comes to it leaves the ask answered
-  pub told_answered : (n : Net) → Waits n → InPatience n → (t : Ticket) → n.tickets key ≡ Some t → (p : Reply) → WasGiven p n.log
+  -- an answer that comes to it leaves the ask answered, where its client has not restarted
+  pub told_answered : (n : Net) → Waits n → InPatience n → n.asks_from key.client ≤ ask.first + REST → (t : Ticket) → n.tickets key ≡ Some t → (p : Reply) → WasGiven p n.log
       → IsAnswered number ask (ended number (ending_of (client.client_gets (client_context x key n.now) x.readable t (answer_to x key ask p))) n.log)
-  told_answered n h young t at p given = go (known n t at h).0 (known n t at h).1
+  told_answered n h young stays t at p given = go (known n t at h).0 (known n t at h).1
     where
-      go : t.ask ≡ ask → PatientOrAnswered n.now t n.log
+      go : t.ask ≡ ask → PatientOrOver (n.asks_from key.client) n.now t n.log
           → IsAnswered number ask (ended number (ending_of (client.client_gets (client_context x key n.now) x.readable t (answer_to x key ask p))) n.log)
-      go is (inr o) = answered_grows n.log
+      go is (inr (idle, inr lost)) = absurd (omega arith)
+      go is (inr (idle, inl o)) = answered_grows n.log
           (ended number (ending_of (client.client_gets (client_context x key n.now) x.readable t (answer_to x key ask p))) n.log)
-          (grows_ended number (ending_of (client.client_gets (client_context x key n.now) x.readable t (answer_to x key ask p))) n.log) o.1
+          (grows_ended number (ending_of (client.client_gets (client_context x key n.now) x.readable t (answer_to x key ask p))) n.log) o
       go is (inl w) =
           let c = client_context x key n.now in
           let first : t.ask.first ≡ ask.first = ap (λ (a : Ask). a.first) is in
@@ -298,7 +309,7 @@ module _ (x : Rules) (key : Key) (ask : Ask) (number : ℕ) where
       steps : (r : ℕ) → r ≤ 3 → ask.first + (3 - r) * 3000 ≤ t.since → ask.first + (3 - (r - 1)) * 3000 ≤ now
       steps r few s = let p = w.passed in omega arith
 
-  ticks_timer : (n : Net) → ask.whole ≡ true → InPatience n → (t : Ticket) → t.ask ≡ ask → PatientOrAnswered n.now t n.log
+  ticks_timer : (n : Net) → ask.whole ≡ true → InPatience n → (t : Ticket) → t.ask ≡ ask → PatientOrOver (n.asks_from key.client) n.now t n.log
       → ClientGoal n t (client.client_ticks (client_context x key n.now) t)
   ticks_timer n whole young t is (inr o) =
       subst (ClientGoal n t) (sym (ended_is_silent.ticks (client_context x key n.now) t o.0)) (idle_stays n t is o.0 o.1)
@@ -319,10 +330,10 @@ module _ (x : Rules) (key : Key) (ask : Ask) (number : ℕ) where
   pub done_live : (n : Net) → InPatience n → (d : IsDoneFor (n.entries key) n.log) → is_live n.now d.entry ≡ true
   done_live n young d = let b = d.begun in grind (arith, nat_tests)
 
-  -- a delivery finds a free slot and a reply that goes in one APDU, where no entry is live
+  -- a delivery finds a free slot of a server that does not wait and a reply that goes in one APDU, where no entry is live
   abbrev pub Finds : Net → ℕ → Bool → Service → Type 0
   Finds n i free service = IsOnItsWay x n key (request_to x key ask) i → is_none_live n.now (n.entries key) ≡ true
-      → (p : Reply) × (free ≡ true) × (service ask.choice (join ask.pieces) ≡ Replies p) × FitsInOne x key ask p
+      → (p : Reply) × (is_room n key free ≡ true) × (service ask.choice (join ask.pieces) ≡ Replies p) × FitsInOne x key ask p
 
   abbrev gets_request : Net → Service → Option Entry → Bool → server.Reaction
   gets_request n service o b = server.server_gets (server_context x key n.now) service o b (request_to x key ask)
@@ -430,15 +441,9 @@ module _ (x : Rules) (key : Key) (ask : Ask) (number : ℕ) where
   fine_down log a down (inl is) = absurd (let z = sym (ap is_from_client is) ∙ down in cc)
   fine_down log a down (inr r) = r
 
-  key_held : (n : Net) → Waits n → InPatience n → is_key_held n.now (n.tickets key) ≡ true
-  key_held n h young = ap (is_key_held n.now) h.ticket.at ∙ go (is_idle h.ticket.ticket.phase)
-    where
-      first : h.ticket.ticket.ask.first ≡ ask.first
-      first = ap (λ (a : Ask). a.first) h.ticket.is
-
-      go : (b : Bool) → (not b || nat_le (n.now - h.ticket.ticket.ask.first) HOLD) ≡ true
-      go false = refl
-      go true = let f = first in grind (arith, nat_tests)
+  key_held : (n : Net) → Waits n → InPatience n → is_id_held n key ≡ true
+  key_held n h young = held_in_time x Finds key number ask n
+      (record { ticket = h.ticket.ticket; at = h.ticket.at; is = h.ticket.is; number_is = h.number_is }) (omega arith)
 
   -- another transaction's ask
   asked_waits : (n : Net) (k : Key) (other : Ask) → (k ≡ key → ⊥) → Waits n → Waits (asked_at x n k other)
@@ -446,8 +451,8 @@ module _ (x : Rules) (key : Key) (ask : Ask) (number : ℕ) where
     clock = h.clock;
     entry = entry_grows n.now (n.entries key) n.log log g h.entry;
     posts = posts_on n k (sends_of (client.asks (client_context x k n.now) other)) log h g (λ is. absurd (ne is));
-    ticket = subst (λ (o : Option Ticket). TicketFits n.now o log) (sym (set_other n.tickets k made key ne))
-        (ticket_grows n.now (n.tickets key) n.log log g h.ticket);
+    ticket = subst (λ (o : Option Ticket). TicketFits (n.asks_from key.client) n.now o log) (sym (set_other n.tickets k made key ne))
+        (ticket_grows (n.asks_from key.client) n.now (n.tickets key) n.log log g h.ticket);
     number_is = set_other n.numbers k n.asks key ne ∙ h.number_is;
   }
     where
@@ -473,7 +478,7 @@ module _ (x : Rules) (key : Key) (ask : Ask) (number : ℕ) where
       entry_later (inl none) = inl (none_later n.now by (n.entries key) none)
       entry_later (inr d) = inr d
 
-      state_later : PatientOrAnswered n.now h.ticket.ticket n.log → PatientOrAnswered (n.now + by) h.ticket.ticket n.log
+      state_later : PatientOrOver (n.asks_from key.client) n.now h.ticket.ticket n.log → PatientOrOver (n.asks_from key.client) (n.now + by) h.ticket.ticket n.log
       state_later (inl p) = inl (record { waits = p.waits; few = p.few; since = p.since; passed = let q = p.passed in omega arith })
       state_later (inr o) = inr o
 
@@ -482,7 +487,7 @@ module _ (x : Rules) (key : Key) (ask : Ask) (number : ℕ) where
     clock = h.clock;
     entry = entry_grows n.now (n.entries key) n.log log g h.entry;
     posts = λ i q at is young. fine_grows n.log log g q.copy.apdu (h.posts i q at is young);
-    ticket = ticket_grows n.now (n.tickets key) n.log log g h.ticket;
+    ticket = ticket_grows (n.asks_from key.client) n.now (n.tickets key) n.log log g h.ticket;
     number_is = h.number_is;
   }
     where
@@ -492,15 +497,53 @@ module _ (x : Rules) (key : Key) (ask : Ask) (number : ℕ) where
       g : Grows n.log log
       g = grows_more (Changed node change) n.log
 
+  -- a restart of its client loses the ticket, and one of its server the entry
+  client_lost : (n : Net) (node : ℕ) → Waits n → Waits (client_restarted n node)
+  client_lost n node h = record {
+    clock = h.clock;
+    entry = h.entry;
+    posts = h.posts;
+    ticket = go (nat_eq key.client node);
+    number_is = h.number_is;
+  }
+    where
+      go : (b : Bool) → TicketFits (if b then n.now + REST + 1 else n.asks_from key.client) n.now (if b then lost (n.tickets key) else n.tickets key) n.log
+      go true = record {
+        ticket = record (h.ticket.ticket) { phase = Idle };
+        at = ap lost h.ticket.at;
+        is = h.ticket.is;
+        state = inr (refl, inr (let clock = h.clock in omega arith));
+      }
+      go false = h.ticket
+
+  server_lost : (n : Net) (node : ℕ) (store : Option Octets) → Waits n → Waits (server_restarted n node store)
+  server_lost n node store h = record {
+    clock = h.clock;
+    entry = go (nat_eq key.server node);
+    posts = λ i q at is young. fine_grows n.log log g q.copy.apdu (h.posts i q at is young);
+    ticket = ticket_grows (n.asks_from key.client) n.now (n.tickets key) n.log log g h.ticket;
+    number_is = h.number_is;
+  }
+    where
+      log : List Fact
+      log = Restarted node store ∷ n.log
+
+      g : Grows n.log log
+      g = grows_more (Restarted node store) n.log
+
+      go : (b : Bool) → EntryFits n.now (if b then None else n.entries key) log
+      go true = inl refl
+      go false = entry_grows n.now (n.entries key) n.log log g h.entry
+
   waits_step : ask.whole ≡ true → (n m : Net) → Step x Finds n m → Waits n → InPatience n → Waits m
   waits_step whole n _ (Asks k choice w front rest free) h young = asked_waits n k (ask_of n.now choice w front rest)
-      (λ is. let held = ap (λ (j : Key). is_key_held n.now (n.tickets j)) is ∙ key_held n h young in absurd (let z = sym held ∙ free in cc)) h
+      (λ is. let held = ap (is_id_held n) is ∙ key_held n h young in absurd (let z = sym held ∙ free in cc)) h
   waits_step whole n _ (Serves i q free service comes up finds) h young =
-      server_waits n q.key (server.server_gets (server_context x q.key n.now) service (n.entries q.key) free q.copy.apdu) h (λ is.
+      server_waits n q.key (server.server_gets (server_context x q.key n.now) service (n.entries q.key) (is_room n q.key free) q.copy.apdu) h (λ is.
       let a = fine_up n.log q.copy.apdu up (fine_comes n h i q comes is) in
-      subst (λ (j : Key). ServerGoal n (server.server_gets (server_context x j n.now) service (n.entries j) free q.copy.apdu)) (sym is)
-      (subst (λ (y : Apdu). ServerGoal n (server.server_gets (server_context x key n.now) service (n.entries key) free y)) (sym a)
-      (serves_request n h young service free
+      subst (λ (j : Key). ServerGoal n (server.server_gets (server_context x j n.now) service (n.entries j) (is_room n j free) q.copy.apdu)) (sym is)
+      (subst (λ (y : Apdu). ServerGoal n (server.server_gets (server_context x key n.now) service (n.entries key) (is_room n key free) y)) (sym a)
+      (serves_request n h young service (is_room n key free)
       (finds (record { post = q; at = comes.at; key_is = is; apdu_is = a; arrives = comes.arrives })) h.entry)))
   waits_step whole n _ (Hears i q t comes down there) h young =
       client_waits n q.key t (client.client_gets (client_context x q.key n.now) x.readable t q.copy.apdu) h (λ is.
@@ -518,6 +561,8 @@ module _ (x : Rules) (key : Key) (ask : Ask) (number : ℕ) where
       subst (λ (j : Key). ServerGoal n (server.server_ticks (server_context x j n.now) (n.entries j))) (sym is) (ticks_entry n young h.entry))
   waits_step whole n _ (Passes by) h young = passes_waits n by h
   waits_step whole n _ (Changes node change) h young = changes_waits n node change h
+  waits_step whole n _ (RestartsClient node) h young = client_lost n node h
+  waits_step whole n _ (RestartsServer node store) h young = server_lost n node store h
 
   pub waits_path : ask.whole ≡ true → (n m : Net) → Path x Finds n m → Waits n → InPatience m → Waits m
   waits_path whole n _ Here h young = h

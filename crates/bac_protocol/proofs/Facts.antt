@@ -7,7 +7,7 @@ use Rattle.bac_protocol.specs.Service.{Octets, Reply as reply}
 use Rattle.bac_protocol.specs.Wire.{pieces_from, Each}
 use Rattle.bac_protocol.specs.Client.{Ask, request_of}
 use Rattle.bac_protocol.specs.Log.{Fact, Has, IsUnperformed, IsUnended}
-use Rattle.bac_protocol.specs.Log.Fact.{Asked, Performed, Ended, Changed}
+use Rattle.bac_protocol.specs.Log.Fact.{Asked, Performed, Ended, Changed, Restarted}
 use Rattle.bac_protocol.specs.Transaction.{Copy}
 use Rattle.bac_protocol.proofs.Alone.{sent}
 use Rattle.bac_protocol.specs.Claims.{EachCopy, IsPiece, IsAck}
@@ -22,6 +22,7 @@ of_ask P Q (Asked m c s r) g h = g m h
 of_ask P Q (Performed m r p) g h = g m h
 of_ask P Q (Ended m how) g h = g m h
 of_ask P Q (Changed s c) g h = tt
+of_ask P Q (Restarted s o) g h = tt
 
 pub below_more : (a b : ℕ) (log : List Fact) → a ≤ b → IsBelow a log → IsBelow b log
 below_more a b [] le h = tt
@@ -33,6 +34,7 @@ below_unperformed n (Asked m c s r ∷ log) h = below_unperformed n log h.1
 below_unperformed n (Performed m r p ∷ log) h = (omega (arith, h.0), below_unperformed n log h.1)
 below_unperformed n (Ended m how ∷ log) h = below_unperformed n log h.1
 below_unperformed n (Changed s c ∷ log) h = below_unperformed n log h.1
+below_unperformed n (Restarted s o ∷ log) h = below_unperformed n log h.1
 
 pub below_unended : (n : ℕ) (log : List Fact) → IsBelow n log → IsUnended n log
 below_unended n [] h = tt
@@ -40,6 +42,7 @@ below_unended n (Asked m c s r ∷ log) h = below_unended n log h.1
 below_unended n (Performed m r p ∷ log) h = below_unended n log h.1
 below_unended n (Ended m how ∷ log) h = (omega (arith, h.0), below_unended n log h.1)
 below_unended n (Changed s c ∷ log) h = below_unended n log h.1
+below_unended n (Restarted s o ∷ log) h = below_unended n log h.1
 
 pub below_has : (n : ℕ) (f : Fact) (log : List Fact) → IsBelow n log → Has f log → OfAsk (λ m. m < n) f
 below_has n f [] h k = absurd k

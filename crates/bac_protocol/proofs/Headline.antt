@@ -1,6 +1,6 @@
 -- After every run the log is right with the stores.
 use Rattle.std.proofs.Common.{◌≡◌, ℕ, ◌-◌, ◌<◌, ◌≤◌, Bool, true, false, ◌&&◌, List, [], ◌∷◌, ◌++◌, Option, Some, None, slice_get, if◌then◌else◌}
-use Rattle.std.proofs.Common.{nat_le, refl, sym, ap, subst, inl, inr, arith}
+use Rattle.std.proofs.Common.{nat_le, nat_eq, ◌∙◌, refl, sym, ap, subst, inl, inr, arith}
 use Rattle.std.proofs.lemmas.Bool.Decides.{nat_tests}
 use Rattle.bac_protocol.specs.Times.{LIFE}
 use Rattle.bac_protocol.specs.Service.{Octets, Request, Ending}
@@ -9,19 +9,23 @@ use Rattle.bac_protocol.specs.Client as client
 use Rattle.bac_protocol.specs.Client.{Ask, request_of, Ticket}
 use Rattle.bac_protocol.specs.Server as server
 use Rattle.bac_protocol.specs.Server.{Entry, Effect}
-use Rattle.bac_protocol.specs.Log.{Fact, Has, asks_in, Shop, IsOnce, HasNoChange, IsOnceByRequests, IsOrderly}
-use Rattle.bac_protocol.specs.Log.Fact.{Asked, Performed, Ended, Changed}
+use Rattle.bac_protocol.specs.Log.{Fact, Has, asks_in, Shop, AreSame, MayEnter, IsOnce, HasNoRestart, IsOnceInOneLife, HasNoChange, IsOnceByRequests, IsOrderly}
+use Rattle.bac_protocol.specs.Log.Fact.{Asked, Performed, Ended, Changed, Restarted}
 use Rattle.bac_protocol.specs.Transaction.{Key, Rules, Copy, ended, client_context, server_context}
-use Rattle.bac_protocol.specs.World.{Net, World, Post, Event, later, client_acts, server_acts, asked_at, is_key_held, service_of, reacts}
+use Rattle.bac_protocol.specs.World.{Net, World, Post, Event, later, client_acts, server_acts, asked_at, is_id_held, is_room, service_of, reacts}
 use Rattle.bac_protocol.specs.World.{serves, ask_made, takes_at_client, takes_at_server, arrives, delivered, ticks_ticket, ticks_as_client}
 use Rattle.bac_protocol.specs.World.{ticks_as_server, stored, happens, run, start}
-use Rattle.bac_protocol.specs.World.Event.{MakeAsk, Deliver, Tick, Noise, Advance, Change}
+use Rattle.bac_protocol.specs.World.Event.{MakeAsk, Deliver, Tick, Noise, Advance, Change, RestartClient, RestartServer}
 use Rattle.bac_protocol.specs.Claims.{IsBounded}
 use Rattle.bac_protocol.proofs.Alone.{one}
 use Rattle.bac_protocol.proofs.ClientKeeps.{client_gets_kept, client_ticks_kept}
 use Rattle.bac_protocol.proofs.ServerKeeps.{server_gets_kept, server_ticks_kept}
 use Rattle.bac_protocol.proofs.Keys.{copy_at, set_nothing}
-use Rattle.bac_protocol.proofs.Nets.{IsLogOf, log_of, NetSound, sound_at, net_client, net_server, net_asked, spent_at, net_changed, net_later, net_starts}
+use Rattle.bac_protocol.proofs.Nets.{IsLogOf, log_of, NetSound, sound_at, net_client, net_server, net_asked, net_changed, net_later, net_starts}
+use Rattle.bac_protocol.proofs.Nets.{room_opens, net_client_restarted, net_server_restarted}
+use Rattle.bac_protocol.proofs.Calm.{Calm, calm_client, calm_gets, calm_ticks, calm_asked, calm_later, calm_server_restarted, calm_client_restarted}
+use Rattle.bac_protocol.proofs.Calm.{calm_changed, calm_start, id_free, spent_free}
+use Rattle.bac_protocol.proofs.Dead.{ended_is_silent}
 use Rattle.bac_protocol.proofs.Served.{IsServed, gets_served, ticks_quiet}
 
 -- An ask has one request.
@@ -36,6 +40,8 @@ has_below n c s r (Ended m how ∷ log) o (inl e) = absurd cc
 has_below n c s r (Ended m how ∷ log) o (inr h) = has_below n c s r log o.2 h
 has_below n c s r (Changed a b ∷ log) o (inl e) = absurd cc
 has_below n c s r (Changed a b ∷ log) o (inr h) = has_below n c s r log o h
+has_below n c s r (Restarted a b ∷ log) o (inl e) = absurd cc
+has_below n c s r (Restarted a b ∷ log) o (inr h) = has_below n c s r log o h
 
 -- the two facts that a log has of one ask are one
 pub asked_once : (n c s d u : ℕ) (q r : Request) (log : List Fact) → IsOrderly log → Has (Asked n c s q) log → Has (Asked n d u r) log → q ≡ r
@@ -55,6 +61,9 @@ asked_once n c s d u q r (Ended m how ∷ log) o (inr h) (inr k) = asked_once n 
 asked_once n c s d u q r (Changed a b ∷ log) o (inl e) k = absurd cc
 asked_once n c s d u q r (Changed a b ∷ log) o (inr h) (inl f) = absurd cc
 asked_once n c s d u q r (Changed a b ∷ log) o (inr h) (inr k) = asked_once n c s d u q r log o h k
+asked_once n c s d u q r (Restarted a b ∷ log) o (inl e) k = absurd cc
+asked_once n c s d u q r (Restarted a b ∷ log) o (inr h) (inl f) = absurd cc
+asked_once n c s d u q r (Restarted a b ∷ log) o (inr h) (inr k) = asked_once n c s d u q r log o h k
 
 pub net_log : (W : ℕ) (n : Net) → NetSound W n → IsLogOf n.asks n.log
 net_log W n s = let key : Key = record { client = 0; server = 0; invoke_id = 0 } in log_of W key (n.tickets key) (one n key) (s.each key)
@@ -70,15 +79,36 @@ by_requests S shop opening (Asked n c s r ∷ log) stores none h = (h.0, h.1, by
 by_requests S shop opening (Performed n r p ∷ log) stores none h = (h.0, h.1, by_requests S shop opening log h.0 none h.2)
 by_requests S shop opening (Ended n how ∷ log) stores none h = (h.0, h.1, by_requests S shop opening log h.0 none h.2)
 by_requests S shop opening (Changed s c ∷ log) stores none h = absurd none
+by_requests S shop opening (Restarted s o ∷ log) stores none h = (h.0, (none.0, kept o none.0 h.1), by_requests S shop opening log h.0 none.1 h.2)
+  where
+    same : (node : ℕ) (b : Bool) → nat_eq node s ≡ b → (if b then h.0 s else h.0 node) ≡ h.0 node
+    same node true e = let is : s ≡ node = grind (arith, nat_tests) in ap h.0 is
+    same node false e = refl
+
+    kept : (o : Option Octets) → o ≡ None → MayEnter S shop (Restarted s o) log h.0 stores → AreSame S h.0 stores
+    kept None is may = λ node. may node ∙ same node (nat_eq node s) refl
+    kept (Some store) is may = absurd cc
+
+-- Where no server restarts, the log is right without restarts.
+pub in_one_life : (S : Type 0) (shop : Shop S) (opening : ℕ → S) (log : List Fact) (stores : ℕ → S) → HasNoRestart log → IsOnce S shop opening log stores
+    → IsOnceInOneLife S shop opening log stores
+in_one_life S shop opening [] stores none h = h
+in_one_life S shop opening (Asked n c s r ∷ log) stores none h = (h.0, h.1, in_one_life S shop opening log h.0 none h.2)
+in_one_life S shop opening (Performed n r p ∷ log) stores none h = (h.0, h.1, in_one_life S shop opening log h.0 none h.2)
+in_one_life S shop opening (Ended n how ∷ log) stores none h = (h.0, h.1, in_one_life S shop opening log h.0 none h.2)
+in_one_life S shop opening (Changed s c ∷ log) stores none h = (h.0, h.1, in_one_life S shop opening log h.0 none h.2)
+in_one_life S shop opening (Restarted s o ∷ log) stores none h = absurd none
 
 -- No event moves the log and the stores apart.
 module _ (S : Type 0) (shop : Shop S) (opening : ℕ → S) (W : ℕ) (x : Rules) (bound : IsBounded W x) where
   pub record Kept (w : World S) : Type 0 where
     pub net : NetSound W w.net
+    pub calm : Calm w.net
     pub once : IsOnce S shop opening w.net.log w.stores
 
-  reacts_kept : (w : World S) → Kept w → (key : Key) (t : Ticket) (r : client.Reaction) → NetSound W (client_acts w.net key t r) → Kept (reacts S w key t r)
-  reacts_kept w s key t r sound = record { net = sound; once = go (client.ending_of r) ((net_log W (client_acts w.net key t r) sound).orderly) }
+  reacts_kept : (w : World S) → Kept w → (key : Key) (t : Ticket) (r : client.Reaction) → NetSound W (client_acts w.net key t r) → Calm (client_acts w.net key t r)
+      → Kept (reacts S w key t r)
+  reacts_kept w s key t r sound calm = record { net = sound; calm = calm; once = go (client.ending_of r) ((net_log W (client_acts w.net key t r) sound).orderly) }
     where
       go : (o : Option Ending) → IsOrderly (ended (w.net.numbers key) o w.net.log) → IsOnce S shop opening (ended (w.net.numbers key) o w.net.log) w.stores
       go None h = s.once
@@ -96,30 +126,31 @@ module _ (S : Type 0) (shop : Shop S) (opening : ℕ → S) (W : ℕ) (x : Rules
       (w.stores, (key.client, key.server, subst (λ r. Has (Asked n key.client key.server r) w.net.log) same own.asked, right.1, is, λ node. refl), s.once)
 
   serves_kept : (w : World S) → Kept w → (key : Key) (t : Ticket) → w.net.tickets key ≡ Some t → (v : server.Reaction)
-      → IsServed (service_of S shop w key) v.effect → NetSound W (server_acts w.net key v) → Kept (serves S shop w key v)
-  serves_kept w s key t at v is sound = go v.effect is sound
+      → IsServed (service_of S shop w key) v.effect → NetSound W (server_acts w.net key v) → Calm (server_acts w.net key v) → Kept (serves S shop w key v)
+  serves_kept w s key t at v is sound calm = go v.effect is sound
     where
       go : (o : Option Effect) → IsServed (service_of S shop w key) o → NetSound W (server_acts w.net key (record v { effect = o }))
           → Kept (serves S shop w key (record v { effect = o }))
-      go None is sound = record { net = sound; once = s.once }
+      go None is sound = record { net = sound; calm = calm; once = s.once }
       go (Some e) is sound = record {
         net = sound;
+        calm = calm;
         once = effect_once w s key t at e is
             (net_log W (server_acts w.net key (record v { effect = Some e })) sound).orderly;
       }
 
   asks_kept : (w : World S) → Kept w → (key : Key) (choice : ℕ) (whole : Bool) (front : Octets) (rest : List Octets) (b : Bool)
-      → is_key_held w.net.now (w.net.tickets key) ≡ b
+      → is_id_held w.net key ≡ b
       → Kept (if b then w else ask_made S x w key (record { first = w.net.now; choice = choice; whole = whole; pieces = front ∷ rest }))
   asks_kept w s key choice whole front rest true e = s
   asks_kept w s key choice whole front rest false e =
-      record { net = sound; once = (w.stores, ((net_log W (asked_at x w.net key ask) sound).orderly.0, λ node. refl), s.once) }
+      record { net = sound; calm = calm_asked x w.net s.calm key (id_free w.net key e).0 choice whole (front ∷ rest); once = (w.stores, ((net_log W (asked_at x w.net key ask) sound).orderly.0, λ node. refl), s.once) }
     where
       ask : Ask
       ask = record { first = w.net.now; choice = choice; whole = whole; pieces = front ∷ rest }
 
       sound : NetSound W (asked_at x w.net key ask)
-      sound = net_asked W bound.some x w.net key s.net (spent_at W w.net key (w.net.tickets key) refl (s.net.each key) e) choice whole front rest
+      sound = net_asked W bound.some x w.net key s.net (spent_free W w.net s.net s.calm key e) choice whole front rest
 
   -- the copy whose number that is arrives
   module _ (w : World S) (s : Kept w) (number : ℕ) (p : Post) (at_number : slice_get w.net.posts number ≡ Some p) where
@@ -127,21 +158,23 @@ module _ (S : Type 0) (shop : Shop S) (opening : ℕ → S) (W : ℕ) (x : Rules
     k = later p.key number w.net.posts
 
     arrives_kept : (o : Option Ticket) → w.net.tickets p.key ≡ o → w.net.now - p.copy.moment ≤ LIFE → later p.key number w.net.posts ≤ x.overtake
-        → (free up : Bool) → Kept (if up then takes_at_server S shop x w p.key free p.copy.apdu else takes_at_client S x w p.key p.copy.apdu o)
-    arrives_kept None at young few free up =
+        → (free up : Bool) → is_from_client p.copy.apdu ≡ up → Kept (if up then takes_at_server S shop x w p.key free p.copy.apdu else takes_at_client S x w p.key p.copy.apdu o)
+    arrives_kept None at young few free up way =
         absurd (none_there (later p.key number w.net.posts) p.copy
         (subst (λ (cs : List Copy). slice_get cs (later p.key number w.net.posts) ≡ Some p.copy) (sound_at W w.net p.key None at s.net).no_copies
         (copy_at number w.net.posts p at_number)))
-    arrives_kept (Some t) at young few free true =
+    arrives_kept (Some t) at young few free true way =
         let f = sound_at W w.net p.key (Some t) at s.net in
         let says = ((f.2).arriving (later p.key number w.net.posts) p.copy (copy_at number w.net.posts p at_number) young).1 in
-        let v = server.server_gets (server_context x p.key w.net.now) (service_of S shop w p.key) (w.net.entries p.key) free p.copy.apdu in
+        let v = server.server_gets (server_context x p.key w.net.now) (service_of S shop w p.key) (w.net.entries p.key) (is_room w.net p.key free) p.copy.apdu in
         serves_kept w s p.key t at v (gets_served (server_context x p.key w.net.now) (service_of S shop w p.key)
-        (w.net.entries p.key) free p.copy.apdu)
+        (w.net.entries p.key) (is_room w.net p.key free) p.copy.apdu)
         (net_server W w.net p.key t at s.net v
         (server_gets_kept W x.overtake bound.some bound.room (x.settings p.key.server) (bound.windows p.key.server) (service_of S shop w p.key) p.key
-        (one w.net p.key) t (w.net.entries p.key) f.0 f.1 f.2 free p.copy.moment (later p.key number w.net.posts) few young p.copy.apdu says))
-    arrives_kept (Some t) at young few free false =
+        (one w.net p.key) t (w.net.entries p.key) f.0 f.1 f.2 (is_room w.net p.key free) (room_opens w.net p.key free) p.copy.moment (later p.key number w.net.posts) few young p.copy.apdu says))
+        (calm_gets w.net s.calm p.key (server_context x p.key w.net.now) refl refl (service_of S shop w p.key) (is_room w.net p.key free)
+        (room_opens w.net p.key free) (later p.key number w.net.posts) p.copy (copy_at number w.net.posts p at_number) young way)
+    arrives_kept (Some t) at young few free false way =
         let f = sound_at W w.net p.key (Some t) at s.net in
         let says = ((f.2).arriving (later p.key number w.net.posts) p.copy (copy_at number w.net.posts p at_number) young).1 in
         let r = client.client_gets (client_context x p.key w.net.now) x.readable t p.copy.apdu in
@@ -149,11 +182,12 @@ module _ (S : Type 0) (shop : Shop S) (opening : ℕ → S) (W : ℕ) (x : Rules
         (net_client W w.net p.key t at s.net r
         (client_gets_kept W x.overtake bound.some bound.room (x.settings p.key.client) (bound.windows p.key.client) x.readable p.key
         (one w.net p.key) t f.0 f.1 f.2 p.copy.moment (later p.key number w.net.posts) few p.copy.apdu says))
+        (calm_client w.net s.calm p.key t at r (ended_is_silent.gets (client_context x p.key w.net.now) x.readable t p.copy.apdu))
 
     by_test : (free a b : Bool) → nat_le (w.net.now - p.copy.moment) LIFE ≡ a → nat_le (later p.key number w.net.posts) x.overtake ≡ b
         → Kept (if a && b then arrives S shop x w p.key free p.copy.apdu else w)
     by_test free true true young few = arrives_kept (w.net.tickets p.key) refl (grind (arith, nat_tests)) (grind (arith, nat_tests)) free
-        (is_from_client p.copy.apdu)
+        (is_from_client p.copy.apdu) refl
     by_test free true false young few = s
     by_test free false b young few = s
 
@@ -172,6 +206,7 @@ module _ (S : Type 0) (shop : Shop S) (opening : ℕ → S) (W : ℕ) (x : Rules
       reacts_kept w s key t r (net_client W w.net key t at s.net r
       (client_ticks_kept W x.overtake bound.some bound.room (x.settings key.client) (bound.windows key.client) x.readable key
       (one w.net key) t f.0 f.1 f.2))
+      (calm_client w.net s.calm key t at r (ended_is_silent.ticks (client_context x key w.net.now) t))
 
   clients_kept : (keys : List Key) (w : World S) → Kept w → Kept (ticks_as_client S x keys w)
   clients_kept [] w s = s
@@ -189,6 +224,7 @@ module _ (S : Type 0) (shop : Shop S) (opening : ℕ → S) (W : ℕ) (x : Rules
       serves_kept w s key t at v (quiet w key v (ticks_quiet (server_context x key w.net.now) (w.net.entries key)))
       (net_server W w.net key t at s.net v (server_ticks_kept W x.overtake bound.some bound.room (x.settings key.server) (bound.windows key.server)
       (service_of S shop w key) key (one w.net key) t (w.net.entries key) f.0 f.1 f.2))
+      (calm_ticks w.net s.calm key (server_context x key w.net.now) refl refl)
   entry_kept w s key None at = go (w.net.entries key) refl (sound_at W w.net key None at s.net).no_entry
     where
       all_there : (posts : List Post) → posts ++ [] ≡ posts
@@ -206,20 +242,33 @@ module _ (S : Type 0) (shop : Shop S) (opening : ℕ → S) (W : ℕ) (x : Rules
       (server.server_ticks (server_context x key w.net.now) (w.net.entries key))) (entry_kept w s key (w.net.tickets key) refl)
 
   pub event_kept : (w : World S) → Kept w → (e : Event) → Kept (happens S shop x w e)
-  event_kept w s (MakeAsk key choice whole front rest) = asks_kept w s key choice whole front rest (is_key_held w.net.now (w.net.tickets key)) refl
+  event_kept w s (MakeAsk key choice whole front rest) = asks_kept w s key choice whole front rest (is_id_held w.net key) refl
   event_kept w s (Deliver number free) = delivered_kept w s number free (slice_get w.net.posts number) refl
   event_kept w s (Tick as_client as_server) = servers_kept as_server (ticks_as_client S x as_client w) (clients_kept as_client w s)
   event_kept w s Noise = s
-  event_kept w s (Advance by) = record { net = net_later W by w.net s.net; once = s.once }
-  event_kept w s (Change node change) =
-      record { net = net_changed W w.net node change s.net; once = (w.stores, λ n. refl, s.once) }
+  event_kept w s (Advance by) = record { net = net_later W by w.net s.net; calm = calm_later w.net by s.calm; once = s.once }
+  event_kept w s (Change node change) = record {
+    net = net_changed W w.net node change s.net;
+    calm = calm_changed w.net node change s.calm;
+    once = (w.stores, λ n. refl, s.once);
+  }
+  event_kept w s (RestartClient node) = record {
+    net = net_client_restarted W w.net node s.net;
+    calm = calm_client_restarted w.net node s.calm;
+    once = s.once;
+  }
+  event_kept w s (RestartServer node store) = record {
+    net = net_server_restarted W w.net node store s.net;
+    calm = calm_server_restarted w.net node store s.calm;
+    once = (w.stores, λ n. refl, s.once);
+  }
 
   pub run_kept : (events : List Event) (w : World S) → Kept w → Kept (run S shop x events w)
   run_kept [] w s = s
   run_kept (e ∷ es) w s = run_kept es (happens S shop x w e) (event_kept w s e)
 
   pub start_kept : Kept (start S opening)
-  start_kept = record { net = net_starts W; once = λ node. refl }
+  start_kept = record { net = net_starts W; calm = calm_start; once = λ node. refl }
 
   pub headline : (events : List Event) → IsOnce S shop opening (run S shop x events (start S opening)).net.log (run S shop x events (start S opening)).stores
   headline events = (run_kept events (start S opening) start_kept).once

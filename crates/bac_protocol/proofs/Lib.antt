@@ -11,10 +11,12 @@ pub mod Asks
 pub mod Keys
 pub mod Nets
 pub mod Served
+pub mod Calm
 pub mod Headline
 pub mod Unchanged
 pub mod Claimed
 pub mod Computed
+pub mod AtEdges
 pub mod Beyond
 pub mod Queue
 pub mod Windows

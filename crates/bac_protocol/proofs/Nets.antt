@@ -1,10 +1,11 @@
 -- What holds of one transaction holds of each of many.
-use Rattle.std.proofs.Common.{◌≡◌, ℕ, ◌+◌, ◌-◌, ◌<◌, ◌≤◌, ◌≢◌, ◌⊎◌, Bool, true, false, ◌||◌, not, List, ◌∷◌, Option, Some, None, nat_le, refl, sym}
+use Rattle.std.proofs.Common.{◌≡◌, ℕ, ◌+◌, ◌<◌, ◌≤◌, ◌≢◌, ◌⊎◌, Bool, true, false, not, List, ◌∷◌, Option, Some, None}
+use Rattle.std.proofs.Common.{nat_lt, nat_eq, refl, sym, if◌then◌else◌}
 use Rattle.std.proofs.Common.{ap, subst, inl, inr, ◌∙◌, arith, zero-add}
 use Rattle.std.proofs.lemmas.Bool.Decides.{nat_tests}
 use Rattle.bac_apdu.specs.Apdu.{Apdu}
 use Rattle.bac_apdu.specs.Apdu.Apdu.{SimpleAck, ComplexAck, Error, Reject, Abort}
-use Rattle.bac_protocol.specs.Times.{HOLD}
+use Rattle.bac_protocol.specs.Times.{KEEP}
 use Rattle.bac_protocol.specs.Service.{Octets, Ending}
 use Rattle.bac_protocol.specs.Client as client
 use Rattle.bac_protocol.specs.Client.{Ask, request_of, Phase, Ticket}
@@ -13,15 +14,17 @@ use Rattle.bac_protocol.specs.Server as server
 use Rattle.bac_protocol.specs.Server.{State, Entry, Effect}
 use Rattle.bac_protocol.specs.Server.State.{Done, SegmentedResponse, Dropped}
 use Rattle.bac_protocol.specs.Log.{Fact, asks_in, IsUnperformed, IsUnended, IsOrderly}
-use Rattle.bac_protocol.specs.Log.Fact.{Asked, Performed, Ended, Changed}
+use Rattle.bac_protocol.specs.Log.Fact.{Asked, Performed, Ended, Changed, Restarted}
 use Rattle.bac_protocol.specs.Transaction.{Key, Rules, ended, performed, client_context}
-use Rattle.bac_protocol.specs.World.{Net, set_at, client_acts, server_acts, asked_at, notes_change, is_key_held, net_start}
+use Rattle.bac_protocol.specs.World.{Net, set_at, client_acts, server_acts, asked_at, notes_change, is_room, net_start}
+use Rattle.bac_protocol.specs.World.{lost, client_restarted, server_restarted}
 use Rattle.bac_protocol.proofs.Alone.{Transaction, client_does, server_does, asked_by, one}
-use Rattle.bac_protocol.proofs.Sound.{OfAsk, IsOfOther, IsBelow, Up, Down, IsKeptFor, IsUnbegun, StateFits, ServerFits, IsOpenIn, IsSoundAt, IsSound}
+use Rattle.bac_protocol.proofs.Sound.{OfAsk, IsOfOther, IsBelow, Up, Down, IsKeptFor, IsUnbegun, StateFits, WasGiven, ServerFits, IsOpenIn, IsSoundAt, IsSound}
 use Rattle.bac_protocol.proofs.Sound.Up.{Reading}
-use Rattle.bac_protocol.proofs.Sound.Down.{Unsent}
+use Rattle.bac_protocol.proofs.Sound.Down.{Unsent, Sent}
+use Rattle.bac_protocol.proofs.ClientKeeps.{lost_more, state_read, state_performed}
 use Rattle.bac_protocol.proofs.Facts.{of_ask, below_has, says_goes, up_same, down_same, grows_more}
-use Rattle.bac_protocol.proofs.Asks.{IsSpent, spent_fresh, asked_sound, spent_of}
+use Rattle.bac_protocol.proofs.Asks.{IsSpent, asked_sound}
 use Rattle.bac_protocol.proofs.Keys.{decide_key, set_same, set_other, copies_posted, copies_other}
 
 -- What one transaction does is nothing to another.
@@ -31,12 +34,14 @@ unperformed_more n (Asked m c s r) log ne h = h
 unperformed_more n (Performed m r p) log ne h = (ne, h)
 unperformed_more n (Ended m how) log ne h = h
 unperformed_more n (Changed s c) log ne h = h
+unperformed_more n (Restarted s o) log ne h = h
 
 unended_more : (n : ℕ) (f : Fact) (log : List Fact) → IsOfOther n f → IsUnended n log → IsUnended n (f ∷ log)
 unended_more n (Asked m c s r) log ne h = h
 unended_more n (Performed m r p) log ne h = h
 unended_more n (Ended m how) log ne h = (ne, h)
 unended_more n (Changed s c) log ne h = h
+unended_more n (Restarted s o) log ne h = h
 
 open_more : (phase : Phase) (n : ℕ) (f : Fact) (log : List Fact) → IsOfOther n f → IsOpenIn phase n log → IsOpenIn phase n (f ∷ log)
 open_more (Phase.SegmentedRequest out all_sent) n f log ne h = unended_more n f log ne h
@@ -68,11 +73,13 @@ state_more W number ask f log (SegmentedResponse out transfer since) up down ne 
 state_more W number ask f log Dropped (Reading t s) Unsent ne h = (h.0, unperformed_more number f log ne h.1)
 state_more W number ask f log _ _ _ ne h = absurd h
 
-server_more : (W number : ℕ) (ask : Ask) (f : Fact) (log : List Fact) (up : Up) (down : Down) (o : Option Entry) → IsOfOther number f
-    → ServerFits W number ask o up down log → ServerFits W number ask o up down (f ∷ log)
-server_more W number ask f log up down None ne h = unbegun_more number f log up down ne h
-server_more W number ask f log up down (Some e) ne (inl h) = inl (record { dead = h.dead; unbegun = unbegun_more number f log up down ne h.unbegun })
-server_more W number ask f log up down (Some e) ne (inr h) = inr
+server_more : (W opens number : ℕ) (ask : Ask) (f : Fact) (log : List Fact) (up : Up) (down : Down) (o : Option Entry) → IsOfOther number f
+    → ServerFits W opens number ask o up down log → ServerFits W opens number ask o up down (f ∷ log)
+server_more W opens number ask f log up down None ne (inl h) = inl (unbegun_more number f log up down ne h)
+server_more W opens number ask f log up down None ne (inr h) = inr (lost_more opens number ask f log up down h)
+server_more W opens number ask f log up down (Some e) ne (inl h) =
+    inl (record { dead = h.dead; unbegun = unbegun_more number f log up down ne h.unbegun })
+server_more W opens number ask f log up down (Some e) ne (inr h) = inr
     (record { after = h.after; before = h.before; choice = h.choice; state = state_more W number ask f log e.state up down ne h.state })
 
 -- what any transaction's soundness says of the log
@@ -108,7 +115,7 @@ elsewhere W asks' key f w (Some t) log ne s = (
     unended = open_more t.phase w.number f w.log (ne t refl) (s.2).unended;
     client = (s.2).client;
     passes = (s.2).passes;
-    server = server_more W w.number t.ask f w.log s.0 s.1 w.entry (ne t refl) (s.2).server;
+    server = server_more W w.opens w.number t.ask f w.log s.0 s.1 w.entry (ne t refl) (s.2).server;
     upload = (s.2).upload;
     download = (s.2).download;
     arriving = λ k c e young. let h = (s.2).arriving k c e young in (
@@ -282,16 +289,118 @@ net_asked W some x n key s spent choice whole front rest = net_keeps W n (asked_
     sends : List Apdu
     sends = client.sends_of (client.asks (client_context x key n.now) ask)
 
--- an ask where the invoke ID is free
-pub spent_at : (W : ℕ) (n : Net) (key : Key) (o : Option Ticket) → n.tickets key ≡ o → IsSoundAt W key o (one n key) → is_key_held n.now o ≡ false
-    → IsSpent (one n key)
-spent_at W n key None at s free = subst IsSpent (λ i. record (one n key) { ticket = sym at i; entry = sym s.no_entry i; copies = sym s.no_copies i })
-    (spent_fresh (one n key) s.numbers s.counted s.orderly)
-spent_at W n key (Some t) at s free = spent_of W key (one n key) t s.0 s.1 s.2 (go (client.is_idle t.phase) free)
+-- a server that begins entries does not wait
+pub room_opens : (n : Net) (key : Key) (free : Bool) → is_room n key free ≡ true → n.serves_from key.server ≤ n.now
+room_opens n key true e = go (nat_lt n.now (n.serves_from key.server)) refl e
   where
-    go : (b : Bool) → (not b || nat_le (n.now - t.ask.first) HOLD) ≡ false → t.ask.first + HOLD < n.now
-    go true e = let clock = (s.2).clock in grind (arith, nat_tests)
-    go false e = absurd cc
+    go : (b : Bool) → nat_lt n.now (n.serves_from key.server) ≡ b → not b ≡ true → n.serves_from key.server ≤ n.now
+    go true is h = absurd cc
+    go false is h = grind (arith, nat_tests)
+room_opens n key false e = absurd cc
+
+-- Restarts.
+
+given_by : (W number : ℕ) (ask : Ask) (log : List Fact) (st : State) (up : Up) (down : Down) → StateFits W number ask st up down log
+    → WasGiven number ask up down log
+given_by W number ask log st up Unsent h = tt
+given_by W number ask log st up (Sent ps a b) h = (state_read W number ask log up ps a b st h, state_performed W number ask log ps a b st up h)
+
+-- the entry is lost
+server_lost : (W opens now number : ℕ) (ask : Ask) (log : List Fact) (up : Up) (down : Down) (o : Option Entry) → ask.first ≤ now
+    → ServerFits W opens number ask o up down log → ServerFits W (now + KEEP + 1) number ask None up down log
+server_lost W opens now number ask log up down None clock (inl h) = inl h
+server_lost W opens now number ask log up down None clock (inr h) = inr (record { before = omega arith; given = h.given })
+server_lost W opens now number ask log up down (Some e) clock (inl h) = inl h.unbegun
+server_lost W opens now number ask log up down (Some e) clock (inr h) =
+    inr (record { before = omega arith; given = given_by W number ask log e.state up down h.state })
+
+loses_entry : (W : ℕ) (key : Key) (w : Transaction) (o : Option Ticket) → IsSoundAt W key o w
+    → IsSoundAt W key o (record w { entry = None; opens = w.now + KEEP + 1 })
+loses_entry W key w None s =
+    record { no_entry = refl; no_copies = s.no_copies; numbers = s.numbers; counted = s.counted; orderly = s.orderly }
+loses_entry W key w (Some t) s = (
+  s.0,
+  s.1,
+  record {
+    clock = (s.2).clock;
+    numbers = (s.2).numbers;
+    counted = (s.2).counted;
+    orderly = (s.2).orderly;
+    asked = (s.2).asked;
+    unended = (s.2).unended;
+    client = (s.2).client;
+    passes = (s.2).passes;
+    server = server_lost W w.opens w.now w.number t.ask w.log s.0 s.1 w.entry (s.2).clock (s.2).server;
+    upload = (s.2).upload;
+    download = (s.2).download;
+    arriving = (s.2).arriving;
+  },
+)
+
+pub net_server_restarted : (W : ℕ) (n : Net) (node : ℕ) (store : Option Octets) → NetSound W n → NetSound W (server_restarted n node store)
+net_server_restarted W n node store s = record { each = λ key. each key (nat_eq key.server node); apart = s.apart }
+  where
+    log : (key : Key) → IsLogOf n.asks (Restarted node store ∷ n.log)
+    log key =
+        let h = log_of W key (n.tickets key) (one n key) (s.each key) in
+        record { numbers = (tt, h.numbers); counted = h.counted; orderly = h.orderly }
+
+    each : (key : Key) (b : Bool) → IsSoundAt W key (n.tickets key) (record (one n key) {
+      entry = if b then None else n.entries key;
+      opens = if b then n.now + KEEP + 1 else n.serves_from key.server;
+      log = Restarted node store ∷ n.log;
+    })
+    each key true = elsewhere W n.asks key (Restarted node store) (record (one n key) { entry = None; opens = n.now + KEEP + 1 }) (n.tickets key) (log key)
+        (λ t at. tt) (loses_entry W key (one n key) (n.tickets key) (s.each key))
+    each key false = elsewhere W n.asks key (Restarted node store) (one n key) (n.tickets key) (log key) (λ t at. tt) (s.each key)
+
+-- the ticket is lost
+loses_ticket : (W : ℕ) (key : Key) (w : Transaction) (o : Option Ticket) → IsSoundAt W key o w → IsSoundAt W key (lost o) w
+loses_ticket W key w None s = s
+loses_ticket W key w (Some t) s = (
+  s.0,
+  s.1,
+  record {
+    clock = (s.2).clock;
+    numbers = (s.2).numbers;
+    counted = (s.2).counted;
+    orderly = (s.2).orderly;
+    asked = (s.2).asked;
+    unended = tt;
+    client = tt;
+    passes = (s.2).passes;
+    server = (s.2).server;
+    upload = (s.2).upload;
+    download = (s.2).download;
+    arriving = (s.2).arriving;
+  },
+)
+
+-- what is known of a ticket is not told by the record's own
+with_ticket : (W : ℕ) (key : Key) (w : Transaction) (o q : Option Ticket) → IsSoundAt W key o w → IsSoundAt W key o (record w { ticket = q })
+with_ticket W key w None q s = s
+with_ticket W key w (Some t) q s = s
+
+-- where a ticket is left, there was one
+was_there : (o : Option Ticket) (b : Bool) (x : Ticket) → (if b then lost o else o) ≡ Some x → (t : Ticket) × (o ≡ Some t)
+was_there None true x e = absurd cc
+was_there None false x e = absurd cc
+was_there (Some t) b x e = (t, refl)
+
+pub net_client_restarted : (W : ℕ) (n : Net) (node : ℕ) → NetSound W n → NetSound W (client_restarted n node)
+net_client_restarted W n node s = record { each = λ key. each key (nat_eq key.client node); apart = apart }
+  where
+    each : (key : Key) (b : Bool) → IsSoundAt W key (if b then lost (n.tickets key) else n.tickets key)
+        (record (one n key) { ticket = if b then lost (n.tickets key) else n.tickets key })
+    each key true = with_ticket W key (one n key) (lost (n.tickets key)) (lost (n.tickets key)) (loses_ticket W key (one n key) (n.tickets key) (s.each key))
+    each key false = s.each key
+
+    apart : (a b : Key) (x y : Ticket) → (client_restarted n node).tickets a ≡ Some x → (client_restarted n node).tickets b ≡ Some y
+        → n.numbers a ≡ n.numbers b → a ≡ b
+    apart a b x y at at' same =
+        let t = was_there (n.tickets a) (nat_eq a.client node) x at in
+        let u = was_there (n.tickets b) (nat_eq b.client node) y at' in
+        s.apart a b t.0 u.0 t.1 u.1 same
 
 -- A change at a node.
 

@@ -1,6 +1,6 @@
 -- In every run all copies are their transactions' own, and have the windows of their ends.
 use Rattle.std.proofs.Common.{◌≡◌, ℕ, zero, suc, ◌-◌, ◌⊎◌, Bool, true, false, ◌&&◌, List, [], ◌∷◌, ◌++◌, map, Option, Some, None, slice_get}
-use Rattle.std.proofs.Common.{if◌then◌else◌, nat_le, refl, sym, subst, inl, inr, arith}
+use Rattle.std.proofs.Common.{if◌then◌else◌, nat_le, nat_eq, refl, sym, subst, inl, inr, arith}
 use Rattle.bac_apdu.specs.Apdu.{Apdu}
 use Rattle.bac_apdu.specs.Apdu.Apdu.{ConfirmedRequest, ComplexAck}
 use Rattle.bac_protocol.specs.Times.{LIFE}
@@ -12,10 +12,10 @@ use Rattle.bac_protocol.specs.Server as server
 use Rattle.bac_protocol.specs.Server.{Entry}
 use Rattle.bac_protocol.specs.Log.{Shop}
 use Rattle.bac_protocol.specs.Transaction.{Key, Rules, client_context, server_context}
-use Rattle.bac_protocol.specs.World.{Net, World, Post, Event, post_of, set_at, later, client_acts, server_acts, is_key_held, ask_made}
+use Rattle.bac_protocol.specs.World.{Net, World, Post, Event, post_of, set_at, later, client_acts, server_acts, is_id_held, is_room, lost, ask_made}
 use Rattle.bac_protocol.specs.World.{takes_at_client, takes_at_server, arrives, delivered, ticks_ticket, ticks_as_client, ticks_as_server, serves}
 use Rattle.bac_protocol.specs.World.{service_of, happens, run, start}
-use Rattle.bac_protocol.specs.World.Event.{MakeAsk, Deliver, Tick, Noise, Advance, Change}
+use Rattle.bac_protocol.specs.World.Event.{MakeAsk, Deliver, Tick, Noise, Advance, Change, RestartClient, RestartServer}
 use Rattle.bac_protocol.specs.Own.{EntryHas, PhaseHas, TicketHas, IsLesser, IsSentByClient, IsSentByServer, IsOwnPost, AreOwn}
 use Rattle.bac_protocol.proofs.Keys.{decide_key, set_same, set_other}
 use Rattle.bac_protocol.proofs.Own.{ClientSends, BeginsAnswer, Own, own_sends, own_after, gets_own, ticks_own, asks_own}
@@ -161,8 +161,8 @@ module _ (x : Rules) where
         → Owned (if up then takes_at_server S shop x w key free a else takes_at_client S x w key a (w.net.tickets key)).net
     arrives_owned w h key free a sent true up =
         let c = server_context x key w.net.now in
-        server_owned w.net h key (server.server_gets c (service_of S shop w key) (w.net.entries key) free a)
-        (server_gets_own c (service_of S shop w key) (IsSentByServer x key) (IsLesser x key) (server_has key w.net.now) (w.net.entries key) free a
+        server_owned w.net h key (server.server_gets c (service_of S shop w key) (w.net.entries key) (is_room w.net key free) a)
+        (server_gets_own c (service_of S shop w key) (IsSentByServer x key) (IsLesser x key) (server_has key w.net.now) (w.net.entries key) (is_room w.net key free) a
         (begins_request key a up sent) (h.entries key))
     arrives_owned w h key free a sent false down = takes_owned w h key a down sent (w.net.tickets key) (h.tickets key)
 
@@ -197,12 +197,26 @@ module _ (x : Rules) where
 
     event_owned : (w : World S) → Owned w.net → (e : Event) → Owned (happens S shop x w e).net
     event_owned w h (MakeAsk key choice whole front rest) = ask_owned w h key
-        (record { first = w.net.now; choice = choice; whole = whole; pieces = front ∷ rest }) (is_key_held w.net.now (w.net.tickets key))
+        (record { first = w.net.now; choice = choice; whole = whole; pieces = front ∷ rest }) (is_id_held w.net key)
     event_owned w h (Deliver number free) = delivered_owned w h number free (slice_get w.net.posts number) refl
     event_owned w h (Tick as_client as_server) = servers_owned as_server (ticks_as_client S x as_client w) (clients_owned as_client w h)
     event_owned w h Noise = h
     event_owned w h (Advance by) = record { posts = h.posts; entries = h.entries; tickets = h.tickets }
     event_owned w h (Change node change) = record { posts = h.posts; entries = h.entries; tickets = h.tickets }
+    event_owned w h (RestartClient node) = record { posts = h.posts; entries = h.entries; tickets = λ key. go key (nat_eq key.client node) }
+      where
+        go : (key : Key) (b : Bool) → TicketHas (IsLesser x key) (if b then lost (w.net.tickets key) else w.net.tickets key)
+        go key true = over (w.net.tickets key)
+          where
+            over : (o : Option Ticket) → TicketHas (IsLesser x key) (lost o)
+            over None = tt
+            over (Some t) = tt
+        go key false = h.tickets key
+    event_owned w h (RestartServer node store) = record { posts = h.posts; entries = λ key. go key (nat_eq key.server node); tickets = h.tickets }
+      where
+        go : (key : Key) (b : Bool) → EntryHas (IsSentByServer x key) (IsLesser x key) (if b then None else w.net.entries key)
+        go key true = tt
+        go key false = h.entries key
 
     run_owned : (events : List Event) (w : World S) → Owned w.net → Owned (run S shop x events w).net
     run_owned [] w h = h

@@ -1,6 +1,6 @@
 -- After any moves a net is in order.
-use Rattle.std.proofs.Common.{◌≡◌, ℕ, ◌-◌, ◌≤◌, ◌⊎◌, Bool, true, false, ◌&&◌, List, [], ◌∷◌, ◌++◌, Option, Some, None, slice_get, nat_le, refl, sym, ap, subst}
-use Rattle.std.proofs.Common.{inl, inr, arith, if◌then◌else◌}
+use Rattle.std.proofs.Common.{◌≡◌, ℕ, ◌-◌, ◌≤◌, Bool, true, false, ◌&&◌, List, [], ◌∷◌, ◌++◌, Option, Some, None, slice_get, nat_le, refl, sym, ap, subst}
+use Rattle.std.proofs.Common.{arith, if◌then◌else◌}
 use Rattle.std.proofs.lemmas.Bool.Decides.{nat_tests}
 use Rattle.bac_protocol.specs.Times.{LIFE}
 use Rattle.bac_protocol.specs.Service.{Octets}
@@ -11,19 +11,21 @@ use Rattle.bac_protocol.specs.Client.{Ask, Ticket}
 use Rattle.bac_protocol.specs.Server as server
 use Rattle.bac_protocol.specs.Server.{Entry, Service}
 use Rattle.bac_protocol.specs.Transaction.{Key, Rules, client_context, server_context, Copy}
-use Rattle.bac_protocol.specs.World.{Net, Post, later, server_acts, asked_at, is_key_held, set_at, net_start}
+use Rattle.bac_protocol.specs.World.{Net, Post, later, server_acts, asked_at, is_id_held, is_room, net_start}
 use Rattle.bac_protocol.specs.Claims.{IsBounded}
-use Rattle.bac_protocol.specs.Own.{IsOwnEntry}
 use Rattle.bac_protocol.specs.Moves.{Move, taken_by_client, taken_by_server, arrived, ticket_ticked, moved, IsReached, IsInOrder, SetsOnePlace}
-use Rattle.bac_protocol.specs.Moves.Move.{Asks, Arrives, TicksTicket, TicksEntry, Passes, Changes}
+use Rattle.bac_protocol.specs.Moves.Move.{Asks, Arrives, TicksTicket, TicksEntry, Passes, Changes, RestartsClient, RestartsServer}
 use Rattle.bac_protocol.specs.Moves.IsReached.{Still, Moved}
 use Rattle.bac_protocol.proofs.Alone.{one}
 use Rattle.bac_protocol.proofs.ClientKeeps.{client_gets_kept, client_ticks_kept}
 use Rattle.bac_protocol.proofs.ServerKeeps.{server_gets_kept, server_ticks_kept}
-use Rattle.bac_protocol.proofs.Keys.{copy_at, decide_key, set_same, set_other, set_nothing}
-use Rattle.bac_protocol.proofs.Nets.{NetSound, sound_at, net_client, net_server, net_asked, spent_at, net_changed, net_later, net_starts}
+use Rattle.bac_protocol.proofs.Keys.{copy_at, set_same, set_other, set_nothing}
+use Rattle.bac_protocol.proofs.Nets.{NetSound, sound_at, net_client, net_server, net_asked, net_changed, net_later, net_starts}
+use Rattle.bac_protocol.proofs.Nets.{room_opens, net_client_restarted, net_server_restarted}
+use Rattle.bac_protocol.proofs.Calm.{Calm, calm_client, calm_gets, calm_ticks, calm_asked, calm_later, calm_server_restarted, calm_client_restarted}
+use Rattle.bac_protocol.proofs.Calm.{calm_changed, calm_start, id_free, spent_free}
+use Rattle.bac_protocol.proofs.Dead.{ended_is_silent}
 use Rattle.bac_protocol.proofs.Headline.{net_log}
-use Rattle.bac_protocol.proofs.Own.{server_sends_own}
 use Rattle.bac_protocol.proofs.StraightRuns.{none_live_of}
 
 none_there : (k : ℕ) (c : Copy) → slice_get [] k ≡ Some c → ⊥
@@ -36,15 +38,7 @@ all_there (p ∷ posts) = ap (λ ps. p ∷ ps) (all_there posts)
 module _ (W : ℕ) (x : Rules) (bound : IsBounded W x) where
   record Sound (n : Net) : Type 0 where
     net : NetSound W n
-    own : (key : Key) → IsOwnEntry key.invoke_id (n.entries key)
-
-  own_set : (n : Net) → Sound n → (key : Key) (o : Option Entry) → IsOwnEntry key.invoke_id o → (k : Key) → IsOwnEntry k.invoke_id (set_at n.entries key o k)
-  own_set n s key o own k = go (decide_key key k)
-    where
-      go : ((key ≡ k) ⊎ (key ≡ k → ⊥)) → IsOwnEntry k.invoke_id (set_at n.entries key o k)
-      go (inl is) = subst (λ (j : Key). IsOwnEntry j.invoke_id (set_at n.entries key o j)) is
-          (subst (IsOwnEntry key.invoke_id) (sym (set_same n.entries key o)) own)
-      go (inr ne) = subst (IsOwnEntry k.invoke_id) (sym (set_other n.entries key o k ne)) (s.own k)
+    calm : Calm n
 
   posted : (n : Net) → Sound n → (number : ℕ) (p : Post) → slice_get n.posts number ≡ Some p → n.tickets p.key ≡ None → ⊥
   posted n s number p at is = none_there (later p.key number n.posts) p.copy
@@ -53,20 +47,20 @@ module _ (W : ℕ) (x : Rules) (bound : IsBounded W x) where
 
   arrives_sound : (n : Net) → Sound n → (number : ℕ) (p : Post) → slice_get n.posts number ≡ Some p → n.now - p.copy.moment ≤ LIFE
       → later p.key number n.posts ≤ x.overtake → (free : Bool) (service : Service) (o : Option Ticket) → n.tickets p.key ≡ o → (up : Bool)
-      → Sound (if up then taken_by_server x n p free service else taken_by_client x n p o)
-  arrives_sound n s number p at young few free service None is up = absurd (posted n s number p at is)
-  arrives_sound n s number p at young few free service (Some t) is true =
+      → is_from_client p.copy.apdu ≡ up → Sound (if up then taken_by_server x n p free service else taken_by_client x n p o)
+  arrives_sound n s number p at young few free service None is up way = absurd (posted n s number p at is)
+  arrives_sound n s number p at young few free service (Some t) is true way =
       let f = sound_at W n p.key (Some t) is s.net in
       let says = ((f.2).arriving (later p.key number n.posts) p.copy (copy_at number n.posts p at) young).1 in
-      let v = server.server_gets (server_context x p.key n.now) service (n.entries p.key) free p.copy.apdu in
+      let v = server.server_gets (server_context x p.key n.now) service (n.entries p.key) (is_room n p.key free) p.copy.apdu in
       record {
         net = net_server W n p.key t is s.net v
             (server_gets_kept W x.overtake bound.some bound.room (x.settings p.key.server) (bound.windows p.key.server) service p.key
-            (one n p.key) t (n.entries p.key) f.0 f.1 f.2 free p.copy.moment (later p.key number n.posts) few young p.copy.apdu says);
-        own = own_set n s p.key v.entry
-            (server_sends_own.gets (server_context x p.key n.now) service (n.entries p.key) free p.copy.apdu (s.own p.key)).1;
+            (one n p.key) t (n.entries p.key) f.0 f.1 f.2 (is_room n p.key free) (room_opens n p.key free) p.copy.moment (later p.key number n.posts) few young p.copy.apdu says);
+        calm = calm_gets n s.calm p.key (server_context x p.key n.now) refl refl service (is_room n p.key free) (room_opens n p.key free) (later p.key number n.posts) p.copy
+            (copy_at number n.posts p at) young way;
       }
-  arrives_sound n s number p at young few free service (Some t) is false =
+  arrives_sound n s number p at young few free service (Some t) is false way =
       let f = sound_at W n p.key (Some t) is s.net in
       let says = ((f.2).arriving (later p.key number n.posts) p.copy (copy_at number n.posts p at) young).1 in
       let r = client.client_gets (client_context x p.key n.now) x.readable t p.copy.apdu in
@@ -74,7 +68,7 @@ module _ (W : ℕ) (x : Rules) (bound : IsBounded W x) where
         net = net_client W n p.key t is s.net r
             (client_gets_kept W x.overtake bound.some bound.room (x.settings p.key.client) (bound.windows p.key.client) x.readable p.key
             (one n p.key) t f.0 f.1 f.2 p.copy.moment (later p.key number n.posts) few p.copy.apdu says);
-        own = s.own;
+        calm = calm_client n s.calm p.key t is r (ended_is_silent.gets (client_context x p.key n.now) x.readable t p.copy.apdu);
       }
 
   arrived_sound : (n : Net) → Sound n → (number : ℕ) (free : Bool) (service : Service) (o : Option Post) → slice_get n.posts number ≡ o
@@ -85,7 +79,7 @@ module _ (W : ℕ) (x : Rules) (bound : IsBounded W x) where
       go : (a b : Bool) → nat_le (n.now - p.copy.moment) LIFE ≡ a → nat_le (later p.key number n.posts) x.overtake ≡ b
           → Sound (if a && b then (if is_from_client p.copy.apdu then taken_by_server x n p free service else taken_by_client x n p (n.tickets p.key)) else n)
       go true true young few = arrives_sound n s number p at (grind (arith, nat_tests)) (grind (arith, nat_tests)) free service (n.tickets p.key) refl
-          (is_from_client p.copy.apdu)
+          (is_from_client p.copy.apdu) refl
       go true false young few = s
       go false b young few = s
 
@@ -98,7 +92,7 @@ module _ (W : ℕ) (x : Rules) (bound : IsBounded W x) where
         net = net_client W n key t is s.net r
             (client_ticks_kept W x.overtake bound.some bound.room (x.settings key.client) (bound.windows key.client) x.readable key
             (one n key) t f.0 f.1 f.2);
-        own = s.own;
+        calm = calm_client n s.calm key t is r (ended_is_silent.ticks (client_context x key n.now) t);
       }
 
   entry_sound : (n : Net) → Sound n → (key : Key) (o : Option Ticket) → n.tickets key ≡ o
@@ -110,7 +104,7 @@ module _ (W : ℕ) (x : Rules) (bound : IsBounded W x) where
         net = net_server W n key t is s.net v
             (server_ticks_kept W x.overtake bound.some bound.room (x.settings key.server) (bound.windows key.server)
             (λ choice octets. Rejects 0) key (one n key) t (n.entries key) f.0 f.1 f.2);
-        own = own_set n s key v.entry (server_sends_own.ticks (server_context x key n.now) (n.entries key) (s.own key)).1;
+        calm = calm_ticks n s.calm key (server_context x key n.now) refl refl;
       }
   entry_sound n s key None is = go (n.entries key) refl (sound_at W n key None is s.net).no_entry
     where
@@ -120,28 +114,34 @@ module _ (W : ℕ) (x : Rules) (bound : IsBounded W x) where
           (λ i. record n { entries = sym (set_nothing n.entries key None is) i; posts = sym (all_there n.posts) i }) s
 
   asks_sound : (n : Net) → Sound n → (key : Key) (choice : ℕ) (whole : Bool) (front : Octets) (rest : List Octets) (b : Bool)
-      → is_key_held n.now (n.tickets key) ≡ b
+      → is_id_held n key ≡ b
       → Sound (if b then n else asked_at x n key (record { first = n.now; choice = choice; whole = whole; pieces = front ∷ rest }))
   asks_sound n s key choice whole front rest true e = s
   asks_sound n s key choice whole front rest false e = record {
-    net = net_asked W bound.some x n key s.net (spent_at W n key (n.tickets key) refl (s.net.each key) e) choice whole front rest;
-    own = s.own;
+    net = net_asked W bound.some x n key s.net (spent_free W n s.net s.calm key e) choice whole front rest;
+    calm = calm_asked x n s.calm key (id_free n key e).0 choice whole (front ∷ rest);
   }
 
   move_sound : (n : Net) → Sound n → (m : Move) → Sound (moved x n m)
-  move_sound n s (Asks key choice whole front rest) = asks_sound n s key choice whole front rest (is_key_held n.now (n.tickets key)) refl
+  move_sound n s (Asks key choice whole front rest) = asks_sound n s key choice whole front rest (is_id_held n key) refl
   move_sound n s (Arrives number free service) = arrived_sound n s number free service (slice_get n.posts number) refl
   move_sound n s (TicksTicket key) = ticket_sound n s key (n.tickets key) refl
   move_sound n s (TicksEntry key) = entry_sound n s key (n.tickets key) refl
-  move_sound n s (Passes by) = record { net = net_later W by n s.net; own = s.own }
-  move_sound n s (Changes node change) = record { net = net_changed W n node change s.net; own = s.own }
+  move_sound n s (Passes by) = record { net = net_later W by n s.net; calm = calm_later n by s.calm }
+  move_sound n s (Changes node change) = record { net = net_changed W n node change s.net; calm = calm_changed n node change s.calm }
+  move_sound n s (RestartsClient node) = record { net = net_client_restarted W n node s.net; calm = calm_client_restarted n node s.calm }
+  move_sound n s (RestartsServer node store) =
+      record { net = net_server_restarted W n node store s.net; calm = calm_server_restarted n node store s.calm }
 
   reached_sound : (n : Net) → IsReached x net_start n → Sound n
-  reached_sound _ Still = record { net = net_starts W; own = λ key. tt }
+  reached_sound _ Still = record { net = net_starts W; calm = calm_start }
   reached_sound _ (Moved n m h) = move_sound n (reached_sound n h) m
 
   pub reached_net : (n : Net) → IsReached x net_start n → NetSound W n
   reached_net n h = (reached_sound n h).net
+
+  pub reached_calm : (n : Net) → IsReached x net_start n → Calm n
+  reached_calm n h = (reached_sound n h).calm
 
   pub in_order : (n : Net) → IsReached x net_start n → IsInOrder n
   in_order n h =
@@ -152,8 +152,8 @@ module _ (W : ℕ) (x : Rules) (bound : IsBounded W x) where
         asked = λ key t is. ((sound_at W n key (Some t) is s.net).2).asked;
         posted = posted n s;
         entered = λ key is. (sound_at W n key None is s.net).no_entry;
-        own = s.own;
-        dead = λ key free. none_live_of n.now (n.entries key) (spent_at W n key (n.tickets key) refl (s.net.each key) free).dead;
+        own = λ key. (s.calm key).own;
+        dead = λ key free. none_live_of n.now (n.entries key) (spent_free W n s.net s.calm key free).dead;
       }
 
 -- One place of a table.

@@ -12,19 +12,20 @@ use Rattle.bac_protocol.specs.Client.Phase.{AwaitConfirmation, SegmentedConf, Id
 use Rattle.bac_protocol.specs.Server.{State, Entry}
 use Rattle.bac_protocol.specs.Server.State.{Done, SegmentedResponse, Dropped}
 use Rattle.bac_protocol.specs.Log.{Fact, Has, asks_in, IsUnperformed, IsUnended, IsOrderly}
-use Rattle.bac_protocol.specs.Log.Fact.{Asked, Performed, Ended, Changed}
+use Rattle.bac_protocol.specs.Log.Fact.{Asked, Performed, Ended, Changed, Restarted}
 use Rattle.bac_protocol.specs.Transaction.{Key, Copy}
 use Rattle.bac_protocol.proofs.Alone.{Transaction}
 use Rattle.bac_protocol.specs.Claims.{EachCopy, IsPieceOf, WasPerformed, IsPiece, IsAck}
 
 -- The log.
 
--- what is said of the ask of a fact; a change is of no ask
+-- what is said of the ask of a fact; a change and a restart are of no ask
 abbrev pub OfAsk : (ℕ → Type 0) → Fact → Type 0
 OfAsk P (Asked n c s r) = P n
 OfAsk P (Performed n r p) = P n
 OfAsk P (Ended n how) = P n
 OfAsk P (Changed s c) = Unit {0}
+OfAsk P (Restarted s o) = Unit {0}
 
 -- a fact is not of ask n
 abbrev pub IsOfOther : ℕ → Fact → Type 0
@@ -202,9 +203,19 @@ pub record IsPastFor (number : ℕ) (ask : Ask) (e : Entry) (up : Up) (down : Do
   pub dead : e.begin + KEEP < ask.first
   pub unbegun : IsUnbegun number up down log
 
-abbrev pub ServerFits : ℕ → ℕ → Ask → Option Entry → Up → Down → List Fact → Type 0
-ServerFits W number ask None up down log = IsUnbegun number up down log
-ServerFits W number ask (Some e) up down log = IsPastFor number ask e up down log ⊎ IsBegunFor W number ask e up down log
+-- pieces of a reply were sent for the request, which was read and performed
+abbrev pub WasGiven : ℕ → Ask → Up → Down → List Fact → Type 0
+WasGiven number ask up Unsent log = Unit {0}
+WasGiven number ask up (Sent pieces taken sent) log = IsRead ask up × WasPerformed number ask (reply.Complex (join pieces)) log
+
+-- the server restarted since the ask, and lost what it had begun for it
+pub record IsLostFor (opens number : ℕ) (ask : Ask) (up : Up) (down : Down) (log : List Fact) : Type 0 where
+  pub before : ask.first + KEEP < opens
+  pub given : WasGiven number ask up down log
+
+abbrev pub ServerFits : ℕ → ℕ → ℕ → Ask → Option Entry → Up → Down → List Fact → Type 0
+ServerFits W opens number ask None up down log = IsUnbegun number up down log ⊎ IsLostFor opens number ask up down log
+ServerFits W opens number ask (Some e) up down log = IsPastFor number ask e up down log ⊎ IsBegunFor W number ask e up down log
 
 -- All of it.
 
@@ -222,7 +233,7 @@ IsOpenIn AwaitConfirmation n log = IsUnended n log
 IsOpenIn (SegmentedConf inc) n log = IsUnended n log
 IsOpenIn Idle n log = Unit {0}
 
-pub record Sound (W : ℕ) (key : Key) (now asks number : ℕ) (t : Ticket) (entry : Option Entry) (copies : List Copy) (log : List Fact) (up : Up)
+pub record Sound (W : ℕ) (key : Key) (opens now asks number : ℕ) (t : Ticket) (entry : Option Entry) (copies : List Copy) (log : List Fact) (up : Up)
     (down : Down) : Type 0 where
   pub clock : t.ask.first ≤ now
   pub numbers : IsBelow asks log
@@ -232,7 +243,7 @@ pub record Sound (W : ℕ) (key : Key) (now asks number : ℕ) (t : Ticket) (ent
   pub unended : IsOpenIn t.phase number log
   pub client : ClientFits W t.ask t.phase up down
   pub passes : PassFits t.ask t.repeats up
-  pub server : ServerFits W number t.ask entry up down log
+  pub server : ServerFits W opens number t.ask entry up down log
   pub upload : UpFits W t.ask up
   pub download : DownFits W down
   pub arriving : EachCopy (λ k c. Fits W now number t.ask log up down k c) copies
@@ -247,7 +258,7 @@ pub record IsFresh (asks : ℕ) (entry : Option Entry) (copies : List Copy) (log
 
 abbrev pub IsSoundAt : ℕ → Key → Option Ticket → Transaction → Type 0
 IsSoundAt W key None w = IsFresh w.asks w.entry w.copies w.log
-IsSoundAt W key (Some t) w = (up : Up) × (down : Down) × Sound W key w.now w.asks w.number t w.entry w.copies w.log up down
+IsSoundAt W key (Some t) w = (up : Up) × (down : Down) × Sound W key w.opens w.now w.asks w.number t w.entry w.copies w.log up down
 
 abbrev pub IsSound : ℕ → Key → Transaction → Type 0
 IsSound W key w = IsSoundAt W key w.ticket w

@@ -1,46 +1,59 @@
--- Where no node changes its own store, the log of a run has no change.
-use Rattle.std.proofs.Common.{ℕ, Bool, true, false, List, [], ◌∷◌, Option, Some, None, slice_get, if◌then◌else◌}
+-- Where no node changes its own store, the log of a run has no change; where none restarts, it has no restart, and no end waits.
+use Rattle.std.proofs.Common.{◌≡◌, ℕ, ◌+◌, Bool, true, false, ◌&&◌, ◌||◌, not, List, [], ◌∷◌, Option, Some, None, slice_get, if◌then◌else◌, nat_le, nat_lt}
+use Rattle.std.proofs.Common.{refl, ap, ◌∙◌, arith}
+use Rattle.std.proofs.lemmas.Bool.Decides.{nat_tests}
 use Rattle.bac_apdu.specs.Apdu.{Apdu}
-use Rattle.bac_protocol.specs.Service.{Ending}
+use Rattle.bac_protocol.specs.Times.{REST}
+use Rattle.bac_protocol.specs.Service.{Octets, Request, Reply, Ending}
 use Rattle.bac_protocol.specs.Wire.{is_from_client}
 use Rattle.bac_protocol.specs.Client as client
-use Rattle.bac_protocol.specs.Client.{Ask, Ticket}
+use Rattle.bac_protocol.specs.Client.{Ask, Ticket, request_of, is_held}
 use Rattle.bac_protocol.specs.Server as server
 use Rattle.bac_protocol.specs.Server.{Effect}
-use Rattle.bac_protocol.specs.Log.{Fact, Shop, HasNoChange}
+use Rattle.bac_protocol.specs.Log.{Fact, Shop, HasNoChange, HasNoRestart}
+use Rattle.bac_protocol.specs.Log.Fact.{Asked, Performed, Ended}
 use Rattle.bac_protocol.specs.Transaction.{Key, Rules, ended, performed, client_context, server_context}
-use Rattle.bac_protocol.specs.World.{World, Post, Event, is_deliverable, is_key_held, ask_made, arrives, takes_at_client, takes_at_server}
-use Rattle.bac_protocol.specs.World.{delivered, ticks_ticket, ticks_as_client, ticks_as_server, serves, happens, run, start, MakeNoChange}
-use Rattle.bac_protocol.specs.World.Event.{MakeAsk, Deliver, Tick, Noise, Advance, Change}
+use Rattle.bac_protocol.specs.World.{Net, World, Post, Event, is_deliverable, is_id_held, is_room, ask_made, arrives, takes_at_client, takes_at_server}
+use Rattle.bac_protocol.specs.World.{delivered, ticks_ticket, ticks_as_client, ticks_as_server, serves, happens, run, start}
+use Rattle.bac_protocol.specs.World.{is_key_held, is_held_since, MakeNoChange, MakeNoRestart, NeverRestarted, NeverWaits}
+use Rattle.bac_protocol.specs.World.Event.{MakeAsk, Deliver, Tick, Noise, Advance, Change, RestartClient, RestartServer}
 
-ended_quiet : (n : ℕ) (o : Option Ending) (log : List Fact) → HasNoChange log → HasNoChange (ended n o log)
-ended_quiet n None log h = h
-ended_quiet n (Some how) log h = h
+-- what is said of a log, and of the moments from which each end asks and serves, and stays so as asks are made, performed and ended
+record IsLeft (Q : List Fact → (asks serves : ℕ → ℕ) → Type 0) : Type 0 where
+  asked : (n c s : ℕ) (r : Request) (log : List Fact) (asks serves : ℕ → ℕ) → Q log asks serves → Q (Asked n c s r ∷ log) asks serves
+  performed : (n : ℕ) (r : Request) (p : Reply) (log : List Fact) (asks serves : ℕ → ℕ) → Q log asks serves → Q (Performed n r p ∷ log) asks serves
+  ended : (n : ℕ) (how : Ending) (log : List Fact) (asks serves : ℕ → ℕ) → Q log asks serves → Q (Ended n how ∷ log) asks serves
 
-performed_quiet : (n : ℕ) (o : Option Effect) (log : List Fact) → HasNoChange log → HasNoChange (performed n o log)
-performed_quiet n None log h = h
-performed_quiet n (Some e) log h = h
-
-module _ (S : Type 0) (shop : Shop S) (x : Rules) where
+module _ (Q : List Fact → (asks serves : ℕ → ℕ) → Type 0) (left : IsLeft Q) (S : Type 0) (shop : Shop S) (x : Rules) where
   abbrev Quiet : World S → Type 0
-  Quiet w = HasNoChange w.net.log
+  Quiet w = Q w.net.log w.net.asks_from w.net.serves_from
+
+  ended_quiet : (n : ℕ) (o : Option Ending) (log : List Fact) (asks serves : ℕ → ℕ) → Q log asks serves → Q (ended n o log) asks serves
+  ended_quiet n None log asks serves h = h
+  ended_quiet n (Some how) log asks serves h = left.ended n how log asks serves h
+
+  performed_quiet : (n : ℕ) (o : Option Effect) (log : List Fact) (asks serves : ℕ → ℕ) → Q log asks serves → Q (performed n o log) asks serves
+  performed_quiet n None log asks serves h = h
+  performed_quiet n (Some e) log asks serves h = left.performed n e.request e.reply log asks serves h
 
   ask_quiet : (w : World S) → Quiet w → (key : Key) (ask : Ask) (held : Bool) → Quiet (if held then w else ask_made S x w key ask)
   ask_quiet w h key ask true = h
-  ask_quiet w h key ask false = h
+  ask_quiet w h key ask false =
+      left.asked w.net.asks key.client key.server (request_of ask) w.net.log w.net.asks_from w.net.serves_from h
 
   takes_quiet : (w : World S) → Quiet w → (key : Key) (a : Apdu) (o : Option Ticket) → Quiet (takes_at_client S x w key a o)
   takes_quiet w h key a None = h
   takes_quiet w h key a (Some t) =
-      ended_quiet (w.net.numbers key) (client.ending_of (client.client_gets (client_context x key w.net.now) x.readable t a)) w.net.log h
+      ended_quiet (w.net.numbers key) (client.ending_of (client.client_gets (client_context x key w.net.now) x.readable t a)) w.net.log
+      w.net.asks_from w.net.serves_from h
 
   serves_quiet : (w : World S) → Quiet w → (key : Key) (v : server.Reaction) → Quiet (serves S shop w key v)
-  serves_quiet w h key v = performed_quiet (w.net.numbers key) v.effect w.net.log h
+  serves_quiet w h key v = performed_quiet (w.net.numbers key) v.effect w.net.log w.net.asks_from w.net.serves_from h
 
   arrives_quiet : (w : World S) → Quiet w → (key : Key) (free : Bool) (a : Apdu) (up : Bool)
       → Quiet (if up then takes_at_server S shop x w key free a else takes_at_client S x w key a (w.net.tickets key))
   arrives_quiet w h key free a true = serves_quiet w h key
-      (server.server_gets (server_context x key w.net.now) (shop.outcome (w.stores key.server)) (w.net.entries key) free a)
+      (server.server_gets (server_context x key w.net.now) (shop.outcome (w.stores key.server)) (w.net.entries key) (is_room w.net key free) a)
   arrives_quiet w h key free a false = takes_quiet w h key a (w.net.tickets key)
 
   delivered_quiet : (w : World S) → Quiet w → (number : ℕ) (free : Bool) (o : Option Post) → Quiet (delivered S shop x w number free o)
@@ -54,7 +67,8 @@ module _ (S : Type 0) (shop : Shop S) (x : Rules) where
   ticket_quiet : (w : World S) → Quiet w → (key : Key) (o : Option Ticket) → Quiet (ticks_ticket S x w key o)
   ticket_quiet w h key None = h
   ticket_quiet w h key (Some t) =
-      ended_quiet (w.net.numbers key) (client.ending_of (client.client_ticks (client_context x key w.net.now) t)) w.net.log h
+      ended_quiet (w.net.numbers key) (client.ending_of (client.client_ticks (client_context x key w.net.now) t)) w.net.log w.net.asks_from
+      w.net.serves_from h
 
   clients_quiet : (keys : List Key) (w : World S) → Quiet w → Quiet (ticks_as_client S x keys w)
   clients_quiet [] w h = h
@@ -66,17 +80,101 @@ module _ (S : Type 0) (shop : Shop S) (x : Rules) where
       let v = server.server_ticks (server_context x key w.net.now) (w.net.entries key) in
       servers_quiet keys (serves S shop w key v) (serves_quiet w h key v)
 
-  run_quiet : (events : List Event) (w : World S) → MakeNoChange events → Quiet w → Quiet (run S shop x events w)
-  run_quiet [] w none h = h
-  run_quiet (MakeAsk key choice whole front rest ∷ es) w none h = run_quiet es (happens S shop x w (MakeAsk key choice whole front rest)) none
-      (ask_quiet w h key (record { first = w.net.now; choice = choice; whole = whole; pieces = front ∷ rest }) (is_key_held w.net.now (w.net.tickets key)))
-  run_quiet (Deliver number free ∷ es) w none h = run_quiet es (happens S shop x w (Deliver number free)) none
-      (delivered_quiet w h number free (slice_get w.net.posts number))
-  run_quiet (Tick as_client as_server ∷ es) w none h = run_quiet es (happens S shop x w (Tick as_client as_server)) none
-      (servers_quiet as_server (ticks_as_client S x as_client w) (clients_quiet as_client w h))
-  run_quiet (Noise ∷ es) w none h = run_quiet es w none h
-  run_quiet (Advance by ∷ es) w none h = run_quiet es (happens S shop x w (Advance by)) none h
-  run_quiet (Change node change ∷ es) w none h = absurd none
+  ask_event_quiet : (w : World S) → Quiet w → (key : Key) (choice : ℕ) (whole : Bool) (front : Octets) (rest : List Octets)
+      → Quiet (happens S shop x w (MakeAsk key choice whole front rest))
+  ask_event_quiet w h key choice whole front rest =
+      ask_quiet w h key (record { first = w.net.now; choice = choice; whole = whole; pieces = front ∷ rest }) (is_id_held w.net key)
+
+  deliver_quiet : (w : World S) → Quiet w → (number : ℕ) (free : Bool) → Quiet (happens S shop x w (Deliver number free))
+  deliver_quiet w h number free = delivered_quiet w h number free (slice_get w.net.posts number)
+
+  tick_quiet : (w : World S) → Quiet w → (as_client as_server : List Key) → Quiet (happens S shop x w (Tick as_client as_server))
+  tick_quiet w h as_client as_server = servers_quiet as_server (ticks_as_client S x as_client w) (clients_quiet as_client w h)
+
+-- No change.
+
+abbrev HasNone : List Fact → (asks serves : ℕ → ℕ) → Type 0
+HasNone log asks serves = HasNoChange log
+
+left_none : IsLeft HasNone
+left_none = record {
+  asked = λ n c s r log asks serves h. h;
+  performed = λ n r p log asks serves h. h;
+  ended = λ n how log asks serves h. h;
+}
+
+-- No restart.
+
+abbrev NoneWaits : List Fact → (asks serves : ℕ → ℕ) → Type 0
+NoneWaits log asks serves = HasNoRestart log × ((node : ℕ) → asks node ≡ 0) × ((node : ℕ) → serves node ≡ 0)
+
+left_waiting : IsLeft NoneWaits
+left_waiting = record {
+  asked = λ n c s r log asks serves h. h;
+  performed = λ n r p log asks serves h. h;
+  ended = λ n how log asks serves h. h;
+}
+
+module _ (S : Type 0) (shop : Shop S) (x : Rules) where
+  no_change : (events : List Event) (w : World S) → MakeNoChange events → HasNoChange w.net.log → HasNoChange (run S shop x events w).net.log
+  no_change [] w none h = h
+  no_change (MakeAsk key choice whole front rest ∷ es) w none h = no_change es (happens S shop x w (MakeAsk key choice whole front rest)) none
+      (ask_event_quiet HasNone left_none S shop x w h key choice whole front rest)
+  no_change (Deliver number free ∷ es) w none h = no_change es (happens S shop x w (Deliver number free)) none
+      (deliver_quiet HasNone left_none S shop x w h number free)
+  no_change (Tick as_client as_server ∷ es) w none h = no_change es (happens S shop x w (Tick as_client as_server)) none
+      (tick_quiet HasNone left_none S shop x w h as_client as_server)
+  no_change (Noise ∷ es) w none h = no_change es w none h
+  no_change (Advance by ∷ es) w none h = no_change es (happens S shop x w (Advance by)) none h
+  no_change (Change node change ∷ es) w none h = absurd none
+  no_change (RestartClient node ∷ es) w none h = no_change es (happens S shop x w (RestartClient node)) none h
+  no_change (RestartServer node store ∷ es) w none h = no_change es (happens S shop x w (RestartServer node store)) none.1 (none.0, h)
 
   pub no_change_in_run : (opening : ℕ → S) (events : List Event) → MakeNoChange events → HasNoChange (run S shop x events (start S opening)).net.log
-  no_change_in_run opening events none = run_quiet events (start S opening) none tt
+  no_change_in_run opening events none = no_change events (start S opening) none tt
+
+  no_restart : (events : List Event) (w : World S) → MakeNoRestart events → NoneWaits w.net.log w.net.asks_from w.net.serves_from
+      → (let v = run S shop x events w in NoneWaits v.net.log v.net.asks_from v.net.serves_from)
+  no_restart [] w none h = h
+  no_restart (MakeAsk key choice whole front rest ∷ es) w none h = no_restart es (happens S shop x w (MakeAsk key choice whole front rest)) none
+      (ask_event_quiet NoneWaits left_waiting S shop x w h key choice whole front rest)
+  no_restart (Deliver number free ∷ es) w none h = no_restart es (happens S shop x w (Deliver number free)) none
+      (deliver_quiet NoneWaits left_waiting S shop x w h number free)
+  no_restart (Tick as_client as_server ∷ es) w none h = no_restart es (happens S shop x w (Tick as_client as_server)) none
+      (tick_quiet NoneWaits left_waiting S shop x w h as_client as_server)
+  no_restart (Noise ∷ es) w none h = no_restart es w none h
+  no_restart (Advance by ∷ es) w none h = no_restart es (happens S shop x w (Advance by)) none h
+  no_restart (Change node change ∷ es) w none h = no_restart es (happens S shop x w (Change node change)) none h
+  no_restart (RestartClient node ∷ es) w none h = absurd none
+  no_restart (RestartServer node store ∷ es) w none h = absurd none
+
+  pub no_restart_in_run : (opening : ℕ → S) (events : List Event) → MakeNoRestart events
+      → (let v = run S shop x events (start S opening) in HasNoRestart v.net.log × NeverRestarted v.net)
+  no_restart_in_run opening events none =
+      let h = no_restart events (start S opening) none (tt, λ node. refl, λ node. refl) in (h.0, record { asks = h.1; serves = h.2 })
+
+-- Where no end restarted, none waits.
+pub never_waits : (n : Net) → NeverRestarted n → NeverWaits n
+never_waits n h = record { held = held; room = room }
+  where
+    none : (from : ℕ) → from ≡ 0 → nat_lt n.now from ≡ false
+    none from is = grind (arith, nat_tests)
+
+    since : (from first : ℕ) → from ≡ 0 → nat_le from (first + REST) ≡ true
+    since from first is = grind (arith, nat_tests)
+
+    by_ticket : (from : ℕ) → from ≡ 0 → (o : Option Ticket) → is_held_since from n.now o ≡ is_key_held n.now o
+    by_ticket from is None = refl
+    by_ticket from is (Some t) = ap (λ (b : Bool). b && is_held n.now t) (since from t.ask.first is)
+
+    held : (key : Key) → is_id_held n key ≡ is_key_held n.now (n.tickets key)
+    held key =
+        ap (λ (b : Bool). b || is_held_since (n.asks_from key.client) n.now (n.tickets key)) (none (n.asks_from key.client) (h.asks key.client))
+        ∙ by_ticket (n.asks_from key.client) (h.asks key.client) (n.tickets key)
+
+    room : (key : Key) (free : Bool) → is_room n key free ≡ free
+    room key free = ap (λ (b : Bool). free && not b) (none (n.serves_from key.server) (h.serves key.server)) ∙ go free
+      where
+        go : (b : Bool) → (b && true) ≡ b
+        go true = refl
+        go false = refl

@@ -7,7 +7,7 @@ use Rattle.bac_segment.specs.Limits.{RETRIES}
 use Rattle.bac_segment.specs.Numbers.{ahead}
 use Rattle.bac_segment.specs.Pieces.{join, piece_at}
 use Rattle.bac_segment.specs.Window.{Outgoing, in_window, Incoming}
-use Rattle.bac_protocol.specs.Times.{LIFE, DEADLINE, KEEP}
+use Rattle.bac_protocol.specs.Times.{LIFE, DEADLINE, KEEP, REST}
 use Rattle.bac_protocol.specs.Service.{Octets, Reply as reply}
 use Rattle.bac_protocol.specs.Wire.{is_from_client}
 use Rattle.bac_protocol.specs.Client.{Ask, request_of, Phase, Ticket}
@@ -181,10 +181,22 @@ StateHasTaken pieces (Done kept) taken = taken ≡ length pieces
 StateHasTaken pieces (SegmentedResponse out transfer since) taken = taken ≡ length pieces
 StateHasTaken pieces Dropped taken = taken < length pieces
 
--- and it has taken none, where no entry was begun for the ask
-abbrev pub ServerHasTaken : Ask → Option Entry → ℕ → Type 0
-ServerHasTaken ask None taken = taken ≡ 0
-ServerHasTaken ask (Some e) taken = ((e.begin < ask.first) × (taken ≡ 0)) ⊎ ((ask.first ≤ e.begin) × StateHasTaken ask.pieces e.state taken)
+-- the client has not restarted since the ask was made: it would wait longer
+abbrev pub ClientStays : Net → Key → Ask → Type 0
+ClientStays n key ask = n.asks_from key.client ≤ ask.first + REST
+
+-- nor has the server
+abbrev pub ServerStays : Net → Key → Ask → Type 0
+ServerStays n key ask = n.serves_from key.server ≤ ask.first + KEEP
+
+-- the server restarted since the ask was made
+abbrev pub RestartedSince : Net → Key → Ask → Type 0
+RestartedSince n key ask = ask.first + KEEP < n.serves_from key.server
+
+-- and it has taken none, where no entry was begun for the ask; where it restarted since, it may have taken any
+abbrev pub ServerHasTaken : (lost : Type 0) → Ask → Option Entry → ℕ → Type 0
+ServerHasTaken lost ask None taken = (taken ≡ 0) ⊎ lost
+ServerHasTaken lost ask (Some e) taken = ((e.begin < ask.first) × (taken ≡ 0)) ⊎ ((ask.first ≤ e.begin) × StateHasTaken ask.pieces e.state taken)
 
 -- where the request's sender stands: it sends; all was acknowledged; a segment of its reply came; or its ticket is over, and it sends no more
 abbrev pub ClientIsInWindow : ℕ → Ask → Phase → (taken sent : ℕ) → Type 0
@@ -197,7 +209,7 @@ ClientIsInWindow W ask Idle taken sent = Unit {0}
 pub record IsRequestPass (W : ℕ) (x : Rules) (n : Net) (key : Key) (t : Ticket) : Type 0 where
   pub taken : ℕ
   pub sent : ℕ
-  pub server : ServerHasTaken t.ask (n.entries key) taken
+  pub server : ServerHasTaken (RestartedSince n key t.ask) t.ask (n.entries key) taken
   pub client : ClientIsInWindow W t.ask t.phase taken sent
   pub pass : IsNearPass W x.overtake n.now (length t.ask.pieces) taken sent (IsNearUp W t.ask.pieces taken sent) (copies_of key n.posts)
 
@@ -232,6 +244,15 @@ IsOfNoPass _ = Unit {0}
 abbrev pub IsUnsent : Rules → Net → Key → Type 0
 IsUnsent x n key = EachCopy (λ k c. MayArrive x.overtake n.now k c → IsOfNoPass c.apdu) (copies_of key n.posts)
 
+-- the pass of a reply whose server restarted in it, and gives no more of it
+pub record IsLostPass (W : ℕ) (x : Rules) (n : Net) (key : Key) (t : Ticket) : Type 0 where
+  pub pieces : List Octets
+  pub taken : ℕ
+  pub sent : ℕ
+  pub performed : WasPerformed (n.numbers key) t.ask (reply.Complex (join pieces)) n.log
+  pub client : ClientHasTaken pieces t.phase taken
+  pub pass : IsNearPass W x.overtake n.now (length pieces) taken sent (IsNearDown W pieces taken sent) (copies_of key n.posts)
+
 -- in SEGMENTED_RESPONSE the one pass of the reply goes on; otherwise it has not begun
 abbrev pub StateHasReplyPass : (W : ℕ) → Rules → Net → Key → Ticket → State → Type 0
 StateHasReplyPass W x n key t (SegmentedResponse out transfer since) = IsReplyPass W x n key t out
@@ -239,7 +260,7 @@ StateHasReplyPass W x n key t _ = IsUnsent x n key
 
 -- the same of an entry, which may be of an earlier ask
 abbrev pub ServerHasReplyPass : (W : ℕ) → Rules → Net → Key → Ticket → Option Entry → Type 0
-ServerHasReplyPass W x n key t None = IsUnsent x n key
+ServerHasReplyPass W x n key t None = IsUnsent x n key ⊎ (RestartedSince n key t.ask × IsLostPass W x n key t)
 ServerHasReplyPass W x n key t (Some e) =
     ((e.begin < t.ask.first) × IsUnsent x n key) ⊎ ((t.ask.first ≤ e.begin) × StateHasReplyPass W x n key t e.state)
 
@@ -273,8 +294,9 @@ abbrev pub IsSegmentOfRequest : Apdu → Type 0
 IsSegmentOfRequest (ConfirmedRequest limits invoke_id (Some segment) choice service) = Unit {0}
 IsSegmentOfRequest _ = ⊥
 
--- from then on, while a segment of the request may arrive, the entry that was begun for this ask is live and keeps a reply
+-- from then on, while a segment of the request may arrive, the entry that was begun for this ask is live and keeps a reply, or its server restarted
 abbrev pub LaterPassesFindReply : Rules → Net → Type 0
 LaterPassesFindReply x n =
     (key : Key) (t : Ticket) → n.tickets key ≡ Some t → t.ask.whole ≡ false → IsPastFirstPass t.phase t.repeats
-    → EachCopy (λ k c. MayArrive x.overtake n.now k c → IsSegmentOfRequest c.apdu → IsLiveWithReply n.now t.ask (n.entries key)) (copies_of key n.posts)
+    → EachCopy (λ k c. MayArrive x.overtake n.now k c → IsSegmentOfRequest c.apdu
+    → RestartedSince n key t.ask ⊎ IsLiveWithReply n.now t.ask (n.entries key)) (copies_of key n.posts)

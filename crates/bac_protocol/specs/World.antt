@@ -1,16 +1,17 @@
 -- All transactions of all nodes, with one list of copies, one log, and the servers' stores.
-use Rattle.std.specs.Prelude.{ℕ, zero, suc, ◌+◌, ◌-◌, Bool, false, ◌&&◌, List, [], ◌∷◌, ◌++◌, map, Option, Some, None, slice_get, if◌then◌else◌}
-use Rattle.std.specs.Prelude.{nat_le, nat_eq}
+use Rattle.std.specs.Prelude.{◌≡◌, ℕ, zero, suc, ◌+◌, ◌-◌, Bool, false, ◌&&◌, not, List, [], ◌∷◌, ◌++◌, map, Option, Some, None, slice_get, if◌then◌else◌}
+use Rattle.std.specs.Prelude.{◌||◌, nat_le, nat_lt, nat_eq}
 use Rattle.bac_apdu.specs.Apdu.{Apdu}
-use Rattle.bac_protocol.specs.Times.{LIFE}
+use Rattle.bac_protocol.specs.Times.{LIFE, KEEP, REST}
 use Rattle.bac_protocol.specs.Service.{Octets}
 use Rattle.bac_protocol.specs.Wire.{is_from_client}
-use Rattle.bac_protocol.specs.Client.{Ask, request_of, Ticket, after, sends_of, ending_of, asked_ticket, asks, client_gets, client_ticks, is_held}
+use Rattle.bac_protocol.specs.Client.{Ask, request_of, Phase, Ticket, after, sends_of, ending_of, asked_ticket, asks, client_gets, client_ticks, is_held}
 use Rattle.bac_protocol.specs.Client as client
+use Rattle.bac_protocol.specs.Client.Phase.{Idle}
 use Rattle.bac_protocol.specs.Server.{Entry, Effect, Service, server_gets, server_ticks}
 use Rattle.bac_protocol.specs.Server as server
-use Rattle.bac_protocol.specs.Log.{Fact, Shop}
-use Rattle.bac_protocol.specs.Log.Fact.{Asked, Changed}
+use Rattle.bac_protocol.specs.Log.{Fact, Shop, restarted}
+use Rattle.bac_protocol.specs.Log.Fact.{Asked, Changed, Restarted}
 use Rattle.bac_protocol.specs.Transaction.{Key, Rules, client_context, server_context, Copy, ended, performed}
 
 -- whether two keys are of one transaction: of one client, one server and one invoke ID (clause 5.4)
@@ -31,6 +32,8 @@ pub record Net : Type 0 where
   pub entries : Key → Option Entry
   pub posts : List Post  -- every copy that was sent, oldest first, numbered from 0
   pub log : List Fact  -- newest first
+  pub asks_from : ℕ → ℕ  -- the first moment at which each node asks; 0 where its client never restarted
+  pub serves_from : ℕ → ℕ  -- the first moment at which each node begins entries; 0 where its server never restarted
 
 -- the whole: a store for each node
 pub record World (S : Type 0) : Type 0 where
@@ -116,6 +119,10 @@ stored S shop server (Some effect) stores node = if nat_eq node server then shop
 abbrev pub changed_at : (S : Type 0) → Shop S → (node : ℕ) → (change : Octets) → (ℕ → S) → ℕ → S
 changed_at S shop node change stores n = if nat_eq n node then shop.changed (stores node) change else stores n
 
+-- the stores after that node's server restarted
+abbrev pub restarted_at : (S : Type 0) → Shop S → (node : ℕ) → (store : Option Octets) → (ℕ → S) → ℕ → S
+restarted_at S shop node store stores n = if nat_eq n node then restarted S shop store (stores node) else stores n
+
 -- a client acts; no store changes
 abbrev pub reacts : (S : Type 0) → World S → Key → Ticket → client.Reaction → World S
 reacts S w key t r = record { net = client_acts w.net key t r; stores = w.stores }
@@ -126,8 +133,8 @@ serves S shop w key v = record { net = server_acts w.net key v; stores = stored 
 
 -- Events.
 
--- what can happen: an ask in one APDU or in these pieces, a delivery of the copy of that number, a tick of a node, noise, time that passes, and a
--- change at a node itself
+-- what can happen: an ask in one APDU or in these pieces, a delivery of the copy of that number, a tick of a node, noise, time that passes, a
+-- change at a node itself, and a restart of a node's client or server
 pub data Event : Type 0 where
   MakeAsk : (key : Key) (choice : ℕ) (whole : Bool) (front : Octets) (rest : List Octets) → Event
   Deliver : (number : ℕ) (free : Bool) → Event  -- free: whether a slot of the server's reply table has no live entry
@@ -135,11 +142,62 @@ pub data Event : Type 0 where
   Noise : Event  -- octets that are no datagram with an APDU
   Advance : (by : ℕ) → Event
   Change : (node : ℕ) (change : Octets) → Event
+  RestartClient : (node : ℕ) → Event  -- its tickets are lost
+  RestartServer : (node : ℕ) (store : Option Octets) → Event  -- its entries are lost; its store is as it was, or that one
 
 -- whether an invoke ID is held for that server
 abbrev pub is_key_held : ℕ → Option Ticket → Bool
 is_key_held now None = false
 is_key_held now (Some t) = is_held now t
+
+-- Restarts (own rule of this profile): an end's table is lost, and for a time it begins nothing.
+
+-- a restarted client asks nothing before that moment
+abbrev pub waits_to_ask : Net → Key → Bool
+waits_to_ask n key = nat_lt n.now (n.asks_from key.client)
+
+-- a restarted server begins no entry before that moment
+abbrev pub waits_to_serve : Net → Key → Bool
+waits_to_serve n key = nat_lt n.now (n.serves_from key.server)
+
+-- a ticket that a restart took holds no invoke ID once its client asks again: its ask was made REST and more before that
+abbrev pub is_held_since : (from now : ℕ) → Option Ticket → Bool
+is_held_since from now None = false
+is_held_since from now (Some t) = nat_le from (t.ask.first + REST) && is_held now t
+
+-- whether its client can't ask under that key: it waits, or holds the invoke ID
+abbrev pub is_id_held : Net → Key → Bool
+is_id_held n key = waits_to_ask n key || is_held_since (n.asks_from key.client) n.now (n.tickets key)
+
+-- whether its server may begin an entry: a slot is free, and it does not wait
+abbrev pub is_room : Net → Key → (free : Bool) → Bool
+is_room n key free = free && not (waits_to_serve n key)
+
+-- the function with another value at one node
+abbrev pub set_node : (ℕ → ℕ) → (node moment : ℕ) → ℕ → ℕ
+set_node from node moment n = if nat_eq n node then moment else from n
+
+-- a ticket that was lost takes nothing any more, and how its ask ends is not known: it stands here as idle, since its copies are on their way
+abbrev pub lost : Option Ticket → Option Ticket
+lost None = None
+lost (Some t) = Some (record t { phase = Idle })
+
+-- a node's client restarts: its tickets are lost, and it asks again once more than REST has passed
+abbrev pub client_restarted : Net → (node : ℕ) → Net
+client_restarted n node =
+    record n {
+      tickets = λ key. if nat_eq key.client node then lost (n.tickets key) else n.tickets key;
+      asks_from = set_node n.asks_from node (n.now + REST + 1);
+    }
+
+-- a node's server restarts: its entries are lost, and it begins entries again once more than KEEP has passed
+abbrev pub server_restarted : Net → (node : ℕ) → (store : Option Octets) → Net
+server_restarted n node store =
+    record n {
+      entries = λ key. if nat_eq key.server node then None else n.entries key;
+      serves_from = set_node n.serves_from node (n.now + KEEP + 1);
+      log = Restarted node store ∷ n.log;
+    }
 
 -- what the transaction's server makes of a request, by its store as it is
 abbrev pub service_of : (S : Type 0) → Shop S → World S → Key → Service
@@ -153,7 +211,7 @@ takes_at_client S x w key a (Some t) = reacts S w key t (client_gets (client_con
 -- an APDU reaches the server (clause 5.4.5)
 abbrev pub takes_at_server : (S : Type 0) → Shop S → Rules → World S → Key → (free : Bool) → Apdu → World S
 takes_at_server S shop x w key free a = serves S shop w key
-    (server_gets (server_context x key w.net.now) (service_of S shop w key) (w.net.entries key) free a)
+    (server_gets (server_context x key w.net.now) (service_of S shop w key) (w.net.entries key) (is_room w.net key free) a)
 
 -- a copy reaches the other end of its transaction
 abbrev pub arrives : (S : Type 0) → Shop S → Rules → World S → Key → (free : Bool) → Apdu → World S
@@ -184,31 +242,63 @@ ticks_as_server S shop x (key ∷ keys) w = ticks_as_server S shop x keys
 abbrev pub ask_made : (S : Type 0) → Rules → World S → Key → Ask → World S
 ask_made S x w key ask = record { net = asked_at x w.net key ask; stores = w.stores }
 
--- the world after an event; an ask whose invoke ID is held is refused, and changes nothing
+-- the world after an event; an ask whose invoke ID is held, or whose client waits, is refused, and changes nothing
 abbrev pub happens : (S : Type 0) → Shop S → Rules → World S → Event → World S
 happens S shop x w (MakeAsk key choice whole front rest) =
-    if is_key_held w.net.now (w.net.tickets key) then w
+    if is_id_held w.net key then w
     else ask_made S x w key (record { first = w.net.now; choice = choice; whole = whole; pieces = front ∷ rest })
 happens S shop x w (Deliver number free) = delivered S shop x w number free (slice_get w.net.posts number)
 happens S shop x w (Tick as_client as_server) = ticks_as_server S shop x as_server (ticks_as_client S x as_client w)
 happens S shop x w Noise = w
 happens S shop x w (Advance by) = record { net = record w.net { now = w.net.now + by }; stores = w.stores }
 happens S shop x w (Change node change) = record { net = notes_change w.net node change; stores = changed_at S shop node change w.stores }
+happens S shop x w (RestartClient node) = record { net = client_restarted w.net node; stores = w.stores }
+happens S shop x w (RestartServer node store) =
+    record { net = server_restarted w.net node store; stores = restarted_at S shop node store w.stores }
 
 -- the world after these events, in their order
 abbrev pub run : (S : Type 0) → Shop S → Rules → List Event → World S → World S
 run S shop x [] w = w
 run S shop x (e ∷ es) w = run S shop x es (happens S shop x w e)
 
--- in these events no node changes its own store
+-- in these events no node changes its own store, and none restarts with another one
 abbrev pub MakeNoChange : List Event → Type 0
 MakeNoChange [] = Unit {0}
 MakeNoChange (Change node change ∷ es) = ⊥
+MakeNoChange (RestartServer node store ∷ es) = (store ≡ None) × MakeNoChange es
 MakeNoChange (e ∷ es) = MakeNoChange es
 
--- nothing was asked or sent yet
+-- in these events no node restarts
+abbrev pub MakeNoRestart : List Event → Type 0
+MakeNoRestart [] = Unit {0}
+MakeNoRestart (RestartClient node ∷ es) = ⊥
+MakeNoRestart (RestartServer node store ∷ es) = ⊥
+MakeNoRestart (e ∷ es) = MakeNoRestart es
+
+-- each node asks and begins entries at any moment
+pub record NeverRestarted (n : Net) : Type 0 where
+  pub asks : (node : ℕ) → n.asks_from node ≡ 0
+  pub serves : (node : ℕ) → n.serves_from node ≡ 0
+
+-- so no end waits: an invoke ID is held by its ticket alone, and a free slot is room for an entry
+pub record NeverWaits (n : Net) : Type 0 where
+  pub held : (key : Key) → is_id_held n key ≡ is_key_held n.now (n.tickets key)
+  pub room : (key : Key) (free : Bool) → is_room n key free ≡ free
+
+-- nothing was asked or sent yet, and nothing restarted
 abbrev pub net_start : Net
-net_start = record { now = 0; asks = 0; numbers = λ key. 0; tickets = λ key. None; entries = λ key. None; posts = []; log = [] }
+net_start =
+    record {
+      now = 0;
+      asks = 0;
+      numbers = λ key. 0;
+      tickets = λ key. None;
+      entries = λ key. None;
+      posts = [];
+      log = [];
+      asks_from = λ node. 0;
+      serves_from = λ node. 0;
+    }
 
 -- the world before its first event, with these opening stores
 abbrev pub start : (S : Type 0) → (opening : ℕ → S) → World S

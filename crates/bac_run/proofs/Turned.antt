@@ -8,6 +8,7 @@ use Rattle.bac_protocol.specs.Service.{Octets}
 use Rattle.bac_ends.specs.Sends.{Datagram}
 use Rattle.bac_link.specs.Calls.{Call, Calls, MOST, received, with_call}
 use Rattle.bac_run.specs.Stations.{Station}
+use Rattle.bac_run.specs.Waits.{IsWait}
 use Rattle.bac_run.specs.Turns.{IsCarried, IsTurn, Step, Steps, Turn, call_of, counted, with_calls}
 use Rattle.bac_run.proofs.Counts.{counted_both, with_more}
 
@@ -44,16 +45,19 @@ pub lent_whole : (n : ℕ) (xs ys : Octets) → length xs ≡ n → take n (xs +
 lent_whole n xs ys size = subst (λ (m : ℕ). take m (xs ++ ys) ≡ xs) size (take-append_seam xs ys)
 
 -- the turn of a station that was so before it, with that buffer after it, of which this was heard
-pub turned : (now : ℕ) (buffer seen : Octets) (before old new : Station) (turn : Turn) (first second : Step)
+pub turned : (now wait : ℕ) (buffer seen : Octets) (before old new : Station) (turn : Turn) (first second : Step)
     → before ≡ old → new.buffer ≡ buffer → seen ≡ buffer
     → IfSome turn.received (λ d. d.1 ≤ length buffer) → Steps now seen before.node new.node turn first second
-    → IsCarried (received buffer (Ok turn.received) ∷ []) (first.sends ++ second.sends) turn.lost before new → IsTurn now old new turn
-turned now buffer seen before old new turn first second is same seen_is within steps carried =
+    → IsCarried (received wait buffer (Ok turn.received) ∷ []) (first.sends ++ second.sends) turn.lost before new → IsWait now old.node wait
+    → IsTurn now old new turn
+turned now wait buffer seen before old new turn first second is same seen_is within steps carried waits =
     subst (λ (o : Station). IsTurn now o new turn) is
     (record {
       within = subst (λ (b : Octets). IfSome turn.received (λ d. d.1 ≤ length b)) (sym same) within;
+      wait = wait;
+      waits = subst (λ (o : Station). IsWait now o.node wait) (sym is) waits;
       first = first;
       second = second;
       steps = subst (λ (b : Octets). Steps now b before.node new.node turn first second) (seen_is ∙ sym same) steps;
-      carried = subst (λ (b : Octets). IsCarried (received b (Ok turn.received) ∷ []) (first.sends ++ second.sends) turn.lost before new) (sym same) carried;
+      carried = subst (λ (b : Octets). IsCarried (received wait b (Ok turn.received) ∷ []) (first.sends ++ second.sends) turn.lost before new) (sym same) carried;
     })

@@ -1,6 +1,7 @@
 pub mod Faults
 pub mod Stations
 pub mod Turns
+pub mod Waits
 pub mod Runs
 pub mod Serving
 pub mod Asking

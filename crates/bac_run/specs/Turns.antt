@@ -10,6 +10,7 @@ use Rattle.bac_world.specs.Node.{Node, Outcome, NodeOn, NodeTick}
 use Rattle.bac_world.specs.Services.{Performed}
 use Rattle.bac_node.specs.Calls.{IsNotHeard}
 use Rattle.bac_run.specs.Stations.{Station}
+use Rattle.bac_run.specs.Waits.{IsWait}
 
 -- what a turn answers: who sent the datagram that came, and how many octets it has; failed sends, and steps that found no memory; what was performed; the
 -- tickets that ended by the datagram, and by the tick
@@ -96,10 +97,12 @@ pub record IsCarried (before : List Call) (sends : List Datagram) (lost : ℕ) (
   pub count : new.failures ≡ counted old.failures lost
   pub most : lost ≤ length sends
 
--- the datagram that came, if one did, stands in the buffer; the link was called to receive once
+-- the datagram that came, if one did, stands in the buffer; the link was called to receive once, and waited until something was due, but no more than 100 ms
 pub record IsTurn (now : ℕ) (old new : Station) (turn : Turn) : Type 0 where
   pub within : IfSome turn.received (λ d. d.1 ≤ length new.buffer)
+  pub wait : ℕ
+  pub waits : IsWait now old.node wait
   pub first : Step
   pub second : Step
   pub steps : Steps now new.buffer old.node new.node turn first second
-  pub carried : IsCarried (received new.buffer (Ok turn.received) ∷ []) (first.sends ++ second.sends) turn.lost old new
+  pub carried : IsCarried (received wait new.buffer (Ok turn.received) ∷ []) (first.sends ++ second.sends) turn.lost old new

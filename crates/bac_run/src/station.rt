@@ -5,6 +5,7 @@ ghost use Rattle.bac_link.specs.Calls.Call.{FailedReceive};
 ghost use Rattle.bac_node.specs.Calls.{Refuses};
 ghost use Rattle.bac_run.specs.Stations.{BUFFER};
 ghost use Rattle.bac_run.specs.Turns.{IsTurn};
+ghost use Rattle.bac_run.specs.Waits.{IsWait};
 ghost use Rattle.bac_run.specs.Asking.{IsBegun};
 ghost use Rattle.bac_run.specs.Views.{question_view, turn_view};
 
@@ -22,6 +23,9 @@ use std::marker::Model;
 
 /// How many octets of a datagram are received. A frame of the greatest APDU has at most 1,514 (clauses 6 and 20.1, annex J).
 const BUFFER: usize = 2_048;
+
+/// The longest wait of a turn for a datagram, in milliseconds.
+const WAIT: u64 = 100;
 
 /// A node on its link, with a buffer of 2,048 octets for what comes.
 #[derive(Drop)]
@@ -83,7 +87,18 @@ impl<L: Link> Station<L> {
         &self.buffer
     }
 
+    /// How long a turn at that moment waits for a datagram.
+    fn wait_at(&self, now: u64) -> u64
+        ensures { IsWait now self.now.node result }
+    {
+        match self.node.next_due() {
+            Some(due) => due.saturating_sub(now).min(WAIT),
+            None => WAIT,
+        }
+    }
+
     /// One turn at a moment in milliseconds: one call to receive into the buffer; the node hears the datagram, if one came; then it does all that is due.
+    /// The call waits until the first moment at which something is due (`Node::next_due`), but no longer than 100 milliseconds.
     /// What each step sends goes to the link at once, in order; a send that fails is lost, and changes nothing else. A step that finds no memory is skipped.
     ///
     /// `ClockBack` exactly where the moment is before the node's latest one; then nothing is received. `Link` where the link could not receive. After an Err
@@ -100,7 +115,8 @@ impl<L: Link> Station<L> {
         if now < self.node.latest() {
             return Err(TurnFault::ClockBack);
         }
-        let received = self.link.recv(&mut self.buffer)?;
+        let wait = self.wait_at(now);
+        let received = self.link.recv(&mut self.buffer, wait)?;
         let first = hear_received(self.alloc, &mut self.node, now, received, &self.buffer);
         let first_lost = send_all(&mut self.link, &first.sends);
         let second = tick(self.alloc, &mut self.node, now);

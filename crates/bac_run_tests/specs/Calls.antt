@@ -6,6 +6,6 @@ use Rattle.bac_run_tests.specs.declared.noted_call.NotedCall.TheVariants as note
 
 abbrev pub call_view : NotedCall → Call
 call_view (noted.Sent to octets) = Send to octets.items
-call_view (noted.Received from octets) = Receive from octets.items
-call_view noted.Nothing = ReceiveNothing
+call_view (noted.Received wait from octets) = Receive wait from octets.items
+call_view (noted.Nothing wait) = ReceiveNothing wait
 call_view noted.Failed = FailedReceive

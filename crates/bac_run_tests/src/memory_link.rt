@@ -8,7 +8,7 @@ use std::alloc::Global;
 use std::cell::{Cell, RefCell};
 use std::test::Fail;
 
-/// A link of a medium. The clock goes on by 100 milliseconds at each call that receives nothing.
+/// A link of a medium. The clock goes on by 100 milliseconds at each call that receives nothing, also where it was to wait less: a system may be late.
 #[derive(Drop)]
 pub(crate) struct MemoryLink<'a> {
     medium: &'a RefCell<Medium>,
@@ -49,7 +49,7 @@ impl<'a> MemoryLink<'a> {
     /// What has come next, in hexadecimal; nothing where nothing came.
     pub(crate) fn recv_hex(&mut self, alloc: Global) -> Result<String, Fail> {
         let mut buffer = [0u8; 2_048];
-        match self.recv(&mut buffer) {
+        match self.recv(&mut buffer, 100) {
             Ok(Some(received)) => Ok(hex::encode_upper(alloc, &buffer[..received.1])?),
             _ => Ok(String::new(alloc)),
         }
@@ -105,7 +105,11 @@ impl Link for MemoryLink<'_> {
         }
     }
 
-    fn recv(&mut self, buffer: &mut [u8]) -> Result<Option<([u8; 6], usize)>, LinkFault> {
+    fn recv(
+        &mut self,
+        buffer: &mut [u8],
+        _wait: u64,
+    ) -> Result<Option<([u8; 6], usize)>, LinkFault> {
         match self.take(buffer) {
             Ok(received) => {
                 self.wait(&received);

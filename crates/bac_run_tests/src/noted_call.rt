@@ -5,10 +5,10 @@
 pub enum NotedCall {
     /// A datagram was handed over to be sent to an address.
     Sent([u8; 6], Vec<u8>),
-    /// A datagram came from an address.
-    Received([u8; 6], Vec<u8>),
-    /// No datagram came.
-    Nothing,
+    /// Within so many milliseconds a datagram came from an address.
+    Received(u64, [u8; 6], Vec<u8>),
+    /// Within so many none came.
+    Nothing(u64),
     /// Receiving failed.
     Failed,
 }

@@ -52,16 +52,22 @@ fn copied<R: Abort>(runtime: &R, alloc: Global, octets: &[u8]) -> Vec<u8>
 }
 
 /// The call that receiving was.
-fn noted_of<R: Abort>(runtime: &R, alloc: Global, buffer: &[u8], gave: Received) -> NotedCall
+fn noted_of<R: Abort>(
+    runtime: &R,
+    alloc: Global,
+    wait: u64,
+    buffer: &[u8],
+    gave: Received,
+) -> NotedCall
     requires { IfOk gave (λ r. IfSome r (λ d. d.1 ≤ length buffer.now)) }
-    ensures { call_view result ≡ received buffer.now gave }
+    ensures { call_view result ≡ received wait buffer.now gave }
 {
     match gave {
         Ok(Some(datagram)) => {
             let octets = copied(runtime, alloc, &buffer[..datagram.1]);
-            NotedCall::Received(datagram.0, octets)
+            NotedCall::Received(wait, datagram.0, octets)
         }
-        Ok(None) => NotedCall::Nothing,
+        Ok(None) => NotedCall::Nothing(wait),
         Err(_) => NotedCall::Failed,
     }
 }
@@ -87,9 +93,13 @@ impl<R: Abort> Link for TellingLink<'_, R> {
         self.link.send(to, octets)
     }
 
-    fn recv(&mut self, buffer: &mut [u8]) -> Result<Option<([u8; 6], usize)>, LinkFault> {
-        let gave = self.link.recv(buffer);
-        let call = noted_of(self.runtime, self.alloc, buffer, gave);
+    fn recv(
+        &mut self,
+        buffer: &mut [u8],
+        wait: u64,
+    ) -> Result<Option<([u8; 6], usize)>, LinkFault> {
+        let gave = self.link.recv(buffer, wait);
+        let call = noted_of(self.runtime, self.alloc, wait, buffer, gave);
         note(self.runtime, &mut self.noted, call);
         gave
     }

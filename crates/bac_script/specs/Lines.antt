@@ -1,8 +1,9 @@
 -- The lines of a script.
 use Rattle.std.specs.Prelude.{ℕ, ◌+◌, ◌*◌, nat_le, ◌&&◌, List, [], ◌∷◌, codes, if◌then◌else◌, Option, Some, None}
 use Rattle.std.specs.Str.{bytes_eq}
+use Rattle.bac_value.specs.Value.{ObjectId}
 use Rattle.bac_service.specs.Values.{Request}
-use Rattle.bac_script.specs.Words.{◌>>=◌, words_of, number_of, number_up_to, octets_of}
+use Rattle.bac_script.specs.Words.{◌>>=◌, words_of, number_of, number_up_to, octets_of, object_of, property_of}
 use Rattle.bac_script.specs.Requests.{request_of}
 
 -- ---- the first line: nodes N, or nodes N window W overtake V
@@ -49,7 +50,8 @@ setting_of words = None
 abbrev pub setting_at : List ℕ → Option Setting
 setting_at line = setting_of (words_of line)
 
--- ---- the lines after it: ask CLIENT SERVER REQUEST, deliver COPY, noise NODE HEX, tick NODE, advance MILLISECONDS
+-- ---- the lines after it: ask CLIENT SERVER REQUEST, deliver COPY, noise NODE HEX, tick NODE, advance MILLISECONDS, set NODE OBJECT PROPERTY HEX,
+-- ---- file NODE OBJECT HEX
 
 pub data Step : Type 0 where
   Ask : (client server : ℕ) (request : Request) → Step
@@ -57,6 +59,8 @@ pub data Step : Type 0 where
   Noise : (node : ℕ) (octets : List ℕ) → Step
   Tick : (node : ℕ) → Step
   Advance : (by : ℕ) → Step
+  SetProperty : (node : ℕ) (object : ObjectId) (property : ℕ) (octets : List ℕ) → Step
+  SetFile : (node : ℕ) (object : ObjectId) (octets : List ℕ) → Step
 
 unfoldable pub ask_of : (client server : List ℕ) → (request : List (List ℕ)) → Option Step
 ask_of client server request = do
@@ -71,6 +75,30 @@ noise_of node octets = do
   octets ← octets_of octets
   Some (Noise node octets)
 
+-- other values of a property; any octets: whether they are values for it, says the node's store
+unfoldable pub set_property_of : (node object property octets : List ℕ) → Option Step
+set_property_of node object property octets = do
+  node ← number_of node
+  object ← object_of object
+  property ← property_of property
+  octets ← octets_of octets
+  Some (SetProperty node object property octets)
+
+-- other octets of a file
+unfoldable pub set_file_of : (node object octets : List ℕ) → Option Step
+set_file_of node object octets = do
+  node ← number_of node
+  object ← object_of object
+  octets ← octets_of octets
+  Some (SetFile node object octets)
+
+-- a change of a node's own store, by the words after the object
+abbrev pub change_of : (word node object : List ℕ) → List (List ℕ) → Option Step
+change_of word node object [] = None
+change_of word node object (octets ∷ []) = if bytes_eq word (codes "file") then set_file_of node object octets else None
+change_of word node object (property ∷ octets ∷ []) = if bytes_eq word (codes "set") then set_property_of node object property octets else None
+change_of word node object (a ∷ b ∷ c ∷ words) = None
+
 -- a word and a number
 unfoldable pub numbered : (word number : List ℕ) → Option Step
 numbered word number = do
@@ -83,7 +111,7 @@ numbered word number = do
 abbrev pub step_of : List (List ℕ) → Option Step
 step_of (word ∷ number ∷ []) = numbered word number
 step_of (word ∷ a ∷ b ∷ []) = if bytes_eq word (codes "noise") then noise_of a b else None
-step_of (word ∷ a ∷ b ∷ c ∷ request) = if bytes_eq word (codes "ask") then ask_of a b (c ∷ request) else None
+step_of (word ∷ a ∷ b ∷ c ∷ more) = if bytes_eq word (codes "ask") then ask_of a b (c ∷ more) else change_of word a b (c ∷ more)
 step_of words = None
 
 -- what a later line says

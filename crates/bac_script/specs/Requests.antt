@@ -1,16 +1,19 @@
--- Requests in words: read T:I P, write T:I P HEX, append T:I HEX, put T:I POSITION HEX, get T:I POSITION COUNT.
+-- Requests in words: read T:I P, write T:I P VALUE .. [priority N], append T:I HEX, put T:I POSITION HEX, get T:I POSITION COUNT.
 -- T and P are numbers or names; P may have an index in brackets.
-use Rattle.std.specs.Prelude.{ℕ, ℤ, negsuc, ◌+◌, ◌^◌, nat_lt, List, [], ◌∷◌, length, take, drop, codes, if◌then◌else◌, Option, Some, None, Result, Ok, Err}
+use Rattle.std.specs.Prelude.{ℕ, ℤ, negsuc, ◌+◌, ◌^◌, nat_lt, List, [], ◌∷◌, ◌++◌, length, take, drop, codes, if◌then◌else◌, Option, Some, None, Result, Ok, Err}
 use Rattle.std.specs.List.{position}
+use Rattle.std.specs.Option.{option_map, option_or}
 use Rattle.std.specs.Str.{bytes_eq}
 use Rattle.bac_value.specs.Value.{ObjectId}
 use Rattle.bac_value.specs.Reading.{data_of}
+use Rattle.bac_value.specs.Writing.{value_spelling}
+use Rattle.bac_value_text.specs.Reading.{value_in}
 use Rattle.bac_value.specs.declared.fault.FaultKind.{FaultKind}
 use Rattle.bac_service.specs.Values.{Reference, Request}
 use Rattle.bac_service.specs.Values.ReadAccess.{ReadStream}
 use Rattle.bac_service.specs.Values.WriteAccess.{WriteStream}
 use Rattle.bac_service.specs.Values.Request.{ReadFile, WriteFile, ReadProperty, WriteProperty}
-use Rattle.bac_script.specs.Words.{◌>>=◌, number_of, position_of, octets_of, object_of, property_of, index_of, is_opening}
+use Rattle.bac_script.specs.Words.{◌>>=◌, number_of, number_up_to, position_of, octets_of, object_of, property_of, index_of, is_opening}
 
 -- a property as a whole
 unfoldable pub whole_of : ObjectId → List ℕ → Option Reference
@@ -52,12 +55,52 @@ read_of object property = do
   reference ← reference_of object property
   Some (ReadProperty reference)
 
-unfoldable pub write_of : ObjectId → (property values : List ℕ) → Option Request
-write_of object property values = do
+-- ---- values
+
+-- the octets that a word of values is: the spelling of a value by its kind, or octets in hexadecimal
+abbrev pub values_in_word : List ℕ → Option (List ℕ)
+values_in_word word = option_or (option_map value_spelling (value_in 58 word)) (octets_of word)
+
+-- a priority for writing, 1 to 16 (clause 19.2)
+abbrev pub from_one : ℕ → Option ℕ
+from_one number = if nat_lt 0 number then Some number else None
+
+abbrev pub priority_of : List ℕ → Option ℕ
+priority_of word = number_up_to 16 word >>= from_one
+
+-- the word of a priority, where only it and the word before it are left
+abbrev pub priority_word : List (List ℕ) → Option (List ℕ)
+priority_word (word ∷ number ∷ []) = if bytes_eq word (codes "priority") then Some number else None
+priority_word words = None
+
+-- octets of values, and the priority that stands behind them
+abbrev pub Written : Type 0
+Written = List ℕ × Option ℕ
+
+abbrev pub with_priority : List ℕ → ℕ → Option Written
+with_priority octets number = Some (octets, Some number)
+
+abbrev pub prioritized : List ℕ → (priority : List ℕ) → Option Written
+prioritized octets word = priority_of word >>= with_priority octets
+
+-- a priority ends the words
+abbrev pub ended : List ℕ → (priority : Option (List ℕ)) → (otherwise : Option Written) → Option Written
+ended octets None otherwise = otherwise
+ended octets (Some number) otherwise = prioritized octets number
+
+-- the octets of values in words, where octets stand before them, and the priority behind them
+abbrev pub written_on : List ℕ → List (List ℕ) → Option Written
+written_on octets [] = Some (octets, None)
+written_on octets (word ∷ words) =
+    ended octets (priority_word (word ∷ words)) (values_in_word word >>= (λ more. written_on (octets ++ more) words))
+
+unfoldable pub write_of : ObjectId → (property first : List ℕ) → (words : List (List ℕ)) → Option Request
+write_of object property first words = do
   reference ← reference_of object property
-  octets ← octets_of values
-  octets ← data_in octets
-  Some (WriteProperty reference octets None)
+  octets ← values_in_word first
+  written ← written_on octets words
+  octets ← data_in written.0
+  Some (WriteProperty reference octets written.1)
 
 unfoldable pub written_at : ObjectId → ℤ → (content : List ℕ) → Option Request
 written_at file start content = do
@@ -88,13 +131,17 @@ one_more verb object a =
 -- with two words after the object
 unfoldable pub two_more : (verb : List ℕ) → ObjectId → (a b : List ℕ) → Option Request
 two_more verb object a b =
-    if bytes_eq verb (codes "write") then write_of object a b
-    else (if bytes_eq verb (codes "put") then put_of object a b
+    if bytes_eq verb (codes "put") then put_of object a b
     else (if bytes_eq verb (codes "get") then get_of object a b
-    else None))
+    else None)
+
+-- with two words or more after the object
+unfoldable pub more_of : (verb : List ℕ) → ObjectId → (a b : List ℕ) → (words : List (List ℕ)) → Option Request
+more_of verb object a b [] = if bytes_eq verb (codes "write") then write_of object a b [] else two_more verb object a b
+more_of verb object a b (word ∷ words) = if bytes_eq verb (codes "write") then write_of object a b (word ∷ words) else None
 
 -- the request that some words are
 abbrev pub request_of : List (List ℕ) → Option Request
 request_of (verb ∷ object ∷ a ∷ []) = object_of object >>= (λ o. one_more verb o a)
-request_of (verb ∷ object ∷ a ∷ b ∷ []) = object_of object >>= (λ o. two_more verb o a b)
+request_of (verb ∷ object ∷ a ∷ b ∷ words) = object_of object >>= (λ o. more_of verb o a b words)
 request_of words = None

@@ -1,8 +1,12 @@
 -- From each type in code to its plain value.
+use Rattle.bac_value.specs.Views.{object_identifier_view}
 use Rattle.bac_service.specs.Views.{owned_request_view}
+use Rattle.bac_service.specs.Views.{priority_view}
 use Rattle.bac_script.specs.Lines as plain
+use Rattle.bac_script.specs.Requests as requests
 use Rattle.bac_script.specs.declared.line.Setting.{Setting}
 use Rattle.bac_script.specs.declared.line.Step.{Step}
+use Rattle.bac_script.specs.declared.values.Written.{Written}
 use Rattle.bac_script.specs.declared.line.Step.TheVariants as code
 
 abbrev pub setting_view : Setting → plain.Setting
@@ -14,3 +18,8 @@ step_view (code.Deliver copy) = plain.Step.Deliver copy
 step_view (code.Noise n) = plain.Step.Noise n.node n.octets.items
 step_view (code.Tick node) = plain.Step.Tick node
 step_view (code.Advance by) = plain.Step.Advance by
+step_view (code.SetProperty s) = plain.Step.SetProperty s.node (object_identifier_view s.object) s.property s.octets.items
+step_view (code.SetFile s) = plain.Step.SetFile s.node (object_identifier_view s.object) s.octets.items
+
+abbrev pub written_view : Written → requests.Written
+written_view w = (w.octets.items, priority_view w.priority)

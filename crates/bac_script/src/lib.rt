@@ -5,9 +5,10 @@ mod form_fault;
 mod line;
 mod line_reading;
 mod request_reading;
+mod values;
 mod words;
 
 pub use form_fault::FormFault;
-pub use line::{Ask, Noise, Setting, Step};
+pub use line::{Ask, Noise, SetFile, SetProperty, Setting, Step};
 pub use line_reading::{read_setting, read_step};
 pub use request_reading::read_request_words;

@@ -1,5 +1,6 @@
 //! What the lines of a script say.
 use bac_service::OwnedRequest;
+use bac_value::ObjectIdentifier;
 
 /// What the first line of a script sets.
 #[derive(Clone, Copy, Debug, PartialEq, Eq)]
@@ -32,6 +33,30 @@ pub struct Noise {
     pub octets: Vec<u8>,
 }
 
+/// A node gives a property of its own store other values.
+#[derive(Debug, Drop)]
+pub struct SetProperty {
+    /// The number of the node.
+    pub node: u64,
+    /// The object.
+    pub object: ObjectIdentifier,
+    /// The number of the property (clause 21, BACnetPropertyIdentifier).
+    pub property: u32,
+    /// The octets of the values; whether they are data, and of the property's kind, says the store.
+    pub octets: Vec<u8>,
+}
+
+/// A node gives a file of its own store other octets.
+#[derive(Debug, Drop)]
+pub struct SetFile {
+    /// The number of the node.
+    pub node: u64,
+    /// The file.
+    pub object: ObjectIdentifier,
+    /// What it holds then.
+    pub octets: Vec<u8>,
+}
+
 /// What a line after the first one says.
 #[derive(Debug, Drop)]
 pub enum Step {
@@ -45,4 +70,8 @@ pub enum Step {
     Tick(u64),
     /// So many milliseconds pass.
     Advance(u64),
+    /// A node changes a property of its own store.
+    SetProperty(SetProperty),
+    /// A node changes a file of its own store.
+    SetFile(SetFile),
 }

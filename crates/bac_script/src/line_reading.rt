@@ -3,15 +3,15 @@ ghost use Rattle.std.specs.Prelude.{◌≡◌, ◌&&◌, codes, map};
 ghost use Rattle.std.specs.Str.{bytes_eq};
 ghost use Rattle.std.specs.Option.{option_map};
 ghost use Rattle.bac_script.specs.Reading.{Reads};
-ghost use Rattle.bac_script.specs.Words.{number_of};
+ghost use Rattle.bac_script.specs.Words.{number_of, property_of};
 ghost use Rattle.bac_script.specs.Lines.{number_from_one, bounded, setting_with, usual_setting, setting_of};
-ghost use Rattle.bac_script.specs.Lines.{setting_at, ask_of, noise_of, numbered, step_of, step_at};
+ghost use Rattle.bac_script.specs.Lines.{setting_at, ask_of, noise_of, numbered, set_property_of, set_file_of, change_of, step_of, step_at};
 ghost use Rattle.bac_script.specs.Views.{setting_view, step_view};
 
 use crate::form_fault::FormFault;
-use crate::line::{Ask, Noise, Setting, Step};
-use crate::request_reading::read_request_words;
-use crate::words::{number_in, number_up_to, octets_in, words_in};
+use crate::line::{Ask, Noise, SetFile, SetProperty, Setting, Step};
+use crate::request_reading::{object_or_fault, read_request_words};
+use crate::words::{number_in, number_up_to, octets_in, property_in, words_in};
 use std::alloc::Global;
 
 /// A number from 1 to that.
@@ -144,6 +144,70 @@ fn with_number(word: &[u8], number: &[u8]) -> Result<Step, FormFault>
     }
 }
 
+fn property_or_fault(word: &[u8]) -> Result<u32, FormFault>
+    ensures { Reads (λ n. n) result (property_of word.now) }
+{
+    match property_in(word) {
+        Some(property) => Ok(property),
+        None => Err(FormFault::NoForm),
+    }
+}
+
+#[tactic(auto, unfolding(crate::specs::Lines::set_property_of))]
+fn set_property(
+    alloc: Global,
+    node: &[u8],
+    object: &[u8],
+    property: &[u8],
+    octets: &[u8],
+) -> Result<Step, FormFault>
+    ensures { Reads step_view result (set_property_of node.now object.now property.now octets.now) }
+{
+    let node = number_or_fault(node)?;
+    let object = object_or_fault(object)?;
+    let property = property_or_fault(property)?;
+    let octets = octets_in(alloc, octets)?;
+    Ok(Step::SetProperty(SetProperty {
+        node,
+        object,
+        property,
+        octets,
+    }))
+}
+
+#[tactic(auto, unfolding(crate::specs::Lines::set_file_of))]
+fn set_file(alloc: Global, node: &[u8], object: &[u8], octets: &[u8]) -> Result<Step, FormFault>
+    ensures { Reads step_view result (set_file_of node.now object.now octets.now) }
+{
+    let node = number_or_fault(node)?;
+    let object = object_or_fault(object)?;
+    let octets = octets_in(alloc, octets)?;
+    Ok(Step::SetFile(SetFile {
+        node,
+        object,
+        octets,
+    }))
+}
+
+/// A change of a node's own store, by the words after the object.
+fn change(
+    alloc: Global,
+    word: &[u8],
+    node: &[u8],
+    object: &[u8],
+    words: &[&[u8]],
+) -> Result<Step, FormFault>
+    ensures { Reads step_view result (change_of word.now node.now object.now (map (λ w. w.now) words.now)) }
+{
+    match words {
+        [octets] if word == b"file".as_slice() => set_file(alloc, node, object, *octets),
+        [property, octets] if word == b"set".as_slice() => {
+            set_property(alloc, node, object, *property, *octets)
+        }
+        _ => Err(FormFault::NoForm),
+    }
+}
+
 fn step_in(alloc: Global, words: &[&[u8]]) -> Result<Step, FormFault>
     ensures { Reads step_view result (step_of (map (λ w. w.now) words.now)) }
 {
@@ -153,12 +217,13 @@ fn step_in(alloc: Global, words: &[&[u8]]) -> Result<Step, FormFault>
         [word, a, b, request @ ..] if *word == b"ask".as_slice() && !request.is_empty() => {
             ask(alloc, *a, *b, request)
         }
+        [word, a, b, more @ ..] => change(alloc, *word, *a, *b, more),
         _ => Err(FormFault::NoForm),
     }
 }
 
-/// A line after the first one, without its end: `ask CLIENT SERVER` and the words of a request, `deliver COPY`, `noise NODE HEX`, `tick NODE` or
-/// `advance MILLISECONDS`, separated by single spaces. `NoForm` for any other line.
+/// A line after the first one, without its end: `ask CLIENT SERVER` and the words of a request, `deliver COPY`, `noise NODE HEX`, `tick NODE`,
+/// `advance MILLISECONDS`, `set NODE T:I P HEX` or `file NODE T:I HEX`, separated by single spaces. `NoForm` for any other line.
 pub fn read_step(alloc: Global, line: &[u8]) -> Result<Step, FormFault>
     ensures { Reads step_view result (step_at line.now) }
 {

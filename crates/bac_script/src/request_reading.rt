@@ -6,9 +6,10 @@ ghost use Rattle.bac_service.specs.Views.{owned_request_view, property_reference
 ghost use Rattle.bac_script.specs.Reading.{Reads};
 ghost use Rattle.bac_script.specs.Words.{object_of};
 ghost use Rattle.bac_script.specs.Requests.{data_in, content_in, whole_of, element_of, reference_of, read_of, write_of, written_at};
-ghost use Rattle.bac_script.specs.Requests.{append_of, put_of, get_of, one_more, two_more, request_of};
+ghost use Rattle.bac_script.specs.Requests.{append_of, put_of, get_of, one_more, two_more, more_of, request_of};
 
 use crate::form_fault::FormFault;
+use crate::values::{values_in_word, written_on};
 use crate::words::{
     index_in, number_in, object_in, octets_in, opening_in, position_in, property_in,
 };
@@ -98,17 +99,19 @@ fn write(
     alloc: Global,
     object: ObjectIdentifier,
     property: &[u8],
-    values: &[u8],
+    first: &[u8],
+    words: &[&[u8]],
 ) -> Result<OwnedRequest, FormFault>
-    ensures { Reads owned_request_view result (write_of (object_identifier_view object) property.now values.now) }
+    ensures { Reads owned_request_view result (write_of (object_identifier_view object) property.now first.now (map (λ w. w.now) words.now)) }
 {
     let reference = reference_in(object, property)?;
-    let octets = octets_in(alloc, values)?;
-    let values = data_of(octets)?;
+    let octets = values_in_word(alloc, first)?;
+    let written = written_on(alloc, octets, words)?;
+    let values = data_of(written.octets)?;
     Ok(AnyRequest::WriteProperty(WriteProperty {
         reference,
         values,
-        priority: None,
+        priority: written.priority,
     }))
 }
 
@@ -192,9 +195,7 @@ fn with_two(
 ) -> Result<OwnedRequest, FormFault>
     ensures { Reads owned_request_view result (two_more verb.now (object_identifier_view object) a.now b.now) }
 {
-    if verb == b"write".as_slice() {
-        write(alloc, object, a, b)
-    } else if verb == b"put".as_slice() {
+    if verb == b"put".as_slice() {
         put(alloc, object, a, b)
     } else if verb == b"get".as_slice() {
         get(object, a, b)
@@ -203,7 +204,28 @@ fn with_two(
     }
 }
 
-fn object_or_fault(word: &[u8]) -> Result<ObjectIdentifier, FormFault>
+/// With two words or more after the object.
+#[tactic(auto, unfolding(crate::specs::Requests::more_of))]
+fn with_more(
+    alloc: Global,
+    verb: &[u8],
+    object: ObjectIdentifier,
+    a: &[u8],
+    b: &[u8],
+    words: &[&[u8]],
+) -> Result<OwnedRequest, FormFault>
+    ensures { Reads owned_request_view result (more_of verb.now (object_identifier_view object) a.now b.now (map (λ w. w.now) words.now)) }
+{
+    if verb == b"write".as_slice() {
+        return write(alloc, object, a, b, words);
+    }
+    match words {
+        [] => with_two(alloc, verb, object, a, b),
+        _ => Err(FormFault::NoForm),
+    }
+}
+
+pub(crate) fn object_or_fault(word: &[u8]) -> Result<ObjectIdentifier, FormFault>
     ensures { Reads object_identifier_view result (object_of word.now) }
 {
     match object_in(word) {
@@ -212,16 +234,19 @@ fn object_or_fault(word: &[u8]) -> Result<ObjectIdentifier, FormFault>
     }
 }
 
-/// The request that some words are: `read T:I P`, `write T:I P HEX`, `append T:I HEX`, `put T:I POSITION HEX` or `get T:I POSITION COUNT`.
+/// The request that some words are: `read T:I P`, `write T:I P VALUE ..`, `append T:I HEX`, `put T:I POSITION HEX` or `get T:I POSITION COUNT`.
 ///
-/// `T:I` is an object's type, by number or name, and its instance, `P` a property, by number or name, with an index in brackets if need be, `HEX` octets in hexadecimal (for `write` data, for the others octets of a file).
-/// `NoForm` where they are none of these or a number is outside its range.
+/// `T:I` is an object's type, by number or name, and its instance, `P` a property, by number or name, with an index in brackets if need be, `HEX` octets
+/// in hexadecimal. A `VALUE` is a value by its kind, as `real:72.5`, or octets of values in hexadecimal; the values are one data as a whole, and
+/// `priority N` may stand behind them, 1 to 16. `NoForm` where they are none of these or a number is outside its range.
 pub fn read_request_words(alloc: Global, words: &[&[u8]]) -> Result<OwnedRequest, FormFault>
     ensures { Reads owned_request_view result (request_of (map (λ w. w.now) words.now)) }
 {
     match words {
         [verb, object, a] => with_one(alloc, *verb, object_or_fault(*object)?, *a),
-        [verb, object, a, b] => with_two(alloc, *verb, object_or_fault(*object)?, *a, *b),
+        [verb, object, a, b, words @ ..] => {
+            with_more(alloc, *verb, object_or_fault(*object)?, *a, *b, words)
+        }
         _ => Err(FormFault::NoForm),
     }
 }

@@ -1,5 +1,5 @@
 -- Events, one after the other, and what is told of them.
-use Rattle.std.proofs.Common.{◌≡◌, ◌↔◌, ℕ, ◌+◌, true, false, Bool, List, ◌∷◌, ◌++◌, length, map, drop, Option, Some, Result, Err, IsErrOf, inl, inr}
+use Rattle.std.proofs.Common.{◌≡◌, ◌↔◌, ℕ, ◌+◌, true, false, Bool, List, ◌∷◌, ◌++◌, length, map, drop, Option, Some, None, Result, Err, IsErrOf, inl, inr}
 use Rattle.std.proofs.Common.{refl, sym, ap, subst, ◌∙◌, slice_get}
 use Rattle.std.specs.Io.KnownBytes.{Appends}
 use Rattle.bac_requester.specs.declared.ask_fault.AskFault.{AskFault}
@@ -7,6 +7,7 @@ use Rattle.bac_world.specs.World as world
 use Rattle.bac_world.specs.World.{WorldStep}
 use Rattle.bac_network.specs.Faults.{fault_number}
 use Rattle.bac_network.specs.Histories.{WorldView}
+use Rattle.bac_store.specs.AtNode.{change_fault_number}
 use Rattle.bac_store.specs.declared.change_fault.ChangeFault.{ChangeFault}
 use Rattle.bac_network.specs.Steps.{NamesNoCopy, NamesNoNode, PassesClock, RefusesChange, TakesMemory, Tells}
 use Rattle.bac_network.specs.Views.{event_view}
@@ -14,10 +15,10 @@ use Rattle.bac_network.proofs.Running.{fault_is}
 use Rattle.bac_network.specs.declared.event.Event as event
 use Rattle.bac_network.specs.declared.fault.WorldFault.{WorldFault}
 use Rattle.bac_network.specs.declared.fault.WorldFault.TheVariants as fault
-use Rattle.bac_commands.specs.Facts.{fault_line}
+use Rattle.bac_commands.specs.Facts.{fault_line, refused_line}
 use Rattle.bac_text.specs.Texts.{AppendsText}
 use Rattle.bac_simulate.specs.Told.{outcome_text}
-use Rattle.bac_simulate.specs.Runs.{Happened, IsStep, IsRun}
+use Rattle.bac_simulate.specs.Runs.{IsStep, IsRun, Passed, change_fault_in}
 use Rattle.bac_simulate.proofs.Appending.{drop_seen, joined}
 
 -- ---- one event
@@ -28,13 +29,13 @@ pub happened : (line : ℕ) (e : world.Event) (told : Option AskFault) (old new 
 happened line e told old new facts copies a b fs cs went tells same printed = (
   outcome_text told facts copies new.world,
   (
-    record {
+    inl (record {
       told = told;
       went = went;
       tells = tells;
       overtake = same;
       is = ap (λ (n : ℕ). outcome_text told n copies new.world) fs ∙ ap (λ (n : ℕ). outcome_text told (length old.world.log) n new.world) cs;
-    },
+    }),
     printed,
   ),
 )
@@ -42,18 +43,19 @@ happened line e told old new facts copies a b fs cs went tells same printed = (
 abbrev pub the_err : WorldFault → Result (Option AskFault) WorldFault
 the_err f = Err f
 
-pub stopped : (line : ℕ) (e : world.Event) (f : WorldFault) (old new : WorldView) (number : ℕ) (a b : Option (List ℕ))
+pub stopped : (line : ℕ) (e : world.Event) (f : WorldFault) (old new : WorldView) (number : ℕ) (a b : Option (List ℕ)) → change_fault_in f ≡ None
     → (IsErrOf (the_err f) fault.NoSuchNode ↔ NamesNoNode old.world e)
     → (IsErrOf (the_err f) fault.NoSuchDatagram ↔ NamesNoCopy old.world e)
     → (IsErrOf (the_err f) fault.ClockEnd ↔ PassesClock old.world e)
     → ((why : ChangeFault) → (IsErrOf (the_err f) (fault.BadChange why) ↔ RefusesChange old.world e why))
     → (IsErrOf (the_err f) fault.NoMemory → TakesMemory old.overtake old.world e)
     → new ≡ old → number ≡ fault_number f → Appends a b (fault_line line number) → AppendsText a b (IsStep line false e old new)
-stopped line e f old new number a b node copy clock change memory same is printed = (
+stopped line e f old new number a b ends node copy clock change memory same is printed = (
   fault_line line number,
   (
     record {
       fault = f;
+      ends = ends;
       why = fault_is f old.overtake old.world e (the_err f) refl node copy clock change memory;
       same = same;
       is = ap (λ (n : ℕ). fault_line line n) is;
@@ -62,17 +64,33 @@ stopped line e f old new number a b node copy clock change memory same is printe
   ),
 )
 
+bad_change : (f : WorldFault) (why : ChangeFault) → change_fault_in f ≡ Some why → the_err f ≡ the_err (fault.BadChange why)
+bad_change fault.NoSuchNode why e = absurd cc
+bad_change fault.NoSuchDatagram why e = absurd cc
+bad_change fault.ClockEnd why e = absurd cc
+bad_change (fault.BadChange other) why e = ap (λ (w : ChangeFault). the_err (fault.BadChange w)) (let same : Some other ≡ Some why = e in cc)
+bad_change fault.NoMemory why e = absurd cc
+
+pub turned_down : (line : ℕ) (e : world.Event) (f : WorldFault) (why : ChangeFault) (old new : WorldView) (number : ℕ) (a b : Option (List ℕ))
+    → change_fault_in f ≡ Some why
+    → ((w : ChangeFault) → (IsErrOf (the_err f) (fault.BadChange w) ↔ RefusesChange old.world e w))
+    → new ≡ old → number ≡ change_fault_number why → Appends a b (refused_line number) → AppendsText a b (IsStep line true e old new)
+turned_down line e f why old new number a b bad change same is printed = (
+  refused_line number,
+  (inr (record { fault = why; why = (change why).0 (bad_change f why bad); same = same; is = ap refused_line is }), printed),
+)
+
 -- ---- one event more
 
-more_true : (line : ℕ) (e : world.Event) (events : List world.Event) (old mid new : WorldView) (first rest : List ℕ) → Happened e old mid first
+more_true : (line : ℕ) (e : world.Event) (events : List world.Event) (old mid new : WorldView) (first rest : List ℕ) → Passed e old mid first
     → IsRun (line + 1) events true mid new rest → IsRun line (e ∷ events) true old new (first ++ rest)
 more_true line e events old mid new first rest h r = (mid, first, rest, h, r, refl)
 
-more_false : (line : ℕ) (e : world.Event) (events : List world.Event) (old mid new : WorldView) (first rest : List ℕ) → Happened e old mid first
+more_false : (line : ℕ) (e : world.Event) (events : List world.Event) (old mid new : WorldView) (first rest : List ℕ) → Passed e old mid first
     → IsRun (line + 1) events false mid new rest → IsRun line (e ∷ events) false old new (first ++ rest)
 more_false line e events old mid new first rest h r = inr (mid, first, rest, h, r, refl)
 
-more : (all : Bool) (line : ℕ) (e : world.Event) (events : List world.Event) (old mid new : WorldView) (first rest : List ℕ) → Happened e old mid first
+more : (all : Bool) (line : ℕ) (e : world.Event) (events : List world.Event) (old mid new : WorldView) (first rest : List ℕ) → Passed e old mid first
     → IsRun (line + 1) events all mid new rest → IsRun line (e ∷ events) all old new (first ++ rest)
 more true line e events old mid new first rest h r = more_true line e events old mid new first rest h r
 more false line e events old mid new first rest h r = more_false line e events old mid new first rest h r

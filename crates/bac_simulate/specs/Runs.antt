@@ -5,9 +5,12 @@ use Rattle.bac_requester.specs.declared.ask_fault.AskFault.{AskFault}
 use Rattle.bac_world.specs.World.{Event, WorldStep}
 use Rattle.bac_network.specs.Faults.{fault_number}
 use Rattle.bac_network.specs.Histories.{WorldView}
-use Rattle.bac_network.specs.Steps.{IsFault, Tells}
+use Rattle.bac_network.specs.Steps.{IsFault, RefusesChange, Tells}
 use Rattle.bac_network.specs.declared.fault.WorldFault.{WorldFault}
-use Rattle.bac_commands.specs.Facts.{fault_line}
+use Rattle.bac_network.specs.declared.fault.WorldFault.TheVariants as world_fault
+use Rattle.bac_store.specs.AtNode.{change_fault_number}
+use Rattle.bac_store.specs.declared.change_fault.ChangeFault.{ChangeFault}
+use Rattle.bac_commands.specs.Facts.{fault_line, refused_line}
 use Rattle.bac_text.specs.Lines.{lines_of}
 use Rattle.bac_text.specs.Statuses.{IsFailure}
 use Rattle.bac_text.specs.Texts.{AppendsText}
@@ -29,25 +32,45 @@ pub record Happened (event : Event) (old new : WorldView) (text : List ℕ) : Ty
   pub overtake : new.overtake ≡ old.overtake
   pub is : text ≡ outcome_text told (length old.world.log) (length old.world.copies) new.world
 
+-- the event was a change with that fault, by whose number it is told; nothing changed
+pub record TurnedDown (event : Event) (old new : WorldView) (text : List ℕ) : Type 0 where
+  pub fault : ChangeFault
+  pub why : RefusesChange old.world event fault
+  pub same : new ≡ old
+  pub is : text ≡ refused_line (change_fault_number fault)
+
+-- the script goes on after the event
+abbrev pub Passed : Event → (old new : WorldView) → (text : List ℕ) → Type 0
+Passed event old new text = Happened event old new text ⊎ TurnedDown event old new text
+
+-- the fault of a change; any other ends a script
+abbrev pub change_fault_in : WorldFault → Option ChangeFault
+change_fault_in world_fault.NoSuchNode = None
+change_fault_in world_fault.NoSuchDatagram = None
+change_fault_in world_fault.ClockEnd = None
+change_fault_in (world_fault.BadChange why) = Some why
+change_fault_in world_fault.NoMemory = None
+
 -- the event of that line did not happen, nothing changed, and the number of the fault is told
 pub record Stopped (line : ℕ) (event : Event) (old new : WorldView) (text : List ℕ) : Type 0 where
   pub fault : WorldFault
+  pub ends : change_fault_in fault ≡ None
   pub why : IsFault fault old.overtake old.world event
   pub same : new ≡ old
   pub is : text ≡ fault_line line (fault_number fault)
 
 abbrev pub IsStep : (line : ℕ) → (happened : Bool) → Event → (old new : WorldView) → (text : List ℕ) → Type 0
-IsStep line true event old new text = Happened event old new text
+IsStep line true event old new text = Passed event old new text
 IsStep line false event old new text = Stopped line event old new text
 
--- the events, the first of which stands in that line, happened one after the other, all of them or up to the first that did not; and that was told
+-- the events, the first of which stands in that line, came one after the other, all of them or up to the first that did not happen; and that was told
 abbrev pub IsRun : (line : ℕ) → List Event → (all : Bool) → (old new : WorldView) → (text : List ℕ) → Type 0
 IsRun line [] true old new text = (new ≡ old) × (text ≡ [])
 IsRun line [] false old new text = ⊥
-IsRun line (e ∷ events) true old new text = (mid : WorldView) × (first : List ℕ) × (rest : List ℕ) × Happened e old mid first
+IsRun line (e ∷ events) true old new text = (mid : WorldView) × (first : List ℕ) × (rest : List ℕ) × Passed e old mid first
     × IsRun (line + 1) events true mid new rest × (text ≡ first ++ rest)
 IsRun line (e ∷ events) false old new text = Stopped line e old new text
-    ⊎ ((mid : WorldView) × (first : List ℕ) × (rest : List ℕ) × Happened e old mid first
+    ⊎ ((mid : WorldView) × (first : List ℕ) × (rest : List ℕ) × Passed e old mid first
     × IsRun (line + 1) events false mid new rest × (text ≡ first ++ rest))
 
 -- ---- scripts

@@ -7,6 +7,7 @@ use Rattle.bac_script.specs.Lines.{setting_at, step_at}
 use Rattle.bac_script.specs.declared.form_fault.FormFault.{FormFault}
 use Rattle.bac_script.specs.declared.form_fault.FormFault.TheVariants as form_fault
 use Rattle.bac_world.specs.Node.{Node}
+use Rattle.bac_store.specs.AtNode as at_node
 use Rattle.bac_world.specs.World as world
 use Rattle.bac_simulate.specs.declared.script.ScriptFault.{ScriptFault}
 use Rattle.bac_simulate.specs.declared.script.ScriptFault.TheVariants as fault
@@ -43,6 +44,8 @@ event_of limits (line.Step.Deliver copy) = world.Event.Deliver copy
 event_of limits (line.Step.Noise node octets) = world.Event.Noise node nowhere octets
 event_of limits (line.Step.Tick node) = world.Event.Tick node
 event_of limits (line.Step.Advance by) = world.Event.Advance by
+event_of limits (line.Step.SetProperty node object property octets) = world.Event.Change node (at_node.Change.Value object property octets)
+event_of limits (line.Step.SetFile node object octets) = world.Event.Change node (at_node.Change.File object octets)
 
 abbrev pub event_at : NodeLimits → (line : List ℕ) → Option world.Event
 event_at limits l = option_map (event_of limits) (step_at l)

@@ -4,22 +4,37 @@ ghost use Rattle.bac_network.specs.Views.{event_view};
 ghost use Rattle.bac_script.specs.Views.{setting_view};
 ghost use Rattle.bac_text.specs.Lines.{lines_of};
 ghost use Rattle.bac_text.specs.Texts.{AppendsText};
-ghost use Rattle.bac_simulate.specs.Runs.{Goes, IsEnd, IsRun, IsStep, IsUnread, Reports, Simulates, SimulatesIn, status_for, status_of};
+ghost use Rattle.bac_simulate.specs.Runs.{Goes, IsEnd, IsRun, IsStep, IsUnread, Reports, Simulates, SimulatesIn, change_fault_in, status_for, status_of};
 ghost use Rattle.bac_simulate.specs.Scripts.{IsModest, events_from, limits_in, most_limits, script_of, with_setting};
 
 use crate::script::{ScriptFault, events_in, read_first};
 use crate::telling::{Seen, print_outcome};
 use crate::world_of::world_of;
-use bac_commands::print_fault;
-use bac_network::{Event, World};
+use bac_commands::{print_fault, print_refused};
+use bac_network::{Event, World, WorldFault};
 use bac_script::Setting;
+use bac_store::ChangeFault;
 use bac_text::{Status, complain, no_memory, output_failed};
 use bac_value::NoMemory;
 use std::alloc::Global;
 use std::io;
 use std::io::{ErrorKind, Read, Write};
 
-/// One event, and what is printed of it; the number of the fault where it does not happen. Answers whether it happened.
+/// The fault of a change; any other ends a script.
+fn change_fault_in(fault: WorldFault) -> Option<ChangeFault>
+    ensures { result ≡ change_fault_in fault }
+{
+    match fault {
+        WorldFault::BadChange(why) => Some(why),
+        WorldFault::NoSuchNode
+        | WorldFault::NoSuchDatagram
+        | WorldFault::ClockEnd
+        | WorldFault::NoMemory => None,
+    }
+}
+
+/// One event, and what is printed of it; the number of the fault where it does not happen. Answers whether the script goes on: a change that the store refuses
+/// doesn't end it.
 fn step_and_print<W: Write>(
     alloc: Global,
     world: &mut World,
@@ -27,23 +42,30 @@ fn step_and_print<W: Write>(
     event: &Event,
     out: &mut W,
 ) -> io::Result<bool>
-    ensures { IfOk result (λ happened. AppendsText (W.contents out.old) (W.contents out.new)
-        (IsStep line happened (event_view event.now) world.old world.new)) }
+    ensures { IfOk result (λ passed. AppendsText (W.contents out.old) (W.contents out.new)
+        (IsStep line passed (event_view event.now) world.old world.new)) }
 {
     let before = Seen::of(world);
-    match world.step(event) {
+    let fault = match world.step(event) {
         Ok(refused) => {
             print_outcome(alloc, world, before, refused, out)?;
+            return Ok(true);
+        }
+        Err(fault) => fault,
+    };
+    match change_fault_in(fault) {
+        Some(why) => {
+            print_refused(why.number(), out)?;
             Ok(true)
         }
-        Err(fault) => {
+        None => {
             print_fault(line, fault.number(), out)?;
             Ok(false)
         }
     }
 }
 
-/// All events, up to the first that does not happen; so many lines stand before that of the first. Answers whether all happened.
+/// All events, up to the first that ends the script; so many lines stand before that of the first. Answers whether none did.
 fn run_and_print<W: Write>(
     alloc: Global,
     world: &mut World,
@@ -199,9 +221,9 @@ fn unread<E: Write>(error: &io::Error, err: &mut E) -> Status
 /// Runs a script of events in a network of nodes, each with a house store of its own, and prints what comes of each event. All lines are read before the
 /// first event.
 ///
-/// An event that names no node or no copy, or that the clock or the memory has no room for, prints `line L: fault F` and ends the run with `Faulty`. A line of
-/// no form: `line L: not a script line` on `err`; an input that cannot be read: `cannot read`; out of memory outside an event: `no memory`. `Output` where
-/// `out` cannot be written.
+/// An event that names no node or no copy, or that the clock or the memory has no room for, prints `line L: fault F` and ends the run with `Faulty`. A refused
+/// ask, and a change that a node's store refuses, print `refused F`, and the run goes on. A line of no form: `line L: not a script line` on `err`; an input
+/// that cannot be read: `cannot read`; out of memory outside an event: `no memory`. `Output` where `out` cannot be written.
 pub fn simulate_over<R: Read, O: Write, E: Write>(
     alloc: Global,
     input: &mut R,

@@ -1,6 +1,9 @@
 //! The network of a script, and its events.
 ghost use Rattle.std.specs.Prelude.{◌≡◌, ◌<◌, IfOk};
+ghost use Rattle.bac_value.specs.Views.{object_identifier_view};
 ghost use Rattle.bac_apdu.specs.Views.{limits_view};
+ghost use Rattle.bac_store.specs.AtNode.Change.{Value, File};
+ghost use Rattle.bac_world.specs.World.Event.{Change as Happening};
 ghost use Rattle.bac_network.specs.Views.{event_view};
 ghost use Rattle.bac_script.specs.Views.{setting_view, step_view};
 ghost use Rattle.bac_simulate.specs.Houses.{link_at, makers_from, world_set};
@@ -9,8 +12,8 @@ ghost use Rattle.bac_simulate.specs.Scripts.{IsModest, event_of, limits_in};
 use bac_apdu::Limits;
 use bac_network::{Event, NewWorldFault, World};
 use bac_node::Config;
-use bac_script::{Setting, Step};
-use bac_store::{Store, house};
+use bac_script::{SetFile, SetProperty, Setting, Step};
+use bac_store::{Change, Store, house};
 use bac_value::NoMemory;
 use std::alloc::Global;
 
@@ -81,6 +84,33 @@ fn limits_of(world: &World, node: usize) -> Limits
     }
 }
 
+/// A node changes a property of its own store.
+fn value_change(set: SetProperty) -> Event
+    ensures { event_view result ≡ Happening set.node (Value (object_identifier_view set.object) set.property set.octets.items) }
+{
+    Event::Change {
+        node: set.node as usize,
+        change: Change::Value {
+            object: set.object,
+            property: set.property,
+            octets: set.octets,
+        },
+    }
+}
+
+/// A node changes a file of its own store.
+fn file_change(set: SetFile) -> Event
+    ensures { event_view result ≡ Happening set.node (File (object_identifier_view set.object) set.octets.items) }
+{
+    Event::Change {
+        node: set.node as usize,
+        change: Change::File {
+            object: set.object,
+            octets: set.octets,
+        },
+    }
+}
+
 /// What a line says is to happen in a world: who asks knows what the other node takes.
 pub(crate) fn event_of(world: &World, step: Step) -> Event
     ensures { event_view result ≡ event_of (limits_in world.now.world.nodes) (step_view step) }
@@ -104,5 +134,7 @@ pub(crate) fn event_of(world: &World, step: Step) -> Event
             node: node as usize,
         },
         Step::Advance(by) => Event::Advance { by },
+        Step::SetProperty(set) => value_change(set),
+        Step::SetFile(set) => file_change(set),
     }
 }

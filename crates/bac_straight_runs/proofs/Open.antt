@@ -15,7 +15,7 @@ use Rattle.bac_protocol.proofs.Facts.{below_unended}
 use Rattle.bac_protocol.proofs.Headline.{net_log}
 use Rattle.bac_protocol.proofs.Nets.{sound_at}
 use Rattle.bac_protocol.proofs.SingleMoves.{reached_net}
-use Rattle.bac_progress.proofs.Paths.{Any}
+use Rattle.bac_progress.proofs.Paths.{Any, bounded_start}
 use Rattle.bac_progress.proofs.Changes.{IdleIsLogged, HasEnded, IsThere, logged_path}
 use Rattle.bac_ends.specs.Keys.{PeerKey}
 use Rattle.bac_world.specs.Once.{IsUnended}
@@ -25,7 +25,8 @@ use Rattle.bac_world.proofs.Bridge.{slot_key}
 use Rattle.bac_world.proofs.Steps.{Over}
 use Rattle.bac_world.proofs.Asking.{accepted_is}
 use Rattle.bac_world.proofs.Headline.{fresh_over, rules_of, rules_bounded}
-use Rattle.bac_completion.proofs.Asked.{key, ask, made, made_over, made_path, there, server_link, client_link}
+use Rattle.bac_completion.proofs.Never.{never_bounded, client_stays}
+use Rattle.bac_completion.proofs.Asked.{key, ask, made, made_over, made_bounded, made_path, there, server_link, client_link}
 use Rattle.bac_completion.proofs.Endings.{on_run, once_in}
 use Rattle.bac_completion.proofs.Following.{Followed, Parts, accepted}
 use Rattle.bac_completion.specs.StraightRuns.{is_open, key_of_ask, ending_in, deliveries}
@@ -80,7 +81,7 @@ module _ (links : ℕ → Option Octets) (apart : (i j : ℕ) (l : Octets) → l
     open_unended : is_open w c (slot_key a.link its_key.invoke_id) ≡ true → ending_in (length old.notes) w.log ≡ None
     open_unended e =
         let going : is_idle t.ticket.phase ≡ false = sym ticket_is ∙ open_there links apart W x w f.net f.over its_key a.link server_at e in
-        let at = sound_at W f.net its_key (Some t.ticket) t.at (reached_net W x bound f.net f.over.sound) in
+        let at = sound_at W f.net its_key (Some t.ticket) t.at (reached_net W x bound f.net f.over.sound.0) in
         let none : octets.IsUnended (f.net.numbers its_key) f.net.log =
         keeps.is_open t.ticket.phase (f.net.numbers its_key) f.net.log going (at.2).unended in
         let its : IsUnended n.asks w.log = unended n.asks f.net.log w.log f.over.log
@@ -92,9 +93,10 @@ module _ (links : ℕ → Option Octets) (apart : (i j : ℕ) (l : Octets) → l
     closed_ended e none =
         let idle : is_idle t.ticket.phase ≡ true =
         sym ticket_is ∙ closed_there links apart W x w f.net f.over its_key a.link server_at a.before.link client_at e in
-        let logged_then = logged_path x Any first f.net f.path
-        (logged_path x Any n first (made_path links apart W x bound readable old n h c s limits r asked a parts Any) logged) in
-        let ended : HasEnded n.asks f.net.log = subst (λ (k : ℕ). HasEnded k f.net.log) t.number_is (logged_then its_key t.ticket t.at idle) in
+        let logged_then = logged_path x Any first f.net f.path (made_bounded links apart W x bound readable old n h c s limits r asked a parts)
+        (logged_path x Any n first (made_path links apart W x bound readable old n h c s limits r asked a parts Any) (never_bounded n h.sound.1) logged) in
+        let ended : HasEnded n.asks f.net.log = subst (λ (k : ℕ). HasEnded k f.net.log) t.number_is ((logged_then its_key t.ticket t.at).1
+        (client_stays f.net f.over.sound.1 its_key t.ticket.ask) idle) in
         let one = once_in links apart W x bound readable w f.net f.over n.asks ended in
         let zero = none_counted n.asks w.log (subst (λ (k : ℕ). ending_in k w.log ≡ None) (sym h.asks) none) in
         omega arith
@@ -117,7 +119,7 @@ open_until_ended W overtake opening old fresh bounded events run client server l
     let bound = rules_bounded W overtake opening bounded in
     let f = on_run links fresh.apart W x bound refl events opening old net_start (fresh_over W overtake opening fresh bounded) run in
     open_exactly links fresh.apart W x bound refl old f.net f.over
-    (logged_path x Any net_start f.net f.path (λ key t at idle. absurd cc)) client server limits r asked asks count number w deliver
+    (logged_path x Any net_start f.net f.path bounded_start (λ key t at. absurd cc)) client server limits r asked asks count number w deliver
 
 -- the next ask has no ending yet
 pub none_ended : (W overtake : ℕ) (opening old : World) → IsFresh opening → IsBounded W overtake opening
@@ -128,5 +130,5 @@ none_ended W overtake opening old fresh bounded events run =
     let bound = rules_bounded W overtake opening bounded in
     let f = on_run links fresh.apart W x bound refl events opening old net_start (fresh_over W overtake opening fresh bounded) run in
     let none : octets.IsUnended f.net.asks f.net.log =
-    below_unended f.net.asks f.net.log (net_log W f.net (reached_net W x bound f.net f.over.sound)).numbers in
+    below_unended f.net.asks f.net.log (net_log W f.net (reached_net W x bound f.net f.over.sound.0)).numbers in
     subst (λ (k : ℕ). ending_in k old.log ≡ None) f.over.asks (unended_none f.net.asks old.log (unended f.net.asks f.net.log old.log f.over.log none))

@@ -1,33 +1,24 @@
 -- No time passes: the ticket of an ask stays, and so does the moment.
 use Rattle.std.proofs.Common.{◌≡◌, ◌⊎◌, ℕ, ◌-◌, Bool, true, false, ◌||◌, not, nat_le, zero, suc, refl, sym, ap, inl, inr, ◌∙◌, arith}
 use Rattle.std.proofs.lemmas.Bool.Decides.{nat_tests}
-use Rattle.bac_protocol.specs.declared.times.TheConstants.{HOLD}
-use Rattle.bac_protocol.specs.Client.{Ask, Ticket, is_idle, is_held}
+use Rattle.bac_protocol.specs.Client.{Ask}
 use Rattle.bac_protocol.specs.Transaction.{Key, Rules}
-use Rattle.bac_protocol.specs.World.{Net, is_key_held}
+use Rattle.bac_protocol.specs.World.{Net, is_id_held}
 use Rattle.bac_progress.proofs.Paths.{Any, Step, Path, step_now, path_now}
 use Rattle.bac_progress.proofs.Paths.Path.{Here, Then}
 use Rattle.bac_progress.proofs.Changes.{IsThere, there_step}
+use Rattle.bac_progress.proofs.Kept.{held_in_time}
 use Rattle.bac_world.specs.World.{World, WorldRun, IsDelivered, DeliversIf, is_deliverable}
 use Rattle.bac_completion.specs.StraightRuns.{deliveries}
-
--- a ticket is held at the moment of its first sending
-held_at_once : (now : ℕ) (t : Ticket) → t.ask.first ≡ now → is_held now t ≡ true
-held_at_once now t is = go (is_idle t.phase) (nat_le (now - t.ask.first) HOLD) refl
-  where
-    go : (a b : Bool) → nat_le (now - t.ask.first) HOLD ≡ b → (not a || b) ≡ true
-    go false b e = refl
-    go true true e = refl
-    go true false e = absurd (grind (arith, nat_tests, is))
 
 module _ (x : Rules) (key : Key) (number : ℕ) (ask : Ask) where
   still : (l m : Net) → Step x Any l m → l.now ≡ ask.first → IsThere x Any key number ask l → IsThere x Any key number ask m
   still l m s now h = go (there_step x Any key number ask l m s h)
     where
-      held : is_key_held l.now (l.tickets key) ≡ true
-      held = ap (is_key_held l.now) h.at ∙ held_at_once l.now h.ticket (ap (λ (y : Ask). y.first) h.is ∙ sym now)
+      held : is_id_held l key ≡ true
+      held = held_in_time x Any key number ask l h (omega arith)
 
-      go : (IsThere x Any key number ask m ⊎ (is_key_held l.now (l.tickets key) ≡ false)) → IsThere x Any key number ask m
+      go : (IsThere x Any key number ask m ⊎ (is_id_held l key ≡ false)) → IsThere x Any key number ask m
       go (inl k) = k
       go (inr free) = absurd (let e : true ≡ false = sym held ∙ free in cc)
 

@@ -127,6 +127,8 @@ performed_asked n r p (octets.Fact.Ended m how ∷ log) o (inl e) = absurd cc
 performed_asked n r p (octets.Fact.Ended m how ∷ log) o (inr h) = let again = performed_asked n r p log o.2 h in (again.0, again.1, inr again.2)
 performed_asked n r p (octets.Fact.Changed node change ∷ log) o (inl e) = absurd cc
 performed_asked n r p (octets.Fact.Changed node change ∷ log) o (inr h) = let again = performed_asked n r p log o h in (again.0, again.1, inr again.2)
+performed_asked n r p (octets.Fact.Restarted node store ∷ log) o (inl e) = absurd cc
+performed_asked n r p (octets.Fact.Restarted node store ∷ log) o (inr h) = let again = performed_asked n r p log o h in (again.0, again.1, inr again.2)
 
 -- octets mean one reply
 one_reply : (choice : ℕ) (r : machine.Reply) (p q : Reply) → MeansReply choice r p → MeansReply choice r q → p ≡ q

@@ -25,11 +25,12 @@ use Rattle.bac_protocol.specs.Client.{Ask}
 use Rattle.bac_protocol.specs.Server.{is_none_live}
 use Rattle.bac_protocol.specs.Log as machine_log
 use Rattle.bac_protocol.specs.Transaction.{Key, Rules, client_context}
-use Rattle.bac_protocol.specs.World.{Net, ask_made, asked_at, is_key_held}
+use Rattle.bac_protocol.specs.World.{Net, ask_made, asked_at, is_key_held, is_id_held}
 use Rattle.bac_protocol.specs.Claims.{IsBounded}
 use Rattle.bac_protocol.specs.Straight.{IsLike, CanAsk, KindFits, AreStraight, RequestFits, Stops, WayFits, request_count, way_count, way_to, cost}
 use Rattle.bac_protocol.specs.Straight as machine_straight
 use Rattle.bac_protocol.proofs.SingleMoves.{in_order}
+use Rattle.bac_protocol.proofs.Unchanged.{never_waits}
 use Rattle.bac_protocol.proofs.StraightRuns.{machines_answer}
 use Rattle.bac_slots.specs.Slots.{value_at}
 use Rattle.bac_ends.specs.Keys.{PeerKey, same_key}
@@ -116,6 +117,9 @@ module _ (links : ℕ → Option Octets) (apart : (i j : ℕ) (l : Octets) → l
   free : is_key_held n.now (n.tickets key) ≡ false
   free = free_ticket n.now w.notes i (n.numbers key) (value_at same_key (slot_key run.asks.link parts.id) a.clients.slots) (n.tickets key)
       ((h.nodes i a run.asks.at).clients.found s run.asks.link parts.id server_at) parts.free
+
+  unheld : is_id_held n key ≡ false
+  unheld = (never_waits n h.sound.1).held key ∙ free
 
   abbrev v0 : Machines
   v0 = record { net = n; stores = stores_of w.nodes }
@@ -221,12 +225,15 @@ module _ (links : ℕ → Option Octets) (apart : (i j : ℕ) (l : Octets) → l
     end = f.end
 
     dead : is_none_live n.now (n.entries key) ≡ true
-    dead = (in_order W x bound n h.sound).dead key free
+    dead = (in_order W x bound n h.sound.0).dead key unheld
+
+    serving : n.serves_from key.server ≤ n.now
+    serving = let none = h.sound.1.serves key.server in omega arith
 
     -- the request is performed, so its reply can be read
     reads : (c : Complex) → m ≡ machine.Reply.Complex (complex_spelling c) → x.readable (choice_of r) (complex_spelling c) ≡ true
     reads c is =
-        let has = was_performed (Option Store) shop x v0 key good (choice_of r) parts.front parts.rest m dead outcome way_goes parts.whole request_fits count
+        let has = was_performed (Option Store) shop x v0 key good (choice_of r) parts.front parts.rest m dead outcome way_goes serving parts.whole request_fits count
         end f.run (stops end f.fit) in
         let was = performed_as n.asks (record { choice = choice_of r; service = join pieces }) m end.net.log new.log f.fit.over.log has in
         ap (λ (y : machine.Readable). y (choice_of r) (complex_spelling c)) readable
@@ -235,7 +242,8 @@ module _ (links : ℕ → Option Octets) (apart : (i j : ℕ) (l : Octets) → l
     module _ (kind : KindFits x.readable (choice_of r) m) where
       can_ask : CanAsk (Option Store) shop x v0 key (choice_of r) parts.whole pieces m
       can_ask = record {
-        free = free;
+        free = unheld;
+        serving = serving;
         dead = dead;
         request = request_fits;
         outcome = outcome;
@@ -246,8 +254,8 @@ module _ (links : ℕ → Option Octets) (apart : (i j : ℕ) (l : Octets) → l
       answered_so : machine_straight.IsAnswered (Option Store) shop x key (record { choice = choice_of r; service = join pieces }) m
           (request_count parts.whole pieces) count v0 end
       answered_so = machines_answer (Option Store) shop x key good v0 (choice_of r) parts.whole parts.front parts.rest m can_ask v1
-          (subst (λ (y : Machines). IsLike (Option Store) key v1 y) (sym (ap (λ b'. if b' then v0 else v1) free))
-          (record { moment = refl; asks = refl; number = refl; ticket = refl; entry = refl; posts = refl; stores = refl; log = refl }))
+          (subst (λ (y : Machines). IsLike (Option Store) key v1 y) (sym (ap (λ b'. if b' then v0 else v1) unheld))
+          (record { moment = refl; asks = refl; number = refl; ticket = refl; entry = refl; posts = refl; stores = refl; log = refl; serves = refl }))
           count end f.run (stops end f.fit)
 
       abbrev asked_octets : machine.Request

@@ -10,6 +10,7 @@ use Rattle.bac_protocol.specs.Transaction.{Key, Rules}
 use Rattle.bac_protocol.specs.World.{Net, net_start, is_key_held}
 use Rattle.bac_protocol.specs.Claims as claims
 use Rattle.bac_protocol.proofs.SingleMoves.{in_order}
+use Rattle.bac_protocol.proofs.Unchanged.{never_waits}
 use Rattle.bac_slots.specs.Slots.{value_at}
 use Rattle.bac_ends.specs.Keys.{same_key}
 use Rattle.bac_ends.specs.Ends.{Accepted, is_id_held}
@@ -83,7 +84,7 @@ module _ (W overtake : ℕ) (first old : World) (fresh : IsFresh first) (bound :
         (ap (λ (now : ℕ). is_id_held now a.clients.slots (peer_at b.link) id) h.now ∙ free)
 
     dead : live_entry n.now (n.entries key) ≡ None
-    dead = none_live n.now (n.entries key) ((in_order W x bounded n h.sound).dead key unheld)
+    dead = none_live n.now (n.entries key) ((in_order W x bounded n h.sound.0).dead key ((never_waits n h.sound.1).held key ∙ unheld))
 
     unused : HasNoneLive old.now b a id
     unused = ap (λ (now : ℕ). live_entry now (value_at same_key (slot_key a.link id) b.servers.slots)) (sym h.now)

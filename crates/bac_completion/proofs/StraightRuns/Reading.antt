@@ -1,5 +1,5 @@
 -- In a straight run that stops the request is performed, so its reply means something.
-use Rattle.std.proofs.Common.{◌≡◌, ◌+◌, ◌*◌, ℕ, zero, suc, Bool, true, false, List, ◌∷◌, length, Option, Some, None, if◌then◌else◌}
+use Rattle.std.proofs.Common.{◌≡◌, ◌≤◌, ◌+◌, ◌*◌, ℕ, zero, suc, Bool, true, false, List, ◌∷◌, length, Option, Some, None, if◌then◌else◌}
 use Rattle.std.proofs.Common.{refl, sym, subst, inl, inr, arith, slice_get}
 use Rattle.bac_apdu.specs.Apdu.{Apdu}
 use Rattle.bac_segment.specs.Pieces.{join}
@@ -142,13 +142,13 @@ module _ (S : Type 0) (shop : Shop S) (x : Rules) (w : World S) (key : Key) (goo
             (record { some = omega arith; small = omega arith; within = omega arith; room = omega arith; few = fits.0; short = fits.1 });
       }
 
-  module _ (whole : Bool) (fits : RequestFits whole (front ∷ rest)) (count : ℕ) (new : World S)
+  module _ (serving : w.net.serves_from key.server ≤ w.net.now) (whole : Bool) (fits : RequestFits whole (front ∷ rest)) (count : ℕ) (new : World S)
       (run : Straight S (like_machine S shop x key) key true count (length w.net.posts) (asked S shop x w key (ask whole)) new)
       (stops : Stops S key (length w.net.posts + count) new) where
     reached : ComesBy S shop x w.net.now w.net.asks key new (performs whole fits).end
     reached = starts_by S shop x w.net.now w.net.asks key (2 * request_count whole (front ∷ rest)) count (length w.net.posts)
         (asked S shop x w key (ask whole)) new (first_duo S shop x w key (ask whole) whole) (performs whole fits).end (performs whole fits).begins
-        (asked_shows S shop x w key (ask whole) (omega arith)) run stops
+        (asked_shows S shop x w key serving (ask whole) (omega arith)) run stops
 
     -- it stands in the log after the run
     pub was_performed : Has (fact whole) new.net.log

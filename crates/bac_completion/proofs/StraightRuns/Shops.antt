@@ -33,7 +33,7 @@ after_read (Some s) (Err reason) = Some s
 
 -- no node of a straight run changes its own store
 abbrev pub shop : Shop (Option Store)
-shop = record { outcome = outcome_at; after = λ s q. after_read s (request_at q.choice q.service); changed = λ s change. s }
+shop = record { outcome = outcome_at; after = λ s q. after_read s (request_at q.choice q.service); changed = λ s change. s; opened = λ store. None }
 
 -- all transactions of the machines, with these stores
 abbrev pub Machines : Type 0

@@ -94,6 +94,16 @@ const EVENTS: &[&str] = &[
     "advance",
     "advance 0 0",
     "advances 0",
+    "set",
+    "set 0",
+    "set 0 0:5",
+    "set 0 0:5 85",
+    "set 0 0:5 85 00 00",
+    "sets 0 0:5 85 00",
+    "file",
+    "file 0 10:1",
+    "file 0 10:1 00 00",
+    "files 0 10:1 00",
 ];
 
 /// Numbers that are none, or outside their range, each in a line that is good with 0 in its place.
@@ -111,6 +121,9 @@ const PLACES: &[(&str, &str)] = &[
     ("nodes 2\nask 0 1 read 0:5 85\nask 0 1 read 0:", " 85\n"),
     ("nodes 2\nask 0 1 read 0:5 85\nask 0 1 read 0:5 ", "\n"),
     ("nodes 2\nask 0 1 read 0:5 85\nask 0 1 get 10:1 0 ", "\n"),
+    ("nodes 2\nask 0 1 read 0:5 85\nset ", " 0:5 85 00\n"),
+    ("nodes 2\nask 0 1 read 0:5 85\nset 0 0:5 ", " 00\n"),
+    ("nodes 2\nask 0 1 read 0:5 85\nfile ", " 10:1 00\n"),
 ];
 
 /// Numbers above the ranges of an object's type, its instance, a property and a place in a file, and octets that are no hexadecimal or no data.
@@ -135,6 +148,12 @@ const RANGES: &[&str] = &[
     "ask 0 1 write 2:1 85 44",
     "ask 0 1 write 2:1 85 2E",
     "ask 0 1 write 2:1 85 00FF",
+    "set 0 1024:5 85 00",
+    "set 0 0:4194304 85 00",
+    "set 0 0:5 4294967296 00",
+    "set 0 0:5 85 0",
+    "file 0 1024:1 00",
+    "file 0 10:1 0G",
 ];
 
 /// What stands before them: an event that would print something.

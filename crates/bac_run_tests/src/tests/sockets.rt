@@ -5,7 +5,7 @@ use bac_link::{MonotonicClock, UdpLink};
 /// What a link has received next, in hexadecimal.
 fn received(alloc: Global, link: &mut UdpLink) -> Result<String, Fail> {
     let mut buffer = [0u8; 2_048];
-    match link.recv(&mut buffer) {
+    match link.recv(&mut buffer, 100) {
         Ok(Some(received)) => Ok(hex::encode_upper(alloc, &buffer[..received.1])?),
         _ => Err(Fail::from("no answer")),
     }

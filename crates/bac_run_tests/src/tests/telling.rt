@@ -3,7 +3,7 @@ use super::*;
 use crate::noted_call::NotedCall;
 use crate::telling_link::TellingLink;
 
-/// A call as a line: what was done, the port of the other address, and the octets.
+/// A call as a line: what was done, the port of the other address, and the octets; or how long it waited in vain.
 fn line(alloc: Global, word: &str, address: [u8; 6], octets: &[u8]) -> Result<String, Fail> {
     let port = u16::from_be_bytes([address[4], address[5]]);
     let octets = hex::encode_upper(alloc, octets)?;
@@ -13,8 +13,8 @@ fn line(alloc: Global, word: &str, address: [u8; 6], octets: &[u8]) -> Result<St
 fn told_call(alloc: Global, call: &NotedCall) -> Result<String, Fail> {
     match call {
         NotedCall::Sent(to, octets) => line(alloc, "sent", *to, octets),
-        NotedCall::Received(from, octets) => line(alloc, "received", *from, octets),
-        NotedCall::Nothing => Ok(String::from_str(alloc, "nothing")?),
+        NotedCall::Received(_, from, octets) => line(alloc, "received", *from, octets),
+        NotedCall::Nothing(wait) => Ok(format!(in alloc; "nothing {wait}")?),
         NotedCall::Failed => Ok(String::from_str(alloc, "failed")?),
     }
 }
@@ -51,7 +51,7 @@ const CALLS: &[(Failing, &[&str])] = &[
             READ,
             "\nsent 47808 ",
             VALUE,
-            "\nnothing\n",
+            "\nnothing 100\n",
         ],
     ),
     // the answer is lost
@@ -62,7 +62,7 @@ const CALLS: &[(Failing, &[&str])] = &[
             READ,
             "\nsent 47808 ",
             VALUE,
-            "\nnothing\n",
+            "\nnothing 100\n",
         ],
     ),
     // the first call to receive fails
@@ -85,6 +85,44 @@ fn tells<R: Abort>(rt: &R, alloc: Global, failing: Failing, lines: &[&str]) -> R
     }
     let told = calls(rt, alloc, failing)?;
     Ok(told.as_str() == want.as_str())
+}
+
+/// The moments of turns of a client that asks at moment 0 and gets no answer: its request is sent again 3,000 milliseconds after each sending.
+const MOMENTS: &[u64] = &[
+    0, 2_899, 2_900, 2_901, 2_999, 3_000, 3_000, 5_950, 7_000, 10_000, 12_000, 12_000,
+];
+
+/// How long each of these turns waits, between what is sent.
+const WAITS: &str = "\
+sent\nnothing 100\nnothing 100\nnothing 100\nnothing 99\nnothing 1\nnothing 0\nsent\nnothing 100\nnothing 50\nnothing 0\nsent\nnothing 0\nsent\n\
+nothing 100\nnothing 100\n";
+
+/// Calls of a client's link, without octets.
+fn waits_of<R: Abort>(alloc: Global, link: TellingLink<'_, R>) -> Result<String, Fail> {
+    let mut client = Station::new(alloc, house_node(alloc, CLIENT)?, link)?;
+    let _ = client.begin(0, &read(alloc)?).is_ok();
+    for moment in MOMENTS {
+        let _ = client.turn(*moment).is_ok();
+    }
+    let mut lines = String::new(alloc);
+    for call in client.link().noted() {
+        match call {
+            NotedCall::Sent(..) => lines.push_str("sent")?,
+            other => lines.push_str(&told_call(alloc, other)?)?,
+        }
+        lines.push_str("\n")?;
+    }
+    Ok(lines)
+}
+
+/// A turn waits until something is due, and no longer than 100 milliseconds.
+#[test]
+fn turns_wait_until_something_is_due(rt: HostRuntime) -> Result<(), Fail> {
+    let medium = RefCell::new(Medium::new(rt.alloc(), Failing::NOTHING));
+    let moment = Cell::new(0);
+    let link = TellingLink::new(&rt, rt.alloc(), &medium, &moment, CLIENT);
+    assert_eq!(&rt; waits_of(rt.alloc(), link)?.as_str(), WAITS);
+    Ok(())
 }
 
 /// What is received comes first, then what the node sends; a call that fails is told too.

@@ -5,7 +5,7 @@ use Rattle.bac_run.proofs.station.Station.turn.Goals as goal
 
 pub returns-clause-turned : goal.returns-clause-turned
 returns-clause-turned g c =
-    turned _ c.recv.new.buffer c.deref.result.now _ _ _ _ (step_view c.hear_received-first.result) (step_view c.tick-second.result) c.self.view_is
+    turned _ c.wait_at-wait.result c.recv.new.buffer c.deref.result.now _ _ _ _ (step_view c.hear_received-first.result) (step_view c.tick-second.result) c.self.view_is
     (lent_whole _ c.recv.new.buffer _ (c.recv.auto.buffer ∙ c.deref_mut.ensures.len))
     (c.deref.ensures.value ∙ lent_whole _ c.recv.new.buffer _ (c.recv.auto.buffer ∙ c.deref_mut.ensures.len))
     c.in_ok-received.ensures.within
@@ -24,3 +24,4 @@ returns-clause-turned g c =
     (record { count = c.send_all-first_lost.ensures.count; order = c.send_all-first_lost.ensures.order; most = c.send_all-first_lost.ensures.most })
     (record { count = c.send_all-second_lost.ensures.count; order = c.send_all-second_lost.ensures.order; most = c.send_all-second_lost.ensures.most })
     c.saturating_add.ensures))
+    c.wait_at-wait.ensures

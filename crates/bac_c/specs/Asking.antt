@@ -1,0 +1,96 @@
+-- What a C program asks for, and what comes of an ask.
+use Rattle.std.specs.Prelude.{◌≡◌, ◌⊎◌, ℕ, ℤ, nat_eq, if◌then◌else◌, List, [], Option, Some, None}
+use Rattle.bac_apdu.specs.Apdu.{Limits}
+use Rattle.bac_npdu.specs.Peers.{PeerView}
+use Rattle.bac_value.specs.Value.{ObjectId}
+use Rattle.bac_service.specs.Values as service
+use Rattle.bac_service.specs.Values.{Request}
+use Rattle.bac_service.specs.Values.Request.{ReadFile, WriteFile, ReadProperty, WriteProperty}
+use Rattle.bac_service.specs.Values.ReadAccess.{ReadStream}
+use Rattle.bac_service.specs.Values.WriteAccess.{WriteStream}
+use Rattle.bac_ends.specs.Ends.{Accepted}
+use Rattle.bac_node.specs.Calls.{Refuses}
+use Rattle.bac_requester.specs.declared.ask_fault.AskFault.{AskFault}
+use Rattle.bac_requester.specs.declared.ask_fault.AskFault.TheVariants as ask
+use Rattle.bac_world.specs.Node.{Node, NodeAsks, Outcome}
+use Rattle.bac_c.specs.Devices.{HasRun, Runs, IsIdle}
+use Rattle.bac_c.specs.declared.device.Device.{Device}
+use Rattle.bac_c.specs.declared.fault.Fault.{Fault}
+use Rattle.bac_c.specs.declared.fault.Fault.TheVariants as fault
+use Rattle.bac_c.specs.declared.records.Reference.{Reference}
+use Rattle.bac_c.specs.declared.records.Target.{Target}
+use Rattle.bac_c.specs.Statuses.{fault_number}
+
+abbrev pub index_of : ℕ → Option ℕ
+index_of n = if nat_eq n 4294967295 then None else Some n
+
+abbrev pub reference_of : Reference → service.Reference
+reference_of r = record { object = record { kind = r.object_type; instance = r.instance }; property = r.property; index = index_of r.index }
+
+-- 0 is no priority
+abbrev pub priority_of : ℕ → Option ℕ
+priority_of n = if nat_eq n 0 then None else Some n
+
+-- a file is an object of type 10 (clause 12.13)
+abbrev pub file_of : (instance : ℕ) → ObjectId
+file_of i = record { kind = 10; instance = i }
+
+abbrev pub read_of : Reference → Request
+read_of r = ReadProperty (reference_of r)
+
+abbrev pub write_of : Reference → (values : List ℕ) → (priority : ℕ) → Request
+write_of r values p = WriteProperty (reference_of r) values (priority_of p)
+
+abbrev pub put_of : (file : ℕ) → (position : ℤ) → (octets : List ℕ) → Request
+put_of f position octets = WriteFile (file_of f) (WriteStream position octets)
+
+abbrev pub get_of : (file : ℕ) → (position : ℤ) → (count : ℕ) → Request
+get_of f position count = ReadFile (file_of f) (ReadStream position count)
+
+abbrev pub peer_of : Target → PeerView
+peer_of t = record { link = t.link; route = None }
+
+abbrev pub limits_of : Target → Limits
+limits_of t = record { takes_segments = t.takes_segments; max_segments = t.max_segments; max_apdu = t.max_apdu }
+
+-- a request that was not made: a number is outside its range or octets are no data, or memory was refused
+abbrev pub IsUnready : Fault → Type 0
+IsUnready f = (f ≡ fault.BadRequest) ⊎ (f ≡ fault.NoMemory)
+
+-- an ask was accepted under this ticket, and nothing else came of it
+pub record IsAsking (now : ℕ) (t : Target) (r : Request) (ticket : ℕ) (old new : Node) (o : Outcome) : Type 0 where
+  pub accepted : Accepted
+  pub asks : NodeAsks now (peer_of t) (limits_of t) r old new accepted o.sends
+  pub ticket_is : ticket ≡ accepted.ticket
+  pub performed : o.performed ≡ None
+  pub ended : o.ended ≡ []
+  pub dropped : o.dropped ≡ None
+
+-- why an ask is refused
+abbrev pub AskRefused : Fault → (now : ℕ) → Target → Request → Device → Type 0
+AskRefused fault.ClockBack now t r d = Runs (λ n. Refuses ask.ClockBack now (peer_of t) (limits_of t) r n) d
+AskRefused fault.SelfPeer now t r d = Runs (λ n. Refuses ask.SelfPeer now (peer_of t) (limits_of t) r n) d
+AskRefused fault.TooLong now t r d = Runs (λ n. Refuses ask.TooLong now (peer_of t) (limits_of t) r n) d
+AskRefused fault.NeedsSegments now t r d = Runs (λ n. Refuses ask.NeedsSegments now (peer_of t) (limits_of t) r n) d
+AskRefused fault.NoInvokeId now t r d = Runs (λ n. Refuses ask.NoInvokeId now (peer_of t) (limits_of t) r n) d
+AskRefused fault.NoSlot now t r d = Runs (λ n. Refuses ask.NoSlot now (peer_of t) (limits_of t) r n) d
+AskRefused fault.NotStarted now t r d = IsIdle d
+AskRefused fault.NoMemory now t r d = Unit {0}
+AskRefused fault.BadRequest now t r d = Unit {0}
+AskRefused _ now t r d = ⊥
+
+abbrev pub HasAsked : (now : ℕ) → Target → Request → (ticket : ℕ) → (old new : Option Device) → Type 0
+HasAsked now t r ticket = HasRun (IsAsking now t r ticket)
+
+-- the status of an ask says why it was refused, if it was
+abbrev pub IsRefusedAsk : (status now : ℕ) → Target → Request → Device → Type 0
+IsRefusedAsk status now t r d = (f : Fault) → status ≡ fault_number f → AskRefused f now t r d
+
+abbrev pub fault_for : AskFault → Fault
+fault_for ask.ClockBack = fault.ClockBack
+fault_for ask.SelfPeer = fault.SelfPeer
+fault_for ask.TooLong = fault.TooLong
+fault_for ask.NeedsSegments = fault.NeedsSegments
+fault_for ask.NoInvokeId = fault.NoInvokeId
+fault_for ask.NoSlot = fault.NoSlot
+fault_for ask.NoMemory = fault.NoMemory

@@ -1,0 +1,24 @@
+-- What a call makes of what is behind a handle.
+use Rattle.std.specs.Prelude.{◌≡◌, Option, None, MatchOption}
+use Rattle.bac_world.specs.Node.{Node, Outcome}
+use Rattle.bac_node.specs.Views.{outcome_view}
+use Rattle.bac_c.specs.declared.device.Device.{Device}
+
+-- a handle holds a device, and this holds of it
+abbrev pub Holds : (Device → Type 0) → Option Device → Type 0
+Holds p held = MatchOption held ⊥ p
+
+-- a device whose node is not started
+abbrev pub IsIdle : Device → Type 0
+IsIdle d = d.node ≡ None
+
+-- its node is started, and this holds of it
+abbrev pub Runs : (Node → Type 0) → Device → Type 0
+Runs p d = MatchOption d.node ⊥ p
+
+-- a node ran before and runs after, and what came of it is there to be read
+abbrev pub Ran : (Node → Node → Outcome → Type 0) → Device → Device → Type 0
+Ran goes d e = MatchOption d.node ⊥ (λ m. MatchOption e.node ⊥ (λ n. goes m n (outcome_view e.outcome)))
+
+abbrev pub HasRun : (Node → Node → Outcome → Type 0) → (old new : Option Device) → Type 0
+HasRun goes old new = MatchOption old ⊥ (λ d. MatchOption new ⊥ (λ e. Ran goes d e))

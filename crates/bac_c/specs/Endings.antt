@@ -1,0 +1,44 @@
+-- How an ask ended, as a C program is told.
+use Rattle.std.specs.Prelude.{ℕ, ℤ, pos, Bool, true, false, List, []}
+use Rattle.bac_service.specs.Values.{Complex}
+use Rattle.bac_service.specs.Values.Complex.{FileRead, StreamWritten, RecordsWritten, PropertyRead}
+use Rattle.bac_service.specs.Replies as reply
+use Rattle.bac_ends.specs.Meanings.{Ending, Finish}
+use Rattle.bac_c.specs.declared.records.End.{End}
+
+abbrev told : (ticket how class code : ℕ) → (position : ℤ) → End
+told ticket how class code position = record { ticket = ticket; how = how; class = class; code = code; position = position }
+
+abbrev end_mark : Bool → ℕ
+end_mark true = 1
+end_mark false = 0
+
+abbrev pub complex_end : (ticket : ℕ) → Complex → End
+complex_end t (PropertyRead reference values) = told t 0 0 0 (pos 0)
+complex_end t (FileRead end_of_file start octets) = told t 7 0 (end_mark end_of_file) start
+complex_end t (StreamWritten start) = told t 8 0 0 start
+complex_end t (RecordsWritten start) = told t 8 0 0 start
+
+abbrev pub reply_end : (ticket : ℕ) → reply.Reply → End
+reply_end t (reply.Reply.Complex c) = complex_end t c
+reply_end t reply.Reply.Simple = told t 1 0 0 (pos 0)
+reply_end t (reply.Reply.Error class code) = told t 2 class code (pos 0)
+reply_end t (reply.Reply.Reject reason) = told t 3 0 reason (pos 0)
+
+abbrev ending_end : (ticket : ℕ) → Ending → End
+ending_end t (Ending.Answered r) = reply_end t r
+ending_end t (Ending.Rejected reason) = told t 3 0 reason (pos 0)
+ending_end t (Ending.Aborted reason) = told t 4 0 reason (pos 0)
+ending_end t Ending.TimedOut = told t 5 0 0 (pos 0)
+ending_end t Ending.Expired = told t 6 0 0 (pos 0)
+
+abbrev pub end_of : Finish → End
+end_of f = ending_end f.ticket f.how
+
+-- the octets of values or of a file that came
+abbrev octets_in : Ending → List ℕ
+octets_in (Ending.Answered r) = reply.held_by r
+octets_in _ = []
+
+abbrev pub octets_of : Finish → List ℕ
+octets_of f = octets_in f.how

@@ -1,0 +1,36 @@
+-- What is listed for a node that is to be started.
+use Rattle.std.specs.Prelude.{◌≡◌, ℕ, Bool, List, [], ◌∷◌, ◌++◌, Option, Some, None, MatchOption}
+use Rattle.bac_store.specs.Stores.{Object, kind_of}
+use Rattle.bac_c.specs.declared.device.Device.{Device}
+use Rattle.bac_c.specs.Starting.{listed_in}
+
+-- an object without properties and without a file
+abbrev pub bare : (object_type instance : ℕ) → (name : List ℕ) → Object
+bare t i name = record { id = record { kind = t; instance = i }; name = name; properties = []; file = None }
+
+-- an object with one more property
+abbrev pub with_property : (number : ℕ) → (values : List ℕ) → (writable : Bool) → Object → Object
+with_property n values writable o =
+    record o { properties = o.properties ++ record { number = n; values = values; writable = writable; kind = kind_of values } ∷ [] }
+
+-- an object with octets of a file
+abbrev pub with_file : (octets : List ℕ) → (writable : Bool) → Object → Object
+with_file octets writable o = record o { file = Some (record { octets = octets; writable = writable }) }
+
+-- the last of the objects was changed
+pub record IsLastChanged (f : Object → Object) (old new : List Object) : Type 0 where
+  pub front : List Object
+  pub last : Object
+  pub was : old ≡ front ++ last ∷ []
+  pub is : new ≡ front ++ f last ∷ []
+
+-- the same objects are listed, with the same node and the same outcome
+abbrev pub IsAsListed : Device → Device → Type 0
+IsAsListed d e = (listed_in e ≡ listed_in d) × (e.node ≡ d.node)
+
+abbrev pub StaysListed : (old new : Option Device) → Type 0
+StaysListed old new = MatchOption old (new ≡ None) (λ d. MatchOption new ⊥ (IsAsListed d))
+
+-- the objects that are listed are others
+abbrev pub HasListed : (List Object → List Object → Type 0) → (old new : Option Device) → Type 0
+HasListed goes old new = MatchOption old ⊥ (λ d. MatchOption new ⊥ (λ e. goes (listed_in d) (listed_in e) × (e.node ≡ d.node)))

@@ -1,0 +1,56 @@
+-- How a node is started.
+use Rattle.std.specs.Prelude.{◌≡◌, Bool, ◌&&◌, List, Option, Some, MatchOption, map}
+use Rattle.bac_apdu.specs.Spelling.{codes_fit}
+use Rattle.bac_store.specs.Made.{IsMadeOf}
+use Rattle.bac_store.specs.House.{house}
+use Rattle.bac_store.specs.Stores.{Object, Store}
+use Rattle.bac_store.specs.Views.{object_view}
+use Rattle.bac_world.specs.Node.{Node}
+use Rattle.bac_node.specs.Fresh.{fresh_node, slots_fit, window_fits}
+use Rattle.bac_node.specs.declared.config.Config.{Config}
+use Rattle.bac_c.specs.declared.device.Device.{Device}
+use Rattle.bac_c.specs.declared.records.Settings.{Settings}
+
+-- each number is in its range
+abbrev pub is_right : Settings → Bool
+is_right s = window_fits s.window && slots_fit s.client_slots && slots_fit s.reply_slots && codes_fit s.max_segments s.max_apdu
+
+-- the configuration says what the settings say
+pub record IsConfigOf (s : Settings) (c : Config) : Type 0 where
+  pub link : c.link ≡ s.link
+  pub max_apdu : c.limits.max_apdu ≡ s.max_apdu
+  pub takes_segments : c.limits.takes_segments ≡ s.takes_segments
+  pub max_segments : c.limits.max_segments ≡ s.max_segments
+  pub window : c.window ≡ s.window
+  pub client_slots : c.client_slots ≡ s.client_slots
+  pub reply_slots : c.reply_slots ≡ s.reply_slots
+
+-- the objects that are listed
+abbrev pub listed_in : Device → List Object
+listed_in d = map object_view d.listed.items
+
+-- the node is a fresh one with the store of these objects
+pub record IsStarted (objects : List Object) (c : Config) (n : Node) : Type 0 where
+  pub store : Store
+  pub made : IsMadeOf objects store
+  pub fresh : n ≡ fresh_node c store
+
+abbrev pub IsStartedOf : List Object → Config → Option Node → Type 0
+IsStartedOf objects c node = MatchOption node ⊥ (IsStarted objects c)
+
+pub record IsStartedWith (s : Settings) (objects : List Object) (node : Option Node) : Type 0 where
+  pub config : Config
+  pub says : IsConfigOf s config
+  pub started : IsStartedOf objects config node
+
+pub record IsHouseWith (s : Settings) (node : Option Node) : Type 0 where
+  pub config : Config
+  pub says : IsConfigOf s config
+  pub fresh : node ≡ Some (fresh_node config house)
+
+-- the node runs with the listed objects, as the settings say
+abbrev pub HasStarted : Settings → (old new : Option Device) → Type 0
+HasStarted s old new = MatchOption old ⊥ (λ d. MatchOption new ⊥ (λ e. IsStartedWith s (listed_in d) e.node))
+
+abbrev pub HasHouse : Settings → (new : Option Device) → Type 0
+HasHouse s new = MatchOption new ⊥ (λ e. IsHouseWith s e.node)

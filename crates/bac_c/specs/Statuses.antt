@@ -1,0 +1,85 @@
+-- The status of a call, as a C program sees it: 0 where it was done, otherwise the number of a fault (own numbers of this library).
+use Rattle.std.specs.Prelude.{ℕ, Result, Ok, Err}
+use Rattle.bac_c.specs.declared.fault.Fault.{Fault}
+use Rattle.bac_c.specs.declared.fault.Fault.TheVariants as fault
+
+abbrev pub DONE : ℕ
+DONE = 0
+
+abbrev pub CLOCK_BACK : ℕ
+CLOCK_BACK = 1
+
+abbrev pub NO_MEMORY : ℕ
+NO_MEMORY = 2
+
+abbrev pub NOT_OPEN : ℕ
+NOT_OPEN = 3
+
+abbrev pub NOT_STARTED : ℕ
+NOT_STARTED = 4
+
+abbrev pub ALREADY_OPEN : ℕ
+ALREADY_OPEN = 5
+
+abbrev pub ALREADY_STARTED : ℕ
+ALREADY_STARTED = 6
+
+abbrev pub BAD_SETTINGS : ℕ
+BAD_SETTINGS = 7
+
+abbrev pub BAD_OBJECT : ℕ
+BAD_OBJECT = 8
+
+abbrev pub DUPLICATE : ℕ
+DUPLICATE = 9
+
+abbrev pub BAD_REQUEST : ℕ
+BAD_REQUEST = 10
+
+abbrev pub SELF_PEER : ℕ
+SELF_PEER = 11
+
+abbrev pub TOO_LONG : ℕ
+TOO_LONG = 12
+
+abbrev pub NEEDS_SEGMENTS : ℕ
+NEEDS_SEGMENTS = 13
+
+abbrev pub NO_INVOKE_ID : ℕ
+NO_INVOKE_ID = 14
+
+abbrev pub NO_SLOT : ℕ
+NO_SLOT = 15
+
+abbrev pub NO_SUCH_OBJECT : ℕ
+NO_SUCH_OBJECT = 16
+
+abbrev pub NO_SUCH_PROPERTY : ℕ
+NO_SUCH_PROPERTY = 17
+
+abbrev pub BAD_VALUE : ℕ
+BAD_VALUE = 18
+
+abbrev pub fault_number : Fault → ℕ
+fault_number fault.ClockBack = CLOCK_BACK
+fault_number fault.NoMemory = NO_MEMORY
+fault_number fault.NotOpen = NOT_OPEN
+fault_number fault.NotStarted = NOT_STARTED
+fault_number fault.AlreadyOpen = ALREADY_OPEN
+fault_number fault.AlreadyStarted = ALREADY_STARTED
+fault_number fault.BadSettings = BAD_SETTINGS
+fault_number fault.BadObject = BAD_OBJECT
+fault_number fault.Duplicate = DUPLICATE
+fault_number fault.BadRequest = BAD_REQUEST
+fault_number fault.SelfPeer = SELF_PEER
+fault_number fault.TooLong = TOO_LONG
+fault_number fault.NeedsSegments = NEEDS_SEGMENTS
+fault_number fault.NoInvokeId = NO_INVOKE_ID
+fault_number fault.NoSlot = NO_SLOT
+fault_number fault.NoSuchObject = NO_SUCH_OBJECT
+fault_number fault.NoSuchProperty = NO_SUCH_PROPERTY
+fault_number fault.BadValue = BAD_VALUE
+
+abbrev pub status_of : Result (Unit {0}) Fault → ℕ
+status_of (Ok _) = DONE
+status_of (Err f) = fault_number f

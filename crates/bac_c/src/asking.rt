@@ -1,0 +1,217 @@
+//! Asks.
+ghost use Rattle.std.specs.Prelude.{◌≡◌, ◌≢◌, ◌↔◌, IfErr, IfOk, IfSome, None, OnErr};
+ghost use Rattle.bac_service.specs.Views.{owned_request_view};
+ghost use Rattle.bac_c.specs.Asking.{fault_for, get_of, put_of, read_of, write_of, AskRefused, HasAsked, IsAsking, IsRefusedAsk};
+ghost use Rattle.bac_c.specs.Devices.{Ran};
+ghost use Rattle.bac_c.specs.Statuses.{DONE, NOT_OPEN};
+
+use crate::device::Device;
+use crate::fault::{Fault, status};
+use crate::handle::Handle;
+use crate::records::{Reference, Target};
+use crate::requests::{get_request, put_request, read_request, write_request};
+use bac_apdu::Limits;
+use bac_node::Outcome;
+use bac_npdu::Peer;
+use bac_requester::{AskFault, Asked};
+use bac_service::OwnedRequest;
+use std::alloc::Global;
+
+/// The fault of an ask.
+fn fault_of(fault: AskFault) -> Fault
+    ensures { result ≡ fault_for fault }
+{
+    match fault {
+        AskFault::ClockBack => Fault::ClockBack,
+        AskFault::SelfPeer => Fault::SelfPeer,
+        AskFault::TooLong => Fault::TooLong,
+        AskFault::NeedsSegments => Fault::NeedsSegments,
+        AskFault::NoInvokeId => Fault::NoInvokeId,
+        AskFault::NoSlot => Fault::NoSlot,
+        AskFault::NoMemory => Fault::NoMemory,
+    }
+}
+
+impl Device {
+    /// Asks a peer, at a moment in milliseconds: the ticket's number.
+    pub fn ask(
+        &mut self,
+        alloc: Global,
+        now: u64,
+        target: &Target,
+        request: &OwnedRequest,
+    ) -> Result<u64, Fault>
+        ensures asked { IfOk result (λ t. Ran (IsAsking now target.now (owned_request_view request.now) t) self.old self.new) }
+        ensures refused { IfErr result (λ e. AskRefused e now target.now (owned_request_view request.now) self.old) }
+        ensures err { OnErr result (self.new ≡ self.old) }
+    {
+        let Some(node) = &mut self.node else {
+            return Err(Fault::NotStarted);
+        };
+        let Some(limits) = Limits::new(target.max_apdu, target.takes_segments, target.max_segments)
+        else {
+            return Err(Fault::BadRequest);
+        };
+        let peer = Peer {
+            link: target.link,
+            route: None,
+        };
+        match node.ask(now, &peer, &limits, request) {
+            Ok(
+                Asked {
+                    ticket,
+                    invoke_id: _,
+                    sends,
+                },
+            ) => {
+                self.outcome = Outcome {
+                    sends,
+                    effect: None,
+                    ended: Vec::new(alloc),
+                    dropped: None,
+                };
+                Ok(ticket)
+            }
+            Err(fault) => Err(fault_of(fault)),
+        }
+    }
+}
+
+/// Asks a peer: the status, and the ticket is put out.
+#[tactic(auto, using(crate::proofs::Refusals::done_refuses, crate::proofs::Refusals::refuses))]
+fn ask_by(
+    alloc: Global,
+    handle: &mut Handle,
+    now: u64,
+    target: &Target,
+    request: &OwnedRequest,
+    ticket: &mut u64,
+) -> u32
+    ensures went { result ≡ DONE → HasAsked now target.now (owned_request_view request.now) ticket.new handle.old.parked.device handle.new.parked.device }
+    ensures closed { (result ≡ NOT_OPEN) ↔ (handle.old.parked.device ≡ None) }
+    ensures refused { IfSome handle.old.parked.device (IsRefusedAsk result now target.now (owned_request_view request.now)) }
+    ensures err { result ≢ DONE → handle.new.parked.device ≡ handle.old.parked.device }
+{
+    let Some(mut device) = handle.take(alloc) else {
+        return status(Err(Fault::NotOpen));
+    };
+    let asked = device.ask(alloc, now, target, request);
+    *handle = Handle::of(device);
+    match asked {
+        Ok(number) => {
+            *ticket = number;
+            status(Ok(()))
+        }
+        Err(fault) => status(Err(fault)),
+    }
+}
+
+/// Asks for a property, at a moment in milliseconds.
+#[unsafe(no_mangle)]
+#[tactic(auto, using(crate::proofs::Refusals::unready_refuses, crate::proofs::Refusals::unready_is_open))]
+pub extern "C" fn bac_ask_read(
+    alloc: Global,
+    handle: &mut Handle,
+    now: u64,
+    target: &Target,
+    reference: &Reference,
+    ticket: &mut u64,
+) -> u32
+    ensures went { result ≡ DONE → HasAsked now target.now (read_of reference.now) ticket.new handle.old.parked.device handle.new.parked.device }
+    ensures closed { (result ≡ NOT_OPEN) ↔ (handle.old.parked.device ≡ None) }
+    ensures refused { IfSome handle.old.parked.device (IsRefusedAsk result now target.now (read_of reference.now)) }
+    ensures err { result ≢ DONE → handle.new.parked.device ≡ handle.old.parked.device }
+{
+    if !handle.is_open() {
+        return status(Err(Fault::NotOpen));
+    }
+    let request = match read_request(reference) {
+        Ok(request) => request,
+        Err(fault) => return status(Err(fault)),
+    };
+    ask_by(alloc, handle, now, target, &request, ticket)
+}
+
+/// Asks to write octets of data to a property, with a priority where it is not 0.
+#[unsafe(no_mangle)]
+#[tactic(auto, using(crate::proofs::Refusals::unready_refuses, crate::proofs::Refusals::unready_is_open))]
+pub extern "C" fn bac_ask_write(
+    alloc: Global,
+    handle: &mut Handle,
+    now: u64,
+    target: &Target,
+    reference: &Reference,
+    octets: &[u8],
+    priority: u8,
+    ticket: &mut u64,
+) -> u32
+    ensures went { result ≡ DONE → HasAsked now target.now (write_of reference.now octets.now priority) ticket.new handle.old.parked.device handle.new.parked.device }
+    ensures closed { (result ≡ NOT_OPEN) ↔ (handle.old.parked.device ≡ None) }
+    ensures refused { IfSome handle.old.parked.device (IsRefusedAsk result now target.now (write_of reference.now octets.now priority)) }
+    ensures err { result ≢ DONE → handle.new.parked.device ≡ handle.old.parked.device }
+{
+    if !handle.is_open() {
+        return status(Err(Fault::NotOpen));
+    }
+    let request = match write_request(alloc, reference, octets, priority) {
+        Ok(request) => request,
+        Err(fault) => return status(Err(fault)),
+    };
+    ask_by(alloc, handle, now, target, &request, ticket)
+}
+
+/// Asks to write octets to a file from a position on; position -1 appends them.
+#[unsafe(no_mangle)]
+#[tactic(auto, using(crate::proofs::Refusals::unready_refuses, crate::proofs::Refusals::unready_is_open))]
+pub extern "C" fn bac_ask_put(
+    alloc: Global,
+    handle: &mut Handle,
+    now: u64,
+    target: &Target,
+    file: u32,
+    position: i64,
+    octets: &[u8],
+    ticket: &mut u64,
+) -> u32
+    ensures went { result ≡ DONE → HasAsked now target.now (put_of file position octets.now) ticket.new handle.old.parked.device handle.new.parked.device }
+    ensures closed { (result ≡ NOT_OPEN) ↔ (handle.old.parked.device ≡ None) }
+    ensures refused { IfSome handle.old.parked.device (IsRefusedAsk result now target.now (put_of file position octets.now)) }
+    ensures err { result ≢ DONE → handle.new.parked.device ≡ handle.old.parked.device }
+{
+    if !handle.is_open() {
+        return status(Err(Fault::NotOpen));
+    }
+    let request = match put_request(alloc, file, position, octets) {
+        Ok(request) => request,
+        Err(fault) => return status(Err(fault)),
+    };
+    ask_by(alloc, handle, now, target, &request, ticket)
+}
+
+/// Asks for so many octets of a file from a position on.
+#[unsafe(no_mangle)]
+#[tactic(auto, using(crate::proofs::Refusals::unready_refuses, crate::proofs::Refusals::unready_is_open))]
+pub extern "C" fn bac_ask_get(
+    alloc: Global,
+    handle: &mut Handle,
+    now: u64,
+    target: &Target,
+    file: u32,
+    position: i64,
+    count: u64,
+    ticket: &mut u64,
+) -> u32
+    ensures went { result ≡ DONE → HasAsked now target.now (get_of file position count) ticket.new handle.old.parked.device handle.new.parked.device }
+    ensures closed { (result ≡ NOT_OPEN) ↔ (handle.old.parked.device ≡ None) }
+    ensures refused { IfSome handle.old.parked.device (IsRefusedAsk result now target.now (get_of file position count)) }
+    ensures err { result ≢ DONE → handle.new.parked.device ≡ handle.old.parked.device }
+{
+    if !handle.is_open() {
+        return status(Err(Fault::NotOpen));
+    }
+    let request = match get_request(file, position, count) {
+        Ok(request) => request,
+        Err(fault) => return status(Err(fault)),
+    };
+    ask_by(alloc, handle, now, target, &request, ticket)
+}

@@ -1,0 +1,26 @@
+//! The node for programs in C: a static library, with the header include/bac.h.
+//!
+//! A C program holds a [`Handle`](crate::handle::Handle). Each call takes the device out of it, works on it in safe code, and puts it back. No call
+//! requires anything of what a handle holds: each answers a status.
+#![tactic(auto)]
+
+mod asking;
+mod changing;
+mod copying;
+mod device;
+mod ending;
+mod fault;
+mod handle;
+mod listed;
+mod listing;
+mod opening;
+mod parked;
+mod performing;
+mod reading;
+mod records;
+mod requests;
+mod results;
+mod settings;
+mod slots;
+mod starting;
+mod turns;

@@ -1,0 +1,226 @@
+//! The objects of a node that is to be started.
+ghost use Rattle.std.specs.Prelude.{◌≡◌, ◌≢◌, ◌↔◌, ◌++◌, ◌∷◌, [], IfOk, IsErrOf, IsTrue, None, OnErr, OnOk};
+ghost use Rattle.bac_store.specs.Views.{object_view};
+ghost use Rattle.bac_c.specs.Devices.{Holds};
+ghost use Rattle.bac_c.specs.Listing.{bare, with_file, with_property, HasListed, IsLastChanged, StaysListed};
+ghost use Rattle.bac_c.specs.Starting.{listed_in};
+ghost use Rattle.bac_c.specs.Statuses.{ALREADY_STARTED, DONE, NOT_OPEN};
+
+use crate::device::Device;
+use crate::fault::{Fault, status};
+use crate::handle::Handle;
+use bac_store::{File, Object, Property};
+use bac_value::{DataBuf, ObjectIdentifier, read_data};
+use std::alloc::Global;
+
+/// The identifier of an object; `BadObject` where a number is outside its range.
+fn object_of(object_type: u16, instance: u32) -> Result<ObjectIdentifier, Fault>
+    ensures same { IfOk result (λ o. (o.kind ≡ object_type) × (o.instance ≡ instance)) }
+    ensures bad { OnErr result (IsErrOf result Fault.BadObject) }
+{
+    if object_type >= 1_024 || instance >= 0x40_0000 {
+        return Err(Fault::BadObject);
+    }
+    Ok(ObjectIdentifier {
+        kind: object_type,
+        instance,
+    })
+}
+
+/// Octets that are data as a whole (clause 20.2), with their own memory.
+fn values_of(alloc: Global, octets: &[u8]) -> Result<DataBuf, Fault>
+    ensures same { IfOk result (λ d. d.octets.items ≡ octets.now) }
+    ensures started { IsErrOf result Fault.AlreadyStarted → ⊥ }
+    ensures open { IsErrOf result Fault.NotOpen → ⊥ }
+{
+    let Ok((data, len)) = read_data(octets) else {
+        return Err(Fault::BadObject);
+    };
+    if len != octets.len() {
+        return Err(Fault::BadObject);
+    }
+    match data.to_owned(alloc) {
+        Ok(values) => Ok(values),
+        Err(_) => Err(Fault::NoMemory),
+    }
+}
+
+/// An object of that name, in UTF-8, without properties and without a file.
+fn bare_object(alloc: Global, object_type: u16, instance: u32, name: &[u8]) -> Result<Object, Fault>
+    ensures bare { IfOk result (λ o. object_view o ≡ bare object_type instance name.now) }
+    ensures started { IsErrOf result Fault.AlreadyStarted → ⊥ }
+    ensures open { IsErrOf result Fault.NotOpen → ⊥ }
+{
+    let id = object_of(object_type, instance)?;
+    let Ok(text) = std::str::from_utf8(name) else {
+        return Err(Fault::BadObject);
+    };
+    let Ok(name) = String::from_str(alloc, text) else {
+        return Err(Fault::NoMemory);
+    };
+    Ok(Object {
+        id,
+        name,
+        properties: Vec::new(alloc),
+        file: None,
+    })
+}
+
+/// An object with one more property, and whether there was memory for it; the object as it was otherwise.
+fn one_more(object: Object, property: Property) -> (Object, bool)
+    ensures more { IsTrue result.1 → object_view result.0 ≡ with_property property.number property.values.octets.items property.writable (object_view object) }
+    ensures same { (IsTrue result.1 → ⊥) → object_view result.0 ≡ object_view object }
+{
+    let mut object = object;
+    let done = object.properties.push(property).is_ok();
+    (object, done)
+}
+
+impl Device {
+    /// Lists an object.
+    #[tactic(auto, using(crate::proofs::Lists::one_added))]
+    pub fn add_object(
+        &mut self,
+        alloc: Global,
+        object_type: u16,
+        instance: u32,
+        name: &[u8],
+    ) -> Result<(), Fault>
+        ensures listed { OnOk result (listed_in self.new ≡ listed_in self.old ++ bare object_type instance name.now ∷ []) }
+        ensures again { IsErrOf result Fault.AlreadyStarted ↔ (self.old.node ≢ None) }
+        ensures open { IsErrOf result Fault.NotOpen → ⊥ }
+        ensures node { self.new.node ≡ self.old.node }
+        ensures err { OnErr result (listed_in self.new ≡ listed_in self.old) }
+    {
+        if self.node.is_some() {
+            return Err(Fault::AlreadyStarted);
+        }
+        let object = bare_object(alloc, object_type, instance, name)?;
+        match self.listed.push(object) {
+            Ok(()) => Ok(()),
+            Err(_) => Err(Fault::NoMemory),
+        }
+    }
+
+    /// Lists a property of the object that was listed last, with values as octets of data.
+    #[tactic(auto, using(crate::proofs::Lists::last_changed, crate::proofs::Lists::last_kept))]
+    pub fn add_property(
+        &mut self,
+        alloc: Global,
+        number: u32,
+        octets: &[u8],
+        writable: bool,
+    ) -> Result<(), Fault>
+        ensures listed { OnOk result (IsLastChanged (with_property number octets.now writable) (listed_in self.old) (listed_in self.new)) }
+        ensures again { IsErrOf result Fault.AlreadyStarted ↔ (self.old.node ≢ None) }
+        ensures open { IsErrOf result Fault.NotOpen → ⊥ }
+        ensures node { self.new.node ≡ self.old.node }
+        ensures err { OnErr result (listed_in self.new ≡ listed_in self.old) }
+    {
+        if self.node.is_some() {
+            return Err(Fault::AlreadyStarted);
+        }
+        let values = values_of(alloc, octets)?;
+        let Some(object) = self.listed.pop() else {
+            return Err(Fault::BadObject);
+        };
+        let (object, done) = one_more(
+            object,
+            Property {
+                number,
+                values,
+                writable,
+            },
+        );
+        self.listed.push_reserved(object);
+        if done { Ok(()) } else { Err(Fault::NoMemory) }
+    }
+
+    /// Gives the object that was listed last octets of a file.
+    #[tactic(auto, using(crate::proofs::Lists::last_changed))]
+    pub fn add_file(&mut self, alloc: Global, octets: &[u8], writable: bool) -> Result<(), Fault>
+        ensures listed { OnOk result (IsLastChanged (with_file octets.now writable) (listed_in self.old) (listed_in self.new)) }
+        ensures again { IsErrOf result Fault.AlreadyStarted ↔ (self.old.node ≢ None) }
+        ensures open { IsErrOf result Fault.NotOpen → ⊥ }
+        ensures node { self.new.node ≡ self.old.node }
+        ensures err { OnErr result (listed_in self.new ≡ listed_in self.old) }
+    {
+        if self.node.is_some() {
+            return Err(Fault::AlreadyStarted);
+        }
+        let Ok(octets) = Vec::from_slice(alloc, octets) else {
+            return Err(Fault::NoMemory);
+        };
+        let Some(mut object) = self.listed.pop() else {
+            return Err(Fault::BadObject);
+        };
+        object.file = Some(File { octets, writable });
+        self.listed.push_reserved(object);
+        Ok(())
+    }
+}
+
+/// Lists an object.
+#[unsafe(no_mangle)]
+pub extern "C" fn bac_add_object(
+    alloc: Global,
+    handle: &mut Handle,
+    object_type: u16,
+    instance: u32,
+    name: &[u8],
+) -> u32
+    ensures went { result ≡ DONE → HasListed (λ a b. b ≡ a ++ bare object_type instance name.now ∷ []) handle.old.parked.device handle.new.parked.device }
+    ensures closed { (result ≡ NOT_OPEN) ↔ (handle.old.parked.device ≡ None) }
+    ensures again { (result ≡ ALREADY_STARTED) ↔ Holds (λ d. d.node ≢ None) handle.old.parked.device }
+    ensures err { result ≢ DONE → StaysListed handle.old.parked.device handle.new.parked.device }
+{
+    let Some(mut device) = handle.take(alloc) else {
+        return status(Err(Fault::NotOpen));
+    };
+    let done = device.add_object(alloc, object_type, instance, name);
+    *handle = Handle::of(device);
+    status(done)
+}
+
+/// Lists a property of the object that was listed last.
+#[unsafe(no_mangle)]
+pub extern "C" fn bac_add_property(
+    alloc: Global,
+    handle: &mut Handle,
+    number: u32,
+    octets: &[u8],
+    writable: bool,
+) -> u32
+    ensures went { result ≡ DONE → HasListed (IsLastChanged (with_property number octets.now writable)) handle.old.parked.device handle.new.parked.device }
+    ensures closed { (result ≡ NOT_OPEN) ↔ (handle.old.parked.device ≡ None) }
+    ensures again { (result ≡ ALREADY_STARTED) ↔ Holds (λ d. d.node ≢ None) handle.old.parked.device }
+    ensures err { result ≢ DONE → StaysListed handle.old.parked.device handle.new.parked.device }
+{
+    let Some(mut device) = handle.take(alloc) else {
+        return status(Err(Fault::NotOpen));
+    };
+    let done = device.add_property(alloc, number, octets, writable);
+    *handle = Handle::of(device);
+    status(done)
+}
+
+/// Gives the object that was listed last octets of a file.
+#[unsafe(no_mangle)]
+pub extern "C" fn bac_add_file(
+    alloc: Global,
+    handle: &mut Handle,
+    octets: &[u8],
+    writable: bool,
+) -> u32
+    ensures went { result ≡ DONE → HasListed (IsLastChanged (with_file octets.now writable)) handle.old.parked.device handle.new.parked.device }
+    ensures closed { (result ≡ NOT_OPEN) ↔ (handle.old.parked.device ≡ None) }
+    ensures again { (result ≡ ALREADY_STARTED) ↔ Holds (λ d. d.node ≢ None) handle.old.parked.device }
+    ensures err { result ≢ DONE → StaysListed handle.old.parked.device handle.new.parked.device }
+{
+    let Some(mut device) = handle.take(alloc) else {
+        return status(Err(Fault::NotOpen));
+    };
+    let done = device.add_file(alloc, octets, writable);
+    *handle = Handle::of(device);
+    status(done)
+}

@@ -1,0 +1,135 @@
+//! Start.
+ghost use Rattle.std.specs.Prelude.{◌≡◌, ◌≢◌, ◌↔◌, map, true, IfOk, IsErrOf, IsTrue, None, OnErr, OnOk, Some};
+ghost use Rattle.bac_node.specs.Fresh.{fresh_node, has_slots, window_fits};
+ghost use Rattle.bac_store.specs.Made.{IsBad, IsMadeOf};
+ghost use Rattle.bac_store.specs.Objects.{AreDistinct};
+ghost use Rattle.bac_store.specs.Views.{object_view};
+ghost use Rattle.bac_c.specs.Devices.{Holds, IsIdle};
+ghost use Rattle.bac_c.specs.Starting.{HasHouse, HasStarted, IsHouseWith, IsStartedWith, is_right, listed_in};
+ghost use Rattle.bac_c.specs.Statuses.{ALREADY_STARTED, BAD_OBJECT, BAD_SETTINGS, DONE, DUPLICATE, NOT_OPEN};
+
+use crate::device::{Device, no_outcome};
+use crate::fault::{Fault, status};
+use crate::handle::Handle;
+use crate::listed::copied_objects;
+use crate::records::Settings;
+use crate::settings::config_of;
+use bac_node::{Config, NewNodeFault, Node};
+use bac_store::{Object, Store, StoreFault, house};
+use std::alloc::Global;
+
+/// The store of some objects.
+fn store_of(alloc: Global, objects: Vec<Object>) -> Result<Store, Fault>
+    ensures made { IfOk result (IsMadeOf (map object_view objects.items)) }
+    ensures duplicate { IsErrOf result Fault.Duplicate → AreDistinct (map object_view objects.items) → ⊥ }
+    ensures bad { IsErrOf result Fault.BadObject → IsBad (map object_view objects.items) }
+    ensures started { IsErrOf result Fault.AlreadyStarted → ⊥ }
+    ensures settings { IsErrOf result Fault.BadSettings → ⊥ }
+    ensures open { IsErrOf result Fault.NotOpen → ⊥ }
+{
+    match Store::new(alloc, objects) {
+        Ok(store) => Ok(store),
+        Err(StoreFault::Duplicate) => Err(Fault::Duplicate),
+        Err(StoreFault::BadObject) => Err(Fault::BadObject),
+        Err(StoreFault::NoMemory) => Err(Fault::NoMemory),
+    }
+}
+
+/// A node with that store.
+fn node_of(alloc: Global, config: Config, store: Store) -> Result<Node, Fault>
+    requires slots { has_slots config ≡ true }
+    requires window { window_fits config.window ≡ true }
+    ensures fresh { IfOk result (λ n. n ≡ fresh_node config store) }
+    ensures memory { OnErr result (IsErrOf result Fault.NoMemory) }
+{
+    match Node::new(alloc, config, store) {
+        Ok(node) => Ok(node),
+        Err(NewNodeFault::BadSlots | NewNodeFault::BadWindow) => unreachable!(),
+        Err(NewNodeFault::NoMemory) => Err(Fault::NoMemory),
+    }
+}
+
+impl Device {
+    /// Starts the node with the objects that are listed. They stay listed where it is not started.
+    pub fn start(&mut self, alloc: Global, settings: &Settings) -> Result<(), Fault>
+        ensures started { OnOk result (IsStartedWith settings.now (listed_in self.old) self.new.node) }
+        ensures again { IsErrOf result Fault.AlreadyStarted ↔ (self.old.node ≢ None) }
+        ensures settings { IsErrOf result Fault.BadSettings ↔ IsIdle self.old × (IsTrue (is_right settings.now) → ⊥) }
+        ensures open { IsErrOf result Fault.NotOpen → ⊥ }
+        ensures duplicate { IsErrOf result Fault.Duplicate → AreDistinct (listed_in self.old) → ⊥ }
+        ensures bad { IsErrOf result Fault.BadObject → IsBad (listed_in self.old) }
+        ensures err { OnErr result (self.new ≡ self.old) }
+    {
+        if self.node.is_some() {
+            return Err(Fault::AlreadyStarted);
+        }
+        let config = config_of(settings)?;
+        let Ok(objects) = copied_objects(alloc, &self.listed) else {
+            return Err(Fault::NoMemory);
+        };
+        let store = store_of(alloc, objects)?;
+        let node = node_of(alloc, config, store)?;
+        self.listed = Vec::new(alloc);
+        self.node = Some(node);
+        self.outcome = no_outcome(alloc);
+        Ok(())
+    }
+
+    /// Starts the node with the house's objects, and with none that are listed.
+    pub fn start_house(&mut self, alloc: Global, settings: &Settings) -> Result<(), Fault>
+        ensures started { OnOk result (IsHouseWith settings.now self.new.node) }
+        ensures again { IsErrOf result Fault.AlreadyStarted ↔ (self.old.node ≢ None) }
+        ensures settings { IsErrOf result Fault.BadSettings ↔ IsIdle self.old × (IsTrue (is_right settings.now) → ⊥) }
+        ensures open { IsErrOf result Fault.NotOpen → ⊥ }
+        ensures err { OnErr result (self.new ≡ self.old) }
+    {
+        if self.node.is_some() {
+            return Err(Fault::AlreadyStarted);
+        }
+        let config = config_of(settings)?;
+        let Ok(store) = house(alloc) else {
+            return Err(Fault::NoMemory);
+        };
+        let node = node_of(alloc, config, store)?;
+        self.listed = Vec::new(alloc);
+        self.node = Some(node);
+        self.outcome = no_outcome(alloc);
+        Ok(())
+    }
+}
+
+/// Starts the node with the objects that are listed.
+#[unsafe(no_mangle)]
+pub extern "C" fn bac_start(alloc: Global, handle: &mut Handle, settings: &Settings) -> u32
+    ensures went { result ≡ DONE → HasStarted settings.now handle.old.parked.device handle.new.parked.device }
+    ensures closed { (result ≡ NOT_OPEN) ↔ (handle.old.parked.device ≡ None) }
+    ensures again { (result ≡ ALREADY_STARTED) ↔ Holds (λ d. d.node ≢ None) handle.old.parked.device }
+    ensures duplicate { result ≡ DUPLICATE → Holds (λ d. AreDistinct (listed_in d) → ⊥) handle.old.parked.device }
+    ensures bad { result ≡ BAD_OBJECT → Holds (λ d. IsBad (listed_in d)) handle.old.parked.device }
+    ensures settings { (result ≡ BAD_SETTINGS) ↔ Holds (λ d. IsIdle d × (IsTrue (is_right settings.now) → ⊥)) handle.old.parked.device }
+    ensures err { result ≢ DONE → handle.new.parked.device ≡ handle.old.parked.device }
+{
+    let Some(mut device) = handle.take(alloc) else {
+        return status(Err(Fault::NotOpen));
+    };
+    let done = device.start(alloc, settings);
+    *handle = Handle::of(device);
+    status(done)
+}
+
+/// Starts the node with the house's objects.
+#[unsafe(no_mangle)]
+pub extern "C" fn bac_start_house(alloc: Global, handle: &mut Handle, settings: &Settings) -> u32
+    ensures went { result ≡ DONE → HasHouse settings.now handle.new.parked.device }
+    ensures closed { (result ≡ NOT_OPEN) ↔ (handle.old.parked.device ≡ None) }
+    ensures again { (result ≡ ALREADY_STARTED) ↔ Holds (λ d. d.node ≢ None) handle.old.parked.device }
+    ensures settings { (result ≡ BAD_SETTINGS) ↔ Holds (λ d. IsIdle d × (IsTrue (is_right settings.now) → ⊥)) handle.old.parked.device }
+    ensures err { result ≢ DONE → handle.new.parked.device ≡ handle.old.parked.device }
+{
+    let Some(mut device) = handle.take(alloc) else {
+        return status(Err(Fault::NotOpen));
+    };
+    let done = device.start_house(alloc, settings);
+    *handle = Handle::of(device);
+    status(done)
+}

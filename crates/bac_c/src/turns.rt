@@ -1,0 +1,68 @@
+//! Datagrams and time.
+ghost use Rattle.std.specs.Prelude.{◌≡◌, ◌≢◌, ◌↔◌, ◌<◌, ◌≤◌, None, Some, IfSome, MatchOption};
+ghost use Rattle.bac_node.specs.Waiting.{MovesAt, RestsUntil};
+ghost use Rattle.bac_ticket.specs.Timers.{LAST_MOMENT};
+ghost use Rattle.bac_world.specs.Node.{NodeOn, NodeTick};
+ghost use Rattle.bac_c.specs.Devices.{HasRun, Holds, IsIdle, Runs};
+ghost use Rattle.bac_c.specs.Statuses.{CLOCK_BACK, DONE, NOT_OPEN, NOT_STARTED};
+
+use crate::fault::{Fault, status};
+use crate::handle::Handle;
+use std::alloc::Global;
+
+/// A datagram comes from a link, at a moment in milliseconds.
+#[unsafe(no_mangle)]
+pub extern "C" fn bac_on(
+    alloc: Global,
+    handle: &mut Handle,
+    now: u64,
+    from: &[u8; 6],
+    octets: &[u8],
+) -> u32
+    ensures went { result ≡ DONE → HasRun (NodeOn now from.now octets.now) handle.old.parked.device handle.new.parked.device }
+    ensures closed { (result ≡ NOT_OPEN) ↔ (handle.old.parked.device ≡ None) }
+    ensures idle { (result ≡ NOT_STARTED) ↔ Holds IsIdle handle.old.parked.device }
+    ensures early { (result ≡ CLOCK_BACK) ↔ Holds (Runs (λ n. now < n.latest)) handle.old.parked.device }
+    ensures few { result ≤ NOT_STARTED }
+    ensures err { result ≢ DONE → handle.new.parked.device ≡ handle.old.parked.device }
+{
+    let Some(mut device) = handle.take(alloc) else {
+        return status(Err(Fault::NotOpen));
+    };
+    let done = device.on(now, *from, octets);
+    *handle = Handle::of(device);
+    status(done)
+}
+
+/// A tick, at a moment in milliseconds.
+#[unsafe(no_mangle)]
+pub extern "C" fn bac_tick(alloc: Global, handle: &mut Handle, now: u64) -> u32
+    ensures went { result ≡ DONE → HasRun (NodeTick now) handle.old.parked.device handle.new.parked.device }
+    ensures closed { (result ≡ NOT_OPEN) ↔ (handle.old.parked.device ≡ None) }
+    ensures idle { (result ≡ NOT_STARTED) ↔ Holds IsIdle handle.old.parked.device }
+    ensures early { (result ≡ CLOCK_BACK) ↔ Holds (Runs (λ n. now < n.latest)) handle.old.parked.device }
+    ensures few { result ≤ NOT_STARTED }
+    ensures err { result ≢ DONE → handle.new.parked.device ≡ handle.old.parked.device }
+{
+    let Some(mut device) = handle.take(alloc) else {
+        return status(Err(Fault::NotOpen));
+    };
+    let done = device.tick(now);
+    *handle = Handle::of(device);
+    status(done)
+}
+
+/// The first moment at which a tick does anything, in milliseconds; 2^64 - 1 where the handle holds no node that is started, or nothing is due.
+#[unsafe(no_mangle)]
+pub extern "C" fn bac_next_due(alloc: Global, handle: &mut Handle) -> u64
+    ensures rests { IfSome handle.old.parked.device (λ d. IfSome d.node (RestsUntil result)) }
+    ensures moves { result ≢ LAST_MOMENT → Holds (Runs (MovesAt result)) handle.old.parked.device }
+    ensures same { handle.new.parked.device ≡ handle.old.parked.device }
+{
+    let Some(device) = handle.take(alloc) else {
+        return u64::MAX;
+    };
+    let due = device.next_due();
+    *handle = Handle::of(device);
+    due.unwrap_or(u64::MAX)
+}

@@ -1,0 +1,8 @@
+mod DecimalDigits
+mod Parts
+mod Characters
+mod BitStrings
+mod Floats
+mod Fields
+mod Objects
+mod Values

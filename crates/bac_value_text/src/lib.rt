@@ -1,0 +1,19 @@
+//! Application values as text, and text as values: each kind has a name, and a value is printed as the name of its kind, a separator and the value.
+//!
+//! What is printed of a value reads as that value, and as no other.
+#![tactic(auto)]
+
+mod body_printing;
+mod body_reading;
+mod laws;
+mod numbers;
+mod separator;
+mod value_fault;
+mod value_printing;
+mod value_reading;
+
+pub use laws::printed_values_are_read;
+pub use separator::Separator;
+pub use value_fault::ValueFault;
+pub use value_printing::value_text;
+pub use value_reading::read_value;
