@@ -1,7 +1,6 @@
 -- The C library's heap as the allocator of a box of a device: what calls of `Box::into_raw` and `Box::from_raw` ask of it.
 use Rattle.std.proofs.Common.{[], ◌∷◌, refl}
 use mir.Syntax.{Dict, impl, tnil, tcons, dnil}
-use mir.Val.{Val}
 use denote.RattleType.{RattleType}
 use mir.Raw.{raw as bare}
 use denote.Exit.{no}

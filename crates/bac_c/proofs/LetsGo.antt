@@ -1,5 +1,5 @@
 -- What lets a device go, as `Box::into_raw` asks for it: the device's own drop.
-use Rattle.std.proofs.Common.{List, [], ◌∷◌, refl}
+use Rattle.std.proofs.Common.{[], ◌∷◌, refl}
 use mir.Syntax.{Dict, Callee, impl, method, tnil, dnil}
 use prog.Wired.{Wired}
 use denote.Param.{layouts}

@@ -1,5 +1,5 @@
 -- A parked address: its machine word, and how it is made and taken apart. Nothing follows the address.
-use Rattle.std.proofs.Common.{◌≡◌, ℕ, List, [], ◌∷◌, refl, lit<}
+use Rattle.std.proofs.Common.{◌≡◌, List, [], ◌∷◌, refl, lit<}
 use Rattle.std.specs.Prelude.{Option, None, Some}
 use lib.Dec.{T}
 use seplogic.Ra.Ura.{Ura}

@@ -1,6 +1,6 @@
 -- What is listed for a node that is to be started.
-use Rattle.std.specs.Prelude.{◌≡◌, ◌<◌, ◌^◌, ℕ, Bool, List, [], ◌∷◌, ◌++◌, Option, Some, None, MatchOption}
-use Rattle.bac_store.specs.Stores.{Object, Property, File, kind_of}
+use Rattle.std.specs.Prelude.{◌≡◌, ℕ, Bool, List, [], ◌∷◌, ◌++◌, Option, Some, None, MatchOption}
+use Rattle.bac_store.specs.Stores.{Object, kind_of}
 use Rattle.bac_c.specs.declared.device.Device.{Device}
 use Rattle.bac_c.specs.Starting.{listed_in}
 

@@ -1,9 +1,6 @@
 -- What a C program reads of what came of a call.
-use Rattle.std.specs.Prelude.{◌≡◌, ◌≤◌, ◌<◌, ◌++◌, ℕ, List, Option, MatchOption, length, drop, slice_get}
+use Rattle.std.specs.Prelude.{◌≡◌, ◌≤◌, ◌<◌, ◌++◌, ℕ, List, MatchOption, length, drop, slice_get}
 use Rattle.bac_ends.specs.Sends.{Datagram}
-use Rattle.bac_ends.specs.Meanings.{Finish}
-use Rattle.bac_c.specs.declared.records.End.{End}
-use Rattle.bac_c.specs.Endings.{end_of, octets_of}
 
 -- octets are copied to the front of a buffer where they fit, and none otherwise; how many they are is told
 pub record IsCopied (octets before : List ℕ) (len : ℕ) (after : List ℕ) : Type 0 where

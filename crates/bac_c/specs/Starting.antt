@@ -1,5 +1,5 @@
 -- How a node is started.
-use Rattle.std.specs.Prelude.{◌≡◌, ◌≤◌, ℕ, Bool, ◌&&◌, nat_le, List, [], Option, Some, None, MatchOption, map}
+use Rattle.std.specs.Prelude.{◌≡◌, Bool, ◌&&◌, List, Option, Some, MatchOption, map}
 use Rattle.bac_apdu.specs.Spelling.{codes_fit}
 use Rattle.bac_store.specs.Made.{IsMadeOf}
 use Rattle.bac_store.specs.House.{house}

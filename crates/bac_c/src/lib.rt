@@ -5,6 +5,7 @@
 #![tactic(auto)]
 
 mod asking;
+mod changing;
 mod copying;
 mod device;
 mod ending;
@@ -14,9 +15,11 @@ mod listed;
 mod listing;
 mod opening;
 mod parked;
+mod performing;
 mod records;
 mod requests;
 mod results;
 mod settings;
+mod slots;
 mod starting;
 mod turns;

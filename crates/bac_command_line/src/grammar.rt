@@ -70,13 +70,11 @@ fn serve_command<'a>(alloc: Global) -> Result<Command<'a>, clap::Error> {
 
 /// What the words of an ask are.
 const WORDS_HELP: &str =
-    "The request: `read T:I P`, `write T:I P VALUE..`, `append T:I HEX`, `put T:I POS HEX` or `get T:I POS COUNT`";
+    "The request: `read T:I P`, `write T:I P HEX`, `append T:I HEX`, `put T:I POS HEX` or `get T:I POS COUNT`";
 
 /// What stands for what in them.
 const FORMS_HELP: &str = "\
-T:I is an object by its type and instance, P a property, both by number or name, HEX octets
-VALUE is a value by its kind, as real:72.5, null, boolean:true, enumerated:1 or text:Room, or the spelling of data in HEX
-Behind the last VALUE `priority N` may stand, 1 to 16
+T:I is an object by its type and instance, P a property's number, HEX octets; in `write` they are the spelling of data
 POS is the position in a file from which on octets are put or got, COUNT how many are got
 A word that begins with `-` is given after `--`";
 

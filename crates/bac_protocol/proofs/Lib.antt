@@ -16,6 +16,7 @@ pub mod Headline
 pub mod Unchanged
 pub mod Claimed
 pub mod Computed
+pub mod AtEdges
 pub mod Beyond
 pub mod Queue
 pub mod Windows

@@ -12,7 +12,6 @@ use types.Kit.{‵, raw, ◌⊛◌, some, later, at_ret, ◌$◌, ◌∵◌, !, 
 use types.Part.{sub, whole}
 use types.Run.{enter, of_opd, stop, fld, no_more, and_then, first, blocks, exec, returns}
 use types.ByLocal.{alloc_all, pass_all, free_all, look_at, get, get_in, sets, lands_last, env}
-use denote.Exit.{no}
 use denote.Laws.{Is, shows}
 use denote.Param.NoDrop.{glues}
 use denote.RattleType.{owns}

@@ -1,10 +1,9 @@
 -- `park` keeps what the box owned.
-use Rattle.std.proofs.Common.{◌≡◌, List, [], ◌∷◌, ◌++◌, refl, ap}
-use Rattle.std.specs.Prelude.{Option, None, Some}
+use Rattle.std.proofs.Common.{[], ◌∷◌, ◌++◌, refl, ap}
+use Rattle.std.specs.Prelude.{Some}
 use base.Fraction.{full_share}
 use base.Fml.{ftrue, flft}
-use base.Logic.{emp, ent, id⊢}
-use mir.Val.{Val}
+use base.Logic.{emp, id⊢}
 use contract.BorrowLft.{◌⊑◌, ⊑_refl}
 use contract.Monad.{fact, fact_i}
 use contract.Running.{tables}
@@ -13,14 +12,13 @@ use types.Kit.{Sq, ‵, raw, ◌⊛◌, some, later, prop, ◌$◌, ◌∵◌, !
 use types.Part.{agg}
 use types.Run.{enter, of_opd, no_more, and_then, returns}
 use types.ByLocal.{alloc_all, pass_all, free_all, look_at, get, sets, lands_as}
-use denote.Laws.{Is, shows}
 use denote.Param.{layout}
 use denote.Param.NoDrop.{glues}
 use denote.Param.Steps.{one_value}
 use denote.RattleType.{owns}
 use denote.RawPtr.{Ptr, RawPtr, ptr_val, rawptr_Lawful}
 use denote.Signature.{types_at, plain}
-use denote.Steps.{nothing, peeks, only}
+use denote.Steps.{nothing, only}
 use denote.Triple.Call.{calls_at}
 use denote.Triple.Clauses.{Lasts, lasts}
 use denote.Triple.Entry.{alive}

@@ -4,7 +4,7 @@ use Rattle.std.specs.Prelude.{None}
 use base.Fml.{ftrue}
 use types.Kit.{‵, raw, ◌$◌, ◌∵◌, !, qed, done, drop, suffices}
 use types.Part.{agg}
-use types.Run.{enter, of_opd, lit, no_more, and_then, returns}
+use types.Run.{enter, lit, no_more, and_then, returns}
 use types.ByLocal.{alloc_all, pass_all, free_all, look_at, sets}
 use denote.RawPtr.{null_ptr}
 use denote.Steps.{nothing}

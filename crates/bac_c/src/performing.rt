@@ -1,0 +1,153 @@
+//! The request that was performed, so that a C program acts on it.
+ghost use Rattle.std.specs.Prelude.{◌≡◌, MatchOption, IfSome};
+ghost use Rattle.bac_node.specs.Views.{performed_view};
+ghost use Rattle.bac_service.specs.Values.{held};
+ghost use Rattle.bac_service.specs.Views.{owned_reply_view, owned_request_view, property_reference_view};
+ghost use Rattle.bac_value.specs.Views.{object_identifier_view};
+ghost use Rattle.bac_c.specs.Performing.{is_done, nothing_performed, of_file as plain_file, of_property as plain_property, performed_told, request_told};
+ghost use Rattle.bac_c.specs.Results.{IsCopied};
+
+use crate::copying::copy_out;
+use crate::handle::Handle;
+use crate::records::Performed;
+use bac_responder::Act;
+use bac_service::{
+    AnyReply, AnyRequest, OwnedReply, OwnedRequest, PropertyReference, ReadAccess, WriteAccess,
+};
+use bac_value::ObjectIdentifier;
+use std::alloc::Global;
+
+/// No request was performed.
+fn nothing() -> Performed
+    ensures { result ≡ nothing_performed }
+{
+    Performed {
+        link: [0, 0, 0, 0, 0, 0],
+        service: 0,
+        done: false,
+        object_type: 0,
+        instance: 0,
+        property: 0,
+        index: 0,
+        position: 0,
+    }
+}
+
+fn of_property(service: u8, link: [u8; 6], done: bool, reference: &PropertyReference) -> Performed
+    ensures { result ≡ plain_property service link done (property_reference_view reference.now) }
+{
+    Performed {
+        link,
+        service,
+        done,
+        object_type: reference.object.kind,
+        instance: reference.object.instance,
+        property: reference.property,
+        index: reference.index.unwrap_or(u32::MAX),
+        position: 0,
+    }
+}
+
+fn of_file(
+    service: u8,
+    link: [u8; 6],
+    done: bool,
+    file: &ObjectIdentifier,
+    position: i64,
+) -> Performed
+    ensures { result ≡ plain_file service link done (object_identifier_view file.now) position }
+{
+    Performed {
+        link,
+        service,
+        done,
+        object_type: file.kind,
+        instance: file.instance,
+        property: 0,
+        index: 0,
+        position,
+    }
+}
+
+/// Whether a reply is none that says that nothing was done.
+fn is_done(reply: &OwnedReply) -> bool
+    ensures { result ≡ is_done (owned_reply_view reply.now) }
+{
+    match reply {
+        AnyReply::Simple => true,
+        AnyReply::Complex(_) => true,
+        AnyReply::Error { .. } => false,
+        AnyReply::Reject(_) => true,
+    }
+}
+
+fn told(link: [u8; 6], done: bool, request: &OwnedRequest) -> Performed
+    ensures { result ≡ request_told link done (owned_request_view request.now) }
+{
+    match request {
+        AnyRequest::ReadFile(read) => match read.access {
+            ReadAccess::Stream { start, .. } => of_file(6, link, done, &read.file, start),
+            ReadAccess::Records { start, .. } => of_file(6, link, done, &read.file, start),
+        },
+        AnyRequest::WriteFile(write) => match &write.access {
+            WriteAccess::Stream(stream) => of_file(7, link, done, &write.file, stream.start),
+            WriteAccess::Records(records) => of_file(7, link, done, &write.file, records.start),
+        },
+        AnyRequest::ReadProperty(reference) => of_property(12, link, done, reference),
+        AnyRequest::WriteProperty(write) => of_property(15, link, done, &write.reference),
+    }
+}
+
+/// The octets that a request wrote; none of one that reads.
+fn written(request: &OwnedRequest) -> &[u8]
+    ensures { result.now ≡ held (owned_request_view request.now) }
+{
+    match request {
+        AnyRequest::WriteFile(write) => match &write.access {
+            WriteAccess::Stream(stream) => &stream.content.octets,
+            WriteAccess::Records(records) => &records.records.run,
+        },
+        AnyRequest::WriteProperty(write) => &write.values.octets,
+        AnyRequest::ReadFile(_) => &[],
+        AnyRequest::ReadProperty(_) => &[],
+    }
+}
+
+/// What a C program is told of a request that was performed.
+fn performed_of(act: &Act) -> Performed
+    ensures { result ≡ performed_told (performed_view act.now) }
+{
+    let done = is_done(&act.effect.reply);
+    told(act.key.peer.link, done, &act.effect.request)
+}
+
+/// Puts out the request that was performed, if one was, and copies the octets that it wrote out: how many they are. Where they are more than there is room,
+/// none is copied.
+#[unsafe(no_mangle)]
+pub extern "C" fn bac_performed(
+    alloc: Global,
+    handle: &mut Handle,
+    performed: &mut Performed,
+    out: &mut [u8],
+) -> usize
+    ensures told { MatchOption handle.old.parked.device (performed.new ≡ nothing_performed) (λ d. MatchOption d.outcome.effect (performed.new ≡ nothing_performed) (λ a. performed.new ≡ performed_told (performed_view a))) }
+    ensures octets { IfSome handle.old.parked.device (λ d. IfSome d.outcome.effect (λ a. IsCopied (held (performed_view a).request) out.old result out.new)) }
+    ensures same { handle.new.parked.device ≡ handle.old.parked.device }
+{
+    let Some(device) = handle.take(alloc) else {
+        *performed = nothing();
+        return 0;
+    };
+    let len = match &device.outcome.effect {
+        Some(act) => {
+            *performed = performed_of(act);
+            copy_out(written(&act.effect.request), out)
+        }
+        None => {
+            *performed = nothing();
+            0
+        }
+    };
+    *handle = Handle::of(device);
+    len
+}

@@ -1,0 +1,3 @@
+pub mod Identifiers
+pub mod Numbers
+pub mod Tables

@@ -1,0 +1,11 @@
+-- Properties from one to the next.
+use Rattle.std.proofs.Common.{◌≡◌, ℕ, ◌+◌, ◌<◌, ◌==◌, true, if◌then◌else◌, List, [], ◌∷◌, length, map, drop, get_or, arith}
+use Rattle.std.proofs.lemmas.List.{drop_more}
+use Rattle.bac_store.specs.declared.object.Property as listed
+use Rattle.bac_store.specs.Views.{property_view}
+use Rattle.bac_objects.specs.Properties.{has_number}
+
+pub number_next : (ps : List listed.Property) (n i : ℕ) (d : listed.Property) → i < length ps
+    → has_number n (map property_view (drop i ps))
+    ≡ (if (get_or ps i d).number == n then true else has_number n (map property_view (drop (i + 1) ps)))
+number_next ps n i d l = rw (drop_more ps i d l)

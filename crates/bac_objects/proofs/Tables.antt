@@ -1,0 +1,20 @@
+-- A table in code beside its members.
+use Rattle.std.proofs.Common.{◌≡◌, ℕ, ◌+◌, ◌<◌, List, [], ◌∷◌, length, map, drop, get_or, Bor, Option, Some, None, arith}
+use Rattle.std.proofs.lemmas.List.{drop_more}
+use Rattle.toml.specs.Data.{Members, get_member}
+use Rattle.toml.specs.View.{members_view}
+use Rattle.toml.proofs.Views.{Entry}
+use Rattle.bac_objects.specs.Held.{count, found_in, or_later, plain}
+use Rattle.bac_objects.specs.declared.form.Form.{Form}
+
+pub count_length : (es : List Entry) → count (members_view es) ≡ length es
+count_length [] = omega arith
+count_length (e ∷ es) = omega (arith, count_length es)
+
+abbrev pub CodeRow : Type 0
+CodeRow = Bor (List ℕ) × Form
+
+pub found_next : (rows : List CodeRow) (ms : Members) (i : ℕ) (d : CodeRow) → i < length rows
+    → found_in (plain (drop i rows)) ms
+    ≡ or_later (get_or rows i d).1 (get_member (get_or rows i d).0.now ms) (found_in (plain (drop (i + 1) rows)) ms)
+found_next rows ms i d l = rw (drop_more rows i d l)

@@ -1,0 +1,73 @@
+-- What reading a document answers.
+use Rattle.std.specs.Prelude.{◌≡◌, ⊤, ℕ, IsUtf8, List, Option, Some, None, Result, Ok, Err}
+use Rattle.std.specs.Option.{option_map}
+use Rattle.std.specs.String.{string_bytes}
+use Rattle.bac_value.specs.Views.{object_identifier_view}
+use Rattle.bac_store.specs.declared.store.Store.{Store}
+use Rattle.bac_store.specs.declared.store_fault.StoreFault.{StoreFault}
+use Rattle.bac_store.specs.Made.{IsMadeOf, IsRefused}
+use Rattle.bac_store.specs.Stores.{Object}
+use Rattle.toml.specs.Data.{Members}
+use Rattle.toml.specs.Parse.{parse_document}
+use Rattle.bac_objects.specs.Objects.{Fault, objects_in}
+use Rattle.bac_objects.specs.Views.{flaw_view}
+use Rattle.bac_objects.specs.declared.problem.Problem.{Problem}
+use Rattle.bac_objects.specs.declared.fault.ObjectFault.{ObjectFault}
+use Rattle.bac_objects.specs.declared.fault.ObjectFault.TheVariants as object_fault
+use Rattle.bac_objects.specs.declared.fault.Place.{Place}
+use Rattle.bac_objects.specs.declared.fault.DocumentFault.{DocumentFault}
+use Rattle.bac_objects.specs.declared.fault.DocumentFault.TheVariants as fault
+
+abbrev pub fault_view : Place → Problem → Fault
+fault_view place problem =
+    record {
+      object = place.object;
+      flaw = record { id = option_map object_identifier_view place.id; key = string_bytes place.key; problem = problem };
+    }
+
+-- a reader's answer of objects: what is wanted, the first fault, or memory ran out
+abbrev pub ReadsDocument : {A B : Type 0} → (A → B) → Result A DocumentFault → Result B Fault → Type 0
+ReadsDocument view (Ok x) read = read ≡ Ok (view x)
+ReadsDocument view (Err (fault.Wrong place problem)) read = read ≡ Err (fault_view place problem)
+ReadsDocument view (Err (fault.NoToml line error)) read = ⊥
+ReadsDocument view (Err (fault.NoStore e)) read = ⊥
+ReadsDocument view (Err fault.NoMemory) read = ⊤
+
+-- the fault of an object's table, in the object of that number
+abbrev pub IsInObject : ℕ → ObjectFault → DocumentFault → Type 0
+IsInObject n (object_fault.Flaw f) (fault.Wrong place problem) = fault_view place problem ≡ record { object = n; flaw = flaw_view f }
+IsInObject n (object_fault.Flaw f) (fault.NoToml line error) = ⊥
+IsInObject n (object_fault.Flaw f) (fault.NoStore e) = ⊥
+IsInObject n (object_fault.Flaw f) fault.NoMemory = ⊤
+IsInObject n object_fault.NoMemory e = e ≡ fault.NoMemory
+
+-- ---- the store
+
+abbrev pub IsMeant : Result (List Object) Fault → Store → Type 0
+IsMeant (Ok objects) s = IsMadeOf objects s
+IsMeant (Err f) s = ⊥
+
+-- no store can have those objects
+abbrev pub IsUnfit : Result (List Object) Fault → StoreFault → Type 0
+IsUnfit (Ok objects) e = IsRefused objects e
+IsUnfit (Err f) e = ⊥
+
+-- the store of the objects that a table means, its first fault, or memory ran out
+abbrev pub IsReadTable : Members → Result Store DocumentFault → Type 0
+IsReadTable ms (Ok s) = IsMeant (objects_in ms) s
+IsReadTable ms (Err (fault.Wrong place problem)) = objects_in ms ≡ Err (fault_view place problem)
+IsReadTable ms (Err (fault.NoToml line error)) = ⊥
+IsReadTable ms (Err (fault.NoStore e)) = IsUnfit (objects_in ms) e
+IsReadTable ms (Err fault.NoMemory) = ⊤
+
+abbrev pub IsReadOf : Option Members → Result Store DocumentFault → Type 0
+IsReadOf (Some ms) r = IsReadTable ms r
+IsReadOf None r = ⊥
+
+-- the same of a text, which may be no TOML in UTF-8
+abbrev pub IsRead : (text : List ℕ) → Result Store DocumentFault → Type 0
+IsRead text (Err (fault.NoToml line error)) = IsUtf8 text → parse_document text ≡ None
+IsRead text (Err fault.NoMemory) = ⊤
+IsRead text (Err (fault.Wrong place problem)) = IsUtf8 text × IsReadOf (parse_document text) (Err (fault.Wrong place problem))
+IsRead text (Err (fault.NoStore e)) = IsUtf8 text × IsReadOf (parse_document text) (Err (fault.NoStore e))
+IsRead text (Ok s) = IsUtf8 text × IsReadOf (parse_document text) (Ok s)

@@ -1,0 +1,70 @@
+-- How values are given: in a table, under the word of their kind, with a mark beside them.
+use Rattle.std.specs.Prelude.{◌≡◌, ℕ, ◌+◌, ◌==◌, Bool, true, false, List, [], ◌∷◌, map, codes, is_some, if◌then◌else◌, Option, Some, None, Result, Ok, Err}
+use Rattle.std.specs.Borrow.{Bor}
+use Rattle.bac_value.specs.Steps.{◌>>=◌}
+use Rattle.toml.specs.Data.{Data, Members, no_members, member, get_member}
+use Rattle.bac_objects.specs.Reading.{boolean_of, table_of}
+use Rattle.bac_objects.specs.declared.form.Form.{Form}
+use Rattle.bac_objects.specs.declared.form.TheConstants as code
+use Rattle.bac_objects.specs.declared.problem.Problem.{Problem}
+use Rattle.bac_objects.specs.declared.problem.Given.TheVariants as given
+use Rattle.bac_objects.specs.declared.problem.Wanted.TheVariants as wanted
+
+-- a word, and what it stands for
+abbrev pub Row : Type 0
+Row = List ℕ × Form
+
+abbrev pub plain : List (Bor (List ℕ) × Form) → List Row
+plain rows = map (λ r. (r.0.now, r.1)) rows
+
+-- the words for values of a property, and for the octets of a file
+unfoldable pub FORMS : List Row
+FORMS = map (λ r. (r.0.now, r.1)) code.FORMS.now
+
+unfoldable pub FILE_FORMS : List Row
+FILE_FORMS = map (λ r. (r.0.now, r.1)) code.FILE_FORMS.now
+
+abbrev pub count : Members → ℕ
+count no_members = 0
+count (member k d ms) = 1 + count ms
+
+abbrev pub or_later : Form → Option Data → Option (Form × Data) → Option (Form × Data)
+or_later f (Some d) later = Some (f, d)
+or_later f None later = later
+
+-- what stands under the first of the words that is a key
+abbrev pub found_in : List Row → Members → Option (Form × Data)
+found_in [] ms = None
+found_in (r ∷ rows) ms = or_later r.1 (get_member r.0 ms) (found_in rows ms)
+
+abbrev pub or_nothing : {A : Type 0} → Option A → Result A Problem
+or_nothing (Some x) = Ok x
+or_nothing None = Err (record { wanted = wanted.OneValue; given = given.Nothing })
+
+-- without a mark nothing can be written
+abbrev pub mark_of : Option Data → Result Bool Problem
+mark_of None = Ok false
+mark_of (Some d) = boolean_of wanted.Mark d
+
+abbrev pub the_mark : Members → Option Data
+the_mark ms = get_member (codes "writable") ms
+
+-- how a value is given, the value, and whether it can be written
+pub record Held : Type 0 where
+  pub form : Form
+  pub value : Data
+  pub writable : Bool
+
+-- there is no key but that one and the mark
+abbrev pub alone : (is_marked : Bool) → (keys : ℕ) → Held → Result Held Problem
+alone is_marked keys h =
+    if keys == (if is_marked then 2 else 1) then Ok h else Err (record { wanted = wanted.OneValue; given = given.More })
+
+unfoldable pub held_by : List Row → Members → Result Held Problem
+held_by rows ms = do
+  writable ← mark_of (the_mark ms)
+  found ← or_nothing (found_in rows ms)
+  alone (is_some (the_mark ms)) (count ms) (record { form = found.0; value = found.1; writable = writable })
+
+abbrev pub held_in : List Row → Data → Result Held Problem
+held_in rows d = table_of wanted.Value d >>= held_by rows

@@ -1,0 +1,10 @@
+pub mod Answers
+pub mod Bits
+pub mod Documents
+pub mod Held
+pub mod Identifiers
+pub mod Objects
+pub mod Properties
+pub mod Reading
+pub mod Values
+pub mod Views

@@ -1,0 +1,114 @@
+-- The properties and the file of an object, as a document gives them (clause 12).
+use Rattle.std.specs.Prelude.{ℕ, ◌+◌, ◌-◌, ◌*◌, nat_le, nat_lt, ◌==◌, ◌&&◌, not, Bool, true, false, List, [], ◌∷◌, length, codes, if◌then◌else◌, Option, Some, None, Result, Ok, Err}
+use Rattle.std.specs.Char.{is_ascii_digit}
+use Rattle.bac_names.specs.Names.{number_in}
+use Rattle.bac_names.specs.Properties.{PROPERTIES}
+use Rattle.bac_value.specs.declared.fault.FaultKind.{FaultKind}
+use Rattle.bac_value.specs.Reading.{data_of}
+use Rattle.bac_value.specs.Steps.{◌>>=◌}
+use Rattle.bac_value.specs.Writing.{value_spelling}
+use Rattle.bac_store.specs.Limits.{BINARY_VALUE, DESCRIPTION, FILE_LIMIT, VALUE_LIMIT}
+use Rattle.bac_store.specs.Objects.{are_right_values, is_right_number}
+use Rattle.bac_store.specs.Stores.{Property, File, is_number, kind_of}
+use Rattle.toml.specs.Data.{Data}
+use Rattle.bac_objects.specs.Held.{FORMS, FILE_FORMS, Held, held_in}
+use Rattle.bac_objects.specs.Identifiers.{or_other}
+use Rattle.bac_objects.specs.Reading.{other, text_of, too_long}
+use Rattle.bac_objects.specs.Values.{hex_of, value_of}
+use Rattle.bac_objects.specs.declared.form.Kind.TheVariants.{Real, Text}
+use Rattle.bac_objects.specs.declared.form.Form.{Form}
+use Rattle.bac_objects.specs.declared.form.Form.TheVariants.{Value, Hex}
+use Rattle.bac_objects.specs.declared.problem.Problem.{Problem}
+use Rattle.bac_objects.specs.declared.problem.Wanted.{Wanted}
+use Rattle.bac_objects.specs.declared.problem.Wanted.TheVariants as wanted
+use Rattle.bac_objects.specs.declared.problem.Given.{Given}
+use Rattle.bac_objects.specs.declared.problem.Given.TheVariants as given
+
+-- ---- which property a key names: one of the standard by its name, or any by its number of 22 bits
+
+abbrev pub with_digit : ℕ → ℕ → ℕ
+with_digit n c = 10 * n + (c - 48)
+
+abbrev pub digits_on : ℕ → List ℕ → Option ℕ
+digits_on n [] = Some n
+digits_on n (c ∷ cs) = if is_ascii_digit c && nat_le (with_digit n c) 4194303 then digits_on (with_digit n c) cs else None
+
+abbrev pub numbered : List ℕ → Option ℕ
+numbered [] = None
+numbered (c ∷ cs) = digits_on 0 (c ∷ cs)
+
+abbrev pub or_numbered : List ℕ → Option ℕ → Option ℕ
+or_numbered key (Some n) = Some n
+or_numbered key None = numbered key
+
+abbrev pub served : ℕ → Result ℕ Problem
+served n = if is_right_number n then Ok n else Err (other wanted.Property)
+
+-- one that can be listed
+abbrev pub property_number : List ℕ → Result ℕ Problem
+property_number key = or_other wanted.Property (or_numbered key (number_in PROPERTIES key)) >>= served
+
+-- ---- its values
+
+abbrev pub whole_data : List ℕ → Result (List ℕ) FaultKind → Result (List ℕ) Problem
+whole_data octets (Ok []) = Ok octets
+whole_data octets (Ok (o ∷ rest)) = Err (other wanted.Spelling)
+whole_data octets (Err e) = Err (other wanted.Spelling)
+
+-- the spelling of a value of that kind, or octets that spell data (clause 20.2)
+abbrev pub spelling_of : Form → Data → Result (List ℕ) Problem
+spelling_of (Value k) d = value_of k d >>= (λ v. Ok (value_spelling v))
+spelling_of Hex d = hex_of d >>= (λ octets. whole_data octets (data_of octets))
+
+-- what an object type has at a property
+abbrev pub wanted_at : (kind number : ℕ) → Wanted
+wanted_at kind number =
+    if number == DESCRIPTION then wanted.Kind Text else (if kind == BINARY_VALUE then wanted.State else wanted.Kind Real)
+
+abbrev pub given_as : Form → Given
+given_as (Value k) = given.Kind k
+given_as Hex = given.Hex
+
+abbrev pub right_at : (kind number : ℕ) → Form → List ℕ → Result (List ℕ) Problem
+right_at kind number form values =
+    if nat_lt VALUE_LIMIT (length values) then Err too_long
+    else (if are_right_values kind number values then Ok values else Err (record { wanted = wanted_at kind number; given = given_as form }))
+
+abbrev pub property_with : (number : ℕ) → (writable : Bool) → (values : List ℕ) → Property
+property_with number writable values = record { number = number; values = values; writable = writable; kind = kind_of values }
+
+-- the property of an object of that type
+unfoldable pub property_of : (kind : ℕ) → (key : List ℕ) → Data → Result Property Problem
+property_of kind key d = do
+  number ← property_number key
+  held ← held_in FORMS d
+  values ← spelling_of held.form held.value
+  values ← right_at kind number held.form values
+  Ok (property_with number held.writable values)
+
+abbrev pub has_number : ℕ → List Property → Bool
+has_number n [] = false
+has_number n (p ∷ ps) = if is_number n p then true else has_number n ps
+
+abbrev pub not_yet : List Property → Property → Result Property Problem
+not_yet done p = if has_number p.number done then Err (record { wanted = wanted.OwnProperty; given = given.Again }) else Ok p
+
+-- one that the object does not have yet
+abbrev pub own_property : (kind : ℕ) → List Property → (key : List ℕ) → Data → Result Property Problem
+own_property kind done key d = property_of kind key d >>= not_yet done
+
+-- ---- the octets of a file
+
+abbrev pub content_of : Form → Data → Result (List ℕ) Problem
+content_of Hex d = hex_of d
+content_of (Value k) d = text_of wanted.Text d
+
+abbrev pub short : List ℕ → Result (List ℕ) Problem
+short octets = if nat_lt FILE_LIMIT (length octets) then Err (record { wanted = wanted.ShortFile; given = given.More }) else Ok octets
+
+unfoldable pub file_of : Data → Result File Problem
+file_of d = do
+  held ← held_in FILE_FORMS d
+  octets ← content_of held.form held.value
+  octets ← short octets
+  Ok (record { octets = octets; writable = held.writable })

@@ -1,0 +1,69 @@
+-- What stands in a document, and what a reader in code answers of it.
+use Rattle.std.specs.Prelude.{◌≡◌, ⊤, ℕ, ℤ, pos, negsuc, nat_le, Float, Bool, true, false, List, Option, Some, None, Result, Ok, Err, if◌then◌else◌}
+use Rattle.bac_value.specs.Steps.{◌>>=◌}
+use Rattle.bac_value.specs.Value.{Datum}
+use Rattle.toml_datetime.specs.declared.datetime.Datetime.{Datetime}
+use Rattle.toml.specs.Data.{Data, string, integer, float, boolean, datetime, array, table, Items, Members, as_str, as_integer, as_float, as_bool, as_datetime, as_array, as_table}
+use Rattle.bac_objects.specs.declared.problem.Problem.{Problem}
+use Rattle.bac_objects.specs.declared.problem.Wanted.{Wanted}
+use Rattle.bac_objects.specs.declared.problem.Wanted.TheVariants as wanted
+use Rattle.bac_objects.specs.declared.problem.Given.{Given}
+use Rattle.bac_objects.specs.declared.problem.Given.TheVariants as given
+
+-- what stands there, by the types of TOML
+abbrev pub given_of : Data → Given
+given_of (string s) = given.Text
+given_of (integer z) = given.Integer
+given_of (float x) = given.Float
+given_of (boolean b) = given.Boolean
+given_of (datetime dt) = given.DateTime
+given_of (array ds) = given.Array
+given_of (table ms) = given.Table
+
+abbrev pub in_place : Wanted → Data → Problem
+in_place w d = record { wanted = w; given = given_of d }
+
+-- something of the right form that is none of those wanted
+abbrev pub other : Wanted → Problem
+other w = record { wanted = w; given = given.Other }
+
+abbrev pub or_in_place : {A : Type 0} → Wanted → Data → Option A → Result A Problem
+or_in_place w d (Some x) = Ok x
+or_in_place w d None = Err (in_place w d)
+
+abbrev pub text_of : Wanted → Data → Result (List ℕ) Problem
+text_of w d = or_in_place w d (as_str d)
+
+abbrev pub integer_of : Wanted → Data → Result ℤ Problem
+integer_of w d = or_in_place w d (as_integer d)
+
+abbrev pub float_of : Wanted → Data → Result Float Problem
+float_of w d = or_in_place w d (as_float d)
+
+abbrev pub boolean_of : Wanted → Data → Result Bool Problem
+boolean_of w d = or_in_place w d (as_bool d)
+
+abbrev pub datetime_of : Wanted → Data → Result Datetime Problem
+datetime_of w d = or_in_place w d (as_datetime d)
+
+abbrev pub array_of : Wanted → Data → Result Items Problem
+array_of w d = or_in_place w d (as_array d)
+
+abbrev pub table_of : Wanted → Data → Result Members Problem
+table_of w d = or_in_place w d (as_table d)
+
+abbrev pub up_to : (most : ℕ) → Wanted → ℤ → Result ℕ Problem
+up_to most w (pos n) = if nat_le n most then Ok n else Err (other w)
+up_to most w (negsuc n) = Err (other w)
+
+-- an integer from 0 to that
+unfoldable pub number_up_to : (most : ℕ) → Wanted → Data → Result ℕ Problem
+number_up_to most w d = integer_of w d >>= up_to most w
+
+abbrev pub too_long : Problem
+too_long = record { wanted = wanted.ShortValue; given = given.More }
+
+-- a value, where its contents are few enough
+abbrev pub fitting : Bool → Datum → Result Datum Problem
+fitting true v = Ok v
+fitting false v = Err too_long

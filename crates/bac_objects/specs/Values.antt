@@ -1,0 +1,125 @@
+-- The value that a document gives under the word of its kind (clause 20.2).
+use Rattle.std.specs.Prelude.{ℕ, ◌+◌, ◌-◌, ◌*◌, ◌/◌, ◌%◌, ◌^◌, nat_le, nat_lt, ◌==◌, ◌&&◌, ◌||◌, List, [], ◌∷◌, ◌++◌, length, map, Bool, true, false, to_bits, if◌then◌else◌, Option, Some, None, Result, Ok, Err}
+use Rattle.std.specs.Float.{Float, binary32, binary64, round_to_format}
+use Rattle.std.specs.Int.{w32, w64, to_be_bytes}
+use Rattle.hex.specs.Hex.{decode_of}
+use Rattle.hex.specs.declared.error.FromHexError.{FromHexError}
+use Rattle.toml_datetime.specs.declared.datetime.Datetime.{Datetime}
+use Rattle.toml_datetime.specs.declared.datetime.Date.{Date}
+use Rattle.toml_datetime.specs.declared.datetime.Time.{Time}
+use Rattle.bac_value.specs.Steps.{◌>>=◌}
+use Rattle.bac_value.specs.Value.{Datum, null, boolean, unsigned, signed, real, double, octets, characters, enumerated, date, time, object}
+use Rattle.toml.specs.Data.{Data}
+use Rattle.bac_objects.specs.Bits.{bits_of}
+use Rattle.bac_objects.specs.Identifiers.{identifier_of}
+use Rattle.bac_objects.specs.Reading.{boolean_of, datetime_of, fitting, float_of, integer_of, number_up_to, other, text_of}
+use Rattle.bac_objects.specs.declared.form.Kind.{Kind}
+use Rattle.bac_objects.specs.declared.form.Kind.TheVariants as kind
+use Rattle.bac_objects.specs.declared.problem.Problem.{Problem}
+use Rattle.bac_objects.specs.declared.problem.Wanted.TheVariants as wanted
+use Rattle.bac_objects.specs.declared.problem.Given.TheVariants as given
+
+-- ---- null, true and false
+
+abbrev pub only_true : Bool → Result Datum Problem
+only_true true = Ok null
+only_true false = Err (other wanted.True)
+
+abbrev pub null_of : Data → Result Datum Problem
+null_of d = boolean_of wanted.True d >>= only_true
+
+abbrev pub truth_of : Data → Result Datum Problem
+truth_of d = boolean_of wanted.Boolean d >>= (λ b. Ok (boolean b))
+
+-- ---- numbers
+
+abbrev pub unsigned_of : Data → Result Datum Problem
+unsigned_of d = number_up_to (2 ^ 63 - 1) wanted.Unsigned d >>= (λ n. Ok (unsigned n))
+
+abbrev pub signed_of : Data → Result Datum Problem
+signed_of d = integer_of wanted.Integer d >>= (λ z. Ok (signed z))
+
+abbrev pub enumerated_of : Data → Result Datum Problem
+enumerated_of d = number_up_to (2 ^ 32 - 1) wanted.Enumerated d >>= (λ n. Ok (enumerated n))
+
+-- clause 20.2.6: the four octets of the float of 32 bits that is nearest to the document's, which has 64
+abbrev pub real_octets : Float → List ℕ
+real_octets x = to_be_bytes w32 (to_bits binary32 (round_to_format binary32 x))
+
+abbrev pub real_of : Data → Result Datum Problem
+real_of d = float_of wanted.Float d >>= (λ x. Ok (real (real_octets x)))
+
+abbrev pub double_of : Data → Result Datum Problem
+double_of d = float_of wanted.Float d >>= (λ x. Ok (double (to_be_bytes w64 (to_bits binary64 x))))
+
+-- ---- octets and texts
+
+abbrev pub decoded : Result (List ℕ) FromHexError → Result (List ℕ) Problem
+decoded (Ok xs) = Ok xs
+decoded (Err e) = Err (other wanted.Hex)
+
+-- octets in hexadecimal
+abbrev pub hex_of : Data → Result (List ℕ) Problem
+hex_of d = text_of wanted.Hex d >>= (λ text. decoded (decode_of text))
+
+abbrev pub octets_of : Data → Result Datum Problem
+octets_of d = hex_of d >>= (λ xs. fitting (nat_lt (length xs) (2 ^ 32)) (octets xs))
+
+-- character set 0 is UTF-8 (clause 20.2.9)
+abbrev pub characters_of : Data → Result Datum Problem
+characters_of d = text_of wanted.Text d >>= (λ text. fitting (nat_lt (length text + 1) (2 ^ 32)) (characters 0 text))
+
+-- ---- dates and times
+
+-- clause 20.2.12: years since 1900, the month, the day, and any day of the week
+abbrev pub date_in : Date → Result Datum Problem
+date_in d =
+    if nat_le 1900 d.year && nat_le d.year 2154 then Ok (date ((d.year - 1900) ∷ d.month ∷ d.day ∷ 255 ∷ [])) else Err (other wanted.Date)
+
+abbrev pub date_alone : Option Date → Option Time → Result Datum Problem
+date_alone (Some d) None = date_in d
+date_alone (Some d) (Some t) = Err (other wanted.Date)
+date_alone None t = Err (other wanted.Date)
+
+abbrev pub date_of : Data → Result Datum Problem
+date_of d = datetime_of wanted.Date d >>= (λ dt. date_alone dt.date dt.time)
+
+abbrev pub or_zero : Option ℕ → ℕ
+or_zero (Some n) = n
+or_zero None = 0
+
+-- clause 20.2.13: the hour, the minute, the second and its hundredths
+abbrev pub time_in : (hour minute second nanosecond : ℕ) → Result Datum Problem
+time_in hour minute second nanosecond =
+    if nat_lt second 60 && nat_lt nanosecond 1000000000 then Ok (time (hour ∷ minute ∷ second ∷ (nanosecond / 10000000) ∷ []))
+    else Err (other wanted.Time)
+
+abbrev pub time_alone : Option Date → Option Time → Result Datum Problem
+time_alone None (Some t) = time_in t.hour t.minute (or_zero t.second) (or_zero t.nanosecond)
+time_alone None None = Err (other wanted.Time)
+time_alone (Some d) t = Err (other wanted.Time)
+
+abbrev pub time_of : Data → Result Datum Problem
+time_of d = datetime_of wanted.Time d >>= (λ dt. time_alone dt.date dt.time)
+
+-- ---- identifiers
+
+abbrev pub object_of : Data → Result Datum Problem
+object_of d = identifier_of d >>= (λ i. Ok (object i))
+
+-- ---- the kinds
+
+abbrev pub value_of : Kind → Data → Result Datum Problem
+value_of kind.Null d = null_of d
+value_of kind.Boolean d = truth_of d
+value_of kind.Unsigned d = unsigned_of d
+value_of kind.Signed d = signed_of d
+value_of kind.Real d = real_of d
+value_of kind.Double d = double_of d
+value_of kind.Octets d = octets_of d
+value_of kind.Text d = characters_of d
+value_of kind.Bits d = bits_of d
+value_of kind.Enumerated d = enumerated_of d
+value_of kind.Date d = date_of d
+value_of kind.Time d = time_of d
+value_of kind.Object d = object_of d

@@ -1,0 +1,172 @@
+//! A document as a whole: the store that it means.
+ghost use Rattle.std.specs.Prelude.{◌≡◌, [], map, IfOk};
+ghost use Rattle.bac_value.specs.Steps.{ReadsAll};
+ghost use Rattle.bac_value.specs.Views.{object_identifier_view};
+ghost use Rattle.bac_store.specs.Views.{object_view};
+ghost use Rattle.toml.specs.View.{array_view, items_view, table_view, view};
+ghost use Rattle.bac_objects.specs.Answers.{ReadsObject};
+ghost use Rattle.bac_objects.specs.Documents.{IsInObject, IsRead, IsReadTable, ReadsDocument};
+ghost use Rattle.bac_objects.specs.Objects.{has_id as has_id_in, list_in as list_of, objects_in as objects_of, objects_on, own_object as own_object_of, with_object as with_object_of};
+
+use crate::fault::{DocumentFault, Flaw, ObjectFault, Place};
+use crate::held::{count, member};
+use crate::object::object_in;
+use crate::problem::{Given, Problem, Wanted};
+use crate::scalars::array;
+use bac_store::{Object, Store, StoreFault};
+use bac_value::ObjectIdentifier;
+use std::alloc::Global;
+use toml::de::Error;
+use toml::value::Array;
+use toml::{Table, Value};
+
+/// Whether some objects have one of that identifier.
+#[tactic(auto, using(crate::proofs::Identifiers::id_next))]
+fn has_id(id: ObjectIdentifier, objects: &[Object]) -> bool
+    ensures { result ≡ has_id_in (object_identifier_view id) (map object_view objects.now) }
+{
+    for object in objects {
+        if object.id.kind == id.kind && object.id.instance == id.instance {
+            return true;
+        }
+    }
+    false
+}
+
+/// The objects with one more.
+fn with_object<'a>(
+    alloc: Global,
+    done: Vec<Object>,
+    value: &'a Value,
+) -> Result<Vec<Object>, ObjectFault<'a>>
+    ensures { ReadsObject (λ v. map object_view v.items) result (with_object_of (map object_view done.items) (view value.now)) }
+{
+    let object = object_in(alloc, value)?;
+    if has_id(object.id, &done) {
+        return Err(ObjectFault::Flaw(Flaw {
+            id: Some(object.id),
+            key: "instance",
+            problem: Problem {
+                wanted: Wanted::OwnIdentifier,
+                given: Given::Again,
+            },
+        }));
+    }
+    let mut objects = done;
+    objects.push(object)?;
+    Ok(objects)
+}
+
+/// The fault of an object, with its number.
+fn in_object(alloc: Global, object: usize, fault: ObjectFault<'_>) -> DocumentFault
+    ensures { IsInObject object fault.entry result }
+{
+    let ObjectFault::Flaw(Flaw { id, key, problem }) = fault else {
+        return DocumentFault::NoMemory;
+    };
+    match String::from_str(alloc, key) {
+        Ok(key) => DocumentFault::Wrong {
+            place: Place { object, id, key },
+            problem,
+        },
+        Err(_) => DocumentFault::NoMemory,
+    }
+}
+
+/// All objects of a list.
+fn objects_of_list(alloc: Global, list: &Array) -> Result<Vec<Object>, DocumentFault>
+    ensures { ReadsDocument (λ v. map object_view v.items) result (objects_on [] (array_view list.now)) }
+{
+    let mut objects = Vec::new(alloc);
+    for value in list {
+        let number = objects.len() + 1;
+        objects = match with_object(alloc, objects, value) {
+            Ok(more) => more,
+            Err(fault) => return Err(in_object(alloc, number, fault)),
+        };
+    }
+    Ok(objects)
+}
+
+/// The list under `object`, which is the one key.
+fn list_in(table: &Table) -> Result<&Array, Problem>
+    ensures { ReadsAll (λ a. array_view a.now) result (list_of (table_view table.now)) }
+{
+    let Some(value) = member(table, "object") else {
+        return Err(Problem {
+            wanted: Wanted::Objects,
+            given: Given::Nothing,
+        });
+    };
+    let list = array(Wanted::Objects, value)?;
+    if count(table) != 1 {
+        return Err(Problem {
+            wanted: Wanted::Objects,
+            given: Given::More,
+        });
+    }
+    Ok(list)
+}
+
+/// The objects that a document means.
+#[tactic(auto, unfolding(crate::specs::Objects::objects_in))]
+fn objects_in(alloc: Global, table: &Table) -> Result<Vec<Object>, DocumentFault>
+    ensures { ReadsDocument (λ v. map object_view v.items) result (objects_of (table_view table.now)) }
+{
+    match list_in(table) {
+        Ok(list) => objects_of_list(alloc, list),
+        Err(problem) => Err(in_object(
+            alloc,
+            0,
+            ObjectFault::Flaw(Flaw {
+                id: None,
+                key: "object",
+                problem,
+            }),
+        )),
+    }
+}
+
+/// The store that a table means.
+fn store_in(alloc: Global, table: &Table) -> Result<Store, DocumentFault>
+    ensures { IsReadTable (table_view table.now) result }
+{
+    let objects = objects_in(alloc, table)?;
+    match Store::new(alloc, objects) {
+        Ok(store) => Ok(store),
+        Err(StoreFault::NoMemory) => Err(DocumentFault::NoMemory),
+        Err(fault) => Err(DocumentFault::NoStore(fault)),
+    }
+}
+
+/// The number of the line, from 1 on, in which an error is.
+fn line_of(text: &[u8], error: &Error) -> usize {
+    let place = match error.span() {
+        Some(span) => span.start.min(text.len()),
+        None => 0,
+    };
+    let mut line: usize = 1;
+    for octet in &text[..place] {
+        if *octet == b'\n' {
+            line = line.saturating_add(1);
+        }
+    }
+    line
+}
+
+/// The store that a document means: TOML in UTF-8.
+///
+/// `NoToml` where it is no TOML. `Wrong` names the first fault: the objects in the order of the document, in each `type`,
+/// `instance`, `name` and `file` and then the other keys in the order of their octets. `NoMemory` where memory is refused.
+pub fn read_objects(alloc: Global, text: &[u8]) -> Result<Store, DocumentFault>
+    ensures { IsRead text.now result }
+{
+    match toml::table_from_slice(alloc, text) {
+        Ok(table) => store_in(alloc, &table),
+        Err(error) if error.is_memory() => Err(DocumentFault::NoMemory),
+        Err(error) => Err(DocumentFault::NoToml {
+            line: line_of(text, &error),
+            error,
+        }),
+    }
+}

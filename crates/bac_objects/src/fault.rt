@@ -1,0 +1,147 @@
+//! Why no store was read.
+ghost use Rattle.std.specs.Prelude.{◌≡◌};
+ghost use Rattle.bac_objects.specs.declared.fault.ValueFault.TheVariants as value_fault;
+ghost use Rattle.bac_objects.specs.declared.fault.DocumentFault.TheVariants as document_fault;
+ghost use Rattle.bac_objects.specs.declared.fault.ObjectFault.TheVariants as object_fault;
+
+use crate::problem::Problem;
+use bac_names::object_type_name;
+use bac_store::StoreFault;
+use bac_value::{NoMemory, ObjectIdentifier};
+use std::alloc::{AllocError, AllocFailed};
+use std::fmt;
+use thiserror::Error;
+
+/// Where a fault is.
+#[derive(Debug, Drop)]
+pub struct Place {
+    /// The number of the object in the document, from 1 on; 0 where it is in none of them.
+    pub object: usize,
+    /// The type and the instance of that object, where they are right.
+    pub id: Option<ObjectIdentifier>,
+    /// The key; no octets where the object is no table.
+    pub key: String,
+}
+
+/// Why a document means no store.
+#[derive(Debug, Drop, Error)]
+pub enum DocumentFault {
+    /// The octets are no TOML in UTF-8, in that line.
+    #[error("line {line}: {}", .error.message())]
+    NoToml { line: usize, error: toml::de::Error },
+    /// At a key something else is given than is wanted.
+    #[error("{place}{problem}")]
+    Wrong { place: Place, problem: Problem },
+    /// No store can have the objects.
+    #[error("{0}")]
+    NoStore(StoreFault),
+    /// An allocation was refused.
+    #[error("no memory")]
+    NoMemory,
+}
+
+impl fmt::Display for Place {
+    fn fmt<W: fmt::Write>(&self, f: &mut fmt::Formatter<W>) -> fmt::Result {
+        let Place { object, id, key } = self;
+        if *object > 0 {
+            write!(f, "object {object}")?;
+            if let Some(id) = id {
+                write_id(f, *id)?;
+            }
+            f.write_str(": ")?;
+        }
+        if key.is_empty() {
+            return Ok(());
+        }
+        write!(f, "{key}: ")
+    }
+}
+
+/// An identifier in parentheses: the name of its type, or its number, and its instance.
+fn write_id<W: fmt::Write>(f: &mut fmt::Formatter<W>, id: ObjectIdentifier) -> fmt::Result {
+    let ObjectIdentifier { kind, instance } = id;
+    match object_type_name(u32::from(kind)) {
+        Some(name) => write!(f, " ({name} {instance})"),
+        None => write!(f, " ({kind} {instance})"),
+    }
+}
+
+impl From<AllocError> for DocumentFault {
+    ghost from_gives = { λ _ e. e ≡ document_fault.NoMemory };
+
+    fn from(_error: AllocError) -> DocumentFault {
+        DocumentFault::NoMemory
+    }
+}
+
+/// Why no value was read.
+#[derive(Clone, Copy, Debug, PartialEq, Eq)]
+pub(crate) enum ValueFault {
+    Wrong(Problem),
+    NoMemory,
+}
+
+/// What is wrong in the table of an object.
+#[derive(Clone, Copy, Debug)]
+pub(crate) struct Flaw<'a> {
+    /// Its identifier, where its type and its instance are right.
+    pub(crate) id: Option<ObjectIdentifier>,
+    /// The key, or no octets where it is the table.
+    pub(crate) key: &'a str,
+    pub(crate) problem: Problem,
+}
+
+/// Why no object was read.
+#[derive(Clone, Copy, Debug)]
+pub(crate) enum ObjectFault<'a> {
+    Flaw(Flaw<'a>),
+    NoMemory,
+}
+
+impl From<AllocError> for ObjectFault<'_> {
+    ghost from_gives = { λ _ e. e ≡ object_fault.NoMemory };
+
+    fn from(_error: AllocError) -> Self {
+        ObjectFault::NoMemory
+    }
+}
+
+impl<T: Drop> From<AllocFailed<T>> for ObjectFault<'_> {
+    ghost from_gives = { λ _ e. e ≡ object_fault.NoMemory };
+
+    fn from(_error: AllocFailed<T>) -> Self {
+        ObjectFault::NoMemory
+    }
+}
+
+impl From<Problem> for ValueFault {
+    ghost from_gives = { λ p e. e ≡ value_fault.Wrong p };
+
+    fn from(problem: Problem) -> ValueFault {
+        ValueFault::Wrong(problem)
+    }
+}
+
+impl From<NoMemory> for ValueFault {
+    ghost from_gives = { λ _ e. e ≡ value_fault.NoMemory };
+
+    fn from(_error: NoMemory) -> ValueFault {
+        ValueFault::NoMemory
+    }
+}
+
+impl From<AllocError> for ValueFault {
+    ghost from_gives = { λ _ e. e ≡ value_fault.NoMemory };
+
+    fn from(_error: AllocError) -> ValueFault {
+        ValueFault::NoMemory
+    }
+}
+
+impl<T: Drop> From<AllocFailed<T>> for ValueFault {
+    ghost from_gives = { λ _ e. e ≡ value_fault.NoMemory };
+
+    fn from(_error: AllocFailed<T>) -> ValueFault {
+        ValueFault::NoMemory
+    }
+}

@@ -1,0 +1,111 @@
+//! How values are given: in a table, under the word of their kind, with a mark beside them.
+ghost use Rattle.std.specs.Prelude.{◌≡◌};
+ghost use Rattle.std.specs.Option.{option_map};
+ghost use Rattle.bac_value.specs.Steps.{ReadsAll};
+ghost use Rattle.toml.specs.Data.{get_member};
+ghost use Rattle.toml.specs.View.{view, table_view};
+ghost use Rattle.bac_objects.specs.Held.{FILE_FORMS as FILE_ROWS, FORMS as ROWS, count as count_of, found_in as found_of, held_by as held_of, held_in, mark_of, plain, the_mark};
+ghost use Rattle.bac_objects.specs.Views.{held_view};
+
+use crate::form::{FILE_FORMS, FORMS, Form};
+use crate::problem::{Given, Problem, Wanted};
+use crate::scalars::{boolean, table};
+use toml::{Table, Value};
+
+/// A value that is given by a word.
+#[derive(Clone, Copy)]
+pub(crate) struct Held<'a> {
+    pub(crate) form: Form,
+    pub(crate) value: &'a Value,
+    pub(crate) writable: bool,
+}
+
+/// What stands at a key.
+pub(crate) fn member<'a>(table: &'a Table, key: &str) -> Option<&'a Value>
+    ensures { option_map (λ v. view v.now) result ≡ get_member key.now (table_view table.now) }
+{
+    table.get(key)
+}
+
+/// How many keys there are.
+pub(crate) fn count(table: &Table) -> usize
+    ensures { result ≡ count_of (table_view table.now) }
+{
+    table.len()
+}
+
+/// What stands under the first of some words that is a key.
+#[tactic(auto, using(crate::proofs::Tables::found_next))]
+fn found_in<'a>(rows: &[(&str, Form)], table: &'a Table) -> Option<(Form, &'a Value)>
+    ensures { option_map (λ f. (f.0, view f.1.now)) result ≡ found_of (plain rows.now) (table_view table.now) }
+{
+    for row in rows {
+        if let Some(value) = member(table, row.0) {
+            return Some((row.1, value));
+        }
+    }
+    None
+}
+
+fn is_writable(mark: Option<&Value>) -> Result<bool, Problem>
+    ensures { result ≡ mark_of (option_map (λ v. view v.now) mark.entry) }
+{
+    match mark {
+        Some(mark) => boolean(Wanted::Mark, mark),
+        None => Ok(false),
+    }
+}
+
+#[tactic(auto, unfolding(crate::specs::Held::held_by))]
+fn held_by<'a>(rows: &[(&str, Form)], table: &'a Table) -> Result<Held<'a>, Problem>
+    ensures { ReadsAll held_view result (held_of (plain rows.now) (table_view table.now)) }
+{
+    let mark = member(table, "writable");
+    let writable = is_writable(mark)?;
+    let Some((form, value)) = found_in(rows, table) else {
+        return Err(Problem {
+            wanted: Wanted::OneValue,
+            given: Given::Nothing,
+        });
+    };
+    let keys = if mark.is_some() { 2 } else { 1 };
+    if count(table) != keys {
+        return Err(Problem {
+            wanted: Wanted::OneValue,
+            given: Given::More,
+        });
+    }
+    Ok(Held {
+        form,
+        value,
+        writable,
+    })
+}
+
+/// The words for values of a property.
+fn forms() -> &'static [(&'static str, Form)]
+    ensures { plain result.now ≡ ROWS }
+{
+    FORMS
+}
+
+/// The words for the octets of a file.
+fn file_forms() -> &'static [(&'static str, Form)]
+    ensures { plain result.now ≡ FILE_ROWS }
+{
+    FILE_FORMS
+}
+
+/// The value that is given for a property.
+pub(crate) fn held_values(value: &Value) -> Result<Held<'_>, Problem>
+    ensures { ReadsAll held_view result (held_in ROWS (view value.now)) }
+{
+    held_by(forms(), table(Wanted::Value, value)?)
+}
+
+/// The octets that are given for a file.
+pub(crate) fn held_file(value: &Value) -> Result<Held<'_>, Problem>
+    ensures { ReadsAll held_view result (held_in FILE_ROWS (view value.now)) }
+{
+    held_by(file_forms(), table(Wanted::Value, value)?)
+}

@@ -1,0 +1,195 @@
+//! An object in a document (clause 12).
+ghost use Rattle.std.specs.Prelude.{◌≡◌, ◌<◌, [], map, IfOk};
+ghost use Rattle.std.specs.Option.{option_map};
+ghost use Rattle.std.specs.String.{string_bytes};
+ghost use Rattle.bac_value.specs.Views.{object_identifier_view};
+ghost use Rattle.bac_store.specs.Views.{file_view, object_view, property_view};
+ghost use Rattle.toml.specs.View.{view, table_view};
+ghost use Rattle.bac_objects.specs.Answers.{IsAt, Reads, ReadsObject};
+ghost use Rattle.bac_objects.specs.Objects.{file_in as file_in_members, identifier_in as identifier_of, is_reserved as is_kept, kind_in as kind_of, name_in as name_of};
+ghost use Rattle.bac_objects.specs.Objects.{object_of, object_with as object_by, properties_on, served_type, with_property as with_property_of};
+
+use crate::fault::{Flaw, ObjectFault, ValueFault};
+use crate::held::member;
+use crate::identifier::{the_instance, the_type};
+use crate::problem::{Given, Problem, Wanted};
+use crate::property::{file_in, own_property};
+use crate::scalars::{table, text};
+use bac_store::{File, Object, Property};
+use bac_value::ObjectIdentifier;
+use std::alloc::Global;
+use toml::{Table, Value};
+
+/// The object type file.
+const FILE: u16 = 10;
+
+/// The most octets of a name: its spelling has five more.
+const NAME_LIMIT: usize = 4091;
+
+/// What is wrong at a key of an object.
+fn at<'a>(id: Option<ObjectIdentifier>, key: &'a str, fault: ValueFault) -> ObjectFault<'a>
+    ensures { IsAt (option_map object_identifier_view id) key.now fault result }
+{
+    match fault {
+        ValueFault::Wrong(problem) => ObjectFault::Flaw(Flaw { id, key, problem }),
+        ValueFault::NoMemory => ObjectFault::NoMemory,
+    }
+}
+
+/// A type that a store can have.
+fn served(kind: u64) -> Result<u16, Problem>
+    ensures is { result ≡ served_type kind }
+    ensures within { IfOk result (λ k. k < 1024) }
+{
+    match kind {
+        0 | 2 | 5 | 8 | 10 | 128..=1023 => Ok(kind as u16),
+        _ => Err(Problem {
+            wanted: Wanted::ServedType,
+            given: Given::Other,
+        }),
+    }
+}
+
+/// The type of an object.
+fn kind_in(table: &Table) -> Result<u16, Problem>
+    ensures is { result ≡ kind_of (table_view table.now) }
+    ensures within { IfOk result (λ k. k < 1024) }
+{
+    served(the_type(Wanted::ServedType, table)?)
+}
+
+/// The type and the instance of an object.
+#[tactic(auto, unfolding(crate::specs::Objects::identifier_in))]
+fn identifier_in<'a>(table: &Table) -> Result<ObjectIdentifier, ObjectFault<'a>>
+    ensures { ReadsObject object_identifier_view result (identifier_of (table_view table.now)) }
+{
+    let kind = match kind_in(table) {
+        Ok(kind) => kind,
+        Err(problem) => return Err(at(None, "type", ValueFault::Wrong(problem))),
+    };
+    match the_instance(4_194_302, Wanted::Instance, table) {
+        Ok(instance) => Ok(ObjectIdentifier {
+            kind,
+            instance: instance as u32,
+        }),
+        Err(problem) => Err(at(None, "instance", ValueFault::Wrong(problem))),
+    }
+}
+
+/// The name of an object.
+fn name_in(alloc: Global, table: &Table) -> Result<String, ValueFault>
+    ensures { Reads string_bytes result (name_of (table_view table.now)) }
+{
+    let Some(value) = member(table, "name") else {
+        return Err(ValueFault::Wrong(Problem {
+            wanted: Wanted::Text,
+            given: Given::Nothing,
+        }));
+    };
+    let name = text(Wanted::Text, value)?;
+    if name.len() > NAME_LIMIT {
+        return Err(ValueFault::Wrong(Problem {
+            wanted: Wanted::ShortName,
+            given: Given::More,
+        }));
+    }
+    Ok(String::from_str(alloc, name)?)
+}
+
+/// What a file holds; None of all other objects.
+fn file_of(alloc: Global, kind: u16, table: &Table) -> Result<Option<File>, ValueFault>
+    ensures { Reads (option_map file_view) result (file_in_members kind (table_view table.now)) }
+{
+    if kind != FILE {
+        return Ok(None);
+    }
+    let Some(value) = member(table, "file") else {
+        return Err(ValueFault::Wrong(Problem {
+            wanted: Wanted::File,
+            given: Given::Nothing,
+        }));
+    };
+    Ok(Some(file_in(alloc, value)?))
+}
+
+/// Whether a key is no property.
+fn is_reserved(kind: u16, key: &str) -> bool
+    ensures { result ≡ is_kept kind key.now }
+{
+    key == "type" || key == "instance" || key == "name" || (kind == FILE && key == "file")
+}
+
+/// The properties with one more, where the key is one.
+fn with_property<'a>(
+    alloc: Global,
+    id: ObjectIdentifier,
+    done: Vec<Property>,
+    key: &'a str,
+    value: &Value,
+) -> Result<Vec<Property>, ObjectFault<'a>>
+    ensures { ReadsObject (λ v. map property_view v.items) result
+        (with_property_of (object_identifier_view id) (map property_view done.items) key.now (view value.now)) }
+{
+    if is_reserved(id.kind, key) {
+        return Ok(done);
+    }
+    let mut properties = done;
+    match own_property(alloc, id.kind, &properties, key, value) {
+        Ok(property) => properties.push(property)?,
+        Err(fault) => return Err(at(Some(id), key, fault)),
+    }
+    Ok(properties)
+}
+
+/// The properties of an object, in the order of their keys.
+fn properties_in<'a>(
+    alloc: Global,
+    id: ObjectIdentifier,
+    table: &'a Table,
+) -> Result<Vec<Property>, ObjectFault<'a>>
+    ensures { ReadsObject (λ v. map property_view v.items) result (properties_on (object_identifier_view id) [] (table_view table.now)) }
+{
+    let mut properties = Vec::new(alloc);
+    for (key, value) in table.iter() {
+        properties = with_property(alloc, id, properties, key.as_str(), value)?;
+    }
+    Ok(properties)
+}
+
+#[tactic(auto, unfolding(crate::specs::Objects::object_with))]
+fn object_with<'a>(
+    alloc: Global,
+    id: ObjectIdentifier,
+    table: &'a Table,
+) -> Result<Object, ObjectFault<'a>>
+    ensures { ReadsObject object_view result (object_by (object_identifier_view id) (table_view table.now)) }
+{
+    let name = match name_in(alloc, table) {
+        Ok(name) => name,
+        Err(fault) => return Err(at(Some(id), "name", fault)),
+    };
+    let file = match file_of(alloc, id.kind, table) {
+        Ok(file) => file,
+        Err(fault) => return Err(at(Some(id), "file", fault)),
+    };
+    let properties = properties_in(alloc, id, table)?;
+    Ok(Object {
+        id,
+        name,
+        properties,
+        file,
+    })
+}
+
+/// The object that a table means.
+#[tactic(auto, unfolding(crate::specs::Objects::object_of))]
+pub(crate) fn object_in(alloc: Global, value: &Value) -> Result<Object, ObjectFault<'_>>
+    ensures { ReadsObject object_view result (object_of (view value.now)) }
+{
+    let table = match table(Wanted::Table, value) {
+        Ok(table) => table,
+        Err(problem) => return Err(at(None, "", ValueFault::Wrong(problem))),
+    };
+    let id = identifier_in(table)?;
+    object_with(alloc, id, table)
+}

@@ -1,0 +1,291 @@
+//! The properties and the file of an object (clause 12).
+ghost use Rattle.std.specs.Prelude.{◌≡◌, IfOk, map};
+ghost use Rattle.bac_names.specs.Names.{number_in as named_number};
+ghost use Rattle.bac_names.specs.Properties.{PROPERTIES};
+ghost use Rattle.bac_value.specs.Reading.{data_of};
+ghost use Rattle.bac_value.specs.Steps.{ReadsAll};
+ghost use Rattle.bac_value.specs.Views.{value_view};
+ghost use Rattle.bac_value.specs.Writing.{value_spelling};
+ghost use Rattle.bac_store.specs.Objects.{are_right_values as are_right};
+ghost use Rattle.bac_store.specs.Stores.{is_state as is_state_in, kind_of as kind_in};
+ghost use Rattle.bac_store.specs.Views.{file_view, property_view};
+ghost use Rattle.toml.specs.View.{view};
+ghost use Rattle.bac_objects.specs.Answers.{Reads};
+ghost use Rattle.bac_objects.specs.Properties.{content_of, file_of, given_as as given_by, has_number as has_number_in, numbered as numbered_of, or_numbered};
+ghost use Rattle.bac_objects.specs.Properties.{own_property as own_property_of, property_number as number_of, property_of, right_at as right_of, spelling_of};
+ghost use Rattle.bac_objects.specs.Properties.{wanted_at as wanted_by, whole_data};
+
+use crate::fault::ValueFault;
+use crate::form::{Form, Kind};
+use crate::held::{held_file, held_values};
+use crate::problem::{Given, Problem, Wanted};
+use crate::scalars::text;
+use crate::values::{hex_octets, value_in};
+use bac_names::property_number;
+use bac_store::{FILE_LIMIT, File, Property, VALUE_LIMIT};
+use bac_value::{Class, DataBuf, NoMemory, kinds, take_data, take_element, write_value};
+use std::alloc::Global;
+use toml::Value;
+
+/// The property description.
+const DESCRIPTION: u32 = 28;
+
+/// The property present-value.
+const PRESENT_VALUE: u32 = 85;
+
+/// The first property of vendors' own (clause 23.1).
+const FIRST_VENDOR_PROPERTY: u32 = 512;
+
+// object types (BACnetObjectType)
+
+const ANALOG_INPUT: u16 = 0;
+
+const ANALOG_VALUE: u16 = 2;
+
+const BINARY_VALUE: u16 = 5;
+
+/// The octet of a tag for an Enumerated of one octet of contents.
+const STATE_TAG: u8 = 0x91;
+
+/// The greatest number of a property: 22 bits.
+const LAST_PROPERTY: u32 = 4_194_303;
+
+/// A number in decimal digits.
+fn numbered(key: &[u8]) -> Option<u32>
+    ensures { result ≡ numbered_of key.now }
+{
+    if key.is_empty() {
+        return None;
+    }
+    let mut number = 0;
+    for digit in key {
+        if !digit.is_ascii_digit() {
+            return None;
+        }
+        let next = 10 * number + u32::from(*digit - b'0');
+        if next > LAST_PROPERTY {
+            return None;
+        }
+        number = next;
+    }
+    Some(number)
+}
+
+/// The number of the property that a key names, by its name or its number.
+fn number_in(key: &str) -> Option<u32>
+    ensures { result ≡ or_numbered key.now (named_number PROPERTIES key.now) }
+{
+    match property_number(key) {
+        Some(number) => Some(number),
+        None => numbered(key.as_bytes()),
+    }
+}
+
+/// The same of one that can be listed.
+fn listed_number(key: &str) -> Result<u32, Problem>
+    ensures { result ≡ number_of key.now }
+{
+    match number_in(key) {
+        Some(number @ (DESCRIPTION | PRESENT_VALUE | FIRST_VENDOR_PROPERTY..=LAST_PROPERTY)) => {
+            Ok(number)
+        }
+        _ => Err(Problem {
+            wanted: Wanted::Property,
+            given: Given::Other,
+        }),
+    }
+}
+
+/// A value as data: its one spelling.
+fn spelled(alloc: Global, value: &bac_value::Value) -> Result<DataBuf, NoMemory>
+    ensures { IfOk result (λ d. d.octets.items ≡ value_spelling (value_view value.now)) }
+{
+    let mut octets = Vec::new(alloc);
+    write_value(value, &mut octets)?;
+    Ok(DataBuf { octets })
+}
+
+/// Octets that spell data as a whole.
+fn data_in(octets: Vec<u8>) -> Result<DataBuf, Problem>
+    ensures { ReadsAll (λ d. d.octets.items) result (whole_data octets.items (data_of octets.items)) }
+{
+    match take_data(octets.as_slice()) {
+        Ok(taken) if taken.1.is_empty() => Ok(DataBuf { octets }),
+        _ => Err(Problem {
+            wanted: Wanted::Spelling,
+            given: Given::Other,
+        }),
+    }
+}
+
+/// The values that are given.
+fn values_in(alloc: Global, form: Form, value: &Value) -> Result<DataBuf, ValueFault>
+    ensures { Reads (λ d. d.octets.items) result (spelling_of form (view value.now)) }
+{
+    match form {
+        Form::Value(kind) => {
+            let value = value_in(alloc, kind, value)?;
+            Ok(spelled(alloc, &value)?)
+        }
+        Form::Hex => {
+            let octets = hex_octets(alloc, value)?;
+            Ok(data_in(octets)?)
+        }
+    }
+}
+
+/// The application tag of data that are one element; None where they are not one.
+fn kind_of(values: &[u8]) -> Option<u8>
+    ensures { result ≡ kind_in values.now }
+{
+    match take_element(values) {
+        Ok((element, rest)) if rest.is_empty() => match element.tag.class {
+            Class::Application => Some(element.tag.number),
+            Class::Context => None,
+        },
+        _ => None,
+    }
+}
+
+/// Whether data are Enumerated 0 or 1.
+fn is_state(values: &[u8]) -> bool
+    ensures { result ≡ is_state_in values.now }
+{
+    match values {
+        [tag, number] => *tag == STATE_TAG && *number < 2,
+        _ => false,
+    }
+}
+
+/// Whether values are those that a type of object has at a property.
+fn are_right_values(kind: u16, number: u32, values: &[u8]) -> bool
+    ensures { result ≡ are_right kind number values.now }
+{
+    match (number, kind) {
+        (DESCRIPTION, _) => kind_of(values) == Some(kinds::CHARACTER_STRING),
+        (PRESENT_VALUE, ANALOG_INPUT | ANALOG_VALUE) => kind_of(values) == Some(kinds::REAL),
+        (PRESENT_VALUE, BINARY_VALUE) => is_state(values),
+        _ => true,
+    }
+}
+
+/// What a type of object has at a property.
+fn wanted_at(kind: u16, number: u32) -> Wanted
+    ensures { result ≡ wanted_by kind number }
+{
+    if number == DESCRIPTION {
+        Wanted::Kind(Kind::Text)
+    } else if kind == BINARY_VALUE {
+        Wanted::State
+    } else {
+        Wanted::Kind(Kind::Real)
+    }
+}
+
+fn given_as(form: Form) -> Given
+    ensures { result ≡ given_by form }
+{
+    match form {
+        Form::Value(kind) => Given::Kind(kind),
+        Form::Hex => Given::Hex,
+    }
+}
+
+/// Values that are few enough, and those of the property.
+fn right_at(kind: u16, number: u32, form: Form, values: DataBuf) -> Result<DataBuf, Problem>
+    ensures { ReadsAll (λ d. d.octets.items) result (right_of kind number form values.octets.items) }
+{
+    if values.octets.len() > VALUE_LIMIT {
+        return Err(Problem {
+            wanted: Wanted::ShortValue,
+            given: Given::More,
+        });
+    }
+    if !are_right_values(kind, number, values.octets.as_slice()) {
+        return Err(Problem {
+            wanted: wanted_at(kind, number),
+            given: given_as(form),
+        });
+    }
+    Ok(values)
+}
+
+/// The property of an object of a type.
+#[tactic(auto, unfolding(crate::specs::Properties::property_of))]
+fn property_in(alloc: Global, kind: u16, key: &str, value: &Value) -> Result<Property, ValueFault>
+    ensures { Reads property_view result (property_of kind key.now (view value.now)) }
+{
+    let number = listed_number(key)?;
+    let held = held_values(value)?;
+    let values = values_in(alloc, held.form, held.value)?;
+    let values = right_at(kind, number, held.form, values)?;
+    Ok(Property {
+        number,
+        values,
+        writable: held.writable,
+    })
+}
+
+/// Whether some properties have one of that number.
+#[tactic(auto, using(crate::proofs::Numbers::number_next))]
+fn has_number(number: u32, properties: &[Property]) -> bool
+    ensures { result ≡ has_number_in number (map property_view properties.now) }
+{
+    for property in properties {
+        if property.number == number {
+            return true;
+        }
+    }
+    false
+}
+
+/// The property of an object of a type that has some already.
+pub(crate) fn own_property(
+    alloc: Global,
+    kind: u16,
+    done: &[Property],
+    key: &str,
+    value: &Value,
+) -> Result<Property, ValueFault>
+    ensures { Reads property_view result (own_property_of kind (map property_view done.now) key.now (view value.now)) }
+{
+    let property = property_in(alloc, kind, key, value)?;
+    if has_number(property.number, done) {
+        return Err(ValueFault::Wrong(Problem {
+            wanted: Wanted::OwnProperty,
+            given: Given::Again,
+        }));
+    }
+    Ok(property)
+}
+
+fn content_in(alloc: Global, form: Form, value: &Value) -> Result<Vec<u8>, ValueFault>
+    ensures { Reads (λ v. v.items) result (content_of form (view value.now)) }
+{
+    match form {
+        Form::Hex => hex_octets(alloc, value),
+        Form::Value(_) => {
+            let text = text(Wanted::Text, value)?;
+            Ok(Vec::from_slice(alloc, text.as_bytes())?)
+        }
+    }
+}
+
+/// What a file holds.
+#[tactic(auto, unfolding(crate::specs::Properties::file_of))]
+pub(crate) fn file_in(alloc: Global, value: &Value) -> Result<File, ValueFault>
+    ensures { Reads file_view result (file_of (view value.now)) }
+{
+    let held = held_file(value)?;
+    let octets = content_in(alloc, held.form, held.value)?;
+    if octets.len() > FILE_LIMIT {
+        return Err(ValueFault::Wrong(Problem {
+            wanted: Wanted::ShortFile,
+            given: Given::More,
+        }));
+    }
+    Ok(File {
+        octets,
+        writable: held.writable,
+    })
+}
