@@ -15,6 +15,7 @@ use Rattle.bac_commands.specs.Pairs.{TwoTexts}
 use Rattle.bac_commands.specs.Questions.{IsQuestion, local}
 use Rattle.bac_commands.specs.Reports.{AskedText, ServedText}
 use Rattle.bac_commands.specs.Statuses.{ByStatus}
+use Rattle.bac_commands.specs.Words.{AskedWords}
 
 -- ---- links and clocks
 
@@ -61,8 +62,13 @@ IsServed IsOn IsClock s port turns old new = ByStatus s (Serves IsOn IsClock por
 
 -- ---- asking
 
+-- how it ended was printed: in words, or in octets
+abbrev pub AskedAs : (text : Bool) → (answered : Bool) → Question → (before after : Timed) → (old new : Option (List ℕ)) → Type 0
+AskedAs true answered question before after old new = AskedWords answered question before after old new
+AskedAs false answered question before after old new = AskedText answered question before after old new
+
 -- such a node at any free port asked the node at a port, and how that ended was printed
-pub record Asks (IsOn : (port : ℕ) → (address : Octets) → (failures : ℕ) → Calls → Type 0) (IsClock : Told → Type 0) (answered : Bool) (port : ℕ)
+pub record Asks (IsOn : (port : ℕ) → (address : Octets) → (failures : ℕ) → Calls → Type 0) (IsClock : Told → Type 0) (text answered : Bool) (port : ℕ)
     (words : List (List ℕ)) (old new : Option (List ℕ)) : Type 0 where
   pub question : Question
   pub is : IsQuestion (local port) words question
@@ -70,13 +76,13 @@ pub record Asks (IsOn : (port : ℕ) → (address : Octets) → (failures : ℕ)
   pub after : Timed
   pub house : IsHouseAt IsOn FREE before.station
   pub clock : IsClock before.told
-  pub text : AskedText answered question before after old new
+  pub printed : AskedAs text answered question before after old new
 
 -- the command line is refused only where the words are no request
-abbrev pub IsAsked : (IsOn : (port : ℕ) → (address : Octets) → (failures : ℕ) → Calls → Type 0) → (IsClock : Told → Type 0) → Status → (port : ℕ)
-    → (words : List (List ℕ)) → (old new : Option (List ℕ)) → Type 0
-IsAsked IsOn IsClock s port words old new =
-    ByStatus s (Asks IsOn IsClock true port words old new) (Asks IsOn IsClock false port words old new) (request_of words ≡ None)
+abbrev pub IsAsked : (IsOn : (port : ℕ) → (address : Octets) → (failures : ℕ) → Calls → Type 0) → (IsClock : Told → Type 0) → Status → (text : Bool)
+    → (port : ℕ) → (words : List (List ℕ)) → (old new : Option (List ℕ)) → Type 0
+IsAsked IsOn IsClock s text port words old new =
+    ByStatus s (Asks IsOn IsClock text true port words old new) (Asks IsOn IsClock text false port words old new) (request_of words ≡ None)
 
 -- ---- two nodes
 

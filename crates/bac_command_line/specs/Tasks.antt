@@ -20,5 +20,5 @@ IsPerformed IsAt IsOn IsClock (task.Decode datagram) s old new = IsDecoded datag
 IsPerformed IsAt IsOn IsClock (task.Check path) s old new = IsCheckedFile IsAt path.now s old new
 IsPerformed IsAt IsOn IsClock (task.Simulate path) s old new = IsSimulatedFile IsAt path.now s old new
 IsPerformed IsAt IsOn IsClock (task.Serve port turns) s old new = IsServed IsOn IsClock s port turns old new
-IsPerformed IsAt IsOn IsClock (task.Ask port words) s old new = IsAsked IsOn IsClock s port (map (λ w. w.now) words.now) old new
+IsPerformed IsAt IsOn IsClock (task.Ask text port words) s old new = IsAsked IsOn IsClock s text port (map (λ w. w.now) words.now) old new
 IsPerformed IsAt IsOn IsClock task.Pair s old new = IsPair IsOn IsClock s old new

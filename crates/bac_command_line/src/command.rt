@@ -32,7 +32,9 @@ fn perform<F: OpenFiles, M: Machine, O: Write, E: Write>(
         Task::Check(path) => check(alloc, files, path, out, err),
         Task::Simulate(path) => simulate(alloc, files, path, out, err),
         Task::Serve { port, turns } => online::serve(alloc, machine, port, turns, out, err),
-        Task::Ask { port, words } => online::ask(alloc, machine, port, words, out, err),
+        Task::Ask { text, port, words } => {
+            online::ask(alloc, machine, text, port, words, out, err)
+        }
         Task::Pair => online::pair(alloc, machine, out, err),
     }
 }

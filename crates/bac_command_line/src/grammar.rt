@@ -70,17 +70,21 @@ fn serve_command<'a>(alloc: Global) -> Result<Command<'a>, clap::Error> {
 
 /// What the words of an ask are.
 const WORDS_HELP: &str =
-    "The request: `read T:I P`, `write T:I P HEX`, `append T:I HEX`, `put T:I POS HEX` or `get T:I POS COUNT`";
+    "The request: `read T:I P`, `write T:I P VALUE..`, `append T:I HEX`, `put T:I POS HEX` or `get T:I POS COUNT`";
 
 /// What stands for what in them.
 const FORMS_HELP: &str = "\
-T:I is an object by its type and instance, P a property's number, HEX octets; in `write` they are the spelling of data
+T:I is an object by its type and instance, P a property, both by number or name, HEX octets
+VALUE is a value by its kind, as real:72.5, null, boolean:true, enumerated:1 or text:Room, or the spelling of data in HEX
+Behind the last VALUE `priority N` may stand, 1 to 16
 POS is the position in a file from which on octets are put or got, COUNT how many are got
 A word that begins with `-` is given after `--`";
 
 /// Asks that may be made.
 const ASK_EXAMPLES: &str = "\
 Example: bac ask --port 47808 read 0:5 85
+Example: bac ask --port 47808 --text read analog-input:5 present-value
+Example: bac ask --port 47808 write analog-value:1 present-value real:72.5 priority 8
 Example: bac ask --port 47808 -- put 10:1 -1 AA";
 
 fn ask_command<'a>(alloc: Global) -> Result<Command<'a>, clap::Error> {
@@ -89,11 +93,16 @@ fn ask_command<'a>(alloc: Global) -> Result<Command<'a>, clap::Error> {
         .num_args(1..)
         .action(ArgAction::Append)
         .help(WORDS_HELP);
+    let text = Arg::new(alloc, "text")
+        .long("text")
+        .action(ArgAction::SetTrue)
+        .help("Prints values by their kinds, and errors and reasons by their names");
     let ask = Command::new(alloc, "ask")
         .about("Asks the node at a UDP port of 127.0.0.1, and prints how that ended")
         .before_help(FORMS_HELP)
         .after_help(ASK_EXAMPLES)
         .arg(port(alloc, "The UDP port of the node that is asked, 1 to 65535"))?
+        .arg(text)?
         .arg(words)?;
     Ok(ask)
 }

@@ -69,16 +69,17 @@ fn question_in(alloc: Global, port: u16, words: &[&str]) -> Result<Question, For
     read_question(alloc, local(port), &octets)
 }
 
-/// A node at any free port asks the one at a port. Words that are no request: `bad words` on `err`.
+/// A node at any free port asks the one at a port; how that ended is printed, in words where that is wanted. Words that are no request: `bad words` on `err`.
 pub(crate) fn ask<M: Machine, O: Write, E: Write>(
     alloc: Global,
     machine: &M,
+    text: bool,
     port: u16,
     words: &[&str],
     out: &mut O,
     err: &mut E,
 ) -> Status
-    ensures { IsAsked (OnPort M.is_bound M.Link.failures M.Link.calls) (OnClock M.is_made M.Timer.told) result port (map (λ w. w.now) words.now)
+    ensures { IsAsked (OnPort M.is_bound M.Link.failures M.Link.calls) (OnClock M.is_made M.Timer.told) result text port (map (λ w. w.now) words.now)
         (O.contents out.old) (O.contents out.new) }
 {
     let question = match question_in(alloc, port, words) {
@@ -96,7 +97,11 @@ pub(crate) fn ask<M: Machine, O: Write, E: Write>(
     let Ok(mut station) = house_station(alloc, bound.0, address) else {
         return no_memory(err);
     };
-    bac_commands::ask(alloc, &mut station, &mut timer, &question, out, err)
+    if text {
+        bac_commands::ask_in_words(alloc, &mut station, &mut timer, &question, out, err)
+    } else {
+        bac_commands::ask(alloc, &mut station, &mut timer, &question, out, err)
+    }
 }
 
 /// Two nodes at free ports: one asks the other.

@@ -12,9 +12,16 @@ pub(crate) enum Task<'m, 'a> {
     /// The script in this file.
     Simulate(&'a str),
     /// So many turns at a port.
-    Serve { port: u16, turns: u64 },
-    /// The request that some words are, of the node at a port.
-    Ask { port: u16, words: &'m [&'a str] },
+    Serve {
+        port: u16,
+        turns: u64,
+    },
+    /// The request that some words are, of the node at a port; how that ended in words.
+    Ask {
+        text: bool,
+        port: u16,
+        words: &'m [&'a str],
+    },
     /// Two nodes.
     Pair,
 }
@@ -44,7 +51,8 @@ pub(crate) fn task_of<'m, 'a>(matches: &'m ArgMatches<'a>) -> Option<Task<'m, 'a
         }
         ("ask", given) => {
             let (port, words) = ask_of(given)?;
-            Some(Task::Ask { port, words })
+            let text = given.get_flag("text");
+            Some(Task::Ask { text, port, words })
         }
         ("pair", _) => Some(Task::Pair),
         _ => None,

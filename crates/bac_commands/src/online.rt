@@ -1,5 +1,6 @@
 //! Nodes on links: what `bac serve`, `bac ask` and `bac pair` do, over any links and clocks.
 mod asking;
+mod asking_in_words;
 mod pairing;
 mod question;
 mod serving;
@@ -7,6 +8,7 @@ mod station;
 mod trouble;
 
 pub use asking::ask;
+pub use asking_in_words::ask_in_words;
 pub use pairing::pair;
 pub use question::{local, read_question};
 pub use serving::serve;

@@ -1,20 +1,41 @@
 //! Errors, and the reasons of Rejects and Aborts: by their names in the standard and by their numbers.
 ghost use Rattle.std.specs.Prelude.{◌≡◌, IfOk, string_bytes};
-ghost use Rattle.std.specs.Option.{option_map};
-ghost use Rattle.bac_value_text.specs.Reasons.{abort_text, error_text, reject_text};
-ghost use Rattle.bac_value_text.specs.Texts.{named_or_number};
+ghost use Rattle.bac_value_text.specs.Reasons.{abort_text, aborting_text, class_text, code_text, error_text, reject_text, rejection_text};
 
 use bac_names::{abort_reason_name, error_class_name, error_code_name, reject_reason_name};
 use std::alloc::{AllocError, Global};
 
-fn name_or_number(
-    alloc: Global,
-    name: Option<&'static str>,
-    number: u32,
-) -> Result<String, AllocError>
-    ensures { IfOk result (λ t. string_bytes t ≡ named_or_number (option_map (λ s. s.now) name) number) }
+fn class_text(alloc: Global, number: u32) -> Result<String, AllocError>
+    ensures { IfOk result (λ t. string_bytes t ≡ class_text number) }
 {
-    match name {
+    match error_class_name(number) {
+        Some(name) => String::from_str(alloc, name),
+        None => format!(in alloc; "{number}"),
+    }
+}
+
+fn code_text(alloc: Global, number: u32) -> Result<String, AllocError>
+    ensures { IfOk result (λ t. string_bytes t ≡ code_text number) }
+{
+    match error_code_name(number) {
+        Some(name) => String::from_str(alloc, name),
+        None => format!(in alloc; "{number}"),
+    }
+}
+
+fn rejection_text(alloc: Global, number: u32) -> Result<String, AllocError>
+    ensures { IfOk result (λ t. string_bytes t ≡ rejection_text number) }
+{
+    match reject_reason_name(number) {
+        Some(name) => String::from_str(alloc, name),
+        None => format!(in alloc; "{number}"),
+    }
+}
+
+fn aborting_text(alloc: Global, number: u32) -> Result<String, AllocError>
+    ensures { IfOk result (λ t. string_bytes t ≡ aborting_text number) }
+{
+    match abort_reason_name(number) {
         Some(name) => String::from_str(alloc, name),
         None => format!(in alloc; "{number}"),
     }
@@ -24,8 +45,8 @@ fn name_or_number(
 pub fn error_text(alloc: Global, class: u32, code: u32) -> Result<String, AllocError>
     ensures { IfOk result (λ t. string_bytes t ≡ error_text class code) }
 {
-    let class_name = name_or_number(alloc, error_class_name(class), class)?;
-    let code_name = name_or_number(alloc, error_code_name(code), code)?;
+    let class_name = class_text(alloc, class)?;
+    let code_name = code_text(alloc, code)?;
     format!(in alloc; "{class_name} {code_name} ({class}:{code})")
 }
 
@@ -33,8 +54,7 @@ pub fn error_text(alloc: Global, class: u32, code: u32) -> Result<String, AllocE
 pub fn reject_text(alloc: Global, reason: u8) -> Result<String, AllocError>
     ensures { IfOk result (λ t. string_bytes t ≡ reject_text reason) }
 {
-    let number = u32::from(reason);
-    let name = name_or_number(alloc, reject_reason_name(number), number)?;
+    let name = rejection_text(alloc, u32::from(reason))?;
     format!(in alloc; "{name} ({reason})")
 }
 
@@ -42,7 +62,6 @@ pub fn reject_text(alloc: Global, reason: u8) -> Result<String, AllocError>
 pub fn abort_text(alloc: Global, reason: u8) -> Result<String, AllocError>
     ensures { IfOk result (λ t. string_bytes t ≡ abort_text reason) }
 {
-    let number = u32::from(reason);
-    let name = name_or_number(alloc, abort_reason_name(number), number)?;
+    let name = aborting_text(alloc, u32::from(reason))?;
     format!(in alloc; "{name} ({reason})")
 }

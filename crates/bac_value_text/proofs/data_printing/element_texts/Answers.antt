@@ -1,6 +1,5 @@
-use Rattle.std.proofs.Common.{rules, ◌≡◌, ◌<◌, ◌++◌, [], ◌∷◌, ℕ, List, length, map, arith}
+use Rattle.std.proofs.Common.{rules, ◌≡◌, ◌<◌, ◌++◌, [], ◌∷◌, length, map, arith}
 use Rattle.std.proofs.lemmas.Grind.{common_steps}
-use Rattle.bac_value_text.specs.DataTexts.{AreElementTexts}
 use Rattle.bac_value_text.proofs.ElementTexts.{all_taken, one_more, shorter}
 use Rattle.bac_value_text.proofs.data_printing.element_texts.Goals as goal
 
