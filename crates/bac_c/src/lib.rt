@@ -16,6 +16,7 @@ mod listing;
 mod opening;
 mod parked;
 mod performing;
+mod reading;
 mod records;
 mod requests;
 mod results;

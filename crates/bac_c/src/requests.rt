@@ -14,7 +14,7 @@ use bac_value::{DataBuf, ObjectIdentifier, OctetString, read_data};
 use std::alloc::Global;
 
 /// A property; `BadRequest` where a number is outside its range.
-fn reference_of(reference: &Reference) -> Result<PropertyReference, Fault>
+pub fn reference_of(reference: &Reference) -> Result<PropertyReference, Fault>
     ensures same { IfOk result (λ r. property_reference_view r ≡ plain_reference reference.now) }
     ensures why { IfErr result IsUnready }
 {

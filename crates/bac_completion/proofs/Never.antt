@@ -1,10 +1,9 @@
--- Where no end of a net restarted, each ask was made since its ends started.
-use Rattle.std.proofs.Common.{◌≡◌, ℕ, ◌+◌, ◌≤◌, arith}
-use Rattle.bac_protocol.specs.declared.times.TheConstants.{KEEP, REST}
+-- Where no end of a net restarted, each ask was made since its client started.
+use Rattle.std.proofs.Common.{arith}
 use Rattle.bac_protocol.specs.Client.{Ask}
 use Rattle.bac_protocol.specs.Transaction.{Key}
 use Rattle.bac_protocol.specs.World.{Net, NeverRestarted}
-use Rattle.bac_protocol.specs.Claims.{ClientStays, ServerStays}
+use Rattle.bac_protocol.specs.Claims.{ClientStays}
 use Rattle.bac_progress.proofs.Paths.{Bounded}
 
 pub never_bounded : (n : Net) → NeverRestarted n → Bounded n
@@ -12,6 +11,3 @@ never_bounded n h = record { asks = λ node. let none = h.asks node in omega ari
 
 pub client_stays : (n : Net) → NeverRestarted n → (key : Key) (ask : Ask) → ClientStays n key ask
 client_stays n h key ask = let none = h.asks key.client in omega arith
-
-pub server_stays : (n : Net) → NeverRestarted n → (key : Key) (ask : Ask) → ServerStays n key ask
-server_stays n h key ask = let none = h.serves key.server in omega arith

@@ -30,8 +30,9 @@ use Rattle.bac_progress.proofs.Paths.{Any, some_is, Path, bounded_start, path_no
 use Rattle.bac_progress.proofs.Changes.{IdleIsLogged, HasEnded, IsThere, logged_path}
 use Rattle.bac_progress.proofs.Endings.{Tracked, tracked_path}
 use Rattle.bac_progress.proofs.Serving.{answer_not_from_client, performed_entry}
-use Rattle.bac_progress.proofs.Kept.{IsKept, kept_path}
-use Rattle.bac_progress.proofs.RoundTrips.{TakesAnswer, takes_ends, there_takes}
+use Rattle.bac_progress.proofs.Kept.{IsKept}
+use Rattle.bac_progress.proofs.Awaiting.{IsAwaited, awaited_path}
+use Rattle.bac_progress.proofs.RoundTrips.{TakesAnswer, takes_ends, awaited_at, takes_awaited, answer_whole}
 use Rattle.bac_progress.proofs.Robust.{at_end}
 use Rattle.bac_ends.specs.Sends.{Pairwise}
 use Rattle.bac_world.specs.Node.{Node}
@@ -46,7 +47,7 @@ use Rattle.bac_world.proofs.Headline.{headline, fresh_over, rules_of, rules_boun
 use Rattle.bac_completion.specs.Runs.{endings_of}
 use Rattle.bac_completion.specs.RoundTrip.{MayArrive, IsRequest, CanPerform, IsAnswered, IsServed, RoundTripSuffices}
 use Rattle.bac_completion.proofs.Following.{Followed, Parts, IsTaken, IsServedBy, served_reaction, accepted, post, heard_now, served_over, told_over}
-use Rattle.bac_completion.proofs.Never.{never_bounded, client_stays, server_stays}
+use Rattle.bac_completion.proofs.Never.{never_bounded, client_stays}
 use Rattle.bac_completion.proofs.Asked.{key, ask, made, made_over, made_bounded, made_path, there, foreign, request_is, pairwise_rest, pairwise_length}
 use Rattle.bac_completion.proofs.Asked.{just_one}
 use Rattle.bac_completion.proofs.Endings.{on_run, once_in}
@@ -166,7 +167,6 @@ module _ (links : ℕ → Option Octets) (apart : (i j : ℕ) (l : Octets) → l
       entry = performed_entry m.now sender its_ask answer;
       at = set_same m.entries its_key (Some (performed_entry m.now sender its_ask answer));
       begun = refl;
-      past = omega arith;
       state = refl;
     }
 
@@ -211,9 +211,9 @@ module _ (links : ℕ → Option Octets) (apart : (i j : ℕ) (l : Octets) → l
       in_time : f.net.now - its_ask.first ≤ DEADLINE
       in_time = let one = f.over.now in let two = h.now in omega arith
 
-      kept_then : IsKept x Any its_key n.asks its_ask m.now answer since f.net
-      kept_then = kept_path x Any its_key n.asks its_ask m.now answer since u f.net f.path (never_bounded u u_over.sound.1) kept in_time
-          (server_stays f.net f.over.sound.1 its_key its_ask)
+      kept_then : IsAwaited x Any its_key n.asks its_ask answer (answer_whole x its_key its_ask can.reply) f.net
+      kept_then = awaited_path x Any its_key n.asks its_ask answer (answer_whole x its_key its_ask can.reply) u f.net f.path
+          (awaited_at W x its_key its_ask n.asks m.now can.reply since u (reached_net W x bound u u_over.sound.0) kept (inl whole)) in_time
 
       logged_then : IdleIsLogged f.net
       logged_then = logged_path x Any u f.net f.path (never_bounded u u_over.sound.1)
@@ -241,7 +241,7 @@ module _ (links : ℕ → Option Octets) (apart : (i j : ℕ) (l : Octets) → l
           (once (before ++ Deliver number ∷ between) v run_v) performed_then)
 
       takes : TakesAnswer kept_then.there.ticket.phase
-      takes = there_takes W x its_key its_ask n.asks m.now can.reply since f.net (reached_net W x bound f.net f.over.sound.0) kept_then going (inl whole)
+      takes = takes_awaited kept_then.there.ticket.phase going kept_then.phase
 
       ends : client.client_gets (client_context x its_key f.net.now) x.readable kept_then.there.ticket answer ≡ Ends [] (Answered can.reply)
       ends = subst (λ (k : Ask). client.client_gets (client_context x its_key f.net.now) x.readable kept_then.there.ticket (answer_to x its_key k can.reply)

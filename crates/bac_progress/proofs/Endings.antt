@@ -17,7 +17,7 @@ use Rattle.bac_protocol.specs.Client.Reaction.{Stays, Ends}
 use Rattle.bac_protocol.specs.Log.{Fact, Shop, IsUnended, IsOrderly}
 use Rattle.bac_protocol.specs.Log.Fact.{Asked, Performed, Ended, Changed, Restarted}
 use Rattle.bac_protocol.specs.Transaction.{Key, Rules, client_context, ended}
-use Rattle.bac_protocol.specs.World.{Net, World, Event, is_held_since, is_id_held, is_room, happens, run, start, ticks_ticket, ticks_as_client, ticks_as_server}
+use Rattle.bac_protocol.specs.World.{Net, World, Event, is_held_since, is_id_held, happens, run, start, ticks_ticket, ticks_as_client, ticks_as_server}
 use Rattle.bac_protocol.specs.World.{takes_at_client, takes_at_server, arrives, delivered}
 use Rattle.bac_protocol.specs.World.Event.{Tick, Deliver}
 use Rattle.bac_protocol.specs.Claims.{IsBounded, ClientStays}

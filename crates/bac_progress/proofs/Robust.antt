@@ -5,7 +5,7 @@ use Rattle.std.proofs.lemmas.Bool.Decides.{nat_tests}
 use Rattle.std.specs.List.{Contains}
 use Rattle.bac_apdu.specs.Apdu.{Apdu}
 use Rattle.bac_segment.specs.Pieces.{join}
-use Rattle.bac_protocol.specs.declared.times.TheConstants.{T_OUT, LIFE, KEEP, REST}
+use Rattle.bac_protocol.specs.declared.times.TheConstants.{T_OUT, LIFE, KEEP}
 use Rattle.bac_protocol.specs.Service.{Octets, Reply}
 use Rattle.bac_protocol.specs.Service.Ending.{Answered}
 use Rattle.bac_protocol.specs.Client as client
@@ -19,7 +19,7 @@ use Rattle.bac_protocol.specs.Transaction.{Key, Rules, client_context}
 use Rattle.bac_protocol.specs.World.{Net, World, Post, Event, is_deliverable, is_id_held, asked_at, ask_made}
 use Rattle.bac_protocol.specs.World.{happens, run, start, post_of, later, copies_of, service_of}
 use Rattle.bac_protocol.specs.World.Event.{MakeAsk, Deliver, Tick, Noise, Advance, Change, RestartClient, RestartServer}
-use Rattle.bac_protocol.specs.Claims.{IsBounded, ClientStays, ServerStays}
+use Rattle.bac_protocol.specs.Claims.{IsBounded, ClientStays}
 use Rattle.bac_protocol.proofs.Alone.{one}
 use Rattle.bac_protocol.proofs.Asks.{IsSpent}
 use Rattle.bac_protocol.proofs.Facts.{Grows}
@@ -30,10 +30,9 @@ use Rattle.bac_protocol.proofs.Keys.{copy_at, set_same}
 use Rattle.bac_progress.specs.Runs.{Throughout, IsOnItsWay}
 use Rattle.bac_progress.specs.RoundTrip.{FitsInOne, CanPerform, HasPerformed, IsServed, request_to, answer_to}
 use Rattle.bac_progress.specs.Repeats.{PATIENCE, FindsServer, IsAnswered, IsWaiting, IsSentAgain, IsRobust, RepeatsSuffice}
-use Rattle.bac_progress.proofs.Paths.{some_is, ask_of, Gives, Bounded, event_steps, run_steps, path_now, path_log, path_posts, path_bounded, run_path}
+use Rattle.bac_progress.proofs.Paths.{some_is, ask_of, Gives, event_steps, run_steps, path_now, path_log, path_posts, run_path}
 use Rattle.bac_progress.proofs.Paths.{Any}
 use Rattle.bac_progress.proofs.RoundTrips.{room_is, trip}
-use Rattle.bac_progress.proofs.Endings.{bounded_in_run}
 use Rattle.bac_progress.proofs.Ticking.{tick_sends}
 use Rattle.bac_progress.proofs.Waits.{IsFine, IsDoneFor, PatientOrOver, Waits, Finds, answered_grows, done_live, repeat_left}
 use Rattle.bac_progress.proofs.Waits.{waits_path, got, of_map}
@@ -117,9 +116,9 @@ module _ (S : Type 0) (shop : Shop S) (x : Rules) (key : Key) (ask : Ask) (numbe
       reply : Reply
       served : IsServed S shop x key ask reply v u
 
-    brings : (v : World S) → Kept S shop opening W x bound v → Bounded v.net → On v → Young v → (i : ℕ) (free : Bool) → IsOnItsWay x v.net key (request_to x key ask) i
+    brings : (v : World S) → Kept S shop opening W x bound v → On v → Young v → (i : ℕ) (free : Bool) → IsOnItsWay x v.net key (request_to x key ask) i
         → FindsServer S shop x key ask v (Deliver i free) → Brings v (happens S shop x v (Deliver i free))
-    brings v s limit h young i free m finds = go h.entry
+    brings v s h young i free m finds = go h.entry
       where
         is : h.ticket.ticket.ask ≡ ask
         is = h.ticket.is
@@ -129,7 +128,7 @@ module _ (S : Type 0) (shop : Shop S) (x : Rules) (key : Key) (ask : Ask) (numbe
         served p fits can = record {
           reply = p;
           served = subst (λ (k : Ask). IsServed S shop x key k p v (happens S shop x v (Deliver i free))) is
-              (trip S shop opening W x bound v s limit key h.ticket.ticket h.ticket.at p (subst (λ (k : Ask). FitsInOne x key k p) (sym is) fits)
+              (trip S shop opening W x bound v s key h.ticket.ticket h.ticket.at p (subst (λ (k : Ask). FitsInOne x key k p) (sym is) fits)
               (ap (λ (k : Ask). k.whole) is ∙ whole) free
               (subst (λ (k : Ask). CanPerform S shop v key k free p ⊎ HasPerformed x v.net key k (Some (join k.pieces)) p) (sym is) can) i
               (subst (λ (k : Ask). IsOnItsWay x v.net key (request_to x key k) i) (sym is) m));
@@ -141,12 +140,12 @@ module _ (S : Type 0) (shop : Shop S) (x : Rules) (key : Key) (ask : Ask) (numbe
         go (inr d) = served d.reply d.given.0
             (inr (record { entry = d.entry; at = d.at; live = done_live x key ask number v.net young d; request_is = d.request; state = d.state }))
 
-    through : (v : World S) → Kept S shop opening W x bound v → Bounded v.net → On v → Young v → (i : ℕ) (free : Bool) → IsOnItsWay x v.net key (request_to x key ask) i
+    through : (v : World S) → Kept S shop opening W x bound v → On v → Young v → (i : ℕ) (free : Bool) → IsOnItsWay x v.net key (request_to x key ask) i
         → FindsServer S shop x key ask v (Deliver i free) → (between : List Event) (answer : Apdu) (other : Bool)
         → (let u = run S shop x between (happens S shop x v (Deliver i free)) in
-        On u → ClientStays u.net key ask → ServerStays u.net key ask → Young u → IsOnItsWay x u.net key answer (length v.net.posts)
+        On u → ClientStays u.net key ask → Young u → IsOnItsWay x u.net key answer (length v.net.posts)
         → IsAnswered number ask (happens S shop x u (Deliver (length v.net.posts) other)).net.log)
-    through v s limit h young i free m finds between answer other on stays server_stays young_u m_u = go on.ticket.state
+    through v s h young i free m finds between answer other on stays young_u m_u = go on.ticket.state
       where
         b : World S
         b = happens S shop x v (Deliver i free)
@@ -158,7 +157,7 @@ module _ (S : Type 0) (shop : Shop S) (x : Rules) (key : Key) (ask : Ask) (numbe
         z = happens S shop x (run S shop x between (happens S shop x v (Deliver i free))) (Deliver (length v.net.posts) other)
 
         r : Brings v (happens S shop x v (Deliver i free))
-        r = brings v s limit h young i free m finds
+        r = brings v s h young i free m finds
 
         post : Post
         post = post_of key v.net.now (answer_to x key ask r.reply)
@@ -186,7 +185,7 @@ module _ (S : Type 0) (shop : Shop S) (x : Rules) (key : Key) (ask : Ask) (numbe
         go (inr (idle, inr lost)) = absurd (omega arith)
         go (inl p) =
             let now = (r.served).answered between
-            (record { ticket = on.ticket.ticket; at = on.ticket.at; going = ap is_idle p.waits; in_time = omega arith }) server_stays (length v.net.posts)
+            (record { ticket = on.ticket.ticket; at = on.ticket.at; going = ap is_idle p.waits; in_time = omega arith }) (length v.net.posts)
             (record { post = post; at = in_u; key_is = refl; apdu_is = refl; arrives = arrives }) other in (
               r.reply,
               performed,
@@ -194,12 +193,12 @@ module _ (S : Type 0) (shop : Shop S) (x : Rules) (key : Key) (ask : Ask) (numbe
                   (sym (now.log ∙ ap (λ (k : ℕ). Ended k (Answered r.reply) ∷ u.net.log) h.number_is)) (inl refl),
             )
 
-    robust : (w : World S) → Kept S shop opening W x bound w → Bounded w.net → On w → IsRobust S shop x key ask number w
-    robust w s limit h = record {
+    robust : (w : World S) → Kept S shop opening W x bound w → On w → IsRobust S shop x key ask number w
+    robust w s h = record {
       waits = λ events served stays young. waiting_of (run S shop x events w) stays (run_on events w served h young);
       repeats = λ events as_client as_server served young t at awaits due there.
           sent_again (run S shop x events w) (run_on events w served h young) young t at awaits due as_client as_server there;
-      answered = λ before between i free other answer served stays server_stays young m m_u.
+      answered = λ before between i free other answer served stays young m m_u.
           let sp = split before (Deliver i free) between w served in
           let v = run S shop x before w in
           let b = happens S shop x v (Deliver i free) in
@@ -207,8 +206,8 @@ module _ (S : Type 0) (shop : Shop S) (x : Rules) (key : Key) (ask : Ask) (numbe
           let le = path_now x Any b.net u.net (run_steps x S shop between b) in
           let first = path_now x Any v.net b.net (event_steps x S shop v (Deliver i free)) in
           let on_v = run_on before w sp.0 h (omega arith) in
-          through v (run_kept S shop opening W x bound before w s) (path_bounded x Any w.net v.net (run_steps x S shop before w) limit) on_v (omega arith) i free m sp.1 between answer other
-          (run_on between b sp.2 (event_on v (Deliver i free) sp.1 on_v (omega arith)) young) stays server_stays young m_u;
+          through v (run_kept S shop opening W x bound before w s) on_v (omega arith) i free m sp.1 between answer other
+          (run_on between b sp.2 (event_on v (Deliver i free) sp.1 on_v (omega arith)) young) stays young m_u;
     }
 
 -- An ask is made.
@@ -255,13 +254,11 @@ asked_on W x n s key choice front rest calm free = record {
         of_map (IsFine x key ask n.asks asked_log) key n.now (request_to x key ask ∷ []) (inl refl, tt) new.0 q new.1
 
 module _ (S : Type 0) (shop : Shop S) (opening : ℕ → S) (W : ℕ) (x : Rules) (bound : IsBounded W x) where
-  repeats_suffice : (w : World S) → Kept S shop opening W x bound w → Bounded w.net → RepeatsSuffice S shop x w
-  repeats_suffice w s limit key choice front rest free =
+  repeats_suffice : (w : World S) → Kept S shop opening W x bound w → RepeatsSuffice S shop x w
+  repeats_suffice w s key choice front rest free =
       subst (λ (u : World S). IsRobust S shop x key ask w.net.asks u) (sym path)
       (robust S shop x key ask w.net.asks refl opening W bound (ask_made S x w key ask)
       (subst (λ (u : World S). Kept S shop opening W x bound u) path (event_kept S shop opening W x bound w s (MakeAsk key choice true front rest)))
-      (subst (λ (u : World S). Bounded u.net) path (path_bounded x Any w.net (happens S shop x w (MakeAsk key choice true front rest)).net
-      (event_steps x S shop w (MakeAsk key choice true front rest)) limit))
       (asked_on W x w.net s.net key choice front rest s.calm free))
     where
       ask : Ask
@@ -272,4 +269,4 @@ module _ (S : Type 0) (shop : Shop S) (opening : ℕ → S) (W : ℕ) (x : Rules
 
   pub all_repeats_suffice : (events : List Event) → RepeatsSuffice S shop x (run S shop x events (start S opening))
   all_repeats_suffice events = repeats_suffice (run S shop x events (start S opening))
-      (run_kept S shop opening W x bound events (start S opening) (start_kept S shop opening W x bound)) (bounded_in_run S shop opening W x bound events)
+      (run_kept S shop opening W x bound events (start S opening) (start_kept S shop opening W x bound))

@@ -1,10 +1,10 @@
 -- An ask of one APDU whose copies find their server is waited for, or answered, or lost by its client's restart.
-use Rattle.std.proofs.Common.{◌≡◌, ℕ, zero, suc, ◌+◌, ◌-◌, ◌*◌, ◌<◌, ◌≤◌, ◌⊎◌, Bool, true, false, ◌&&◌, ◌||◌, not, List, [], ◌∷◌, ◌++◌, map}
-use Rattle.std.proofs.Common.{Option, Some, None, slice_get, if◌then◌else◌, nat_le, nat_lt, nat_eq, refl, sym, ap, subst, inl, inr, ◌∙◌, arith}
+use Rattle.std.proofs.Common.{◌≡◌, ℕ, zero, suc, ◌+◌, ◌-◌, ◌*◌, ◌<◌, ◌≤◌, ◌⊎◌, Bool, true, false, ◌&&◌, List, [], ◌∷◌, ◌++◌, map}
+use Rattle.std.proofs.Common.{Option, Some, None, slice_get, if◌then◌else◌, nat_le, nat_eq, refl, sym, ap, subst, inl, inr, ◌∙◌, arith}
 use Rattle.std.proofs.lemmas.Bool.Decides.{nat_tests}
 use Rattle.bac_apdu.specs.Apdu.{Apdu}
 use Rattle.bac_segment.specs.Pieces.{join}
-use Rattle.bac_protocol.specs.declared.times.TheConstants.{T_OUT, LIFE, HOLD, REST}
+use Rattle.bac_protocol.specs.declared.times.TheConstants.{T_OUT, LIFE, REST}
 use Rattle.bac_protocol.specs.Context.{Context}
 use Rattle.bac_protocol.specs.Service.{Octets, Reply}
 use Rattle.bac_protocol.specs.Service.Outcome.{Replies}
@@ -20,7 +20,7 @@ use Rattle.bac_protocol.specs.Server.State.{Done}
 use Rattle.bac_protocol.specs.Log.{Fact, Has}
 use Rattle.bac_protocol.specs.Log.Fact.{Asked, Performed, Ended, Changed, Restarted}
 use Rattle.bac_protocol.specs.Transaction.{Key, Rules, client_context, server_context, ended, performed}
-use Rattle.bac_protocol.specs.World.{Net, Post, is_held_since, is_id_held, is_room, lost, asked_at, client_acts, server_acts, notes_change, client_restarted, server_restarted}
+use Rattle.bac_protocol.specs.World.{Net, Post, is_id_held, is_room, lost, asked_at, client_acts, server_acts, notes_change, client_restarted, server_restarted}
 use Rattle.bac_protocol.specs.World.{post_of, set_at, later}
 use Rattle.bac_protocol.proofs.Facts.{Grows, grows_more}
 use Rattle.bac_protocol.proofs.Keys.{decide_key, set_same, set_other}
@@ -31,6 +31,7 @@ use Rattle.bac_progress.specs.Repeats.{IsAnswered, PATIENCE}
 use Rattle.bac_progress.proofs.Paths.{some_is, ask_of, Comes, Step, Path, step_now, grows_ended, grows_performed}
 use Rattle.bac_progress.proofs.Paths.Step.{Asks, Serves, Hears, TicksTicket, TicksEntry, Passes, Changes, RestartsClient, RestartsServer}
 use Rattle.bac_progress.proofs.Paths.Path.{Here, Then}
+use Rattle.bac_progress.proofs.Kept.{held_in_time}
 use Rattle.bac_progress.proofs.Serving.{answer_any_time, answer_not_from_client, answer_ends, performed_entry, answers_first, serves_new, serves_again}
 
 -- Lists of copies.
@@ -441,28 +442,8 @@ module _ (x : Rules) (key : Key) (ask : Ask) (number : ℕ) where
   fine_down log a down (inr r) = r
 
   key_held : (n : Net) → Waits n → InPatience n → is_id_held n key ≡ true
-  key_held n h young = by_wait (nat_lt n.now (n.asks_from key.client)) refl
-    where
-      t : Ticket
-      t = h.ticket.ticket
-
-      first : t.ask.first ≡ ask.first
-      first = ap (λ (a : Ask). a.first) h.ticket.is
-
-      held : (b : Bool) → (not b || nat_le (n.now - t.ask.first) HOLD) ≡ true
-      held false = refl
-      held true = let f = first in grind (arith, nat_tests)
-
-      since : nat_lt n.now (n.asks_from key.client) ≡ false → nat_le (n.asks_from key.client) (t.ask.first + REST) ≡ true
-      since e = let f = first in grind (arith, nat_tests)
-
-      by_wait : (b : Bool) → nat_lt n.now (n.asks_from key.client) ≡ b → is_id_held n key ≡ true
-      by_wait true e = ap (λ (c : Bool). c || is_held_since (n.asks_from key.client) n.now (n.tickets key)) e
-      by_wait false e =
-          ap (λ (c : Bool). c || is_held_since (n.asks_from key.client) n.now (n.tickets key)) e
-          ∙ ap (is_held_since (n.asks_from key.client) n.now) h.ticket.at
-          ∙ ap (λ (c : Bool). c && is_held n.now t) (since e)
-          ∙ held (is_idle t.phase)
+  key_held n h young = held_in_time x Finds key number ask n
+      (record { ticket = h.ticket.ticket; at = h.ticket.at; is = h.ticket.is; number_is = h.number_is }) (omega arith)
 
   -- another transaction's ask
   asked_waits : (n : Net) (k : Key) (other : Ask) → (k ≡ key → ⊥) → Waits n → Waits (asked_at x n k other)

@@ -1,5 +1,5 @@
 -- What holds of one transaction holds of each of many.
-use Rattle.std.proofs.Common.{◌≡◌, ℕ, ◌+◌, ◌-◌, ◌<◌, ◌≤◌, ◌≢◌, ◌⊎◌, Bool, true, false, ◌||◌, not, List, ◌∷◌, Option, Some, None}
+use Rattle.std.proofs.Common.{◌≡◌, ℕ, ◌+◌, ◌<◌, ◌≤◌, ◌≢◌, ◌⊎◌, Bool, true, false, not, List, ◌∷◌, Option, Some, None}
 use Rattle.std.proofs.Common.{nat_lt, nat_eq, refl, sym, if◌then◌else◌}
 use Rattle.std.proofs.Common.{ap, subst, inl, inr, ◌∙◌, arith, zero-add}
 use Rattle.std.proofs.lemmas.Bool.Decides.{nat_tests}

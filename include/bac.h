@@ -1,0 +1,241 @@
+/* bac.h: a proved BACnet/IP node (ReadProperty, WriteProperty, AtomicReadFile, AtomicWriteFile, with segmentation in both directions; ANSI/ASHRAE 135) inside
+ * a program of your own. You keep the socket, the clock and the objects; the node answers and asks. docs/C.md begins with an example.
+ *
+ * Link libbac_c.a and a heap (examples/c/heap.c). C99 and C++.
+ *
+ * Rules of every call
+ * - A bac_node begins as BAC_NODE_EMPTY, is never copied, and its members are never touched. Used before bac_open, opened twice, used after bac_close or closed
+ *   twice, it does no harm: the call answers BAC_NOT_OPEN or BAC_ALREADY_OPEN, or 0 where it counts.
+ * - After a status that is not BAC_OK nothing has changed; after BAC_NO_MEMORY the same call may be made again.
+ * - Moments are milliseconds of one clock that never goes back, from any start.
+ * - A link is four octets of IPv4 address and two of UDP port, the high one first, as sockaddr_in has them.
+ * - Octets are given by address and number, and stay the caller's. A call that copies octets out returns how many there are; where they are more than there is
+ *   room, it copies none.
+ * - What came of a call (bac_sends to bac_cause) is there to be read until the next bac_on, bac_tick, bac_ask_.., bac_start or bac_close that succeeds.
+ *
+ * What the program promises (nothing checks it)
+ * - Each pointer is valid for the call, never null, also where the number is 0, and no two of one call overlap. A bool is 0 or 1.
+ * - One call at a time for a node, from the thread that opened it, and none from a signal handler.
+ */
+#ifndef BAC_H
+#define BAC_H
+
+#include <stdbool.h>
+#include <stddef.h>
+#include <stdint.h>
+
+#ifdef __cplusplus
+extern "C" {
+#endif
+
+/* A node. Its memory is the library's from bac_open to bac_close. */
+typedef struct bac_node {
+    bool held;
+    void *at;
+} bac_node;
+
+#define BAC_NODE_EMPTY \
+    { 0, 0 }
+
+typedef uint32_t bac_status;
+
+enum {
+    BAC_OK = 0,
+    BAC_CLOCK_BACK = 1,       /* the moment is before the latest one that the node was told */
+    BAC_NO_MEMORY = 2,        /* memory was refused */
+    BAC_NOT_OPEN = 3,         /* not opened, or closed */
+    BAC_NOT_STARTED = 4,      /* open, and not started */
+    BAC_ALREADY_OPEN = 5,
+    BAC_ALREADY_STARTED = 6,
+    BAC_BAD_SETTINGS = 7,     /* a member of bac_settings is outside its range */
+    BAC_BAD_OBJECT = 8,       /* an object, name, property, value or file that no node can have */
+    BAC_DUPLICATE = 9,        /* two objects of one type and instance */
+    BAC_BAD_REQUEST = 10,     /* a number outside its range, or octets that are no data */
+    BAC_SELF_PEER = 11,       /* the peer is at the node's own link */
+    BAC_TOO_LONG = 12,        /* more octets than can be sent, or kept */
+    BAC_NEEDS_SEGMENTS = 13,  /* the peer takes no segments, or fewer than are needed */
+    BAC_NO_INVOKE_ID = 14,    /* all 256 invoke IDs are held for that peer */
+    BAC_NO_SLOT = 15,         /* all client slots are held */
+    BAC_NO_SUCH_OBJECT = 16,
+    BAC_NO_SUCH_PROPERTY = 17,
+    BAC_BAD_VALUE = 18        /* a value that the property cannot have */
+};
+
+/* What a node is made of. */
+typedef struct bac_settings {
+    uint8_t link[6];       /* its own link */
+    uint8_t max_apdu;      /* the longest APDU that it takes: 0 to 5 for 50, 128, 206, 480, 1024 and 1476 octets */
+    bool takes_segments;   /* whether it takes replies in segments */
+    uint8_t max_segments;  /* how many: 0 to 7 for unspecified, 2, 4, 8, 16, 32, 64 and more */
+    uint8_t window;        /* the greatest window that it proposes or grants: 1 to 64 segments */
+    size_t client_slots;   /* how many asks can be open: 1 to 1024 */
+    size_t reply_slots;    /* how many requests it remembers, each for 65,000 ms: 1 to 1024 */
+} bac_settings;
+
+/* APDUs of 1476 octets, any number of segments, windows of 32, 64 slots at each end, at that link. */
+#define BAC_SETTINGS(a, b, c, d, port_high, port_low) \
+    { { (a), (b), (c), (d), (port_high), (port_low) }, 5, true, 7, 32, 64, 64 }
+
+/* Whom a node asks, and what that takes; codes as above. */
+typedef struct bac_target {
+    uint8_t link[6];
+    uint8_t max_apdu;
+    bool takes_segments;
+    uint8_t max_segments;
+} bac_target;
+
+#define BAC_WHOLE 0xFFFFFFFFu
+
+/* A property of an object. */
+typedef struct bac_reference {
+    uint16_t object_type; /* 0 to 1,023 */
+    uint32_t instance;    /* 0 to 4,194,303 */
+    uint32_t property;
+    uint32_t index;       /* an element of an array, or BAC_WHOLE */
+} bac_reference;
+
+enum {
+    BAC_VALUES = 0,    /* a property was read: the octets are its values */
+    BAC_DONE = 1,      /* a property was written */
+    BAC_ERROR = 2,     /* class and code */
+    BAC_REJECT = 3,    /* code is the reason */
+    BAC_ABORT = 4,     /* code is the reason */
+    BAC_TIMED_OUT = 5, /* nothing came */
+    BAC_EXPIRED = 6,   /* no end came within 60,000 ms */
+    BAC_CONTENT = 7,   /* a file was read: the octets from position on; code is 1 where they reach its end */
+    BAC_PLACED = 8     /* a file was written from position on */
+};
+
+/* How an ask ended. */
+typedef struct bac_ending {
+    uint64_t ticket;
+    uint32_t how;
+    uint32_t class_;
+    uint32_t code;
+    int64_t position;
+} bac_ending;
+
+/* A request that the node performed. */
+typedef struct bac_act {
+    uint8_t link[6];      /* the peer's link */
+    uint8_t service;      /* 6 AtomicReadFile, 7 AtomicWriteFile, 12 ReadProperty, 15 WriteProperty; 0: none was performed */
+    bool done;            /* false where it was answered with an Error, and changed nothing */
+    uint16_t object_type;
+    uint32_t instance;
+    uint32_t property;    /* 0 of a file */
+    uint32_t index;       /* an element, or BAC_WHOLE; 0 of a file */
+    int64_t position;     /* in the file, -1 its end; 0 of a property */
+} bac_act;
+
+/* ---- opening and closing */
+
+/* BAC_OK, BAC_ALREADY_OPEN, BAC_NO_MEMORY */
+bac_status bac_open(bac_node *node);
+
+/* Frees all that the node has. */
+void bac_close(bac_node *node);
+
+/* ---- objects: between bac_open and bac_start */
+
+/* Lists an object: type 0 analog-input, 2 analog-value, 5 binary-value, 8 device, 10 file, or 128 to 1,023; instance 0 to 4,194,302; name in UTF-8.
+ * BAC_BAD_OBJECT where no object has such a type, instance or text; all else is looked at by bac_start. */
+bac_status bac_add_object(bac_node *node, uint16_t object_type, uint32_t instance, const uint8_t *name, size_t name_len);
+
+/* Lists a property of the object that was listed last: its values as octets of data (clause 20.2), and whether the network may write them. */
+bac_status bac_add_property(bac_node *node, uint32_t number, const uint8_t *octets, size_t len, bool writable);
+
+/* Gives the object that was listed last, a file, its octets. */
+bac_status bac_add_file(bac_node *node, const uint8_t *octets, size_t len, bool writable);
+
+/* Starts the node with the objects that are listed. BAC_BAD_SETTINGS, BAC_DUPLICATE, BAC_BAD_OBJECT, BAC_NO_MEMORY: they stay listed. */
+bac_status bac_start(bac_node *node, const bac_settings *settings);
+
+/* Starts it with the house of `bac serve` instead: device 1, analog-input 5, analog-value 1, binary-value 1, file 1. */
+bac_status bac_start_house(bac_node *node, const bac_settings *settings);
+
+/* ---- datagrams and time */
+
+/* A datagram came. BAC_CLOCK_BACK, BAC_NO_MEMORY. */
+bac_status bac_on(bac_node *node, uint64_t now, const uint8_t from[6], const uint8_t *octets, size_t len);
+
+/* Does what is due: repeats, and asks that end. BAC_CLOCK_BACK, BAC_NO_MEMORY. */
+bac_status bac_tick(bac_node *node, uint64_t now);
+
+/* The first moment at which bac_tick does anything; UINT64_MAX: none. */
+uint64_t bac_next_due(bac_node *node);
+
+/* ---- asks: each puts out a ticket, which bac_end names later. Statuses 1 to 4 and 10 to 15. */
+
+bac_status bac_ask_read(bac_node *node, uint64_t now, const bac_target *target, const bac_reference *reference, uint64_t *ticket);
+
+/* priority: 1 to 16, or 0 for none */
+bac_status bac_ask_write(bac_node *node, uint64_t now, const bac_target *target, const bac_reference *reference, const uint8_t *octets, size_t len,
+                         uint8_t priority, uint64_t *ticket);
+
+/* file: the instance of a file object. position: where the octets go, -1 at the end (an append). */
+bac_status bac_ask_put(bac_node *node, uint64_t now, const bac_target *target, uint32_t file, int64_t position, const uint8_t *octets, size_t len,
+                       uint64_t *ticket);
+
+bac_status bac_ask_get(bac_node *node, uint64_t now, const bac_target *target, uint32_t file, int64_t position, uint64_t count, uint64_t *ticket);
+
+/* ---- what came of the last call */
+
+/* How many datagrams are to be sent, and each, in order: where it goes, and its octets (at most 1,514). */
+size_t bac_sends(bac_node *node);
+size_t bac_send(bac_node *node, size_t index, uint8_t to[6], uint8_t *out, size_t room);
+
+/* How many asks have ended, and how each did, with the octets that came. */
+size_t bac_ends(bac_node *node);
+size_t bac_end(bac_node *node, size_t index, bac_ending *ending, uint8_t *out, size_t room);
+
+/* The request that was performed, with the octets that it wrote: where act->service is 7 or 15 and act->done holds, act on it. */
+size_t bac_performed(bac_node *node, bac_act *act, uint8_t *out, size_t room);
+
+/* Why the last datagram was dropped: 0 it was not, 1 no BVLL, 2 no NPDU, 3 routed elsewhere, 4 a network message, 5 no APDU, 6 from the node's own link. */
+uint32_t bac_cause(bac_node *node);
+
+/* ---- the node's own store */
+
+/* Sets the values of a listed property, whether or not the network may write it. BAC_BAD_REQUEST, BAC_NO_SUCH_OBJECT, BAC_NO_SUCH_PROPERTY, BAC_BAD_VALUE,
+ * BAC_TOO_LONG, BAC_NO_MEMORY. */
+bac_status bac_set_value(bac_node *node, uint16_t object_type, uint32_t instance, uint32_t property, const uint8_t *octets, size_t len);
+
+/* Copies the values of a property out, computed ones too, and puts out how many octets they are. BAC_BAD_REQUEST, BAC_NO_SUCH_OBJECT, BAC_NO_SUCH_PROPERTY,
+ * BAC_NO_MEMORY. */
+bac_status bac_get_value(bac_node *node, const bac_reference *reference, uint8_t *out, size_t room, size_t *len);
+
+/* Sets all octets of a file. */
+bac_status bac_set_file(bac_node *node, uint32_t file, const uint8_t *octets, size_t len);
+
+/* ---- how full the node is, at a moment: client slots that are held, and requests that are remembered */
+
+size_t bac_held(bac_node *node, uint64_t now);
+size_t bac_live(bac_node *node, uint64_t now);
+
+/* ---- texts */
+
+/* The text of a status. */
+static inline const char *bac_text(bac_status status)
+{
+    static const char *const texts[] = {
+        "ok", "the clock went back", "no memory", "not open", "not started", "already open", "already started", "bad settings", "bad object",
+        "two objects of one type and instance", "bad request", "the peer is the node itself", "too long", "the peer takes too few segments",
+        "no invoke ID is free", "no slot is free", "no such object", "no such property", "bad value"
+    };
+    return status < sizeof texts / sizeof texts[0] ? texts[status] : "unknown status";
+}
+
+/* A Real (clause 20.2.6) as the five octets of its data, from the bits of an IEEE 754 single. */
+static inline void bac_put_real(uint8_t out[5], uint32_t bits)
+{
+    out[0] = 0x44;
+    out[1] = (uint8_t)(bits >> 24);
+    out[2] = (uint8_t)(bits >> 16);
+    out[3] = (uint8_t)(bits >> 8);
+    out[4] = (uint8_t)bits;
+}
+
+#ifdef __cplusplus
+}
+#endif
+#endif

@@ -1,0 +1,252 @@
+/* Every call of bac.h, two nodes in one process, with no socket. Each allocation of the run is then refused in turn: the call that met it answers
+ * BAC_NO_MEMORY, does it when it is called again, and all that follows is the same. */
+#include "bac.h"
+
+#include <stdio.h>
+#include <string.h>
+
+#ifdef __cplusplus
+extern "C" {
+#endif
+extern unsigned long heap_count, heap_refused;
+#ifdef __cplusplus
+}
+#endif
+
+static unsigned long refusals;
+
+/* a call, made again where memory was refused */
+#define CALL(want, call) \
+    do { \
+        bac_status got_ = (call); \
+        if (got_ == BAC_NO_MEMORY && (want) != BAC_NO_MEMORY) { \
+            refusals++; \
+            got_ = (call); \
+        } \
+        if (got_ != (bac_status)(want)) { \
+            printf("line %d: %s, not %s\n", __LINE__, bac_text(got_), bac_text(want)); \
+            return 1; \
+        } \
+    } while (0)
+
+#define HOLDS(fact) \
+    do { \
+        if (!(fact)) { \
+            printf("line %d: not so: %s\n", __LINE__, #fact); \
+            return 1; \
+        } \
+    } while (0)
+
+static const uint8_t HERE[6] = { 127, 0, 0, 1, 0xBA, 0xC0 }, THERE[6] = { 127, 0, 0, 1, 0xBA, 0xC2 };
+static const uint8_t QUESTION[] = { 0x81, 0x0A, 0, 0x11, 1, 4, 0, 5, 1, 0x0C, 0x0C, 0, 0, 0, 5, 0x19, 0x55 };
+static const uint8_t FLOW[] = { 0x81, 0x0A, 0, 0x17, 1, 0, 0x30, 1, 0x0C, 0x0C, 0, 0, 0, 5, 0x19, 0x55, 0x3E, 0x44, 0x42, 0x90, 0x99, 0x9A, 0x3F };
+static const uint8_t REAL_10[] = { 0x44, 0x41, 0x20, 0, 0 }, REAL_20[] = { 0x44, 0x41, 0xA0, 0, 0 };
+
+static size_t n;
+static uint8_t to[6], out[1514];
+
+/* nothing is open: no harm, and a status */
+static int closed_rows(bac_node *node)
+{
+    bac_settings s = BAC_SETTINGS(127, 0, 0, 1, 0xBA, 0xC0);
+    bac_target t = { { 127, 0, 0, 1, 0xBA, 0xC2 }, 5, true, 7 };
+    bac_reference r = { 0, 5, 85, BAC_WHOLE };
+    bac_ending e;
+    bac_act a;
+    uint64_t ticket = 0;
+    CALL(BAC_NOT_OPEN, bac_add_object(node, 8, 1, out, 1));
+    CALL(BAC_NOT_OPEN, bac_add_property(node, 85, REAL_10, 5, true));
+    CALL(BAC_NOT_OPEN, bac_add_file(node, out, 1, true));
+    CALL(BAC_NOT_OPEN, bac_start(node, &s));
+    CALL(BAC_NOT_OPEN, bac_start_house(node, &s));
+    CALL(BAC_NOT_OPEN, bac_on(node, 0, THERE, QUESTION, sizeof QUESTION));
+    CALL(BAC_NOT_OPEN, bac_tick(node, 0));
+    CALL(BAC_NOT_OPEN, bac_ask_read(node, 0, &t, &r, &ticket));
+    CALL(BAC_NOT_OPEN, bac_ask_write(node, 0, &t, &r, REAL_10, 5, 0, &ticket));
+    CALL(BAC_NOT_OPEN, bac_ask_put(node, 0, &t, 1, -1, out, 1, &ticket));
+    CALL(BAC_NOT_OPEN, bac_ask_get(node, 0, &t, 1, 0, 1, &ticket));
+    CALL(BAC_NOT_OPEN, bac_set_value(node, 0, 5, 85, REAL_10, 5));
+    CALL(BAC_NOT_OPEN, bac_set_file(node, 1, out, 1));
+    CALL(BAC_NOT_OPEN, bac_get_value(node, &r, out, sizeof out, &n));
+    HOLDS(bac_next_due(node) == UINT64_MAX && bac_sends(node) == 0 && bac_ends(node) == 0 && bac_cause(node) == 0);
+    HOLDS(bac_send(node, 0, to, out, sizeof out) == 0 && bac_end(node, 0, &e, out, sizeof out) == 0);
+    HOLDS(bac_performed(node, &a, out, sizeof out) == 0 && a.service == 0);
+    HOLDS(bac_held(node, 0) == 0 && bac_live(node, 0) == 0);
+    bac_close(node);
+    return 0;
+}
+
+/* a house answers */
+static int house_rows(bac_node *node)
+{
+    bac_settings s = BAC_SETTINGS(127, 0, 0, 1, 0xBA, 0xC0), bad = s;
+    bac_act a;
+    bad.window = 65;
+    CALL(BAC_OK, bac_open(node));
+    CALL(BAC_ALREADY_OPEN, bac_open(node));
+    CALL(BAC_NOT_STARTED, bac_on(node, 0, THERE, QUESTION, sizeof QUESTION));
+    CALL(BAC_NOT_STARTED, bac_set_file(node, 1, out, 1));
+    CALL(BAC_BAD_SETTINGS, bac_start_house(node, &bad));
+    CALL(BAC_OK, bac_start_house(node, &s));
+    CALL(BAC_ALREADY_STARTED, bac_start_house(node, &s));
+    CALL(BAC_ALREADY_STARTED, bac_add_object(node, 8, 1, out, 1));
+    CALL(BAC_OK, bac_on(node, 10, THERE, QUESTION, sizeof QUESTION));
+    HOLDS(bac_sends(node) == 1 && bac_send(node, 1, to, out, sizeof out) == 0);
+    HOLDS(bac_send(node, 0, to, out, 22) == sizeof FLOW);
+    n = bac_send(node, 0, to, out, sizeof out);
+    HOLDS(n == sizeof FLOW && memcmp(out, FLOW, n) == 0 && memcmp(to, THERE, 6) == 0);
+    HOLDS(bac_performed(node, &a, out, sizeof out) == 0 && a.service == 12 && a.done && a.object_type == 0 && a.instance == 5);
+    HOLDS(a.property == 85 && a.index == BAC_WHOLE && memcmp(a.link, THERE, 6) == 0);
+    HOLDS(bac_live(node, 10) == 1 && bac_live(node, 65011) == 0 && bac_held(node, 10) == 0);
+    CALL(BAC_OK, bac_on(node, 11, THERE, QUESTION, 3));
+    HOLDS(bac_cause(node) == 1 && bac_sends(node) == 0);
+    CALL(BAC_OK, bac_on(node, 12, HERE, QUESTION, sizeof QUESTION));
+    HOLDS(bac_cause(node) == 6);
+    CALL(BAC_CLOCK_BACK, bac_tick(node, 11));
+    HOLDS(bac_cause(node) == 6);
+    CALL(BAC_OK, bac_tick(node, 12));
+    HOLDS(bac_cause(node) == 0);
+    return 0;
+}
+
+/* a node with objects of its own */
+static int own_rows(bac_node *node)
+{
+    bac_settings s = BAC_SETTINGS(127, 0, 0, 1, 0xBA, 0xC2);
+    bac_reference r = { 2, 1, 85, BAC_WHOLE };
+    static const uint8_t name[] = { 's', 'e', 't' }, latin[] = { 0xE4 };
+    CALL(BAC_OK, bac_open(node));
+    CALL(BAC_BAD_OBJECT, bac_add_property(node, 85, REAL_10, 5, true));
+    CALL(BAC_BAD_OBJECT, bac_add_object(node, 1024, 1, name, 3));
+    CALL(BAC_BAD_OBJECT, bac_add_object(node, 2, 1, latin, 1));
+    CALL(BAC_OK, bac_add_object(node, 2, 1, name, 3));
+    CALL(BAC_BAD_OBJECT, bac_add_property(node, 85, REAL_10, 4, true));
+    CALL(BAC_OK, bac_add_property(node, 85, REAL_10, 5, true));
+    CALL(BAC_OK, bac_add_object(node, 10, 1, name, 3));
+    CALL(BAC_BAD_OBJECT, bac_start(node, &s)); /* a file without octets */
+    CALL(BAC_OK, bac_add_file(node, name, 3, true));
+    CALL(BAC_OK, bac_start(node, &s));
+    CALL(BAC_NO_SUCH_OBJECT, bac_set_value(node, 2, 9, 85, REAL_10, 5));
+    CALL(BAC_NO_SUCH_PROPERTY, bac_set_value(node, 2, 1, 28, REAL_10, 5));
+    CALL(BAC_BAD_VALUE, bac_set_value(node, 2, 1, 85, name, 3));
+    CALL(BAC_BAD_REQUEST, bac_set_value(node, 1024, 1, 85, REAL_10, 5));
+    CALL(BAC_OK, bac_set_value(node, 2, 1, 85, REAL_20, 5));
+    CALL(BAC_OK, bac_get_value(node, &r, out, sizeof out, &n));
+    HOLDS(n == 5 && memcmp(out, REAL_20, 5) == 0);
+    CALL(BAC_OK, bac_get_value(node, &r, out, 4, &n));
+    HOLDS(n == 5);
+    r.property = 28;
+    CALL(BAC_NO_SUCH_PROPERTY, bac_get_value(node, &r, out, sizeof out, &n));
+    r.instance = 9;
+    CALL(BAC_NO_SUCH_OBJECT, bac_get_value(node, &r, out, sizeof out, &n));
+    r.object_type = 1024;
+    CALL(BAC_BAD_REQUEST, bac_get_value(node, &r, out, sizeof out, &n));
+    CALL(BAC_NO_SUCH_OBJECT, bac_set_file(node, 2, name, 3));
+    CALL(BAC_OK, bac_set_file(node, 1, name, 2));
+    return 0;
+}
+
+/* the datagrams of a call go over, and what they are answered comes back */
+static int carry(bac_node *client, bac_node *server, uint64_t now)
+{
+    n = bac_send(client, 0, to, out, sizeof out);
+    HOLDS(bac_sends(client) == 1 && memcmp(to, THERE, 6) == 0);
+    CALL(BAC_OK, bac_on(server, now, HERE, out, n));
+    n = bac_send(server, 0, to, out, sizeof out);
+    HOLDS(bac_sends(server) == 1 && memcmp(to, HERE, 6) == 0);
+    CALL(BAC_OK, bac_on(client, now, THERE, out, n));
+    HOLDS(bac_ends(client) == 1);
+    return 0;
+}
+
+static int ask_rows(bac_node *client, bac_node *server)
+{
+    bac_target t = { { 127, 0, 0, 1, 0xBA, 0xC2 }, 5, true, 7 }, self = t, bad = t;
+    bac_reference r = { 2, 1, 85, BAC_WHOLE }, none = r, wrong = r;
+    bac_ending e;
+    bac_act a;
+    uint64_t ticket = 99;
+    static const uint8_t more[] = { 'o', 'n' };
+    memcpy(self.link, HERE, 6);
+    bad.max_apdu = 6;
+    none.instance = 9;
+    wrong.object_type = 1024;
+    CALL(BAC_SELF_PEER, bac_ask_read(client, 100, &self, &r, &ticket));
+    CALL(BAC_BAD_REQUEST, bac_ask_read(client, 100, &bad, &r, &ticket));
+    CALL(BAC_BAD_REQUEST, bac_ask_read(client, 100, &t, &wrong, &ticket));
+    CALL(BAC_BAD_REQUEST, bac_ask_write(client, 100, &t, &r, REAL_10, 4, 0, &ticket));
+    CALL(BAC_BAD_REQUEST, bac_ask_write(client, 100, &t, &r, REAL_10, 5, 17, &ticket));
+    CALL(BAC_CLOCK_BACK, bac_ask_read(client, 1, &t, &r, &ticket));
+    HOLDS(ticket == 99);
+
+    CALL(BAC_OK, bac_ask_read(client, 100, &t, &r, &ticket));
+    HOLDS(ticket == 0 && bac_held(client, 100) == 1 && bac_next_due(client) > 100);
+    if (carry(client, server, 101)) { return 1; }
+    n = bac_end(client, 0, &e, out, sizeof out);
+    HOLDS(e.ticket == 0 && e.how == BAC_VALUES && n == 5 && memcmp(out, REAL_20, 5) == 0);
+    HOLDS(bac_end(client, 1, &e, out, sizeof out) == 0);
+
+    CALL(BAC_OK, bac_ask_write(client, 110, &t, &r, REAL_10, 5, 16, &ticket));
+    if (carry(client, server, 111)) { return 1; }
+    HOLDS(bac_end(client, 0, &e, out, sizeof out) == 0 && e.ticket == 1 && e.how == BAC_DONE);
+    n = bac_performed(server, &a, out, sizeof out);
+    HOLDS(a.service == 15 && a.done && a.property == 85 && n == 5 && memcmp(out, REAL_10, 5) == 0);
+
+    CALL(BAC_OK, bac_ask_put(client, 120, &t, 1, -1, more, 2, &ticket));
+    if (carry(client, server, 121)) { return 1; }
+    HOLDS(bac_end(client, 0, &e, out, sizeof out) == 0 && e.how == BAC_PLACED && e.position == 2);
+    n = bac_performed(server, &a, out, sizeof out);
+    HOLDS(a.service == 7 && a.done && a.object_type == 10 && a.position == -1 && n == 2 && memcmp(out, more, 2) == 0);
+
+    CALL(BAC_OK, bac_ask_get(client, 130, &t, 1, 1, 100, &ticket));
+    if (carry(client, server, 131)) { return 1; }
+    n = bac_end(client, 0, &e, out, sizeof out);
+    HOLDS(e.how == BAC_CONTENT && e.code == 1 && e.position == 1 && n == 3 && memcmp(out, "eon", 3) == 0);
+
+    CALL(BAC_OK, bac_ask_read(client, 140, &t, &none, &ticket));
+    if (carry(client, server, 141)) { return 1; }
+    HOLDS(bac_end(client, 0, &e, out, sizeof out) == 0 && e.how == BAC_ERROR && e.class_ == 1 && e.code == 31);
+    HOLDS(bac_performed(server, &a, out, sizeof out) == 0 && a.service == 12 && !a.done);
+
+    /* nobody answers: it is sent four times, and ends */
+    CALL(BAC_OK, bac_ask_read(client, 200, &t, &r, &ticket));
+    for (unsigned repeats = 0; repeats < 3; repeats++) {
+        CALL(BAC_OK, bac_tick(client, bac_next_due(client)));
+        HOLDS(bac_sends(client) == 1 && bac_ends(client) == 0);
+    }
+    CALL(BAC_OK, bac_tick(client, bac_next_due(client)));
+    HOLDS(bac_ends(client) == 1 && bac_end(client, 0, &e, out, sizeof out) == 0 && e.how == BAC_TIMED_OUT && e.ticket == ticket);
+    return 0;
+}
+
+static int rows(bac_node *client, bac_node *server)
+{
+    if (closed_rows(client) || house_rows(client) || own_rows(server) || ask_rows(client, server)) { return 1; }
+    bac_close(client);
+    return closed_rows(client);
+}
+
+static int run(void)
+{
+    bac_node client = BAC_NODE_EMPTY, server = BAC_NODE_EMPTY;
+    int failed = rows(&client, &server);
+    bac_close(&client);
+    bac_close(&server);
+    return failed;
+}
+
+int main(void)
+{
+    if (run()) { return 1; }
+    unsigned long all = heap_count;
+    for (heap_refused = 1; heap_refused <= all; heap_refused++) {
+        unsigned long before = refusals;
+        heap_count = 0;
+        if (run() || refusals != before + 1) {
+            printf("with allocation %lu of %lu refused\n", heap_refused, all);
+            return 1;
+        }
+    }
+    printf("each of %lu allocations refused in turn: %lu calls said so, and did it when called again\n", all, refusals);
+    return 0;
+}

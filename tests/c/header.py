@@ -1,0 +1,98 @@
+#!/usr/bin/env python3
+"""Holds include/bac.h against crates/bac_c: the same calls with the same parameters, the same members, the same numbers of statuses.
+
+header.py TOP [LIB]: TOP of the repository; of LIB, an archive, each call has to be there, and no other name that begins with bac_.
+"""
+import re
+import subprocess
+import sys
+from pathlib import Path
+
+top = Path(sys.argv[1])
+header = re.sub(r"/\*.*?\*/", " ", (top / "include/bac.h").read_text(), flags=re.S)
+code = "\n".join(p.read_text() for p in sorted((top / "crates/bac_c/src").glob("*.rt")))
+code = re.sub(r"//[^\n]*", "", code)
+
+NAMES = {"Handle": "bac_node", "Settings": "bac_settings", "Target": "bac_target", "Reference": "bac_reference", "End": "bac_ending", "Performed": "bac_act"}
+NUMBERS = {"u8": "uint8_t", "u16": "uint16_t", "u32": "uint32_t", "u64": "uint64_t", "i64": "int64_t", "usize": "size_t", "bool": "bool"}
+
+
+def c_types(rust):
+    """The types of C that a parameter of that type is."""
+    if rust == "Global":
+        return []
+    if rust in ("&[u8]", "&mut [u8]"):
+        return [("const " if rust == "&[u8]" else "") + "uint8_t *", "size_t"]
+    if rust in ("&[u8; 6]", "&mut [u8; 6]"):
+        return [("const " if rust == "&[u8; 6]" else "") + "uint8_t [6]"]
+    if rust.startswith("&"):
+        const = "" if rust.startswith("&mut ") else "const "
+        name = rust.removeprefix("&").removeprefix("mut ")
+        return [const + NAMES.get(name, NUMBERS.get(name, name)) + " *"]
+    return [NUMBERS[rust]]
+
+
+def exports():
+    calls = {}
+    for name, params, result in re.findall(r'pub extern "C" fn (\w+)\((.*?)\)(?: -> (\w+))?\s', code, flags=re.S):
+        types = [t for p in re.split(r",\s*(?![^\[]*\])", params.strip().rstrip(",")) for t in c_types(p.split(":", 1)[1].strip())]
+        calls[name] = (NUMBERS.get(result, "void"), types)
+    return calls
+
+
+def prototypes():
+    calls = {}
+    for result, name, params in re.findall(r"^(bac_status|void|uint64_t|uint32_t|size_t) (bac_\w+)\(([^)]*)\);", header, flags=re.M):
+        types = []
+        for p in re.split(r",\s*", " ".join(params.split())):
+            array = "[6]" in p
+            p = p.replace("[6]", "")
+            kind = re.sub(r"\w+$", "", p).strip()
+            kind = kind.replace(" *", "*").replace("*", " *")
+            types.append(kind + " [6]" if array else kind)
+        calls[name] = ("uint32_t" if result == "bac_status" else result, types)
+    return calls
+
+
+def rust_structs():
+    structs = {}
+    for name, body in re.findall(r"#\[repr\(C\)\]\s*(?:#\[[^\n]*\]\s*)*pub struct (\w+) \{(.*?)\n\}", code, flags=re.S):
+        if name in NAMES and name != "Handle":
+            members = re.findall(r"pub (\w+): ([^,\n]+),", body)
+            structs[NAMES[name]] = [(m, "uint8_t[6]" if t == "[u8; 6]" else NUMBERS[t]) for m, t in members]
+    return structs
+
+
+def c_structs():
+    structs = {}
+    for body, name in re.findall(r"typedef struct \w+ \{(.*?)\} (\w+);", header, flags=re.S):
+        members = re.findall(r"(\w+) (\w+)(\[6\])?;", body)
+        structs[name] = [(m.rstrip("_"), t + a) for t, m, a in members]
+    structs.pop("bac_node", None)
+    return structs
+
+
+def rust_statuses():
+    body = re.search(r"pub enum Fault \{(.*?)\n\}", code, flags=re.S).group(1)
+    return {re.sub(r"(?<!^)(?=[A-Z])", "_", n).upper(): int(v) for n, v in re.findall(r"(\w+) = (\d+),", body)} | {"OK": 0}
+
+
+def c_statuses():
+    body = re.search(r"enum \{\s*(BAC_OK.*?)\};", header, flags=re.S).group(1)
+    return {n: int(v) for n, v in re.findall(r"BAC_(\w+) = (\d+)", body)}
+
+
+wrong = 0
+for what, ours, theirs in [("calls", exports(), prototypes()), ("structs", rust_structs(), c_structs()), ("statuses", rust_statuses(), c_statuses())]:
+    for name in sorted(ours.keys() | theirs.keys()):
+        if ours.get(name) != theirs.get(name):
+            wrong += 1
+            print(f"{what}: {name}\n  code   {ours.get(name)}\n  header {theirs.get(name)}")
+if len(sys.argv) > 2:
+    listed = subprocess.run(["nm", "--defined-only", "--extern-only", sys.argv[2]], capture_output=True, text=True, check=True).stdout
+    there = set(re.findall(r" T (bac_\w+)$", listed, flags=re.M))
+    if there != set(exports()):
+        wrong += 1
+        print("archive:", sorted(there ^ set(exports())))
+print(f"{len(exports())} calls, {len(rust_structs())} structs, {len(rust_statuses())} statuses: {wrong} wrong")
+sys.exit(wrong != 0)
