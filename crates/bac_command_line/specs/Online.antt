@@ -67,6 +67,9 @@ abbrev pub AskedAs : (text : Bool) → (answered : Bool) → Question → (befor
 AskedAs true answered question before after old new = AskedWords answered question before after old new
 AskedAs false answered question before after old new = AskedText answered question before after old new
 
+abbrev pub ReportsAs : Status → (text : Bool) → Question → (before after : Timed) → (old new : Option (List ℕ)) → Type 0
+ReportsAs s text q before after old new = ByStatus s (AskedAs text true q before after old new) (AskedAs text false q before after old new) ⊥
+
 -- such a node at any free port asked the node at a port, and how that ended was printed
 pub record Asks (IsOn : (port : ℕ) → (address : Octets) → (failures : ℕ) → Calls → Type 0) (IsClock : Told → Type 0) (text answered : Bool) (port : ℕ)
     (words : List (List ℕ)) (old new : Option (List ℕ)) : Type 0 where

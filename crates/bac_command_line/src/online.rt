@@ -2,11 +2,13 @@
 ghost use Rattle.std.specs.Prelude.{◌≡◌, ℕ, map, IfSome};
 ghost use Rattle.bac_protocol.specs.Service.{Octets};
 ghost use Rattle.bac_commands.specs.Questions.{ReadsQuestion, local};
-ghost use Rattle.bac_command_line.specs.Online.{IsAsked, IsPair, IsServed, OnClock, OnPort};
+ghost use Rattle.bac_command_line.specs.Online.{IsAsked, IsPair, IsServed, OnClock, OnPort, ReportsAs};
+ghost use Rattle.bac_run.specs.Runs.{timed};
+ghost use Rattle.bac_run.specs.Views.{question_view};
 
 use bac_commands::{clock_fault, house_station, link_fault, local, read_question};
 use bac_link::{Clock, Link};
-use bac_run::Question;
+use bac_run::{Question, Station};
 use bac_script::FormFault;
 use bac_text::{Status, complain, no_memory};
 use std::alloc::Global;
@@ -69,6 +71,26 @@ fn question_in(alloc: Global, port: u16, words: &[&str]) -> Result<Question, For
     read_question(alloc, local(port), &octets)
 }
 
+/// A node asks; how that ended is printed, in words where that is wanted.
+fn ask_on<L: Link, C: Clock, O: Write, E: Write>(
+    alloc: Global,
+    text: bool,
+    station: &mut Station<L>,
+    clock: &mut C,
+    question: &Question,
+    out: &mut O,
+    err: &mut E,
+) -> Status
+    ensures { ReportsAs result text (question_view question.now)
+        (timed station.old (C.told clock.old)) (timed station.new (C.told clock.new)) (O.contents out.old) (O.contents out.new) }
+{
+    if text {
+        bac_commands::ask_in_words(alloc, station, clock, question, out, err)
+    } else {
+        bac_commands::ask(alloc, station, clock, question, out, err)
+    }
+}
+
 /// A node at any free port asks the one at a port; how that ended is printed, in words where that is wanted. Words that are no request: `bad words` on `err`.
 pub(crate) fn ask<M: Machine, O: Write, E: Write>(
     alloc: Global,
@@ -97,11 +119,7 @@ pub(crate) fn ask<M: Machine, O: Write, E: Write>(
     let Ok(mut station) = house_station(alloc, bound.0, address) else {
         return no_memory(err);
     };
-    if text {
-        bac_commands::ask_in_words(alloc, &mut station, &mut timer, &question, out, err)
-    } else {
-        bac_commands::ask(alloc, &mut station, &mut timer, &question, out, err)
-    }
+    ask_on(alloc, text, &mut station, &mut timer, &question, out, err)
 }
 
 /// Two nodes at free ports: one asks the other.
