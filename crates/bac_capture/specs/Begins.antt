@@ -1,11 +1,13 @@
 -- How a capture file begins.
-use Rattle.std.specs.Prelude.{◌≡◌, ℕ, ◌%◌, List, [], ◌∷◌, length, take, drop, Result, Ok, Err, nat_lt, if◌then◌else◌, ⊤, Option, Some, None}
+use Rattle.std.specs.Prelude.{◌≡◌, ℕ, ◌%◌, List, [], ◌∷◌, length, take, drop, Result, Ok, Err, nat_lt, ◌==◌, if◌then◌else◌, ⊤, Option, Some, None}
 use Rattle.bac_capture.specs.declared.fault.FileFault.{FileFault}
 use Rattle.bac_capture.specs.declared.fault.FileFault.TheVariants.{Cut}
 use Rattle.bac_capture.specs.declared.file.Interface.{Interface}
 use Rattle.bac_capture.specs.declared.file.Layout.{Layout}
 use Rattle.bac_capture.specs.declared.form.Form.{Form}
 use Rattle.bac_capture.specs.declared.form.Form.TheVariants.{Records, Blocks}
+use Rattle.bac_capture.specs.declared.moment.Resolution.{Resolution}
+use Rattle.bac_capture.specs.declared.moment.Resolution.TheVariants.{Microseconds, Nanoseconds}
 use Rattle.bac_capture.specs.declared.order.Order.{Order}
 use Rattle.bac_capture.specs.Blocks.{LayoutView}
 use Rattle.bac_capture.specs.BlockViews.{layout_view}
@@ -15,8 +17,15 @@ use Rattle.bac_capture.specs.Orders.{number_of}
 abbrev pub header_link : Order → List ℕ → ℕ
 header_link order header = number_of order 4 (drop 20 header) % 65536
 
+-- its first number tells the unit of moments
+abbrev pub header_resolution : Order → List ℕ → Resolution
+header_resolution order header = if number_of order 4 header == 0xA1B23C4D then Nanoseconds else Microseconds
+
+abbrev pub header_interface : Order → List ℕ → Interface
+header_interface order header = record { link = header_link order header; most = 0; resolution = Some (header_resolution order header) }
+
 abbrev pub header_layout : Order → List ℕ → LayoutView
-header_layout order header = record { form = Records; order = order; interfaces = record { link = header_link order header; most = 0 } ∷ [] }
+header_layout order header = record { form = Records; order = order; interfaces = header_interface order header ∷ [] }
 
 -- pcap has a header of 24 octets; pcapng begins with its first block
 abbrev pub begun_at : Form → Order → List ℕ → Result (LayoutView × List ℕ) FileFault

@@ -9,7 +9,7 @@ abbrev pub layout_view : Layout → LayoutView
 layout_view l = record { form = l.form; order = l.order; interfaces = l.interfaces.items }
 
 abbrev pub frame_view : Frame → FrameView
-frame_view f = record { link = f.link; octets = f.octets.now }
+frame_view f = record { link = f.link; moment = f.moment; octets = f.octets.now }
 
 abbrev pub block_view : Block → BlockView
 block_view (block.Frame frame) = FrameBlock (frame_view frame)

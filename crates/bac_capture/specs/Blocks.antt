@@ -7,8 +7,10 @@ use Rattle.bac_capture.specs.declared.fault.FileFault.TheVariants.{Cut, ByteOrde
 use Rattle.bac_capture.specs.declared.form.Form.{Form}
 use Rattle.bac_capture.specs.declared.form.Form.TheVariants.{Records, Blocks}
 use Rattle.bac_capture.specs.declared.file.Interface.{Interface}
+use Rattle.bac_capture.specs.declared.moment.TheConstants.{OPTION_LIMIT}
 use Rattle.bac_capture.specs.declared.order.Order.{Order}
 use Rattle.bac_capture.specs.Files.{is_section, section_order_of}
+use Rattle.bac_capture.specs.Moments.{block_moment, record_moment, resolution_in, resolution_of}
 use Rattle.bac_capture.specs.Orders.{number_of}
 
 -- how the rest of a file is to be read
@@ -17,9 +19,10 @@ pub record LayoutView : Type 0 where
   pub order : Order
   pub interfaces : List Interface
 
--- a frame: the number of its link layer, and what was captured of it
+-- a frame: the number of its link layer, its moment in milliseconds, and what was captured of it
 pub record FrameView : Type 0 where
   pub link : ℕ
+  pub moment : Option ℕ
   pub octets : List ℕ
 
 -- what a record or a block has
@@ -43,7 +46,11 @@ abbrev pub captured_in : LayoutView → ℕ → List ℕ → Interface → Resul
 captured_in layout size body interface =
     if nat_lt (length body) 20 then Err BlockLength else
     (if nat_lt size (number_of layout.order 4 (drop 8 body) + 32) then Err BlockLength else
-    Ok (record { link = interface.link; octets = take (number_of layout.order 4 (drop 8 body)) (drop 16 body) }))
+    Ok (record {
+      link = interface.link;
+      moment = block_moment interface.resolution layout.order body;
+      octets = take (number_of layout.order 4 (drop 8 body)) (drop 16 body);
+    }))
 
 abbrev pub captured_of : LayoutView → (index size : ℕ) → List ℕ → Result FrameView FileFault
 captured_of layout index size body = do
@@ -57,7 +64,7 @@ simple_len sent most = if most == 0 then sent else min sent most
 abbrev pub simple_in : ℕ → ℕ → List ℕ → Interface → Result FrameView FileFault
 simple_in sent size body interface =
     if nat_lt size (simple_len sent interface.most + 16) then Err BlockLength else
-    Ok (record { link = interface.link; octets = take (simple_len sent interface.most) body })
+    Ok (record { link = interface.link; moment = None; octets = take (simple_len sent interface.most) body })
 
 abbrev pub simple_of : LayoutView → (sent size : ℕ) → List ℕ → Result FrameView FileFault
 simple_of layout sent size body = do
@@ -69,7 +76,7 @@ abbrev pub described_of : LayoutView → (link : ℕ) → List ℕ → Result In
 described_of layout link body =
     if nat_lt (length body) 8 then Err BlockLength else
     (if nat_le 1024 (length layout.interfaces) then Err TooManyInterfaces else
-    Ok (record { link = link; most = number_of layout.order 4 body }))
+    Ok (record { link = link; most = number_of layout.order 4 body; resolution = resolution_of (resolution_in OPTION_LIMIT layout.order (drop 8 body)) }))
 
 abbrev framed : Result FrameView FileFault → Result BlockView FileFault
 framed (Err fault) = Err fault
@@ -94,12 +101,18 @@ abbrev section_block_in : Option Order → Result BlockView FileFault
 section_block_in None = Err ByteOrder
 section_block_in (Some order) = Ok (SectionBlock order)
 
-abbrev pub record_frame_in : List ℕ → Result Interface FileFault → Result BlockView FileFault
-record_frame_in body (Err fault) = Err fault
-record_frame_in body (Ok interface) = Ok (FrameBlock (record { link = interface.link; octets = body }))
+abbrev pub record_frame_in : Order → (head body : List ℕ) → Interface → Result FrameView FileFault
+record_frame_in order head body interface =
+    Ok (record { link = interface.link; moment = record_moment interface.resolution order head; octets = body })
+
+-- all records are of the one interface
+abbrev pub record_frame_of : LayoutView → (head body : List ℕ) → Result FrameView FileFault
+record_frame_of layout head body = do
+  interface ← interface_of layout.interfaces 0
+  record_frame_in layout.order head body interface
 
 abbrev pub block_in : Form → LayoutView → (head body : List ℕ) → Result BlockView FileFault
-block_in Records layout head body = record_frame_in body (interface_of layout.interfaces 0)
+block_in Records layout head body = framed (record_frame_of layout head body)
 block_in Blocks layout head body =
     if is_section head then section_block_in (section_order_of (drop 8 head)) else typed_block_of layout head body
 

@@ -11,6 +11,7 @@ pub mod Frames
 pub mod Runs
 pub mod Orders
 pub mod Forms
+pub mod Moments
 pub mod Files
 pub mod Blocks
 pub mod BlockViews

@@ -1,20 +1,36 @@
 //! How a capture file begins.
 ghost use Rattle.std.specs.Prelude.{◌≡◌, length, IfOk};
 ghost use Rattle.bac_capture.specs.declared.form.Form.TheVariants.{Records};
-ghost use Rattle.bac_capture.specs.Begins.{header_layout, IsBegun};
+ghost use Rattle.bac_capture.specs.Begins.{header_layout, header_resolution, IsBegun};
 ghost use Rattle.bac_capture.specs.BlockViews.{layout_view};
 
 use crate::fault::FileFault;
 use crate::file::{Interface, Layout};
 use crate::form::Form;
+use crate::moment::Resolution;
 use crate::order::Order;
 use crate::run::read_run;
 use std::alloc::{AllocError, Global};
 use std::io;
 use std::io::BufRead;
 
+/// The first number of a file of pcap whose moments have nanoseconds.
+const NANOSECONDS: u32 = 0xA1B2_3C4D;
+
 /// How many octets the header of pcap has.
 const HEADER: usize = 24;
+
+/// The unit of the moments of pcap, as its first number says.
+fn header_resolution(order: Order, header: &[u8]) -> Resolution
+    requires { length header.now ≡ 24 }
+    ensures { result ≡ header_resolution order header.now }
+{
+    if order.long(header) == NANOSECONDS {
+        Resolution::Nanoseconds
+    } else {
+        Resolution::Microseconds
+    }
+}
 
 /// What the header of pcap says: all frames have the link layer that it tells.
 fn header_layout(alloc: Global, order: Order, header: &[u8]) -> Result<Layout, AllocError>
@@ -22,8 +38,13 @@ fn header_layout(alloc: Global, order: Order, header: &[u8]) -> Result<Layout, A
     ensures { IfOk result (λ layout. layout_view layout ≡ header_layout order header.now) }
 {
     let link = (order.long(&header[20..]) % 0x1_0000) as u16;
+    let resolution = Some(header_resolution(order, header));
     let mut interfaces = Vec::new(alloc);
-    interfaces.push(Interface { link, most: 0 })?;
+    interfaces.push(Interface {
+        link,
+        most: 0,
+        resolution,
+    })?;
     Ok(Layout {
         form: Form::Records,
         order,

@@ -2,12 +2,13 @@
 ghost use Rattle.std.specs.Prelude.{◌≡◌, ◌≤◌, length, OnOk, OnErr};
 ghost use Rattle.bac_value.specs.Steps.{ReadsAll};
 ghost use Rattle.bac_capture.specs.Files.{head_len_of};
-ghost use Rattle.bac_capture.specs.Blocks.{interface_of, captured_of, simple_of, described_of, typed_block_of, block_at, after};
+ghost use Rattle.bac_capture.specs.Blocks.{interface_of, captured_of, simple_of, described_of, typed_block_of, record_frame_of, block_at, after};
 ghost use Rattle.bac_capture.specs.BlockViews.{frame_view, block_view, layout_view};
 
 use crate::fault::FileFault;
 use crate::file::{Interface, Layout, is_section, section_order};
 use crate::form::Form;
+use crate::moment::{OPTION_LIMIT, block_moment, record_moment, resolution_in, resolution_of};
 use crate::order::Order;
 use std::alloc::AllocError;
 
@@ -19,6 +20,8 @@ const INTERFACE_LIMIT: usize = 1_024;
 pub struct Frame<'a> {
     /// The number of its link layer, as capture files have it.
     pub link: u16,
+    /// When it was seen, in milliseconds; None where the file does not tell it, or in another unit than milli-, micro- or nanoseconds.
+    pub moment: Option<u64>,
     /// What was captured of it; of a long frame the front.
     pub octets: &'a [u8],
 }
@@ -61,6 +64,7 @@ impl Layout {
         let len = (captured as usize).min(body.len() - 16);
         Ok(Frame {
             link: interface.link,
+            moment: block_moment(interface.resolution, self.order, body),
             octets: &body[16..16 + len],
         })
     }
@@ -81,7 +85,21 @@ impl Layout {
         let len = (captured as usize).min(body.len());
         Ok(Frame {
             link: interface.link,
+            moment: None,
             octets: &body[..len],
+        })
+    }
+
+    /// The frame of a record of pcap.
+    fn record_frame<'a>(&self, head: &[u8], body: &'a [u8]) -> Result<Frame<'a>, FileFault>
+        requires { length head.now ≡ 16 }
+        ensures { ReadsAll frame_view result (record_frame_of (layout_view self.now) head.now body.now) }
+    {
+        let interface = self.interface(0)?;
+        Ok(Frame {
+            link: interface.link,
+            moment: record_moment(interface.resolution, self.order, head),
+            octets: body,
         })
     }
 
@@ -98,6 +116,7 @@ impl Layout {
         Ok(Interface {
             link,
             most: self.order.long(body),
+            resolution: resolution_of(resolution_in(OPTION_LIMIT, self.order, &body[8..])),
         })
     }
 
@@ -123,16 +142,13 @@ impl Layout {
     /// What a record or a block has, of that head and that front of its body, as `read` reads them.
     ///
     /// A record has a frame; so have the blocks of types 2, 3 and 6, and 1 describes an interface. Of a longer frame the front is
-    /// told. What a block has beside that, as its moment and options, is not looked at, nor is the length at its end.
+    /// told. What a block has beside that, as most of its options, is not looked at, nor is the length at its end.
     pub fn block<'a>(&self, head: &[u8], body: &'a [u8]) -> Result<Block<'a>, FileFault>
         requires { length head.now ≡ head_len_of self.now.form }
         ensures { ReadsAll block_view result (block_at (layout_view self.now) head.now body.now) }
     {
         match self.form {
-            Form::Records => Ok(Block::Frame(Frame {
-                link: self.interface(0)?.link,
-                octets: body,
-            })),
+            Form::Records => Ok(Block::Frame(self.record_frame(head, body)?)),
             Form::Blocks if is_section(head) => match section_order(&head[8..]) {
                 Some(order) => Ok(Block::Section(order)),
                 None => Err(FileFault::ByteOrder),

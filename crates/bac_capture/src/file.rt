@@ -4,6 +4,7 @@ ghost use Rattle.bac_capture.specs.Files.{head_len_of, section_order_of, is_sect
 
 use crate::fault::FileFault;
 use crate::form::Form;
+use crate::moment::Resolution;
 use crate::order::Order;
 use crate::run::read_run;
 use std::io;
@@ -16,6 +17,8 @@ pub struct Interface {
     pub link: u16,
     /// Most octets of a frame that were captured; 0 for all.
     pub most: u32,
+    /// The unit of its frames' moments; None where these are not read.
+    pub resolution: Option<Resolution>,
 }
 
 /// How the rest of a capture file is to be read: what its front and its sections say.

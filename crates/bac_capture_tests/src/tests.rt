@@ -5,3 +5,5 @@ mod file_rows;
 mod files;
 mod frames;
 mod rows;
+mod transaction_rows;
+mod transactions;

@@ -8,7 +8,11 @@ use Rattle.bac_capture.proofs.Runs.{take_all}
 use Rattle.bac_text.specs.Statuses.{IsStop}
 use Rattle.bac_text.specs.declared.status.Status.{Status}
 use Rattle.bac_text.specs.declared.status.Status.TheVariants as status
-use Rattle.bac_check.specs.Checked.{IsReportIn, IsReportOf, IsFrontReport}
+use Rattle.std.specs.Io.KnownBytes.{Appends}
+use Rattle.std.proofs.KnownBytes.{Appends-trans}
+use Rattle.bac_check.specs.Checked.{tally_text, BreaksFile, IsCheckOf, IsFileReport, IsReportIn, IsReportOf, IsFrontReport, SeesFrame}
+use Rattle.bac_check.specs.Counts.{Counts, no_frames, IsTallied}
+use Rattle.bac_check.specs.Reports.{IsFileWalked}
 
 -- a command that stopped says nothing
 stop_in : (also : Option ℕ) (form : Option (Form × Order)) (xs : List ℕ) (a b : Option (List ℕ)) (s : Status) → IsStop s → IsReportIn also form xs a b s
@@ -35,3 +39,33 @@ front_reported also (Some xs) left a b front shown w s run same report =
     let whole : shown ++ drop 4 xs ≡ xs = ap (λ (l : List ℕ). l ++ drop 4 xs) is ∙ take-append-drop 4 xs in
     let here = subst (λ (o : Option (List ℕ)). IsFrontReport also shown o a b s) run.is report in
     subst (λ (l : List ℕ). IsReportIn also (form_of l) xs a b s) is (subst (λ (l : List ℕ). IsReportIn also (form_of shown) l a b s) whole here)
+
+-- a file that was walked over, and the counts that were printed after that
+pub walked_reported : (also : Option ℕ) (form : Form) (order : Order) (input a b c : Option (List ℕ)) (final : Counts) (s : Status)
+    → IsFileWalked Counts (SeesFrame also) BreaksFile form order input a b no_frames final → Appends b c (tally_text final) → IsTallied final.bad s
+    → IsFileReport also form order input a c s
+walked_reported also form order input a b c final status.Done walked printed tallied = checked input walked
+  where
+    checked : (i : Option (List ℕ)) → IsFileWalked Counts (SeesFrame also) BreaksFile form order i a b no_frames final → IsCheckOf also form order i a c status.Done
+    checked None w = tt
+    checked (Some file) w = record {
+      text = w.text;
+      counts = final;
+      read = w.read;
+      printed = Appends-trans a b c _ _ w.printed printed;
+      tallied = tallied;
+    }
+walked_reported also form order input a b c final status.Faulty walked printed tallied = checked input walked
+  where
+    checked : (i : Option (List ℕ)) → IsFileWalked Counts (SeesFrame also) BreaksFile form order i a b no_frames final → IsCheckOf also form order i a c status.Faulty
+    checked None w = tt
+    checked (Some file) w = record {
+      text = w.text;
+      counts = final;
+      read = w.read;
+      printed = Appends-trans a b c _ _ w.printed printed;
+      tallied = tallied;
+    }
+walked_reported also form order input a b c final status.CommandLine walked printed tallied = absurd tallied
+walked_reported also form order input a b c final status.Output walked printed tallied = absurd tallied
+walked_reported also form order input a b c final status.Memory walked printed tallied = absurd tallied

@@ -1,32 +1,20 @@
 //! `bac check` of a capture file: which frames are good.
-ghost use Rattle.std.specs.Prelude.{◌≡◌, ◌+◌, IfOk, OnOk, length};
+ghost use Rattle.std.specs.Prelude.{IfOk, OnOk};
 ghost use Rattle.std.specs.Io.KnownBytes.{Appends};
-ghost use Rattle.bac_capture.specs.BlockViews.{layout_view, block_view};
-ghost use Rattle.bac_capture.specs.Blocks.{block_at};
-ghost use Rattle.bac_capture.specs.Files.{head_len_of};
-ghost use Rattle.bac_check.specs.Checked.{verdict_text, tally_text, IsFileReport, IsFrontReport, IsReportOf};
-ghost use Rattle.bac_check.specs.Reports.{counts_of, IsCounted, IsTaken, IsBroken, IsWholeTaken, IsStep, AreCounted, IsFileCounted};
+ghost use Rattle.bac_check.specs.Checked.{verdict_text, tally_text, IsCounted, IsFileReport, IsFrontReport, IsReportOf};
+ghost use Rattle.bac_check.specs.Counted.{counts_of};
+ghost use Rattle.bac_check.specs.Reports.{IsTold};
 
 use crate::error::{CheckError, stopped};
 use crate::fault::{CapturedFault, Verdict};
 use crate::judging::judge;
 use crate::tally::Tally;
-use bac_capture::{Block, FileFault, Form, Layout, Order, Ports, form_of, read_run};
+use crate::walk::{Watch, walk_file};
+use bac_capture::{FileFault, Form, Frame, Order, Ports, form_of, read_run};
 use bac_text::{Status, check_over};
 use std::alloc::Global;
 use std::io;
 use std::io::{BufRead, ErrorKind, Read, Write};
-
-/// What became of the next record or block.
-#[derive(Clone, Copy)]
-enum Step {
-    /// There is none: the file ends.
-    Ended,
-    /// The file cannot be read on.
-    Broken(Tally),
-    /// It was counted where it is a frame.
-    Counted(Tally),
-}
 
 /// Prints what is wrong with the frame of that number, if something is.
 fn print_verdict<W: Write>(number: u64, verdict: Verdict, out: &mut W) -> io::Result<()>
@@ -40,7 +28,7 @@ fn print_verdict<W: Write>(number: u64, verdict: Verdict, out: &mut W) -> io::Re
 
 /// Counts a frame, and prints what is wrong with it.
 fn count<W: Write>(verdict: Verdict, tally: Tally, out: &mut W) -> Result<Tally, CheckError>
-    ensures { IfOk result (λ t. IsCounted verdict (W.contents out.old) (W.contents out.new) (counts_of tally) (counts_of t)) }
+    ensures { IfOk result (λ t. IsTold IsCounted verdict (W.contents out.old) (W.contents out.new) (counts_of tally) (counts_of t)) }
 {
     let Some(counted) = tally.with(verdict) else {
         return Err(CheckError::Input(io::Error::from(ErrorKind::FileTooLarge)));
@@ -51,126 +39,27 @@ fn count<W: Write>(verdict: Verdict, tally: Tally, out: &mut W) -> Result<Tally,
     }
 }
 
-/// Takes in what a record or a block has: a frame is judged and counted.
-fn take<W: Write>(
-    layout: &mut Layout,
-    block: Block<'_>,
-    ports: Ports,
-    tally: Tally,
-    out: &mut W,
-) -> Result<Tally, CheckError>
-    ensures { IfOk result (λ t. IsTaken ports.also (layout_view layout.old) (layout_view layout.new) (block_view block.entry)
-        (W.contents out.old) (W.contents out.new) (counts_of tally) (counts_of t)) }
-{
-    if let Block::Frame(frame) = block {
-        return count(judge(frame, ports), tally, out);
-    }
-    match layout.take_in(block) {
-        Ok(()) => Ok(tally),
-        Err(_) => Err(CheckError::Memory),
-    }
-}
+impl<W: Write> Watch<W> for Tally {
+    ghost use Rattle.bac_check.specs.Checked.{BreaksFile, SeesFrame};
+    ghost use Rattle.bac_check.specs.Counts.{Counts};
+    ghost use Rattle.bac_check.specs.Counted.{counts_of};
 
-/// Tells that the file cannot be read on.
-fn break_off<W: Write>(fault: FileFault, tally: Tally, out: &mut W) -> Result<Step, CheckError>
-    ensures { IfOk result (IsBroken fault (W.contents out.old) (W.contents out.new) (counts_of tally)) }
-{
-    match count(Verdict::Bad(CapturedFault::File(fault)), tally, out) {
-        Ok(counted) => Ok(Step::Broken(counted)),
-        Err(error) => Err(error),
+    ghost State = { Counts };
+
+    ghost state = { counts_of };
+
+    ghost Sees = { SeesFrame };
+
+    ghost Breaks = { BreaksFile };
+
+    fn see(&mut self, frame: Frame<'_>, ports: Ports, out: &mut W) -> Result<(), CheckError> {
+        *self = count(judge(frame, ports), *self, out)?;
+        Ok(())
     }
-}
 
-/// Takes in a record or a block of that head and that body.
-fn take_whole<W: Write>(
-    layout: &mut Layout,
-    head: &[u8],
-    body: &[u8],
-    ports: Ports,
-    tally: Tally,
-    out: &mut W,
-) -> Result<Step, CheckError>
-    requires { length head.now ≡ head_len_of (layout_view layout.old).form }
-    ensures { IfOk result (IsWholeTaken ports.also (layout_view layout.old) (layout_view layout.new) (block_at (layout_view layout.old) head.now body.now)
-        (W.contents out.old) (W.contents out.new) (counts_of tally)) }
-{
-    let block = match layout.block(head, body) {
-        Ok(block) => block,
-        Err(fault) => return break_off(fault, tally, out),
-    };
-    match take(layout, block, ports, tally, out) {
-        Ok(counted) => Ok(Step::Counted(counted)),
-        Err(error) => Err(error),
-    }
-}
-
-/// The memory for a record or a block, which serves each.
-#[derive(Drop)]
-struct Buffers {
-    head: Vec<u8>,
-    body: Vec<u8>,
-}
-
-/// Takes the next record or block, and checks it.
-fn check_next<R: BufRead, W: Write>(
-    layout: &mut Layout,
-    input: &mut R,
-    buffers: &mut Buffers,
-    ports: Ports,
-    tally: Tally,
-    out: &mut W,
-) -> Result<Step, CheckError>
-    ensures { IfOk result (IsStep ports.also (layout_view layout.old) (layout_view layout.new) (R.remaining input.old) (R.remaining input.new)
-        (W.contents out.old) (W.contents out.new) (counts_of tally)) }
-{
-    match layout.read(input, &mut buffers.head, &mut buffers.body) {
-        Ok(Ok(true)) => take_whole(layout, &buffers.head, &buffers.body, ports, tally, out),
-        Ok(Ok(false)) => Ok(Step::Ended),
-        Ok(Err(fault)) => break_off(fault, tally, out),
-        Err(error) => Err(CheckError::Input(error)),
-    }
-}
-
-/// Checks the records or blocks that are left.
-fn check_records<R: BufRead, W: Write>(
-    alloc: Global,
-    layout: &mut Layout,
-    input: &mut R,
-    ports: Ports,
-    out: &mut W,
-) -> Result<Tally, CheckError>
-    ensures { IfOk result (λ t. AreCounted ports.also (layout_view layout.old) (R.remaining input.old) (W.contents out.old) (W.contents out.new) (counts_of t)) }
-{
-    let mut tally = Tally::NONE;
-    let mut buffers = Buffers {
-        head: Vec::new(alloc),
-        body: Vec::new(alloc),
-    };
-    for _ in 0..u64::MAX {
-        match check_next(layout, input, &mut buffers, ports, tally, out)? {
-            Step::Ended => return Ok(tally),
-            Step::Broken(counted) => return Ok(counted),
-            Step::Counted(counted) => tally = counted,
-        }
-    }
-    Err(CheckError::Input(io::Error::from(ErrorKind::TimedOut)))
-}
-
-/// Checks a file of that form and byte order.
-fn count_file<R: BufRead, W: Write>(
-    alloc: Global,
-    form: Form,
-    order: Order,
-    input: &mut R,
-    ports: Ports,
-    out: &mut W,
-) -> Result<Tally, CheckError>
-    ensures { IfOk result (λ t. IsFileCounted ports.also form order (R.remaining input.old) (W.contents out.old) (W.contents out.new) (counts_of t)) }
-{
-    match Layout::begin(alloc, form, order, input) {
-        Ok(Ok(mut layout)) => check_records(alloc, &mut layout, input, ports, out),
-        Ok(Err(fault)) => count(Verdict::Bad(CapturedFault::File(fault)), Tally::NONE, out),
-        Err(error) => Err(CheckError::Input(error)),
+    fn break_off(&mut self, fault: FileFault, out: &mut W) -> Result<(), CheckError> {
+        *self = count(Verdict::Bad(CapturedFault::File(fault)), *self, out)?;
+        Ok(())
     }
 }
 
@@ -195,7 +84,8 @@ fn check_all<R: BufRead, W: Write>(
 ) -> Result<Status, CheckError>
     ensures { IfOk result (IsFileReport ports.also form order (R.remaining input.old) (W.contents out.old) (W.contents out.new)) }
 {
-    let tally = count_file(alloc, form, order, input, ports, out)?;
+    let mut tally = Tally::NONE;
+    walk_file(alloc, form, order, input, ports, &mut tally, out)?;
     match print_tally(tally, out) {
         Ok(()) => Ok(tally.status()),
         Err(error) => Err(CheckError::Output(error)),

@@ -6,6 +6,7 @@ mod error;
 mod fault;
 mod judging;
 mod tally;
+mod walk;
 
 pub use bac_capture::Ports;
 pub use check::check_capture_over;

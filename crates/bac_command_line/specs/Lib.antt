@@ -1,3 +1,4 @@
 pub mod Files
 pub mod Online
+pub mod Stores
 pub mod Tasks

@@ -5,16 +5,19 @@ use Rattle.bac_protocol.specs.Service.{Octets}
 use Rattle.bac_link.specs.Calls.{Calls}
 use Rattle.bac_link.specs.Moments.{Told}
 use Rattle.bac_script.specs.Requests.{request_of}
+use Rattle.bac_store.specs.House.{house}
+use Rattle.bac_store.specs.Stores.{Store}
 use Rattle.bac_text.specs.declared.status.Status.{Status}
 use Rattle.bac_run.specs.Asking.{Question}
 use Rattle.bac_run.specs.Pairs.{Pair}
 use Rattle.bac_run.specs.Runs.{Timed}
 use Rattle.bac_run.specs.Stations.{Station}
-use Rattle.bac_commands.specs.Houses.{house_node}
+use Rattle.bac_commands.specs.Houses.{node_with}
 use Rattle.bac_commands.specs.Pairs.{TwoTexts}
 use Rattle.bac_commands.specs.Questions.{IsQuestion, local}
 use Rattle.bac_commands.specs.Reports.{AskedText, ServedText}
 use Rattle.bac_commands.specs.Statuses.{ByStatus}
+use Rattle.bac_commands.specs.Words.{AskedWords}
 
 -- ---- links and clocks
 
@@ -38,31 +41,48 @@ pub record OnClock {Timer : Type 0} (IsMade : Timer → Type 0) (told_by : Timer
 abbrev pub FREE : ℕ
 FREE = 0
 
--- a node with the house store on a link at a port
-pub record IsHouseAt (IsOn : (port : ℕ) → (address : Octets) → (failures : ℕ) → Calls → Type 0) (port : ℕ) (station : Station) : Type 0 where
+-- a node with a store on a link at a port
+pub record IsNodeAt (store : Store) (IsOn : (port : ℕ) → (address : Octets) → (failures : ℕ) → Calls → Type 0) (port : ℕ) (station : Station) : Type 0 where
   pub address : Octets
-  pub node : station.node ≡ house_node address
+  pub node : station.node ≡ node_with address store
   pub on : IsOn port address station.failures station.calls
+
+-- the same with the house store
+abbrev pub IsHouseAt : (IsOn : (port : ℕ) → (address : Octets) → (failures : ℕ) → Calls → Type 0) → (port : ℕ) → Station → Type 0
+IsHouseAt IsOn port station = IsNodeAt house IsOn port station
 
 -- ---- serving
 
 -- such a node took so many turns, and how many requests it performed was printed
-pub record Serves (IsOn : (port : ℕ) → (address : Octets) → (failures : ℕ) → Calls → Type 0) (IsClock : Told → Type 0) (port turns : ℕ)
+pub record Serves (store : Store) (IsOn : (port : ℕ) → (address : Octets) → (failures : ℕ) → Calls → Type 0) (IsClock : Told → Type 0) (port turns : ℕ)
     (old new : Option (List ℕ)) : Type 0 where
   pub before : Timed
   pub after : Timed
-  pub house : IsHouseAt IsOn port before.station
+  pub node : IsNodeAt store IsOn port before.station
   pub clock : IsClock before.told
   pub text : ServedText turns before after old new
 
+abbrev pub IsServedBy : Store → (IsOn : (port : ℕ) → (address : Octets) → (failures : ℕ) → Calls → Type 0) → (IsClock : Told → Type 0) → Status → (port turns : ℕ)
+    → (old new : Option (List ℕ)) → Type 0
+IsServedBy store IsOn IsClock s port turns old new = ByStatus s (Serves store IsOn IsClock port turns old new) ⊥ ⊥
+
+-- the same with the house store
 abbrev pub IsServed : (IsOn : (port : ℕ) → (address : Octets) → (failures : ℕ) → Calls → Type 0) → (IsClock : Told → Type 0) → Status → (port turns : ℕ)
     → (old new : Option (List ℕ)) → Type 0
-IsServed IsOn IsClock s port turns old new = ByStatus s (Serves IsOn IsClock port turns old new) ⊥ ⊥
+IsServed IsOn IsClock s port turns old new = IsServedBy house IsOn IsClock s port turns old new
 
 -- ---- asking
 
+-- how it ended was printed: in words, or in octets
+abbrev pub AskedAs : (text : Bool) → (answered : Bool) → Question → (before after : Timed) → (old new : Option (List ℕ)) → Type 0
+AskedAs true answered question before after old new = AskedWords answered question before after old new
+AskedAs false answered question before after old new = AskedText answered question before after old new
+
+abbrev pub ReportsAs : Status → (text : Bool) → Question → (before after : Timed) → (old new : Option (List ℕ)) → Type 0
+ReportsAs s text q before after old new = ByStatus s (AskedAs text true q before after old new) (AskedAs text false q before after old new) ⊥
+
 -- such a node at any free port asked the node at a port, and how that ended was printed
-pub record Asks (IsOn : (port : ℕ) → (address : Octets) → (failures : ℕ) → Calls → Type 0) (IsClock : Told → Type 0) (answered : Bool) (port : ℕ)
+pub record Asks (IsOn : (port : ℕ) → (address : Octets) → (failures : ℕ) → Calls → Type 0) (IsClock : Told → Type 0) (text answered : Bool) (port : ℕ)
     (words : List (List ℕ)) (old new : Option (List ℕ)) : Type 0 where
   pub question : Question
   pub is : IsQuestion (local port) words question
@@ -70,13 +90,13 @@ pub record Asks (IsOn : (port : ℕ) → (address : Octets) → (failures : ℕ)
   pub after : Timed
   pub house : IsHouseAt IsOn FREE before.station
   pub clock : IsClock before.told
-  pub text : AskedText answered question before after old new
+  pub printed : AskedAs text answered question before after old new
 
 -- the command line is refused only where the words are no request
-abbrev pub IsAsked : (IsOn : (port : ℕ) → (address : Octets) → (failures : ℕ) → Calls → Type 0) → (IsClock : Told → Type 0) → Status → (port : ℕ)
-    → (words : List (List ℕ)) → (old new : Option (List ℕ)) → Type 0
-IsAsked IsOn IsClock s port words old new =
-    ByStatus s (Asks IsOn IsClock true port words old new) (Asks IsOn IsClock false port words old new) (request_of words ≡ None)
+abbrev pub IsAsked : (IsOn : (port : ℕ) → (address : Octets) → (failures : ℕ) → Calls → Type 0) → (IsClock : Told → Type 0) → Status → (text : Bool)
+    → (port : ℕ) → (words : List (List ℕ)) → (old new : Option (List ℕ)) → Type 0
+IsAsked IsOn IsClock s text port words old new =
+    ByStatus s (Asks IsOn IsClock text true port words old new) (Asks IsOn IsClock text false port words old new) (request_of words ≡ None)
 
 -- ---- two nodes
 

@@ -5,10 +5,10 @@ ghost use Rattle.bac_command_line.specs.Tasks.{IsPerformed};
 
 use crate::files::{OpenFiles, check, simulate};
 use crate::grammar::matches;
+use crate::objects::{answer, serve};
 use crate::online;
 use crate::online::Machine;
 use crate::task::{Task, task_of};
-use bac_commands::answer_over;
 use bac_text::{Status, complain, decode_over, no_memory};
 use clap::error::ErrorKind;
 use std::alloc::Global;
@@ -27,12 +27,18 @@ fn perform<F: OpenFiles, M: Machine, O: Write, E: Write>(
         task.entry result (O.contents out.old) (O.contents out.new) }
 {
     match task {
-        Task::Answer(datagram) => answer_over(alloc, datagram, out, err),
+        Task::Answer { datagram, objects } => { answer(alloc, files, datagram, objects, out, err) }
         Task::Decode(datagram) => decode_over(alloc, datagram, out, err),
         Task::Check(path) => check(alloc, files, path, out, err),
         Task::Simulate(path) => simulate(alloc, files, path, out, err),
-        Task::Serve { port, turns } => online::serve(alloc, machine, port, turns, out, err),
-        Task::Ask { port, words } => online::ask(alloc, machine, port, words, out, err),
+        Task::Serve {
+            port,
+            turns,
+            objects,
+        } => serve(alloc, files, machine, port, turns, objects, out, err),
+        Task::Ask { text, port, words } => {
+            online::ask(alloc, machine, text, port, words, out, err)
+        }
         Task::Pair => online::pair(alloc, machine, out, err),
     }
 }

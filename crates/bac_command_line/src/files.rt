@@ -22,7 +22,11 @@ pub trait OpenFiles {
 }
 
 /// A file, opened for reading. Where it cannot be opened, `err` and the status tell it.
-fn opened<F: OpenFiles, E: Write>(files: &F, path: &str, err: &mut E) -> Result<F::File, Status>
+pub(crate) fn opened<F: OpenFiles, E: Write>(
+    files: &F,
+    path: &str,
+    err: &mut E,
+) -> Result<F::File, Status>
     ensures opened { IfOk result (λ f. F.is_file path.now f) }
     ensures told { IfErr result IsStop }
 {

@@ -22,6 +22,15 @@ fn number<'a>(alloc: Global, name: &'a str, value: &'a str, most: u64, help: &'a
         .help(help)
 }
 
+/// A file of objects, in place of the house.
+fn objects<'a>(alloc: Global) -> Arg<'a> {
+    Arg::new(alloc, "objects")
+        .long("objects")
+        .action(ArgAction::Set)
+        .value_name("FILE")
+        .help("A document of the objects that it has, in TOML; without it those of the house")
+}
+
 fn port<'a>(alloc: Global, help: &'a str) -> Arg<'a> {
     number(alloc, "port", "P", 65_535, help)
 }
@@ -53,10 +62,15 @@ fn simulate_command<'a>(alloc: Global) -> Result<Command<'a>, clap::Error> {
     Ok(simulate)
 }
 
+/// Nodes that may serve.
+const SERVE_EXAMPLES: &str = "\
+Example: bac serve --port 47808 --turns 600
+Example: bac serve --port 47808 --turns 600 --objects plant.toml";
+
 fn serve_command<'a>(alloc: Global) -> Result<Command<'a>, clap::Error> {
     let serve = Command::new(alloc, "serve")
         .about("Serves a house over UDP on 127.0.0.1, and prints how many requests it performed")
-        .after_help("Example: bac serve --port 47808 --turns 600")
+        .after_help(SERVE_EXAMPLES)
         .arg(port(alloc, "The UDP port that it listens at, 1 to 65535"))?
         .arg(number(
             alloc,
@@ -64,23 +78,28 @@ fn serve_command<'a>(alloc: Global) -> Result<Command<'a>, clap::Error> {
             "N",
             1_000_000,
             "How many turns it takes, 1 to 1000000; each waits at most 100 milliseconds for a datagram",
-        ))?;
+        ))?
+        .arg(objects(alloc))?;
     Ok(serve)
 }
 
 /// What the words of an ask are.
 const WORDS_HELP: &str =
-    "The request: `read T:I P`, `write T:I P HEX`, `append T:I HEX`, `put T:I POS HEX` or `get T:I POS COUNT`";
+    "The request: `read T:I P`, `write T:I P VALUE..`, `append T:I HEX`, `put T:I POS HEX` or `get T:I POS COUNT`";
 
 /// What stands for what in them.
 const FORMS_HELP: &str = "\
-T:I is an object by its type and instance, P a property's number, HEX octets; in `write` they are the spelling of data
+T:I is an object by its type and instance, P a property, both by number or name, HEX octets
+VALUE is a value by its kind, as real:72.5, null, boolean:true, enumerated:1 or text:Room, or the spelling of data in HEX
+Behind the last VALUE `priority N` may stand, 1 to 16
 POS is the position in a file from which on octets are put or got, COUNT how many are got
 A word that begins with `-` is given after `--`";
 
 /// Asks that may be made.
 const ASK_EXAMPLES: &str = "\
 Example: bac ask --port 47808 read 0:5 85
+Example: bac ask --port 47808 --text read analog-input:5 present-value
+Example: bac ask --port 47808 write analog-value:1 present-value real:72.5 priority 8
 Example: bac ask --port 47808 -- put 10:1 -1 AA";
 
 fn ask_command<'a>(alloc: Global) -> Result<Command<'a>, clap::Error> {
@@ -89,11 +108,16 @@ fn ask_command<'a>(alloc: Global) -> Result<Command<'a>, clap::Error> {
         .num_args(1..)
         .action(ArgAction::Append)
         .help(WORDS_HELP);
+    let text = Arg::new(alloc, "text")
+        .long("text")
+        .action(ArgAction::SetTrue)
+        .help("Prints values by their kinds, and errors and reasons by their names");
     let ask = Command::new(alloc, "ask")
         .about("Asks the node at a UDP port of 127.0.0.1, and prints how that ended")
         .before_help(FORMS_HELP)
         .after_help(ASK_EXAMPLES)
         .arg(port(alloc, "The UDP port of the node that is asked, 1 to 65535"))?
+        .arg(text)?
         .arg(words)?;
     Ok(ask)
 }
@@ -110,7 +134,8 @@ fn command<'a>(alloc: Global) -> Result<Command<'a>, clap::Error> {
     let answer = Command::new(alloc, "answer")
         .about("Prints the datagrams that answer a datagram, one a line, or `none`")
         .after_help("Example: bac answer 810A001101040005010C0C000000051955")
-        .arg(word(alloc, "HEX", "The datagram, in hexadecimal"))?;
+        .arg(word(alloc, "HEX", "The datagram, in hexadecimal"))?
+        .arg(objects(alloc))?;
     let decode = Command::new(alloc, "decode")
         .about("Prints the layers of a datagram, one a line, up to the first that has a fault")
         .after_help("Example: bac decode 810A000801001013")

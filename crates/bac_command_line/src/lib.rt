@@ -4,6 +4,7 @@
 mod command;
 mod files;
 mod grammar;
+mod objects;
 mod online;
 mod system;
 mod task;

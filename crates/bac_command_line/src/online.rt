@@ -2,13 +2,16 @@
 ghost use Rattle.std.specs.Prelude.{◌≡◌, ℕ, map, IfSome};
 ghost use Rattle.bac_protocol.specs.Service.{Octets};
 ghost use Rattle.bac_commands.specs.Questions.{ReadsQuestion, local};
-ghost use Rattle.bac_command_line.specs.Online.{IsAsked, IsPair, IsServed, OnClock, OnPort};
+ghost use Rattle.bac_command_line.specs.Online.{IsAsked, IsPair, IsServedBy, OnClock, OnPort, ReportsAs};
+ghost use Rattle.bac_run.specs.Runs.{timed};
+ghost use Rattle.bac_run.specs.Views.{question_view};
 
-use bac_commands::{clock_fault, house_station, link_fault, local, read_question};
+use bac_commands::{clock_fault, house_station, link_fault, local, read_question, station_with};
 use bac_link::{Clock, Link};
 use bac_npdu::LinkAddress;
-use bac_run::Question;
+use bac_run::{Question, Station};
 use bac_script::FormFault;
+use bac_store::Store;
 use bac_text::{Status, complain, no_memory};
 use std::alloc::Global;
 use std::io::Write;
@@ -32,16 +35,17 @@ pub trait Machine {
         ensures { IfSome result Self.is_made };
 }
 
-/// A node at a port takes so many turns.
+/// A node with a store at a port takes so many turns.
 pub(crate) fn serve<M: Machine, O: Write, E: Write>(
     alloc: Global,
     machine: &M,
+    store: Store,
     port: u16,
     turns: u64,
     out: &mut O,
     err: &mut E,
 ) -> Status
-    ensures { IsServed (OnPort M.is_bound M.Link.failures M.Link.calls) (OnClock M.is_made M.Timer.told) result port turns
+    ensures { IsServedBy store (OnPort M.is_bound M.Link.failures M.Link.calls) (OnClock M.is_made M.Timer.told) result port turns
         (O.contents out.old) (O.contents out.new) }
 {
     let Some(bound) = machine.bind(port) else {
@@ -51,7 +55,7 @@ pub(crate) fn serve<M: Machine, O: Write, E: Write>(
         return clock_fault(err);
     };
     let address = bound.1;
-    let Ok(mut station) = house_station(alloc, bound.0, address) else {
+    let Ok(mut station) = station_with(alloc, bound.0, address, store) else {
         return no_memory(err);
     };
     bac_commands::serve(&mut station, &mut timer, turns, out, err)
@@ -70,16 +74,37 @@ fn question_in(alloc: Global, port: u16, words: &[&str]) -> Result<Question, For
     read_question(alloc, local(port), &octets)
 }
 
-/// A node at any free port asks the one at a port. Words that are no request: `bad words` on `err`.
+/// A node asks; how that ended is printed, in words where that is wanted.
+fn ask_on<L: Link, C: Clock, O: Write, E: Write>(
+    alloc: Global,
+    text: bool,
+    station: &mut Station<L>,
+    clock: &mut C,
+    question: &Question,
+    out: &mut O,
+    err: &mut E,
+) -> Status
+    ensures { ReportsAs result text (question_view question.now)
+        (timed station.old (C.told clock.old)) (timed station.new (C.told clock.new)) (O.contents out.old) (O.contents out.new) }
+{
+    if text {
+        bac_commands::ask_in_words(alloc, station, clock, question, out, err)
+    } else {
+        bac_commands::ask(alloc, station, clock, question, out, err)
+    }
+}
+
+/// A node at any free port asks the one at a port; how that ended is printed, in words where that is wanted. Words that are no request: `bad words` on `err`.
 pub(crate) fn ask<M: Machine, O: Write, E: Write>(
     alloc: Global,
     machine: &M,
+    text: bool,
     port: u16,
     words: &[&str],
     out: &mut O,
     err: &mut E,
 ) -> Status
-    ensures { IsAsked (OnPort M.is_bound M.Link.failures M.Link.calls) (OnClock M.is_made M.Timer.told) result port (map (λ w. w.now) words.now)
+    ensures { IsAsked (OnPort M.is_bound M.Link.failures M.Link.calls) (OnClock M.is_made M.Timer.told) result text port (map (λ w. w.now) words.now)
         (O.contents out.old) (O.contents out.new) }
 {
     let question = match question_in(alloc, port, words) {
@@ -97,7 +122,7 @@ pub(crate) fn ask<M: Machine, O: Write, E: Write>(
     let Ok(mut station) = house_station(alloc, bound.0, address) else {
         return no_memory(err);
     };
-    bac_commands::ask(alloc, &mut station, &mut timer, &question, out, err)
+    ask_on(alloc, text, &mut station, &mut timer, &question, out, err)
 }
 
 /// Two nodes at free ports: one asks the other.

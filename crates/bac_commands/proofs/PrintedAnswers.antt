@@ -4,8 +4,9 @@ use Rattle.std.proofs.KnownBytes.{Appends-kept, Appends-trans}
 use Rattle.std.proofs.lemmas.List.{append_assoc, append-nil, take_more}
 use Rattle.std.specs.Io.KnownBytes.{Appends, Keeps}
 use Rattle.bac_ends.specs.Sends.{Datagram}
-use Rattle.bac_commands.specs.Answers.{AreAnswers}
-use Rattle.bac_commands.specs.AnswerTexts.{ArePrinted, line_of, lines_of, sent_text}
+use Rattle.bac_store.specs.Stores.{Store}
+use Rattle.bac_commands.specs.Answers.{AreAnswersOf}
+use Rattle.bac_commands.specs.AnswerTexts.{ArePrintedOf, line_of, lines_of, sent_text}
 
 lines_more : (ds : List Datagram) (d : Datagram) → lines_of (ds ++ d ∷ []) ≡ lines_of ds ++ line_of d
 lines_more [] d = append-nil (line_of d)
@@ -19,11 +20,11 @@ one_more a b c ds i d lt p q =
     (Appends-trans a b c (lines_of (take i ds)) (line_of (get_or ds i d)) p q)
 
 -- the answers were printed, and flushed
-pub all_printed : {T E : Type 0} (r : Result T E) (octets : List ℕ) (a b c : Option (List ℕ)) (sent printed : List Datagram) → AreAnswers octets sent
-    → printed ≡ sent → Appends a b (sent_text printed) → Keeps b c → OnOk r (ArePrinted octets a c)
-all_printed (Ok t) octets a b c sent printed h same p k = record {
+pub all_printed : {T E : Type 0} (r : Result T E) (store : Store) (octets : List ℕ) (a b c : Option (List ℕ)) (sent printed : List Datagram)
+    → AreAnswersOf store octets sent → printed ≡ sent → Appends a b (sent_text printed) → Keeps b c → OnOk r (ArePrintedOf store octets a c)
+all_printed (Ok t) store octets a b c sent printed h same p k = record {
   sent = sent;
   answers = h;
   printed = Appends-kept a b c (sent_text sent) (subst (λ (l : List Datagram). Appends a b (sent_text l)) same p) k;
 }
-all_printed (Err e) octets a b c sent printed h same p k = tt
+all_printed (Err e) store octets a b c sent printed h same p k = tt

@@ -3,9 +3,11 @@ use Rattle.std.specs.Prelude.{ℕ, List, [], ◌∷◌, ◌++◌, codes, Option,
 use Rattle.std.specs.Io.KnownBytes.{Appends, Keeps}
 use Rattle.hex.specs.Hex.{decode_of, encode_upper}
 use Rattle.bac_ends.specs.Sends.{Datagram}
+use Rattle.bac_store.specs.House.{house}
+use Rattle.bac_store.specs.Stores.{Store}
 use Rattle.bac_text.specs.Texts.{line_end}
 use Rattle.bac_text.specs.declared.status.Status.{Status}
-use Rattle.bac_commands.specs.Answers.{AreAnswers}
+use Rattle.bac_commands.specs.Answers.{AreAnswersOf}
 use Rattle.bac_commands.specs.Statuses.{ByStatus}
 
 -- a datagram in hexadecimal, in capitals, as a line
@@ -21,13 +23,18 @@ abbrev pub sent_text : List Datagram → List ℕ
 sent_text [] = codes "none" ++ line_end
 sent_text (d ∷ ds) = lines_of (d ∷ ds)
 
--- the answers to a datagram were printed
-pub record ArePrinted (octets : List ℕ) (old new : Option (List ℕ)) : Type 0 where
+-- the answers of a node with a store to a datagram were printed
+pub record ArePrintedOf (store : Store) (octets : List ℕ) (old new : Option (List ℕ)) : Type 0 where
   pub sent : List Datagram
-  pub answers : AreAnswers octets sent
+  pub answers : AreAnswersOf store octets sent
   pub printed : Appends old new (sent_text sent)
 
 -- the same of a datagram given in hexadecimal; of text that is no hexadecimal nothing is printed
+abbrev pub IsAnsweredBy : Store → List ℕ → Option (List ℕ) → Option (List ℕ) → Status → Type 0
+IsAnsweredBy store text old new s =
+    ByStatus s (MatchResult (decode_of text) (λ octets. ArePrintedOf store octets old new) (λ e. ⊥)) ⊥
+    (MatchResult (decode_of text) (λ octets. ⊥) (λ e. Keeps old new))
+
+-- the same of the house store
 abbrev pub IsAnswered : List ℕ → Option (List ℕ) → Option (List ℕ) → Status → Type 0
-IsAnswered text old new s =
-    ByStatus s (MatchResult (decode_of text) (λ octets. ArePrinted octets old new) (λ e. ⊥)) ⊥ (MatchResult (decode_of text) (λ octets. ⊥) (λ e. Keeps old new))
+IsAnswered text old new s = IsAnsweredBy house text old new s

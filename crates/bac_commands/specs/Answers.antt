@@ -9,17 +9,22 @@ use Rattle.bac_service.specs.Requests.{SpellsRequest}
 use Rattle.bac_ends.specs.Sends.{Datagram, Pairwise, IsSent, to_peer}
 use Rattle.bac_store.specs.House.{house}
 use Rattle.bac_store.specs.Replies.{reply_to}
+use Rattle.bac_store.specs.Stores.{Store}
 use Rattle.bac_world.specs.Node.{Node, Outcome, NodeOn}
-use Rattle.bac_commands.specs.Houses.{house_node}
+use Rattle.bac_commands.specs.Houses.{node_with}
 use Rattle.bac_commands.specs.ReplyApdus.{reply_apdu}
 use Rattle.bac_commands.specs.declared.answering.TheConstants.{CLIENT, SERVER}
 
--- those that a node with the house store sends at moment 0, to which nothing has happened, where the datagram comes from the client's link
-pub record AreAnswers (octets : List ℕ) (sent : List Datagram) : Type 0 where
+-- those that a node with a store sends at moment 0, to which nothing has happened, where the datagram comes from the client's link
+pub record AreAnswersOf (store : Store) (octets : List ℕ) (sent : List Datagram) : Type 0 where
   pub after : Node
   pub outcome : Outcome
-  pub on : NodeOn 0 CLIENT octets (house_node SERVER) after outcome
+  pub on : NodeOn 0 CLIENT octets (node_with SERVER store) after outcome
   pub sends : sent ≡ outcome.sends
+
+-- the same of the house store
+abbrev pub AreAnswers : (octets : List ℕ) → (sent : List Datagram) → Type 0
+AreAnswers octets sent = AreAnswersOf house octets sent
 
 -- the datagram means a Confirmed-Request in one APDU, from a peer at the client's link, whose service data spell a request
 pub record Asks (octets : List ℕ) (peer : PeerView) (invoke_id choice : ℕ) (r : Request) : Type 0 where

@@ -8,3 +8,4 @@ pub mod Questions
 pub mod Reports
 pub mod Pairs
 pub mod Troubles
+pub mod Words

@@ -1,17 +1,18 @@
-//! What `bac answer` prints: the datagrams that a node with the house store sends for one datagram.
+//! What `bac answer` prints: the datagrams that a node with a store sends for one datagram.
 ghost use Rattle.std.specs.Prelude.{◌≡◌, ℕ, IfOk};
 ghost use Rattle.bac_npdu.specs.Peers.{PeerView};
 ghost use Rattle.bac_service.specs.Values.{Request};
 ghost use Rattle.bac_node.specs.Views.{outcome_view};
 ghost use Rattle.bac_world.specs.Node.{NodeOn};
-ghost use Rattle.bac_commands.specs.Answers.{AreAnswers, Asks, IsReplied};
+ghost use Rattle.bac_commands.specs.Answers.{AreAnswers, AreAnswersOf, Asks, IsReplied};
 
 mod printing;
 
-use crate::house_node::house_node;
+use crate::fresh_node::node_with;
 use bac_ends::Datagram;
 use bac_node::{Node, NodeFault, Outcome};
 use bac_npdu::LinkAddress;
+use bac_store::{Store, house};
 use bac_value::NoMemory;
 pub use printing::answer_over;
 use std::alloc::Global;
@@ -35,13 +36,21 @@ fn hears(node: &mut Node, octets: &[u8]) -> Result<Outcome, NoMemory>
     }
 }
 
-/// What the node sends for a datagram.
-fn sends(alloc: Global, octets: &[u8]) -> Result<Vec<Datagram>, NoMemory>
-    ensures { IfOk result (λ v. AreAnswers octets.now v.items) }
+/// What a node with a store sends for a datagram.
+fn sends(alloc: Global, store: Store, octets: &[u8]) -> Result<Vec<Datagram>, NoMemory>
+    ensures { IfOk result (λ v. AreAnswersOf store octets.now v.items) }
 {
-    let mut node = house_node(alloc, SERVER)?;
+    let mut node = node_with(alloc, SERVER, store)?;
     let outcome = hears(&mut node, octets)?;
     Ok(outcome.sends)
+}
+
+/// The same of the house store.
+fn house_sends(alloc: Global, octets: &[u8]) -> Result<Vec<Datagram>, NoMemory>
+    ensures { IfOk result (λ v. AreAnswers octets.now v.items) }
+{
+    let store = house(alloc)?;
+    sends(alloc, store, octets)
 }
 
 /// The datagrams that a node with the house store sends, in order of sending, where a datagram comes to it from 127.0.0.1, port 47,809, at moment 0.
@@ -53,5 +62,5 @@ pub fn answer_datagram(alloc: Global, octets: &[u8]) -> Result<Vec<Datagram>, No
     ensures reply { (peer : PeerView) (invoke_id choice : ℕ) (r : Request) → Asks octets.now peer invoke_id choice r
         → IfOk result (λ v. IsReplied peer invoke_id choice r v.items) }
 {
-    sends(alloc, octets)
+    house_sends(alloc, octets)
 }

@@ -1,10 +1,12 @@
 //! Facts as lines: how asks are told, what is performed and sent, and how tickets end. Each call fails where the output does.
 mod ending;
+mod in_words;
 mod lines;
 mod reply;
 
 pub use ending::print_ending;
 pub(crate) use ending::print_ending_line;
+pub(crate) use in_words::ending_words;
 pub use lines::{
     print_asked, print_changed, print_ended, print_fault, print_nothing, print_performed,
     print_refused, print_sent,

@@ -4,7 +4,7 @@
 
 mod answering;
 mod facts;
-mod house_node;
+mod fresh_node;
 mod online;
 
 pub use answering::{CLIENT, answer_datagram, answer_over};
@@ -12,4 +12,7 @@ pub use facts::{
     print_asked, print_changed, print_ended, print_ending, print_fault, print_nothing,
     print_performed, print_refused, print_sent,
 };
-pub use online::{ask, clock_fault, house_station, link_fault, local, pair, read_question, serve};
+pub use online::{
+    ask, ask_in_words, clock_fault, house_station, link_fault, local, pair, read_question, serve,
+    station_with,
+};

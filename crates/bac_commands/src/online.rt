@@ -1,5 +1,6 @@
 //! Nodes on links: what `bac serve`, `bac ask` and `bac pair` do, over any links and clocks.
 mod asking;
+mod asking_in_words;
 mod pairing;
 mod question;
 mod serving;
@@ -7,8 +8,9 @@ mod station;
 mod trouble;
 
 pub use asking::ask;
+pub use asking_in_words::ask_in_words;
 pub use pairing::pair;
 pub use question::{local, read_question};
 pub use serving::serve;
-pub use station::house_station;
+pub use station::{house_station, station_with};
 pub use trouble::{clock_fault, link_fault};

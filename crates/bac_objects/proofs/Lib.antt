@@ -1,3 +1,4 @@
 pub mod Identifiers
 pub mod Numbers
 pub mod Tables
+pub mod RightLaws

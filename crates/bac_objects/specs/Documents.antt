@@ -4,8 +4,7 @@ use Rattle.std.specs.Option.{option_map}
 use Rattle.std.specs.String.{string_bytes}
 use Rattle.bac_value.specs.Views.{object_identifier_view}
 use Rattle.bac_store.specs.declared.store.Store.{Store}
-use Rattle.bac_store.specs.declared.store_fault.StoreFault.{StoreFault}
-use Rattle.bac_store.specs.Made.{IsMadeOf, IsRefused}
+use Rattle.bac_store.specs.Made.{IsMadeOf}
 use Rattle.bac_store.specs.Stores.{Object}
 use Rattle.toml.specs.Data.{Members}
 use Rattle.toml.specs.Parse.{parse_document}
@@ -30,14 +29,12 @@ abbrev pub ReadsDocument : {A B : Type 0} → (A → B) → Result A DocumentFau
 ReadsDocument view (Ok x) read = read ≡ Ok (view x)
 ReadsDocument view (Err (fault.Wrong place problem)) read = read ≡ Err (fault_view place problem)
 ReadsDocument view (Err (fault.NoToml line error)) read = ⊥
-ReadsDocument view (Err (fault.NoStore e)) read = ⊥
 ReadsDocument view (Err fault.NoMemory) read = ⊤
 
 -- the fault of an object's table, in the object of that number
 abbrev pub IsInObject : ℕ → ObjectFault → DocumentFault → Type 0
 IsInObject n (object_fault.Flaw f) (fault.Wrong place problem) = fault_view place problem ≡ record { object = n; flaw = flaw_view f }
 IsInObject n (object_fault.Flaw f) (fault.NoToml line error) = ⊥
-IsInObject n (object_fault.Flaw f) (fault.NoStore e) = ⊥
 IsInObject n (object_fault.Flaw f) fault.NoMemory = ⊤
 IsInObject n object_fault.NoMemory e = e ≡ fault.NoMemory
 
@@ -47,17 +44,11 @@ abbrev pub IsMeant : Result (List Object) Fault → Store → Type 0
 IsMeant (Ok objects) s = IsMadeOf objects s
 IsMeant (Err f) s = ⊥
 
--- no store can have those objects
-abbrev pub IsUnfit : Result (List Object) Fault → StoreFault → Type 0
-IsUnfit (Ok objects) e = IsRefused objects e
-IsUnfit (Err f) e = ⊥
-
 -- the store of the objects that a table means, its first fault, or memory ran out
 abbrev pub IsReadTable : Members → Result Store DocumentFault → Type 0
 IsReadTable ms (Ok s) = IsMeant (objects_in ms) s
 IsReadTable ms (Err (fault.Wrong place problem)) = objects_in ms ≡ Err (fault_view place problem)
 IsReadTable ms (Err (fault.NoToml line error)) = ⊥
-IsReadTable ms (Err (fault.NoStore e)) = IsUnfit (objects_in ms) e
 IsReadTable ms (Err fault.NoMemory) = ⊤
 
 abbrev pub IsReadOf : Option Members → Result Store DocumentFault → Type 0
@@ -69,5 +60,4 @@ abbrev pub IsRead : (text : List ℕ) → Result Store DocumentFault → Type 0
 IsRead text (Err (fault.NoToml line error)) = IsUtf8 text → parse_document text ≡ None
 IsRead text (Err fault.NoMemory) = ⊤
 IsRead text (Err (fault.Wrong place problem)) = IsUtf8 text × IsReadOf (parse_document text) (Err (fault.Wrong place problem))
-IsRead text (Err (fault.NoStore e)) = IsUtf8 text × IsReadOf (parse_document text) (Err (fault.NoStore e))
 IsRead text (Ok s) = IsUtf8 text × IsReadOf (parse_document text) (Ok s)

@@ -6,5 +6,6 @@ pub mod Identifiers
 pub mod Objects
 pub mod Properties
 pub mod Reading
+pub mod Right
 pub mod Values
 pub mod Views

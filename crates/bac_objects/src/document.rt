@@ -6,6 +6,7 @@ ghost use Rattle.bac_store.specs.Views.{object_view};
 ghost use Rattle.toml.specs.View.{array_view, items_view, table_view, view};
 ghost use Rattle.bac_objects.specs.Answers.{ReadsObject};
 ghost use Rattle.bac_objects.specs.Documents.{IsInObject, IsRead, IsReadTable, ReadsDocument};
+ghost use Rattle.bac_objects.specs.Right.{AreFit};
 ghost use Rattle.bac_objects.specs.Objects.{has_id as has_id_in, list_in as list_of, objects_in as objects_of, objects_on, own_object as own_object_of, with_object as with_object_of};
 
 use crate::fault::{DocumentFault, Flaw, ObjectFault, Place};
@@ -39,7 +40,9 @@ fn with_object<'a>(
     done: Vec<Object>,
     value: &'a Value,
 ) -> Result<Vec<Object>, ObjectFault<'a>>
-    ensures { ReadsObject (λ v. map object_view v.items) result (with_object_of (map object_view done.items) (view value.now)) }
+    requires { AreFit (map object_view done.items) }
+    ensures is { ReadsObject (λ v. map object_view v.items) result (with_object_of (map object_view done.items) (view value.now)) }
+    ensures fit { IfOk result (λ v. AreFit (map object_view v.items)) }
 {
     let object = object_in(alloc, value)?;
     if has_id(object.id, &done) {
@@ -75,7 +78,8 @@ fn in_object(alloc: Global, object: usize, fault: ObjectFault<'_>) -> DocumentFa
 
 /// All objects of a list.
 fn objects_of_list(alloc: Global, list: &Array) -> Result<Vec<Object>, DocumentFault>
-    ensures { ReadsDocument (λ v. map object_view v.items) result (objects_on [] (array_view list.now)) }
+    ensures is { ReadsDocument (λ v. map object_view v.items) result (objects_on [] (array_view list.now)) }
+    ensures fit { IfOk result (λ v. AreFit (map object_view v.items)) }
 {
     let mut objects = Vec::new(alloc);
     for value in list {
@@ -111,7 +115,8 @@ fn list_in(table: &Table) -> Result<&Array, Problem>
 /// The objects that a document means.
 #[tactic(auto, unfolding(crate::specs::Objects::objects_in))]
 fn objects_in(alloc: Global, table: &Table) -> Result<Vec<Object>, DocumentFault>
-    ensures { ReadsDocument (λ v. map object_view v.items) result (objects_of (table_view table.now)) }
+    ensures is { ReadsDocument (λ v. map object_view v.items) result (objects_of (table_view table.now)) }
+    ensures fit { IfOk result (λ v. AreFit (map object_view v.items)) }
 {
     match list_in(table) {
         Ok(list) => objects_of_list(alloc, list),
@@ -135,7 +140,8 @@ fn store_in(alloc: Global, table: &Table) -> Result<Store, DocumentFault>
     match Store::new(alloc, objects) {
         Ok(store) => Ok(store),
         Err(StoreFault::NoMemory) => Err(DocumentFault::NoMemory),
-        Err(fault) => Err(DocumentFault::NoStore(fault)),
+        // each object is right, and has an identifier of its own
+        Err(StoreFault::Duplicate | StoreFault::BadObject) => unreachable!(),
     }
 }
 

@@ -6,7 +6,6 @@ ghost use Rattle.bac_objects.specs.declared.fault.ObjectFault.TheVariants as obj
 
 use crate::problem::Problem;
 use bac_names::object_type_name;
-use bac_store::StoreFault;
 use bac_value::{NoMemory, ObjectIdentifier};
 use std::alloc::{AllocError, AllocFailed};
 use std::fmt;
@@ -32,9 +31,6 @@ pub enum DocumentFault {
     /// At a key something else is given than is wanted.
     #[error("{place}{problem}")]
     Wrong { place: Place, problem: Problem },
-    /// No store can have the objects.
-    #[error("{0}")]
-    NoStore(StoreFault),
     /// An allocation was refused.
     #[error("no memory")]
     NoMemory,

@@ -1,8 +1,13 @@
 //! An object in a document (clause 12).
-ghost use Rattle.std.specs.Prelude.{◌≡◌, ◌<◌, [], map, IfOk};
+ghost use Rattle.std.specs.Prelude.{◌≡◌, ◌<◌, ◌≤◌, [], length, map, IfOk, IsTrue};
 ghost use Rattle.std.specs.Option.{option_map};
 ghost use Rattle.std.specs.String.{string_bytes};
 ghost use Rattle.bac_value.specs.Views.{object_identifier_view};
+ghost use Rattle.bac_value.specs.Value.{characters};
+ghost use Rattle.bac_value.specs.Writing.{value_spelling};
+ghost use Rattle.bac_store.specs.Limits.{VALUE_LIMIT};
+ghost use Rattle.bac_store.specs.Objects.{IsRight, is_right_file, is_right_id, is_right_type};
+ghost use Rattle.bac_objects.specs.Right.{AreRight};
 ghost use Rattle.bac_store.specs.Views.{file_view, object_view, property_view};
 ghost use Rattle.toml.specs.View.{view, table_view};
 ghost use Rattle.bac_objects.specs.Answers.{IsAt, Reads, ReadsObject};
@@ -40,6 +45,7 @@ fn at<'a>(id: Option<ObjectIdentifier>, key: &'a str, fault: ValueFault) -> Obje
 fn served(kind: u64) -> Result<u16, Problem>
     ensures is { result ≡ served_type kind }
     ensures within { IfOk result (λ k. k < 1024) }
+    ensures right { IfOk result (λ k. IsTrue (is_right_type k)) }
 {
     match kind {
         0 | 2 | 5 | 8 | 10 | 128..=1023 => Ok(kind as u16),
@@ -54,6 +60,7 @@ fn served(kind: u64) -> Result<u16, Problem>
 fn kind_in(table: &Table) -> Result<u16, Problem>
     ensures is { result ≡ kind_of (table_view table.now) }
     ensures within { IfOk result (λ k. k < 1024) }
+    ensures right { IfOk result (λ k. IsTrue (is_right_type k)) }
 {
     served(the_type(Wanted::ServedType, table)?)
 }
@@ -61,7 +68,8 @@ fn kind_in(table: &Table) -> Result<u16, Problem>
 /// The type and the instance of an object.
 #[tactic(auto, unfolding(crate::specs::Objects::identifier_in))]
 fn identifier_in<'a>(table: &Table) -> Result<ObjectIdentifier, ObjectFault<'a>>
-    ensures { ReadsObject object_identifier_view result (identifier_of (table_view table.now)) }
+    ensures is { ReadsObject object_identifier_view result (identifier_of (table_view table.now)) }
+    ensures right { IfOk result (λ i. IsTrue (is_right_id (object_identifier_view i))) }
 {
     let kind = match kind_in(table) {
         Ok(kind) => kind,
@@ -77,8 +85,10 @@ fn identifier_in<'a>(table: &Table) -> Result<ObjectIdentifier, ObjectFault<'a>>
 }
 
 /// The name of an object.
+#[tactic(auto, using(bac_store::proofs::ValueData::name_fits))]
 fn name_in(alloc: Global, table: &Table) -> Result<String, ValueFault>
-    ensures { Reads string_bytes result (name_of (table_view table.now)) }
+    ensures is { Reads string_bytes result (name_of (table_view table.now)) }
+    ensures short { IfOk result (λ n. length (value_spelling (characters 0 (string_bytes n))) ≤ VALUE_LIMIT) }
 {
     let Some(value) = member(table, "name") else {
         return Err(ValueFault::Wrong(Problem {
@@ -98,7 +108,8 @@ fn name_in(alloc: Global, table: &Table) -> Result<String, ValueFault>
 
 /// What a file holds; None of all other objects.
 fn file_of(alloc: Global, kind: u16, table: &Table) -> Result<Option<File>, ValueFault>
-    ensures { Reads (option_map file_view) result (file_in_members kind (table_view table.now)) }
+    ensures is { Reads (option_map file_view) result (file_in_members kind (table_view table.now)) }
+    ensures right { IfOk result (λ f. IsTrue (is_right_file kind (option_map file_view f))) }
 {
     if kind != FILE {
         return Ok(None);
@@ -127,8 +138,10 @@ fn with_property<'a>(
     key: &'a str,
     value: &Value,
 ) -> Result<Vec<Property>, ObjectFault<'a>>
-    ensures { ReadsObject (λ v. map property_view v.items) result
+    requires { AreRight id.kind (map property_view done.items) }
+    ensures is { ReadsObject (λ v. map property_view v.items) result
         (with_property_of (object_identifier_view id) (map property_view done.items) key.now (view value.now)) }
+    ensures right { IfOk result (λ v. AreRight id.kind (map property_view v.items)) }
 {
     if is_reserved(id.kind, key) {
         return Ok(done);
@@ -147,7 +160,8 @@ fn properties_in<'a>(
     id: ObjectIdentifier,
     table: &'a Table,
 ) -> Result<Vec<Property>, ObjectFault<'a>>
-    ensures { ReadsObject (λ v. map property_view v.items) result (properties_on (object_identifier_view id) [] (table_view table.now)) }
+    ensures is { ReadsObject (λ v. map property_view v.items) result (properties_on (object_identifier_view id) [] (table_view table.now)) }
+    ensures right { IfOk result (λ v. AreRight id.kind (map property_view v.items)) }
 {
     let mut properties = Vec::new(alloc);
     for (key, value) in table.iter() {
@@ -162,7 +176,9 @@ fn object_with<'a>(
     id: ObjectIdentifier,
     table: &'a Table,
 ) -> Result<Object, ObjectFault<'a>>
-    ensures { ReadsObject object_view result (object_by (object_identifier_view id) (table_view table.now)) }
+    requires { IsTrue (is_right_id (object_identifier_view id)) }
+    ensures is { ReadsObject object_view result (object_by (object_identifier_view id) (table_view table.now)) }
+    ensures right { IfOk result (λ o. IsRight (object_view o)) }
 {
     let name = match name_in(alloc, table) {
         Ok(name) => name,
@@ -184,7 +200,8 @@ fn object_with<'a>(
 /// The object that a table means.
 #[tactic(auto, unfolding(crate::specs::Objects::object_of))]
 pub(crate) fn object_in(alloc: Global, value: &Value) -> Result<Object, ObjectFault<'_>>
-    ensures { ReadsObject object_view result (object_of (view value.now)) }
+    ensures is { ReadsObject object_view result (object_of (view value.now)) }
+    ensures right { IfOk result (λ o. IsRight (object_view o)) }
 {
     let table = match table(Wanted::Table, value) {
         Ok(table) => table,

@@ -1,12 +1,13 @@
 //! The properties and the file of an object (clause 12).
-ghost use Rattle.std.specs.Prelude.{◌≡◌, IfOk, map};
+ghost use Rattle.std.specs.Prelude.{◌≡◌, ◌≤◌, IfOk, IsTrue, false, length, map};
 ghost use Rattle.bac_names.specs.Names.{number_in as named_number};
 ghost use Rattle.bac_names.specs.Properties.{PROPERTIES};
 ghost use Rattle.bac_value.specs.Reading.{data_of};
 ghost use Rattle.bac_value.specs.Steps.{ReadsAll};
 ghost use Rattle.bac_value.specs.Views.{value_view};
 ghost use Rattle.bac_value.specs.Writing.{value_spelling};
-ghost use Rattle.bac_store.specs.Objects.{are_right_values as are_right};
+ghost use Rattle.bac_store.specs.Limits.{FILE_LIMIT as FILE_MOST, VALUE_LIMIT as VALUE_MOST};
+ghost use Rattle.bac_store.specs.Objects.{are_right_values as are_right, is_right_number, is_right_property};
 ghost use Rattle.bac_store.specs.Stores.{is_state as is_state_in, kind_of as kind_in};
 ghost use Rattle.bac_store.specs.Views.{file_view, property_view};
 ghost use Rattle.toml.specs.View.{view};
@@ -83,7 +84,8 @@ fn number_in(key: &str) -> Option<u32>
 
 /// The same of one that can be listed.
 fn listed_number(key: &str) -> Result<u32, Problem>
-    ensures { result ≡ number_of key.now }
+    ensures is { result ≡ number_of key.now }
+    ensures right { IfOk result (λ n. IsTrue (is_right_number n)) }
 {
     match number_in(key) {
         Some(number @ (DESCRIPTION | PRESENT_VALUE | FIRST_VENDOR_PROPERTY..=LAST_PROPERTY)) => {
@@ -193,7 +195,9 @@ fn given_as(form: Form) -> Given
 
 /// Values that are few enough, and those of the property.
 fn right_at(kind: u16, number: u32, form: Form, values: DataBuf) -> Result<DataBuf, Problem>
-    ensures { ReadsAll (λ d. d.octets.items) result (right_of kind number form values.octets.items) }
+    ensures is { ReadsAll (λ d. d.octets.items) result (right_of kind number form values.octets.items) }
+    ensures short { IfOk result (λ d. length d.octets.items ≤ VALUE_MOST) }
+    ensures right { IfOk result (λ d. IsTrue (are_right kind number d.octets.items)) }
 {
     if values.octets.len() > VALUE_LIMIT {
         return Err(Problem {
@@ -213,7 +217,8 @@ fn right_at(kind: u16, number: u32, form: Form, values: DataBuf) -> Result<DataB
 /// The property of an object of a type.
 #[tactic(auto, unfolding(crate::specs::Properties::property_of))]
 fn property_in(alloc: Global, kind: u16, key: &str, value: &Value) -> Result<Property, ValueFault>
-    ensures { Reads property_view result (property_of kind key.now (view value.now)) }
+    ensures is { Reads property_view result (property_of kind key.now (view value.now)) }
+    ensures right { IfOk result (λ p. IsTrue (is_right_property kind (property_view p))) }
 {
     let number = listed_number(key)?;
     let held = held_values(value)?;
@@ -247,7 +252,9 @@ pub(crate) fn own_property(
     key: &str,
     value: &Value,
 ) -> Result<Property, ValueFault>
-    ensures { Reads property_view result (own_property_of kind (map property_view done.now) key.now (view value.now)) }
+    ensures is { Reads property_view result (own_property_of kind (map property_view done.now) key.now (view value.now)) }
+    ensures right { IfOk result (λ p. IsTrue (is_right_property kind (property_view p))) }
+    ensures new { IfOk result (λ p. has_number_in p.number (map property_view done.now) ≡ false) }
 {
     let property = property_in(alloc, kind, key, value)?;
     if has_number(property.number, done) {
@@ -274,7 +281,8 @@ fn content_in(alloc: Global, form: Form, value: &Value) -> Result<Vec<u8>, Value
 /// What a file holds.
 #[tactic(auto, unfolding(crate::specs::Properties::file_of))]
 pub(crate) fn file_in(alloc: Global, value: &Value) -> Result<File, ValueFault>
-    ensures { Reads file_view result (file_of (view value.now)) }
+    ensures is { Reads file_view result (file_of (view value.now)) }
+    ensures short { IfOk result (λ f. length f.octets.items ≤ FILE_MOST) }
 {
     let held = held_file(value)?;
     let octets = content_in(alloc, held.form, held.value)?;

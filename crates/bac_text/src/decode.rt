@@ -57,6 +57,17 @@ fn print_apdu_lines<W: Write>(alloc: Global, apdu: Apdu<'_>, out: &mut W) -> io:
     print_complex_in(alloc, apdu, out)
 }
 
+/// Prints the lines of an APDU as `decode` does: its kind and members, and those of the service data that it carries whole. Octets
+/// that are none print nothing. An Err is the writer's, or out of memory.
+pub fn print_apdu_octets<W: Write>(alloc: Global, octets: &[u8], out: &mut W) -> io::Result<()>
+    ensures { OnOk result (AppendsText (W.contents out.old) (W.contents out.new) (IsLayer SpellsApdu AreApduLines octets.now)) }
+{
+    match bac_apdu::read(octets) {
+        Ok(apdu) => print_apdu_lines(alloc, apdu, out),
+        Err(_) => Ok(()),
+    }
+}
+
 /// Prints the lines of what an NPDU carries: an APDU, or a message whose octets stand in the NPDU's line.
 fn print_contents<W: Write>(
     alloc: Global,
@@ -69,10 +80,7 @@ fn print_contents<W: Write>(
     if message.is_some() {
         return Ok(());
     }
-    match bac_apdu::read(contents) {
-        Ok(apdu) => print_apdu_lines(alloc, apdu, out),
-        Err(_) => Ok(()),
-    }
+    print_apdu_octets(alloc, contents, out)
 }
 
 /// Prints the lines of an NPDU and of what it carries, if the octets are one.

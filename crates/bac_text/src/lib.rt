@@ -19,7 +19,7 @@ mod words;
 
 pub use capture::{CaptureLine, read_capture_line};
 pub use check::check_over;
-pub use decode::decode_over;
+pub use decode::{decode_over, print_apdu_octets};
 pub use fault::LayerFault;
 pub use laws::fine_or_at_fault;
 pub use layers::check_datagram;

@@ -6,3 +6,4 @@ mod Floats
 mod Fields
 mod Objects
 mod Values
+mod ElementTexts

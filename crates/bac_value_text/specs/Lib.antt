@@ -2,3 +2,5 @@ pub mod Numbers
 pub mod Texts
 pub mod Reading
 pub mod Laws
+pub mod Reasons
+pub mod DataTexts

@@ -1,18 +1,22 @@
 //! Application values as text, and text as values: each kind has a name, and a value is printed as the name of its kind, a separator and the value.
 //!
-//! What is printed of a value reads as that value, and as no other.
+//! What is printed of a value reads as that value, and as no other. Data are printed element by element, errors and reasons by their names.
 #![tactic(auto)]
 
 mod body_printing;
 mod body_reading;
+mod data_printing;
 mod laws;
 mod numbers;
+mod reasons;
 mod separator;
 mod value_fault;
 mod value_printing;
 mod value_reading;
 
+pub use data_printing::data_text;
 pub use laws::printed_values_are_read;
+pub use reasons::{abort_text, error_text, reject_text};
 pub use separator::Separator;
 pub use value_fault::ValueFault;
 pub use value_printing::value_text;

@@ -1,10 +1,11 @@
 //! The texts that `bac answer` takes and prints.
 ghost use Rattle.std.specs.Prelude.{◌≡◌, OnOk};
 ghost use Rattle.std.specs.Io.KnownBytes.{Appends};
-ghost use Rattle.bac_commands.specs.AnswerTexts.{ArePrinted, IsAnswered, line_of, lines_of, sent_text};
+ghost use Rattle.bac_commands.specs.AnswerTexts.{ArePrintedOf, IsAnsweredBy, line_of, lines_of, sent_text};
 
-use crate::answering::answer_datagram;
+use crate::answering::sends;
 use bac_ends::Datagram;
+use bac_store::Store;
 use bac_text::{Status, complain, no_memory, output_failed};
 use hex::FromHexError;
 use std::alloc::Global;
@@ -40,33 +41,39 @@ fn print_sent<W: Write>(alloc: Global, sent: &[Datagram], out: &mut W) -> io::Re
 }
 
 /// Prints what answers a datagram.
-fn print_answers<W: Write>(alloc: Global, datagram: &[u8], out: &mut W) -> io::Result<()>
-    ensures { OnOk result (ArePrinted datagram.now (W.contents out.old) (W.contents out.new)) }
+fn print_answers<W: Write>(
+    alloc: Global,
+    store: Store,
+    datagram: &[u8],
+    out: &mut W,
+) -> io::Result<()>
+    ensures { OnOk result (ArePrintedOf store datagram.now (W.contents out.old) (W.contents out.new)) }
 {
-    let Ok(sent) = answer_datagram(alloc, datagram) else {
+    let Ok(sent) = sends(alloc, store, datagram) else {
         return Err(io::Error::from(ErrorKind::OutOfMemory));
     };
     print_sent(alloc, &sent, out)?;
     out.flush()
 }
 
-/// Prints the datagrams that answer a datagram given in hexadecimal, in capitals, one a line, or `none`.
+/// Prints the datagrams by which a node with a store answers a datagram given in hexadecimal, in capitals, one a line, or `none`.
 ///
 /// Text that is not hexadecimal: `bad hex` on `err`, and `CommandLine`. Out of memory: `no memory` on `err`. `Output` where `out` cannot be written.
 pub fn answer_over<O: Write, E: Write>(
     alloc: Global,
+    store: Store,
     text: &str,
     out: &mut O,
     err: &mut E,
 ) -> Status
-    ensures { IsAnswered text.now (O.contents out.old) (O.contents out.new) result }
+    ensures { IsAnsweredBy store text.now (O.contents out.old) (O.contents out.new) result }
 {
     let datagram = match hex::decode(alloc, text) {
         Ok(datagram) => datagram,
         Err(FromHexError::OutOfMemory) => return no_memory(err),
         Err(_) => return complain(err, "bad hex", Status::CommandLine),
     };
-    match print_answers(alloc, &datagram, out) {
+    match print_answers(alloc, store, &datagram, out) {
         Ok(()) => Status::Done,
         Err(error) => {
             // what was printed before it goes out as far as it can

@@ -45,7 +45,12 @@ fn print_property_read<W: Write>(
     write!(out, "read {values}")
 }
 
-fn print_complex<W: Write>(alloc: Global, complex: Complex<'_>, out: &mut W) -> io::Result<()>
+/// Prints the service data of a ComplexACK, without the end of a line.
+pub(crate) fn print_complex<W: Write>(
+    alloc: Global,
+    complex: Complex<'_>,
+    out: &mut W,
+) -> io::Result<()>
     ensures { OnOk result (Appends (W.contents out.old) (W.contents out.new) (complex_text (complex_view complex.entry))) }
 {
     match complex {

@@ -16,7 +16,7 @@ use std::io;
 use std::io::Write;
 
 /// The most turns that a node takes for an ask.
-const TURNS: u64 = 100_000;
+pub(crate) const TURNS: u64 = 100_000;
 
 fn is_answer(ending: &Ending) -> bool
     ensures { result ≡ is_answer ending.now }

@@ -4,7 +4,7 @@ ghost use Rattle.bac_service.specs.Views.{owned_request_view};
 ghost use Rattle.bac_run.specs.Views.{question_view};
 ghost use Rattle.bac_commands.specs.Questions.{ReadsQuestion, local, question_for};
 
-use crate::house_node::LIMITS;
+use crate::fresh_node::LIMITS;
 use bac_npdu::{LinkAddress, Peer};
 use bac_run::Question;
 use bac_script::{FormFault, read_request_words};

@@ -1,4 +1,4 @@
-//! What `check` and `simulate` print of a file.
+//! What `check` and `simulate` print of a file, and what `answer` and `serve` print with the objects of one.
 use super::*;
 
 /// The text of the file, a command line, and its ending.
@@ -221,4 +221,57 @@ line 7: fault 2
 #[test]
 fn tells_each_fact(rt: HostRuntime) -> Result<(), Fail> {
     all_end_so(rt.alloc(), FACTS)
+}
+
+/// A document, and what a node with its objects answers; documents that mean no store, and files that can't be read.
+const OBJECTS: &[FileRow] = &[
+    (
+        "\
+[[object]]
+type = \"analog-input\"
+instance = 5
+name = \"Outdoor air\"
+present-value = { real = -40.0 }
+",
+        "answer --objects capture 810A001101040005010C0C000000051955",
+        ("810A0017010030010C0C0000000519553E44C22000003F\n", "", 0),
+    ),
+    (
+        "[[object]]\ntype = \"device\"\ninstance = 1\nname = \"bare\"\n",
+        "answer --objects capture 810A001101040005010C0C000000051955",
+        ("810A000D010050010C9101911F\n", "", 0),
+    ),
+    (
+        "[[object]]\ntype = \"device\"\ninstance = 1\nname = \"bare\"\n",
+        "answer --objects capture 0",
+        ("", "bad hex\n", 2),
+    ),
+    (
+        "[[object]]\ntype = \"device\"\ninstance = 1\nname = \"bare\"\n",
+        "serve --port 47899 --turns 2 --objects capture",
+        ("", "link fault\n", 3),
+    ),
+    (
+        "x",
+        "serve --port 47899 --turns 2 --objects capture",
+        ("", "capture: line 1: key with no value, expected `=`\n", 2),
+    ),
+    (
+        "[[object]]\ntype = \"boiler\"\n",
+        "answer --objects capture 00",
+        (
+            "",
+            "capture: object 1: type: analog-input, analog-value, binary-value, device, file or 128 to 1023 wanted, another one given\n",
+            2,
+        ),
+    ),
+    ("", "answer --objects missing 00", ("", "cannot read\n", 2)),
+    ("", "answer --objects broken 00", ("", "cannot read\n", 2)),
+    ("", "answer --objects starving 00", ("", "no memory\n", 4)),
+    ("", "answer --objects starved 00", ("", "no memory\n", 4)),
+];
+
+#[test]
+fn answers_from_a_document(rt: HostRuntime) -> Result<(), Fail> {
+    all_end_so(rt.alloc(), OBJECTS)
 }

@@ -10,7 +10,7 @@ const WORDS: &[(&str, &str)] = &[
     ("check", "<FILE>"),
     ("answer 00 00", "00"),
     ("--help", "BACnet confirmed services, proved"),
-    ("answer --help", "Usage: bac answer <HEX>"),
+    ("answer --help", "Usage: bac answer [OPTIONS] <HEX>"),
     ("decode --help", "Usage: bac decode <HEX>"),
     ("check --help", "Usage: bac check <FILE>"),
     ("serve", "--port <P>"),
@@ -27,6 +27,8 @@ const WORDS: &[(&str, &str)] = &[
         "serve --help",
         "Example: bac serve --port 47808 --turns 600",
     ),
+    ("serve --help", "--objects plant.toml"),
+    ("answer --help", "--objects <FILE>"),
     ("ask --help", "Example: bac ask --port 47808 read 0:5 85"),
     (
         "ask --help",

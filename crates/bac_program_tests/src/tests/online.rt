@@ -70,6 +70,26 @@ const ANSWERED: &[BenchRow] = &[
     ),
     (
         HOUSES,
+        "ask --port 47808 --text read analog-input:5 present-value",
+        ("answered real 72.3\n", "", 0),
+    ),
+    (
+        HOUSES,
+        "ask --port 47808 --text write analog-value:1 present-value real:20.5",
+        ("answered written\n", "", 0),
+    ),
+    (
+        HOUSES,
+        "ask --port 47808 --text get 10:1 0 10",
+        ("answered file 1 0 4F4B\n", "", 0),
+    ),
+    (
+        HOUSES,
+        "ask --port 47808 --text read 0:9 85",
+        ("answered error object unknown-object (1:31)\n", "", 0),
+    ),
+    (
+        HOUSES,
         "pair",
         ("answered position 2\nanswered read 444290999A\n", "", 0),
     ),
@@ -99,6 +119,42 @@ const ANSWERS: &[Answer] = &[
         b"\x81\x0A\x00\x09\x01\x00\x71\x00\x04",
         "read 0:5 85",
         ("aborted 4\n", "", 1),
+    ),
+    (
+        b"\x81\x0A\x00\x09\x01\x00\x60\x00\x09",
+        "--text read 0:5 85",
+        ("rejected unrecognized-service (9)\n", "", 1),
+    ),
+    (
+        b"\x81\x0A\x00\x09\x01\x00\x71\x00\x04",
+        "--text read 0:5 85",
+        ("aborted segmentation-not-supported (4)\n", "", 1),
+    ),
+    // reasons, a class and a code without names
+    (
+        b"\x81\x0A\x00\x09\x01\x00\x71\x00\x40",
+        "--text read 0:5 85",
+        ("aborted 64 (64)\n", "", 1),
+    ),
+    (
+        b"\x81\x0A\x00\x0E\x01\x00\x50\x00\x0C\x91\x40\x92\x02\x00",
+        "--text read 0:5 85",
+        ("answered error 64 512 (64:512)\n", "", 0),
+    ),
+    // several values, and none
+    (
+        b"\x81\x0A\x00\x1C\x01\x00\x30\x00\x0C\x0C\x00\x00\x00\x05\x19\x55\x3E\x00\x91\x01\x0E\x21\x05\x0F\x1A\xAB\xCD\x3F",
+        "--text read 0:5 85",
+        (
+            "answered null, enumerated 1, opening 0, unsigned 5, closing 0, context 1 ABCD\n",
+            "",
+            0,
+        ),
+    ),
+    (
+        b"\x81\x0A\x00\x12\x01\x00\x30\x00\x0C\x0C\x00\x00\x00\x05\x19\x55\x3E\x3F",
+        "--text read 0:5 85",
+        ("answered no values\n", "", 0),
     ),
     // service data of no form
     (

@@ -1,10 +1,13 @@
--- The objects so far go on with the items that are left.
+-- The objects so far, which a store can have, go on with the items that are left.
 use Rattle.std.proofs.Common.{◌≡◌, [], drop, map}
 use Rattle.bac_store.specs.Views.{object_view}
 use Rattle.toml.specs.View.{array_view, items_view}
 use Rattle.bac_objects.specs.Objects.{objects_on}
+use Rattle.bac_objects.specs.Right.{AreFit}
 use Rattle.bac_objects.proofs.document.objects_of_list.Given as goal
 
 abbrev pub invariant-loop-value : goal.invariant-loop-value
-invariant-loop-value l =
-    objects_on [] (array_view l.list) ≡ objects_on (map object_view l.objects.items) (items_view (drop l.value-index l.list.items))
+invariant-loop-value l = record {
+  fit : AreFit (map object_view l.objects.items);
+  goes_on : objects_on [] (array_view l.list) ≡ objects_on (map object_view l.objects.items) (items_view (drop l.value-index l.list.items));
+}

@@ -1,0 +1,56 @@
+-- The options of an interface, one after the other.
+use Rattle.std.proofs.Common.{◌≡◌, ℕ, zero, suc, ◌+◌, ◌<◌, ◌≤◌, Bool, true, false, List, length, drop, nat_lt, ◌==◌, if◌then◌else◌, refl, ap, ◌∙◌, arith}
+use Rattle.std.specs.List.{slice_index}
+use Rattle.std.proofs.lemmas.Bool.Decides.{nat_tests}
+use Rattle.bac_capture.specs.declared.order.Order.{Order}
+use Rattle.bac_capture.specs.Moments.{option_len, resolution_in}
+use Rattle.bac_capture.specs.Orders.{number_of}
+
+-- none is left
+pub none_left : (count : ℕ) (order : Order) (options : List ℕ) → length options < 5 → resolution_in count order options ≡ 6
+unfolding resolution_in
+none_left zero order options short = refl
+none_left (suc count) order options short = go (nat_lt (length options) 5) refl _
+  where
+    go : (b : Bool) → nat_lt (length options) 5 ≡ b → (other : ℕ) → (if b then 6 else other) ≡ 6
+    go true e other = refl
+    go false e other = absurd (grind (arith, nat_tests, e, short))
+
+-- what is told where one is left, and so many after it are looked at
+abbrev pub told : ℕ → Order → List ℕ → ℕ
+told count order options =
+    if number_of order 2 options == 9 then slice_index options 4 else
+    resolution_in count order (drop (option_len (number_of order 2 (drop 2 options))) options)
+
+pub one_left : (count less : ℕ) (order : Order) (options : List ℕ) → count ≡ less + 1 → 5 ≤ length options
+    → resolution_in count order options ≡ told less order options
+unfolding resolution_in
+one_left zero less order options some long = absurd (omega (arith, some))
+one_left (suc count) less order options some long =
+    let same : count ≡ less = omega (arith, some) in
+    go (nat_lt (length options) 5) refl _ ∙ ap (λ n. told n order options) same
+  where
+    go : (b : Bool) → nat_lt (length options) 5 ≡ b → (other : ℕ) → (if b then 6 else other) ≡ other
+    go true e other = absurd (grind (arith, nat_tests, e, long))
+    go false e other = refl
+
+pub is_resolution : (order : Order) (options : List ℕ) (other : ℕ) → number_of order 2 options ≡ 9
+    → (if number_of order 2 options == 9 then slice_index options 4 else other) ≡ slice_index options 4
+is_resolution order options other is = go (number_of order 2 options == 9) refl
+  where
+    go : (b : Bool) → (number_of order 2 options == 9) ≡ b → (if b then slice_index options 4 else other) ≡ slice_index options 4
+    go true e = refl
+    go false e = absurd (grind (arith, nat_tests, e, is))
+
+pub no_resolution : (order : Order) (options : List ℕ) (other : ℕ) → (number_of order 2 options ≡ 9 → ⊥)
+    → (if number_of order 2 options == 9 then slice_index options 4 else other) ≡ other
+no_resolution order options other is = go (number_of order 2 options == 9) refl
+  where
+    go : (b : Bool) → (number_of order 2 options == 9) ≡ b → (if b then slice_index options 4 else other) ≡ other
+    go true e = absurd (is (grind (arith, nat_tests, e)))
+    go false e = refl
+
+pub no_more : (count : ℕ) (order : Order) (options : List ℕ) → count ≡ 0 → resolution_in count order options ≡ 6
+unfolding resolution_in
+no_more zero order options is = refl
+no_more (suc count) order options is = absurd (omega (arith, is))

@@ -1,0 +1,162 @@
+//! Commands of a node with objects: those of the house, or those that a file means.
+ghost use Rattle.std.specs.Prelude.{◌≡◌, IfErr, IfOk, IfSome};
+ghost use Rattle.std.specs.Option.{option_map};
+ghost use Rattle.bac_commands.specs.AnswerTexts.{IsAnswered};
+ghost use Rattle.bac_text.specs.Statuses.{IsStop};
+ghost use Rattle.bac_command_line.specs.Files.{OfFile, OnFile};
+ghost use Rattle.bac_command_line.specs.Online.{IsServed, OnClock, OnPort};
+ghost use Rattle.bac_command_line.specs.Stores.{IsAnsweredFrom, IsServedFrom, MeansStore};
+
+use crate::files::{OpenFiles, opened};
+use crate::online;
+use crate::online::Machine;
+use bac_commands::answer_over;
+use bac_objects::{DocumentFault, read_objects};
+use bac_store::{Store, house};
+use bac_text::{Status, complain, no_memory};
+use std::alloc::Global;
+use std::io;
+use std::io::{Read, Write};
+
+/// All octets of a file. Where it cannot be read, `err` and the status tell it.
+fn octets_of<F: Read + Drop, E: Write>(
+    alloc: Global,
+    file: F,
+    err: &mut E,
+) -> Result<Vec<u8>, Status>
+    ensures octets { IfOk result (λ v. IfSome (F.remaining file) (λ octets. v.items ≡ octets)) }
+    ensures told { IfErr result IsStop }
+{
+    let mut file = file;
+    let mut octets = Vec::new(alloc);
+    match file.read_to_end(&mut octets) {
+        Ok(_) => Ok(octets),
+        Err(error) if error.kind() == io::ErrorKind::OutOfMemory => Err(no_memory(err)),
+        Err(_) => Err(complain(err, "cannot read", Status::CommandLine)),
+    }
+}
+
+/// The store that octets mean; where they mean none, `err` and the status tell why.
+fn store_in<E: Write>(
+    alloc: Global,
+    path: &str,
+    octets: &[u8],
+    err: &mut E,
+) -> Result<Store, Status>
+    ensures store { IfOk result (λ s. MeansStore (Some octets.now) s) }
+    ensures told { IfErr result IsStop }
+{
+    match read_objects(alloc, octets) {
+        Ok(store) => Ok(store),
+        Err(DocumentFault::NoMemory) => Err(no_memory(err)),
+        Err(fault) => {
+            // where even that fails, the status alone tells
+            let _ = writeln!(err, "{path}: {fault}");
+            Err(Status::CommandLine)
+        }
+    }
+}
+
+/// The store that the octets of an open file mean.
+#[tactic(auto, using(crate::proofs::StoresOfFiles::meant_by_file))]
+fn store_from<F: Read + Drop, E: Write>(
+    alloc: Global,
+    path: &str,
+    file: F,
+    err: &mut E,
+) -> Result<Store, Status>
+    ensures store { IfOk result (λ s. MeansStore (F.remaining file) s) }
+    ensures told { IfErr result IsStop }
+{
+    let octets = octets_of(alloc, file, err)?;
+    store_in(alloc, path, &octets, err)
+}
+
+/// The store that a file means.
+fn store_of<F: OpenFiles, E: Write>(
+    alloc: Global,
+    files: &F,
+    path: &str,
+    err: &mut E,
+) -> Result<Store, Status>
+    ensures store { IfOk result (λ s. OfFile (OnFile F.is_file F.File.remaining) path.now (λ content. MeansStore content s)) }
+    ensures told { IfErr result IsStop }
+{
+    let file = opened(files, path, err)?;
+    store_from(alloc, path, file, err)
+}
+
+fn answer_house<O: Write, E: Write>(
+    alloc: Global,
+    datagram: &str,
+    out: &mut O,
+    err: &mut E,
+) -> Status
+    ensures { IsAnswered datagram.now (O.contents out.old) (O.contents out.new) result }
+{
+    match house(alloc) {
+        Ok(store) => answer_over(alloc, store, datagram, out, err),
+        Err(_) => no_memory(err),
+    }
+}
+
+/// What answers a datagram. A file that cannot be opened or read: `cannot read` on `err`; one that means no store: its path and why.
+pub(crate) fn answer<F: OpenFiles, O: Write, E: Write>(
+    alloc: Global,
+    files: &F,
+    datagram: &str,
+    objects: Option<&str>,
+    out: &mut O,
+    err: &mut E,
+) -> Status
+    ensures { IsAnsweredFrom (OnFile F.is_file F.File.remaining) (option_map (λ p. p.now) objects.entry) datagram.now result
+        (O.contents out.old) (O.contents out.new) }
+{
+    let Some(path) = objects else {
+        return answer_house(alloc, datagram, out, err);
+    };
+    match store_of(alloc, files, path, err) {
+        Ok(store) => answer_over(alloc, store, datagram, out, err),
+        Err(status) => status,
+    }
+}
+
+fn serve_house<M: Machine, O: Write, E: Write>(
+    alloc: Global,
+    machine: &M,
+    port: u16,
+    turns: u64,
+    out: &mut O,
+    err: &mut E,
+) -> Status
+    ensures { IsServed (OnPort M.is_bound M.Link.failures M.Link.calls) (OnClock M.is_made M.Timer.told) result port turns
+        (O.contents out.old) (O.contents out.new) }
+{
+    match house(alloc) {
+        Ok(store) => online::serve(alloc, machine, store, port, turns, out, err),
+        Err(_) => no_memory(err),
+    }
+}
+
+/// A node at a port takes so many turns. A file is told of as by [`answer`].
+pub(crate) fn serve<F: OpenFiles, M: Machine, O: Write, E: Write>(
+    alloc: Global,
+    files: &F,
+    machine: &M,
+    port: u16,
+    turns: u64,
+    objects: Option<&str>,
+    out: &mut O,
+    err: &mut E,
+) -> Status
+    ensures { IsServedFrom (OnFile F.is_file F.File.remaining) (option_map (λ p. p.now) objects.entry) (OnPort M.is_bound M.Link.failures M.Link.calls)
+        (OnClock M.is_made M.Timer.told) result port turns (O.contents out.old) (O.contents out.new) }
+{
+    let Some(path) = objects else {
+        return serve_house(alloc, machine, port, turns, out, err);
+    };
+    match store_of(alloc, files, path, err) {
+        Ok(store) => online::serve(alloc, machine, store, port, turns, out, err),
+        Err(status) => status,
+    }
+}
