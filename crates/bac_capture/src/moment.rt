@@ -51,11 +51,7 @@ pub(crate) fn record_moment(
 }
 
 /// The moment of a block of pcapng: a count of units, its upper half first.
-pub(crate) fn block_moment(
-    resolution: Option<Resolution>,
-    order: Order,
-    body: &[u8],
-) -> Option<u64>
+pub(crate) fn block_moment(resolution: Option<Resolution>, order: Order, body: &[u8]) -> Option<u64>
     requires { 8 ≤ length body.now }
     ensures { result ≡ block_moment resolution order body.now }
 {

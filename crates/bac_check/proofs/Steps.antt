@@ -162,7 +162,7 @@ module _ (S : Type 0) (Sees : Tells FrameView S) (Breaks : Tells FileFault S) wh
   more_so_far begun now next (Some octets) left left_new a b c start before after s sofar t e =
       let here = record_at now.form now.order sofar.rest in
       let taken = subst (λ (q : Step). IsRecordTaken S Sees Breaks now next here left_new b c before after q) e
-          (here_of now next sofar.rest left left_new b c before after s sofar.is t) in
+      (here_of now next sofar.rest left left_new b c before after s sofar.is t) in
       let g = goes_on now next here left_new b c before after taken in
       record {
         rest = g.rest;
@@ -180,8 +180,8 @@ module _ (S : Type 0) (Sees : Tells FrameView S) (Breaks : Tells FileFault S) wh
   all_ended begun now next None left left_new a b c start before after s sofar t e = tt
   all_ended begun now next (Some octets) left left_new a b c start before after s sofar t e =
       let end = ended (record_at now.form now.order sofar.rest)
-          (subst (λ (q : Step). IsRecordTaken S Sees Breaks now next (record_at now.form now.order sofar.rest) left_new b c before after q) e
-          (here_of now next sofar.rest left left_new b c before after s sofar.is t)) in
+      (subst (λ (q : Step). IsRecordTaken S Sees Breaks now next (record_at now.form now.order sofar.rest) left_new b c before after q) e
+      (here_of now next sofar.rest left left_new b c before after s sofar.is t)) in
       let whole = sofar.then zero [] after (end.0, refl, end.1.1) in
       record {
         records = whole.0;
@@ -204,7 +204,7 @@ module _ (S : Type 0) (Sees : Tells FrameView S) (Breaks : Tells FileFault S) wh
   all_broken begun now next (Some octets) left left_new a b c start before after s sofar t e =
       let here = record_at now.form now.order sofar.rest in
       let taken = subst (λ (q : Step). IsRecordTaken S Sees Breaks now next here left_new b c before after q) e
-          (here_of now next sofar.rest left left_new b c before after s sofar.is t) in
+      (here_of now next sofar.rest left left_new b c before after s sofar.is t) in
       let o = over now next here left_new b c before after taken in
       let whole = sofar.then (suc zero) o.text after (o.then (AreRead zero S Sees Breaks)) in
       record {
