@@ -1,3 +1,4 @@
+pub mod BadWords
 pub mod Lines
 pub mod Reading
 pub mod Requests

@@ -3,7 +3,9 @@ use Rattle.std.specs.Prelude.{ℕ, ◌+◌, ◌*◌, nat_le, ◌&&◌, List, [],
 use Rattle.std.specs.Str.{bytes_eq}
 use Rattle.bac_value.specs.Value.{ObjectId}
 use Rattle.bac_service.specs.Values.{Request}
-use Rattle.bac_script.specs.Words.{◌>>=◌, words_of, number_of, number_up_to, octets_of, object_of, property_of}
+use Rattle.bac_value_text.specs.Numbers.{◌>>=◌, number_of, number_up_to, octets_of}
+use Rattle.bac_value_text.specs.Reading.{object_of, property_of}
+use Rattle.bac_script.specs.Words.{words_of}
 use Rattle.bac_script.specs.Requests.{request_of}
 
 -- ---- the first line: nodes N, or nodes N window W overtake V
@@ -50,12 +52,13 @@ setting_of words = None
 abbrev pub setting_at : List ℕ → Option Setting
 setting_at line = setting_of (words_of line)
 
--- ---- the lines after it: ask CLIENT SERVER REQUEST, deliver COPY, noise NODE HEX, tick NODE, advance MILLISECONDS, set NODE OBJECT PROPERTY HEX,
--- ---- file NODE OBJECT HEX
+-- ---- the lines after it: ask CLIENT SERVER REQUEST, deliver COPY, lose COPY, noise NODE HEX, tick NODE, advance MILLISECONDS,
+-- ---- set NODE OBJECT PROPERTY HEX, file NODE OBJECT HEX
 
 pub data Step : Type 0 where
   Ask : (client server : ℕ) (request : Request) → Step
   Deliver : (copy : ℕ) → Step
+  Lose : (copy : ℕ) → Step
   Noise : (node : ℕ) (octets : List ℕ) → Step
   Tick : (node : ℕ) → Step
   Advance : (by : ℕ) → Step
@@ -106,7 +109,8 @@ numbered word number = do
   if bytes_eq word (codes "deliver") then Some (Deliver n)
       else (if bytes_eq word (codes "tick") then Some (Tick n)
       else (if bytes_eq word (codes "advance") then Some (Advance n)
-      else None))
+      else (if bytes_eq word (codes "lose") then Some (Lose n)
+      else None)))
 
 abbrev pub step_of : List (List ℕ) → Option Step
 step_of (word ∷ number ∷ []) = numbered word number

@@ -1,19 +1,19 @@
 -- Requests in words: read T:I P, write T:I P VALUE .. [priority N], append T:I HEX, put T:I POSITION HEX, get T:I POSITION COUNT.
 -- T and P are numbers or names; P may have an index in brackets.
-use Rattle.std.specs.Prelude.{ℕ, ℤ, negsuc, ◌+◌, ◌^◌, nat_lt, List, [], ◌∷◌, ◌++◌, length, take, drop, codes, if◌then◌else◌, Option, Some, None, Result, Ok, Err}
-use Rattle.std.specs.List.{position}
+use Rattle.std.specs.Prelude.{ℕ, ℤ, negsuc, ◌^◌, nat_lt, List, [], ◌∷◌, ◌++◌, length, codes, if◌then◌else◌, Option, Some, None, Result, Ok, Err}
 use Rattle.std.specs.Option.{option_map, option_or}
 use Rattle.std.specs.Str.{bytes_eq}
 use Rattle.bac_value.specs.Value.{ObjectId}
 use Rattle.bac_value.specs.Reading.{data_of}
 use Rattle.bac_value.specs.Writing.{value_spelling}
-use Rattle.bac_value_text.specs.Reading.{value_in}
+use Rattle.bac_value_text.specs.Reading.{value_in, object_of, property_of}
 use Rattle.bac_value.specs.declared.fault.FaultKind.{FaultKind}
 use Rattle.bac_service.specs.Values.{Reference, Request}
 use Rattle.bac_service.specs.Values.ReadAccess.{ReadStream}
 use Rattle.bac_service.specs.Values.WriteAccess.{WriteStream}
 use Rattle.bac_service.specs.Values.Request.{ReadFile, WriteFile, ReadProperty, WriteProperty}
-use Rattle.bac_script.specs.Words.{◌>>=◌, number_of, number_up_to, position_of, octets_of, object_of, property_of, index_of, is_opening}
+use Rattle.bac_value_text.specs.Numbers.{◌>>=◌, number_of, number_up_to, signed_of, octets_of, parts_at}
+use Rattle.bac_script.specs.Words.{index_of, OPENING}
 
 -- a property as a whole
 unfoldable pub whole_of : ObjectId → List ℕ → Option Reference
@@ -28,14 +28,14 @@ element_of object before behind = do
   index ← index_of behind
   Some (record { object = object; property = property; index = Some index })
 
--- with the place of the opening bracket
-abbrev pub reference_at : ObjectId → List ℕ → (opening : Option ℕ) → Option Reference
+-- with what stands before and behind the opening bracket
+abbrev pub reference_at : ObjectId → List ℕ → (halves : Option (List ℕ × List ℕ)) → Option Reference
 reference_at object word None = whole_of object word
-reference_at object word (Some place) = element_of object (take place word) (drop (place + 1) word)
+reference_at object word (Some halves) = element_of object halves.0 halves.1
 
 -- a property of an object, or one element of it
 abbrev pub reference_of : ObjectId → List ℕ → Option Reference
-reference_of object word = reference_at object word (position is_opening word)
+reference_of object word = reference_at object word (parts_at OPENING word)
 
 -- the octets, where they spell data as a whole (clause 20.2)
 abbrev pub whole_data : List ℕ → Result (List ℕ) FaultKind → Option (List ℕ)
@@ -113,11 +113,11 @@ abbrev pub append_of : ObjectId → (content : List ℕ) → Option Request
 append_of file content = written_at file (negsuc 0) content
 
 abbrev pub put_of : ObjectId → (start content : List ℕ) → Option Request
-put_of file start content = position_of start >>= (λ position. written_at file position content)
+put_of file start content = signed_of start >>= (λ position. written_at file position content)
 
 unfoldable pub get_of : ObjectId → (start count : List ℕ) → Option Request
 get_of file start count = do
-  position ← position_of start
+  position ← signed_of start
   number ← number_of count
   Some (ReadFile file (ReadStream position number))
 

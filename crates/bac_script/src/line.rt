@@ -64,6 +64,8 @@ pub enum Step {
     Ask(Ask),
     /// The copy of that number, from 0 on, is delivered.
     Deliver(u64),
+    /// The copy of that number counts as lost. That is a note alone: nothing happens in the network.
+    Lose(u64),
     /// Octets come to a node.
     Noise(Noise),
     /// The node of that number looks at its timers.

@@ -3,7 +3,8 @@ ghost use Rattle.std.specs.Prelude.{◌≡◌, ◌&&◌, codes, map};
 ghost use Rattle.std.specs.Str.{bytes_eq};
 ghost use Rattle.std.specs.Option.{option_map};
 ghost use Rattle.bac_script.specs.Reading.{Reads};
-ghost use Rattle.bac_script.specs.Words.{number_of, property_of};
+ghost use Rattle.bac_value_text.specs.Numbers.{number_of};
+ghost use Rattle.bac_value_text.specs.Reading.{property_of};
 ghost use Rattle.bac_script.specs.Lines.{number_from_one, bounded, setting_with, usual_setting, setting_of};
 ghost use Rattle.bac_script.specs.Lines.{setting_at, ask_of, noise_of, numbered, set_property_of, set_file_of, change_of, step_of, step_at};
 ghost use Rattle.bac_script.specs.Views.{setting_view, step_view};
@@ -11,7 +12,8 @@ ghost use Rattle.bac_script.specs.Views.{setting_view, step_view};
 use crate::form_fault::FormFault;
 use crate::line::{Ask, Noise, SetFile, SetProperty, Setting, Step};
 use crate::request_reading::{object_or_fault, read_request_words};
-use crate::words::{number_in, number_up_to, octets_in, property_in, words_in};
+use crate::words::{octets_or_fault, words_in};
+use bac_value_text::{number_in, number_up_to, property_in};
 use std::alloc::Global;
 
 /// A number from 1 to that.
@@ -124,7 +126,7 @@ fn noise(alloc: Global, node: &[u8], octets: &[u8]) -> Result<Step, FormFault>
     ensures { Reads step_view result (noise_of node.now octets.now) }
 {
     let node = number_or_fault(node)?;
-    let octets = octets_in(alloc, octets)?;
+    let octets = octets_or_fault(alloc, octets)?;
     Ok(Step::Noise(Noise { node, octets }))
 }
 
@@ -139,6 +141,8 @@ fn with_number(word: &[u8], number: &[u8]) -> Result<Step, FormFault>
         Ok(Step::Tick(number))
     } else if word == b"advance".as_slice() {
         Ok(Step::Advance(number))
+    } else if word == b"lose".as_slice() {
+        Ok(Step::Lose(number))
     } else {
         Err(FormFault::NoForm)
     }
@@ -166,7 +170,7 @@ fn set_property(
     let node = number_or_fault(node)?;
     let object = object_or_fault(object)?;
     let property = property_or_fault(property)?;
-    let octets = octets_in(alloc, octets)?;
+    let octets = octets_or_fault(alloc, octets)?;
     Ok(Step::SetProperty(SetProperty {
         node,
         object,
@@ -181,7 +185,7 @@ fn set_file(alloc: Global, node: &[u8], object: &[u8], octets: &[u8]) -> Result<
 {
     let node = number_or_fault(node)?;
     let object = object_or_fault(object)?;
-    let octets = octets_in(alloc, octets)?;
+    let octets = octets_or_fault(alloc, octets)?;
     Ok(Step::SetFile(SetFile {
         node,
         object,
@@ -222,8 +226,8 @@ fn step_in(alloc: Global, words: &[&[u8]]) -> Result<Step, FormFault>
     }
 }
 
-/// A line after the first one, without its end: `ask CLIENT SERVER` and the words of a request, `deliver COPY`, `noise NODE HEX`, `tick NODE`,
-/// `advance MILLISECONDS`, `set NODE T:I P HEX` or `file NODE T:I HEX`, separated by single spaces. `NoForm` for any other line.
+/// A line after the first one, without its end: `ask CLIENT SERVER` and the words of a request, `deliver COPY`, `lose COPY`, `noise NODE HEX`,
+/// `tick NODE`, `advance MILLISECONDS`, `set NODE T:I P HEX` or `file NODE T:I HEX`, separated by single spaces. `NoForm` for any other line.
 pub fn read_step(alloc: Global, line: &[u8]) -> Result<Step, FormFault>
     ensures { Reads step_view result (step_at line.now) }
 {

@@ -4,20 +4,19 @@ ghost use Rattle.std.specs.Option.{option_map};
 ghost use Rattle.bac_value.specs.Views.{object_identifier_view};
 ghost use Rattle.bac_service.specs.Views.{owned_request_view, property_reference_view};
 ghost use Rattle.bac_script.specs.Reading.{Reads};
-ghost use Rattle.bac_script.specs.Words.{object_of};
+ghost use Rattle.bac_value_text.specs.Reading.{object_of};
 ghost use Rattle.bac_script.specs.Requests.{data_in, content_in, whole_of, element_of, reference_of, read_of, write_of, written_at};
 ghost use Rattle.bac_script.specs.Requests.{append_of, put_of, get_of, one_more, two_more, more_of, request_of};
 
 use crate::form_fault::FormFault;
 use crate::values::{values_in_word, written_on};
-use crate::words::{
-    index_in, number_in, object_in, octets_in, opening_in, position_in, property_in,
-};
+use crate::words::{index_in, octets_or_fault};
 use bac_service::{
     AnyRequest, OwnedRequest, PropertyReference, ReadAccess, ReadFile, WriteAccess, WriteFile,
     WriteProperty, WriteStream,
 };
 use bac_value::{DataBuf, ObjectIdentifier, OctetString, take_data};
+use bac_value_text::{number_in, object_in, parts_at, property_in, signed_in};
 use std::alloc::Global;
 
 /// A property as a whole.
@@ -48,12 +47,12 @@ fn element_in(object: ObjectIdentifier, before: &[u8], behind: &[u8]) -> Option<
 }
 
 /// A property of an object, or one element of it.
-fn reference_of(object: ObjectIdentifier, word: &[u8]) -> Option<PropertyReference>
+pub(crate) fn reference_of(object: ObjectIdentifier, word: &[u8]) -> Option<PropertyReference>
     ensures { option_map property_reference_view result ≡ reference_of (object_identifier_view object) word.now }
 {
-    match opening_in(word) {
+    match parts_at(b'[', word) {
         None => whole_in(object, word),
-        Some(opening) => element_in(object, &word[..opening], &word[opening + 1..]),
+        Some((before, behind)) => element_in(object, before, behind),
     }
 }
 
@@ -125,7 +124,7 @@ fn write_at(
 ) -> Result<OwnedRequest, FormFault>
     ensures { Reads owned_request_view result (written_at (object_identifier_view file) start content.now) }
 {
-    let octets = octets_in(alloc, content)?;
+    let octets = octets_or_fault(alloc, content)?;
     let content = content_of(octets)?;
     let access = WriteAccess::Stream(WriteStream { start, content });
     Ok(AnyRequest::WriteFile(WriteFile { file, access }))
@@ -145,7 +144,7 @@ fn put(
 ) -> Result<OwnedRequest, FormFault>
     ensures { Reads owned_request_view result (put_of (object_identifier_view file) start.now content.now) }
 {
-    let Some(start) = position_in(start) else {
+    let Some(start) = signed_in(start) else {
         return Err(FormFault::NoForm);
     };
     write_at(alloc, file, start, content)
@@ -155,7 +154,7 @@ fn put(
 fn get(file: ObjectIdentifier, start: &[u8], count: &[u8]) -> Result<OwnedRequest, FormFault>
     ensures { Reads owned_request_view result (get_of (object_identifier_view file) start.now count.now) }
 {
-    let Some(start) = position_in(start) else {
+    let Some(start) = signed_in(start) else {
         return Err(FormFault::NoForm);
     };
     let Some(count) = number_in(count) else {

@@ -8,10 +8,10 @@ ghost use Rattle.bac_script.specs.Requests.{values_in_word, priority_of, priorit
 ghost use Rattle.bac_script.specs.Views.{written_view};
 
 use crate::form_fault::FormFault;
-use crate::words::{number_up_to, octets_in};
+use crate::words::octets_or_fault;
 use bac_service::Priority;
 use bac_value::{Value, write_value};
-use bac_value_text::{Separator, ValueFault, read_value};
+use bac_value_text::{Separator, ValueFault, number_up_to, read_value};
 use std::alloc::Global;
 
 /// Octets of values, and the priority that stands behind them.
@@ -38,11 +38,11 @@ pub(crate) fn values_in_word(alloc: Global, word: &[u8]) -> Result<Vec<u8>, Form
     match read_value(alloc, Separator::Colon, word) {
         Ok(value) => spelling_of(alloc, &value),
         Err(ValueFault::NoMemory) => Err(FormFault::NoMemory),
-        Err(ValueFault::NoValue) => octets_in(alloc, word),
+        Err(ValueFault::NoValue) => octets_or_fault(alloc, word),
     }
 }
 
-fn priority_in(word: &[u8]) -> Option<Priority>
+pub(crate) fn priority_in(word: &[u8]) -> Option<Priority>
     ensures { option_map (λ p. p.number) result ≡ priority_of word.now }
 {
     let number = number_up_to(16, word)?;
@@ -50,7 +50,7 @@ fn priority_in(word: &[u8]) -> Option<Priority>
 }
 
 /// The word of a priority, where only it and the word before it are left.
-fn priority_word<'a>(words: &[&'a [u8]]) -> Option<&'a [u8]>
+pub(crate) fn priority_word<'a>(words: &[&'a [u8]]) -> Option<&'a [u8]>
     ensures { option_map (λ w. w.now) result ≡ priority_word (map (λ w. w.now) words.now) }
 {
     match words {

@@ -10,6 +10,7 @@ use Rattle.fast_float.specs.Parse.{parse_float}
 use Rattle.percent_encoding.specs.Percent.{percent_decode}
 use Rattle.bac_names.specs.Names.{number_in}
 use Rattle.bac_names.specs.ObjectTypes.{OBJECT_TYPES}
+use Rattle.bac_names.specs.Properties.{PROPERTIES}
 use Rattle.bac_value.specs.Limits.{bits_fit}
 use Rattle.bac_value.specs.Value.{Datum, ObjectId, null, boolean, unsigned, signed, real, double, octets, characters, bits, enumerated}
 use Rattle.bac_value.specs.Value.{date, time, object}
@@ -64,6 +65,10 @@ object_of word = do
   kind ← type_of halves.0
   instance ← number_up_to 4194303 halves.1
   Some (record { kind = kind; instance = instance })
+
+-- a property, by its number or its name in the standard
+abbrev pub property_of : List ℕ → Option ℕ
+property_of word = option_or (number_of word) (number_in PROPERTIES word) >>= at_most (2 ^ 32 - 1)
 
 -- octets, where an octet string can have so many (clause 20.2.8)
 abbrev pub octets_fit : List ℕ → Option Datum

@@ -10,6 +10,7 @@ use Rattle.fast_float.specs.Parse.{parse_float}
 use Rattle.hex.specs.Hex.{encode_upper}
 use Rattle.bac_names.specs.Names.{name_in}
 use Rattle.bac_names.specs.ObjectTypes.{OBJECT_TYPES}
+use Rattle.bac_names.specs.Properties.{PROPERTIES}
 use Rattle.bac_value.specs.Value.{Datum, ObjectId, null, boolean, unsigned, signed, real, double, octets, characters, bits, enumerated}
 use Rattle.bac_value.specs.Value.{date, time, object}
 
@@ -92,6 +93,9 @@ named_or_number None number = decimal number
 
 abbrev pub type_text : ℕ → List ℕ
 type_text kind = named_or_number (name_in OBJECT_TYPES kind) kind
+
+abbrev pub property_text : ℕ → List ℕ
+property_text property = named_or_number (name_in PROPERTIES property) property
 
 abbrev pub object_text : ObjectId → List ℕ
 object_text i = type_text i.kind ++ (58 ∷ decimal i.instance)

@@ -6,9 +6,9 @@ ghost use Rattle.bac_value.specs.Number.{distance};
 ghost use Rattle.bac_value.specs.Octets.{IsBytes};
 ghost use Rattle.bac_value.specs.Views.{object_identifier_view};
 ghost use Rattle.bac_value_text.specs.Texts.{boolean_text, is_real_number, is_double_number, IsRealText, IsDoubleText, is_text, escaped_octet, escaped};
-ghost use Rattle.bac_value_text.specs.Texts.{characters_text, bit_digits, all_bits, bits_text, field_text, fields_text, type_text, object_text};
+ghost use Rattle.bac_value_text.specs.Texts.{characters_text, bit_digits, all_bits, bits_text, field_text, fields_text, type_text, property_text, object_text};
 
-use bac_names::object_type_name;
+use bac_names::{object_type_name, property_name};
 use bac_value::ObjectIdentifier;
 use percent_encoding::percent_encode_byte;
 use ryu::Buffer;
@@ -232,8 +232,18 @@ fn type_text(alloc: Global, kind: u16) -> Result<String, AllocError>
     }
 }
 
-/// An object, by its type and its instance.
-pub(crate) fn object_text(alloc: Global, object: ObjectIdentifier) -> Result<Vec<u8>, AllocError>
+/// A property, by its name in the standard, as `present-value`, or its number where there is none.
+pub fn property_text(alloc: Global, property: u32) -> Result<String, AllocError>
+    ensures { IfOk result (λ t. string_bytes t ≡ property_text property) }
+{
+    match property_name(property) {
+        Some(name) => String::from_str(alloc, name),
+        None => format!(in alloc; "{property}"),
+    }
+}
+
+/// An object, by its type (by name where the standard has one) and its instance, as `analog-input:5`.
+pub fn object_text(alloc: Global, object: ObjectIdentifier) -> Result<Vec<u8>, AllocError>
     ensures { IfOk result (λ t. t.items ≡ object_text (object_identifier_view object)) }
 {
     let kind = type_text(alloc, object.kind)?;

@@ -5,12 +5,12 @@ ghost use Rattle.std.specs.List.{list_all};
 ghost use Rattle.bac_names.specs.Names.{number_in};
 ghost use Rattle.bac_value.specs.Views.{object_identifier_view, value_view};
 ghost use Rattle.bac_value_text.specs.Numbers.{number_of};
-ghost use Rattle.bac_value_text.specs.Reading.{boolean_in, real_in, double_in, field_from, field_in, fields_in, type_of, object_of};
+ghost use Rattle.bac_value_text.specs.Reading.{boolean_in, real_in, double_in, field_from, field_in, fields_in, type_of, property_of, object_of};
 ghost use Rattle.bac_value_text.specs.Reading.{octets_fit, characters_fit, characters_in, is_bit, bit_in, octet_in, octets_for, bits_fitting, bits_in, Reads};
 
 use crate::numbers::{at_most, number_in, number_up_to, octets_in, parts_at};
 use crate::value_fault::ValueFault;
-use bac_names::object_type_named;
+use bac_names::{object_type_named, property_named};
 use bac_value::{BitString, CharacterString, ObjectIdentifier, OctetString, Value};
 use std::alloc::{AllocError, Global};
 
@@ -104,9 +104,18 @@ fn type_in(word: &[u8]) -> Option<u16>
     Some(number as u16)
 }
 
-/// An object, as its type and its instance with a colon between them.
+/// A property, by its number (32 bits) or its name in the standard, as `present-value`; None of any other word.
+pub fn property_in(word: &[u8]) -> Option<u32>
+    ensures { result ≡ property_of word.now }
+{
+    let number = at_most(u64::from(u32::MAX), number_or(word, property_named(word))?)?;
+    Some(number as u32)
+}
+
+/// An object, as its type (0 to 1,023, or its name in the standard) and its instance (0 to 4,194,303) with a colon between them, as `analog-input:5`;
+/// None of any other word.
 #[tactic(auto, unfolding(crate::specs::Reading::object_of))]
-pub(crate) fn object_in(word: &[u8]) -> Option<ObjectIdentifier>
+pub fn object_in(word: &[u8]) -> Option<ObjectIdentifier>
     ensures { option_map object_identifier_view result ≡ object_of word.now }
 {
     let halves = parts_at(b':', word)?;

@@ -17,8 +17,8 @@ fn are_digits(word: &[u8]) -> bool
     word.iter().all(|digit| digit.is_ascii_digit())
 }
 
-/// A decimal number of digits alone that has at most 64 bits.
-pub(crate) fn number_in(word: &[u8]) -> Option<u64>
+/// The number that a word is: decimal digits alone, at least one, of at most 64 bits; None of any other word.
+pub fn number_in(word: &[u8]) -> Option<u64>
     ensures { result ≡ number_of word.now }
 {
     if are_digits(word) {
@@ -35,8 +35,8 @@ pub(crate) fn at_most(most: u64, number: u64) -> Option<u64>
     if number <= most { Some(number) } else { None }
 }
 
-/// A decimal number that is at most that.
-pub(crate) fn number_up_to(most: u64, word: &[u8]) -> Option<u64>
+/// The same, where it is at most `most`.
+pub fn number_up_to(most: u64, word: &[u8]) -> Option<u64>
     ensures { result ≡ number_up_to most word.now }
 {
     at_most(most, number_in(word)?)
@@ -67,8 +67,8 @@ fn positive(digits: &[u8]) -> Option<i64>
     Some(number as i64)
 }
 
-/// A number that may have a minus before it, of 64 bits with its sign.
-pub(crate) fn signed_in(word: &[u8]) -> Option<i64>
+/// The number that a word is, of 64 bits with its sign: decimal digits, and a minus before them or not; None of any other word.
+pub fn signed_in(word: &[u8]) -> Option<i64>
     ensures { result ≡ signed_of word.now }
 {
     if is_minus(word) {
@@ -78,8 +78,8 @@ pub(crate) fn signed_in(word: &[u8]) -> Option<i64>
     }
 }
 
-/// Octets in hexadecimal, in either case.
-pub(crate) fn octets_in(alloc: Global, word: &[u8]) -> Result<Vec<u8>, ValueFault>
+/// Octets in hexadecimal, in either case; a word without octets is none. `NoValue` where the word is no hexadecimal.
+pub fn octets_in(alloc: Global, word: &[u8]) -> Result<Vec<u8>, ValueFault>
     ensures { Reads (λ v. v.items) result (octets_of word.now) }
 {
     match hex::decode(alloc, word) {
@@ -109,8 +109,8 @@ fn place_of(octet: u8, word: &[u8]) -> Option<usize>
     word.iter().position(|other| *other == octet)
 }
 
-/// What stands before the first such octet, and after it.
-pub(crate) fn parts_at(octet: u8, word: &[u8]) -> Option<(&[u8], &[u8])>
+/// What stands before the first such octet, and after it; None where there is none.
+pub fn parts_at(octet: u8, word: &[u8]) -> Option<(&[u8], &[u8])>
     ensures { option_map (λ r. (r.0.now, r.1.now)) result ≡ parts_at octet word.now }
 {
     let place = place_of(octet, word)?;
