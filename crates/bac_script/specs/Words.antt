@@ -1,19 +1,14 @@
 -- The words of a line. What numbers, octets, objects and properties they are, is said in bac_value_text.
-use Rattle.std.specs.Prelude.{ℕ, ◌-◌, ◌^◌, Bool, ◌==◌, List, [], ◌∷◌, if◌then◌else◌, Option, Some, None}
+use Rattle.std.specs.Prelude.{ℕ, ◌-◌, ◌^◌, Bool, ◌==◌, List, [], ◌∷◌, Option, Some, None}
 use Rattle.bac_value_text.specs.Numbers.{◌>>=◌, number_up_to, parts_at}
+use Rattle.bac_value_text.specs.Splits.{split_by}
 
 abbrev pub is_space : ℕ → Bool
 is_space octet = octet == 32
 
--- an octet in front of the first of some words
-abbrev pub onto_first : ℕ → List (List ℕ) → List (List ℕ)
-onto_first octet [] = (octet ∷ []) ∷ []
-onto_first octet (word ∷ words) = (octet ∷ word) ∷ words
-
 -- the words of a line, separated by single spaces: where two spaces stand side by side, a word without octets is between them
 abbrev pub words_of : List ℕ → List (List ℕ)
-words_of [] = [] ∷ []
-words_of (octet ∷ octets) = if is_space octet then [] ∷ words_of octets else onto_first octet (words_of octets)
+words_of line = split_by is_space line
 
 -- the brackets of an index
 abbrev pub OPENING : ℕ

@@ -307,7 +307,7 @@ fn word_text(alloc: Global, wanted: Wanted, word: &[u8]) -> Result<Vec<u8>, Allo
 impl<'a> BadWord<'a> {
     /// What is wrong, as `property "presentvalue" is no name and no number`, or `property is missing`. An Err says that memory was refused.
     pub fn text(self, alloc: Global) -> Result<Vec<u8>, AllocError>
-        ensures { IfOk result (λ t. t.items ≡ bad_word_text (bad_word_view self)) }
+        ensures { IfOk result (λ t. t.items ≡ bad_word_text (bad_word_view self.entry)) }
     {
         let Some(word) = self.word else {
             let name = role_name(self.wanted);

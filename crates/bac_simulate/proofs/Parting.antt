@@ -4,7 +4,8 @@ use Rattle.std.proofs.Common.{rules, refl, ap, arith, if◌then◌else◌}
 use Rattle.std.proofs.lemmas.Bool.Decides.{nat_tests}
 use Rattle.std.proofs.lemmas.List.Sums.{prefix_len-le-length}
 use Rattle.std.specs.List.{position, position_or_len}
-use Rattle.bac_text.specs.Lines.{is_line_end, onto_first, lines_of}
+use Rattle.bac_text.specs.Lines.{is_line_end, lines_of}
+use Rattle.bac_value_text.specs.Splits.{onto_first}
 
 abbrev first_end : List ℕ → ℕ
 first_end = position_or_len is_line_end

@@ -5,4 +5,6 @@ pub mod LineFronts
 mod OneVerdict
 mod Printed
 pub mod SoFar
+mod ShownLines
+mod Gaps
 pub mod TakenStrings

@@ -12,8 +12,11 @@ use Rattle.memchr.specs.Find.{IsFirstByte}
 use Rattle.std.specs.Io.{StartsWith}
 use Rattle.std.specs.Io.BufRead.{drop_through, DropsConsumable}
 use Rattle.std.specs.Io.KnownBytes.{Keeps}
+use Rattle.std.specs.Option.{option_map}
+use Rattle.bac_value_text.specs.Splits.{onto_first}
 use Rattle.bac_text.specs.Capture.{capture_at}
-use Rattle.bac_text.specs.Lines.{LINE_END, LINE_LIMIT, is_line_end, line_in, lines_of, onto_first, short_capture_at}
+use Rattle.bac_text.specs.Notes.{read_of}
+use Rattle.bac_text.specs.Lines.{LINE_END, LINE_LIMIT, is_line_end, line_in, lines_of, short_capture_at, unless_long}
 use Rattle.bac_text.specs.NextLine.{kept, IsRest, IsPart, IsLine, IsEmptyInput, IsNextLine}
 
 -- ---- the front of a list
@@ -103,20 +106,24 @@ first_line (x ∷ xs) h = lines_step (x == LINE_END) x xs (first_line xs)
 
 -- ---- what is kept of a line says whether it is a capture line
 
-kept_step : {A : Type 0} (b : Bool) (f : List ℕ → Option A) (most : ℕ) (line : List ℕ) → nat_lt most (length line) ≡ b
-    → (if nat_lt most (length (take (most + 1) line)) then None else f (take (most + 1) line)) ≡ (if b then None else f line)
-kept_step true f most line e =
+kept_step : {A : Type 0} (b : Bool) (other : A) (f : List ℕ → A) (most : ℕ) (line : List ℕ) → nat_lt most (length line) ≡ b
+    → (if nat_lt most (length (take (most + 1) line)) then other else f (take (most + 1) line)) ≡ (if b then other else f line)
+kept_step true other f most line e =
     let long : most + 1 ≤ length line = grind (arith, nat_tests, e) in
     let len : length (take (most + 1) line) ≡ most + 1 = length-take-le (most + 1) line long in
     let over : nat_lt most (length (take (most + 1) line)) ≡ true = grind (arith, nat_tests, len) in
     rw over refl
-kept_step false f most line e =
+kept_step false other f most line e =
     let short : length line ≤ most = grind (arith, nat_tests, e) in
     let same : take (most + 1) line ≡ line = take_all line (most + 1) (omega (arith, short)) in
     rw (same, e) refl
 
-pub kept_capture : (line : List ℕ) → short_capture_at (kept line) ≡ short_capture_at line
-kept_capture line = kept_step (nat_lt LINE_LIMIT (length line)) capture_at LINE_LIMIT line refl
+-- what is said of a line that is not too long is said by what is kept of it
+pub kept_line : {A : Type 0} (long : A) (f : List ℕ → A) (line : List ℕ) → unless_long (kept line) long (f (kept line)) ≡ unless_long line long (f line)
+kept_line long f line = kept_step (nat_lt LINE_LIMIT (length line)) long f LINE_LIMIT line refl
+
+pub kept_capture : (notes : Bool) (line : List ℕ) → short_capture_at notes (kept line) ≡ short_capture_at notes line
+kept_capture notes line = kept_line (Some None) (λ (l : List ℕ). option_map capture_at (read_of notes l)) line
 
 -- ---- parts of a line
 

@@ -1,16 +1,15 @@
 -- The lines of a layer, and of what is in it.
-use Rattle.std.proofs.Common.{◌≡◌, ℕ, List, [], ◌++◌, Option, Some, None, Result, Ok, Err, OnOk, refl, sym}
+use Rattle.std.proofs.Common.{◌≡◌, ℕ, Bool, true, false, List, [], ◌++◌, Option, Some, None, Result, Ok, Err, OnOk, refl, sym}
 use Rattle.std.proofs.lemmas.List.{append-nil}
 use Rattle.std.specs.Io.KnownBytes.{Appends, Keeps}
 use Rattle.bac_service.specs.Members.{◌⨾◌}
 use Rattle.bac_service.specs.Values.{Request, Complex}
-use Rattle.bac_text.specs.Decoded.{Is, IsLayer, AreRequestLines, AreComplexLines, AreLayerLines, fault_line, AreLines}
+use Rattle.std.proofs.KnownBytes.{Appends-kept}
+use Rattle.bac_text.specs.Decoded.{IsLayer, AreRequestLines, AreComplexLines, AreLayerLines, fault_line, AreLines}
 use Rattle.bac_text.specs.declared.fault.LayerFault.{LayerFault}
-use Rattle.bac_text.specs.declared.status.Status.{Status}
-use Rattle.bac_text.specs.declared.status.Status.TheVariants.{Done, Faulty}
 use Rattle.bac_text.specs.Layers.{Service, IsRequestIn, IsComplexIn, HasNoRequest, HasNoComplex, IsFine, IsAtFault}
-use Rattle.bac_text.specs.Outcome.{IsShown}
-use Rattle.bac_text.specs.Texts.{line_end, IsRequestText, complex_text, AppendsText, AppendsLine}
+use Rattle.bac_text.specs.Outcome.{IsTold, IsShown, shown_status}
+use Rattle.bac_text.specs.Texts.{Is, line_end, IsRequestText, IsComplexText, AppendsText, AppendsLine}
 use Rattle.bac_text.proofs.Appending.{joined}
 
 pub nothing : (a : Option (List ℕ)) → Appends a a []
@@ -37,6 +36,16 @@ pub and_then : {T E : Type 0} (r : Result T E) (a b c : Option (List ℕ)) (line
     → OnOk r (AppendsText b c Q) → OnOk r (AppendsText a c (Is line ⨾ Q))
 and_then r a b c line Q p q = then_both r a b c (Is line) Q (line_is a b line p) q
 
+pub last_line : {T E : Type 0} (r : Result T E) (a b : Option (List ℕ)) (line : List ℕ) → OnOk r (Appends a b line) → OnOk r (AppendsText a b (Is line))
+last_line (Ok t) a b line p = line_is a b line p
+last_line (Err e) a b line p = tt
+
+-- one of these texts was printed
+pub text_of : {T E : Type 0} (r : Result T E) (a b : Option (List ℕ)) (P : List ℕ → Type 0) (text : List ℕ) → P text → OnOk r (Appends a b text)
+    → OnOk r (AppendsText a b P)
+text_of (Ok t) a b P text is p = (text, (is, p))
+text_of (Err e) a b P text is p = tt
+
 pub no_layer : {A : Type 0} (Spells : A → List ℕ → Type 0) (IsText : A → List ℕ → Type 0) (octets : List ℕ) (a : Option (List ℕ))
     → ((x : A) → Spells x octets → ⊥) → AppendsText a a (IsLayer Spells IsText octets)
 no_layer Spells IsText octets a none = ([], (record { layer = None; is = (none, refl) }, nothing a))
@@ -46,56 +55,76 @@ pub a_layer : {T E A : Type 0} (r : Result T E) (Spells : A → List ℕ → Typ
 a_layer (Ok t) Spells IsText octets x a b spelled p = (p.0, (record { layer = Some x; is = (spelled, p.1.0) }, p.1.1))
 a_layer (Err e) Spells IsText octets x a b spelled p = tt
 
--- the line of a request where one was read, and none where none was
-pub request_line : {T E : Type 0} (r : Result T E) (service : Option Service) (request : Request) (a b : Option (List ℕ)) → IsRequestIn service (Some request)
-    → OnOk r (AppendsLine a b (IsRequestText request)) → OnOk r (AppendsText a b (AreRequestLines service))
-request_line (Err e) service request a b is p = tt
-request_line (Ok t) None request a b is p = absurd is
-request_line (Ok t) (Some s) request a b is p =
-    (p.0 ++ line_end, (record { layer = Some request; is = (is, record { front = p.0; back = line_end; first = p.1.0; second = refl; is = refl }) }, p.1.1))
+-- the line of what was read of service data, and none where nothing was
+module _ {X : Type 0} (IsText : X → List ℕ → Type 0) where
+  abbrev Line : X → List ℕ → Type 0
+  Line x = IsText x ⨾ Is line_end
 
-pub no_request_line : (service : Option Service) (a : Option (List ℕ)) → IsRequestIn service None → AppendsText a a (AreRequestLines service)
-no_request_line None a is = no_line a
-no_request_line (Some s) a is = absurd is
+  pub with_end : (x : X) (a b : Option (List ℕ)) → AppendsLine a b (IsText x) → AppendsText a b (Line x)
+  with_end x a b p = (p.0 ++ line_end, (record { front = p.0; back = line_end; first = p.1.0; second = refl; is = refl }, p.1.1))
 
-pub request_refused : (service : Option Service) (a : Option (List ℕ)) → HasNoRequest service → AppendsText a a (AreRequestLines service)
-request_refused None a none = absurd none
-request_refused (Some s) a none = ([], (record { layer = None; is = (none, refl) }, nothing a))
+pub request_line : {T E : Type 0} (r : Result T E) (in_words : Bool) (service : Option Service) (request : Request) (a b : Option (List ℕ))
+    → IsRequestIn service (Some request) → OnOk r (AppendsLine a b (IsRequestText in_words request)) → OnOk r (AppendsText a b (AreRequestLines in_words service))
+request_line (Err e) in_words service request a b is p = tt
+request_line (Ok t) in_words None request a b is p = absurd is
+request_line (Ok t) in_words (Some s) request a b is p =
+    let line = with_end (IsRequestText in_words) request a b p in
+    (line.0, (record { layer = Some request; is = (is, line.1.0) }, line.1.1))
 
--- the same of the service service of a ComplexACK
-pub complex_line : {T E : Type 0} (r : Result T E) (service : Option Service) (complex : Complex) (a b : Option (List ℕ)) → IsComplexIn service (Some complex)
-    → OnOk r (Appends a b (complex_text complex ++ line_end)) → OnOk r (AppendsText a b (AreComplexLines service))
-complex_line (Err e) service complex a b is p = tt
-complex_line (Ok t) None complex a b is p = absurd is
-complex_line (Ok t) (Some s) complex a b is p = (complex_text complex ++ line_end, (record { layer = Some complex; is = (is, refl) }, p))
+pub no_request_line : (in_words : Bool) (service : Option Service) (a : Option (List ℕ)) → IsRequestIn service None
+    → AppendsText a a (AreRequestLines in_words service)
+no_request_line in_words None a is = no_line a
+no_request_line in_words (Some s) a is = absurd is
 
-pub no_complex_line : (service : Option Service) (a : Option (List ℕ)) → IsComplexIn service None → AppendsText a a (AreComplexLines service)
-no_complex_line None a is = no_line a
-no_complex_line (Some s) a is = absurd is
+pub request_refused : (in_words : Bool) (service : Option Service) (a : Option (List ℕ)) → HasNoRequest service
+    → AppendsText a a (AreRequestLines in_words service)
+request_refused in_words None a none = absurd none
+request_refused in_words (Some s) a none = ([], (record { layer = None; is = (none, refl) }, nothing a))
 
-pub complex_refused : (service : Option Service) (a : Option (List ℕ)) → HasNoComplex service → AppendsText a a (AreComplexLines service)
-complex_refused None a none = absurd none
-complex_refused (Some s) a none = ([], (record { layer = None; is = (none, refl) }, nothing a))
+-- the same of the service data of a ComplexACK
+pub complex_line : {T E : Type 0} (r : Result T E) (in_words : Bool) (service : Option Service) (complex : Complex) (a b : Option (List ℕ))
+    → IsComplexIn service (Some complex) → OnOk r (AppendsLine a b (IsComplexText in_words complex)) → OnOk r (AppendsText a b (AreComplexLines in_words service))
+complex_line (Err e) in_words service complex a b is p = tt
+complex_line (Ok t) in_words None complex a b is p = absurd is
+complex_line (Ok t) in_words (Some s) complex a b is p =
+    let line = with_end (IsComplexText in_words) complex a b p in
+    (line.0, (record { layer = Some complex; is = (is, line.1.0) }, line.1.1))
+
+pub no_complex_line : (in_words : Bool) (service : Option Service) (a : Option (List ℕ)) → IsComplexIn service None
+    → AppendsText a a (AreComplexLines in_words service)
+no_complex_line in_words None a is = no_line a
+no_complex_line in_words (Some s) a is = absurd is
+
+pub complex_refused : (in_words : Bool) (service : Option Service) (a : Option (List ℕ)) → HasNoComplex service
+    → AppendsText a a (AreComplexLines in_words service)
+complex_refused in_words None a none = absurd none
+complex_refused in_words (Some s) a none = ([], (record { layer = None; is = (none, refl) }, nothing a))
+
+-- the layers were printed
+pub told_fine : (in_words : Bool) (datagram : List ℕ) (a b : Option (List ℕ)) → AppendsText a b (AreLayerLines in_words datagram) → IsFine datagram
+    → IsTold in_words true datagram a b
+told_fine in_words datagram a b p fine = (fine, both a b b (AreLayerLines in_words datagram) (Is []) p (no_line b))
+
+-- the layers were printed, and then the fault
+pub told_faulty : {T E : Type 0} (r : Result T E) (in_words : Bool) (datagram : List ℕ) (fault : LayerFault) (a b c : Option (List ℕ))
+    → AppendsText a b (AreLayerLines in_words datagram) → IsAtFault datagram fault → OnOk r (Appends b c (fault_line in_words datagram fault))
+    → OnOk r (IsTold in_words false datagram a c)
+told_faulty (Err e) in_words datagram fault a b c p at q = tt
+told_faulty (Ok t) in_words datagram fault a b c p at q = record {
+  fault = fault;
+  at_fault = at;
+  printed = both a b c (AreLayerLines in_words datagram) (Is (fault_line in_words datagram fault)) p (line_is b c (fault_line in_words datagram fault) q);
+}
 
 -- what was printed stands after a flush
-kept : (a b c d : Option (List ℕ)) (x : List ℕ) → Appends a b x → c ≡ b → Keeps c d → Appends a d x
-kept None b c d x p e k = tt
-kept (Some xs) None c d x p e k = absurd p
-kept (Some xs) (Some ys) None d x p e k = cc
-kept (Some xs) (Some ys) (Some zs) None x p e k = absurd k
-kept (Some xs) (Some ys) (Some zs) (Some ws) x p e k = cc
+kept : (a b c : Option (List ℕ)) (P : List ℕ → Type 0) → AppendsText a b P → Keeps b c → AppendsText a c P
+kept a b c P p keeps = (p.0, (p.1.0, Appends-kept a b c p.0 p.1.1 keeps))
 
--- the layers were printed, and flushed
-pub shown_fine : (datagram : List ℕ) (a b c d : Option (List ℕ)) (s : Status) → AppendsText a b (AreLayerLines datagram) → IsFine datagram
-    → c ≡ b → Keeps c d → s ≡ Done → IsShown datagram a d s
-shown_fine datagram a b c d s p fine e k is =
-    let all : AppendsText a b (AreLines datagram None) = both a b b (AreLayerLines datagram) (Is []) p (no_line b) in
-    rw is (fine, (all.0, (all.1.0, kept a b c d all.0 all.1.1 e k)))
-
--- the layers were printed, then the fault, and flushed
-pub shown_faulty : (datagram : List ℕ) (fault : LayerFault) (a b between c d : Option (List ℕ)) (s : Status) → AppendsText a b (AreLayerLines datagram)
-    → IsAtFault datagram fault → Appends b between (fault_line fault) → c ≡ between → Keeps c d → s ≡ Faulty → IsShown datagram a d s
-shown_faulty datagram fault a b between c d s p at q e k is =
-    let all : AppendsText a between (AreLines datagram (Some fault)) =
-    both a b between (AreLayerLines datagram) (Is (fault_line fault)) p (line_is b between (fault_line fault) q) in
-    rw is (record { fault = fault; at_fault = at; printed = (all.0, (all.1.0, kept a between c d all.0 all.1.1 e k)) })
+pub flushed : (in_words fine : Bool) (datagram : List ℕ) (a b c : Option (List ℕ)) → IsTold in_words fine datagram a b → Keeps b c
+    → IsShown in_words datagram a c (shown_status fine)
+flushed in_words true datagram a b c told keeps = (told.0, kept a b c (AreLines in_words datagram None) told.1 keeps)
+flushed in_words false datagram a b c told keeps = record {
+  fault = told.fault;
+  at_fault = told.at_fault;
+  printed = kept a b c (AreLines in_words datagram (Some told.fault)) told.printed keeps;
+}

@@ -1,43 +1,57 @@
 -- What `bac check` prints of a capture, and how it ends.
-use Rattle.std.specs.Prelude.{ℕ, ◌+◌, ◌-◌, ◌++◌, List, [], ◌∷◌, length, codes, decimal, ⊤, Option, Some, None}
+use Rattle.std.specs.Prelude.{ℕ, Bool, true, false, ◌+◌, ◌-◌, ◌++◌, List, [], ◌∷◌, length, codes, decimal, ⊤, Option, Some, None}
 use Rattle.std.specs.Io.KnownBytes.{Appends}
-use Rattle.bac_text.specs.declared.fault.LineFault.{LineFault}
+use Rattle.bac_text.specs.declared.fault.LineVerdict.{LineVerdict}
+use Rattle.bac_text.specs.declared.fault.LineVerdict.TheVariants.{Good, Note, Bad}
 use Rattle.bac_text.specs.declared.status.Status.{Status}
 use Rattle.bac_text.specs.declared.status.Status.TheVariants.{Done, Faulty, CommandLine, Output, Memory}
-use Rattle.bac_text.specs.Lines.{lines_of, AreJudged, good_among}
+use Rattle.bac_text.specs.Lines.{lines_of, AreJudged, good_among, bad_among}
 use Rattle.bac_text.specs.Statuses.{IsTallied}
 use Rattle.bac_text.specs.Texts.{line_fault_text, line_end}
 
--- of the line with that number: nothing where it is good
-abbrev pub verdict_text : ℕ → Option LineFault → List ℕ
-verdict_text number None = []
-verdict_text number (Some fault) = (codes "line " ++ (decimal number ++ (codes ": " ++ line_fault_text fault))) ++ line_end
+-- of the line with that number: nothing where it is good, or a note
+abbrev pub verdict_text : ℕ → LineVerdict → List ℕ
+verdict_text number Good = []
+verdict_text number Note = []
+verdict_text number (Bad fault) = (codes "line " ++ (decimal number ++ (codes ": " ++ line_fault_text fault))) ++ line_end
 
 -- of the lines after so many
-abbrev pub verdicts_text : ℕ → List (Option LineFault) → List ℕ
+abbrev pub verdicts_text : ℕ → List LineVerdict → List ℕ
 verdicts_text before [] = []
-verdicts_text before (fault ∷ faults) = verdict_text (before + 1) fault ++ verdicts_text (before + 1) faults
+verdicts_text before (verdict ∷ verdicts) = verdict_text (before + 1) verdict ++ verdicts_text (before + 1) verdicts
 
 -- how many lines there are, and how many of them are good and bad
-abbrev pub tally_text : ℕ → ℕ → List ℕ
-tally_text lines good = (codes "lines=" ++ (decimal lines ++ (codes " good=" ++ (decimal good ++ (codes " bad=" ++ decimal (lines - good)))))) ++ line_end
+abbrev pub counts_text : (lines good bad : ℕ) → List ℕ
+counts_text lines good bad = codes "lines=" ++ (decimal lines ++ (codes " good=" ++ (decimal good ++ (codes " bad=" ++ decimal bad))))
+
+-- where notes are taken, the other lines are notes
+abbrev pub notes_text : (notes : Bool) → (count : ℕ) → List ℕ
+notes_text true count = codes " notes=" ++ decimal count
+notes_text false count = []
+
+abbrev pub tally_text : (notes : Bool) → (lines good bad : ℕ) → List ℕ
+tally_text notes lines good bad = counts_text lines good bad ++ (notes_text notes (lines - (good + bad)) ++ line_end)
 
 -- what is printed of a capture, and the status: each line's verdict, and then the counts
-pub record IsChecked (capture : List ℕ) (old new : Option (List ℕ)) (status : Status) : Type 0 where
-  pub faults : List (Option LineFault)
-  pub judged : AreJudged (lines_of capture) 0 faults
-  pub printed : Appends old new (verdicts_text 0 faults ++ tally_text (length faults) (good_among faults))
-  pub tallied : IsTallied (length faults) (good_among faults) status
+pub record IsChecked (notes : Bool) (capture : List ℕ) (old new : Option (List ℕ)) (status : Status) : Type 0 where
+  pub verdicts : List LineVerdict
+  pub judged : AreJudged notes (lines_of capture) 0 verdicts
+  pub printed : Appends old new (verdicts_text 0 verdicts ++ tally_text notes (length verdicts) (good_among verdicts) (bad_among verdicts))
+  pub tallied : IsTallied (bad_among verdicts) status
 
 -- the same where the octets of the input are known
-abbrev pub IsCheckOf : Option (List ℕ) → Option (List ℕ) → Option (List ℕ) → Status → Type 0
-IsCheckOf None old new status = ⊤
-IsCheckOf (Some capture) old new status = IsChecked capture old new status
+abbrev pub IsCheckOf : (notes : Bool) → Option (List ℕ) → Option (List ℕ) → Option (List ℕ) → Status → Type 0
+IsCheckOf notes None old new status = ⊤
+IsCheckOf notes (Some capture) old new status = IsChecked notes capture old new status
 
--- where the command ends with 0 or 1, the whole capture was checked; the other statuses say nothing of it
+-- where the command ends with 0 or 1, the whole capture was checked, with notes or without; the other statuses say nothing of it
+abbrev pub IsReportAs : (notes : Bool) → Option (List ℕ) → Option (List ℕ) → Option (List ℕ) → Status → Type 0
+IsReportAs notes capture old new Done = IsCheckOf notes capture old new Done
+IsReportAs notes capture old new Faulty = IsCheckOf notes capture old new Faulty
+IsReportAs notes capture old new CommandLine = ⊤
+IsReportAs notes capture old new Output = ⊤
+IsReportAs notes capture old new Memory = ⊤
+
+-- each line is one of the capture
 abbrev pub IsReportOf : Option (List ℕ) → Option (List ℕ) → Option (List ℕ) → Status → Type 0
-IsReportOf capture old new Done = IsCheckOf capture old new Done
-IsReportOf capture old new Faulty = IsCheckOf capture old new Faulty
-IsReportOf capture old new CommandLine = ⊤
-IsReportOf capture old new Output = ⊤
-IsReportOf capture old new Memory = ⊤
+IsReportOf capture old new status = IsReportAs false capture old new status

@@ -1,5 +1,5 @@
 -- What `bac decode` prints of a datagram.
-use Rattle.std.specs.Prelude.{◌≡◌, ℕ, List, [], ◌++◌, length, Option, Some, None}
+use Rattle.std.specs.Prelude.{◌≡◌, ℕ, Bool, false, List, [], ◌++◌, length, Option, Some, None}
 use Rattle.bac_apdu.specs.Apdu.{Apdu}
 use Rattle.bac_apdu.specs.Spelling.{SpellsApdu}
 use Rattle.bac_npdu.specs.Npdu.{NpduView, MessageView, SpellsNpdu, SpellsBvll}
@@ -8,14 +8,11 @@ use Rattle.bac_service.specs.Values.{Request, Complex}
 use Rattle.bac_service.specs.Requests.{SpellsRequest}
 use Rattle.bac_service.specs.Replies.{SpellsComplex}
 use Rattle.bac_text.specs.declared.fault.LayerFault.{LayerFault}
-use Rattle.bac_text.specs.Faults.{fault_text}
+use Rattle.bac_text.specs.Faults.{told_fault}
 use Rattle.bac_text.specs.Layers.{Service, request_data_in, complex_data_in}
-use Rattle.bac_text.specs.Texts.{optional, line_end, bvll_text, npdu_text, apdu_text, IsRequestText, complex_text}
+use Rattle.bac_text.specs.Texts.{Is, optional, line_end, bvll_text, npdu_text, apdu_text, IsRequestText, IsComplexText}
 
 -- ---- one layer
-
-abbrev pub Is : List ℕ → List ℕ → Type 0
-Is line text = text ≡ line
 
 -- the octets spell this layer, and the text is that of it and of what is in it; octets that spell none have no text
 abbrev pub IsLayerOf : {A : Type 0} → (A → List ℕ → Type 0) → (A → List ℕ → Type 0) → Option A → List ℕ → List ℕ → Type 0
@@ -28,46 +25,50 @@ pub record IsLayer {A : Type 0} (Spells : A → List ℕ → Type 0) (IsText : A
 
 -- ---- the layers, from the inside out
 
-abbrev pub IsRequestLine : Request → List ℕ → Type 0
-IsRequestLine r = IsRequestText r ⨾ Is line_end
+abbrev pub IsRequestLine : (in_words : Bool) → Request → List ℕ → Type 0
+IsRequestLine in_words r = IsRequestText in_words r ⨾ Is line_end
 
-abbrev pub IsComplexLine : Complex → List ℕ → Type 0
-IsComplexLine c = Is (complex_text c ++ line_end)
+abbrev pub IsComplexLine : (in_words : Bool) → Complex → List ℕ → Type 0
+IsComplexLine in_words c = IsComplexText in_words c ⨾ Is line_end
 
 -- the line of the request that an APDU carries whole, where its service data spell one
-abbrev pub AreRequestLines : Option Service → List ℕ → Type 0
-AreRequestLines None = Is []
-AreRequestLines (Some s) = IsLayer (SpellsRequest s.0) IsRequestLine s.1
+abbrev pub AreRequestLines : (in_words : Bool) → Option Service → List ℕ → Type 0
+AreRequestLines in_words None = Is []
+AreRequestLines in_words (Some s) = IsLayer (SpellsRequest s.0) (IsRequestLine in_words) s.1
 
 -- the line of the service data that a ComplexACK carries whole, where they spell some
-abbrev pub AreComplexLines : Option Service → List ℕ → Type 0
-AreComplexLines None = Is []
-AreComplexLines (Some s) = IsLayer (SpellsComplex s.0) IsComplexLine s.1
+abbrev pub AreComplexLines : (in_words : Bool) → Option Service → List ℕ → Type 0
+AreComplexLines in_words None = Is []
+AreComplexLines in_words (Some s) = IsLayer (SpellsComplex s.0) (IsComplexLine in_words) s.1
 
 -- the line of an APDU, and after it that of its service data
+abbrev pub AreApduLinesAs : (in_words : Bool) → Apdu → List ℕ → Type 0
+AreApduLinesAs in_words a =
+    Is (apdu_text in_words a) ⨾ (AreRequestLines in_words (request_data_in a) ⨾ AreComplexLines in_words (complex_data_in a))
+
 abbrev pub AreApduLines : Apdu → List ℕ → Type 0
-AreApduLines a = Is (apdu_text a) ⨾ (AreRequestLines (request_data_in a) ⨾ AreComplexLines (complex_data_in a))
+AreApduLines a = AreApduLinesAs false a
 
 -- the contents of a network message stand in the line of its NPDU
-abbrev pub AreContentLines : Option MessageView → List ℕ → List ℕ → Type 0
-AreContentLines None contents = IsLayer SpellsApdu AreApduLines contents
-AreContentLines (Some message) contents = Is []
+abbrev pub AreContentLines : (in_words : Bool) → Option MessageView → List ℕ → List ℕ → Type 0
+AreContentLines in_words None contents = IsLayer SpellsApdu (AreApduLinesAs in_words) contents
+AreContentLines in_words (Some message) contents = Is []
 
-abbrev pub AreNpduLines : NpduView → List ℕ → Type 0
-AreNpduLines n = Is (npdu_text n) ⨾ AreContentLines n.message n.contents
+abbrev pub AreNpduLines : (in_words : Bool) → NpduView → List ℕ → Type 0
+AreNpduLines in_words n = Is (npdu_text n) ⨾ AreContentLines in_words n.message n.contents
 
-abbrev pub AreBvllLines : ℕ → List ℕ → List ℕ → Type 0
-AreBvllLines len npdu = Is (bvll_text len) ⨾ IsLayer SpellsNpdu AreNpduLines npdu
+abbrev pub AreBvllLines : (in_words : Bool) → ℕ → List ℕ → List ℕ → Type 0
+AreBvllLines in_words len npdu = Is (bvll_text len) ⨾ IsLayer SpellsNpdu (AreNpduLines in_words) npdu
 
 -- ---- a datagram
 
 -- the lines of the layers that can be read, from the outside in
-abbrev pub AreLayerLines : List ℕ → List ℕ → Type 0
-AreLayerLines datagram = IsLayer SpellsBvll (AreBvllLines (length datagram)) datagram
+abbrev pub AreLayerLines : (in_words : Bool) → List ℕ → List ℕ → Type 0
+AreLayerLines in_words datagram = IsLayer SpellsBvll (AreBvllLines in_words (length datagram)) datagram
 
-abbrev pub fault_line : LayerFault → List ℕ
-fault_line fault = fault_text fault ++ line_end
+abbrev pub fault_line : (in_words : Bool) → (datagram : List ℕ) → LayerFault → List ℕ
+fault_line in_words datagram fault = told_fault in_words datagram fault ++ line_end
 
 -- these lines, and then that of the fault, if there is one
-abbrev pub AreLines : List ℕ → Option LayerFault → List ℕ → Type 0
-AreLines datagram fault = AreLayerLines datagram ⨾ Is (optional fault_line fault)
+abbrev pub AreLines : (in_words : Bool) → List ℕ → Option LayerFault → List ℕ → Type 0
+AreLines in_words datagram fault = AreLayerLines in_words datagram ⨾ Is (optional (fault_line in_words datagram) fault)

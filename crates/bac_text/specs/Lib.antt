@@ -2,11 +2,14 @@ pub mod Capture
 pub mod Checked
 pub mod Checking
 pub mod Decoded
+pub mod DecodedLines
 pub mod Digits
 pub mod Faults
+pub mod Groups
 pub mod Layers
 pub mod Lines
 pub mod NextLine
+pub mod Notes
 pub mod Outcome
 pub mod Statuses
 pub mod Stops

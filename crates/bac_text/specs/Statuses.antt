@@ -26,10 +26,10 @@ IsStop CommandLine = Unit {0}
 IsStop Output = Unit {0}
 IsStop Memory = Unit {0}
 
--- what the status says of a capture: the good lines among all
-abbrev pub IsTallied : ℕ → ℕ → Status → Type 0
-IsTallied lines good Done = good ≡ lines
-IsTallied lines good Faulty = good < lines
-IsTallied lines good CommandLine = ⊥
-IsTallied lines good Output = ⊥
-IsTallied lines good Memory = ⊥
+-- what the status says of a capture with so many bad lines
+abbrev pub IsTallied : (bad : ℕ) → Status → Type 0
+IsTallied bad Done = bad ≡ 0
+IsTallied bad Faulty = 0 < bad
+IsTallied bad CommandLine = ⊥
+IsTallied bad Output = ⊥
+IsTallied bad Memory = ⊥

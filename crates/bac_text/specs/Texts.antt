@@ -1,5 +1,5 @@
 -- The texts that are printed, each as the octets of its characters.
-use Rattle.std.specs.Prelude.{◌≡◌, ℕ, ℤ, Bool, List, [], ◌∷◌, ◌++◌, codes, decimal, Option, Some, None}
+use Rattle.std.specs.Prelude.{◌≡◌, ℕ, ℤ, Bool, true, false, List, [], ◌∷◌, ◌++◌, codes, decimal, Option, Some, None}
 use Rattle.std.specs.Fmt.{signed_decimal}
 use Rattle.std.specs.Int.{from_bool}
 use Rattle.std.specs.Io.KnownBytes.{Appends}
@@ -17,6 +17,9 @@ use Rattle.bac_service.specs.Values.Complex.{FileRead, StreamWritten, RecordsWri
 use Rattle.bac_value.specs.Value.{ObjectId}
 use Rattle.bac_npdu.specs.Npdu.{NpduView, DestinationView, MessageView}
 use Rattle.bac_npdu.specs.Peers.{RouteView}
+use Rattle.bac_value_text.specs.DataTexts.{IsDataText}
+use Rattle.bac_value_text.specs.Reasons as reasons
+use Rattle.bac_value_text.specs.Texts as names
 use Rattle.bac_text.specs.declared.fault.LineFault.{LineFault}
 use Rattle.bac_text.specs.declared.fault.LineFault.TheVariants.{NoCaptureLine, MomentGoesBack, Datagram}
 use Rattle.bac_text.specs.Faults.{fault_text}
@@ -109,50 +112,81 @@ complex_ack_head_text invoke_id = codes "complex-ack id=" ++ decimal invoke_id
 abbrev pub body_text : Option Segment → ℕ → List ℕ → List ℕ
 body_text segment choice service = optional segment_text segment ++ service_text choice service
 
-abbrev pub error_text : ℕ → ℕ → ℕ → ℕ → List ℕ
-error_text invoke_id choice class code =
+-- in words: class, code and reasons by their names, and both by number behind them
+abbrev pub error_text : (in_words : Bool) → ℕ → ℕ → ℕ → ℕ → List ℕ
+error_text false invoke_id choice class code =
     codes "error id=" ++ (decimal invoke_id ++ (codes " choice=" ++ (decimal choice
     ++ (codes " class=" ++ (decimal class ++ (codes " code=" ++ decimal code))))))
+error_text true invoke_id choice class code =
+    codes "error id=" ++ (decimal invoke_id ++ (codes " choice=" ++ (decimal choice ++ (codes " " ++ reasons.error_text class code))))
 
-abbrev pub reject_text : ℕ → ℕ → List ℕ
-reject_text invoke_id reason = codes "reject id=" ++ (decimal invoke_id ++ (codes " reason=" ++ decimal reason))
+abbrev pub reject_text : (in_words : Bool) → ℕ → ℕ → List ℕ
+reject_text false invoke_id reason = codes "reject id=" ++ (decimal invoke_id ++ (codes " reason=" ++ decimal reason))
+reject_text true invoke_id reason = codes "reject id=" ++ (decimal invoke_id ++ (codes " " ++ reasons.reject_text reason))
 
-abbrev pub abort_text : Bool → ℕ → ℕ → List ℕ
-abort_text server invoke_id reason = codes "abort srv=" ++ (bit_text server ++ (codes " id=" ++ (decimal invoke_id ++ (codes " reason=" ++ decimal reason))))
+abbrev pub abort_text : (in_words : Bool) → Bool → ℕ → ℕ → List ℕ
+abort_text false server invoke_id reason =
+    codes "abort srv=" ++ (bit_text server ++ (codes " id=" ++ (decimal invoke_id ++ (codes " reason=" ++ decimal reason))))
+abort_text true server invoke_id reason =
+    codes "abort srv=" ++ (bit_text server ++ (codes " id=" ++ (decimal invoke_id ++ (codes " " ++ reasons.abort_text reason))))
 
 -- of an APDU without service data; of another none
-abbrev pub plain_members_text : Apdu → List ℕ
-plain_members_text (SimpleAck invoke_id choice) = simple_ack_text invoke_id choice
-plain_members_text (SegmentAck server invoke_id acknowledgement) = segment_ack_text server invoke_id acknowledgement
-plain_members_text (Error invoke_id choice class code) = error_text invoke_id choice class code
-plain_members_text (Reject invoke_id reason) = reject_text invoke_id reason
-plain_members_text (Abort server invoke_id reason) = abort_text server invoke_id reason
-plain_members_text _ = []
+abbrev pub plain_members_text : (in_words : Bool) → Apdu → List ℕ
+plain_members_text in_words (SimpleAck invoke_id choice) = simple_ack_text invoke_id choice
+plain_members_text in_words (SegmentAck server invoke_id acknowledgement) = segment_ack_text server invoke_id acknowledgement
+plain_members_text in_words (Error invoke_id choice class code) = error_text in_words invoke_id choice class code
+plain_members_text in_words (Reject invoke_id reason) = reject_text in_words invoke_id reason
+plain_members_text in_words (Abort server invoke_id reason) = abort_text in_words server invoke_id reason
+plain_members_text in_words _ = []
 
-unfoldable pub members_text : Apdu → List ℕ
-members_text (ConfirmedRequest limits invoke_id segment choice service) = request_head_text limits invoke_id ++ body_text segment choice service
-members_text (UnconfirmedRequest choice service) = unconfirmed_text choice service
-members_text (ComplexAck invoke_id segment choice service) = complex_ack_head_text invoke_id ++ body_text segment choice service
-members_text apdu = plain_members_text apdu
+unfoldable pub members_text : (in_words : Bool) → Apdu → List ℕ
+members_text in_words (ConfirmedRequest limits invoke_id segment choice service) =
+    request_head_text limits invoke_id ++ body_text segment choice service
+members_text in_words (UnconfirmedRequest choice service) = unconfirmed_text choice service
+members_text in_words (ComplexAck invoke_id segment choice service) = complex_ack_head_text invoke_id ++ body_text segment choice service
+members_text in_words apdu = plain_members_text in_words apdu
 
-unfoldable pub apdu_text : Apdu → List ℕ
-apdu_text a = members_text a ++ line_end
+unfoldable pub apdu_text : (in_words : Bool) → Apdu → List ℕ
+apdu_text in_words a = members_text in_words a ++ line_end
 
 -- ---- the line of a request, or of the service data of a ComplexACK
 
-abbrev pub object_text : ObjectId → List ℕ
-object_text o = codes " object=" ++ (decimal o.kind ++ (codes ":" ++ decimal o.instance))
+-- these octets, and none else
+abbrev pub Is : List ℕ → List ℕ → Type 0
+Is line text = text ≡ line
+
+-- in words: an object and a property by their names
+abbrev pub object_name : (in_words : Bool) → ObjectId → List ℕ
+object_name false o = decimal o.kind ++ (codes ":" ++ decimal o.instance)
+object_name true o = names.object_text o
+
+abbrev pub object_text : (in_words : Bool) → ObjectId → List ℕ
+object_text in_words o = codes " object=" ++ object_name in_words o
+
+abbrev pub property_name : (in_words : Bool) → ℕ → List ℕ
+property_name false property = decimal property
+property_name true property = names.property_text property
+
+abbrev pub property_text : (in_words : Bool) → ℕ → List ℕ
+property_text in_words property = codes " property=" ++ property_name in_words property
 
 -- a property of an object, after the name of the line
-abbrev pub reference_text : List ℕ → Reference → List ℕ
-reference_text name r = name ++ (object_text r.object ++ ((codes " property=" ++ decimal r.property) ++ optional (number_text (codes "index")) r.index))
+abbrev pub reference_text : (in_words : Bool) → List ℕ → Reference → List ℕ
+reference_text in_words name r =
+    name ++ (object_text in_words r.object ++ (property_text in_words r.property ++ optional (number_text (codes "index")) r.index))
 
-abbrev pub write_property_text : Reference → List ℕ → Option ℕ → List ℕ
-write_property_text r values priority =
-    reference_text (codes "write-property") r ++ (octets_text (codes "values") values ++ optional (number_text (codes "priority")) priority)
+-- in words: each value by its kind
+abbrev pub IsValuesText : (in_words : Bool) → (values text : List ℕ) → Type 0
+IsValuesText false values = Is (octets_text (codes "values") values)
+IsValuesText true values = Is (codes " values=") ⨾ IsDataText values
 
-abbrev pub property_read_text : Reference → List ℕ → List ℕ
-property_read_text r values = reference_text (codes "read-property-ack") r ++ octets_text (codes "values") values
+abbrev pub IsWritePropertyText : (in_words : Bool) → Reference → List ℕ → Option ℕ → List ℕ → Type 0
+IsWritePropertyText in_words r values priority =
+    Is (reference_text in_words (codes "write-property") r)
+    ⨾ (IsValuesText in_words values ⨾ Is (optional (number_text (codes "priority")) priority))
+
+abbrev pub IsPropertyReadText : (in_words : Bool) → Reference → List ℕ → List ℕ → Type 0
+IsPropertyReadText in_words r values = Is (reference_text in_words (codes "read-property-ack") r) ⨾ IsValuesText in_words values
 
 abbrev pub count_text : ℕ → List ℕ
 count_text count = codes " count=" ++ decimal count
@@ -171,11 +205,11 @@ abbrev pub read_access_text : ReadAccess → List ℕ
 read_access_text (ReadStream start count) = position_text start ++ count_text count
 read_access_text (ReadRecords start count) = record_text start ++ count_text count
 
-abbrev pub read_file_text : ObjectId → ReadAccess → List ℕ
-read_file_text file access = read_name access ++ (object_text file ++ read_access_text access)
+abbrev pub read_file_text : (in_words : Bool) → ObjectId → ReadAccess → List ℕ
+read_file_text in_words file access = read_name access ++ (object_text in_words file ++ read_access_text access)
 
-abbrev pub write_stream_text : ObjectId → ℤ → List ℕ → List ℕ
-write_stream_text file start octets = codes "write-file" ++ (object_text file ++ (position_text start ++ octets_text (codes "octets") octets))
+abbrev pub write_stream_text : (in_words : Bool) → ObjectId → ℤ → List ℕ → List ℕ
+write_stream_text in_words file start octets = codes "write-file" ++ (object_text in_words file ++ (position_text start ++ octets_text (codes "octets") octets))
 
 -- octet strings in hexadecimal, each after a comma
 abbrev pub more_strings_text : List (List ℕ) → List ℕ
@@ -190,9 +224,9 @@ strings_text (string ∷ strings) = encode_upper string ++ more_strings_text str
 abbrev pub records_start_text : ℤ → ℕ → List ℕ
 records_start_text start count = record_text start ++ count_text count
 
-abbrev pub write_records_text : ObjectId → ℤ → ℕ → List (List ℕ) → List ℕ
-write_records_text file start count strings =
-    codes "write-records" ++ (object_text file ++ (records_start_text start count ++ (codes " octets=" ++ strings_text strings)))
+abbrev pub write_records_text : (in_words : Bool) → ObjectId → ℤ → ℕ → List (List ℕ) → List ℕ
+write_records_text in_words file start count strings =
+    codes "write-records" ++ (object_text in_words file ++ (records_start_text start count ++ (codes " octets=" ++ strings_text strings)))
 
 -- these octets are the spellings of these octet strings, each with its application tag, one after the other (clause 20.2.8)
 abbrev pub AreTheStrings : List (List ℕ) → List ℕ → Type 0
@@ -200,13 +234,13 @@ AreTheStrings [] run = run ≡ []
 AreTheStrings (string ∷ strings) run = (ApplicationString string ⨾ AreTheStrings strings) run
 
 -- the text of a request, without the end of its line
-abbrev pub IsRequestText : Request → List ℕ → Type 0
-IsRequestText (ReadFile file access) text = text ≡ read_file_text file access
-IsRequestText (WriteFile file (WriteStream start octets)) text = text ≡ write_stream_text file start octets
-IsRequestText (WriteFile file (WriteRecords start count run)) text =
-    (strings : List (List ℕ)) × (AreTheStrings strings run × (text ≡ write_records_text file start count strings))
-IsRequestText (ReadProperty r) text = text ≡ reference_text (codes "read-property") r
-IsRequestText (WriteProperty r values priority) text = text ≡ write_property_text r values priority
+abbrev pub IsRequestText : (in_words : Bool) → Request → List ℕ → Type 0
+IsRequestText in_words (ReadFile file access) text = text ≡ read_file_text in_words file access
+IsRequestText in_words (WriteFile file (WriteStream start octets)) text = text ≡ write_stream_text in_words file start octets
+IsRequestText in_words (WriteFile file (WriteRecords start count run)) text =
+    (strings : List (List ℕ)) × (AreTheStrings strings run × (text ≡ write_records_text in_words file start count strings))
+IsRequestText in_words (ReadProperty r) text = text ≡ reference_text in_words (codes "read-property") r
+IsRequestText in_words (WriteProperty r values priority) text = IsWritePropertyText in_words r values priority text
 
 abbrev pub end_of_file_text : Bool → List ℕ
 end_of_file_text end_of_file = codes "read-file-ack end=" ++ bit_text end_of_file
@@ -219,11 +253,11 @@ place_written_text (place.Stream start) = position_text start
 place_written_text (place.Records start) = record_text start
 
 -- the text of the service data of a ComplexACK, without the end of its line
-abbrev pub complex_text : Complex → List ℕ
-complex_text (FileRead end_of_file start octets) = file_read_text end_of_file start octets
-complex_text (StreamWritten start) = codes "write-file-ack" ++ position_text start
-complex_text (RecordsWritten start) = codes "write-file-ack" ++ record_text start
-complex_text (PropertyRead r values) = property_read_text r values
+abbrev pub IsComplexText : (in_words : Bool) → Complex → List ℕ → Type 0
+IsComplexText in_words (FileRead end_of_file start octets) text = text ≡ file_read_text end_of_file start octets
+IsComplexText in_words (StreamWritten start) text = text ≡ codes "write-file-ack" ++ position_text start
+IsComplexText in_words (RecordsWritten start) text = text ≡ codes "write-file-ack" ++ record_text start
+IsComplexText in_words (PropertyRead r values) text = IsPropertyReadText in_words r values text
 
 -- one of these texts was appended
 abbrev pub AppendsText : Option (List ℕ) → Option (List ℕ) → (List ℕ → Type 0) → Type 0

@@ -9,6 +9,7 @@ ghost use Rattle.bac_text.specs.Texts.{error_text, abort_text, reject_text, plai
 
 use crate::words::{print_end, print_octets};
 use bac_apdu::{Apdu, Limits, Segment, Window};
+use bac_value_text::{abort_text, error_text, reject_text};
 use std::alloc::Global;
 use std::io;
 use std::io::Write;
@@ -116,14 +117,14 @@ fn print_body<W: Write>(
     print_service(alloc, choice, service, out)
 }
 
-fn print_error<W: Write>(
+fn print_error_numbers<W: Write>(
     invoke_id: u8,
     choice: u8,
     class: u32,
     code: u32,
     out: &mut W,
 ) -> io::Result<()>
-    ensures { OnOk result (Appends (W.contents out.old) (W.contents out.new) (error_text invoke_id choice class code)) }
+    ensures { OnOk result (Appends (W.contents out.old) (W.contents out.new) (error_text false invoke_id choice class code)) }
 {
     write!(
         out,
@@ -131,22 +132,66 @@ fn print_error<W: Write>(
     )
 }
 
-fn print_abort<W: Write>(server: bool, invoke_id: u8, reason: u8, out: &mut W) -> io::Result<()>
-    ensures { OnOk result (Appends (W.contents out.old) (W.contents out.new) (abort_text server invoke_id reason)) }
+fn print_error<W: Write>(
+    alloc: Global,
+    in_words: bool,
+    invoke_id: u8,
+    choice: u8,
+    class: u32,
+    code: u32,
+    out: &mut W,
+) -> io::Result<()>
+    ensures { OnOk result (Appends (W.contents out.old) (W.contents out.new) (error_text in_words invoke_id choice class code)) }
 {
-    let server = u8::from(server);
-    write!(out, "abort srv={server} id={invoke_id} reason={reason}")
+    if !in_words {
+        return print_error_numbers(invoke_id, choice, class, code, out);
+    }
+    let error = error_text(alloc, class, code)?;
+    write!(out, "error id={invoke_id} choice={choice} {error}")
 }
 
-fn print_reject<W: Write>(invoke_id: u8, reason: u8, out: &mut W) -> io::Result<()>
-    ensures { OnOk result (Appends (W.contents out.old) (W.contents out.new) (reject_text invoke_id reason)) }
+fn print_abort<W: Write>(
+    alloc: Global,
+    in_words: bool,
+    server: bool,
+    invoke_id: u8,
+    reason: u8,
+    out: &mut W,
+) -> io::Result<()>
+    ensures { OnOk result (Appends (W.contents out.old) (W.contents out.new) (abort_text in_words server invoke_id reason)) }
 {
-    write!(out, "reject id={invoke_id} reason={reason}")
+    let server = u8::from(server);
+    if !in_words {
+        return write!(out, "abort srv={server} id={invoke_id} reason={reason}");
+    }
+    let reason = abort_text(alloc, reason)?;
+    write!(out, "abort srv={server} id={invoke_id} {reason}")
+}
+
+fn print_reject<W: Write>(
+    alloc: Global,
+    in_words: bool,
+    invoke_id: u8,
+    reason: u8,
+    out: &mut W,
+) -> io::Result<()>
+    ensures { OnOk result (Appends (W.contents out.old) (W.contents out.new) (reject_text in_words invoke_id reason)) }
+{
+    if !in_words {
+        return write!(out, "reject id={invoke_id} reason={reason}");
+    }
+    let reason = reject_text(alloc, reason)?;
+    write!(out, "reject id={invoke_id} {reason}")
 }
 
 /// The members of an APDU without service data: an acknowledgement, an Error, a Reject or an Abort. Others print nothing.
-fn print_plain_members<W: Write>(apdu: Apdu<'_>, out: &mut W) -> io::Result<()>
-    ensures { OnOk result (Appends (W.contents out.old) (W.contents out.new) (plain_members_text (apdu_view apdu.entry))) }
+fn print_plain_members<W: Write>(
+    alloc: Global,
+    in_words: bool,
+    apdu: Apdu<'_>,
+    out: &mut W,
+) -> io::Result<()>
+    ensures { OnOk result (Appends (W.contents out.old) (W.contents out.new) (plain_members_text in_words (apdu_view apdu.entry))) }
 {
     match apdu {
         Apdu::SimpleAck { invoke_id, choice } => print_simple_ack(invoke_id, choice, out),
@@ -162,21 +207,28 @@ fn print_plain_members<W: Write>(apdu: Apdu<'_>, out: &mut W) -> io::Result<()>
             choice,
             class,
             code,
-        } => print_error(invoke_id, choice, class, code, out),
-        Apdu::Reject { invoke_id, reason } => print_reject(invoke_id, reason, out),
+        } => print_error(alloc, in_words, invoke_id, choice, class, code, out),
+        Apdu::Reject { invoke_id, reason } => {
+            print_reject(alloc, in_words, invoke_id, reason, out)
+        }
         Apdu::Abort {
             server,
             invoke_id,
             reason,
-        } => print_abort(server, invoke_id, reason, out),
+        } => print_abort(alloc, in_words, server, invoke_id, reason, out),
         Apdu::ConfirmedRequest { .. } | Apdu::UnconfirmedRequest { .. } | Apdu::ComplexAck { .. } =>
             Ok(()),
     }
 }
 
 #[tactic(auto, unfolding(crate::specs::Texts::members_text))]
-fn print_members<W: Write>(alloc: Global, apdu: Apdu<'_>, out: &mut W) -> io::Result<()>
-    ensures { OnOk result (Appends (W.contents out.old) (W.contents out.new) (members_text (apdu_view apdu.entry))) }
+fn print_members<W: Write>(
+    alloc: Global,
+    in_words: bool,
+    apdu: Apdu<'_>,
+    out: &mut W,
+) -> io::Result<()>
+    ensures { OnOk result (Appends (W.contents out.old) (W.contents out.new) (members_text in_words (apdu_view apdu.entry))) }
 {
     match apdu {
         Apdu::ConfirmedRequest {
@@ -201,15 +253,20 @@ fn print_members<W: Write>(alloc: Global, apdu: Apdu<'_>, out: &mut W) -> io::Re
             print_complex_ack_head(invoke_id, out)?;
             print_body(alloc, segment, choice, service, out)
         }
-        _ => print_plain_members(apdu, out),
+        _ => print_plain_members(alloc, in_words, apdu, out),
     }
 }
 
-/// Prints an APDU: its kind and its members, as docs/PROTOCOL.md lists them.
+/// Prints an APDU: its kind and its members, as docs/PROTOCOL.md lists them, an Error and the reasons of a Reject and an Abort in words or not.
 #[tactic(auto, unfolding(crate::specs::Texts::apdu_text))]
-pub(crate) fn print_apdu<W: Write>(alloc: Global, apdu: Apdu<'_>, out: &mut W) -> io::Result<()>
-    ensures { OnOk result (Appends (W.contents out.old) (W.contents out.new) (apdu_text (apdu_view apdu.entry))) }
+pub(crate) fn print_apdu<W: Write>(
+    alloc: Global,
+    in_words: bool,
+    apdu: Apdu<'_>,
+    out: &mut W,
+) -> io::Result<()>
+    ensures { OnOk result (Appends (W.contents out.old) (W.contents out.new) (apdu_text in_words (apdu_view apdu.entry))) }
 {
-    print_members(alloc, apdu, out)?;
+    print_members(alloc, in_words, apdu, out)?;
     print_end(out)
 }

@@ -2,16 +2,19 @@
 ghost use Rattle.std.specs.Prelude.{◌≡◌, ◌+◌, ◌-◌, ◌^◌, ◌<◌, IfOk, IfSome, OnOk};
 ghost use Rattle.std.specs.Option.{option_map};
 ghost use Rattle.std.specs.Io.KnownBytes.{Appends};
-ghost use Rattle.bac_text.specs.Checked.{verdict_text, tally_text, IsReportOf};
+ghost use Rattle.bac_text.specs.Checked.{verdict_text, counts_text, notes_text, tally_text, IsReportAs, IsReportOf};
 ghost use Rattle.bac_text.specs.Checking.{count_of, IsCounted, IsStep, AreCounted};
+ghost use Rattle.bac_text.specs.Capture.{capture_at};
+ghost use Rattle.bac_text.specs.Notes.{read_of};
 ghost use Rattle.bac_text.specs.Lines.{short_capture_at, IsJudged};
 ghost use Rattle.bac_text.specs.Statuses.{IsStop};
 ghost use Rattle.bac_text.specs.Stops.{IsStopBy, IsStopFor};
 
 use crate::capture::read_into;
-use crate::fault::LineFault;
+use crate::fault::{LineFault, LineVerdict};
 use crate::layers::check_datagram;
 use crate::lines::{LINE_LIMIT, next_line};
+use crate::notes::read_of;
 use crate::status::{Status, input_failed, no_memory, output_failed};
 use crate::tally::Tally;
 use crate::words::print_end;
@@ -21,41 +24,57 @@ use std::io::{BufRead, ErrorKind, Write};
 
 /// Why checking stopped.
 #[derive(Debug, Drop)]
-enum CheckError {
+pub(crate) enum CheckError {
     Input(io::Error),
     Output(io::Error),
     Memory,
 }
 
-/// What is wrong with a line, if something is, where the greatest moment so far is `latest`; and the greatest moment from here on.
+/// What a line is whose octets are not too many, where the greatest moment so far is `latest`; and the greatest moment from here on.
 /// Its datagram stands in `datagram`, whose memory serves each line.
-fn fault_in(
+fn verdict_on(
+    notes: bool,
     line: &[u8],
     latest: u64,
     datagram: &mut Vec<u8>,
-) -> Result<(Option<LineFault>, u64), AllocError>
-    ensures { IfOk result (λ r. IsJudged (short_capture_at line.now) latest r.0 r.1) }
+) -> Result<(LineVerdict, u64), AllocError>
+    ensures { IfOk result (λ r. IsJudged (option_map capture_at (read_of notes line.now)) latest r.0 r.1) }
 {
-    if line.len() > LINE_LIMIT {
-        return Ok((Some(LineFault::NoCaptureLine), latest));
-    }
-    let Some(moment) = read_into(line, datagram)? else {
-        return Ok((Some(LineFault::NoCaptureLine), latest));
+    let Some(read) = read_of(notes, line) else {
+        return Ok((LineVerdict::Note, latest));
+    };
+    let Some(moment) = read_into(read, datagram)? else {
+        return Ok((LineVerdict::Bad(LineFault::NoCaptureLine), latest));
     };
     if moment < latest {
-        return Ok((Some(LineFault::MomentGoesBack), latest));
+        return Ok((LineVerdict::Bad(LineFault::MomentGoesBack), latest));
     }
     match check_datagram(datagram) {
-        Ok(()) => Ok((None, moment)),
-        Err(fault) => Ok((Some(LineFault::Datagram(fault)), moment)),
+        Ok(()) => Ok((LineVerdict::Good, moment)),
+        Err(fault) => Ok((LineVerdict::Bad(LineFault::Datagram(fault)), moment)),
     }
 }
 
-/// Prints what is wrong with the line of that number, if something is.
-fn print_verdict<W: Write>(number: u64, fault: Option<LineFault>, out: &mut W) -> io::Result<()>
-    ensures { OnOk result (Appends (W.contents out.old) (W.contents out.new) (verdict_text number fault)) }
+/// What a line is, and the greatest moment from here on.
+fn verdict_in(
+    notes: bool,
+    line: &[u8],
+    latest: u64,
+    datagram: &mut Vec<u8>,
+) -> Result<(LineVerdict, u64), AllocError>
+    ensures { IfOk result (λ r. IsJudged (short_capture_at notes line.now) latest r.0 r.1) }
 {
-    let Some(fault) = fault else {
+    if line.len() > LINE_LIMIT {
+        return Ok((LineVerdict::Bad(LineFault::NoCaptureLine), latest));
+    }
+    verdict_on(notes, line, latest, datagram)
+}
+
+/// Prints what is wrong with the line of that number, if something is.
+fn print_verdict<W: Write>(number: u64, verdict: LineVerdict, out: &mut W) -> io::Result<()>
+    ensures { OnOk result (Appends (W.contents out.old) (W.contents out.new) (verdict_text number verdict)) }
+{
+    let LineVerdict::Bad(fault) = verdict else {
         return Ok(());
     };
     write!(out, "line {number}: {fault}")?;
@@ -64,21 +83,22 @@ fn print_verdict<W: Write>(number: u64, fault: Option<LineFault>, out: &mut W) -
 
 /// Judges a line, counts it, and prints its fault where it has one.
 fn check_line<W: Write>(
+    notes: bool,
     line: &[u8],
     datagram: &mut Vec<u8>,
     tally: Tally,
     out: &mut W,
 ) -> Result<Tally, CheckError>
-    ensures is { IfOk result (λ t. IsCounted line.now (W.contents out.old) (W.contents out.new) (count_of tally) (count_of t)) }
+    ensures is { IfOk result (λ t. IsCounted notes line.now (W.contents out.old) (W.contents out.new) (count_of tally) (count_of t)) }
     ensures fits { OnOk result (tally.lines < 2 ^ 64 - 1) }
 {
-    let Ok((fault, latest)) = fault_in(line, tally.latest, datagram) else {
+    let Ok((verdict, latest)) = verdict_in(notes, line, tally.latest, datagram) else {
         return Err(CheckError::Memory);
     };
-    let Some(counted) = tally.with(fault, latest) else {
+    let Some(counted) = tally.with(verdict, latest) else {
         return Err(CheckError::Input(io::Error::from(ErrorKind::FileTooLarge)));
     };
-    match print_verdict(counted.lines, fault, out) {
+    match print_verdict(counted.lines, verdict, out) {
         Ok(()) => Ok(counted),
         Err(error) => Err(CheckError::Output(error)),
     }
@@ -86,18 +106,19 @@ fn check_line<W: Write>(
 
 /// Takes the next line and checks it; None at the end of the input.
 fn check_next<R: BufRead, W: Write>(
+    notes: bool,
     input: &mut R,
     line: &mut Vec<u8>,
     datagram: &mut Vec<u8>,
     tally: Tally,
     out: &mut W,
 ) -> Result<Option<Tally>, CheckError>
-    ensures step { IfOk result (λ r. IsStep (R.remaining input.old) (R.remaining input.new) (W.contents out.old) (W.contents out.new)
+    ensures step { IfOk result (λ r. IsStep notes (R.remaining input.old) (R.remaining input.new) (W.contents out.old) (W.contents out.new)
         (count_of tally) (option_map count_of r)) }
     ensures more { IfOk result (λ r. IfSome r (λ t. (t.lines ≡ tally.lines + 1) × (tally.lines < 2 ^ 64 - 1))) }
 {
     match next_line(input, line) {
-        Ok(true) => match check_line(line, datagram, tally, out) {
+        Ok(true) => match check_line(notes, line, datagram, tally, out) {
             Ok(counted) => Ok(Some(counted)),
             Err(error) => Err(error),
         },
@@ -108,44 +129,64 @@ fn check_next<R: BufRead, W: Write>(
 
 fn check_lines<R: BufRead, W: Write>(
     alloc: Global,
+    notes: bool,
     input: &mut R,
     out: &mut W,
 ) -> Result<Tally, CheckError>
-    ensures { IfOk result (λ t. AreCounted (R.remaining input.old) (W.contents out.old) (W.contents out.new) (count_of t)) }
+    ensures { IfOk result (λ t. AreCounted notes (R.remaining input.old) (W.contents out.old) (W.contents out.new) (count_of t)) }
 {
     let mut tally = Tally {
         lines: 0,
         good: 0,
+        bad: 0,
         latest: 0,
     };
     let mut line = Vec::new(alloc);
     let mut datagram = Vec::new(alloc);
-    while let Some(next) = check_next(input, &mut line, &mut datagram, tally, out)? {
+    while let Some(next) = check_next(notes, input, &mut line, &mut datagram, tally, out)? {
         tally = next;
     }
     Ok(tally)
 }
 
-fn print_tally<W: Write>(tally: Tally, out: &mut W) -> io::Result<()>
-    ensures { OnOk result (Appends (W.contents out.old) (W.contents out.new) (tally_text tally.lines tally.good)) }
+fn print_counts<W: Write>(tally: Tally, out: &mut W) -> io::Result<()>
+    ensures { OnOk result (Appends (W.contents out.old) (W.contents out.new) (counts_text tally.lines tally.good tally.bad)) }
 {
     let lines = tally.lines;
     let good = tally.good;
-    let bad = lines - good;
-    write!(out, "lines={lines} good={good} bad={bad}")?;
+    let bad = tally.bad;
+    write!(out, "lines={lines} good={good} bad={bad}")
+}
+
+fn print_notes<W: Write>(notes: bool, count: u64, out: &mut W) -> io::Result<()>
+    ensures { OnOk result (Appends (W.contents out.old) (W.contents out.new) (notes_text notes count)) }
+{
+    if notes {
+        write!(out, " notes={count}")
+    } else {
+        Ok(())
+    }
+}
+
+fn print_tally<W: Write>(notes: bool, tally: Tally, out: &mut W) -> io::Result<()>
+    ensures { OnOk result (Appends (W.contents out.old) (W.contents out.new) (tally_text notes tally.lines tally.good tally.bad)) }
+{
+    print_counts(tally, out)?;
+    print_notes(notes, tally.lines - (tally.good + tally.bad), out)?;
     print_end(out)?;
     out.flush()
 }
 
 fn check_all<R: BufRead, W: Write>(
     alloc: Global,
+    notes: bool,
     input: &mut R,
     out: &mut W,
 ) -> Result<Status, CheckError>
-    ensures { IfOk result (IsReportOf (R.remaining input.old) (W.contents out.old) (W.contents out.new)) }
+    ensures { IfOk result (IsReportAs notes (R.remaining input.old) (W.contents out.old) (W.contents out.new)) }
 {
-    let tally = check_lines(alloc, input, out)?;
-    match print_tally(tally, out) {
+    let tally = check_lines(alloc, notes, input, out)?;
+    match print_tally(notes, tally, out) {
         Ok(()) => Ok(tally.status()),
         Err(error) => Err(CheckError::Output(error)),
     }
@@ -178,7 +219,7 @@ fn stopped_so<E: Write>(error: CheckError, flushed: io::Result<()>, err: &mut E)
 }
 
 /// Why checking stopped, as a status. What was printed before goes out as far as it can.
-fn stopped<O: Write, E: Write>(error: CheckError, out: &mut O, err: &mut E) -> Status
+pub(crate) fn stopped<O: Write, E: Write>(error: CheckError, out: &mut O, err: &mut E) -> Status
     ensures { IsStop result }
 {
     let flushed = out.flush();
@@ -188,9 +229,26 @@ fn stopped<O: Write, E: Write>(error: CheckError, out: &mut O, err: &mut E) -> S
 /// Checks each line of a capture: prints each bad line's number and fault, and at the end how many lines are good and bad.
 ///
 /// A line `moment from to hex` is good where its moment is not less than that of an earlier such line, and its datagram has no
-/// fault. Ends with `Faulty` where a line is bad. An input that cannot be read, or of 2^64 lines: `cannot read` on `err`. Out of
-/// memory: `no memory` on `err`. `Output` where `out` cannot be written, then too where the input fails. Memory does not grow
+/// fault. Where notes are taken, lines may end in a carriage return and a line feed, and a blank line, or one that begins with `#`, is neither good nor
+/// bad: they are counted as notes behind the others. Ends with `Faulty` where a line is bad. An input that cannot be read, or of 2^64 lines: `cannot
+/// read` on `err`. Out of memory: `no memory` on `err`. `Output` where `out` cannot be written, then too where the input fails. Memory does not grow
 /// with the input.
+pub fn check_lines_over<R: BufRead, O: Write, E: Write>(
+    alloc: Global,
+    notes: bool,
+    input: &mut R,
+    out: &mut O,
+    err: &mut E,
+) -> Status
+    ensures { IsReportAs notes (R.remaining input.old) (O.contents out.old) (O.contents out.new) result }
+{
+    match check_all(alloc, notes, input, out) {
+        Ok(status) => status,
+        Err(error) => stopped(error, out, err),
+    }
+}
+
+/// The same without notes: each line is one of the capture.
 pub fn check_over<R: BufRead, O: Write, E: Write>(
     alloc: Global,
     input: &mut R,
@@ -199,8 +257,5 @@ pub fn check_over<R: BufRead, O: Write, E: Write>(
 ) -> Status
     ensures { IsReportOf (R.remaining input.old) (O.contents out.old) (O.contents out.new) result }
 {
-    match check_all(alloc, input, out) {
-        Ok(status) => status,
-        Err(error) => stopped(error, out, err),
-    }
+    check_lines_over(alloc, false, input, out, err)
 }

@@ -72,6 +72,17 @@ pub(crate) enum LineFault {
     Datagram(LayerFault),
 }
 
+/// What a line of a capture is.
+#[derive(Clone, Copy, Debug, PartialEq, Eq)]
+pub(crate) enum LineVerdict {
+    /// A capture line without a fault.
+    Good,
+    /// A note, passed over.
+    Note,
+    /// A line with that fault.
+    Bad(LineFault),
+}
+
 impl fmt::Display for LineFault {
     ghost output = { λ x. Some (line_fault_text x) };
 

@@ -1,16 +1,20 @@
-//! What `bac decode` and `bac check` print: the layers of a datagram, and which lines of a capture are good.
+//! What `bac decode` and `bac check` print: the layers of a datagram, by numbers or in words, and which lines of a capture are good.
 #![tactic(auto)]
 
 mod apdu_line;
 mod capture;
 mod check;
 mod decode;
+mod decode_lines;
 mod digits;
 mod fault;
+mod fault_words;
 mod frame_lines;
+mod groups;
 mod laws;
 mod layers;
 mod lines;
+mod notes;
 mod service_line;
 mod status;
 mod strings;
@@ -18,9 +22,12 @@ mod tally;
 mod words;
 
 pub use capture::{CaptureLine, read_capture_line};
-pub use check::check_over;
-pub use decode::{decode_over, print_apdu_octets};
+pub use check::{check_lines_over, check_over};
+pub use decode::{decode_over, decode_text_over, print_apdu_octets};
+pub use decode_lines::decode_lines_over;
 pub use fault::LayerFault;
 pub use laws::fine_or_at_fault;
+pub use groups::octets_in;
 pub use layers::check_datagram;
+pub use notes::read_of;
 pub use status::{Status, complain, no_memory, output_failed};

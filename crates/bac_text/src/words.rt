@@ -3,12 +3,13 @@ ghost use Rattle.std.specs.Prelude.{OnOk};
 ghost use Rattle.std.specs.Option.{option_map};
 ghost use Rattle.bac_value.specs.Views.{object_identifier_view};
 ghost use Rattle.std.specs.Io.KnownBytes.{Appends};
-ghost use Rattle.bac_text.specs.Texts.{optional, number_text, object_text, octets_text, line_end};
+ghost use Rattle.bac_text.specs.Texts.{optional, number_text, object_text, property_text, octets_text, line_end, IsValuesText, AppendsText};
 
-use bac_value::ObjectIdentifier;
+use bac_value::{Data, ObjectIdentifier};
+use bac_value_text::{data_text, object_text, property_text};
 use std::alloc::Global;
 use std::io;
-use std::io::Write;
+use std::io::{ErrorKind, Write};
 
 /// Octets in hexadecimal, in capitals, after a name; no octets print nothing.
 pub(crate) fn print_octets<W: Write>(
@@ -37,13 +38,81 @@ pub(crate) fn print_optional<W: Write>(
     }
 }
 
-/// An object, by its type and its instance.
-pub(crate) fn print_object<W: Write>(object: ObjectIdentifier, out: &mut W) -> io::Result<()>
-    ensures { OnOk result (Appends (W.contents out.old) (W.contents out.new) (object_text (object_identifier_view object))) }
+/// An object by its name.
+fn print_object_name<W: Write>(
+    alloc: Global,
+    object: ObjectIdentifier,
+    out: &mut W,
+) -> io::Result<()>
+    ensures { OnOk result (Appends (W.contents out.old) (W.contents out.new) (object_text true (object_identifier_view object))) }
 {
+    let name = object_text(alloc, object)?;
+    out.write_all(b" object=")?;
+    out.write_all(name.as_slice())
+}
+
+/// An object, by its type and its instance: by number, or in words.
+pub(crate) fn print_object<W: Write>(
+    alloc: Global,
+    in_words: bool,
+    object: ObjectIdentifier,
+    out: &mut W,
+) -> io::Result<()>
+    ensures { OnOk result (Appends (W.contents out.old) (W.contents out.new) (object_text in_words (object_identifier_view object))) }
+{
+    if in_words {
+        return print_object_name(alloc, object, out);
+    }
     let kind = object.kind;
     let instance = object.instance;
     write!(out, " object={kind}:{instance}")
+}
+
+/// A property, by number or in words.
+pub(crate) fn print_property<W: Write>(
+    alloc: Global,
+    in_words: bool,
+    property: u32,
+    out: &mut W,
+) -> io::Result<()>
+    ensures { OnOk result (Appends (W.contents out.old) (W.contents out.new) (property_text in_words property)) }
+{
+    if !in_words {
+        return write!(out, " property={property}");
+    }
+    let name = property_text(alloc, property)?;
+    write!(out, " property={name}")
+}
+
+/// Values, each by its kind.
+fn print_values_by_kind<W: Write>(
+    alloc: Global,
+    values: Data<'_>,
+    out: &mut W,
+) -> io::Result<()>
+    ensures { OnOk result (AppendsText (W.contents out.old) (W.contents out.new) (IsValuesText true values.entry.octets.now)) }
+{
+    let Ok(text) = data_text(alloc, values) else {
+        return Err(io::Error::from(ErrorKind::OutOfMemory));
+    };
+    out.write_all(b" values=")?;
+    out.write_all(text.as_slice())
+}
+
+/// Values, in hexadecimal or in words.
+pub(crate) fn print_values<W: Write>(
+    alloc: Global,
+    in_words: bool,
+    values: Data<'_>,
+    out: &mut W,
+) -> io::Result<()>
+    ensures { OnOk result (AppendsText (W.contents out.old) (W.contents out.new) (IsValuesText in_words values.entry.octets.now)) }
+{
+    if in_words {
+        print_values_by_kind(alloc, values, out)
+    } else {
+        print_octets(alloc, "values", values.octets, out)
+    }
 }
 
 pub(crate) fn print_end<W: Write>(out: &mut W) -> io::Result<()>

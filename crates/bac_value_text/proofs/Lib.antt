@@ -7,3 +7,4 @@ mod Fields
 mod Objects
 mod Values
 mod ElementTexts
+pub mod Splits

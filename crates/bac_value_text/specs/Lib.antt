@@ -3,4 +3,5 @@ pub mod Texts
 pub mod Reading
 pub mod Laws
 pub mod Reasons
+pub mod Splits
 pub mod DataTexts

@@ -6,4 +6,4 @@ use Rattle.bac_text.proofs.decode.print_contents.Goals as goal
 pub returns : goal.returns
 returns g c =
     let none : option_map message_view c.args.message ≡ None = search rules in
-    rw none c.print_apdu_octets.ensures
+    rw none c.print_apdu_layer.ensures

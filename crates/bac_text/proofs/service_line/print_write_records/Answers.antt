@@ -10,6 +10,6 @@ returns g c =
     let extent = records_start_text write.start write.records.count in
     let last = λ (ss : List (List ℕ)). codes " octets=" ++ strings_text ss in
     let middle = λ (ss : List (List ℕ)). extent ++ last ss in
-    strings_before _ _ _ _ _ _ (λ (ss : List (List ℕ)). object_text (object_identifier_view c.args.file) ++ middle ss) c.in_ok-write_all.ensures.bytes
+    strings_before _ _ _ _ _ _ (λ (ss : List (List ℕ)). object_text c.args.in_words (object_identifier_view c.args.file) ++ middle ss) c.in_ok-write_all.ensures.bytes
     (strings_before _ _ _ _ _ _ middle c.in_ok-print_object.ensures
     (strings_before _ _ _ _ _ _ last c.in_ok-print_records_start.ensures c.print_strings.ensures))

@@ -1,0 +1,103 @@
+-- What `bac decode -` prints of an input with a datagram on each line.
+use Rattle.std.specs.Prelude.{◌≡◌, ℕ, ◌+◌, ◌++◌, Bool, true, false, ◌&&◌, List, [], ◌∷◌, codes, decimal, ⊤, Option, Some, None}
+use Rattle.std.specs.Option.{option_map}
+use Rattle.std.specs.Io.KnownBytes.{Appends, Keeps}
+use Rattle.bac_text.specs.declared.decode_lines.Shown.{Shown}
+use Rattle.bac_text.specs.declared.fault.LayerFault.{LayerFault}
+use Rattle.bac_text.specs.declared.status.Status.{Status}
+use Rattle.bac_text.specs.declared.status.Status.TheVariants as status
+use Rattle.bac_text.specs.Decoded.{AreLines}
+use Rattle.bac_text.specs.Groups.{octets_in}
+use Rattle.bac_text.specs.Layers.{IsFine, IsAtFault}
+use Rattle.bac_text.specs.Lines.{lines_of, unless_long}
+use Rattle.bac_text.specs.Notes.{read_of}
+use Rattle.bac_text.specs.Texts.{line_end, AppendsText}
+
+-- the datagram of a line; None of a line that is no hexadecimal, or too long; and None where the line is a note
+abbrev pub DatagramLine : Type 0
+DatagramLine = Option (Option (List ℕ))
+
+abbrev pub datagram_line_at : List ℕ → DatagramLine
+datagram_line_at line = unless_long line (Some None) (option_map octets_in (read_of true line))
+
+-- ---- what is printed of it, where so many lines stand before it
+
+abbrev pub bad_line : (number : ℕ) → List ℕ
+bad_line number = (codes "line " ++ (decimal number ++ codes ": bad hex")) ++ line_end
+
+-- whether it has no fault
+abbrev pub IsDatagramText : (in_words fine : Bool) → (datagram text : List ℕ) → Type 0
+IsDatagramText in_words true datagram text = IsFine datagram × AreLines in_words datagram None text
+IsDatagramText in_words false datagram text = (fault : LayerFault) × (IsAtFault datagram fault × AreLines in_words datagram (Some fault) text)
+
+abbrev pub IsLineText : (in_words : Bool) → (before : ℕ) → DatagramLine → (fine : Bool) → (text : List ℕ) → Type 0
+IsLineText in_words before None fine text = (fine ≡ true) × (text ≡ [])
+IsLineText in_words before (Some None) fine text = (fine ≡ false) × (text ≡ bad_line (before + 1))
+IsLineText in_words before (Some (Some datagram)) fine text = IsDatagramText in_words fine datagram text
+
+-- the text of a line, and then that of others; all of them are fine, or one is not
+pub record IsFirstText (IsFirst AreOthers : (fine : Bool) → (text : List ℕ) → Type 0) (fine : Bool) (text : List ℕ) : Type 0 where
+  pub here : Bool
+  pub there : Bool
+  pub front : List ℕ
+  pub back : List ℕ
+  pub first : IsFirst here front
+  pub others : AreOthers there back
+  pub all : fine ≡ here && there
+  pub is : text ≡ front ++ back
+
+abbrev pub AreLineTexts : (in_words : Bool) → (before : ℕ) → List (List ℕ) → (fine : Bool) → (text : List ℕ) → Type 0
+AreLineTexts in_words before [] fine text = (fine ≡ true) × (text ≡ [])
+AreLineTexts in_words before (line ∷ lines) fine text =
+    IsFirstText (IsLineText in_words before (datagram_line_at line)) (AreLineTexts in_words (before + 1) lines) fine text
+
+-- where the octets of the input are known
+abbrev pub AreTold : (in_words fine : Bool) → (input : Option (List ℕ)) → (old new : Option (List ℕ)) → Type 0
+AreTold in_words fine None old new = ⊤
+AreTold in_words fine (Some input) old new = AppendsText old new (AreLineTexts in_words 0 (lines_of input) fine)
+
+-- where the command ends with 0 or 1, each line was told; the other statuses say nothing of it
+abbrev pub AreDecoded : (in_words : Bool) → (input : Option (List ℕ)) → (old new : Option (List ℕ)) → Status → Type 0
+AreDecoded in_words input old new status.Done = AreTold in_words true input old new
+AreDecoded in_words input old new status.Faulty = AreTold in_words false input old new
+AreDecoded in_words input old new status.CommandLine = ⊤
+AreDecoded in_words input old new status.Output = ⊤
+AreDecoded in_words input old new status.Memory = ⊤
+
+-- ---- the steps
+
+-- a line was told
+pub record IsLineTold (in_words : Bool) (line : List ℕ) (old new : Option (List ℕ)) (before after : Shown) : Type 0 where
+  pub fine : Bool
+  pub text : List ℕ
+  pub text_of : IsLineText in_words before.lines (datagram_line_at line) fine text
+  pub printed : Appends old new text
+  pub lines : after.lines ≡ before.lines + 1
+  pub all : after.fine ≡ before.fine && fine
+
+-- the first line was taken and told
+pub record IsNextTold (in_words : Bool) (octets : List ℕ) (left old new : Option (List ℕ)) (before after : Shown) : Type 0 where
+  pub line : List ℕ
+  pub rest : List ℕ
+  pub lines : lines_of octets ≡ line ∷ lines_of rest
+  pub is : left ≡ Some rest
+  pub told : IsLineTold in_words line old new before after
+
+-- the input goes from the first to the second, the output from the third to the fourth
+abbrev pub IsTaken : (in_words : Bool) → (input left old new : Option (List ℕ)) → Shown → Option Shown → Type 0
+IsTaken in_words None left old new before after = ⊤
+IsTaken in_words (Some octets) left old new before None = (octets ≡ []) × Keeps old new
+IsTaken in_words (Some octets) left old new before (Some after) = IsNextTold in_words octets left old new before after
+
+-- some lines were told, and the others stand before
+pub record IsFrontTold (in_words : Bool) (octets : List ℕ) (left old new : Option (List ℕ)) (shown : Shown) : Type 0 where
+  pub text : List ℕ
+  pub rest : List ℕ
+  pub is : left ≡ Some rest
+  pub printed : Appends old new text
+  pub told : (there : Bool) (back : List ℕ) → AreLineTexts in_words shown.lines (lines_of rest) there back
+      → AreLineTexts in_words 0 (lines_of octets) (shown.fine && there) (text ++ back)
+
+abbrev pub AreFrontTold : (in_words : Bool) → (input left old new : Option (List ℕ)) → Shown → Type 0
+AreFrontTold in_words None left old new shown = ⊤
+AreFrontTold in_words (Some octets) left old new shown = IsFrontTold in_words octets left old new shown

@@ -1,0 +1,155 @@
+//! What is wrong with a datagram, in words.
+ghost use Rattle.std.specs.Prelude.{◌≡◌, ◌++◌, codes, IfOk, OnOk, string_bytes};
+ghost use Rattle.std.specs.Io.KnownBytes.{Appends};
+ghost use Rattle.bac_value_text.specs.Reasons.{reject_text};
+ghost use Rattle.bac_text.specs.Decoded.{fault_line};
+ghost use Rattle.bac_text.specs.Faults.{apdu_reason, bvll_words, fault_because, fault_words, frame_reason, function_digits, function_reason, kind_reason};
+ghost use Rattle.bac_text.specs.Faults.{told_fault};
+
+use crate::fault::LayerFault;
+use crate::words::print_end;
+use bac_apdu::ApduFault;
+use bac_npdu::FrameFault;
+use bac_value::FaultKind;
+use bac_value_text::reject_text;
+use std::alloc::{AllocError, Global};
+use std::io;
+use std::io::Write;
+
+fn frame_reason(fault: FrameFault) -> &'static str
+    ensures { result.now ≡ frame_reason fault }
+{
+    match fault {
+        FrameFault::Truncated => "truncated",
+        FrameFault::Version => "another version",
+        FrameFault::ReservedBits => "reserved bits",
+        FrameFault::BadNet => "bad network number",
+        FrameFault::BadLength => "bad length",
+        FrameFault::NotUnicast => "not Original-Unicast-NPDU",
+    }
+}
+
+fn apdu_reason(fault: ApduFault) -> &'static str
+    ensures { result.now ≡ apdu_reason fault }
+{
+    match fault {
+        ApduFault::Truncated => "truncated",
+        ApduFault::ReservedBits => "reserved bits",
+        ApduFault::ReservedCode => "reserved max-APDU code",
+        ApduFault::BadWindow => "bad window",
+        ApduFault::BadType => "bad type",
+        ApduFault::Trailing => "octets after the last member",
+        ApduFault::MorWithoutSeg => "more segments of what is no segment",
+        ApduFault::BadError => "class or code is no Enumerated",
+    }
+}
+
+fn kind_reason(kind: FaultKind) -> &'static str
+    ensures { result.now ≡ kind_reason kind }
+{
+    match kind {
+        FaultKind::Truncated => "truncated",
+        FaultKind::ReservedTag => "reserved tag",
+        FaultKind::LongForm => "long form",
+        FaultKind::BadLength => "bad length",
+        FaultKind::NotShortest => "not the shortest number",
+        FaultKind::Unbalanced => "unbalanced tags",
+        FaultKind::TooDeep => "too many open tags",
+        FaultKind::ReservedBits => "reserved bits",
+    }
+}
+
+/// A fault, and a reason in brackets behind it.
+fn because(alloc: Global, fault: LayerFault, reason: &str) -> Result<String, AllocError>
+    ensures { IfOk result (λ t. string_bytes t ≡ fault_because fault reason.now) }
+{
+    format!(in alloc; "{fault} ({reason})")
+}
+
+/// The function of a BVLL in hexadecimal.
+fn function_digits(alloc: Global, datagram: &[u8]) -> Result<String, AllocError>
+    ensures { IfOk result (λ t. string_bytes t ≡ function_digits datagram.now) }
+{
+    match datagram {
+        [_, function, ..] => hex::encode_upper(alloc, &[*function]),
+        _ => Ok(String::new(alloc)),
+    }
+}
+
+fn function_reason(alloc: Global, datagram: &[u8]) -> Result<String, AllocError>
+    ensures { IfOk result (λ t. string_bytes t ≡ function_reason datagram.now) }
+{
+    let digits = function_digits(alloc, datagram)?;
+    format!(in alloc; "function {digits}: not Original-Unicast-NPDU")
+}
+
+/// Of a BVLL with another function that function too.
+fn bvll_words(
+    alloc: Global,
+    datagram: &[u8],
+    fault: FrameFault,
+) -> Result<String, AllocError>
+    ensures { IfOk result (λ t. string_bytes t ≡ bvll_words datagram.now fault) }
+{
+    match fault {
+        FrameFault::NotUnicast => {
+            let reason = function_reason(alloc, datagram)?;
+            because(alloc, LayerFault::Bvll(FrameFault::NotUnicast), reason.as_str())
+        }
+        _ => because(alloc, LayerFault::Bvll(fault), frame_reason(fault)),
+    }
+}
+
+fn request_words(alloc: Global, reason: u8) -> Result<String, AllocError>
+    ensures { IfOk result (λ t. string_bytes t ≡ codes "fault reject " ++ reject_text reason) }
+{
+    let reason = reject_text(alloc, reason)?;
+    format!(in alloc; "fault reject {reason}")
+}
+
+/// The fault of a datagram in words, as `fault bvll 6 (function 0B: not Original-Unicast-NPDU)`; the reason of a Reject by its name in the standard.
+fn fault_words(
+    alloc: Global,
+    datagram: &[u8],
+    fault: LayerFault,
+) -> Result<String, AllocError>
+    ensures { IfOk result (λ t. string_bytes t ≡ fault_words datagram.now fault) }
+{
+    match fault {
+        LayerFault::Bvll(why) => bvll_words(alloc, datagram, why),
+        LayerFault::Npdu(why) => because(alloc, fault, frame_reason(why)),
+        LayerFault::Apdu(why) => because(alloc, fault, apdu_reason(why)),
+        LayerFault::Request(reject) => request_words(alloc, reject.reason()),
+        LayerFault::ComplexAck(kind) => because(alloc, fault, kind_reason(kind)),
+    }
+}
+
+fn print_told<W: Write>(
+    alloc: Global,
+    in_words: bool,
+    datagram: &[u8],
+    fault: LayerFault,
+    out: &mut W,
+) -> io::Result<()>
+    ensures { OnOk result (Appends (W.contents out.old) (W.contents out.new) (told_fault in_words datagram.now fault)) }
+{
+    if !in_words {
+        return write!(out, "{fault}");
+    }
+    let words = fault_words(alloc, datagram, fault)?;
+    write!(out, "{words}")
+}
+
+/// Prints the line of a datagram's fault, in words or not.
+pub(crate) fn print_fault<W: Write>(
+    alloc: Global,
+    in_words: bool,
+    datagram: &[u8],
+    fault: LayerFault,
+    out: &mut W,
+) -> io::Result<()>
+    ensures { OnOk result (Appends (W.contents out.old) (W.contents out.new) (fault_line in_words datagram.now fault)) }
+{
+    print_told(alloc, in_words, datagram, fault, out)?;
+    print_end(out)
+}
