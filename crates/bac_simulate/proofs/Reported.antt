@@ -1,8 +1,7 @@
 -- What the status says of lines, of a script, and of the octets of an input.
-use Rattle.std.proofs.Common.{◌≡◌, ℕ, true, false, Bool, List, Option, Some, None, IfOk, IfSome, Result, Ok, Err, inl, inr, refl, sym, ap, subst, ◌∙◌}
+use Rattle.std.proofs.Common.{◌≡◌, ℕ, ◌+◌, true, false, Bool, List, Option, Some, None, IfOk, IfSome, Result, Ok, Err, inl, inr, refl, sym, ap, subst, ◌∙◌}
 use Rattle.std.specs.Io.KnownBytes.{Appends, Keeps}
 use Rattle.bac_network.specs.Histories.{WorldView}
-use Rattle.bac_world.specs.World.{Event}
 use Rattle.bac_script.specs.Lines.{Setting}
 use Rattle.bac_text.specs.Lines.{lines_of}
 use Rattle.bac_text.specs.Statuses.{IsFailure}
@@ -10,8 +9,8 @@ use Rattle.bac_text.specs.Texts.{AppendsText}
 use Rattle.bac_text.specs.declared.status.Status.{Status}
 use Rattle.bac_text.specs.declared.status.Status.TheVariants as status
 use Rattle.bac_simulate.specs.Houses.{world_set}
-use Rattle.bac_simulate.specs.Runs.{Goes, IsEnd, IsRun, IsUnread, Reports, Simulates, status_for, status_of}
-use Rattle.bac_simulate.specs.Scripts.{IsNotRead, Script, events_from, limits_in, most_limits, script_of, with_setting}
+use Rattle.bac_simulate.specs.Runs.{Goes, IsEnd, IsRun, IsUnread, Reports, SimulatesAs, status_for, status_of}
+use Rattle.bac_simulate.specs.Scripts.{IsNotRead, Script, ScriptLine, limits_in, most_limits, said_from, script_of, with_setting}
 use Rattle.bac_simulate.specs.declared.script.ScriptFault.{ScriptFault}
 use Rattle.bac_simulate.specs.declared.script.ScriptFault.TheVariants as fault
 use Rattle.bac_simulate.proofs.Limits.{events_of_houses}
@@ -28,12 +27,12 @@ keeps_itself (Some xs) = refl
 
 -- ---- events that happened in a world
 
-flushed : (all : Bool) (line : ℕ) (events : List Event) (first last : WorldView) (a b c : Option (List ℕ))
+flushed : (all : Bool) (line : ℕ) (events : List ScriptLine) (first last : WorldView) (a b c : Option (List ℕ))
     → AppendsText a b (IsRun line events all first last) → Keeps b c → Goes line (Ok events) first last a c (status_of all)
 flushed true line events first last a b c printed same = (printed.0, (printed.1.0, kept a b c printed.0 printed.1.1 same))
 flushed false line events first last a b c printed same = (printed.0, (printed.1.0, kept a b c printed.0 printed.1.1 same))
 
-failed : (end : Status) (line : ℕ) (events : List Event) (first last : WorldView) (a b : Option (List ℕ)) → IsFailure end
+failed : (end : Status) (line : ℕ) (events : List ScriptLine) (first last : WorldView) (a b : Option (List ℕ)) → IsFailure end
     → Goes line (Ok events) first last a b end
 failed status.Done line events first last a b f = absurd f
 failed status.Faulty line events first last a b f = absurd f
@@ -41,7 +40,7 @@ failed status.CommandLine line events first last a b f = absurd f
 failed status.Output line events first last a b f = tt
 failed status.Memory line events first last a b f = tt
 
-pub gone : {A B E : Type 0} → (run : Result Bool E) (flush : Result A B) (line : ℕ) (events : List Event) (first last : WorldView)
+pub gone : {A B E : Type 0} → (run : Result Bool E) (flush : Result A B) (line : ℕ) (events : List ScriptLine) (first last : WorldView)
     → (a b c : Option (List ℕ)) (end : Status) → IsEnd run flush end → IfOk run (λ all. AppendsText a b (IsRun line events all first last)) → Keeps b c
     → Goes line (Ok events) first last a c end
 gone (Ok all) (Ok x) line events first last a b c end ends printed same =
@@ -49,46 +48,47 @@ gone (Ok all) (Ok x) line events first last a b c end ends printed same =
 gone (Ok all) (Err e) line events first last a b c end ends printed same = failed end line events first last a c ends
 gone (Err e) flush line events first last a b c end ends printed same = failed end line events first last a c ends
 
-pub as_read : (read : Result (List Event) ℕ) (line : ℕ) (events others : List Event) (first last : WorldView) (a b : Option (List ℕ)) (end : Status)
+pub as_read : (read : Result (List ScriptLine) ℕ) (line : ℕ) (events others : List ScriptLine) (first last : WorldView) (a b : Option (List ℕ)) (end : Status)
     → others ≡ events → read ≡ Ok events → Goes line (Ok others) first last a b end → Goes line read first last a b end
 as_read read line events others first last a b end same is goes =
-    subst (λ (r : Result (List Event) ℕ). Goes line r first last a b end) (ap Ok same ∙ sym is) goes
+    subst (λ (r : Result (List ScriptLine) ℕ). Goes line r first last a b end) (ap Ok same ∙ sym is) goes
 
-starved_of : (read : Result (List Event) ℕ) (line : ℕ) (w : WorldView) (a : Option (List ℕ)) → Goes line read w w a a status.Memory
+starved_of : (read : Result (List ScriptLine) ℕ) (line : ℕ) (w : WorldView) (a : Option (List ℕ)) → Goes line read w w a a status.Memory
 starved_of (Ok events) line w a = tt
 starved_of (Err bad) line w a = (keeps_itself a, refl)
 
-bad_line_of : (read : Result (List Event) ℕ) (bad line : ℕ) (w : WorldView) (a : Option (List ℕ)) → read ≡ Err bad
+bad_line_of : (read : Result (List ScriptLine) ℕ) (bad line : ℕ) (w : WorldView) (a : Option (List ℕ)) → read ≡ Err bad
     → Goes line read w w a a status.CommandLine
-bad_line_of read bad line w a is = subst (λ (r : Result (List Event) ℕ). Goes line r w w a a status.CommandLine) (sym is) (keeps_itself a, refl)
+bad_line_of read bad line w a is = subst (λ (r : Result (List ScriptLine) ℕ). Goes line r w w a a status.CommandLine) (sym is) (keeps_itself a, refl)
 
-pub not_read : (f : ScriptFault) (read : Result (List Event) ℕ) (line : ℕ) (w : WorldView) (a : Option (List ℕ)) (end : Status) → IsNotRead f read
+pub not_read : (f : ScriptFault) (read : Result (List ScriptLine) ℕ) (line : ℕ) (w : WorldView) (a : Option (List ℕ)) (end : Status) → IsNotRead f read
     → end ≡ status_for f → Goes line read w w a a end
 not_read (fault.Line number) read line w a end bad is = subst (Goes line read w w a a) (sym is) (bad_line_of read number line w a bad)
 not_read fault.NoMemory read line w a end bad is = subst (Goes line read w w a a) (sym is) (starved_of read line w a)
 
 -- ---- in the network that a first line sets
 
-reports : (s : Setting) (events : Result (List Event) ℕ) (last : WorldView) (a b : Option (List ℕ)) (end : Status)
-    → Goes 2 events (world_set s) last a b end → Reports (with_setting (Some s) events) a b end
-reports s (Ok events) last a b status.Done goes = (last, goes)
-reports s (Ok events) last a b status.Faulty goes = (last, goes)
-reports s (Ok events) last a b status.CommandLine goes = absurd goes
-reports s (Ok events) last a b status.Output goes = tt
-reports s (Ok events) last a b status.Memory goes = tt
-reports s (Err bad) last a b status.Done goes = absurd goes
-reports s (Err bad) last a b status.Faulty goes = absurd goes
-reports s (Err bad) last a b status.CommandLine goes = goes.0
-reports s (Err bad) last a b status.Output goes = absurd goes
-reports s (Err bad) last a b status.Memory goes = goes.0
+reports : (number : ℕ) (s : Setting) (lines : Result (List ScriptLine) ℕ) (last : WorldView) (a b : Option (List ℕ)) (end : Status)
+    → Goes (number + 1) lines (world_set s) last a b end → Reports (with_setting number (Some s) lines) a b end
+reports number s (Ok lines) last a b status.Done goes = (last, goes)
+reports number s (Ok lines) last a b status.Faulty goes = (last, goes)
+reports number s (Ok lines) last a b status.CommandLine goes = absurd goes
+reports number s (Ok lines) last a b status.Output goes = tt
+reports number s (Ok lines) last a b status.Memory goes = tt
+reports number s (Err bad) last a b status.Done goes = absurd goes
+reports number s (Err bad) last a b status.Faulty goes = absurd goes
+reports number s (Err bad) last a b status.CommandLine goes = goes.0
+reports number s (Err bad) last a b status.Output goes = absurd goes
+reports number s (Err bad) last a b status.Memory goes = goes.0
 
-pub reported : (s : Setting) (lines : List (List ℕ)) (first last : WorldView) (a b : Option (List ℕ)) (end : Status) → first ≡ world_set s
-    → Goes 2 (events_from (limits_in first.world.nodes) 2 lines) first last a b end
-    → Reports (with_setting (Some s) (events_from (λ node. most_limits) 2 lines)) a b end
-reported s lines first last a b end is goes =
-    let set = subst (λ (w : WorldView). Goes 2 (events_from (limits_in w.world.nodes) 2 lines) w last a b end) is goes in
-    reports s (events_from (λ node. most_limits) 2 lines) last a b end
-    (subst (λ (r : Result (List Event) ℕ). Goes 2 r (world_set s) last a b end) (events_of_houses s.window 0 s.nodes 2 lines) set)
+pub reported : (notes : Bool) (number : ℕ) (s : Setting) (lines : List (List ℕ)) (first last : WorldView) (a b : Option (List ℕ)) (end : Status)
+    → first ≡ world_set s → Goes (number + 1) (said_from notes (limits_in first.world.nodes) (number + 1) lines) first last a b end
+    → Reports (with_setting number (Some s) (said_from notes (λ node. most_limits) (number + 1) lines)) a b end
+reported notes number s lines first last a b end is goes =
+    let n = number + 1 in
+    let set = subst (λ (w : WorldView). Goes n (said_from notes (limits_in w.world.nodes) n lines) w last a b end) is goes in
+    reports number s (said_from notes (λ node. most_limits) n lines) last a b end
+    (subst (λ (r : Result (List ScriptLine) ℕ). Goes n r (world_set s) last a b end) (events_of_houses notes s.window 0 s.nodes n lines) set)
 
 -- ---- octets that are no script, and memory that was refused
 
@@ -109,11 +109,12 @@ no_script fault.NoMemory read a end bad is = starved read a end is
 
 -- ---- inputs
 
-pub taken : (input : Option (List ℕ)) (held text : List ℕ) (a b : Option (List ℕ)) (end : Status) → text ≡ held → IfSome input (λ octets. held ≡ octets)
-    → Reports (script_of (lines_of text)) a b end → Simulates input a b end
-taken None held text a b end same is reports = tt
-taken (Some octets) held text a b end same is reports = inl (subst (λ (t : List ℕ). Reports (script_of (lines_of t)) a b end) (same ∙ is) reports)
+pub taken : (notes : Bool) (input : Option (List ℕ)) (held text : List ℕ) (a b : Option (List ℕ)) (end : Status) → text ≡ held
+    → IfSome input (λ octets. held ≡ octets) → Reports (script_of notes (lines_of text)) a b end → SimulatesAs notes input a b end
+taken notes None held text a b end same is reports = tt
+taken notes (Some octets) held text a b end same is reports =
+    inl (subst (λ (t : List ℕ). Reports (script_of notes (lines_of t)) a b end) (same ∙ is) reports)
 
-pub not_taken : (input a : Option (List ℕ)) (end : Status) → IsUnread end → Simulates input a a end
-not_taken None a end unread = tt
-not_taken (Some octets) a end unread = inr (keeps_itself a, unread)
+pub not_taken : (notes : Bool) (input a : Option (List ℕ)) (end : Status) → IsUnread end → SimulatesAs notes input a a end
+not_taken notes None a end unread = tt
+not_taken notes (Some octets) a end unread = inr (keeps_itself a, unread)

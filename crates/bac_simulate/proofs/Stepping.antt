@@ -1,5 +1,5 @@
 -- Events, one after the other, and what is told of them.
-use Rattle.std.proofs.Common.{◌≡◌, ◌↔◌, ℕ, ◌+◌, true, false, Bool, List, ◌∷◌, ◌++◌, length, map, drop, Option, Some, None, Result, Err, IsErrOf, inl, inr}
+use Rattle.std.proofs.Common.{◌≡◌, ◌↔◌, ℕ, ◌+◌, ◌<◌, ◌≤◌, true, false, Bool, List, [], ◌∷◌, ◌++◌, length, map, drop, Option, Some, None, Result, Err, IsErrOf, inl, inr}
 use Rattle.std.proofs.Common.{refl, sym, ap, subst, ◌∙◌, slice_get}
 use Rattle.std.specs.Io.KnownBytes.{Appends}
 use Rattle.bac_requester.specs.declared.ask_fault.AskFault.{AskFault}
@@ -10,22 +10,23 @@ use Rattle.bac_network.specs.Histories.{WorldView}
 use Rattle.bac_store.specs.AtNode.{change_fault_number}
 use Rattle.bac_store.specs.declared.change_fault.ChangeFault.{ChangeFault}
 use Rattle.bac_network.specs.Steps.{NamesNoCopy, NamesNoNode, PassesClock, RefusesChange, TakesMemory, Tells}
-use Rattle.bac_network.specs.Views.{event_view}
 use Rattle.bac_network.proofs.Running.{fault_is}
-use Rattle.bac_network.specs.declared.event.Event as event
+use Rattle.bac_simulate.specs.declared.script.ScriptLine as code
+use Rattle.bac_simulate.specs.Scripts.{ScriptLine, Happens, Lost, Note}
+use Rattle.bac_simulate.specs.Views.{line_view}
 use Rattle.bac_network.specs.declared.fault.WorldFault.{WorldFault}
 use Rattle.bac_network.specs.declared.fault.WorldFault.TheVariants as fault
 use Rattle.bac_commands.specs.Facts.{fault_line, refused_line}
 use Rattle.bac_text.specs.Texts.{AppendsText}
-use Rattle.bac_simulate.specs.Told.{outcome_text}
+use Rattle.bac_simulate.specs.Told.{lost_line, outcome_text}
 use Rattle.bac_simulate.specs.Runs.{IsStep, IsRun, Passed, change_fault_in}
-use Rattle.bac_simulate.proofs.Appending.{drop_seen, joined}
+use Rattle.bac_simulate.proofs.Appending.{drop_seen, joined, nothing_more}
 
 -- ---- one event
 
 pub happened : (line : ℕ) (e : world.Event) (told : Option AskFault) (old new : WorldView) (facts copies : ℕ) (a b : Option (List ℕ))
     → facts ≡ length old.world.log → copies ≡ length old.world.copies → WorldStep old.overtake old.world e new.world → Tells told old.world e new.world
-    → new.overtake ≡ old.overtake → Appends a b (outcome_text told facts copies new.world) → AppendsText a b (IsStep line true e old new)
+    → new.overtake ≡ old.overtake → Appends a b (outcome_text told facts copies new.world) → AppendsText a b (IsStep line true (Happens e) old new)
 happened line e told old new facts copies a b fs cs went tells same printed = (
   outcome_text told facts copies new.world,
   (
@@ -49,7 +50,7 @@ pub stopped : (line : ℕ) (e : world.Event) (f : WorldFault) (old new : WorldVi
     → (IsErrOf (the_err f) fault.ClockEnd ↔ PassesClock old.world e)
     → ((why : ChangeFault) → (IsErrOf (the_err f) (fault.BadChange why) ↔ RefusesChange old.world e why))
     → (IsErrOf (the_err f) fault.NoMemory → TakesMemory old.overtake old.world e)
-    → new ≡ old → number ≡ fault_number f → Appends a b (fault_line line number) → AppendsText a b (IsStep line false e old new)
+    → new ≡ old → number ≡ fault_number f → Appends a b (fault_line line number) → AppendsText a b (IsStep line false (Happens e) old new)
 stopped line e f old new number a b ends node copy clock change memory same is printed = (
   fault_line line number,
   (
@@ -74,47 +75,61 @@ bad_change fault.NoMemory why e = absurd cc
 pub turned_down : (line : ℕ) (e : world.Event) (f : WorldFault) (why : ChangeFault) (old new : WorldView) (number : ℕ) (a b : Option (List ℕ))
     → change_fault_in f ≡ Some why
     → ((w : ChangeFault) → (IsErrOf (the_err f) (fault.BadChange w) ↔ RefusesChange old.world e w))
-    → new ≡ old → number ≡ change_fault_number why → Appends a b (refused_line number) → AppendsText a b (IsStep line true e old new)
+    → new ≡ old → number ≡ change_fault_number why → Appends a b (refused_line number) → AppendsText a b (IsStep line true (Happens e) old new)
 turned_down line e f why old new number a b bad change same is printed = (
   refused_line number,
   (inr (record { fault = why; why = (change why).0 (bad_change f why bad); same = same; is = ap refused_line is }), printed),
 )
 
--- ---- one event more
+-- ---- a copy that counts as lost
 
-more_true : (line : ℕ) (e : world.Event) (events : List world.Event) (old mid new : WorldView) (first rest : List ℕ) → Passed e old mid first
-    → IsRun (line + 1) events true mid new rest → IsRun line (e ∷ events) true old new (first ++ rest)
-more_true line e events old mid new first rest h r = (mid, first, rest, h, r, refl)
+pub counted_lost : (line copy : ℕ) (w : WorldView) (a b : Option (List ℕ)) → copy < length w.world.copies → Appends a b (lost_line copy)
+    → AppendsText a b (IsStep line true (Lost copy) w w)
+counted_lost line copy w a b sent printed = (lost_line copy, (record { sent = sent; same = refl; is = refl }, printed))
 
-more_false : (line : ℕ) (e : world.Event) (events : List world.Event) (old mid new : WorldView) (first rest : List ℕ) → Passed e old mid first
-    → IsRun (line + 1) events false mid new rest → IsRun line (e ∷ events) false old new (first ++ rest)
-more_false line e events old mid new first rest h r = inr (mid, first, rest, h, r, refl)
+pub not_sent : (line copy : ℕ) (w : WorldView) (number : ℕ) (a b : Option (List ℕ)) → length w.world.copies ≤ copy → number ≡ fault_number fault.NoSuchDatagram
+    → Appends a b (fault_line line number) → AppendsText a b (IsStep line false (Lost copy) w w)
+not_sent line copy w number a b none is printed =
+    (fault_line line number, (record { none = none; same = refl; is = ap (λ (n : ℕ). fault_line line n) is }, printed))
 
-more : (all : Bool) (line : ℕ) (e : world.Event) (events : List world.Event) (old mid new : WorldView) (first rest : List ℕ) → Passed e old mid first
-    → IsRun (line + 1) events all mid new rest → IsRun line (e ∷ events) all old new (first ++ rest)
-more true line e events old mid new first rest h r = more_true line e events old mid new first rest h r
-more false line e events old mid new first rest h r = more_false line e events old mid new first rest h r
+pub noted : (line : ℕ) (w : WorldView) (a : Option (List ℕ)) → AppendsText a a (IsStep line true Note w w)
+noted line w a = ([], ((refl, refl), nothing_more a))
 
-pub goes_on : (all : Bool) (line : ℕ) (events : List event.Event) (i : ℕ) (e : event.Event) → slice_get events i ≡ Some e
-    → (old mid new : WorldView) (a b c : Option (List ℕ)) → (went : Bool) → went ≡ true → AppendsText a b (IsStep line went (event_view e) old mid)
-    → (next : ℕ) → next ≡ line + 1 → AppendsText b c (IsRun next (drop (i + 1) (map event_view events)) all mid new)
-    → AppendsText a c (IsRun line (drop i (map event_view events)) all old new)
-goes_on all line events i e at old mid new a b c went is stepped next on ran =
-    let step = subst (λ (w : Bool). AppendsText a b (IsStep line w (event_view e) old mid)) is stepped in
-    let rest = subst (λ (n : ℕ). AppendsText b c (IsRun n (drop (i + 1) (map event_view events)) all mid new)) on ran in (
+-- ---- one line more
+
+more_true : (line : ℕ) (e : ScriptLine) (lines : List ScriptLine) (old mid new : WorldView) (first rest : List ℕ) → Passed e old mid first
+    → IsRun (line + 1) lines true mid new rest → IsRun line (e ∷ lines) true old new (first ++ rest)
+more_true line e lines old mid new first rest h r = (mid, first, rest, h, r, refl)
+
+more_false : (line : ℕ) (e : ScriptLine) (lines : List ScriptLine) (old mid new : WorldView) (first rest : List ℕ) → Passed e old mid first
+    → IsRun (line + 1) lines false mid new rest → IsRun line (e ∷ lines) false old new (first ++ rest)
+more_false line e lines old mid new first rest h r = inr (mid, first, rest, h, r, refl)
+
+more : (all : Bool) (line : ℕ) (e : ScriptLine) (lines : List ScriptLine) (old mid new : WorldView) (first rest : List ℕ) → Passed e old mid first
+    → IsRun (line + 1) lines all mid new rest → IsRun line (e ∷ lines) all old new (first ++ rest)
+more true line e lines old mid new first rest h r = more_true line e lines old mid new first rest h r
+more false line e lines old mid new first rest h r = more_false line e lines old mid new first rest h r
+
+pub goes_on : (all : Bool) (line : ℕ) (lines : List code.ScriptLine) (i : ℕ) (e : code.ScriptLine) → slice_get lines i ≡ Some e
+    → (old mid new : WorldView) (a b c : Option (List ℕ)) → (went : Bool) → went ≡ true → AppendsText a b (IsStep line went (line_view e) old mid)
+    → (next : ℕ) → next ≡ line + 1 → AppendsText b c (IsRun next (drop (i + 1) (map line_view lines)) all mid new)
+    → AppendsText a c (IsRun line (drop i (map line_view lines)) all old new)
+goes_on all line lines i e at old mid new a b c went is stepped next on ran =
+    let step = subst (λ (w : Bool). AppendsText a b (IsStep line w (line_view e) old mid)) is stepped in
+    let rest = subst (λ (n : ℕ). AppendsText b c (IsRun n (drop (i + 1) (map line_view lines)) all mid new)) on ran in (
       step.0 ++ rest.0,
       (
-        subst (λ (l : List world.Event). IsRun line l all old new (step.0 ++ rest.0)) (sym (drop_seen event_view events i e at))
-            (more all line (event_view e) (drop (i + 1) (map event_view events)) old mid new step.0 rest.0 step.1.0 rest.1.0),
+        subst (λ (l : List ScriptLine). IsRun line l all old new (step.0 ++ rest.0)) (sym (drop_seen line_view lines i e at))
+            (more all line (line_view e) (drop (i + 1) (map line_view lines)) old mid new step.0 rest.0 step.1.0 rest.1.0),
         joined a b c step.0 rest.0 step.1.1 rest.1.1,
       ),
     )
 
-pub stops : (line : ℕ) (events : List event.Event) (i : ℕ) (e : event.Event) → slice_get events i ≡ Some e → (old new : WorldView) (a b : Option (List ℕ))
-    → (went : Bool) → went ≡ false → AppendsText a b (IsStep line went (event_view e) old new)
-    → AppendsText a b (IsRun line (drop i (map event_view events)) false old new)
-stops line events i e at old new a b went is stepped =
-    let step = subst (λ (w : Bool). AppendsText a b (IsStep line w (event_view e) old new)) is stepped in (
+pub stops : (line : ℕ) (lines : List code.ScriptLine) (i : ℕ) (e : code.ScriptLine) → slice_get lines i ≡ Some e → (old new : WorldView)
+    (a b : Option (List ℕ)) → (went : Bool) → went ≡ false → AppendsText a b (IsStep line went (line_view e) old new)
+    → AppendsText a b (IsRun line (drop i (map line_view lines)) false old new)
+stops line lines i e at old new a b went is stepped =
+    let step = subst (λ (w : Bool). AppendsText a b (IsStep line w (line_view e) old new)) is stepped in (
       step.0,
-      (subst (λ (l : List world.Event). IsRun line l false old new step.0) (sym (drop_seen event_view events i e at)) (inl step.1.0), step.1.1),
+      (subst (λ (l : List ScriptLine). IsRun line l false old new step.0) (sym (drop_seen line_view lines i e at)) (inl step.1.0), step.1.1),
     )

@@ -2,3 +2,4 @@ pub mod Houses
 pub mod Runs
 pub mod Scripts
 pub mod Told
+pub mod Views

@@ -1,5 +1,5 @@
 -- What is printed of a script's events, one after the other, and the status.
-use Rattle.std.specs.Prelude.{◌≡◌, ◌⊎◌, ℕ, ◌+◌, Bool, true, false, List, [], ◌∷◌, ◌++◌, length, ⊤, Option, Some, None, Result, Ok, Err}
+use Rattle.std.specs.Prelude.{◌≡◌, ◌<◌, ◌≤◌, ◌⊎◌, ℕ, ◌+◌, Bool, true, false, List, [], ◌∷◌, ◌++◌, length, ⊤, Option, Some, None, Result, Ok, Err}
 use Rattle.std.specs.Io.KnownBytes.{Keeps}
 use Rattle.bac_requester.specs.declared.ask_fault.AskFault.{AskFault}
 use Rattle.bac_world.specs.World.{Event, WorldStep}
@@ -17,8 +17,8 @@ use Rattle.bac_text.specs.Texts.{AppendsText}
 use Rattle.bac_text.specs.declared.status.Status.{Status}
 use Rattle.bac_text.specs.declared.status.Status.TheVariants as status
 use Rattle.bac_simulate.specs.Houses.{world_set}
-use Rattle.bac_simulate.specs.Scripts.{Script, events_from, limits_in, script_of}
-use Rattle.bac_simulate.specs.Told.{outcome_text}
+use Rattle.bac_simulate.specs.Scripts.{Script, ScriptLine, Happens, Lost, Note, limits_in, said_from, script_of}
+use Rattle.bac_simulate.specs.Told.{lost_line, outcome_text}
 use Rattle.bac_simulate.specs.declared.script.ScriptFault.{ScriptFault}
 use Rattle.bac_simulate.specs.declared.script.ScriptFault.TheVariants as fault
 
@@ -39,9 +39,17 @@ pub record TurnedDown (event : Event) (old new : WorldView) (text : List ℕ) : 
   pub same : new ≡ old
   pub is : text ≡ refused_line (change_fault_number fault)
 
--- the script goes on after the event
-abbrev pub Passed : Event → (old new : WorldView) → (text : List ℕ) → Type 0
-Passed event old new text = Happened event old new text ⊎ TurnedDown event old new text
+-- a copy that was sent counts as lost: that is told, and nothing changed
+pub record CountedLost (copy : ℕ) (old new : WorldView) (text : List ℕ) : Type 0 where
+  pub sent : copy < length old.world.copies
+  pub same : new ≡ old
+  pub is : text ≡ lost_line copy
+
+-- the script goes on after the line
+abbrev pub Passed : ScriptLine → (old new : WorldView) → (text : List ℕ) → Type 0
+Passed (Happens event) old new text = Happened event old new text ⊎ TurnedDown event old new text
+Passed (Lost copy) old new text = CountedLost copy old new text
+Passed Note old new text = (new ≡ old) × (text ≡ [])
 
 -- the fault of a change; any other ends a script
 abbrev pub change_fault_in : WorldFault → Option ChangeFault
@@ -52,32 +60,44 @@ change_fault_in (world_fault.BadChange why) = Some why
 change_fault_in world_fault.NoMemory = None
 
 -- the event of that line did not happen, nothing changed, and the number of the fault is told
-pub record Stopped (line : ℕ) (event : Event) (old new : WorldView) (text : List ℕ) : Type 0 where
+pub record Failed (line : ℕ) (event : Event) (old new : WorldView) (text : List ℕ) : Type 0 where
   pub fault : WorldFault
   pub ends : change_fault_in fault ≡ None
   pub why : IsFault fault old.overtake old.world event
   pub same : new ≡ old
   pub is : text ≡ fault_line line (fault_number fault)
 
-abbrev pub IsStep : (line : ℕ) → (happened : Bool) → Event → (old new : WorldView) → (text : List ℕ) → Type 0
-IsStep line true event old new text = Passed event old new text
-IsStep line false event old new text = Stopped line event old new text
+-- there is no such copy that could count as lost
+pub record NotSent (line copy : ℕ) (old new : WorldView) (text : List ℕ) : Type 0 where
+  pub none : length old.world.copies ≤ copy
+  pub same : new ≡ old
+  pub is : text ≡ fault_line line (fault_number world_fault.NoSuchDatagram)
 
--- the events, the first of which stands in that line, came one after the other, all of them or up to the first that did not happen; and that was told
-abbrev pub IsRun : (line : ℕ) → List Event → (all : Bool) → (old new : WorldView) → (text : List ℕ) → Type 0
+-- the script ends at that line
+abbrev pub Stopped : (line : ℕ) → ScriptLine → (old new : WorldView) → (text : List ℕ) → Type 0
+Stopped line (Happens event) old new text = Failed line event old new text
+Stopped line (Lost copy) old new text = NotSent line copy old new text
+Stopped line Note old new text = ⊥
+
+abbrev pub IsStep : (line : ℕ) → (passed : Bool) → ScriptLine → (old new : WorldView) → (text : List ℕ) → Type 0
+IsStep line true said old new text = Passed said old new text
+IsStep line false said old new text = Stopped line said old new text
+
+-- what lines say, of which the first has that number, came one after the other, all of it or up to the first that could not; and that was told
+abbrev pub IsRun : (line : ℕ) → List ScriptLine → (all : Bool) → (old new : WorldView) → (text : List ℕ) → Type 0
 IsRun line [] true old new text = (new ≡ old) × (text ≡ [])
 IsRun line [] false old new text = ⊥
-IsRun line (e ∷ events) true old new text = (mid : WorldView) × (first : List ℕ) × (rest : List ℕ) × Passed e old mid first
-    × IsRun (line + 1) events true mid new rest × (text ≡ first ++ rest)
-IsRun line (e ∷ events) false old new text = Stopped line e old new text
-    ⊎ ((mid : WorldView) × (first : List ℕ) × (rest : List ℕ) × Passed e old mid first
-    × IsRun (line + 1) events false mid new rest × (text ≡ first ++ rest))
+IsRun line (said ∷ lines) true old new text = (mid : WorldView) × (first : List ℕ) × (rest : List ℕ) × Passed said old mid first
+    × IsRun (line + 1) lines true mid new rest × (text ≡ first ++ rest)
+IsRun line (said ∷ lines) false old new text = Stopped line said old new text
+    ⊎ ((mid : WorldView) × (first : List ℕ) × (rest : List ℕ) × Passed said old mid first
+    × IsRun (line + 1) lines false mid new rest × (text ≡ first ++ rest))
 
 -- ---- scripts
 
--- the events of a script happened in the network that it sets, from its second line on, and that was printed
+-- the events of a script happened in the network that it sets, and that was printed
 abbrev pub Ran : Script → (all : Bool) → (old new : Option (List ℕ)) → Type 0
-Ran s all old new = (last : WorldView) × AppendsText old new (IsRun 2 s.events all (world_set s.setting) last)
+Ran s all old new = (last : WorldView) × AppendsText old new (IsRun s.first s.lines all (world_set s.setting) last)
 
 abbrev pub status_of : (all : Bool) → Status
 status_of true = status.Done
@@ -108,12 +128,12 @@ Reports (Err bad) old new status.Output = ⊥
 Reports (Err bad) old new status.Memory = Keeps old new
 
 -- what came of the events of some lines, the first of which has that number, in a world that was handed in, by the status: where a line is bad, nothing
-abbrev pub Goes : (line : ℕ) → Result (List Event) ℕ → (first last : WorldView) → (old new : Option (List ℕ)) → Status → Type 0
-Goes line (Ok events) first last old new status.Done = AppendsText old new (IsRun line events true first last)
-Goes line (Ok events) first last old new status.Faulty = AppendsText old new (IsRun line events false first last)
-Goes line (Ok events) first last old new status.CommandLine = ⊥
-Goes line (Ok events) first last old new status.Output = ⊤
-Goes line (Ok events) first last old new status.Memory = ⊤
+abbrev pub Goes : (line : ℕ) → Result (List ScriptLine) ℕ → (first last : WorldView) → (old new : Option (List ℕ)) → Status → Type 0
+Goes line (Ok lines) first last old new status.Done = AppendsText old new (IsRun line lines true first last)
+Goes line (Ok lines) first last old new status.Faulty = AppendsText old new (IsRun line lines false first last)
+Goes line (Ok lines) first last old new status.CommandLine = ⊥
+Goes line (Ok lines) first last old new status.Output = ⊤
+Goes line (Ok lines) first last old new status.Memory = ⊤
 Goes line (Err bad) first last old new status.Done = ⊥
 Goes line (Err bad) first last old new status.Faulty = ⊥
 Goes line (Err bad) first last old new status.CommandLine = Keeps old new × (last ≡ first)
@@ -122,7 +142,7 @@ Goes line (Err bad) first last old new status.Memory = Keeps old new × (last �
 
 -- of the octets of lines that are counted from 1
 abbrev pub SimulatesIn : (text : List ℕ) → (first last : WorldView) → (old new : Option (List ℕ)) → Status → Type 0
-SimulatesIn text first last old new end = Goes 1 (events_from (limits_in first.world.nodes) 1 (lines_of text)) first last old new end
+SimulatesIn text first last old new end = Goes 1 (said_from false (limits_in first.world.nodes) 1 (lines_of text)) first last old new end
 
 -- the input could not be read
 abbrev pub IsUnread : Status → Type 0
@@ -133,6 +153,10 @@ IsUnread status.Output = ⊥
 IsUnread status.Memory = ⊤
 
 -- where the octets of the input are known: what its script reports, or that it could not be read, and nothing was printed
+abbrev pub SimulatesAs : (notes : Bool) → (input : Option (List ℕ)) → (old new : Option (List ℕ)) → Status → Type 0
+SimulatesAs notes None old new end = ⊤
+SimulatesAs notes (Some text) old new end = Reports (script_of notes (lines_of text)) old new end ⊎ (Keeps old new × IsUnread end)
+
+-- each line is one of the script
 abbrev pub Simulates : (input : Option (List ℕ)) → (old new : Option (List ℕ)) → Status → Type 0
-Simulates None old new end = ⊤
-Simulates (Some text) old new end = Reports (script_of (lines_of text)) old new end ⊎ (Keeps old new × IsUnread end)
+Simulates input old new end = SimulatesAs false input old new end

@@ -1,9 +1,10 @@
--- A script as a whole: what its first line sets, and the events of the lines after it.
-use Rattle.std.specs.Prelude.{◌≡◌, ◌≤◌, ℕ, ◌+◌, ◌*◌, true, List, [], ◌∷◌, ⊤, Option, Some, None, Result, Ok, Err, slice_get}
+-- A script as a whole: what its first line sets, and what the lines after it say.
+use Rattle.std.specs.Prelude.{◌≡◌, ◌≤◌, ℕ, ◌+◌, ◌*◌, Bool, List, [], ◌∷◌, ⊤, Option, Some, None, Result, Ok, Err, slice_get}
 use Rattle.std.specs.Option.{option_map}
 use Rattle.bac_apdu.specs.Apdu.{Limits}
 use Rattle.bac_script.specs.Lines as line
 use Rattle.bac_script.specs.Lines.{setting_at, step_at}
+use Rattle.bac_text.specs.Notes.{read_of}
 use Rattle.bac_script.specs.declared.form_fault.FormFault.{FormFault}
 use Rattle.bac_script.specs.declared.form_fault.FormFault.TheVariants as form_fault
 use Rattle.bac_world.specs.Node.{Node}
@@ -12,9 +13,17 @@ use Rattle.bac_world.specs.World as world
 use Rattle.bac_simulate.specs.declared.script.ScriptFault.{ScriptFault}
 use Rattle.bac_simulate.specs.declared.script.ScriptFault.TheVariants as fault
 
+-- what a line says: an event is to happen; a copy counts as lost, which is a note of the script alone; or it is a note for people
+pub data ScriptLine : Type 0 where
+  Happens : world.Event → ScriptLine
+  Lost : (copy : ℕ) → ScriptLine
+  Note : ScriptLine
+
+-- `first` is the number of the first of those lines
 pub record Script : Type 0 where
   pub setting : line.Setting
-  pub events : List world.Event
+  pub first : ℕ
+  pub lines : List ScriptLine
 
 -- APDUs of 1,476 octets, and any number of segments, by their codes (clause 20.1.2)
 abbrev pub most_limits : Limits
@@ -37,39 +46,56 @@ limits_of (Some n) = n.settings.limits
 abbrev pub limits_in : List Node → NodeLimits
 limits_in nodes node = limits_of (slice_get nodes node)
 
--- what a line says is to happen; an ask goes by what the server takes
-abbrev pub event_of : NodeLimits → line.Step → world.Event
-event_of limits (line.Step.Ask client server request) = world.Event.Ask client server (limits server) request
-event_of limits (line.Step.Deliver copy) = world.Event.Deliver copy
-event_of limits (line.Step.Noise node octets) = world.Event.Noise node nowhere octets
-event_of limits (line.Step.Tick node) = world.Event.Tick node
-event_of limits (line.Step.Advance by) = world.Event.Advance by
-event_of limits (line.Step.SetProperty node object property octets) = world.Event.Change node (at_node.Change.Value object property octets)
-event_of limits (line.Step.SetFile node object octets) = world.Event.Change node (at_node.Change.File object octets)
+-- what a step says; an ask goes by what the server takes
+abbrev pub said_by : NodeLimits → line.Step → ScriptLine
+said_by limits (line.Step.Ask client server request) = Happens (world.Event.Ask client server (limits server) request)
+said_by limits (line.Step.Deliver copy) = Happens (world.Event.Deliver copy)
+said_by limits (line.Step.Lose copy) = Lost copy
+said_by limits (line.Step.Noise node octets) = Happens (world.Event.Noise node nowhere octets)
+said_by limits (line.Step.Tick node) = Happens (world.Event.Tick node)
+said_by limits (line.Step.Advance by) = Happens (world.Event.Advance by)
+said_by limits (line.Step.SetProperty node object property octets) = Happens (world.Event.Change node (at_node.Change.Value object property octets))
+said_by limits (line.Step.SetFile node object octets) = Happens (world.Event.Change node (at_node.Change.File object octets))
 
-abbrev pub event_at : NodeLimits → (line : List ℕ) → Option world.Event
-event_at limits l = option_map (event_of limits) (step_at l)
+-- by what is to be read of a line
+abbrev pub said_in : NodeLimits → (read : Option (List ℕ)) → Option ScriptLine
+said_in limits None = Some Note
+said_in limits (Some l) = option_map (said_by limits) (step_at l)
 
--- an event before those of the lines that follow; or the number of its line, which is of no form
-abbrev pub before_others : Option world.Event → (number : ℕ) → Result (List world.Event) ℕ → Result (List world.Event) ℕ
+abbrev pub said_at : (notes : Bool) → NodeLimits → (line : List ℕ) → Option ScriptLine
+said_at notes limits l = said_in limits (read_of notes l)
+
+-- what a line says before what those say that follow; or the number of the line, which is of no form
+abbrev pub before_others : Option ScriptLine → (number : ℕ) → Result (List ScriptLine) ℕ → Result (List ScriptLine) ℕ
 before_others None number others = Err number
-before_others (Some event) number (Ok events) = Ok (event ∷ events)
-before_others (Some event) number (Err bad) = Err bad
+before_others (Some said) number (Ok lines) = Ok (said ∷ lines)
+before_others (Some said) number (Err bad) = Err bad
 
--- the events of lines of which the first has that number; or the number of the first line of no form
-abbrev pub events_from : NodeLimits → (number : ℕ) → List (List ℕ) → Result (List world.Event) ℕ
-events_from limits number [] = Ok []
-events_from limits number (l ∷ lines) = before_others (event_at limits l) number (events_from limits (number + 1) lines)
+-- what lines say of which the first has that number; or the number of the first line of no form
+abbrev pub said_from : (notes : Bool) → NodeLimits → (number : ℕ) → List (List ℕ) → Result (List ScriptLine) ℕ
+said_from notes limits number [] = Ok []
+said_from notes limits number (l ∷ lines) = before_others (said_at notes limits l) number (said_from notes limits (number + 1) lines)
 
-abbrev pub with_setting : Option line.Setting → Result (List world.Event) ℕ → Result Script ℕ
-with_setting None events = Err 1
-with_setting (Some setting) (Ok events) = Ok (record { setting = setting; events = events })
-with_setting (Some setting) (Err bad) = Err bad
+-- with what the line of that number sets
+abbrev pub with_setting : (number : ℕ) → Option line.Setting → Result (List ScriptLine) ℕ → Result Script ℕ
+with_setting number None lines = Err number
+with_setting number (Some setting) (Ok lines) = Ok (record { setting = setting; first = number + 1; lines = lines })
+with_setting number (Some setting) (Err bad) = Err bad
 
--- the script of some lines; or the number of the first line of no form, counted from 1
-abbrev pub script_of : List (List ℕ) → Result Script ℕ
-script_of [] = Err 1
-script_of (first ∷ lines) = with_setting (setting_at first) (events_from (λ node. most_limits) 2 lines)
+-- by what is to be read of the line of that number, and by the script of the lines behind it alone
+abbrev pub script_by : (number : ℕ) → (read : Option (List ℕ)) → (behind : Result (List ScriptLine) ℕ) → (others : Result Script ℕ) → Result Script ℕ
+script_by number None behind others = others
+script_by number (Some l) behind others = with_setting number (setting_at l) behind
+
+-- the script of lines of which the first has that number, behind any notes; or the number of the first line of no form
+abbrev pub script_from : (notes : Bool) → (number : ℕ) → List (List ℕ) → Result Script ℕ
+script_from notes number [] = Err number
+script_from notes number (l ∷ lines) =
+    script_by number (read_of notes l) (said_from notes (λ node. most_limits) (number + 1) lines) (script_from notes (number + 1) lines)
+
+-- lines are counted from 1
+abbrev pub script_of : (notes : Bool) → List (List ℕ) → Result Script ℕ
+script_of notes lines = script_from notes 1 lines
 
 -- ---- what calls answer that read them
 
@@ -84,10 +110,10 @@ Reads view (Ok x) wanted = wanted ≡ Ok (view x)
 Reads view (Err f) wanted = IsNotRead f wanted
 
 -- of the line with that number
-abbrev pub ReadsEvent : {A : Type 0} → (A → world.Event) → Result A ScriptFault → (number : ℕ) → (wanted : Option world.Event) → Type 0
-ReadsEvent view (Ok x) number wanted = wanted ≡ Some (view x)
-ReadsEvent view (Err (fault.Line bad)) number wanted = (wanted ≡ None) × (bad ≡ number)
-ReadsEvent view (Err fault.NoMemory) number wanted = ⊤
+abbrev pub ReadsAt : {A B : Type 0} → (A → B) → Result A ScriptFault → (number : ℕ) → (wanted : Option B) → Type 0
+ReadsAt view (Ok x) number wanted = wanted ≡ Some (view x)
+ReadsAt view (Err (fault.Line bad)) number wanted = (wanted ≡ None) × (bad ≡ number)
+ReadsAt view (Err fault.NoMemory) number wanted = ⊤
 
 abbrev pub fault_at : (number : ℕ) → FormFault → ScriptFault
 fault_at number form_fault.NoForm = fault.Line number

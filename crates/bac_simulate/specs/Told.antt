@@ -1,10 +1,11 @@
 -- What is told of an event in a network of nodes.
-use Rattle.std.specs.Prelude.{ℕ, ◌+◌, Bool, true, false, ◌&&◌, nat_eq, List, [], ◌∷◌, ◌++◌, length, drop, reverse, Option, Some, None, slice_get}
+use Rattle.std.specs.Prelude.{ℕ, codes, decimal, ◌+◌, Bool, true, false, ◌&&◌, nat_eq, List, [], ◌∷◌, ◌++◌, length, drop, reverse, Option, Some, None, slice_get}
 use Rattle.bac_requester.specs.Faults.{ask_fault_number}
 use Rattle.bac_requester.specs.declared.ask_fault.AskFault.{AskFault}
 use Rattle.bac_world.specs.Once.{Fact}
 use Rattle.bac_world.specs.Once.Fact.{Asked, Performed, Ended, Changed}
 use Rattle.bac_world.specs.World.{World, Copy, Note}
+use Rattle.bac_text.specs.Texts.{line_end}
 use Rattle.bac_commands.specs.Facts.{asked_line, changed_line, ended_line, nothing_line, performed_line, refused_line, sent_line}
 
 -- an accepted ask, by what is noted of it
@@ -36,6 +37,10 @@ is_as_before facts copies w = nat_eq (length w.log) facts && nat_eq (length w.co
 abbrev pub news_text : (as_before : Bool) → (facts copies : ℕ) → World → List ℕ
 news_text true facts copies w = nothing_line
 news_text false facts copies w = facts_text (reverse w.notes) (drop facts (reverse w.log)) ++ copies_text copies (drop copies w.copies)
+
+-- a copy that counts as lost
+abbrev pub lost_line : (copy : ℕ) → List ℕ
+lost_line copy = (codes "lost " ++ decimal copy) ++ line_end
 
 -- a refused ask, by the number of its fault; or what is new in a world that had so many facts and copies
 abbrev pub outcome_text : Option AskFault → (facts copies : ℕ) → World → List ℕ

@@ -6,4 +6,4 @@ mod simulate;
 mod telling;
 mod world_of;
 
-pub use simulate::{simulate_in, simulate_over};
+pub use simulate::{simulate_in, simulate_lines_over, simulate_over};

@@ -1,16 +1,30 @@
 //! A script, read from its octets.
 ghost use Rattle.std.specs.Prelude.{◌≡◌, ◌<◌, ◌≤◌, ◌+◌, ◌^◌, [], ◌∷◌, length, map, IfOk, MatchOption, MatchResult, Some};
 ghost use Rattle.std.specs.List.{position};
-ghost use Rattle.bac_network.specs.Views.{event_view};
+ghost use Rattle.bac_script.specs.Lines.{setting_at};
 ghost use Rattle.bac_script.specs.Views.{setting_view};
 ghost use Rattle.bac_text.specs.Lines.{is_line_end, lines_of};
-ghost use Rattle.bac_simulate.specs.Scripts.{IsModest, IsNotRead, Reads, ReadsEvent, event_at, events_from, fault_at, limits_in, most_limits, script_of, with_setting};
+ghost use Rattle.bac_simulate.specs.Scripts.{IsModest, IsNotRead, Reads, ReadsAt, fault_at, limits_in, most_limits, said_at, said_from, script_of};
+ghost use Rattle.bac_simulate.specs.Scripts.{with_setting};
+ghost use Rattle.bac_simulate.specs.Views.{line_view};
 
-use crate::world_of::event_of;
+use crate::world_of::said_by;
 use bac_network::{Event, World};
 use bac_script::{FormFault, Setting, read_setting, read_step};
+use bac_text::read_of;
 use bac_value::NoMemory;
 use std::alloc::Global;
+
+/// What a line of a script says.
+#[derive(Drop)]
+pub(crate) enum ScriptLine {
+    /// An event is to happen.
+    Happens(Event),
+    /// The copy of that number counts as lost: a note of the script alone.
+    Lost(u64),
+    /// It is a note for people.
+    Note,
+}
 
 /// Why octets are no script.
 #[derive(Clone, Copy, Debug, PartialEq, Eq)]
@@ -63,53 +77,98 @@ fn next_line(text: &[u8]) -> Option<(&[u8], &[u8])>
     }
 }
 
-/// What the line of that number says is to happen in a world.
-fn event_in(alloc: Global, world: &World, line: &[u8], number: u64) -> Result<Event, ScriptFault>
-    ensures { ReadsEvent event_view result number (event_at (limits_in world.now.world.nodes) line.now) }
+/// What the line of that number says in a world.
+fn said_in(
+    alloc: Global,
+    world: &World,
+    notes: bool,
+    line: &[u8],
+    number: u64,
+) -> Result<ScriptLine, ScriptFault>
+    ensures { ReadsAt line_view result number (said_at notes (limits_in world.now.world.nodes) line.now) }
 {
-    match read_step(alloc, line) {
-        Ok(step) => Ok(event_of(world, step)),
+    let Some(read) = read_of(notes, line) else {
+        return Ok(ScriptLine::Note);
+    };
+    match read_step(alloc, read) {
+        Ok(step) => Ok(said_by(world, step)),
         Err(fault) => Err(at_line(number, fault)),
     }
 }
 
-/// What lines say is to happen in a world, where so many lines stand before them.
-pub(crate) fn events_in(
+/// What lines say in a world, where so many lines stand before them.
+pub(crate) fn lines_in(
     alloc: Global,
     world: &World,
+    notes: bool,
     before: u64,
     text: &[u8],
-) -> Result<Vec<Event>, ScriptFault>
+) -> Result<Vec<ScriptLine>, ScriptFault>
     requires { before + length text.now < 2 ^ 64 }
-    ensures read { Reads (λ events. map event_view events.items) result
-        (events_from (limits_in world.now.world.nodes) (before + 1) (lines_of text.now)) }
-    ensures few { IfOk result (λ events. length events.items ≤ length text.now) }
+    ensures read { Reads (λ lines. map line_view lines.items) result
+        (said_from notes (limits_in world.now.world.nodes) (before + 1) (lines_of text.now)) }
+    ensures few { IfOk result (λ lines. length lines.items ≤ length text.now) }
 {
-    let mut events = Vec::new(alloc);
+    let mut lines = Vec::new(alloc);
     let mut rest = text;
     let mut number = before;
     while let Some((line, more)) = next_line(rest) {
         number += 1;
-        let event = event_in(alloc, world, line, number)?;
-        events.push(event).map_err(NoMemory::from)?;
+        let said = said_in(alloc, world, notes, line, number)?;
+        lines.push(said).map_err(NoMemory::from)?;
         rest = more;
     }
-    Ok(events)
+    Ok(lines)
 }
 
-/// What the first line of a script sets, and the lines after it.
-pub(crate) fn read_first(alloc: Global, text: &[u8]) -> Result<(Setting, &[u8]), ScriptFault>
-    ensures read { MatchResult result
-        (λ r. script_of (lines_of text.now) ≡ with_setting (Some (setting_view r.0)) (events_from (λ node. most_limits) 2 (lines_of r.1.now)))
-        (λ f. IsNotRead f (script_of (lines_of text.now))) }
-    ensures modest { IfOk result (λ r. IsModest (setting_view r.0)) }
-    ensures few { IfOk result (λ r. length r.1.now < length text.now) }
+/// What the first line of a script sets that is no note, its number, and the lines after it.
+#[derive(Drop)]
+pub(crate) struct FirstLine<'a> {
+    pub(crate) setting: Setting,
+    pub(crate) number: u64,
+    pub(crate) rest: &'a [u8],
+}
+
+/// What the line of that number sets.
+fn first_in(
+    alloc: Global,
+    line: &[u8],
+    number: u64,
+) -> Result<Setting, ScriptFault>
+    ensures { ReadsAt setting_view result number (setting_at line.now) }
 {
-    let Some((line, rest)) = next_line(text) else {
-        return Err(ScriptFault::Line(1));
-    };
     match read_setting(alloc, line) {
-        Ok(setting) => Ok((setting, rest)),
-        Err(fault) => Err(at_line(1, fault)),
+        Ok(setting) => Ok(setting),
+        Err(fault) => Err(at_line(number, fault)),
     }
+}
+
+/// What the first line of a script sets that is no note.
+pub(crate) fn read_first<'a>(
+    alloc: Global,
+    notes: bool,
+    text: &'a [u8],
+) -> Result<FirstLine<'a>, ScriptFault>
+    ensures read { MatchResult result
+        (λ r. script_of notes (lines_of text.now) ≡ with_setting r.number (Some (setting_view r.setting))
+            (said_from notes (λ node. most_limits) (r.number + 1) (lines_of r.rest.now)))
+        (λ f. IsNotRead f (script_of notes (lines_of text.now))) }
+    ensures modest { IfOk result (λ r. IsModest (setting_view r.setting)) }
+    ensures few { IfOk result (λ r. r.number + length r.rest.now ≤ length text.now) }
+{
+    let mut left = text;
+    let mut number = 1;
+    while let Some((line, rest)) = next_line(left) {
+        if let Some(read) = read_of(notes, line) {
+            let setting = first_in(alloc, read, number)?;
+            return Ok(FirstLine {
+                setting,
+                number,
+                rest,
+            });
+        }
+        left = rest;
+        number += 1;
+    }
+    Err(ScriptFault::Line(number))
 }

@@ -4,11 +4,12 @@ ghost use Rattle.bac_network.specs.Views.{event_view};
 ghost use Rattle.bac_script.specs.Views.{setting_view};
 ghost use Rattle.bac_text.specs.Lines.{lines_of};
 ghost use Rattle.bac_text.specs.Texts.{AppendsText};
-ghost use Rattle.bac_simulate.specs.Runs.{Goes, IsEnd, IsRun, IsStep, IsUnread, Reports, Simulates, SimulatesIn, change_fault_in, status_for, status_of};
-ghost use Rattle.bac_simulate.specs.Scripts.{IsModest, events_from, limits_in, most_limits, script_of, with_setting};
+ghost use Rattle.bac_simulate.specs.Runs.{Goes, IsEnd, IsRun, IsStep, IsUnread, Reports, Simulates, SimulatesAs, SimulatesIn, change_fault_in, status_for, status_of};
+ghost use Rattle.bac_simulate.specs.Scripts.{Happens, IsModest, Lost, limits_in, most_limits, said_from, script_of, with_setting};
+ghost use Rattle.bac_simulate.specs.Views.{line_view};
 
-use crate::script::{ScriptFault, events_in, read_first};
-use crate::telling::{Seen, print_outcome};
+use crate::script::{ScriptFault, ScriptLine, lines_in, read_first};
+use crate::telling::{Seen, print_lost, print_outcome};
 use crate::world_of::world_of;
 use bac_commands::{print_fault, print_refused};
 use bac_network::{Event, World, WorldFault};
@@ -35,7 +36,7 @@ fn change_fault_in(fault: WorldFault) -> Option<ChangeFault>
 
 /// One event, and what is printed of it; the number of the fault where it does not happen. Answers whether the script goes on: a change that the store refuses
 /// doesn't end it.
-fn step_and_print<W: Write>(
+fn event_and_print<W: Write>(
     alloc: Global,
     world: &mut World,
     line: u64,
@@ -43,7 +44,7 @@ fn step_and_print<W: Write>(
     out: &mut W,
 ) -> io::Result<bool>
     ensures { IfOk result (λ passed. AppendsText (W.contents out.old) (W.contents out.new)
-        (IsStep line passed (event_view event.now) world.old world.new)) }
+        (IsStep line passed (Happens (event_view event.now)) world.old world.new)) }
 {
     let before = Seen::of(world);
     let fault = match world.step(event) {
@@ -65,20 +66,52 @@ fn step_and_print<W: Write>(
     }
 }
 
-/// All events, up to the first that ends the script; so many lines stand before that of the first. Answers whether none did.
+/// That a copy counts as lost, or that there is none; nothing changes. Answers whether there is one.
+fn count_lost<W: Write>(world: &World, line: u64, copy: u64, out: &mut W) -> io::Result<bool>
+    ensures { IfOk result (λ passed. AppendsText (W.contents out.old) (W.contents out.new)
+        (IsStep line passed (Lost copy) world.now world.now)) }
+{
+    if copy < world.copies().len() as u64 {
+        print_lost(copy, out)?;
+        Ok(true)
+    } else {
+        print_fault(line, WorldFault::NoSuchDatagram.number(), out)?;
+        Ok(false)
+    }
+}
+
+/// What a line says comes, and what is printed of it. Answers whether the script goes on.
+fn step_and_print<W: Write>(
+    alloc: Global,
+    world: &mut World,
+    line: u64,
+    said: &ScriptLine,
+    out: &mut W,
+) -> io::Result<bool>
+    ensures { IfOk result (λ passed. AppendsText (W.contents out.old) (W.contents out.new)
+        (IsStep line passed (line_view said.now) world.old world.new)) }
+{
+    match said {
+        ScriptLine::Happens(event) => event_and_print(alloc, world, line, event, out),
+        ScriptLine::Lost(copy) => count_lost(world, line, *copy, out),
+        ScriptLine::Note => Ok(true),
+    }
+}
+
+/// What all lines say, up to the first that ends the script; so many lines stand before the first. Answers whether none did.
 fn run_and_print<W: Write>(
     alloc: Global,
     world: &mut World,
     before: u64,
-    events: &[Event],
+    lines: &[ScriptLine],
     out: &mut W,
 ) -> io::Result<bool>
-    requires { before + length events.now < 2 ^ 64 }
+    requires { before + length lines.now < 2 ^ 64 }
     ensures { IfOk result (λ all. AppendsText (W.contents out.old) (W.contents out.new)
-        (IsRun (before + 1) (map event_view events.now) all world.old world.new)) }
+        (IsRun (before + 1) (map line_view lines.now) all world.old world.new)) }
 {
-    for (place, event) in events.iter().enumerate() {
-        if !step_and_print(alloc, world, before + 1 + place as u64, event, out)? {
+    for (place, said) in lines.iter().enumerate() {
+        if !step_and_print(alloc, world, before + 1 + place as u64, said, out)? {
             return Ok(false);
         }
     }
@@ -104,19 +137,19 @@ fn ended<E: Write>(ran: io::Result<bool>, flushed: io::Result<()>, err: &mut E) 
     }
 }
 
-/// Runs events in a world, where so many lines stand before that of the first.
-fn run_events<O: Write, E: Write>(
+/// Runs what lines say in a world, where so many stand before them.
+fn run_said<O: Write, E: Write>(
     alloc: Global,
     world: &mut World,
     before: u64,
-    events: &[Event],
+    lines: &[ScriptLine],
     out: &mut O,
     err: &mut E,
 ) -> Status
-    requires { before + length events.now < 2 ^ 64 }
-    ensures { Goes (before + 1) (Ok (map event_view events.now)) world.old world.new (O.contents out.old) (O.contents out.new) result }
+    requires { before + length lines.now < 2 ^ 64 }
+    ensures { Goes (before + 1) (Ok (map line_view lines.now)) world.old world.new (O.contents out.old) (O.contents out.new) result }
 {
-    let ran = run_and_print(alloc, world, before, events, out);
+    let ran = run_and_print(alloc, world, before, lines, out);
     let flushed = out.flush();
     ended(ran, flushed, err)
 }
@@ -139,17 +172,18 @@ fn no_script<E: Write>(fault: ScriptFault, err: &mut E) -> Status
 fn run_lines<O: Write, E: Write>(
     alloc: Global,
     world: &mut World,
+    notes: bool,
     before: u64,
     text: &[u8],
     out: &mut O,
     err: &mut E,
 ) -> Status
     requires { before + length text.now < 2 ^ 64 }
-    ensures { Goes (before + 1) (events_from (limits_in world.old.world.nodes) (before + 1) (lines_of text.now)) world.old world.new
+    ensures { Goes (before + 1) (said_from notes (limits_in world.old.world.nodes) (before + 1) (lines_of text.now)) world.old world.new
         (O.contents out.old) (O.contents out.new) result }
 {
-    match events_in(alloc, world, before, text) {
-        Ok(events) => run_events(alloc, world, before, &events, out, err),
+    match lines_in(alloc, world, notes, before, text) {
+        Ok(lines) => run_said(alloc, world, before, &lines, out, err),
         Err(fault) => no_script(fault, err),
     }
 }
@@ -167,34 +201,42 @@ pub fn simulate_in<O: Write, E: Write>(
 ) -> Status
     ensures { SimulatesIn text.now world.old world.new (O.contents out.old) (O.contents out.new) result }
 {
-    run_lines(alloc, world, 0, text, out, err)
+    run_lines(alloc, world, false, 0, text, out, err)
 }
 
-/// Runs the lines after the first one in the network that this sets.
+/// Runs the lines after the one of that number in the network that this sets.
 fn run_set<O: Write, E: Write>(
     alloc: Global,
+    notes: bool,
     setting: &Setting,
+    number: u64,
     rest: &[u8],
     out: &mut O,
     err: &mut E,
 ) -> Status
     requires modest { IsModest (setting_view setting.now) }
-    requires few { 1 + length rest.now < 2 ^ 64 }
-    ensures { Reports (with_setting (Some (setting_view setting.now)) (events_from (λ node. most_limits) 2 (lines_of rest.now)))
+    requires few { number + length rest.now < 2 ^ 64 }
+    ensures { Reports (with_setting number (Some (setting_view setting.now)) (said_from notes (λ node. most_limits) (number + 1) (lines_of rest.now)))
         (O.contents out.old) (O.contents out.new) result }
 {
     match world_of(alloc, setting) {
-        Ok(mut world) => run_lines(alloc, &mut world, 1, rest, out, err),
+        Ok(mut world) => run_lines(alloc, &mut world, notes, number, rest, out, err),
         Err(NoMemory) => no_memory(err),
     }
 }
 
 /// Runs the script that these octets are; all its lines are read before the first event.
-fn simulate<O: Write, E: Write>(alloc: Global, text: &[u8], out: &mut O, err: &mut E) -> Status
-    ensures { Reports (script_of (lines_of text.now)) (O.contents out.old) (O.contents out.new) result }
+fn simulate<O: Write, E: Write>(
+    alloc: Global,
+    notes: bool,
+    text: &[u8],
+    out: &mut O,
+    err: &mut E,
+) -> Status
+    ensures { Reports (script_of notes (lines_of text.now)) (O.contents out.old) (O.contents out.new) result }
 {
-    match read_first(alloc, text) {
-        Ok((setting, rest)) => run_set(alloc, &setting, rest, out, err),
+    match read_first(alloc, notes, text) {
+        Ok(first) => run_set(alloc, notes, &first.setting, first.number, first.rest, out, err),
         Err(fault) => no_script(fault, err),
     }
 }
@@ -219,11 +261,27 @@ fn unread<E: Write>(error: &io::Error, err: &mut E) -> Status
 }
 
 /// Runs a script of events in a network of nodes, each with a house store of its own, and prints what comes of each event. All lines are read before the
-/// first event.
+/// first event. Where notes are taken, lines may end in a carriage return and a line feed, and blank lines and those that begin with `#` are passed over.
 ///
 /// An event that names no node or no copy, or that the clock or the memory has no room for, prints `line L: fault F` and ends the run with `Faulty`. A refused
 /// ask, and a change that a node's store refuses, print `refused F`, and the run goes on. A line of no form: `line L: not a script line` on `err`; an input
 /// that cannot be read: `cannot read`; out of memory outside an event: `no memory`. `Output` where `out` cannot be written.
+pub fn simulate_lines_over<R: Read, O: Write, E: Write>(
+    alloc: Global,
+    notes: bool,
+    input: &mut R,
+    out: &mut O,
+    err: &mut E,
+) -> Status
+    ensures { SimulatesAs notes (R.remaining input.old) (O.contents out.old) (O.contents out.new) result }
+{
+    match octets_of(alloc, input) {
+        Ok(text) => simulate(alloc, notes, &text, out, err),
+        Err(error) => unread(&error, err),
+    }
+}
+
+/// The same without notes: each line is one of the script.
 pub fn simulate_over<R: Read, O: Write, E: Write>(
     alloc: Global,
     input: &mut R,
@@ -232,8 +290,5 @@ pub fn simulate_over<R: Read, O: Write, E: Write>(
 ) -> Status
     ensures { Simulates (R.remaining input.old) (O.contents out.old) (O.contents out.new) result }
 {
-    match octets_of(alloc, input) {
-        Ok(text) => simulate(alloc, &text, out, err),
-        Err(error) => unread(&error, err),
-    }
+    simulate_lines_over(alloc, false, input, out, err)
 }

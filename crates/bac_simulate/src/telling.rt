@@ -5,7 +5,7 @@ ghost use Rattle.bac_journal.specs.Notes.{note_view};
 ghost use Rattle.bac_journal.specs.Views.{copy_view};
 ghost use Rattle.bac_network.specs.Views.{fact_view};
 ghost use Rattle.bac_commands.specs.Facts.{sent_line};
-ghost use Rattle.bac_simulate.specs.Told.{asked_text, copies_text, fact_text, facts_text, is_as_before, news_text, outcome_text};
+ghost use Rattle.bac_simulate.specs.Told.{asked_text, copies_text, fact_text, facts_text, is_as_before, lost_line, news_text, outcome_text};
 
 use bac_commands::{
     print_asked, print_changed, print_ended, print_nothing, print_performed, print_refused,
@@ -100,6 +100,13 @@ fn print_copies<W: Write>(
         print_copy(alloc, number, &copies[number], out)?;
     }
     Ok(())
+}
+
+/// Prints that a copy counts as lost.
+pub(crate) fn print_lost<W: Write>(copy: u64, out: &mut W) -> io::Result<()>
+    ensures { OnOk result (Appends (W.contents out.old) (W.contents out.new) (lost_line copy)) }
+{
+    writeln!(out, "lost {copy}")
 }
 
 fn is_as_before(world: &World, before: Seen) -> bool

@@ -7,8 +7,10 @@ ghost use Rattle.bac_world.specs.World.Event.{Change as Happening};
 ghost use Rattle.bac_network.specs.Views.{event_view};
 ghost use Rattle.bac_script.specs.Views.{setting_view, step_view};
 ghost use Rattle.bac_simulate.specs.Houses.{link_at, makers_from, world_set};
-ghost use Rattle.bac_simulate.specs.Scripts.{IsModest, event_of, limits_in};
+ghost use Rattle.bac_simulate.specs.Scripts.{IsModest, limits_in, said_by};
+ghost use Rattle.bac_simulate.specs.Views.{line_view};
 
+use crate::script::ScriptLine;
 use bac_apdu::Limits;
 use bac_network::{Event, NewWorldFault, World};
 use bac_node::Config;
@@ -112,30 +114,31 @@ fn file_change(set: SetFile) -> Event
     }
 }
 
-/// What a line says is to happen in a world: who asks knows what the other node takes.
-pub(crate) fn event_of(world: &World, step: Step) -> Event
-    ensures { event_view result ≡ event_of (limits_in world.now.world.nodes) (step_view step) }
+/// What a line says in a world: who asks knows what the other node takes.
+pub(crate) fn said_by(world: &World, step: Step) -> ScriptLine
+    ensures { line_view result ≡ said_by (limits_in world.now.world.nodes) (step_view step) }
 {
     match step {
-        Step::Ask(ask) => Event::Ask {
+        Step::Ask(ask) => ScriptLine::Happens(Event::Ask {
             client: ask.client as usize,
             server: ask.server as usize,
             limits: limits_of(world, ask.server as usize),
             request: ask.request,
-        },
-        Step::Deliver(number) => Event::Deliver {
+        }),
+        Step::Deliver(number) => ScriptLine::Happens(Event::Deliver {
             number: number as usize,
-        },
-        Step::Noise(noise) => Event::Noise {
+        }),
+        Step::Lose(number) => ScriptLine::Lost(number),
+        Step::Noise(noise) => ScriptLine::Happens(Event::Noise {
             node: noise.node as usize,
             from: NOWHERE,
             octets: noise.octets,
-        },
-        Step::Tick(node) => Event::Tick {
+        }),
+        Step::Tick(node) => ScriptLine::Happens(Event::Tick {
             node: node as usize,
-        },
-        Step::Advance(by) => Event::Advance { by },
-        Step::SetProperty(set) => value_change(set),
-        Step::SetFile(set) => file_change(set),
+        }),
+        Step::Advance(by) => ScriptLine::Happens(Event::Advance { by }),
+        Step::SetProperty(set) => ScriptLine::Happens(value_change(set)),
+        Step::SetFile(set) => ScriptLine::Happens(file_change(set)),
     }
 }

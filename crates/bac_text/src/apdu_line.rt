@@ -1,5 +1,5 @@
 //! The line of an APDU.
-ghost use Rattle.std.specs.Prelude.{OnOk};
+ghost use Rattle.std.specs.Prelude.{OnOk, false};
 ghost use Rattle.std.specs.Option.{option_map};
 ghost use Rattle.std.specs.Io.KnownBytes.{Appends};
 ghost use Rattle.bac_apdu.specs.Views.{limits_view, segment_view, apdu_view};

@@ -1,5 +1,5 @@
 //! `bac decode -`: the layers of the datagrams of an input, one on each line.
-ghost use Rattle.std.specs.Prelude.{◌≡◌, ◌+◌, ◌-◌, ◌^◌, ◌<◌, IfOk, IfSome, OnOk};
+ghost use Rattle.std.specs.Prelude.{◌≡◌, ◌+◌, ◌-◌, ◌^◌, ◌<◌, true, IfOk, IfSome, OnOk};
 ghost use Rattle.std.specs.Option.{option_map};
 ghost use Rattle.std.specs.Io.KnownBytes.{Appends};
 ghost use Rattle.bac_text.specs.DecodedLines.{AreDecoded, AreTold, IsLineText, IsLineTold, IsTaken, bad_line, datagram_line_at};

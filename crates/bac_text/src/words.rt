@@ -1,5 +1,5 @@
 //! Words of a printed line: a name and what it is, as ` name=value`.
-ghost use Rattle.std.specs.Prelude.{OnOk};
+ghost use Rattle.std.specs.Prelude.{OnOk, true};
 ghost use Rattle.std.specs.Option.{option_map};
 ghost use Rattle.bac_value.specs.Views.{object_identifier_view};
 ghost use Rattle.std.specs.Io.KnownBytes.{Appends};

@@ -6,17 +6,17 @@ use Rattle.bac_simulate.proofs.simulate.run_and_print.Goals as goal
 pub returns-then-not-branch : goal.returns-then-not-branch
 returns-then-not-branch g c =
     let at = c.loop-place in
-    let e = c.index-events-place.result in
-    let lt : at.place < length c.args.events.now = omega arith in
+    let e = c.index-lines-place.result in
+    let lt : at.place < length c.args.lines.now = omega arith in
     at.invariant false c.step_and_print.new.world _
-    (stops (c.args.before + 1 + at.place) c.args.events.now at.place e (slice_get_read c.args.events.now _ at.place e refl lt c.index-events-place.is) at.world
+    (stops (c.args.before + 1 + at.place) c.args.lines.now at.place e (slice_get_read c.args.lines.now _ at.place e refl lt c.index-lines-place.is) at.world
     c.step_and_print.new.world _ _ _ c.if-not-branch.true c.in_ok-step_and_print.ensures)
 
 pub loop-place-preserved : goal.loop-place-preserved
 loop-place-preserved g c =
     let at = c.loop-place in
-    let e = c.index-events-place.result in
-    let lt : at.place < length c.args.events.now = omega arith in
+    let e = c.index-lines-place.result in
+    let lt : at.place < length c.args.lines.now = omega arith in
     λ all new end h. at.invariant all new end
-    (goes_on all (c.args.before + 1 + at.place) c.args.events.now at.place e (slice_get_read c.args.events.now _ at.place e refl lt c.index-events-place.is) at.world
+    (goes_on all (c.args.before + 1 + at.place) c.args.lines.now at.place e (slice_get_read c.args.lines.now _ at.place e refl lt c.index-lines-place.is) at.world
     c.step_and_print.new.world new _ _ end _ c.if-not-branch.false c.in_ok-step_and_print.ensures (c.args.before + 1 + (at.place + 1)) (omega arith) h)

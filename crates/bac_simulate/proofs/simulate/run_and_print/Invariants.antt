@@ -1,12 +1,12 @@
 -- A run of the events from here on completes a run of all.
 use Rattle.std.proofs.Common.{ℕ, ◌+◌, Bool, List, Option, map, drop}
 use Rattle.bac_network.specs.Histories.{WorldView}
-use Rattle.bac_network.specs.Views.{event_view}
 use Rattle.bac_text.specs.Texts.{AppendsText}
 use Rattle.bac_simulate.specs.Runs.{IsRun}
+use Rattle.bac_simulate.specs.Views.{line_view}
 use Rattle.bac_simulate.proofs.simulate.run_and_print.Given as goal
 
 abbrev pub invariant-loop-place : goal.invariant-loop-place
 invariant-loop-place g l = (all : Bool) (new : WorldView) (end : Option (List ℕ))
-    → AppendsText (g.W.Write.contents l.out) end (IsRun (l.before + 1 + l.place) (drop l.place (map event_view l.events)) all l.world new)
-    → AppendsText (g.W.Write.contents l.fn.out) end (IsRun (l.before + 1) (map event_view l.events) all l.fn.world new)
+    → AppendsText (g.W.Write.contents l.out) end (IsRun (l.before + 1 + l.place) (drop l.place (map line_view l.lines)) all l.world new)
+    → AppendsText (g.W.Write.contents l.fn.out) end (IsRun (l.before + 1) (map line_view l.lines) all l.fn.world new)
