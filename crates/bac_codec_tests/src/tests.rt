@@ -7,6 +7,7 @@ use std::alloc::Global;
 use std::test::Fail;
 
 mod apdus;
+mod bad_words;
 mod ends;
 mod frames;
 mod scripts;

@@ -20,11 +20,11 @@ mod long;
 mod memory;
 mod node;
 mod noise;
+mod notes;
 mod playing;
 mod replies;
 mod requests;
 mod scene;
-mod script;
 mod scripts;
 mod sleeping;
 mod straight_runs;
@@ -36,7 +36,7 @@ mod wrong;
 mod wrong_rows;
 
 use scene::{Member, Scene, Table};
-use script::Names;
+use bac_rows::script::Names;
 use worlds::{all_play, is_wrong, played};
 use wrong::Wrong;
 

@@ -18,7 +18,6 @@ mod replies;
 mod requests;
 mod restarts;
 mod scene;
-mod script;
 mod sending;
 mod telling;
 mod tickets;
@@ -28,7 +27,7 @@ mod wrong_rows;
 
 use playing::all_play;
 use scene::{Scene, Stock, Table};
-use script::Names;
+use bac_rows::script::Names;
 
 /// The link of each node that is tested.
 const OWN: u8 = 1;

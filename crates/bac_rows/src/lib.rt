@@ -1,4 +1,4 @@
-//! Rows of tests: octets of hexadecimal text, and how a row that is wrong is told.
+//! Rows of tests: octets of hexadecimal text, lines of scripts, and how a row that is wrong is told.
 //!
 //! A table of rows is a `const` slice; a row that cannot be read fails its test, as one that does not hold does.
 #![tactic(auto)]
@@ -7,17 +7,34 @@ ghost use Rattle.std.specs.Prelude.{◌≡◌, ◌↔◌, IfOk, IsOk, IsErr, IsT
 ghost use Rattle.hex.specs.Hex.{decode_of};
 ghost use Rattle.bac_rows.specs.declared.RowFault.TheVariants.{NotHexadecimal};
 
+pub mod script;
+
 use hex::FromHexError;
-use std::alloc::Global;
+use std::alloc::{AllocError, Global};
+use std::fmt;
 use std::test::Fail;
 
-/// Why the octets of a row cannot be told.
+/// Why a row cannot be read.
 #[derive(Clone, Copy, Debug, PartialEq, Eq)]
 pub enum RowFault {
     /// The text is no hexadecimal: an odd number of digits, or something else than a digit.
     NotHexadecimal,
+    /// The line is of no form.
+    NoLine,
     /// Memory was refused.
     NoMemory,
+}
+
+impl From<AllocError> for RowFault {
+    fn from(_error: AllocError) -> RowFault {
+        RowFault::NoMemory
+    }
+}
+
+impl From<fmt::Error> for RowFault {
+    fn from(_error: fmt::Error) -> RowFault {
+        RowFault::NoMemory
+    }
 }
 
 /// The octets of hexadecimal text, in digits of either case. `NotHexadecimal` exactly where the text is none.

@@ -106,6 +106,7 @@ enum Said {
     Noise(u64, &'static str),
     Tick(u64),
     Advance(u64),
+    Lose(u64),
 }
 
 const OTHERS: &[(&str, Said)] = &[
@@ -114,6 +115,7 @@ const OTHERS: &[(&str, Said)] = &[
     ("noise 1 ", Said::Noise(1, "")),
     ("tick 3", Said::Tick(3)),
     ("advance 18446744073709551615", Said::Advance(u64::MAX)),
+    ("lose 7", Said::Lose(7)),
 ];
 
 const NO_STEPS: &[&str] = &[
@@ -127,6 +129,10 @@ const NO_STEPS: &[&str] = &[
     "deliver -1",
     "deliver 18446744073709551616",
     "Deliver 1",
+    "lose",
+    "lose x",
+    "lose 1 2",
+    "loses 1",
     "wait 1",
     "tick 1 2",
     "noise 1",
@@ -236,6 +242,7 @@ fn says(alloc: Global, line: &str, said: &Said) -> Result<bool, Fail> {
         (Step::Deliver(a), Said::Deliver(b)) => Ok(a == *b),
         (Step::Tick(a), Said::Tick(b)) => Ok(a == *b),
         (Step::Advance(a), Said::Advance(b)) => Ok(a == *b),
+        (Step::Lose(a), Said::Lose(b)) => Ok(a == *b),
         (Step::Noise(a), Said::Noise(node, text)) => {
             Ok(a.node == *node && is_noise(alloc, &a.octets, text)?)
         }

@@ -5,6 +5,8 @@ use std::alloc::Global;
 use std::test::Fail;
 
 mod failures;
+mod forms;
+mod words;
 
 /// What a command printed and how it ended.
 #[derive(Drop)]
@@ -583,7 +585,9 @@ fn is_bad_hex(alloc: Global, text: &str) -> bool {
 }
 
 /// Texts that are no octets.
-const NOT_HEXADECIMAL: &[&str] = &["8", "8G", "81 0A", "0x81"];
+const NOT_HEXADECIMAL: &[&str] = &[
+    "8", "8G", "8 1", "81 0", "0x8", "x81", "810x0A", "0x0x81", "0X81", "81,0A", "81-0A", "81\n0A",
+];
 
 #[test]
 fn refuses_what_is_not_hexadecimal(rt: HostRuntime) -> Result<(), Fail> {

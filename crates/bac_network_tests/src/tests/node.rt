@@ -3,7 +3,7 @@
 use super::link;
 use super::playing::{Stage, go_by};
 use super::scene::{Member, limits_of, request_of};
-use super::script::{Names, number, parted};
+use bac_rows::script::{Names, number, parted};
 use super::wrong::Wrong;
 use bac_commands::{print_asked, print_ended, print_nothing};
 use bac_ends::Datagram;

@@ -1,5 +1,5 @@
 //! Scripts are gone by, line by line.
-use super::script::{Names, add_lines, ranged, spelled};
+use bac_rows::script::{Names, add_lines, ranged, spelled};
 use super::wrong::Wrong;
 use std::alloc::Global;
 

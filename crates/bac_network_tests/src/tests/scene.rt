@@ -1,6 +1,6 @@
 //! Worlds that rows are run in.
 use super::link;
-use super::script::{Names, plain};
+use bac_rows::script::{Names, plain};
 use super::wrong::Wrong;
 use bac_apdu::{Apdu, Limits, read};
 use bac_network::{NewWorldFault, World};

@@ -1,5 +1,5 @@
 //! Whole scripts, what they print, and how they end: `! ` stands before what is complained of, and a status other than 0 is the last line.
-use super::script::add_lines;
+use bac_rows::script::add_lines;
 use super::worlds::Printed;
 use super::*;
 use bac_simulate::simulate_over;
@@ -30,7 +30,7 @@ impl Sheet {
         match line.strip_prefix("  ") {
             Some(line) => add_lines(alloc, &[], line, &mut self.wanted),
             None => {
-                self.script.push_str(&script::plain(alloc, line)?)?;
+                self.script.push_str(&bac_rows::script::plain(alloc, line)?)?;
                 self.script.push('\n')?;
                 Ok(())
             }
@@ -73,7 +73,7 @@ fn is_printed(alloc: Global, row: &str) -> Result<bool, Wrong> {
 }
 
 /// Each script prints what stands below its lines.
-fn are_printed(alloc: Global, rows: &[&str]) -> Result<(), Fail> {
+pub(super) fn are_printed(alloc: Global, rows: &[&str]) -> Result<(), Fail> {
     for row in rows {
         match is_printed(alloc, row) {
             Ok(is) => holds(is, row)?,

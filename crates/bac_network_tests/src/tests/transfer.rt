@@ -1,6 +1,6 @@
 //! What is printed of a transfer in segments of which each copy comes once, in the order of sending.
 use super::scene::Scene;
-use super::script::{plain, spelled};
+use bac_rows::script::{plain, spelled};
 use super::worlds::run;
 use super::wrong::Wrong;
 use std::alloc::Global;

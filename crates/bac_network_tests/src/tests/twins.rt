@@ -1,5 +1,5 @@
 //! Fronts of datagrams that come between the datagrams themselves: log, copies, stores and nodes are the same with noise and without.
-use super::script::{ranged, spelled};
+use bac_rows::script::{ranged, spelled};
 use super::worlds::run;
 use super::*;
 use bac_network::{Event, World};

@@ -58,7 +58,7 @@ impl From<RowFault> for Wrong {
     fn from(fault: RowFault) -> Wrong {
         match fault {
             RowFault::NoMemory => Wrong::NoMemory,
-            RowFault::NotHexadecimal => Wrong::Line,
+            RowFault::NotHexadecimal | RowFault::NoLine => Wrong::Line,
         }
     }
 }

@@ -1,6 +1,6 @@
 //! Events, and what comes of them.
 use super::link;
-use super::script::{number, parted};
+use bac_rows::script::{number, parted};
 use super::wrong::Wrong;
 use bac_apdu::{Apdu, Limits, read};
 use bac_node::{Node, NodeFault, Outcome};

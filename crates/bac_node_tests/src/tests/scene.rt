@@ -1,6 +1,6 @@
 //! Nodes that rows are run on.
 use super::event::{limits_of, octets_of, request_of};
-use super::script::{Names, spelled};
+use bac_rows::script::{Names, spelled};
 use super::wrong::Wrong;
 use super::{OWN, link};
 use bac_node::{Config, NewNodeFault, Node};

@@ -1,6 +1,6 @@
 //! A request in 1,364 segments from one node to another, in order, and with an old segment among them.
 use super::event::{octets_of, request_of};
-use super::script::spelled;
+use bac_rows::script::spelled;
 use super::wrong::Wrong;
 use super::*;
 use bac_ends::Datagram;

@@ -1,4 +1,5 @@
 //! Why a row does not hold.
+use bac_rows::RowFault;
 use bac_value::NoMemory;
 use std::alloc::{AllocError, AllocFailed};
 use std::{fmt, io};
@@ -39,5 +40,14 @@ impl From<io::Error> for Wrong {
 impl From<fmt::Error> for Wrong {
     fn from(_error: fmt::Error) -> Wrong {
         Wrong::NoMemory
+    }
+}
+
+impl From<RowFault> for Wrong {
+    fn from(fault: RowFault) -> Wrong {
+        match fault {
+            RowFault::NoMemory => Wrong::NoMemory,
+            RowFault::NotHexadecimal | RowFault::NoLine => Wrong::Line,
+        }
     }
 }

@@ -1,27 +1,29 @@
-//! How rows are written.
+//! Scripts in rows: how lines of tests are written.
 //!
-//! A line is an event, as it is typed into a script; after it each line that is printed stands behind two spaces. Lines that begin with `--` are comments.
+//! After a line that says what happens, each line that is printed stands behind two spaces. Lines that begin with `--` are comments.
 //! `FIRST,NEXT..LAST: ` before a line stands for that line once for each of these numbers.
-//! In a line `<name>` stands for a text that has this name, `{41*00}` for 41 times the digits, `#` for the number in decimal, `{+6}` for a number that is
-//! greater by 6, `@` for the number modulo 256 in hexadecimal, `|` for the end of a line, and `_` for nothing.
-use super::wrong::Wrong;
+//! In a line `<name>` stands for a text that has this name, `{41*00}` for 41 times the digits, `{41/}` for 41 octets of which the one of number i is
+//! i / 256, `#` for the number in decimal, `{+6}` for a number that is greater by 6, `@` for the number modulo 256 in hexadecimal, `|` for the end of a
+//! line, and `_` for nothing.
+use crate::RowFault;
 use std::alloc::Global;
 use std::fmt::Write;
 
 /// Names, and the texts that they stand for.
-pub(super) type Names = &'static [(&'static str, &'static str)];
+pub type Names = &'static [(&'static str, &'static str)];
 
 /// For which numbers a line stands: so many from the first on, each so much more than the one before it.
 #[derive(Clone, Copy)]
-pub(super) struct Numbers {
-    pub(super) count: u64,
+pub struct Numbers {
+    /// How many.
+    pub count: u64,
     first: u64,
     step: u64,
 }
 
 impl Numbers {
     /// The number of that place.
-    pub(super) fn at(&self, place: u64) -> u64 {
+    pub fn at(&self, place: u64) -> u64 {
         self.first.wrapping_add(place.wrapping_mul(self.step))
     }
 }
@@ -33,25 +35,25 @@ const ONCE: Numbers = Numbers {
 };
 
 /// A decimal number.
-pub(super) fn number(text: &str) -> Result<u64, Wrong> {
+pub fn number(text: &str) -> Result<u64, RowFault> {
     match text.parse::<u64>() {
         Ok(number) => Ok(number),
-        Err(_) => Err(Wrong::Line),
+        Err(_) => Err(RowFault::NoLine),
     }
 }
 
 /// What stands before the first separator and after it.
-pub(super) fn parted(text: &str, separator: char) -> Result<(&str, &str), Wrong> {
+pub fn parted(text: &str, separator: char) -> Result<(&str, &str), RowFault> {
     match text.split_once(separator) {
         Some(parts) => Ok(parts),
-        None => Err(Wrong::Line),
+        None => Err(RowFault::NoLine),
     }
 }
 
 /// Numbers from a first one to a last one, each so much more than the one before it.
-fn numbers_to(first: u64, next: u64, last: u64) -> Result<Numbers, Wrong> {
+fn numbers_to(first: u64, next: u64, last: u64) -> Result<Numbers, RowFault> {
     if next <= first || last < first {
-        return Err(Wrong::Line);
+        return Err(RowFault::NoLine);
     }
     let step = next - first;
     Ok(Numbers {
@@ -62,22 +64,22 @@ fn numbers_to(first: u64, next: u64, last: u64) -> Result<Numbers, Wrong> {
 }
 
 /// The numbers `FIRST,NEXT..LAST`.
-fn numbers_of(text: &str) -> Result<Numbers, Wrong> {
+fn numbers_of(text: &str) -> Result<Numbers, RowFault> {
     let (first, rest) = parted(text, ',')?;
     let (next, last) = parted(rest, '.')?;
     let Some(last) = last.strip_prefix('.') else {
-        return Err(Wrong::Line);
+        return Err(RowFault::NoLine);
     };
     numbers_to(number(first)?, number(next)?, number(last)?)
 }
 
 /// For which numbers a line stands, and the line. Only a range has two dots.
-pub(super) fn ranged(line: &str) -> Result<(Numbers, &str), Wrong> {
+pub fn ranged(line: &str) -> Result<(Numbers, &str), RowFault> {
     match line.split_once("..") {
         Some(_) => {
             let (numbers, line) = parted(line, ' ')?;
             let Some(numbers) = numbers.strip_suffix(":") else {
-                return Err(Wrong::Line);
+                return Err(RowFault::NoLine);
             };
             Ok((numbers_of(numbers)?, line))
         }
@@ -86,17 +88,17 @@ pub(super) fn ranged(line: &str) -> Result<(Numbers, &str), Wrong> {
 }
 
 /// The text that a name stands for.
-fn text_of(names: Names, wanted: &str) -> Result<&'static str, Wrong> {
+fn text_of(names: Names, wanted: &str) -> Result<&'static str, RowFault> {
     for (name, text) in names {
         if *name == wanted {
             return Ok(*text);
         }
     }
-    Err(Wrong::Line)
+    Err(RowFault::NoLine)
 }
 
 /// A line with the texts in the place of their names.
-fn named(alloc: Global, names: Names, line: &str) -> Result<String, Wrong> {
+fn named(alloc: Global, names: Names, line: &str) -> Result<String, RowFault> {
     let mut out = String::with_capacity(alloc, 256)?;
     for (place, part) in line.split('<').enumerate() {
         if place == 0 {
@@ -110,21 +112,36 @@ fn named(alloc: Global, names: Names, line: &str) -> Result<String, Wrong> {
     Ok(out)
 }
 
-/// So many times the digits, or the number and so much more.
-fn put_word(word: &str, number_here: u64, out: &mut String) -> Result<(), Wrong> {
-    if let Some(more) = word.strip_prefix("+") {
-        write!(out, "{}", number_here.saturating_add(number(more)?))?;
-        return Ok(());
-    }
-    let (count, digits) = parted(word, '*')?;
-    for _ in 0..number(count)? {
+/// So many times the digits.
+fn put_digits(count: u64, digits: &str, out: &mut String) -> Result<(), RowFault> {
+    for _ in 0..count {
         out.push_str(digits)?;
     }
     Ok(())
 }
 
+/// So many octets by their numbers.
+fn put_octets(count: u64, out: &mut String) -> Result<(), RowFault> {
+    for i in 0..count {
+        write!(out, "{:02X}", i / 256 % 256)?;
+    }
+    Ok(())
+}
+
+/// So many times the digits, so many octets by their numbers, or the number and so much more.
+fn put_word(word: &str, number_here: u64, out: &mut String) -> Result<(), RowFault> {
+    if let Some(more) = word.strip_prefix("+") {
+        write!(out, "{}", number_here.saturating_add(number(more)?))?;
+        return Ok(());
+    }
+    match word.split_once('*') {
+        Some((count, digits)) => put_digits(number(count)?, digits, out),
+        None => put_octets(number(parted(word, '/')?.0)?, out),
+    }
+}
+
 /// A line with what its words in braces stand for.
-fn filled(alloc: Global, line: &str, number: u64) -> Result<String, Wrong> {
+fn filled(alloc: Global, line: &str, number: u64) -> Result<String, RowFault> {
     let mut out = String::with_capacity(alloc, 256)?;
     for part in line.split('{') {
         match part.split_once('}') {
@@ -139,7 +156,7 @@ fn filled(alloc: Global, line: &str, number: u64) -> Result<String, Wrong> {
 }
 
 /// A line with a number in its places.
-fn numbered(alloc: Global, line: &str, number: u64) -> Result<String, Wrong> {
+fn numbered(alloc: Global, line: &str, number: u64) -> Result<String, RowFault> {
     let mut out = String::with_capacity(alloc, 256)?;
     for character in line.chars() {
         match character {
@@ -154,29 +171,29 @@ fn numbered(alloc: Global, line: &str, number: u64) -> Result<String, Wrong> {
 }
 
 /// A line with its number, as it is typed or printed.
-pub(super) fn spelled(
+pub fn spelled(
     alloc: Global,
     names: Names,
     line: &str,
     number: u64,
-) -> Result<String, Wrong> {
+) -> Result<String, RowFault> {
     let line = named(alloc, names, line)?;
     let line = filled(alloc, &line, number)?;
     numbered(alloc, &line, number)
 }
 
 /// A text without names or numbers, as it is typed.
-pub(super) fn plain(alloc: Global, text: &str) -> Result<String, Wrong> {
+pub fn plain(alloc: Global, text: &str) -> Result<String, RowFault> {
     spelled(alloc, &[], text, 0)
 }
 
 /// A line, once for each of its numbers, each with its end.
-pub(super) fn add_lines(
+pub fn add_lines(
     alloc: Global,
     names: Names,
     line: &str,
     out: &mut Vec<u8>,
-) -> Result<(), Wrong> {
+) -> Result<(), RowFault> {
     let (numbers, line) = ranged(line)?;
     for place in 0..numbers.count {
         let line = spelled(alloc, names, line, numbers.at(place))?;
