@@ -10,7 +10,7 @@ ghost use Rattle.bac_rows.specs.declared.RowFault.TheVariants.{NotHexadecimal};
 pub mod script;
 
 use hex::FromHexError;
-use std::alloc::{AllocError, Global};
+use std::alloc::{AllocError, AllocFailed, Global};
 use std::fmt;
 use std::test::Fail;
 
@@ -27,6 +27,12 @@ pub enum RowFault {
 
 impl From<AllocError> for RowFault {
     fn from(_error: AllocError) -> RowFault {
+        RowFault::NoMemory
+    }
+}
+
+impl<T: Drop> From<AllocFailed<T>> for RowFault {
+    fn from(_error: AllocFailed<T>) -> RowFault {
         RowFault::NoMemory
     }
 }
