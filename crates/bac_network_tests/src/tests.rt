@@ -35,8 +35,8 @@ mod worlds;
 mod wrong;
 mod wrong_rows;
 
-use scene::{Member, Scene, Table};
 use bac_rows::script::Names;
+use scene::{Member, Scene, Table};
 use worlds::{all_play, is_wrong, played};
 use wrong::Wrong;
 

@@ -25,9 +25,9 @@ mod transfers;
 mod wrong;
 mod wrong_rows;
 
+use bac_rows::script::Names;
 use playing::all_play;
 use scene::{Scene, Stock, Table};
-use bac_rows::script::Names;
 
 /// The link of each node that is tested.
 const OWN: u8 = 1;

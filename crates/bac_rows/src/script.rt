@@ -171,12 +171,7 @@ fn numbered(alloc: Global, line: &str, number: u64) -> Result<String, RowFault> 
 }
 
 /// A line with its number, as it is typed or printed.
-pub fn spelled(
-    alloc: Global,
-    names: Names,
-    line: &str,
-    number: u64,
-) -> Result<String, RowFault> {
+pub fn spelled(alloc: Global, names: Names, line: &str, number: u64) -> Result<String, RowFault> {
     let line = named(alloc, names, line)?;
     let line = filled(alloc, &line, number)?;
     numbered(alloc, &line, number)

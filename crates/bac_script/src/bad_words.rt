@@ -166,10 +166,7 @@ fn bad_behind<'a>(
 }
 
 /// Of the values of a request to write.
-fn bad_values<'a>(
-    alloc: Global,
-    words: &[&'a [u8]],
-) -> Result<Option<BadWord<'a>>, AllocError>
+fn bad_values<'a>(alloc: Global, words: &[&'a [u8]]) -> Result<Option<BadWord<'a>>, AllocError>
     ensures { IfOk result (λ b. option_map bad_word_view b ≡ bad_values (map (λ w. w.now) words.now)) }
 {
     let [first, more @ ..] = words else {
@@ -238,10 +235,7 @@ fn bad_among<'a>(
 
 /// Of words that [`read_request_words`](crate::read_request_words) refuses as `NoForm`: the first bad one from the left, and what was wanted in its
 /// place. None where each word alone is right, and the file octets are too many. An Err says that memory was refused.
-pub fn bad_word<'a>(
-    alloc: Global,
-    words: &[&'a [u8]],
-) -> Result<Option<BadWord<'a>>, AllocError>
+pub fn bad_word<'a>(alloc: Global, words: &[&'a [u8]]) -> Result<Option<BadWord<'a>>, AllocError>
     ensures { IfOk result (λ b. option_map bad_word_view b ≡ bad_word_of (map (λ w. w.now) words.now)) }
 {
     let [verb, words @ ..] = words else {

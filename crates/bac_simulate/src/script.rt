@@ -130,11 +130,7 @@ pub(crate) struct FirstLine<'a> {
 }
 
 /// What the line of that number sets.
-fn first_in(
-    alloc: Global,
-    line: &[u8],
-    number: u64,
-) -> Result<Setting, ScriptFault>
+fn first_in(alloc: Global, line: &[u8], number: u64) -> Result<Setting, ScriptFault>
     ensures { ReadsAt setting_view result number (setting_at line.now) }
 {
     match read_setting(alloc, line) {
@@ -151,7 +147,7 @@ pub(crate) fn read_first<'a>(
 ) -> Result<FirstLine<'a>, ScriptFault>
     ensures read { MatchResult result
         (λ r. script_of notes (lines_of text.now) ≡ with_setting r.number (Some (setting_view r.setting))
-            (said_from notes (λ node. most_limits) (r.number + 1) (lines_of r.rest.now)))
+        (said_from notes (λ node. most_limits) (r.number + 1) (lines_of r.rest.now)))
         (λ f. IsNotRead f (script_of notes (lines_of text.now))) }
     ensures modest { IfOk result (λ r. IsModest (setting_view r.setting)) }
     ensures few { IfOk result (λ r. r.number + length r.rest.now ≤ length text.now) }

@@ -236,7 +236,15 @@ fn simulate<O: Write, E: Write>(
     ensures { Reports (script_of notes (lines_of text.now)) (O.contents out.old) (O.contents out.new) result }
 {
     match read_first(alloc, notes, text) {
-        Ok(first) => run_set(alloc, notes, &first.setting, first.number, first.rest, out, err),
+        Ok(first) => run_set(
+            alloc,
+            notes,
+            &first.setting,
+            first.number,
+            first.rest,
+            out,
+            err,
+        ),
         Err(fault) => no_script(fault, err),
     }
 }

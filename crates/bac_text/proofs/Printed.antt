@@ -106,11 +106,9 @@ pub told_fine : (in_words : Bool) (datagram : List ℕ) (a b : Option (List ℕ)
 told_fine in_words datagram a b p fine = (fine, both a b b (AreLayerLines in_words datagram) (Is []) p (no_line b))
 
 -- the layers were printed, and then the fault
-pub told_faulty : {T E : Type 0} (r : Result T E) (in_words : Bool) (datagram : List ℕ) (fault : LayerFault) (a b c : Option (List ℕ))
-    → AppendsText a b (AreLayerLines in_words datagram) → IsAtFault datagram fault → OnOk r (Appends b c (fault_line in_words datagram fault))
-    → OnOk r (IsTold in_words false datagram a c)
-told_faulty (Err e) in_words datagram fault a b c p at q = tt
-told_faulty (Ok t) in_words datagram fault a b c p at q = record {
+pub told_faulty : (in_words : Bool) (datagram : List ℕ) (fault : LayerFault) (a b c : Option (List ℕ)) → AppendsText a b (AreLayerLines in_words datagram)
+    → IsAtFault datagram fault → Appends b c (fault_line in_words datagram fault) → IsTold in_words false datagram a c
+told_faulty in_words datagram fault a b c p at q = record {
   fault = fault;
   at_fault = at;
   printed = both a b c (AreLayerLines in_words datagram) (Is (fault_line in_words datagram fault)) p (line_is b c (fault_line in_words datagram fault) q);

@@ -84,17 +84,17 @@ fn function_reason(alloc: Global, datagram: &[u8]) -> Result<String, AllocError>
 }
 
 /// Of a BVLL with another function that function too.
-fn bvll_words(
-    alloc: Global,
-    datagram: &[u8],
-    fault: FrameFault,
-) -> Result<String, AllocError>
+fn bvll_words(alloc: Global, datagram: &[u8], fault: FrameFault) -> Result<String, AllocError>
     ensures { IfOk result (λ t. string_bytes t ≡ bvll_words datagram.now fault) }
 {
     match fault {
         FrameFault::NotUnicast => {
             let reason = function_reason(alloc, datagram)?;
-            because(alloc, LayerFault::Bvll(FrameFault::NotUnicast), reason.as_str())
+            because(
+                alloc,
+                LayerFault::Bvll(FrameFault::NotUnicast),
+                reason.as_str(),
+            )
         }
         _ => because(alloc, LayerFault::Bvll(fault), frame_reason(fault)),
     }
@@ -108,11 +108,7 @@ fn request_words(alloc: Global, reason: u8) -> Result<String, AllocError>
 }
 
 /// The fault of a datagram in words, as `fault bvll 6 (function 0B: not Original-Unicast-NPDU)`; the reason of a Reject by its name in the standard.
-fn fault_words(
-    alloc: Global,
-    datagram: &[u8],
-    fault: LayerFault,
-) -> Result<String, AllocError>
+fn fault_words(alloc: Global, datagram: &[u8], fault: LayerFault) -> Result<String, AllocError>
     ensures { IfOk result (λ t. string_bytes t ≡ fault_words datagram.now fault) }
 {
     match fault {

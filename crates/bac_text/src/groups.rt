@@ -11,8 +11,7 @@ use std::alloc::{AllocError, Global};
 fn gap_in(text: &[u8]) -> Option<usize>
     ensures { result ≡ position is_gap text.now }
 {
-    text.iter()
-        .position(|octet| *octet == b' ' || *octet == b'\t' || *octet == b':')
+    text.iter().position(|octet| *octet == b' ' || *octet == b'\t' || *octet == b':')
 }
 
 /// The first group and what stands behind the gap after it.

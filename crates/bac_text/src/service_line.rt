@@ -215,11 +215,7 @@ fn print_place<W: Write>(written: FileWritten, out: &mut W) -> io::Result<()>
     }
 }
 
-fn print_file_written<W: Write>(
-    in_words: bool,
-    written: FileWritten,
-    out: &mut W,
-) -> io::Result<()>
+fn print_file_written<W: Write>(in_words: bool, written: FileWritten, out: &mut W) -> io::Result<()>
     ensures { OnOk result (AppendsText (W.contents out.old) (W.contents out.new) (IsComplexText in_words (view.file_written_view written))) }
 {
     out.write_all(b"write-file-ack")?;

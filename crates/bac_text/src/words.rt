@@ -85,11 +85,7 @@ pub(crate) fn print_property<W: Write>(
 }
 
 /// Values, each by its kind.
-fn print_values_by_kind<W: Write>(
-    alloc: Global,
-    values: Data<'_>,
-    out: &mut W,
-) -> io::Result<()>
+fn print_values_by_kind<W: Write>(alloc: Global, values: Data<'_>, out: &mut W) -> io::Result<()>
     ensures { OnOk result (AppendsText (W.contents out.old) (W.contents out.new) (IsValuesText true values.entry.octets.now)) }
 {
     let Ok(text) = data_text(alloc, values) else {

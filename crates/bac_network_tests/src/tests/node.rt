@@ -3,7 +3,6 @@
 use super::link;
 use super::playing::{Stage, go_by};
 use super::scene::{Member, limits_of, request_of};
-use bac_rows::script::{Names, number, parted};
 use super::wrong::Wrong;
 use bac_commands::{print_asked, print_ended, print_nothing};
 use bac_ends::Datagram;
@@ -11,6 +10,7 @@ use bac_node::{NewNodeFault, Node, Outcome};
 use bac_npdu::Peer;
 use bac_requester::Asked;
 use bac_rows::octets_of;
+use bac_rows::script::{Names, number, parted};
 use std::alloc::Global;
 use std::io::Write;
 use std::test::Fail;

@@ -1,6 +1,6 @@
 //! Scripts are gone by, line by line.
-use bac_rows::script::{Names, add_lines, ranged, spelled};
 use super::wrong::Wrong;
+use bac_rows::script::{Names, add_lines, ranged, spelled};
 use std::alloc::Global;
 
 /// What goes by a script.
@@ -56,7 +56,7 @@ impl<S: Stage> Play<S> {
             return Ok(());
         }
         match line.strip_prefix("  ") {
-            Some(line) => add_lines(self.alloc, names, line, &mut self.wanted),
+            Some(line) => Ok(add_lines(self.alloc, names, line, &mut self.wanted)?),
             None => {
                 self.is_right()?;
                 self.meets(names, line)

@@ -1,11 +1,11 @@
 //! Worlds that rows are run in.
 use super::link;
-use bac_rows::script::{Names, plain};
 use super::wrong::Wrong;
 use bac_apdu::{Apdu, Limits, read};
 use bac_network::{NewWorldFault, World};
 use bac_node::Config;
 use bac_rows::octets_of;
+use bac_rows::script::{Names, plain};
 use bac_script::{FormFault, read_request_words};
 use bac_service::OwnedRequest;
 use bac_store::{Store, house};

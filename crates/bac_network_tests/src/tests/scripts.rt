@@ -1,7 +1,7 @@
 //! Whole scripts, what they print, and how they end: `! ` stands before what is complained of, and a status other than 0 is the last line.
-use bac_rows::script::add_lines;
 use super::worlds::Printed;
 use super::*;
+use bac_rows::script::add_lines;
 use bac_simulate::simulate_over;
 use std::io::Write;
 
@@ -28,9 +28,10 @@ impl Sheet {
             return Ok(());
         }
         match line.strip_prefix("  ") {
-            Some(line) => add_lines(alloc, &[], line, &mut self.wanted),
+            Some(line) => Ok(add_lines(alloc, &[], line, &mut self.wanted)?),
             None => {
-                self.script.push_str(&bac_rows::script::plain(alloc, line)?)?;
+                self.script
+                    .push_str(&bac_rows::script::plain(alloc, line)?)?;
                 self.script.push('\n')?;
                 Ok(())
             }

@@ -1,8 +1,8 @@
 //! What is printed of a transfer in segments of which each copy comes once, in the order of sending.
 use super::scene::Scene;
-use bac_rows::script::{plain, spelled};
 use super::worlds::run;
 use super::wrong::Wrong;
+use bac_rows::script::{plain, spelled};
 use std::alloc::Global;
 use std::fmt::Write;
 

@@ -1,8 +1,8 @@
 //! Fronts of datagrams that come between the datagrams themselves: log, copies, stores and nodes are the same with noise and without.
-use bac_rows::script::{ranged, spelled};
 use super::worlds::run;
 use super::*;
 use bac_network::{Event, World};
+use bac_rows::script::{ranged, spelled};
 
 /// A write in three segments whose last SegmentACK and answer are lost: two segments are sent again, and the first of them gets the kept answer.
 const WRITE: &str = "\

@@ -1,11 +1,11 @@
 //! Events, and what comes of them.
 use super::link;
-use bac_rows::script::{number, parted};
 use super::wrong::Wrong;
 use bac_apdu::{Apdu, Limits, read};
 use bac_node::{Node, NodeFault, Outcome};
 use bac_npdu::Peer;
 use bac_requester::{AskFault, Asked};
+use bac_rows::script::{number, parted};
 use bac_script::{FormFault, read_request_words};
 use bac_service::OwnedRequest;
 use bac_value::NoMemory;

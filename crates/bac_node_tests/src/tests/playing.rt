@@ -1,10 +1,10 @@
 //! Scripts are gone by, on a node and on its twin.
 use super::event::{Came, Event, event_of};
 use super::scene::{Scene, Table};
-use bac_rows::script::{Names, ranged, spelled};
 use super::telling::print_came;
 use super::wrong::Wrong;
 use bac_node::Node;
+use bac_rows::script::{Names, ranged, spelled};
 use std::alloc::Global;
 use std::test::Fail;
 

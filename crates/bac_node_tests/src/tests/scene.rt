@@ -1,9 +1,9 @@
 //! Nodes that rows are run on.
 use super::event::{limits_of, octets_of, request_of};
-use bac_rows::script::{Names, spelled};
 use super::wrong::Wrong;
 use super::{OWN, link};
 use bac_node::{Config, NewNodeFault, Node};
+use bac_rows::script::{Names, spelled};
 use bac_store::{Object, Property, Store, StoreFault, house};
 use bac_value::{ObjectIdentifier, read_data};
 use std::alloc::Global;

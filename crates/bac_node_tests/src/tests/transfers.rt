@@ -1,10 +1,10 @@
 //! A request in 1,364 segments from one node to another, in order, and with an old segment among them.
 use super::event::{octets_of, request_of};
-use bac_rows::script::spelled;
 use super::wrong::Wrong;
 use super::*;
 use bac_ends::Datagram;
 use bac_npdu::Peer;
+use bac_rows::script::spelled;
 use bac_service::OwnedRequest;
 
 /// The node that is asked; the other one has the link `OWN`.

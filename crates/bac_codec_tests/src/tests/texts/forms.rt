@@ -12,7 +12,8 @@ const COPIES: &[&str] = &[
     " 81\t0a:0008  0100:1013 ",
 ];
 
-const LINES: &str = "bvll len=8\nnpdu expecting=0 priority=0\nunconfirmed-request choice=19 data=\n";
+const LINES: &str =
+    "bvll len=8\nnpdu expecting=0 priority=0\nunconfirmed-request choice=19 data=\n";
 
 #[test]
 fn copies_are_decoded(rt: HostRuntime) -> Result<(), Fail> {

@@ -103,18 +103,11 @@ fn told(alloc: Global, text: &str) -> Printed {
     Printed { status, out, err }
 }
 
-fn is_apdu_told(
-    alloc: Global,
-    (expecting, npdu, apdu, service): &ApduRow,
-) -> Result<bool, Fail> {
+fn is_apdu_told(alloc: Global, (expecting, npdu, apdu, service): &ApduRow) -> Result<bool, Fail> {
     let datagram = datagram_of(alloc, npdu)?;
     let lines = joined(alloc, &[apdu, "\n", service])?;
     let want = lines_of(alloc, *expecting, npdu, lines.as_str())?;
-    Ok(is_printed(
-        &told(alloc, datagram.as_str()),
-        Status::Done,
-        want.as_str(),
-    ))
+    Ok(is_printed(&told(alloc, datagram.as_str()), Status::Done, want.as_str()))
 }
 
 #[test]

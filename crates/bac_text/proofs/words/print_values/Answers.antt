@@ -1,5 +1,4 @@
-use Rattle.bac_text.proofs.Printed.{last_line}
 use Rattle.bac_text.proofs.words.print_values.Goals as goal
 
-pub returns-2 : goal.returns-2
-returns-2 g c = last_line _ _ _ _ c.print_octets.ensures
+pub returns-then-in_words : goal.returns-then-in_words
+returns-then-in_words g c = rw c.if-in_words.true c.print_values_by_kind.ensures
