@@ -1,5 +1,7 @@
 //! What the tests share.
 
+mod explained;
+mod explained_rows;
 mod failing;
 mod file_rows;
 mod files;

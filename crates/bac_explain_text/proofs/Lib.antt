@@ -1,0 +1,2 @@
+pub mod Blocking
+pub mod Report
