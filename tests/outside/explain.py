@@ -4,7 +4,7 @@
 Makes transactions of three clients and two servers from a seed: answered in each way, repeated, sent too often, in segments that may be missing, answered
 twice or never, with invoke IDs that are used again. text2pcap and mergecap write them as pcapng, editcap as pcap with micro- and nanoseconds. Of each file
 tshark tells the frames' moments, addresses, kinds of APDU, invoke IDs and sequence numbers; what they make by the rules of docs/PROTOCOL.md, told again here,
-has to be what `bac explain` prints, but for the words of requests and answers.
+has to be what `bac explain` prints, but for the words of requests and answers. And README.md has to be right about docs/lost.pcapng.
 """
 
 import random
@@ -299,9 +299,19 @@ def without_words(line):
     return '  ' + ' '.join([words[2], *[word for word in kept if '=' in word]])
 
 
+def is_readme_right(program):
+    """Whether the capture of docs/ is explained as README.md has it."""
+    top = Path(__file__).resolve().parents[2]
+    _, _, behind = (top / 'README.md').read_text().partition('    out/bac explain ../../docs/lost.pcapng\n')
+    block, _, _ = behind.partition('\n\n')
+    done = subprocess.run([program, 'explain', str(top / 'docs/lost.pcapng')], capture_output=True, text=True, timeout=60)
+    return bool(block) and done.stdout == ''.join(f'{line[4:]}\n' for line in block.split('\n'))
+
+
 def main(words):
     program, seed = words
-    wrong = 0
+    wrong = 0 if is_readme_right(program) else 1
+    print('README: ' + ('WRONG' if wrong else 'right'))
     with tempfile.TemporaryDirectory() as name:
         for path in write_captures(Path(name), schedule(int(seed))):
             watch = Watch()

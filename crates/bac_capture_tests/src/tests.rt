@@ -6,6 +6,7 @@ mod failing;
 mod file_rows;
 mod files;
 mod frames;
+mod moment_rows;
 mod rows;
 mod transaction_rows;
 mod transactions;

@@ -52,7 +52,9 @@ Example: bac check capture.pcapng";
 
 fn check_command<'a>(alloc: Global) -> Result<Command<'a>, clap::Error> {
     let check = Command::new(alloc, "check")
-        .about("Prints the bad frames of a file of pcap or pcapng, or the bad lines of a capture, and how many are good")
+        .about(
+            "Prints the bad frames of a file of pcap or pcapng, or the bad lines of a capture, and how many are good",
+        )
         .after_help(CHECK_EXAMPLES)
         .arg(word(
             alloc,
@@ -65,7 +67,9 @@ fn check_command<'a>(alloc: Global) -> Result<Command<'a>, clap::Error> {
 
 fn explain_command<'a>(alloc: Global) -> Result<Command<'a>, clap::Error> {
     let explain = Command::new(alloc, "explain")
-        .about("Prints the transactions of a file of pcap or pcapng, how they ended, and what was wrong with their datagrams")
+        .about(
+            "Prints the transactions of a file of pcap or pcapng, how they ended, and what was wrong with their datagrams",
+        )
         .after_help("Example: bac explain capture.pcapng")
         .arg(word(alloc, "FILE", "The capture: pcap or pcapng"))?
         .arg(other_port(alloc))?;

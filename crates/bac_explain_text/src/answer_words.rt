@@ -92,9 +92,8 @@ fn answer_words(alloc: Global, apdu: Apdu<'_>) -> Result<Vec<u8>, NoMemory>
         Apdu::Error { class, code, .. } => error_words(alloc, class, code),
         Apdu::Reject { reason, .. } => Ok(reject_text(alloc, reason)?.into_bytes()),
         Apdu::Abort { reason, .. } => Ok(abort_text(alloc, reason)?.into_bytes()),
-        Apdu::ConfirmedRequest { .. }
-        | Apdu::UnconfirmedRequest { .. }
-        | Apdu::SegmentAck { .. } => Ok(Vec::new(alloc)),
+        Apdu::ConfirmedRequest { .. } | Apdu::UnconfirmedRequest { .. } | Apdu::SegmentAck { .. } =>
+            Ok(Vec::new(alloc)),
     }
 }
 

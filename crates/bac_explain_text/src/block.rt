@@ -7,10 +7,9 @@ ghost use Rattle.bac_explain.specs.Views.{transaction_view};
 ghost use Rattle.bac_explain_text.specs.Blocks.{asked_front, answered_front, counts_text, end_text, head_text, naks_text, tail_text};
 ghost use Rattle.bac_explain_text.specs.Blocks.{IsAnsweredLine, IsAnswerLine, IsAskedLine, IsBlock};
 
-use crate::answer_words;
 use crate::ending::answer_ending;
 use crate::peers::key_text;
-use crate::request_words;
+use crate::{answer_words, request_words};
 use bac_explain::{Closed, Sent, Transaction, TransactionKey};
 use bac_value::NoMemory;
 use std::alloc::{AllocError, Global};

@@ -62,11 +62,7 @@ fn get_text(alloc: Global, read: ReadFile) -> Result<Vec<u8>, AllocError>
     Ok(text.into_bytes())
 }
 
-fn append_text(
-    alloc: Global,
-    file: ObjectIdentifier,
-    octets: &[u8],
-) -> Result<Vec<u8>, AllocError>
+fn append_text(alloc: Global, file: ObjectIdentifier, octets: &[u8]) -> Result<Vec<u8>, AllocError>
     ensures { IfOk result (λ t. t.items ≡ append_text (object_identifier_view file) octets.now) }
 {
     let file = object_text(alloc, file)?;

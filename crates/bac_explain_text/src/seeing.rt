@@ -33,7 +33,14 @@ fn link_of(end: Endpoint<'_>) -> Option<LinkAddress>
         return None;
     }
     let (high, low) = ((end.port / 256) as u8, (end.port % 256) as u8);
-    Some([end.host[0], end.host[1], end.host[2], end.host[3], high, low])
+    Some([
+        end.host[0],
+        end.host[1],
+        end.host[2],
+        end.host[3],
+        high,
+        low,
+    ])
 }
 
 /// The APDU of a transaction that a datagram carries.

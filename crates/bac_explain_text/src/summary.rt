@@ -24,7 +24,9 @@ fn endings_text(alloc: Global, tally: Tally) -> Result<String, AllocError>
     let rejected = tally.rejected;
     let aborted = tally.aborted;
     let unanswered = tally.unanswered;
-    format!(in alloc; "transactions={all} answered={answered} rejected={rejected} aborted={aborted} unanswered={unanswered}")
+    format!(in alloc;
+        "transactions={all} answered={answered} rejected={rejected} aborted={aborted} unanswered={unanswered}"
+    )
 }
 
 /// How many transactions there are, how they ended, and what was counted beside them.
@@ -36,5 +38,7 @@ pub(crate) fn summary_text(alloc: Global, tally: Tally) -> Result<String, AllocE
     let findings = tally.findings;
     let frames = tally.frames;
     let unread = tally.unread;
-    format!(in alloc; "{endings} slowest={slowest} findings={findings} frames={frames} unread={unread}\n")
+    format!(in alloc;
+        "{endings} slowest={slowest} findings={findings} frames={frames} unread={unread}\n"
+    )
 }

@@ -1,5 +1,6 @@
 //! Capture files of transactions, and what is printed of them.
 use super::explained_rows::{ANSWERED, Row, WRONG};
+use super::moment_rows::{MOMENTS, NO_MOMENT, NO_MOMENT_PRINTED, PRINTED};
 use super::transaction_rows::Seen;
 use bac_check::Ports;
 use bac_explain_text::explain_over;
@@ -77,18 +78,20 @@ fn file_of(alloc: Global, seen: &[Seen]) -> Result<Vec<u8>, Fail> {
     Ok(file)
 }
 
-fn row_holds(alloc: Global, row: &Row) -> Result<(), Fail> {
-    let (name, seen, text, status) = *row;
-    let file = file_of(alloc, seen)?;
-    let mut input = file.as_slice();
+/// Whether this is printed of a file, and it ends with that status.
+fn prints(alloc: Global, file: &[u8], text: &str, status: u8) -> bool {
+    let mut input = file;
     let mut out = Vec::new(alloc);
     let mut err = Vec::new(alloc);
     let ports = Ports { also: None };
     let ended = explain_over(alloc, &mut input, ports, &mut out, &mut err);
-    holds(
-        out.as_slice() == text.as_bytes() && ended.code() == status && err.is_empty(),
-        name,
-    )
+    out.as_slice() == text.as_bytes() && ended.code() == status && err.is_empty()
+}
+
+fn row_holds(alloc: Global, row: &Row) -> Result<(), Fail> {
+    let (name, seen, text, status) = *row;
+    let file = file_of(alloc, seen)?;
+    holds(prints(alloc, &file, text, status), name)
 }
 
 fn rows_hold(alloc: Global, rows: &'static [Row]) -> Result<(), Fail> {
@@ -106,4 +109,15 @@ fn answered_transactions(rt: HostRuntime) -> Result<(), Fail> {
 #[test]
 fn wrong_transactions(rt: HostRuntime) -> Result<(), Fail> {
     rows_hold(rt.alloc(), WRONG)
+}
+
+/// The unit of moments is an option of the interface, wherever it stands among the others.
+#[test]
+fn moments_of_blocks(rt: HostRuntime) -> Result<(), Fail> {
+    for (name, file) in MOMENTS {
+        let file = octets_of(rt.alloc(), file)?;
+        holds(prints(rt.alloc(), &file, PRINTED, 0), name)?;
+    }
+    let file = octets_of(rt.alloc(), NO_MOMENT)?;
+    holds(prints(rt.alloc(), &file, NO_MOMENT_PRINTED, 1), "no moment")
 }

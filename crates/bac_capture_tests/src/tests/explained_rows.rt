@@ -9,7 +9,12 @@ pub(super) const ANSWERED: &[Row] = &[
         "a read",
         &[
             (1000, true, "810A001101040005000C0C000000051955", ""),
-            (1012, false, "810A0017010030000C0C0000000519553E444290999A3F", ""),
+            (
+                1012,
+                false,
+                "810A0017010030000C0C0000000519553E444290999A3F",
+                "",
+            ),
         ],
         "\
 transaction 10.0.0.5:47808 > 10.0.0.9:47808 id 0
@@ -24,8 +29,18 @@ transactions=1 answered=1 rejected=0 aborted=0 unanswered=0 slowest=12 findings=
         &[
             (0, true, "810A001101040005000C0C000000051955", ""),
             (3000, true, "810A001101040005000C0C000000051955", ""),
-            (3005, false, "810A0017010030000C0C0000000519553E444290999A3F", ""),
-            (3006, false, "810A0017010030000C0C0000000519553E444290999A3F", ""),
+            (
+                3005,
+                false,
+                "810A0017010030000C0C0000000519553E444290999A3F",
+                "",
+            ),
+            (
+                3006,
+                false,
+                "810A0017010030000C0C0000000519553E444290999A3F",
+                "",
+            ),
         ],
         "\
 transaction 10.0.0.5:47808 > 10.0.0.9:47808 id 0
@@ -40,7 +55,12 @@ transactions=1 answered=1 rejected=0 aborted=0 unanswered=0 slowest=3005 finding
         &[
             (0, true, "810A001101040005000C0C000000051955", ""),
             (1, true, "810A001101040005010C0C000000051955", ""),
-            (5, false, "810A0017010030010C0C0000000519553E444290999A3F", ""),
+            (
+                5,
+                false,
+                "810A0017010030010C0C0000000519553E444290999A3F",
+                "",
+            ),
         ],
         "\
 transaction 10.0.0.5:47808 > 10.0.0.9:47808 id 0
@@ -70,7 +90,12 @@ transactions=1 answered=1 rejected=0 aborted=0 unanswered=0 slowest=2 findings=0
     (
         "a write with a priority",
         &[
-            (0, true, "810A001A010400050B0F0C0080000119553E44429100003F4908", ""),
+            (
+                0,
+                true,
+                "810A001A010400050B0F0C0080000119553E44429100003F4908",
+                "",
+            ),
             (7, false, "810A00090100200B0F", ""),
         ],
         "\
@@ -167,9 +192,7 @@ transactions=1 answered=0 rejected=0 aborted=1 unanswered=0 slowest=- findings=0
     ),
     (
         "an unconfirmed request",
-        &[
-            (0, true, "810A000801001008", ""),
-        ],
+        &[(0, true, "810A000801001008", "")],
         "\
 transactions=0 answered=0 rejected=0 aborted=0 unanswered=0 slowest=- findings=0 frames=1 unread=0
 ",
@@ -196,7 +219,12 @@ transactions=2 answered=0 rejected=0 aborted=0 unanswered=2 slowest=- findings=0
         "behind a router",
         &[
             (0, true, "810A0015010C0005012A0005000C0C000000051955", ""),
-            (3, false, "810A001C01200005012AFF30000C0C0000000519553E444290999A3F", ""),
+            (
+                3,
+                false,
+                "810A001C01200005012AFF30000C0C0000000519553E444290999A3F",
+                "",
+            ),
         ],
         "\
 transaction 10.0.0.5:47808/5:2A > 10.0.0.9:47808 id 0
@@ -211,9 +239,12 @@ transactions=1 answered=1 rejected=0 aborted=0 unanswered=0 slowest=3 findings=0
 pub(super) const WRONG: &[Row] = &[
     (
         "an answer to no request",
-        &[
-            (0, false, "810A0017010030000C0C0000000519553E444290999A3F", ""),
-        ],
+        &[(
+            0,
+            false,
+            "810A0017010030000C0C0000000519553E444290999A3F",
+            "",
+        )],
         "\
 frame 1: an answer to no request, 10.0.0.5:47808 > 10.0.0.9:47808 id 0
 transactions=0 answered=0 rejected=0 aborted=0 unanswered=0 slowest=- findings=1 frames=1 unread=0
@@ -224,7 +255,12 @@ transactions=0 answered=0 rejected=0 aborted=0 unanswered=0 slowest=- findings=1
         "two answers",
         &[
             (0, true, "810A001101040005000C0C000000051955", ""),
-            (1, false, "810A0017010030000C0C0000000519553E444290999A3F", ""),
+            (
+                1,
+                false,
+                "810A0017010030000C0C0000000519553E444290999A3F",
+                "",
+            ),
             (2, false, "810A000D010050000C9101911F", ""),
         ],
         "\
@@ -256,7 +292,12 @@ transactions=1 answered=1 rejected=0 aborted=0 unanswered=0 slowest=1 findings=1
         "invoke ID used again",
         &[
             (0, true, "810A001101040005000C0C000000051955", ""),
-            (4, false, "810A0017010030000C0C0000000519553E444290999A3F", ""),
+            (
+                4,
+                false,
+                "810A0017010030000C0C0000000519553E444290999A3F",
+                "",
+            ),
             (65000, true, "810A001101040005000C0C00000005191C", ""),
         ],
         "\
