@@ -5,17 +5,18 @@ use Rattle.std.specs.Option.{option_map}
 use Rattle.bac_ends.specs.Meanings.{Ending, Finish}
 use Rattle.bac_run.specs.Turns.{Turn}
 use Rattle.bac_run.specs.Runs.{Timed}
-use Rattle.bac_run.specs.Serving.{Serves, ServesOnce, StopsServing}
+use Rattle.bac_run.specs.Serving.{ServesOnce, StopsAfter, TakesTurns}
+use Rattle.bac_run.specs.declared.patience.Patience.{Patience}
 use Rattle.bac_run.specs.Asking.{EndsIn, NeverEnds, Stops, ending_in, ending_of}
 
 -- ---- serving
 
-pub none_served : (old : Timed) → Serves 0 0 old old
-none_served old = record { taken = []; all = refl; run = refl; counted = refl }
+pub none_served : (p : Patience) (old : Timed) → TakesTurns p 0 0 old old
+none_served p old = record { taken = []; all = refl; run = refl; counted = refl }
 
-pub one_more_served : (turns effects more : ℕ) (old middle new : Timed) → Serves turns effects old middle → ServesOnce more middle new
-    → Serves (turns + 1) (effects + more) old new
-one_more_served turns effects more old middle new before once =
+pub one_more_served : (p : Patience) (turns effects more : ℕ) (old middle new : Timed) → TakesTurns p turns effects old middle → ServesOnce p more middle new
+    → TakesTurns p (turns + 1) (effects + more) old new
+one_more_served p turns effects more old middle new before once =
     record {
       taken = once.turn ∷ before.taken;
       all = rw (add-one turns) (ap suc before.all);
@@ -23,10 +24,10 @@ one_more_served turns effects more old middle new before once =
       counted = let a = before.counted in let b = once.counted in omega arith;
     }
 
-pub stops_serving : (turns all effects : ℕ) (fails : Timed → Timed → Type 0) (old middle new : Timed) → turns < all → Serves turns effects old middle
-    → fails middle new → StopsServing all fails old new
-stops_serving turns all effects fails old middle new fewer before failed =
-    record { taken = before.taken; fewer = let is = before.all in omega arith; middle = middle; run = before.run; failed = failed }
+pub stops_serving : (p : Patience) (turns all effects : ℕ) (happens : Timed → Timed → Type 0) (old middle new : Timed) → turns < all
+    → TakesTurns p turns effects old middle → happens middle new → StopsAfter p all effects happens old new
+stops_serving p turns all effects happens old middle new fewer before stopped =
+    record { taken = turns; fewer = fewer; middle = middle; takes = before; stopped = stopped }
 
 -- ---- waiting
 
