@@ -94,7 +94,9 @@ fn setting<'a>(alloc: Global) -> [Arg<'a>; 3] {
         .long("at")
         .action(ArgAction::Set)
         .value_name("A.B.C.D")
-        .help("The IPv4 address of this machine that it listens at; 0.0.0.0 is each. Without it 127.0.0.1, which no other machine reaches");
+        .help(
+            "The IPv4 address of this machine that it listens at; 0.0.0.0 is each. Without it 127.0.0.1, which no other machine reaches",
+        );
     let slots = number(
         alloc,
         "slots",
@@ -105,7 +107,9 @@ fn setting<'a>(alloc: Global) -> [Arg<'a>; 3] {
     let restarted = Arg::new(alloc, "restarted")
         .long("restarted")
         .action(ArgAction::SetTrue)
-        .help("It served before, and has lost what it remembered: it turns new requests away for 65 seconds, so that none is performed twice");
+        .help(
+            "It served before, and has lost what it remembered: it turns new requests away for 65 seconds, so that none is performed twice",
+        );
     [at, slots.required(false), restarted]
 }
 
@@ -154,7 +158,9 @@ fn peer<'a>(alloc: Global) -> Result<[Arg<'a>; 2], clap::Error> {
         .action(ArgAction::Set)
         .value_name("A.B.C.D[:P]")
         .conflicts_with("port")?
-        .help("The IPv4 address of the node that is asked, and its UDP port, 47808 where there is none");
+        .help(
+            "The IPv4 address of the node that is asked, and its UDP port, 47808 where there is none",
+        );
     Ok([port, to])
 }
 

@@ -44,7 +44,12 @@ pub trait Machine {
 }
 
 /// Tells on `err` where a node listens, and how many slots it has; and from when on it serves, where it restarted.
-fn tell_listening<E: Write>(serving: &Serving, link: LinkAddress, restart: Option<u64>, err: &mut E) {
+fn tell_listening<E: Write>(
+    serving: &Serving,
+    link: LinkAddress,
+    restart: Option<u64>,
+    err: &mut E,
+) {
     let [a, b, c, d, high, low] = link;
     let port = u16::from_be_bytes([high, low]);
     let slots = serving.slots;
@@ -86,7 +91,14 @@ pub(crate) fn serve<M: Machine, O: Write, E: Write>(
     };
     tell_listening(serving, address, restart, err);
     let patience = serving.patience(start);
-    bac_commands::serve(&mut station, &mut timer, &patience, serving.most_turns(), out, err)
+    bac_commands::serve(
+        &mut station,
+        &mut timer,
+        &patience,
+        serving.most_turns(),
+        out,
+        err,
+    )
 }
 
 /// The question for a peer that some words are.

@@ -17,9 +17,15 @@ const WORDS: &[(&str, &str)] = &[
     ("serve --turns 2", "--port <P>"),
     ("serve --port 47899 --slots 0", "0 is not in 1..=1024"),
     ("serve --port 47899 --slots 1025", "1025"),
-    ("serve --port 47899 --seconds 0", "0 is not in 1..=1000000000"),
+    (
+        "serve --port 47899 --seconds 0",
+        "0 is not in 1..=1000000000",
+    ),
     ("ask read 0:5 85", "--port <P>"),
-    ("ask --port 47808 --to 127.0.0.1 read 0:5 85", "--to <A.B.C.D[:P]>"),
+    (
+        "ask --port 47808 --to 127.0.0.1 read 0:5 85",
+        "--to <A.B.C.D[:P]>",
+    ),
     ("serve --help", "--restarted"),
     ("serve --port 0 --turns 2", "0 is not in 1..=65535"),
     ("serve --port 65536 --turns 2", "65536"),

@@ -23,10 +23,7 @@ const ROWS: &[(&str, Ending)] = &[
         ("served 0\n", "", 0),
     ),
     // an address of another machine
-    (
-        "serve --port 47899 --at 192.0.2.1",
-        ("", "link fault\n", 3),
-    ),
+    ("serve --port 47899 --at 192.0.2.1", ("", "link fault\n", 3)),
     (
         "pair",
         ("answered position 2\nanswered read 444290999A\n", "", 0),

@@ -35,12 +35,7 @@ fn serve<R: Abort>(
 }
 
 /// What comes where a node serves for so many turns, or until that moment.
-fn served<R: Abort>(
-    rt: &R,
-    alloc: Global,
-    until: Option<u64>,
-    turns: u64,
-) -> Result<Served, Fail> {
+fn served<R: Abort>(rt: &R, alloc: Global, until: Option<u64>, turns: u64) -> Result<Served, Fail> {
     let medium = RefCell::new(Medium::new(alloc, Failing::NOTHING));
     let moment = Cell::new(0);
     let mut server = station(alloc, &medium, &moment, SERVER)?;
