@@ -1,12 +1,11 @@
 -- A turn, of its two parts.
-use Rattle.std.proofs.Common.{◌≡◌, ℕ, ◌+◌, ◌≤◌, min, List, ◌++◌, map, length, take, ap, sym, subst, ◌∙◌, arith, length-append}
-use Rattle.std.proofs.Math.Seq.{take-append_seam}
+use Rattle.std.proofs.Common.{◌≡◌, ℕ, ◌+◌, ◌≤◌, min, List, ◌++◌, map, length, ap, sym, subst, ◌∙◌, arith, length-append}
 use Rattle.std.proofs.lemmas.List.{map-append}
 use Rattle.bac_protocol.specs.Service.{Octets}
 use Rattle.bac_ends.specs.Sends.{Datagram}
 use Rattle.bac_link.specs.Calls.{Calls, MOST}
 use Rattle.bac_run.specs.Stations.{Station}
-use Rattle.bac_run.specs.Turns.{IsCarried, call_of, counted, with_calls}
+use Rattle.bac_run.specs.Turns.{Acts, IsCarried, Step, Steps, Turn, call_of, counted, with_calls}
 use Rattle.bac_run.proofs.Counts.{counted_both, with_more}
 
 -- what a step sends goes to the link
@@ -35,6 +34,16 @@ pub carried_of : (a b all more : List Datagram) (lost : ℕ) (old new : Station)
 carried_of a b all more lost old new is is_more sent =
     subst (λ (x : List Datagram). IsCarried (all ++ x) lost old new) is_more (subst (λ (x : List Datagram). IsCarried (x ++ b) lost old new) is sent)
 
--- what stands in a vector whose first octets were lent, all that it has
-pub lent_whole : (n : ℕ) (xs ys : Octets) → length xs ≡ n → take n (xs ++ ys) ≡ xs
-lent_whole n xs ys size = subst (λ (m : ℕ). take m (xs ++ ys) ≡ xs) size (take-append_seam xs ys)
+-- both steps of a station that was so before them, over the octets that it had in its buffer
+pub acted : (now : ℕ) (seen : Octets) (before old new : Station) (turn : Turn) (first second : Step) → before ≡ old → seen ≡ before.buffer
+    → new.buffer ≡ before.buffer → Steps now seen before.node new.node turn first second → IsCarried (first.sends ++ second.sends) turn.lost before new
+    → Acts now old turn new
+acted now seen before old new turn first second is seen_is same steps sent =
+    subst (λ (o : Station). Acts now o turn new) is
+    (record {
+      first = first;
+      second = second;
+      steps = subst (λ (b : Octets). Steps now b before.node new.node turn first second) seen_is steps;
+      carried = sent;
+      buffer = same;
+    })

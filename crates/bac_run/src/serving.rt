@@ -78,10 +78,11 @@ impl<L: Link> Station<L> {
     {
         let mut effects = 0;
         for _ in 0..turns {
-            match self.serve_once(clock, patience)? {
-                Some(more) => effects += more,
-                None => return Ok(effects),
-            }
+            let once = self.serve_once(clock, patience)?;
+            let Some(more) = once else {
+                return Ok(effects);
+            };
+            effects += more;
         }
         Ok(effects)
     }
