@@ -1,5 +1,5 @@
 -- One turn of a node on a link: what has come is heard, all that is due is done, and what the node sends goes out.
-use Rattle.std.specs.Prelude.{◌≡◌, ◌⊎◌, ℕ, zero, suc, ◌+◌, ◌≤◌, List, [], ◌∷◌, ◌++◌, map, length, take, Option, Some, None, Ok, IfSome}
+use Rattle.std.specs.Prelude.{◌≡◌, ◌⊎◌, ℕ, zero, suc, ◌+◌, ◌≤◌, List, [], ◌++◌, map, length, take, Option, Some, None, Ok, IfSome}
 use Rattle.std.specs.Option.{option_map}
 use Rattle.bac_protocol.specs.Service.{Octets}
 use Rattle.bac_ends.specs.Sends.{Datagram}

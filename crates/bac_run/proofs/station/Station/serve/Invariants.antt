@@ -6,6 +6,6 @@ use Rattle.bac_run.proofs.station.Station.serve.Given as goal
 abbrev pub invariant-loop : goal.invariant-loop
 invariant-loop g l =
     record {
-      served : TakesTurns l.patience.now l.counter l.effects (timed l.initial.self (g.C.Clock.told l.initial.clock)) (timed l.self (g.C.Clock.told l.clock));
+      served : TakesTurns l.patience l.counter l.effects (timed l.initial.self (g.C.Clock.told l.initial.clock)) (timed l.self (g.C.Clock.told l.clock));
       few : l.effects ≤ l.counter;
     }
