@@ -41,10 +41,12 @@ def has_port(process, port):
 
 class Server:
     """A process of `bac serve`. It has the house store, and takes so many turns: each hears one datagram, or waits for 100 ms.
-    Where no port is given it takes a free one, and another one where that was taken in between."""
+    Where no port is given it takes a free one, and another one where that was taken in between. `options` are further words; `said` is what it says on
+    standard error."""
 
-    def __init__(self, program, turns, port=None):
-        self.words, self.turns, self.wanted = [program, 'serve', '--port'], ['--turns', str(turns)], port
+    def __init__(self, program, turns, port=None, options=(), said=''):
+        self.words, self.turns, self.wanted = [program, 'serve', '--port'], ['--turns', str(turns), *options], port
+        self.wanted_words = said
 
     def start(self):
         """Starts the process; answers whether it has its port."""
@@ -90,7 +92,7 @@ class Server:
         if self.process.poll() is None:
             raise SystemExit(f'the server at port {self.port} did not end')
         out, err = self.process.communicate()
-        if self.process.returncode != 0 or err or not out.startswith('served '):
+        if self.process.returncode != 0 or err != self.wanted_words or not out.startswith('served '):
             raise SystemExit(f'serve: status {self.process.returncode}, {out!r}, {err!r}')
         return int(out.removeprefix('served '))
 

@@ -16,6 +16,8 @@ REPEATED = 0.15
 # how likely a copy is delayed by at most so many seconds; all are younger than the 5 seconds in which a copy can still be delivered
 DELAYS = [(0.5, 0.005), (0.8, 0.1), (0.95, 0.8), (1.0, 4.0)]
 
+LIFE = 4.9  # seconds; 5 are the age at which a copy is lost
+
 
 class Route:
     """The way between one client and a server: a socket that the client sends to, and one by which the server sees it."""
@@ -36,7 +38,7 @@ class Network:
     """Routes, and the copies that are under way on them. What becomes of a route's datagrams depends on the seed and the route's number alone."""
 
     def __init__(self, seed):
-        self.seed, self.order, self.under_way = seed, count(), []
+        self.seed, self.order, self.under_way, self.held_back = seed, count(), [], set()
         self.selector, self.lock, self.ended = selectors.DefaultSelector(), threading.Lock(), False
         self.counts = {'came': 0, 'dropped': 0, 'repeated': 0, 'late': 0, 'overtaken': 0}
         self.thread = threading.Thread(target=self.carry)
@@ -61,6 +63,17 @@ class Network:
             self.selector.register(made.back, selectors.EVENT_READ, (made, made.back))
         yield made.front.getsockname()[1]
 
+    @contextmanager
+    def held(self, server):
+        """Meanwhile nothing comes from or to that server: it waits, and is lost where it gets too old."""
+        with self.lock:
+            self.held_back.add(server)
+        try:
+            yield
+        finally:
+            with self.lock:
+                self.held_back.remove(server)
+
     def wait_until_empty(self):
         """Waits until all copies that are under way now have come."""
         time.sleep(DELAYS[-1][1] + 0.5)
@@ -68,10 +81,9 @@ class Network:
     def carry(self):
         while not self.ended:
             with self.lock:
-                ready = self.selector.select(0.002)
-            for key, _ in ready:
-                self.take(*key.data)
-            self.hand_over(time.monotonic())
+                for key, _ in self.selector.select(0.002):
+                    self.take(*key.data)
+                self.hand_over(time.monotonic())
             time.sleep(0.0005)
 
     def take(self, route, taken):
@@ -96,16 +108,24 @@ class Network:
         due = time.monotonic() + delay
         number = next(self.order)
         self.counts['overtaken'] += any(other[0] > due and other[2:4] == (route, is_request) for other in self.under_way)
-        heapq.heappush(self.under_way, (due, number, route, is_request, octets))
+        heapq.heappush(self.under_way, (due, number, route, is_request, octets, time.monotonic()))
 
     def hand_over(self, now):
-        """Sends the copies that are due."""
+        """Sends the copies that are due, but those of servers that are held back and those that are too old."""
+        waiting = []
         while self.under_way and self.under_way[0][0] <= now:
-            _, _, route, is_request, octets = heapq.heappop(self.under_way)
-            if is_request:
+            copy = heapq.heappop(self.under_way)
+            _, _, route, is_request, octets, born = copy
+            if route.server[1] in self.held_back:
+                waiting.append(copy)
+            elif now - born > LIFE:
+                self.counts['dropped'] += 1
+            elif is_request:
                 route.back.sendto(octets, route.server)
             else:
                 route.front.sendto(octets, route.client)
+        for copy in waiting:
+            heapq.heappush(self.under_way, copy)
 
     def summary(self):
         words = {'came': 'datagrams came', 'late': 'copies later than 0.5 s', 'overtaken': 'copies overtook an earlier one'}

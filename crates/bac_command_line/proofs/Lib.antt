@@ -1,3 +1,4 @@
 pub mod CheckedFiles
 pub mod Statuses
 pub mod StoresOfFiles
+pub mod Served

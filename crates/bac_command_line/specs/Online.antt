@@ -1,31 +1,37 @@
--- What `serve`, `ask` and `pair` print, and their statuses: over links that the machine bound to the port of the command, and beside a clock that it made,
+-- What `serve`, `ask` and `pair` print, and their statuses: over links that the machine bound to the address of the command, and beside a clock that it made,
 -- bac_commands' promise holds.
 use Rattle.std.specs.Prelude.{◌≡◌, ℕ, Bool, true, false, List, Option, None}
+use Rattle.std.specs.Io.KnownBytes.{Keeps}
 use Rattle.bac_protocol.specs.Service.{Octets}
 use Rattle.bac_link.specs.Calls.{Calls}
-use Rattle.bac_link.specs.Moments.{Told}
+use Rattle.bac_link.specs.Moments.{Told, with_moment}
+use Rattle.bac_link.specs.Udp.{LOCAL_HOST}
+use Rattle.bac_node.specs.Fresh.{slots_fit}
 use Rattle.bac_script.specs.Requests.{request_of}
-use Rattle.bac_store.specs.House.{house}
 use Rattle.bac_store.specs.Stores.{Store}
 use Rattle.bac_text.specs.declared.status.Status.{Status}
 use Rattle.bac_run.specs.Asking.{Question}
 use Rattle.bac_run.specs.Pairs.{Pair}
 use Rattle.bac_run.specs.Runs.{Timed}
 use Rattle.bac_run.specs.Stations.{Station}
-use Rattle.bac_commands.specs.Houses.{node_with}
+use Rattle.bac_world.specs.Node.{Node}
+use Rattle.bac_commands.specs.Houses.{house_node, server_node}
 use Rattle.bac_commands.specs.Pairs.{TwoTexts}
-use Rattle.bac_commands.specs.Questions.{IsQuestion, local}
+use Rattle.bac_commands.specs.Questions.{IsQuestion}
 use Rattle.bac_commands.specs.Reports.{AskedText, ServedText}
 use Rattle.bac_commands.specs.Statuses.{ByStatus}
 use Rattle.bac_commands.specs.Words.{AskedWords}
+use Rattle.bac_command_line.specs.Serving.{patience_of, restart_of, turns_of}
+use Rattle.bac_command_line.specs.declared.asking.Asking.{Asking}
+use Rattle.bac_command_line.specs.declared.serving.Serving.{Serving}
 
 -- ---- links and clocks
 
--- a link that the machine bound to a port, by its address, the count of its failures and the calls that were made
-pub record OnPort {Link : Type 0} (IsBound : (port : ℕ) → Link → (address : Octets) → Type 0) (failures_of : Link → ℕ) (calls_of : Link → Calls)
-    (port : ℕ) (address : Octets) (failures : ℕ) (calls : Calls) : Type 0 where
+-- a link that the machine bound to a port of an IPv4 address, by its address, the count of its failures and the calls that were made
+pub record OnPort {Link : Type 0} (IsBound : (host : Octets) → (port : ℕ) → Link → (address : Octets) → Type 0) (failures_of : Link → ℕ)
+    (calls_of : Link → Calls) (host : Octets) (port : ℕ) (address : Octets) (failures : ℕ) (calls : Calls) : Type 0 where
   pub link : Link
-  pub bound : IsBound port link address
+  pub bound : IsBound host port link address
   pub failed : failures ≡ failures_of link
   pub made : calls ≡ calls_of link
 
@@ -36,80 +42,88 @@ pub record OnClock {Timer : Type 0} (IsMade : Timer → Type 0) (told_by : Timer
   pub is : told ≡ told_by timer
 
 -- What follows takes two such relations: of the links of a machine, and of its clocks.
+abbrev pub Links : Type 1
+Links = (host : Octets) → (port : ℕ) → (address : Octets) → (failures : ℕ) → Calls → Type 0
+
+abbrev pub Clocks : Type 1
+Clocks = Told → Type 0
 
 -- any free port
 abbrev pub FREE : ℕ
 FREE = 0
 
--- a node with a store on a link at a port
-pub record IsNodeAt (store : Store) (IsOn : (port : ℕ) → (address : Octets) → (failures : ℕ) → Calls → Type 0) (port : ℕ) (station : Station) : Type 0 where
+-- a node on a link at a port: that node, by its address
+pub record IsAt (IsOn : Links) (host : Octets) (port : ℕ) (node_at : (address : Octets) → Node) (station : Station) : Type 0 where
   pub address : Octets
-  pub node : station.node ≡ node_with address store
-  pub on : IsOn port address station.failures station.calls
+  pub node : station.node ≡ node_at address
+  pub on : IsOn host port address station.failures station.calls
 
--- the same with the house store
-abbrev pub IsHouseAt : (IsOn : (port : ℕ) → (address : Octets) → (failures : ℕ) → Calls → Type 0) → (port : ℕ) → Station → Type 0
-IsHouseAt IsOn port station = IsNodeAt house IsOn port station
+-- one with the house store, to which nothing has happened, at any free port
+abbrev pub IsHouseAt : Links → (host : Octets) → Station → Type 0
+IsHouseAt IsOn host station = IsAt IsOn host FREE house_node station
 
 -- ---- serving
 
--- such a node took so many turns, and how many requests it performed was printed
-pub record Serves (store : Store) (IsOn : (port : ℕ) → (address : Octets) → (failures : ℕ) → Calls → Type 0) (IsClock : Told → Type 0) (port turns : ℕ)
-    (old new : Option (List ℕ)) : Type 0 where
+-- a clock that was made told that moment
+pub record HasTold (IsClock : Clocks) (moment : ℕ) (told : Told) : Type 0 where
+  pub before : Told
+  pub made : IsClock before
+  pub is : told ≡ with_moment before moment
+
+-- a node with a store served from a moment on, and how many requests it performed was printed
+pub record Serves (store : Store) (IsOn : Links) (IsClock : Clocks) (serving : Serving) (old new : Option (List ℕ)) : Type 0 where
+  pub start : ℕ
   pub before : Timed
   pub after : Timed
-  pub node : IsNodeAt store IsOn port before.station
-  pub clock : IsClock before.told
-  pub text : ServedText turns before after old new
+  pub node :
+      IsAt IsOn serving.host serving.port (λ address. server_node serving.slots (restart_of serving.restarted start) address store) before.station
+  pub clock : HasTold IsClock start before.told
+  pub text : ServedText (patience_of serving start) (turns_of serving.turns) before after old new
 
-abbrev pub IsServedBy : Store → (IsOn : (port : ℕ) → (address : Octets) → (failures : ℕ) → Calls → Type 0) → (IsClock : Told → Type 0) → Status → (port turns : ℕ)
-    → (old new : Option (List ℕ)) → Type 0
-IsServedBy store IsOn IsClock s port turns old new = ByStatus s (Serves store IsOn IsClock port turns old new) ⊥ ⊥
+-- there can't be so many slots, and nothing was printed
+pub record IsRefused (serving : Serving) (old new : Option (List ℕ)) : Type 0 where
+  pub slots : slots_fit serving.slots ≡ false
+  pub keeps : Keeps old new
 
--- the same with the house store
-abbrev pub IsServed : (IsOn : (port : ℕ) → (address : Octets) → (failures : ℕ) → Calls → Type 0) → (IsClock : Told → Type 0) → Status → (port turns : ℕ)
-    → (old new : Option (List ℕ)) → Type 0
-IsServed IsOn IsClock s port turns old new = IsServedBy house IsOn IsClock s port turns old new
+abbrev pub IsServedBy : Store → Links → Clocks → Status → Serving → (old new : Option (List ℕ)) → Type 0
+IsServedBy store IsOn IsClock s serving old new = ByStatus s (Serves store IsOn IsClock serving old new) ⊥ (IsRefused serving old new)
 
 -- ---- asking
 
 -- how it ended was printed: in words, or in octets
-abbrev pub AskedAs : (text : Bool) → (answered : Bool) → Question → (before after : Timed) → (old new : Option (List ℕ)) → Type 0
-AskedAs true answered question before after old new = AskedWords answered question before after old new
-AskedAs false answered question before after old new = AskedText answered question before after old new
+abbrev pub AskedAs : (text strict succeeded : Bool) → Question → (before after : Timed) → (old new : Option (List ℕ)) → Type 0
+AskedAs true strict succeeded question before after old new = AskedWords strict succeeded question before after old new
+AskedAs false strict succeeded question before after old new = AskedText strict succeeded question before after old new
 
-abbrev pub ReportsAs : Status → (text : Bool) → Question → (before after : Timed) → (old new : Option (List ℕ)) → Type 0
-ReportsAs s text q before after old new = ByStatus s (AskedAs text true q before after old new) (AskedAs text false q before after old new) ⊥
+abbrev pub ReportsAs : Status → (text strict : Bool) → Question → (before after : Timed) → (old new : Option (List ℕ)) → Type 0
+ReportsAs s text strict q before after old new =
+    ByStatus s (AskedAs text strict true q before after old new) (AskedAs text strict false q before after old new) ⊥
 
--- such a node at any free port asked the node at a port, and how that ended was printed
-pub record Asks (IsOn : (port : ℕ) → (address : Octets) → (failures : ℕ) → Calls → Type 0) (IsClock : Told → Type 0) (text answered : Bool) (port : ℕ)
-    (words : List (List ℕ)) (old new : Option (List ℕ)) : Type 0 where
+-- a house at any free port asked the node at an address, and how that ended was printed
+pub record Asks (IsOn : Links) (IsClock : Clocks) (asking : Asking) (succeeded : Bool) (words : List (List ℕ)) (old new : Option (List ℕ)) : Type 0 where
   pub question : Question
-  pub is : IsQuestion (local port) words question
+  pub is : IsQuestion asking.peer words question
   pub before : Timed
   pub after : Timed
-  pub house : IsHouseAt IsOn FREE before.station
+  pub house : IsHouseAt IsOn asking.host before.station
   pub clock : IsClock before.told
-  pub printed : AskedAs text answered question before after old new
+  pub printed : AskedAs asking.text asking.strict succeeded question before after old new
 
 -- the command line is refused only where the words are no request
-abbrev pub IsAsked : (IsOn : (port : ℕ) → (address : Octets) → (failures : ℕ) → Calls → Type 0) → (IsClock : Told → Type 0) → Status → (text : Bool)
-    → (port : ℕ) → (words : List (List ℕ)) → (old new : Option (List ℕ)) → Type 0
-IsAsked IsOn IsClock s text port words old new =
-    ByStatus s (Asks IsOn IsClock text true port words old new) (Asks IsOn IsClock text false port words old new) (request_of words ≡ None)
+abbrev pub IsAsked : Links → Clocks → Status → Asking → (words : List (List ℕ)) → (old new : Option (List ℕ)) → Type 0
+IsAsked IsOn IsClock s asking words old new =
+    ByStatus s (Asks IsOn IsClock asking true words old new) (Asks IsOn IsClock asking false words old new) (request_of words ≡ None)
 
 -- ---- two nodes
 
--- two such nodes at free ports: both asks of the first
-pub record Pairs (IsOn : (port : ℕ) → (address : Octets) → (failures : ℕ) → Calls → Type 0) (IsClock : Told → Type 0) (answered : Bool)
-    (old new : Option (List ℕ)) : Type 0 where
+-- two such nodes at free ports of this machine: both asks of the first
+pub record Pairs (IsOn : Links) (IsClock : Clocks) (answered : Bool) (old new : Option (List ℕ)) : Type 0 where
   pub before : Pair
   pub after : Pair
-  pub first : IsHouseAt IsOn FREE before.first
-  pub second : IsHouseAt IsOn FREE before.second
+  pub first : IsHouseAt IsOn LOCAL_HOST before.first
+  pub second : IsHouseAt IsOn LOCAL_HOST before.second
   pub clock : IsClock before.told
   pub texts : TwoTexts answered before after old new
 
-abbrev pub IsPair : (IsOn : (port : ℕ) → (address : Octets) → (failures : ℕ) → Calls → Type 0) → (IsClock : Told → Type 0) → Status
-    → (old new : Option (List ℕ)) → Type 0
+abbrev pub IsPair : Links → Clocks → Status → (old new : Option (List ℕ)) → Type 0
 IsPair IsOn IsClock s old new = ByStatus s (Pairs IsOn IsClock true old new) (Pairs IsOn IsClock false old new) ⊥

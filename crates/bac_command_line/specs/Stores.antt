@@ -1,9 +1,7 @@
 -- What `answer` and `serve` print, and their statuses, with the house store or one that a file means.
 use Rattle.std.specs.Prelude.{◌≡◌, ⊤, ℕ, List, Option, Some, None, Ok}
 use Rattle.std.specs.Io.KnownBytes.{Keeps}
-use Rattle.bac_protocol.specs.Service.{Octets}
-use Rattle.bac_link.specs.Calls.{Calls}
-use Rattle.bac_link.specs.Moments.{Told}
+use Rattle.bac_store.specs.House.{house}
 use Rattle.bac_store.specs.Stores.{Store}
 use Rattle.bac_objects.specs.Documents.{IsRead}
 use Rattle.bac_text.specs.declared.status.Status.{Status}
@@ -11,7 +9,8 @@ use Rattle.bac_text.specs.declared.status.Status.TheVariants as status
 use Rattle.bac_commands.specs.AnswerTexts.{IsAnswered, IsAnsweredBy}
 use Rattle.bac_commands.specs.Statuses.{ByStatus}
 use Rattle.bac_command_line.specs.Files.{OfFile}
-use Rattle.bac_command_line.specs.Online.{IsServed, Serves}
+use Rattle.bac_command_line.specs.Online.{Clocks, IsServedBy, Links, Serves}
+use Rattle.bac_command_line.specs.declared.serving.Serving.{Serving}
 
 -- where the octets of a file are known, they mean the store
 abbrev pub MeansStore : (content : Option (List ℕ)) → Store → Type 0
@@ -31,9 +30,8 @@ IsAnsweredFrom IsAt None text s old new = IsAnswered text old new s
 IsAnsweredFrom IsAt (Some path) text s old new =
     ByStatus s (OfStore IsAt path (λ store. IsAnsweredBy store text old new status.Done)) ⊥ (Keeps old new)
 
-abbrev pub IsServedFrom : (IsAt : (path : List ℕ) → (content : Option (List ℕ)) → Type 0) → (objects : Option (List ℕ))
-    → (IsOn : (port : ℕ) → (address : Octets) → (failures : ℕ) → Calls → Type 0) → (IsClock : Told → Type 0) → Status → (port turns : ℕ)
+abbrev pub IsServedFrom : (IsAt : (path : List ℕ) → (content : Option (List ℕ)) → Type 0) → (objects : Option (List ℕ)) → Links → Clocks → Status → Serving
     → (old new : Option (List ℕ)) → Type 0
-IsServedFrom IsAt None IsOn IsClock s port turns old new = IsServed IsOn IsClock s port turns old new
-IsServedFrom IsAt (Some path) IsOn IsClock s port turns old new =
-    ByStatus s (OfStore IsAt path (λ store. Serves store IsOn IsClock port turns old new)) ⊥ (Keeps old new)
+IsServedFrom IsAt None IsOn IsClock s serving old new = IsServedBy house IsOn IsClock s serving old new
+IsServedFrom IsAt (Some path) IsOn IsClock s serving old new =
+    ByStatus s (OfStore IsAt path (λ store. Serves store IsOn IsClock serving old new)) ⊥ (Keeps old new)

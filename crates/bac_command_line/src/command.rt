@@ -10,6 +10,7 @@ use crate::online;
 use crate::online::Machine;
 use crate::task::{Task, task_of};
 use bac_text::{Status, complain, decode_over, no_memory};
+use clap::ArgMatches;
 use clap::error::ErrorKind;
 use std::alloc::Global;
 use std::io::Write;
@@ -32,15 +33,19 @@ fn perform<F: OpenFiles, M: Machine, O: Write, E: Write>(
         Task::Check { path, port } => check(alloc, files, path, port, out, err),
         Task::Explain { path, port } => explain(alloc, files, path, port, out, err),
         Task::Simulate(path) => simulate(alloc, files, path, out, err),
-        Task::Serve {
-            port,
-            turns,
-            objects,
-        } => serve(alloc, files, machine, port, turns, objects, out, err),
-        Task::Ask { text, port, words } => {
-            online::ask(alloc, machine, text, port, words, out, err)
+        Task::Serve { serving, objects } => {
+            serve(alloc, files, machine, &serving, objects, out, err)
         }
+        Task::Ask { asking, words } => online::ask(alloc, machine, &asking, words, out, err),
         Task::Pair => online::pair(alloc, machine, out, err),
+    }
+}
+
+/// Why there is nothing to be done.
+fn fault_of(matches: &ArgMatches<'_>) -> &'static str {
+    match matches.subcommand() {
+        Some(("serve" | "ask", _)) => "bad address",
+        _ => "no command",
     }
 }
 
@@ -66,6 +71,6 @@ pub fn run<F: OpenFiles, M: Machine, O: Write, E: Write>(
     };
     match task_of(&matches) {
         Some(task) => perform(alloc, task, files, machine, out, err),
-        None => complain(err, "no command", Status::CommandLine),
+        None => complain(err, fault_of(&matches), Status::CommandLine),
     }
 }

@@ -105,21 +105,67 @@ fn simulate_command<'a>(alloc: Global) -> Result<Command<'a>, clap::Error> {
 
 /// Nodes that may serve.
 const SERVE_EXAMPLES: &str = "\
-Example: bac serve --port 47808 --turns 600
-Example: bac serve --port 47808 --turns 600 --objects plant.toml";
+Example: bac serve --port 47808
+Example: bac serve --port 47808 --seconds 3600 --objects plant.toml
+Example: bac serve --port 47808 --at 192.168.1.20 --restarted
+Example: bac serve --port 47808 --turns 600";
+
+/// How long it serves.
+fn span<'a>(alloc: Global) -> [Arg<'a>; 2] {
+    let turns = number(
+        alloc,
+        "turns",
+        "N",
+        1_000_000,
+        "How many turns it takes, 1 to 1000000; each waits at most 100 milliseconds for a datagram. Without it, it serves until it is ended",
+    );
+    let seconds = number(
+        alloc,
+        "seconds",
+        "S",
+        1_000_000_000,
+        "After how many seconds it ends, 1 to 1000000000",
+    );
+    [turns.required(false), seconds.required(false)]
+}
+
+/// What its node has.
+fn setting<'a>(alloc: Global) -> [Arg<'a>; 3] {
+    let at = Arg::new(alloc, "at")
+        .long("at")
+        .action(ArgAction::Set)
+        .value_name("A.B.C.D")
+        .help(
+            "The IPv4 address of this machine that it listens at; 0.0.0.0 is each. Without it 127.0.0.1, which no other machine reaches",
+        );
+    let slots = number(
+        alloc,
+        "slots",
+        "N",
+        1_024,
+        "How many requests it can remember at once, 1 to 1024; without it 64 where it takes so many turns, otherwise 1024",
+    );
+    let restarted = Arg::new(alloc, "restarted")
+        .long("restarted")
+        .action(ArgAction::SetTrue)
+        .help(
+            "It served before, and has lost what it remembered: it turns new requests away for 65 seconds, so that none is performed twice",
+        );
+    [at, slots.required(false), restarted]
+}
 
 fn serve_command<'a>(alloc: Global) -> Result<Command<'a>, clap::Error> {
+    let [turns, seconds] = span(alloc);
+    let [at, slots, restarted] = setting(alloc);
     let serve = Command::new(alloc, "serve")
         .about("Serves a house over UDP on 127.0.0.1, and prints how many requests it performed")
         .after_help(SERVE_EXAMPLES)
         .arg(port(alloc, "The UDP port that it listens at, 1 to 65535"))?
-        .arg(number(
-            alloc,
-            "turns",
-            "N",
-            1_000_000,
-            "How many turns it takes, 1 to 1000000; each waits at most 100 milliseconds for a datagram",
-        ))?
+        .arg(turns)?
+        .arg(seconds)?
+        .arg(at)?
+        .arg(slots)?
+        .arg(restarted)?
         .arg(objects(alloc))?;
     Ok(serve)
 }
@@ -140,8 +186,24 @@ A word that begins with `-` is given after `--`";
 const ASK_EXAMPLES: &str = "\
 Example: bac ask --port 47808 read 0:5 85
 Example: bac ask --port 47808 --text read analog-input:5 present-value
-Example: bac ask --port 47808 write analog-value:1 present-value real:72.5 priority 8
+Example: bac ask --to 192.168.1.20 write analog-value:1 present-value real:72.5 priority 8
 Example: bac ask --port 47808 -- put 10:1 -1 AA";
+
+/// Who is asked: a port of this machine, or an address.
+fn peer<'a>(alloc: Global) -> Result<[Arg<'a>; 2], clap::Error> {
+    let port = port(alloc, "The UDP port of the node that is asked, 1 to 65535")
+        .required(false)
+        .required_unless_present("to")?;
+    let to = Arg::new(alloc, "to")
+        .long("to")
+        .action(ArgAction::Set)
+        .value_name("A.B.C.D[:P]")
+        .conflicts_with("port")?
+        .help(
+            "The IPv4 address of the node that is asked, and its UDP port, 47808 where there is none",
+        );
+    Ok([port, to])
+}
 
 fn ask_command<'a>(alloc: Global) -> Result<Command<'a>, clap::Error> {
     let words = Arg::new(alloc, "WORDS")
@@ -153,12 +215,19 @@ fn ask_command<'a>(alloc: Global) -> Result<Command<'a>, clap::Error> {
         .long("text")
         .action(ArgAction::SetTrue)
         .help("Prints values by their kinds, and errors and reasons by their names");
+    let fail = Arg::new(alloc, "fail")
+        .long("fail")
+        .action(ArgAction::SetTrue)
+        .help("Ends with status 1 also where the answer is an Error");
+    let [port, to] = peer(alloc)?;
     let ask = Command::new(alloc, "ask")
         .about("Asks the node at a UDP port of 127.0.0.1, and prints how that ended")
         .before_help(FORMS_HELP)
         .after_help(ASK_EXAMPLES)
-        .arg(port(alloc, "The UDP port of the node that is asked, 1 to 65535"))?
+        .arg(port)?
+        .arg(to)?
         .arg(text)?
+        .arg(fail)?
         .arg(words)?;
     Ok(ask)
 }

@@ -1,11 +1,14 @@
 //! The command line of `bac`: what its words ask for, and doing it over any files, links, clocks and writers.
 #![tactic(auto)]
 
+mod address;
+mod asking;
 mod command;
 mod files;
 mod grammar;
 mod objects;
 mod online;
+mod serving;
 mod system;
 mod task;
 

@@ -4,12 +4,14 @@ ghost use Rattle.std.specs.Option.{option_map};
 ghost use Rattle.bac_commands.specs.AnswerTexts.{IsAnswered};
 ghost use Rattle.bac_text.specs.Statuses.{IsStop};
 ghost use Rattle.bac_command_line.specs.Files.{OfFile, OnFile};
-ghost use Rattle.bac_command_line.specs.Online.{IsServed, OnClock, OnPort};
+ghost use Rattle.bac_command_line.specs.Online.{IsServedBy, OnClock, OnPort};
+ghost use Rattle.bac_store.specs.House.{house as spec_house};
 ghost use Rattle.bac_command_line.specs.Stores.{IsAnsweredFrom, IsServedFrom, MeansStore};
 
 use crate::files::{OpenFiles, opened};
 use crate::online;
 use crate::online::Machine;
+use crate::serving::Serving;
 use bac_commands::answer_over;
 use bac_objects::{DocumentFault, read_objects};
 use bac_store::{Store, house};
@@ -124,39 +126,37 @@ pub(crate) fn answer<F: OpenFiles, O: Write, E: Write>(
 fn serve_house<M: Machine, O: Write, E: Write>(
     alloc: Global,
     machine: &M,
-    port: u16,
-    turns: u64,
+    serving: &Serving,
     out: &mut O,
     err: &mut E,
 ) -> Status
-    ensures { IsServed (OnPort M.is_bound M.Link.failures M.Link.calls) (OnClock M.is_made M.Timer.told) result port turns
+    ensures { IsServedBy spec_house (OnPort M.is_bound M.Link.failures M.Link.calls) (OnClock M.is_made M.Timer.told) result serving.now
         (O.contents out.old) (O.contents out.new) }
 {
     match house(alloc) {
-        Ok(store) => online::serve(alloc, machine, store, port, turns, out, err),
+        Ok(store) => online::serve(alloc, machine, store, serving, out, err),
         Err(_) => no_memory(err),
     }
 }
 
-/// A node at a port takes so many turns. A file is told of as by [`answer`].
+/// A node serves so. A file is told of as by [`answer`].
 pub(crate) fn serve<F: OpenFiles, M: Machine, O: Write, E: Write>(
     alloc: Global,
     files: &F,
     machine: &M,
-    port: u16,
-    turns: u64,
+    serving: &Serving,
     objects: Option<&str>,
     out: &mut O,
     err: &mut E,
 ) -> Status
     ensures { IsServedFrom (OnFile F.is_file F.File.remaining) (option_map (λ p. p.now) objects.entry) (OnPort M.is_bound M.Link.failures M.Link.calls)
-        (OnClock M.is_made M.Timer.told) result port turns (O.contents out.old) (O.contents out.new) }
+        (OnClock M.is_made M.Timer.told) result serving.now (O.contents out.old) (O.contents out.new) }
 {
     let Some(path) = objects else {
-        return serve_house(alloc, machine, port, turns, out, err);
+        return serve_house(alloc, machine, serving, out, err);
     };
     match store_of(alloc, files, path, err) {
-        Ok(store) => online::serve(alloc, machine, store, port, turns, out, err),
+        Ok(store) => online::serve(alloc, machine, store, serving, out, err),
         Err(status) => status,
     }
 }

@@ -1,13 +1,17 @@
 //! Nodes on links of the machine: what `serve`, `ask` and `pair` do.
 ghost use Rattle.std.specs.Prelude.{◌≡◌, ℕ, map, IfSome};
 ghost use Rattle.bac_protocol.specs.Service.{Octets};
-ghost use Rattle.bac_commands.specs.Questions.{ReadsQuestion, local};
+ghost use Rattle.bac_commands.specs.Questions.{ReadsQuestion};
 ghost use Rattle.bac_command_line.specs.Online.{IsAsked, IsPair, IsServedBy, OnClock, OnPort, ReportsAs};
 ghost use Rattle.bac_run.specs.Runs.{timed};
 ghost use Rattle.bac_run.specs.Views.{question_view};
 
-use bac_commands::{clock_fault, house_station, link_fault, local, read_question, station_with};
+use crate::address::LOCAL_HOST;
+use crate::asking::Asking;
+use crate::serving::Serving;
+use bac_commands::{clock_fault, house_station, link_fault, read_question, server_station};
 use bac_link::{Clock, Link};
+use bac_node::NewNodeFault;
 use bac_npdu::LinkAddress;
 use bac_run::{Question, Station};
 use bac_script::FormFault;
@@ -16,54 +20,90 @@ use bac_text::{Status, complain, no_memory};
 use std::alloc::Global;
 use std::io::Write;
 
+/// How many milliseconds after its restart a server serves again.
+const RESTED: u64 = 65_001;
+
 /// The links and the clock of a machine.
 pub trait Machine {
     type Link: Link + Drop;
 
     type Timer: Clock + Drop;
 
-    ghost is_bound: { (port : ℕ) → Self.Link → (address : Octets) → Type 0 };
+    ghost is_bound: { (host : Octets) → (port : ℕ) → Self.Link → (address : Octets) → Type 0 };
 
     ghost is_made: { Self.Timer → Type 0 };
 
-    /// A link at that port of 127.0.0.1, and its address; port 0 is any free one. None where the system refuses it.
-    fn bind(&self, port: u16) -> Option<(Self::Link, LinkAddress)>
-        ensures { IfSome result (λ b. Self.is_bound port b.0 b.1) };
+    /// A link at that port of an IPv4 address of this machine, and its own address: 0.0.0.0 is each of them, port 0 any free one. None where the system
+    /// refuses it.
+    fn bind(&self, host: [u8; 4], port: u16) -> Option<(Self::Link, LinkAddress)>
+        ensures { IfSome result (λ b. Self.is_bound host port b.0 b.1) };
 
     /// A clock; None where it can't be read.
     fn timer(&self) -> Option<Self::Timer>
         ensures { IfSome result Self.is_made };
 }
 
-/// A node with a store at a port takes so many turns.
+/// Tells on `err` where a node listens, and how many slots it has; and from when on it serves, where it restarted.
+fn tell_listening<E: Write>(
+    serving: &Serving,
+    link: LinkAddress,
+    restart: Option<u64>,
+    err: &mut E,
+) {
+    let [a, b, c, d, high, low] = link;
+    let port = u16::from_be_bytes([high, low]);
+    let slots = serving.slots;
+    // where even that fails, nothing tells it
+    if serving.turns.is_none() {
+        let _ = writeln!(err, "listening {a}.{b}.{c}.{d}:{port}, {slots} slots");
+    }
+    if let Some(now) = restart {
+        let from = now.saturating_add(RESTED);
+        let _ = writeln!(err, "serving from {from}");
+    }
+}
+
+/// A node with a store serves.
 pub(crate) fn serve<M: Machine, O: Write, E: Write>(
     alloc: Global,
     machine: &M,
     store: Store,
-    port: u16,
-    turns: u64,
+    serving: &Serving,
     out: &mut O,
     err: &mut E,
 ) -> Status
-    ensures { IsServedBy store (OnPort M.is_bound M.Link.failures M.Link.calls) (OnClock M.is_made M.Timer.told) result port turns
+    ensures { IsServedBy store (OnPort M.is_bound M.Link.failures M.Link.calls) (OnClock M.is_made M.Timer.told) result serving.now
         (O.contents out.old) (O.contents out.new) }
 {
-    let Some(bound) = machine.bind(port) else {
+    let Some(bound) = machine.bind(serving.host, serving.port) else {
         return link_fault(err);
     };
     let Some(mut timer) = machine.timer() else {
         return clock_fault(err);
     };
     let address = bound.1;
-    let Ok(mut station) = station_with(alloc, bound.0, address, store) else {
-        return no_memory(err);
+    let start = timer.now();
+    let restart = serving.restart(start);
+    let mut station = match server_station(alloc, bound.0, address, store, serving.slots, restart) {
+        Ok(station) => station,
+        Err(NewNodeFault::BadSlots) => return complain(err, "bad slots", Status::CommandLine),
+        Err(_) => return no_memory(err),
     };
-    bac_commands::serve(&mut station, &mut timer, turns, out, err)
+    tell_listening(serving, address, restart, err);
+    let patience = serving.patience(start);
+    bac_commands::serve(
+        &mut station,
+        &mut timer,
+        &patience,
+        serving.most_turns(),
+        out,
+        err,
+    )
 }
 
-/// The question for a port that some words are.
-fn question_in(alloc: Global, port: u16, words: &[&str]) -> Result<Question, FormFault>
-    ensures { ReadsQuestion (local port) (map (λ w. w.now) words.now) result }
+/// The question for a peer that some words are.
+fn question_in(alloc: Global, peer: LinkAddress, words: &[&str]) -> Result<Question, FormFault>
+    ensures { ReadsQuestion peer (map (λ w. w.now) words.now) result }
 {
     let mut octets = Vec::new(alloc);
     for word in words {
@@ -71,48 +111,49 @@ fn question_in(alloc: Global, port: u16, words: &[&str]) -> Result<Question, For
             return Err(FormFault::NoMemory);
         }
     }
-    read_question(alloc, local(port), &octets)
+    read_question(alloc, peer, &octets)
 }
 
 /// A node asks; how that ended is printed, in words where that is wanted.
 fn ask_on<L: Link, C: Clock, O: Write, E: Write>(
     alloc: Global,
-    text: bool,
+    asking: &Asking,
     station: &mut Station<L>,
     clock: &mut C,
     question: &Question,
     out: &mut O,
     err: &mut E,
 ) -> Status
-    ensures { ReportsAs result text (question_view question.now)
+    ensures { ReportsAs result asking.now.text asking.now.strict (question_view question.now)
         (timed station.old (C.told clock.old)) (timed station.new (C.told clock.new)) (O.contents out.old) (O.contents out.new) }
 {
-    if text {
-        bac_commands::ask_in_words(alloc, station, clock, question, out, err)
+    let strict = asking.strict;
+    if asking.text {
+        bac_commands::ask_in_words(alloc, station, clock, strict, question, out, err)
     } else {
-        bac_commands::ask(alloc, station, clock, question, out, err)
+        bac_commands::ask(alloc, station, clock, strict, question, out, err)
     }
 }
 
-/// A node at any free port asks the one at a port; how that ended is printed, in words where that is wanted. Words that are no request: `bad words` on `err`.
+/// A node at any free port asks the one at an address; how that ended is printed, in words where that is wanted. Words that are no request: `bad words` on
+/// `err`.
 pub(crate) fn ask<M: Machine, O: Write, E: Write>(
     alloc: Global,
     machine: &M,
-    text: bool,
-    port: u16,
+    asking: &Asking,
     words: &[&str],
     out: &mut O,
     err: &mut E,
 ) -> Status
-    ensures { IsAsked (OnPort M.is_bound M.Link.failures M.Link.calls) (OnClock M.is_made M.Timer.told) result text port (map (λ w. w.now) words.now)
+    ensures { IsAsked (OnPort M.is_bound M.Link.failures M.Link.calls) (OnClock M.is_made M.Timer.told) result asking.now (map (λ w. w.now) words.now)
         (O.contents out.old) (O.contents out.new) }
 {
-    let question = match question_in(alloc, port, words) {
+    let question = match question_in(alloc, asking.peer, words) {
         Ok(question) => question,
         Err(FormFault::NoForm) => return complain(err, "bad words", Status::CommandLine),
         Err(FormFault::NoMemory) => return no_memory(err),
     };
-    let Some(bound) = machine.bind(0) else {
+    let Some(bound) = machine.bind(asking.host, 0) else {
         return link_fault(err);
     };
     let Some(mut timer) = machine.timer() else {
@@ -122,7 +163,7 @@ pub(crate) fn ask<M: Machine, O: Write, E: Write>(
     let Ok(mut station) = house_station(alloc, bound.0, address) else {
         return no_memory(err);
     };
-    ask_on(alloc, text, &mut station, &mut timer, &question, out, err)
+    ask_on(alloc, asking, &mut station, &mut timer, &question, out, err)
 }
 
 /// Two nodes at free ports: one asks the other.
@@ -135,10 +176,10 @@ pub(crate) fn pair<M: Machine, O: Write, E: Write>(
     ensures { IsPair (OnPort M.is_bound M.Link.failures M.Link.calls) (OnClock M.is_made M.Timer.told) result
         (O.contents out.old) (O.contents out.new) }
 {
-    let Some(bound) = machine.bind(0) else {
+    let Some(bound) = machine.bind(LOCAL_HOST, 0) else {
         return link_fault(err);
     };
-    let Some(other_bound) = machine.bind(0) else {
+    let Some(other_bound) = machine.bind(LOCAL_HOST, 0) else {
         return link_fault(err);
     };
     let Some(mut timer) = machine.timer() else {

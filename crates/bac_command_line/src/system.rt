@@ -1,7 +1,7 @@
 //! The files, sockets and clock of a system.
 ghost use Rattle.std.specs.Prelude.{◌≡◌, ⊤};
 ghost use Rattle.bac_link.specs.Clocks.{latest_told};
-ghost use Rattle.bac_link.specs.Udp.{bound_port, udp_address};
+ghost use Rattle.bac_link.specs.Udp.{bound_host, bound_port, udp_address};
 
 use crate::files::OpenFiles;
 use crate::online::Machine;
@@ -39,12 +39,12 @@ impl<'a, R: Net + std::time::Clock> Machine for System<'a, R> {
 
     type Timer = MonotonicClock<'a, R>;
 
-    ghost is_bound = { λ port l address. (bound_port l ≡ port) × (udp_address l ≡ address) };
+    ghost is_bound = { λ host port l address. (bound_host l ≡ host) × (bound_port l ≡ port) × (udp_address l ≡ address) };
 
     ghost is_made = { λ c. latest_told c ≡ 0 };
 
-    fn bind(&self, port: u16) -> Option<(UdpLink, LinkAddress)> {
-        let link = UdpLink::bind(self.runtime, port).ok()?;
+    fn bind(&self, host: [u8; 4], port: u16) -> Option<(UdpLink, LinkAddress)> {
+        let link = UdpLink::bind_at(self.runtime, host, port).ok()?;
         let address = link.address();
         Some((link, address))
     }

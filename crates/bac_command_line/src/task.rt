@@ -1,4 +1,6 @@
 //! What a command line asks for.
+use crate::asking::{Asking, asking_of};
+use crate::serving::{Serving, serving_of};
 use clap::ArgMatches;
 
 /// What a command line asks for.
@@ -22,35 +24,21 @@ pub(crate) enum Task<'m, 'a> {
     },
     /// The script in this file.
     Simulate(&'a str),
-    /// So many turns at a port, with the house or the objects in this file.
+    /// A node that serves so, with the house or the objects in this file.
     Serve {
-        port: u16,
-        turns: u64,
+        serving: Serving,
         objects: Option<&'a str>,
     },
-    /// The request that some words are, of the node at a port; how that ended in words.
+    /// The request that some words are.
     Ask {
-        text: bool,
-        port: u16,
+        asking: Asking,
         words: &'m [&'a str],
     },
     /// Two nodes.
     Pair,
 }
 
-fn serve_of<'a>(given: &ArgMatches<'a>) -> Option<(u16, u64)> {
-    let port = given.get_one("port")?;
-    let turns = given.get_one("turns")?;
-    Some((port, turns))
-}
-
-fn ask_of<'m, 'a>(given: &'m ArgMatches<'a>) -> Option<(u16, &'m [&'a str])> {
-    let port = given.get_one("port")?;
-    let words = given.get_strs("WORDS")?;
-    Some((port, words))
-}
-
-/// None where there is no subcommand, or its word is missing; clap refuses such words itself.
+/// None where there is no subcommand, or its word is missing; clap refuses such words itself. Also where an address is none of IPv4.
 pub(crate) fn task_of<'m, 'a>(matches: &'m ArgMatches<'a>) -> Option<Task<'m, 'a>> {
     match matches.subcommand()? {
         ("answer", given) => {
@@ -71,18 +59,14 @@ pub(crate) fn task_of<'m, 'a>(matches: &'m ArgMatches<'a>) -> Option<Task<'m, 'a
         }
         ("simulate", given) => Some(Task::Simulate(given.get_str("FILE")?)),
         ("serve", given) => {
-            let (port, turns) = serve_of(given)?;
+            let serving = serving_of(given)?;
             let objects = given.get_str("objects");
-            Some(Task::Serve {
-                port,
-                turns,
-                objects,
-            })
+            Some(Task::Serve { serving, objects })
         }
         ("ask", given) => {
-            let (port, words) = ask_of(given)?;
-            let text = given.get_flag("text");
-            Some(Task::Ask { text, port, words })
+            let asking = asking_of(given)?;
+            let words = given.get_strs("WORDS")?;
+            Some(Task::Ask { asking, words })
         }
         ("pair", _) => Some(Task::Pair),
         _ => None,

@@ -1,3 +1,4 @@
+pub mod Slots
 pub mod Statuses
 pub mod ShortReplies
 pub mod HouseReplies

@@ -1,26 +1,35 @@
 -- The nodes that commands make.
-use Rattle.std.specs.Prelude.{ℕ, List, [], true}
+use Rattle.std.specs.Prelude.{ℕ, List, [], true, Option, Some, None}
 use Rattle.bac_apdu.specs.Apdu.{Limits}
 use Rattle.bac_protocol.specs.Service.{Octets}
 use Rattle.bac_store.specs.House.{house}
 use Rattle.bac_store.specs.Stores.{Store}
-use Rattle.bac_world.specs.Node.{Node}
+use Rattle.bac_world.specs.Node.{Node, restarted}
 
 -- APDUs of 1,476 octets (code 5 of clause 20.1.2.5), and any number of segments (code 7 of clause 20.1.2.4)
 abbrev pub most_limits : Limits
 most_limits = record { max_apdu = 5; takes_segments = true; max_segments = 7 }
 
--- a node to which nothing has happened, with a store, a window of 32 segments and 64 slots at each end
-abbrev pub node_with : (link : Octets) → Store → Node
-node_with link store =
+-- a node to which nothing has happened, with a store, a window of 32 segments and so many slots at each end
+abbrev pub node_of : (slots : ℕ) → (link : Octets) → Store → Node
+node_of slots link store =
     record {
       link = link;
       settings = record { limits = most_limits; window = 32 };
       latest = 0;
-      clients = record { slots = []; capacity = 64; asked = 0; asks_from = 0 };
-      servers = record { slots = []; capacity = 64; serves_from = 0 };
+      clients = record { slots = []; capacity = slots; asked = 0; asks_from = 0 };
+      servers = record { slots = []; capacity = slots; serves_from = 0 };
       store = store;
     }
+
+-- the same with 64 slots
+abbrev pub node_with : (link : Octets) → Store → Node
+node_with link store = node_of 64 link store
+
+-- a node with so many slots that serves, and that restarts at that moment, if it does
+abbrev pub server_node : (slots : ℕ) → (restart : Option ℕ) → (link : Octets) → Store → Node
+server_node slots None link store = node_of slots link store
+server_node slots (Some now) link store = restarted now store (node_of slots link store)
 
 -- the same with the house store
 abbrev pub house_node : (link : Octets) → Node

@@ -1,5 +1,5 @@
 -- What is asked.
-use Rattle.std.specs.Prelude.{◌≡◌, ℕ, ◌∷◌, [], ◌/◌, ◌%◌, List, Option, Some, None, Result, Ok, Err, ⊤}
+use Rattle.std.specs.Prelude.{◌≡◌, ℕ, List, Option, Some, None, Result, Ok, Err, ⊤}
 use Rattle.bac_protocol.specs.Service.{Octets}
 use Rattle.bac_service.specs.Values.{Request}
 use Rattle.bac_script.specs.Requests.{request_of}
@@ -9,10 +9,6 @@ use Rattle.bac_run.specs.Asking as plain
 use Rattle.bac_run.specs.Views.{question_view}
 use Rattle.bac_run.specs.declared.question.Question.{Question}
 use Rattle.bac_commands.specs.Houses.{most_limits}
-
--- the address of a port of this machine: 127.0.0.1 and the port, its high octet first (clause J.1.2)
-abbrev pub local : (port : ℕ) → Octets
-local port = 127 ∷ 0 ∷ 0 ∷ 1 ∷ port / 256 ∷ port % 256 ∷ []
 
 -- a question for the peer at an address
 abbrev pub question_for : (link : Octets) → Request → plain.Question

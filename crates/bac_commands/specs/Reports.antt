@@ -1,6 +1,8 @@
 -- What commands print of nodes on links, and their statuses.
-use Rattle.std.specs.Prelude.{◌≡◌, ℕ, Bool, true, false, List, ◌++◌, codes, decimal, Option}
+use Rattle.std.specs.Prelude.{◌≡◌, ℕ, Bool, true, false, List, ◌++◌, ◌&&◌, not, codes, decimal, Option}
 use Rattle.std.specs.Io.KnownBytes.{Appends}
+use Rattle.bac_service.specs.Replies.{Reply}
+use Rattle.bac_ends.specs.Meanings as plain
 use Rattle.bac_requester.specs.Faults.{ask_fault_number}
 use Rattle.bac_ticket.specs.Views.{ending_view}
 use Rattle.bac_ticket.specs.declared.ending.Ending.{Ending}
@@ -11,6 +13,7 @@ use Rattle.bac_text.specs.declared.status.Status.{Status}
 use Rattle.bac_run.specs.Asking.{AskingEnds, Question}
 use Rattle.bac_run.specs.Runs.{Timed}
 use Rattle.bac_run.specs.Serving.{Serves}
+use Rattle.bac_run.specs.declared.patience.Patience.{Patience}
 use Rattle.bac_run.specs.declared.question.AskEnd.{AskEnd}
 use Rattle.bac_run.specs.declared.question.AskEnd.TheVariants as end
 use Rattle.bac_commands.specs.Statuses.{ByStatus}
@@ -20,14 +23,14 @@ use Rattle.bac_commands.specs.Statuses.{ByStatus}
 abbrev pub served_line : (effects : ℕ) → List ℕ
 served_line effects = codes "served " ++ decimal effects ++ line_end
 
--- a node took so many turns, and how many requests it performed was printed
-pub record ServedText (turns : ℕ) (before after : Timed) (old new : Option (List ℕ)) : Type 0 where
+-- a node took so many turns, or as many as it had time for, and how many requests it performed was printed
+pub record ServedText (p : Patience) (turns : ℕ) (before after : Timed) (old new : Option (List ℕ)) : Type 0 where
   pub effects : ℕ
-  pub serves : Serves turns effects before after
+  pub serves : Serves p turns effects before after
   pub printed : Appends old new (served_line effects)
 
-abbrev pub ReportsServing : Status → (turns : ℕ) → (before after : Timed) → (old new : Option (List ℕ)) → Type 0
-ReportsServing s turns before after old new = ByStatus s (ServedText turns before after old new) ⊥ ⊥
+abbrev pub ReportsServing : Status → Patience → (turns : ℕ) → (before after : Timed) → (old new : Option (List ℕ)) → Type 0
+ReportsServing s p turns before after old new = ByStatus s (ServedText p turns before after old new) ⊥ ⊥
 
 -- ---- asking
 
@@ -44,17 +47,41 @@ is_answer (ending.Aborted reason) = false
 is_answer ending.TimedOut = false
 is_answer ending.Expired = false
 
+-- an Error was answered
+abbrev pub is_error_reply : Reply → Bool
+is_error_reply Reply.Simple = false
+is_error_reply (Reply.Complex complex) = false
+is_error_reply (Reply.Error class code) = true
+is_error_reply (Reply.Reject reason) = false
+
+abbrev pub ends_with_error : plain.Ending → Bool
+ends_with_error (plain.Ending.Answered reply) = is_error_reply reply
+ends_with_error (plain.Ending.Rejected reason) = false
+ends_with_error (plain.Ending.Aborted reason) = false
+ends_with_error plain.Ending.TimedOut = false
+ends_with_error plain.Ending.Expired = false
+
+abbrev pub is_error : AskEnd → Bool
+is_error (end.Ended how) = ends_with_error (ending_view how)
+is_error (end.Refused why) = false
+is_error end.NoEnding = false
+
 abbrev pub is_answered : AskEnd → Bool
 is_answered (end.Ended how) = is_answer how
 is_answered (end.Refused why) = false
 is_answered end.NoEnding = false
 
+-- where the ask is strict, an Error is no success
+abbrev pub is_success : (strict : Bool) → AskEnd → Bool
+is_success strict end = is_answered end && not (strict && is_error end)
+
 -- a node asked, for at most so many turns, and how that ended was printed
-pub record AskedText (answered : Bool) (q : Question) (before after : Timed) (old new : Option (List ℕ)) : Type 0 where
+pub record AskedText (strict succeeded : Bool) (q : Question) (before after : Timed) (old new : Option (List ℕ)) : Type 0 where
   pub end : AskEnd
   pub ends : AskingEnds q end 100000 before after
   pub printed : Appends old new (end_line end)
-  pub is : is_answered end ≡ answered
+  pub is : is_success strict end ≡ succeeded
 
-abbrev pub ReportsAsking : Status → Question → (before after : Timed) → (old new : Option (List ℕ)) → Type 0
-ReportsAsking s q before after old new = ByStatus s (AskedText true q before after old new) (AskedText false q before after old new) ⊥
+abbrev pub ReportsAsking : Status → (strict : Bool) → Question → (before after : Timed) → (old new : Option (List ℕ)) → Type 0
+ReportsAsking s strict q before after old new =
+    ByStatus s (AskedText strict true q before after old new) (AskedText strict false q before after old new) ⊥

@@ -17,7 +17,7 @@ use Rattle.bac_run.specs.Runs.{Timed}
 use Rattle.bac_run.specs.declared.question.AskEnd.{AskEnd}
 use Rattle.bac_run.specs.declared.question.AskEnd.TheVariants as end
 use Rattle.bac_commands.specs.Facts.{complex_text}
-use Rattle.bac_commands.specs.Reports.{is_answered}
+use Rattle.bac_commands.specs.Reports.{is_success}
 use Rattle.bac_commands.specs.Statuses.{ByStatus}
 
 -- the values of a property
@@ -49,13 +49,14 @@ AreEndWords (end.Refused why) words = words ≡ codes "refused " ++ decimal (ask
 AreEndWords end.NoEnding words = words ≡ codes "no ending"
 
 -- a node asked, for at most so many turns, and how that ended was printed in words
-pub record AskedWords (answered : Bool) (q : Question) (before after : Timed) (old new : Option (List ℕ)) : Type 0 where
+pub record AskedWords (strict succeeded : Bool) (q : Question) (before after : Timed) (old new : Option (List ℕ)) : Type 0 where
   pub end : AskEnd
   pub ends : AskingEnds q end 100000 before after
   pub words : List ℕ
   pub are : AreEndWords end words
   pub printed : Appends old new (words ++ line_end)
-  pub is : is_answered end ≡ answered
+  pub is : is_success strict end ≡ succeeded
 
-abbrev pub ReportsInWords : Status → Question → (before after : Timed) → (old new : Option (List ℕ)) → Type 0
-ReportsInWords s q before after old new = ByStatus s (AskedWords true q before after old new) (AskedWords false q before after old new) ⊥
+abbrev pub ReportsInWords : Status → (strict : Bool) → Question → (before after : Timed) → (old new : Option (List ℕ)) → Type 0
+ReportsInWords s strict q before after old new =
+    ByStatus s (AskedWords strict true q before after old new) (AskedWords strict false q before after old new) ⊥

@@ -1,6 +1,7 @@
 //! The node that each command makes.
-ghost use Rattle.std.specs.Prelude.{◌≡◌, IfOk};
-ghost use Rattle.bac_commands.specs.Houses.{node_with};
+ghost use Rattle.std.specs.Prelude.{◌≡◌, false, IfOk, IsErrOf};
+ghost use Rattle.bac_node.specs.Fresh.{slots_fit};
+ghost use Rattle.bac_commands.specs.Houses.{node_with, server_node};
 
 use bac_apdu::Limits;
 use bac_node::{Config, NewNodeFault, Node};
@@ -16,18 +17,41 @@ pub(crate) const LIMITS: Limits = Limits {
     max_segments: 7,
 };
 
-/// A node of that link with a store, windows of 32 segments, and 64 slots at each end.
-pub(crate) fn node_with(alloc: Global, link: LinkAddress, store: Store) -> Result<Node, NoMemory>
-    ensures { IfOk result (λ n. n ≡ node_with link store) }
+/// How many slots each end of a node has where nothing else is said.
+const SLOTS: usize = 64;
+
+/// A node of that link with a store, windows of 32 segments, and so many slots at each end, which restarts at that moment, if there is one.
+///
+/// `BadSlots` where the slots are not 1 to 1,024; otherwise an Err says that memory was refused.
+pub(crate) fn server_node(
+    alloc: Global,
+    slots: usize,
+    restart: Option<u64>,
+    link: LinkAddress,
+    store: Store,
+) -> Result<Node, NewNodeFault>
+    ensures node { IfOk result (λ n. n ≡ server_node slots restart link store) }
+    ensures slots { IsErrOf result NewNodeFault.BadSlots → slots_fit slots ≡ false }
+    ensures window { IsErrOf result NewNodeFault.BadWindow → ⊥ }
 {
     let config = Config {
         link,
         limits: LIMITS,
         window: 32,
-        client_slots: 64,
-        reply_slots: 64,
+        client_slots: slots,
+        reply_slots: slots,
     };
-    match Node::new(alloc, config, store) {
+    match restart {
+        Some(now) => Node::restarted(alloc, config, store, now),
+        None => Node::new(alloc, config, store),
+    }
+}
+
+/// A node of that link with a store, windows of 32 segments, and 64 slots at each end.
+pub(crate) fn node_with(alloc: Global, link: LinkAddress, store: Store) -> Result<Node, NoMemory>
+    ensures { IfOk result (λ n. n ≡ node_with link store) }
+{
+    match server_node(alloc, SLOTS, None, link, store) {
         Ok(node) => Ok(node),
         Err(NewNodeFault::NoMemory) => Err(NoMemory),
         Err(NewNodeFault::BadSlots | NewNodeFault::BadWindow) => unreachable!(),

@@ -13,6 +13,6 @@ pub use facts::{
     print_performed, print_refused, print_sent,
 };
 pub use online::{
-    ask, ask_in_words, clock_fault, house_station, link_fault, local, pair, read_question, serve,
-    station_with,
+    ask, ask_in_words, clock_fault, house_station, link_fault, pair, read_question, serve,
+    server_station,
 };

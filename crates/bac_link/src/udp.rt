@@ -1,7 +1,7 @@
 //! A link over UDP (clause J.1).
 ghost use Rattle.std.specs.Prelude.{◌≡◌, ℕ, None, IfOk};
 ghost use Rattle.bac_link.specs.Calls.{one_more};
-ghost use Rattle.bac_link.specs.Udp.{bound_port, udp_address};
+ghost use Rattle.bac_link.specs.Udp.{LOCAL_HOST, bound_host, bound_port, udp_address};
 
 use crate::link::{Link, LinkFault};
 use bac_npdu::LinkAddress;
@@ -13,10 +13,18 @@ use std::time::Duration;
 /// The shortest wait for a datagram, in milliseconds: a socket takes no time-out of 0.
 const LEAST_WAIT: u64 = 1;
 
-/// A UDP socket on 127.0.0.1. A call of `recv` that is to wait 0 milliseconds waits 1.
+/// The longest wait of one call, in milliseconds: a day. Systems differ in how long a time-out they take.
+const MOST_WAIT: u64 = 86_400_000;
+
+/// The address of this machine that no other one reaches.
+const LOCAL_HOST: [u8; 4] = [127, 0, 0, 1];
+
+/// A UDP socket. A call of `recv` that is to wait 0 milliseconds waits 1, and none waits longer than a day.
 #[derive(Drop)]
 pub struct UdpLink {
     socket: UdpSocket,
+    /// The IPv4 address that was asked for.
+    host: [u8; 4],
     /// The port that was asked for.
     port: u16,
     /// The address that the system tells.
@@ -44,22 +52,42 @@ fn address_of(link: LinkAddress) -> SocketAddr {
 }
 
 impl UdpLink {
-    /// A link at that port of 127.0.0.1; port 0 is any free one. An Err where the system refuses it, or tells no IPv4 address of it.
+    /// A link at that port of 127.0.0.1; as `bind_at`.
     pub fn bind<R: Net>(net: &R, port: u16) -> io::Result<UdpLink>
-        ensures { IfOk result (λ l. bound_port l ≡ port) }
+        ensures port { IfOk result (λ l. bound_port l ≡ port) }
+        ensures host { IfOk result (λ l. bound_host l ≡ LOCAL_HOST) }
     {
-        let socket = UdpSocket::bind(net, SocketAddr::from((Ipv4Addr::LOCALHOST, port)))?;
+        UdpLink::bind_at(net, LOCAL_HOST, port)
+    }
+
+    /// A link at that port of an IPv4 address of this machine: 0.0.0.0 is each of them, and port 0 any free one. An Err where the system refuses it, or
+    /// tells no IPv4 address of it.
+    pub fn bind_at<R: Net>(net: &R, host: [u8; 4], port: u16) -> io::Result<UdpLink>
+        ensures port { IfOk result (λ l. bound_port l ≡ port) }
+        ensures host { IfOk result (λ l. bound_host l ≡ host) }
+    {
+        let [a, b, c, d] = host;
+        let asked = SocketAddr::from((Ipv4Addr::new(a, b, c, d), port));
+        let socket = UdpSocket::bind(net, asked)?;
         socket.set_read_timeout(Some(Duration::from_millis(LEAST_WAIT)))?;
         let Some(address) = link_of(socket.local_addr()?) else {
             return Err(io::Error::from(ErrorKind::AddrNotAvailable));
         };
         Ok(UdpLink {
             socket,
+            host,
             port,
             address,
             wait: LEAST_WAIT,
             failures: 0,
         })
+    }
+
+    /// The IPv4 address that it was bound to; 0.0.0.0 was each of this machine.
+    pub fn host(&self) -> [u8; 4]
+        ensures { result ≡ bound_host self.now }
+    {
+        self.host
     }
 
     /// The port that it was bound to; 0 was any free one.
@@ -80,7 +108,7 @@ impl UdpLink {
     fn set_wait(&mut self, wait: u64) -> io::Result<()>
         ensures { self.new.failures ≡ self.old.failures }
     {
-        let wait = wait.max(LEAST_WAIT);
+        let wait = wait.max(LEAST_WAIT).min(MOST_WAIT);
         if wait != self.wait {
             self.socket
                 .set_read_timeout(Some(Duration::from_millis(wait)))?;

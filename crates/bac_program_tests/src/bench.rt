@@ -201,16 +201,17 @@ impl Machine for BenchMachine {
 
     type Timer = BenchClock;
 
-    ghost is_bound = { λ _ _ _. ⊤ };
+    ghost is_bound = { λ _ _ _ _. ⊤ };
 
     ghost is_made = { λ _. ⊤ };
 
-    fn bind(&self, port: u16) -> Option<(BenchLink, [u8; 6])> {
+    fn bind(&self, host: [u8; 4], port: u16) -> Option<(BenchLink, [u8; 6])> {
         if matches!(self.bench.behind, Behind::Nothing) {
             return None;
         }
         let [high, low] = self.port(port).to_be_bytes();
-        Some((self.link(), [127, 0, 0, 1, high, low]))
+        let [a, b, c, d] = host;
+        Some((self.link(), [a, b, c, d, high, low]))
     }
 
     fn timer(&self) -> Option<BenchClock> {

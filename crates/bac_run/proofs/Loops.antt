@@ -1,21 +1,23 @@
 -- What a loop over turns keeps, and what follows where it ends.
 use Rattle.std.proofs.Common.{◌≡◌, ℕ, suc, ◌+◌, ◌<◌, Bool, true, false, ◌==◌, if◌then◌else◌, List, [], ◌∷◌, ◌++◌, Option, Some, None}
-use Rattle.std.proofs.Common.{refl, ap, sym, arith, add-one}
+use Rattle.std.proofs.Common.{refl, ap, sym, subst, arith, add-one, inl, inr}
 use Rattle.std.specs.Option.{option_map}
+use Rattle.std.specs.Prelude.{IfSome, MatchOption}
 use Rattle.bac_ends.specs.Meanings.{Ending, Finish}
 use Rattle.bac_run.specs.Turns.{Turn}
 use Rattle.bac_run.specs.Runs.{Timed}
-use Rattle.bac_run.specs.Serving.{Serves, ServesOnce, StopsServing}
+use Rattle.bac_run.specs.Serving.{IsOver, Serves, ServesOnce, StopsAfter, StopsServing, TakesTurns}
+use Rattle.bac_run.specs.declared.patience.Patience.{Patience}
 use Rattle.bac_run.specs.Asking.{EndsIn, NeverEnds, Stops, ending_in, ending_of}
 
 -- ---- serving
 
-pub none_served : (old : Timed) → Serves 0 0 old old
-none_served old = record { taken = []; all = refl; run = refl; counted = refl }
+pub none_served : (p : Patience) (old : Timed) → TakesTurns p 0 0 old old
+none_served p old = record { taken = []; all = refl; run = refl; counted = refl }
 
-pub one_more_served : (turns effects more : ℕ) (old middle new : Timed) → Serves turns effects old middle → ServesOnce more middle new
-    → Serves (turns + 1) (effects + more) old new
-one_more_served turns effects more old middle new before once =
+pub one_more_served : (p : Patience) (turns effects more : ℕ) (old middle new : Timed) → TakesTurns p turns effects old middle → ServesOnce p more middle new
+    → TakesTurns p (turns + 1) (effects + more) old new
+one_more_served p turns effects more old middle new before once =
     record {
       taken = once.turn ∷ before.taken;
       all = rw (add-one turns) (ap suc before.all);
@@ -23,10 +25,32 @@ one_more_served turns effects more old middle new before once =
       counted = let a = before.counted in let b = once.counted in omega arith;
     }
 
-pub stops_serving : (turns all effects : ℕ) (fails : Timed → Timed → Type 0) (old middle new : Timed) → turns < all → Serves turns effects old middle
-    → fails middle new → StopsServing all fails old new
-stops_serving turns all effects fails old middle new fewer before failed =
-    record { taken = before.taken; fewer = let is = before.all in omega arith; middle = middle; run = before.run; failed = failed }
+-- what a turn was, where it was taken, and where it was not
+pub once_of : (r : Option ℕ) (is_once : ℕ → Type 0) (more : ℕ) → r ≡ Some more → IfSome r is_once → is_once more
+once_of r is_once more is once = subst (λ (o : Option ℕ). IfSome o is_once) is once
+
+pub few_of : (r : Option ℕ) (is_over : Type 0) (is_few : ℕ → Type 0) (more : ℕ) → r ≡ Some more → MatchOption r is_over is_few → is_few more
+few_of r is_over is_few more is over = subst (λ (o : Option ℕ). MatchOption o is_over is_few) is over
+
+pub over_of : (r : Option ℕ) (is_over : Type 0) (is_few : ℕ → Type 0) → r ≡ None → MatchOption r is_over is_few → is_over
+over_of r is_over is_few is over = subst (λ (o : Option ℕ). MatchOption o is_over is_few) is over
+
+stops_after : (p : Patience) (turns all effects : ℕ) (happens : Timed → Timed → Type 0) (old middle new : Timed) → turns < all
+    → TakesTurns p turns effects old middle → happens middle new → StopsAfter p all effects happens old new
+stops_after p turns all effects happens old middle new fewer before stopped =
+    record { taken = turns; fewer = fewer; middle = middle; takes = before; stopped = stopped }
+
+pub served_all : (p : Patience) (turns effects : ℕ) (old new : Timed) → TakesTurns p turns effects old new → Serves p turns effects old new
+served_all p turns effects old new takes = inl takes
+
+pub served_in_time : (p : Patience) (turns all effects : ℕ) (old middle new : Timed) → turns < all → TakesTurns p turns effects old middle
+    → IsOver p middle new → Serves p all effects old new
+served_in_time p turns all effects old middle new fewer before over = inr (stops_after p turns all effects (IsOver p) old middle new fewer before over)
+
+pub stops_serving : (p : Patience) (turns all effects : ℕ) (happens : Timed → Timed → Type 0) (old middle new : Timed) → turns < all
+    → TakesTurns p turns effects old middle → happens middle new → StopsServing p all happens old new
+stops_serving p turns all effects happens old middle new fewer before stopped =
+    record { effects = effects; stops = stops_after p turns all effects happens old middle new fewer before stopped }
 
 -- ---- waiting
 

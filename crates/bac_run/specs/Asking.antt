@@ -16,6 +16,7 @@ use Rattle.bac_ticket.specs.declared.ending.Ending as how
 use Rattle.bac_run.specs.Stations.{Station}
 use Rattle.bac_run.specs.Turns.{IsCarried, Turn}
 use Rattle.bac_run.specs.Runs.{CannotReceive, GoesBack, Run, TakesTurn, Timed}
+use Rattle.bac_run.specs.Waits.{UNTIL_DUE}
 use Rattle.bac_run.specs.declared.fault.TurnFault.{TurnFault}
 use Rattle.bac_run.specs.declared.fault.TurnFault.TheVariants as fault
 use Rattle.bac_run.specs.declared.question.AskEnd.{AskEnd}
@@ -36,7 +37,7 @@ pub record IsBegun (now : ℕ) (q : Question) (old : Station) (ticket : ℕ) (ne
   pub asks : NodeAsks now q.peer q.limits q.request old.node new.node accepted sends
   pub ticket_is : ticket ≡ accepted.ticket
   pub lost : ℕ
-  pub carried : IsCarried [] sends lost old new
+  pub carried : IsCarried sends lost old new
   pub buffer : new.buffer ≡ old.buffer
 
 -- the same at the moment that the clock told
@@ -121,16 +122,16 @@ own_turn turn = turn
 
 -- why waiting stopped
 abbrev pub WaitingFails : TurnFault → (turns ticket : ℕ) → (old new : Timed) → Type 0
-WaitingFails fault.Link turns ticket old new = Stops TakesTurn own_turn turns CannotReceive ticket old new
-WaitingFails fault.ClockBack turns ticket old new = Stops TakesTurn own_turn turns GoesBack ticket old new
+WaitingFails fault.Link turns ticket old new = Stops (TakesTurn UNTIL_DUE) own_turn turns CannotReceive ticket old new
+WaitingFails fault.ClockBack turns ticket old new = Stops (TakesTurn UNTIL_DUE) own_turn turns GoesBack ticket old new
 
 -- how asking ended
 abbrev pub AskingEnds : Question → AskEnd → (turns : ℕ) → (old new : Timed) → Type 0
-AskingEnds q (end.Ended how) turns old new = Begins (Asks q) (EndsIn TakesTurn own_turn turns (ending_view how)) old new
+AskingEnds q (end.Ended how) turns old new = Begins (Asks q) (EndsIn (TakesTurn UNTIL_DUE) own_turn turns (ending_view how)) old new
 AskingEnds q (end.Refused why) turns old new = IsRefused q why old new
-AskingEnds q end.NoEnding turns old new = Begins (Asks q) (NeverEnds TakesTurn own_turn turns) old new
+AskingEnds q end.NoEnding turns old new = Begins (Asks q) (NeverEnds (TakesTurn UNTIL_DUE) own_turn turns) old new
 
 -- why asking stopped
 abbrev pub AskingFails : Question → TurnFault → (turns : ℕ) → (old new : Timed) → Type 0
-AskingFails q fault.Link turns old new = Begins (Asks q) (Stops TakesTurn own_turn turns CannotReceive) old new
-AskingFails q fault.ClockBack turns old new = GoesBack old new ⊎ Begins (Asks q) (Stops TakesTurn own_turn turns GoesBack) old new
+AskingFails q fault.Link turns old new = Begins (Asks q) (Stops (TakesTurn UNTIL_DUE) own_turn turns CannotReceive) old new
+AskingFails q fault.ClockBack turns old new = GoesBack old new ⊎ Begins (Asks q) (Stops (TakesTurn UNTIL_DUE) own_turn turns GoesBack) old new

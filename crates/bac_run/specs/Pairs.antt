@@ -1,13 +1,17 @@
 -- Two nodes, each on its own link, one turn after the other, beside one clock; the first of them asks.
-use Rattle.std.specs.Prelude.{◌≡◌, ◌⊎◌, ℕ}
+use Rattle.std.specs.Prelude.{◌≡◌, ◌⊎◌, ℕ, Option, Some, None}
 use Rattle.bac_link.specs.Moments.{Told}
 use Rattle.bac_ticket.specs.Views.{ending_view}
+use Rattle.bac_protocol.specs.Service.{Octets}
+use Rattle.bac_world.specs.Node.{Node}
 use Rattle.bac_run.specs.Stations.{Station}
 use Rattle.bac_run.specs.Turns.{Turn}
 use Rattle.bac_run.specs.Runs.{CannotReceive, GoesBack, TakesTurn, Timed, timed}
 use Rattle.bac_run.specs.Asking.{Asks, Begins, EndsIn, IsRefused, NeverEnds, Question, Stops}
+use Rattle.bac_run.specs.Waits.{AT_ONCE, IsDue, MOST}
 use Rattle.bac_run.specs.declared.fault.TurnFault.{TurnFault}
 use Rattle.bac_run.specs.declared.fault.TurnFault.TheVariants as fault
+use Rattle.bac_run.specs.declared.patience.Patience.{Patience}
 use Rattle.bac_run.specs.declared.question.AskEnd.{AskEnd}
 use Rattle.bac_run.specs.declared.question.AskEnd.TheVariants as end
 
@@ -24,11 +28,23 @@ pub record Round : Type 0 where
   pub of_first : Turn
   pub of_second : Turn
 
--- a turn of the first, after which the clock has told so much, and then one of the second
+-- where a datagram has just come to the other node, more may have: then there is no wait
+abbrev pub wait_beside : Option (Octets × ℕ) → ℕ
+wait_beside None = MOST
+wait_beside (Some datagram) = 0
+
+-- how long a node may wait after such a turn of the other one: until something is due at that one
+pub record IsBeside (other : Node) (turn : Turn) (p : Patience) : Type 0 where
+  pub wait : p.wait ≡ wait_beside turn.received
+  pub due : IsDue other p.until
+
+-- a turn of the first, which did not wait, after which the clock has told so much, and then one of the second
 pub record TakesRound (old : Pair) (round : Round) (new : Pair) : Type 0 where
   pub told : Told
-  pub first : TakesTurn (timed old.first old.told) round.of_first (timed new.first told)
-  pub second : TakesTurn (timed old.second told) round.of_second (timed new.second new.told)
+  pub first : TakesTurn AT_ONCE (timed old.first old.told) round.of_first (timed new.first told)
+  pub patience : Patience
+  pub beside : IsBeside new.first.node round.of_first patience
+  pub second : TakesTurn patience (timed old.second told) round.of_second (timed new.second new.told)
 
 -- a round, of which the turn of the first gave this
 pub record RoundGives (turn : Turn) (old new : Pair) : Type 0 where
@@ -49,7 +65,7 @@ pub record FirstFails (fails : Timed → Timed → Type 0) (old new : Pair) : Ty
 pub record SecondFails (fails : Timed → Timed → Type 0) (old new : Pair) : Type 0 where
   pub turn : Turn
   pub told : Told
-  pub first : TakesTurn (timed old.first old.told) turn (timed new.first told)
+  pub first : TakesTurn AT_ONCE (timed old.first old.told) turn (timed new.first told)
   pub second : fails (timed old.second told) (timed new.second new.told)
 
 abbrev pub OneFails : (fails : Timed → Timed → Type 0) → (old new : Pair) → Type 0

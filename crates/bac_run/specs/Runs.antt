@@ -1,11 +1,12 @@
 -- Turns of a node on its link at the moments that a clock tells, one after the other, and why one is not taken.
-use Rattle.std.specs.Prelude.{◌≡◌, ◌<◌, ◌≤◌, ℕ, List, [], ◌∷◌, length}
+use Rattle.std.specs.Prelude.{◌≡◌, ◌<◌, ◌≤◌, ℕ, max, List, [], ◌∷◌, length}
 use Rattle.bac_link.specs.Calls.{one_more, with_call}
 use Rattle.bac_link.specs.Calls.Call.{FailedReceive}
 use Rattle.bac_link.specs.Moments.{Told, with_moment}
 use Rattle.bac_run.specs.Stations.{BUFFER, Station}
 use Rattle.bac_run.specs.Turns.{IsTurn, Turn}
 use Rattle.bac_run.specs.declared.fault.TurnFault.{TurnFault}
+use Rattle.bac_run.specs.declared.patience.Patience.{Patience}
 use Rattle.bac_run.specs.declared.fault.TurnFault.TheVariants as fault
 
 -- a node on its link, and what the clock beside it has told
@@ -16,13 +17,19 @@ pub record Timed : Type 0 where
 abbrev pub timed : Station → Told → Timed
 timed station told = record { station = station; told = told }
 
--- the clock told one moment, which is not before the node's latest one; at that moment the node took a turn
-pub record TakesTurn (old : Timed) (turn : Turn) (new : Timed) : Type 0 where
-  pub now : ℕ
-  pub told : new.told ≡ with_moment old.told now
-  pub timely : old.station.node.latest ≤ now
+-- a turn that began at a moment, not before the node's latest one; once the link had been called to receive, the clock told another one, and the node acted at
+-- the later of both
+pub record TakesTurnFrom (began : ℕ) (p : Patience) (old : Timed) (turn : Turn) (new : Timed) : Type 0 where
+  pub looked : ℕ
+  pub told : new.told ≡ with_moment old.told looked
+  pub timely : old.station.node.latest ≤ began
   pub size : length new.station.buffer ≡ BUFFER
-  pub takes : IsTurn now old.station new.station turn
+  pub takes : IsTurn p began (max looked began) old.station turn new.station
+
+-- the clock had told that moment
+pub record TakesTurn (p : Patience) (old : Timed) (turn : Turn) (new : Timed) : Type 0 where
+  pub began : ℕ
+  pub takes : TakesTurnFrom began p (timed old.station (with_moment old.told began)) turn new
 
 -- a step that gave this, after others
 pub record IsLast {S T : Type 0} (before : S → Type 0) (step : S → T → S → Type 0) (given : T) (new : S) : Type 0 where

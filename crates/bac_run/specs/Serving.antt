@@ -1,10 +1,12 @@
--- A node serves: it takes so many turns.
-use Rattle.std.specs.Prelude.{◌≡◌, ◌<◌, ◌+◌, ℕ, List, [], ◌∷◌, length, Option, Some, None}
+-- A node serves: it takes so many turns, or as many as begin before a moment.
+use Rattle.std.specs.Prelude.{◌≡◌, ◌⊎◌, ◌<◌, ◌≤◌, ◌+◌, ℕ, List, [], ◌∷◌, length, Option, Some, None, IfSome, MatchOption}
+use Rattle.bac_link.specs.Moments.{with_moment}
 use Rattle.bac_world.specs.Services.{Performed}
-use Rattle.bac_run.specs.Runs.{CannotReceive, GoesBack, Run, TakesTurn, Timed}
+use Rattle.bac_run.specs.Runs.{CannotReceive, GoesBack, Run, TakesTurnFrom, Timed, timed}
 use Rattle.bac_run.specs.Turns.{Turn}
 use Rattle.bac_run.specs.declared.fault.TurnFault.{TurnFault}
 use Rattle.bac_run.specs.declared.fault.TurnFault.TheVariants as fault
+use Rattle.bac_run.specs.declared.patience.Patience.{Patience}
 
 -- how many requests a turn performed: one or none
 abbrev pub count_of : Option Performed → ℕ
@@ -16,28 +18,54 @@ abbrev pub performed_in : List Turn → ℕ
 performed_in [] = 0
 performed_in (turn ∷ turns) = performed_in turns + count_of turn.performed
 
--- one turn, in which so many requests were performed
-pub record ServesOnce (effects : ℕ) (old new : Timed) : Type 0 where
+-- a moment is before that one, if there is one
+abbrev pub IsBefore : (now : ℕ) → (end : Option ℕ) → Type 0
+IsBefore now end = IfSome end (λ moment. now < moment)
+
+-- a turn that began at a moment which the clock told, before the last one
+pub record TakesEarlyTurn (p : Patience) (old : Timed) (turn : Turn) (new : Timed) : Type 0 where
+  pub began : ℕ
+  pub early : IsBefore began p.until
+  pub takes : TakesTurnFrom began p (timed old.station (with_moment old.told began)) turn new
+
+-- the clock told the last moment, or a later one, and no turn was taken
+pub record IsOver (p : Patience) (old new : Timed) : Type 0 where
+  pub now : ℕ
+  pub told : new.told ≡ with_moment old.told now
+  pub late : MatchOption p.until ⊥ (λ moment. moment ≤ now)
+  pub same : new.station ≡ old.station
+
+-- one such turn, in which so many requests were performed
+pub record ServesOnce (p : Patience) (effects : ℕ) (old new : Timed) : Type 0 where
   pub turn : Turn
-  pub takes : TakesTurn old turn new
+  pub takes : TakesEarlyTurn p old turn new
   pub counted : effects ≡ count_of turn.performed
 
--- so many turns were taken, and so many requests performed
-pub record Serves (turns effects : ℕ) (old new : Timed) : Type 0 where
+-- so many such turns were taken, and so many requests performed
+pub record TakesTurns (p : Patience) (turns effects : ℕ) (old new : Timed) : Type 0 where
   pub taken : List Turn
   pub all : length taken ≡ turns
-  pub run : Run TakesTurn taken old new
+  pub run : Run (TakesEarlyTurn p) taken old new
   pub counted : effects ≡ performed_in taken
 
--- after fewer turns, this happened
-pub record StopsServing (turns : ℕ) (fails : Timed → Timed → Type 0) (old new : Timed) : Type 0 where
-  pub taken : List Turn
-  pub fewer : length taken < turns
+-- after fewer turns, in which so many requests were performed, this happened
+pub record StopsAfter (p : Patience) (turns effects : ℕ) (happens : Timed → Timed → Type 0) (old new : Timed) : Type 0 where
+  pub taken : ℕ
+  pub fewer : taken < turns
   pub middle : Timed
-  pub run : Run TakesTurn taken old middle
-  pub failed : fails middle new
+  pub takes : TakesTurns p taken effects old middle
+  pub stopped : happens middle new
+
+-- all turns were taken, or the time was over before
+abbrev pub Serves : Patience → (turns effects : ℕ) → (old new : Timed) → Type 0
+Serves p turns effects old new = TakesTurns p turns effects old new ⊎ StopsAfter p turns effects (IsOver p) old new
+
+-- the same, whatever was performed
+pub record StopsServing (p : Patience) (turns : ℕ) (happens : Timed → Timed → Type 0) (old new : Timed) : Type 0 where
+  pub effects : ℕ
+  pub stops : StopsAfter p turns effects happens old new
 
 -- why serving stopped
-abbrev pub ServingFails : TurnFault → (turns : ℕ) → (old new : Timed) → Type 0
-ServingFails fault.Link turns old new = StopsServing turns CannotReceive old new
-ServingFails fault.ClockBack turns old new = StopsServing turns GoesBack old new
+abbrev pub ServingFails : TurnFault → Patience → (turns : ℕ) → (old new : Timed) → Type 0
+ServingFails fault.Link p turns old new = StopsServing p turns CannotReceive old new
+ServingFails fault.ClockBack p turns old new = StopsServing p turns GoesBack old new

@@ -1,16 +1,17 @@
 -- One turn of a node on a link: what has come is heard, all that is due is done, and what the node sends goes out.
-use Rattle.std.specs.Prelude.{◌≡◌, ◌⊎◌, ℕ, zero, suc, ◌+◌, ◌≤◌, List, [], ◌∷◌, ◌++◌, map, length, take, Option, Some, None, Ok, IfSome}
+use Rattle.std.specs.Prelude.{◌≡◌, ◌⊎◌, ℕ, zero, suc, ◌+◌, ◌≤◌, List, [], ◌++◌, map, length, take, Option, Some, None, Ok, IfSome}
 use Rattle.std.specs.Option.{option_map}
 use Rattle.bac_protocol.specs.Service.{Octets}
 use Rattle.bac_ends.specs.Sends.{Datagram}
 use Rattle.bac_ends.specs.Meanings.{Finish}
-use Rattle.bac_link.specs.Calls.{Call, Calls, one_more, received}
+use Rattle.bac_link.specs.Calls.{Call, Calls, one_more, received, with_call}
 use Rattle.bac_link.specs.Calls.Call.{Send}
 use Rattle.bac_world.specs.Node.{Node, Outcome, NodeOn, NodeTick}
 use Rattle.bac_world.specs.Services.{Performed}
 use Rattle.bac_node.specs.Calls.{IsNotHeard}
 use Rattle.bac_run.specs.Stations.{Station}
 use Rattle.bac_run.specs.Waits.{IsWait}
+use Rattle.bac_run.specs.declared.patience.Patience.{Patience}
 
 -- what a turn answers: who sent the datagram that came, and how many octets it has; failed sends, and steps that found no memory; what was performed; the
 -- tickets that ended by the datagram, and by the tick
@@ -91,18 +92,32 @@ pub record Steps (now : ℕ) (buffer : Octets) (old new : Node) (turn : Turn) (f
   pub tick_ended : turn.tick_ended ≡ second.ended
   pub skipped : turn.skipped ≡ first.skipped + second.skipped
 
--- these calls, and then all that is sent, each datagram once, in order; failed sends are counted
-pub record IsCarried (before : List Call) (sends : List Datagram) (lost : ℕ) (old new : Station) : Type 0 where
-  pub order : new.calls ≡ with_calls old.calls (before ++ map call_of sends)
+-- all that is sent goes to the link, each datagram once, in order; failed sends are counted
+pub record IsCarried (sends : List Datagram) (lost : ℕ) (old new : Station) : Type 0 where
+  pub order : new.calls ≡ with_calls old.calls (map call_of sends)
   pub count : new.failures ≡ counted old.failures lost
   pub most : lost ≤ length sends
 
--- the datagram that came, if one did, stands in the buffer; the link was called to receive once, and waited until something was due, but no more than 100 ms
-pub record IsTurn (now : ℕ) (old new : Station) (turn : Turn) : Type 0 where
-  pub within : IfSome turn.received (λ d. d.1 ≤ length new.buffer)
+-- the link was called to receive once, at that moment, and waited until something was due, but no longer than it may; the datagram that came, if one did, stands
+-- in the buffer
+pub record Receives (p : Patience) (now : ℕ) (old : Station) (came : Option (Octets × ℕ)) (new : Station) : Type 0 where
+  pub within : IfSome came (λ d. d.1 ≤ length new.buffer)
   pub wait : ℕ
-  pub waits : IsWait now old.node wait
+  pub waits : IsWait p now old.node wait
+  pub told : new.calls ≡ with_call old.calls (received wait new.buffer (Ok came))
+  pub count : new.failures ≡ old.failures
+  pub node : new.node ≡ old.node
+
+-- the node heard what had come and did all that was due, and what it sent went to the link
+pub record Acts (now : ℕ) (old : Station) (turn : Turn) (new : Station) : Type 0 where
   pub first : Step
   pub second : Step
-  pub steps : Steps now new.buffer old.node new.node turn first second
-  pub carried : IsCarried (received wait new.buffer (Ok turn.received) ∷ []) (first.sends ++ second.sends) turn.lost old new
+  pub steps : Steps now old.buffer old.node new.node turn first second
+  pub carried : IsCarried (first.sends ++ second.sends) turn.lost old new
+  pub buffer : new.buffer ≡ old.buffer
+
+-- both, one after the other, each at its moment
+pub record IsTurn (p : Patience) (began now : ℕ) (old : Station) (turn : Turn) (new : Station) : Type 0 where
+  pub middle : Station
+  pub receives : Receives p began old turn.received middle
+  pub acts : Acts now middle turn new

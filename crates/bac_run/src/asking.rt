@@ -1,11 +1,13 @@
 //! A node that asks.
 ghost use Rattle.std.specs.Prelude.{◌≢◌, IfOk, IfErr, IsErrOf};
 ghost use Rattle.bac_run.specs.Runs.{GoesBack, TakesTurn, timed};
+ghost use Rattle.bac_run.specs.Waits.{UNTIL_DUE};
 ghost use Rattle.bac_run.specs.Asking.{Asks, AskingEnds, AskingFails, IsRefused, WaitingFails, Waits, own_turn};
 ghost use Rattle.bac_run.specs.Views.{question_view};
 
 use crate::endings::ending_in;
 use crate::fault::TurnFault;
+use crate::patience::Patience;
 use crate::question::{AskEnd, Question};
 use crate::station::Station;
 use bac_link::{Clock, Link};
@@ -35,11 +37,11 @@ impl<L: Link> Station<L> {
         ticket: u64,
         turns: u64,
     ) -> Result<Option<Ending>, TurnFault>
-        ensures waited { IfOk result (Waits TakesTurn own_turn turns ticket (timed self.old (C.told clock.old)) (timed self.new (C.told clock.new))) }
+        ensures waited { IfOk result (Waits (TakesTurn UNTIL_DUE) own_turn turns ticket (timed self.old (C.told clock.old)) (timed self.new (C.told clock.new))) }
         ensures failed { IfErr result (λ e. WaitingFails e turns ticket (timed self.old (C.told clock.old)) (timed self.new (C.told clock.new))) }
     {
         for _ in 0..turns {
-            let turn = self.turn_by(clock)?;
+            let turn = self.turn_by(clock, &Patience::UNTIL_DUE)?;
             if let Some(ending) = ending_in(turn, ticket) {
                 return Ok(Some(ending));
             }
@@ -47,7 +49,8 @@ impl<L: Link> Station<L> {
         Ok(None)
     }
 
-    /// The node asks, and takes turns, at the moments that a clock tells, until its ticket has ended, but no more than so many.
+    /// The node asks, and takes turns, at the moments that a clock tells, until its ticket has ended, but no more than so many. Each waits until something is
+    /// due, or a datagram comes.
     ///
     /// `Link` where the link could not receive, `ClockBack` where the clock went back; the turns before it stand.
     pub fn ask<C: Clock>(

@@ -6,6 +6,7 @@ mod asking;
 mod endings;
 mod fault;
 mod pairing;
+mod patience;
 mod question;
 mod sending;
 mod serving;
@@ -15,6 +16,7 @@ mod turn;
 
 pub use fault::TurnFault;
 pub use pairing::pair;
+pub use patience::Patience;
 pub use question::{AskEnd, Question};
 pub use station::Station;
 pub use turn::Turn;

@@ -1,11 +1,12 @@
 //! Two nodes in one process, each on its own link; the first of them asks.
 ghost use Rattle.std.specs.Prelude.{IfOk, IfErr};
 ghost use Rattle.bac_run.specs.Asking.{Waits};
-ghost use Rattle.bac_run.specs.Pairs.{PairEnds, PairFails, RoundFails, RoundGives, RoundsFail, TakesRound, paired, turn_of_first};
+ghost use Rattle.bac_run.specs.Pairs.{IsBeside, PairEnds, PairFails, RoundFails, RoundGives, RoundsFail, TakesRound, paired, turn_of_first};
 ghost use Rattle.bac_run.specs.Views.{question_view, turn_view};
 
 use crate::endings::ending_in;
 use crate::fault::TurnFault;
+use crate::patience::Patience;
 use crate::question::{AskEnd, Question};
 use crate::station::Station;
 use crate::turn::Turn;
@@ -13,7 +14,22 @@ use bac_link::{Clock, Link};
 use bac_requester::AskFault;
 use bac_ticket::Ending;
 
-/// A turn of the first node, and then one of the second. Answers what the first turn gave.
+/// How long the second node may wait after a turn of the first: until something is due at that one, and not at all where a datagram came to it, since more may
+/// have come.
+fn patience_beside<L: Link>(first: &Station<L>, turn: &Turn) -> Patience
+    ensures { IsBeside first.now.node (turn_view turn.now) result }
+{
+    let wait = match turn.received {
+        Some(_) => 0,
+        None => u64::MAX,
+    };
+    Patience {
+        wait,
+        until: first.node().next_due(),
+    }
+}
+
+/// A turn of the first node, which doesn't wait, and then one of the second. Answers what the first turn gave.
 fn take_round<L: Link, C: Clock>(
     first: &mut Station<L>,
     second: &mut Station<L>,
@@ -24,8 +40,8 @@ fn take_round<L: Link, C: Clock>(
     ensures failed { IfErr result (λ e. RoundFails e
         (paired first.old second.old (C.told clock.old)) (paired first.new second.new (C.told clock.new))) }
 {
-    let turn = first.turn_by(clock)?;
-    second.turn_by(clock)?;
+    let turn = first.turn_by(clock, &Patience::AT_ONCE)?;
+    second.turn_by(clock, &patience_beside(first, &turn))?;
     Ok(turn)
 }
 
@@ -51,8 +67,9 @@ fn wait<L: Link, C: Clock>(
     Ok(None)
 }
 
-/// As `Station::ask` of the first, with a second node that takes one turn on its own link after each turn of the first. `Link` and `ClockBack` are those of
-/// either node.
+/// As `Station::ask` of the first, with a second node that takes one turn on its own link after each turn of the first. The first does not wait, and the
+/// second until something is due at either node, or a datagram comes; where one has just come to the first, it does not wait either. `Link` and `ClockBack` are
+/// those of either node.
 pub fn pair<L: Link, C: Clock>(
     first: &mut Station<L>,
     second: &mut Station<L>,

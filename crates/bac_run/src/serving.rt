@@ -1,46 +1,88 @@
 //! A node that serves.
-ghost use Rattle.std.specs.Prelude.{◌≤◌, IfOk, IfErr};
+ghost use Rattle.std.specs.Prelude.{◌↔◌, ◌<◌, ◌≤◌, IfOk, IfErr, IfSome, IsTrue, MatchOption};
 ghost use Rattle.bac_run.specs.Runs.{TakesTurn, TurnFails, timed};
-ghost use Rattle.bac_run.specs.Serving.{Serves, ServesOnce, ServingFails};
+ghost use Rattle.bac_run.specs.Serving.{IsBefore, IsOver, Serves, ServesOnce, ServingFails};
 ghost use Rattle.bac_run.specs.Views.{turn_view};
 
 use crate::fault::TurnFault;
+use crate::patience::Patience;
 use crate::station::Station;
 use crate::turn::Turn;
 use bac_link::{Clock, Link};
 
+impl Patience {
+    /// Whether a moment is before its last one, if it has one.
+    fn is_before(&self, now: u64) -> bool
+        ensures { IsTrue result ↔ IsBefore now self.now.until }
+    {
+        match self.until {
+            Some(until) => now < until,
+            None => true,
+        }
+    }
+}
+
 impl<L: Link> Station<L> {
-    /// One turn, at the moment that a clock tells.
-    pub(crate) fn turn_by<C: Clock>(&mut self, clock: &mut C) -> Result<Turn, TurnFault>
-        ensures taken { IfOk result (λ t. TakesTurn (timed self.old (C.told clock.old)) (turn_view t) (timed self.new (C.told clock.new))) }
+    /// One turn at the moments that a clock tells: one when it begins, and one once the call to receive has ended, at which the node acts; where the clock
+    /// went back between them, it acts at the first. It is as `turn`, but the call waits as long as is said.
+    ///
+    /// `ClockBack` exactly where the first moment is before the node's latest one; then nothing is received.
+    pub fn turn_by<C: Clock>(
+        &mut self,
+        clock: &mut C,
+        patience: &Patience,
+    ) -> Result<Turn, TurnFault>
+        ensures taken { IfOk result (λ t. TakesTurn patience.now (timed self.old (C.told clock.old)) (turn_view t) (timed self.new (C.told clock.new))) }
         ensures failed { IfErr result (λ e. TurnFails e (timed self.old (C.told clock.old)) (timed self.new (C.told clock.new))) }
     {
-        self.turn(clock.now())
+        let began = clock.now();
+        self.turn_from(began, clock, patience)
     }
 
-    /// The same; how many requests were performed: 0 or 1.
-    fn serve_once<C: Clock>(&mut self, clock: &mut C) -> Result<u64, TurnFault>
-        ensures served { IfOk result (λ effects. ServesOnce effects (timed self.old (C.told clock.old)) (timed self.new (C.told clock.new))) }
-        ensures most { IfOk result (λ effects. effects ≤ 1) }
+    /// The same where it begins before the last moment, if there is one; how many requests were performed: 0 or 1.
+    fn serve_once<C: Clock>(
+        &mut self,
+        clock: &mut C,
+        patience: &Patience,
+    ) -> Result<Option<u64>, TurnFault>
+        ensures served { IfOk result (λ r. IfSome r (λ effects. ServesOnce patience.now effects (timed self.old (C.told clock.old))
+            (timed self.new (C.told clock.new)))) }
+        ensures over { IfOk result (λ r. MatchOption r (IsOver patience.now (timed self.old (C.told clock.old)) (timed self.new (C.told clock.new)))
+            (λ effects. effects ≤ 1)) }
         ensures failed { IfErr result (λ e. TurnFails e (timed self.old (C.told clock.old)) (timed self.new (C.told clock.new))) }
     {
-        let turn = self.turn_by(clock)?;
+        let began = clock.now();
+        if !patience.is_before(began) {
+            return Ok(None);
+        }
+        let turn = self.turn_from(began, clock, patience)?;
         match turn.effect {
-            Some(_) => Ok(1),
-            None => Ok(0),
+            Some(_) => Ok(Some(1)),
+            None => Ok(Some(0)),
         }
     }
 
-    /// The node takes so many turns, at the moments that a clock tells. Answers how many requests it performed.
+    /// The node takes so many turns, at the moments that a clock tells, but none that would begin at the last moment of its patience or later; a turn waits
+    /// no longer than its patience says. Answers how many requests it performed.
     ///
     /// `Link` where the link could not receive, `ClockBack` where the clock went back, both in the turn after those that stand.
-    pub fn serve<C: Clock>(&mut self, clock: &mut C, turns: u64) -> Result<u64, TurnFault>
-        ensures served { IfOk result (λ effects. Serves turns effects (timed self.old (C.told clock.old)) (timed self.new (C.told clock.new))) }
-        ensures failed { IfErr result (λ e. ServingFails e turns (timed self.old (C.told clock.old)) (timed self.new (C.told clock.new))) }
+    pub fn serve<C: Clock>(
+        &mut self,
+        clock: &mut C,
+        patience: &Patience,
+        turns: u64,
+    ) -> Result<u64, TurnFault>
+        ensures served { IfOk result (λ effects. Serves patience.now turns effects (timed self.old (C.told clock.old))
+            (timed self.new (C.told clock.new))) }
+        ensures failed { IfErr result (λ e. ServingFails e patience.now turns (timed self.old (C.told clock.old)) (timed self.new (C.told clock.new))) }
     {
         let mut effects = 0;
         for _ in 0..turns {
-            effects += self.serve_once(clock)?;
+            let once = self.serve_once(clock, patience)?;
+            let Some(more) = once else {
+                return Ok(effects);
+            };
+            effects += more;
         }
         Ok(effects)
     }

@@ -1,20 +1,22 @@
 //! A node on its link.
-ghost use Rattle.std.specs.Prelude.{◌≡◌, ◌↔◌, ◌<◌, ◌≤◌, length, IfOk, IfErr, IsErrOf, OnErr};
+ghost use Rattle.std.specs.Prelude.{◌≡◌, ◌↔◌, ◌<◌, ◌≤◌, length, IfOk, IfErr, IfSome, IsErrOf, OnErr};
 ghost use Rattle.bac_link.specs.Calls.{one_more, with_call};
 ghost use Rattle.bac_link.specs.Calls.Call.{FailedReceive};
 ghost use Rattle.bac_node.specs.Calls.{Refuses};
 ghost use Rattle.bac_run.specs.Stations.{BUFFER};
-ghost use Rattle.bac_run.specs.Turns.{IsTurn};
-ghost use Rattle.bac_run.specs.Waits.{IsWait};
+ghost use Rattle.bac_run.specs.Turns.{Acts, IsTurn, Receives};
+ghost use Rattle.bac_run.specs.Runs.{TakesTurnFrom, timed};
+ghost use Rattle.bac_run.specs.Waits.{BRIEF, IsWait};
 ghost use Rattle.bac_run.specs.Asking.{IsBegun};
 ghost use Rattle.bac_run.specs.Views.{question_view, turn_view};
 
 use crate::fault::TurnFault;
+use crate::patience::{Patience, wait_until};
 use crate::question::Question;
 use crate::sending::send_all;
 use crate::step::{hear_received, tick};
-use crate::turn::Turn;
-use bac_link::Link;
+use crate::turn::{Received, Turn};
+use bac_link::{Clock, Link};
 use bac_node::Node;
 use bac_requester::AskFault;
 use bac_value::NoMemory;
@@ -23,9 +25,6 @@ use std::marker::Model;
 
 /// How many octets of a datagram are received. A frame of the greatest APDU has at most 1,514 (clauses 6 and 20.1, annex J).
 const BUFFER: usize = 2_048;
-
-/// The longest wait of a turn for a datagram, in milliseconds.
-const WAIT: u64 = 100;
 
 /// A node on its link, with a buffer of 2,048 octets for what comes.
 #[derive(Drop)]
@@ -87,24 +86,18 @@ impl<L: Link> Station<L> {
         &self.buffer
     }
 
-    /// How long a turn at that moment waits for a datagram.
-    fn wait_at(&self, now: u64) -> u64
-        ensures { IsWait now self.now.node result }
+    /// How long a call to receive at that moment waits.
+    fn wait_at(&self, now: u64, patience: &Patience) -> u64
+        ensures { IsWait patience.now now self.now.node result }
     {
-        match self.node.next_due() {
-            Some(due) => due.saturating_sub(now).min(WAIT),
-            None => WAIT,
-        }
+        let most = wait_until(patience.wait, now, patience.until);
+        wait_until(most, now, self.node.next_due())
     }
 
-    /// One turn at a moment in milliseconds: one call to receive into the buffer; the node hears the datagram, if one came; then it does all that is due.
-    /// The call waits until the first moment at which something is due (`Node::next_due`), but no longer than 100 milliseconds.
-    /// What each step sends goes to the link at once, in order; a send that fails is lost, and changes nothing else. A step that finds no memory is skipped.
-    ///
-    /// `ClockBack` exactly where the moment is before the node's latest one; then nothing is received. `Link` where the link could not receive. After an Err
-    /// the node is as before. Beside the node's steps it takes no memory.
-    pub fn turn(&mut self, now: u64) -> Result<Turn, TurnFault>
-        ensures turned { IfOk result (λ t. IsTurn now self.old self.new (turn_view t)) }
+    /// One call to receive into the buffer, at a moment that is not before the node's latest one. The node is as before.
+    fn receive(&mut self, now: u64, patience: &Patience) -> Result<Received, TurnFault>
+        ensures received { IfOk result (λ r. Receives patience.now now self.old r self.new) }
+        ensures timely { IfOk result (λ _. self.old.node.latest ≤ now) }
         ensures size { length self.new.buffer ≡ BUFFER }
         ensures early { IsErrOf result TurnFault.ClockBack ↔ (now < self.old.node.latest) }
         ensures unheard { IsErrOf result TurnFault.ClockBack → self.new ≡ self.old }
@@ -115,20 +108,71 @@ impl<L: Link> Station<L> {
         if now < self.node.latest() {
             return Err(TurnFault::ClockBack);
         }
-        let wait = self.wait_at(now);
-        let received = self.link.recv(&mut self.buffer, wait)?;
+        let wait = self.wait_at(now, patience);
+        Ok(self.link.recv(&mut self.buffer, wait)?)
+    }
+
+    /// The node hears what came, and then does all that is due, at a moment that is not before its latest one; what it sends goes to the link.
+    fn act(&mut self, now: u64, received: Received) -> Turn
+        requires within { IfSome received (λ d. d.1 ≤ length self.old.buffer) }
+        requires timely { self.old.node.latest ≤ now }
+        ensures acted { Acts now self.old (turn_view result) self.new }
+        ensures received { result.received ≡ received }
+    {
         let first = hear_received(self.alloc, &mut self.node, now, received, &self.buffer);
         let first_lost = send_all(&mut self.link, &first.sends);
         let second = tick(self.alloc, &mut self.node, now);
         let second_lost = send_all(&mut self.link, &second.sends);
-        Ok(Turn {
+        Turn {
             received,
             lost: first_lost.saturating_add(second_lost),
             skipped: first.skipped + second.skipped,
             effect: first.effect,
             ended: first.ended,
             tick_ended: second.ended,
-        })
+        }
+    }
+
+    /// One turn at a moment in milliseconds: one call to receive into the buffer; the node hears the datagram, if one came; then it does all that is due.
+    /// The call waits until the first moment at which something is due (`Node::next_due`), but no longer than 100 milliseconds: all that the turn does is
+    /// done at the one moment.
+    /// What each step sends goes to the link at once, in order; a send that fails is lost, and changes nothing else. A step that finds no memory is skipped.
+    ///
+    /// `ClockBack` exactly where the moment is before the node's latest one; then nothing is received. `Link` where the link could not receive. After an Err
+    /// the node is as before. Beside the node's steps it takes no memory.
+    pub fn turn(&mut self, now: u64) -> Result<Turn, TurnFault>
+        ensures turned { IfOk result (λ t. IsTurn BRIEF now now self.old (turn_view t) self.new) }
+        ensures size { length self.new.buffer ≡ BUFFER }
+        ensures early { IsErrOf result TurnFault.ClockBack ↔ (now < self.old.node.latest) }
+        ensures unheard { IsErrOf result TurnFault.ClockBack → self.new ≡ self.old }
+        ensures failed { IsErrOf result TurnFault.Link → self.new.failures ≡ one_more self.old.failures }
+        ensures told { IsErrOf result TurnFault.Link → self.new.calls ≡ with_call self.old.calls FailedReceive }
+        ensures err { OnErr result (self.new.node ≡ self.old.node) }
+    {
+        let received = self.receive(now, &Patience::BRIEF)?;
+        Ok(self.act(now, received))
+    }
+
+    /// One turn that begins at a moment, as `turn`; but the call to receive waits as long as is said, and once it has ended the node acts at the moment that
+    /// the clock then tells, or at the first one where the clock went back meanwhile.
+    pub(crate) fn turn_from<C: Clock>(
+        &mut self,
+        began: u64,
+        clock: &mut C,
+        patience: &Patience,
+    ) -> Result<Turn, TurnFault>
+        ensures taken { IfOk result (λ t. TakesTurnFrom began patience.now (timed self.old (C.told clock.old)) (turn_view t)
+            (timed self.new (C.told clock.new))) }
+        ensures early { IsErrOf result TurnFault.ClockBack ↔ (began < self.old.node.latest) }
+        ensures unheard { IsErrOf result TurnFault.ClockBack → self.new ≡ self.old }
+        ensures failed { IsErrOf result TurnFault.Link → self.new.failures ≡ one_more self.old.failures }
+        ensures told { IsErrOf result TurnFault.Link → self.new.calls ≡ with_call self.old.calls FailedReceive }
+        ensures err { OnErr result (self.new.node ≡ self.old.node) }
+        ensures clock { OnErr result (C.told clock.new ≡ C.told clock.old) }
+    {
+        let received = self.receive(began, patience)?;
+        let now = clock.now().max(began);
+        Ok(self.act(now, received))
     }
 
     /// The node asks at a moment in milliseconds, and what it sends goes to the link, in order; a send that fails is lost. Answers the ticket's number.

@@ -3,6 +3,9 @@ use bac_npdu::LinkAddress;
 use bac_requester::Finish;
 use bac_responder::Act;
 
+/// The sender of the datagram that came, and how many octets it has: they are the first of the station's buffer. None where no datagram came.
+pub(crate) type Received = Option<(LinkAddress, usize)>;
+
 /// What a turn gave.
 #[derive(Drop)]
 pub struct Turn {

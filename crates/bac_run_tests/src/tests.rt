@@ -7,7 +7,7 @@ use bac_commands::print_ending;
 use bac_link::Link;
 use bac_node::Node;
 use bac_npdu::{LinkAddress, Peer};
-use bac_run::{AskEnd, Question, Station, TurnFault, pair};
+use bac_run::{AskEnd, Patience, Question, Station, TurnFault, pair};
 use bac_service::{OwnedRequest, read_request};
 use bac_ticket::Ending;
 use std::alloc::Global;

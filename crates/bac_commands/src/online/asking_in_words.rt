@@ -6,7 +6,7 @@ ghost use Rattle.bac_run.specs.Runs.{timed};
 ghost use Rattle.bac_run.specs.Views.{question_view};
 ghost use Rattle.bac_commands.specs.Words.{AreEndWords, AskedWords, ReportsInWords};
 
-use super::asking::{TURNS, is_answered};
+use super::asking::{TURNS, is_success};
 use super::trouble::Trouble;
 use crate::facts::ending_words;
 use bac_link::{Clock, Link};
@@ -41,22 +41,23 @@ fn print_line<W: Write>(text: &[u8], out: &mut W) -> io::Result<()>
     out.write_all(b"\n")
 }
 
-/// Whether the ask was answered.
+/// Whether the ask succeeded.
 fn ask_and_tell<L: Link, C: Clock, O: Write>(
     alloc: Global,
     station: &mut Station<L>,
     clock: &mut C,
+    strict: bool,
     question: &Question,
     out: &mut O,
 ) -> Result<bool, Trouble>
-    ensures { IfOk result (λ answered. AskedWords answered (question_view question.now)
+    ensures { IfOk result (λ succeeded. AskedWords strict succeeded (question_view question.now)
         (timed station.old (C.told clock.old)) (timed station.new (C.told clock.new)) (O.contents out.old) (O.contents out.new)) }
 {
     let end = station.ask(clock, question, TURNS)?;
     let words = end_words(alloc, &end)?;
     print_line(words.as_slice(), out)?;
     out.flush()?;
-    Ok(is_answered(&end))
+    Ok(is_success(strict, &end))
 }
 
 /// As [`ask`](crate::ask), but how that ended is printed in words: values by their kinds, an Error and reasons by their names in the standard.
@@ -64,14 +65,15 @@ pub fn ask_in_words<L: Link, C: Clock, O: Write, E: Write>(
     alloc: Global,
     station: &mut Station<L>,
     clock: &mut C,
+    strict: bool,
     question: &Question,
     out: &mut O,
     err: &mut E,
 ) -> Status
-    ensures { ReportsInWords result (question_view question.now)
+    ensures { ReportsInWords result strict (question_view question.now)
         (timed station.old (C.told clock.old)) (timed station.new (C.told clock.new)) (O.contents out.old) (O.contents out.new) }
 {
-    match ask_and_tell(alloc, station, clock, question, out) {
+    match ask_and_tell(alloc, station, clock, strict, question, out) {
         Ok(true) => Status::Done,
         Ok(false) => Status::Faulty,
         Err(trouble) => trouble.tell(err),

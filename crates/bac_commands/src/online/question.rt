@@ -2,7 +2,7 @@
 ghost use Rattle.std.specs.Prelude.{◌≡◌, map};
 ghost use Rattle.bac_service.specs.Views.{owned_request_view};
 ghost use Rattle.bac_run.specs.Views.{question_view};
-ghost use Rattle.bac_commands.specs.Questions.{ReadsQuestion, local, question_for};
+ghost use Rattle.bac_commands.specs.Questions.{ReadsQuestion, question_for};
 
 use crate::fresh_node::LIMITS;
 use bac_npdu::{LinkAddress, Peer};
@@ -10,14 +10,6 @@ use bac_run::Question;
 use bac_script::{FormFault, read_request_words};
 use bac_service::OwnedRequest;
 use std::alloc::Global;
-
-/// The address of a port of this machine: 127.0.0.1 and the port (clause J.1.2).
-pub fn local(port: u16) -> LinkAddress
-    ensures { result ≡ local port }
-{
-    let [high, low] = port.to_be_bytes();
-    [127, 0, 0, 1, high, low]
-}
 
 /// A question for the peer at an address, which takes APDUs of 1,476 octets and any number of segments.
 pub(crate) fn question_for(link: LinkAddress, request: OwnedRequest) -> Question

@@ -5,39 +5,42 @@ ghost use Rattle.bac_commands.specs.Reports.{ReportsServing, ServedText};
 
 use super::trouble::Trouble;
 use bac_link::{Clock, Link};
-use bac_run::Station;
+use bac_run::{Patience, Station};
 use bac_text::Status;
 use std::io::Write;
 
 fn serve_and_print<L: Link, C: Clock, O: Write>(
     station: &mut Station<L>,
     clock: &mut C,
+    patience: &Patience,
     turns: u64,
     out: &mut O,
 ) -> Result<(), Trouble>
-    ensures { IfOk result (λ _. ServedText turns (timed station.old (C.told clock.old)) (timed station.new (C.told clock.new))
+    ensures { IfOk result (λ _. ServedText patience.now turns (timed station.old (C.told clock.old)) (timed station.new (C.told clock.new))
         (O.contents out.old) (O.contents out.new)) }
 {
-    let effects = station.serve(clock, turns)?;
+    let effects = station.serve(clock, patience, turns)?;
     writeln!(out, "served {effects}")?;
     out.flush()?;
     Ok(())
 }
 
-/// A node takes so many turns on its link, and how many requests it performed is printed.
+/// A node takes so many turns on its link, each with that patience, or as many as begin before its last moment, if it has one; and how many requests it performed
+/// is printed.
 ///
 /// `link fault` on `err` where the link can't receive, `clock fault` where the clock goes back, both with status `Output`.
 pub fn serve<L: Link, C: Clock, O: Write, E: Write>(
     station: &mut Station<L>,
     clock: &mut C,
+    patience: &Patience,
     turns: u64,
     out: &mut O,
     err: &mut E,
 ) -> Status
-    ensures { ReportsServing result turns (timed station.old (C.told clock.old)) (timed station.new (C.told clock.new))
+    ensures { ReportsServing result patience.now turns (timed station.old (C.told clock.old)) (timed station.new (C.told clock.new))
         (O.contents out.old) (O.contents out.new) }
 {
-    match serve_and_print(station, clock, turns, out) {
+    match serve_and_print(station, clock, patience, turns, out) {
         Ok(()) => Status::Done,
         Err(trouble) => trouble.tell(err),
     }

@@ -1,31 +1,40 @@
 //! The node of each command, on its link.
-ghost use Rattle.std.specs.Prelude.{◌≡◌, IfOk};
-ghost use Rattle.bac_commands.specs.Houses.{house_node, node_with};
+ghost use Rattle.std.specs.Prelude.{◌≡◌, false, IfOk, IsErrOf};
+ghost use Rattle.bac_node.specs.Fresh.{slots_fit};
+ghost use Rattle.bac_commands.specs.Houses.{house_node, server_node};
 
-use crate::fresh_node::node_with;
+use crate::fresh_node::{node_with, server_node};
 use bac_link::Link;
+use bac_node::NewNodeFault;
 use bac_npdu::LinkAddress;
 use bac_run::Station;
 use bac_store::{Store, house};
 use bac_value::NoMemory;
 use std::alloc::Global;
 
-/// A node of that address with a store, on that link; an Err where memory is refused.
-pub fn station_with<L: Link>(
+/// A node of that address that serves a store, on that link, with so many slots at each end, 1 to 1,024. Where a moment is given, in milliseconds, it restarts
+/// then: it turns new requests away while no more than 65,000 ms have passed since.
+///
+/// `BadSlots` where there can't be so many slots, `NoMemory` where memory is refused.
+pub fn server_station<L: Link>(
     alloc: Global,
     link: L,
     address: LinkAddress,
     store: Store,
-) -> Result<Station<L>, NoMemory>
-    ensures node { IfOk result (λ s. s.node ≡ node_with address store) }
+    slots: usize,
+    restart: Option<u64>,
+) -> Result<Station<L>, NewNodeFault>
+    ensures node { IfOk result (λ s. s.node ≡ server_node slots restart address store) }
     ensures failures { IfOk result (λ s. s.failures ≡ L.failures link) }
     ensures calls { IfOk result (λ s. s.calls ≡ L.calls link) }
+    ensures slots { IsErrOf result NewNodeFault.BadSlots → slots_fit slots ≡ false }
+    ensures window { IsErrOf result NewNodeFault.BadWindow → ⊥ }
 {
-    let node = node_with(alloc, address, store)?;
-    Station::new(alloc, node, link)
+    let node = server_node(alloc, slots, restart, address, store)?;
+    Ok(Station::new(alloc, node, link)?)
 }
 
-/// A node of that address with a house store of its own, on that link; an Err where memory is refused.
+/// A node of that address with a house store of its own and 64 slots at each end, on that link; an Err where memory is refused.
 pub fn house_station<L: Link>(
     alloc: Global,
     link: L,
@@ -36,5 +45,6 @@ pub fn house_station<L: Link>(
     ensures calls { IfOk result (λ s. s.calls ≡ L.calls link) }
 {
     let store = house(alloc)?;
-    station_with(alloc, link, address, store)
+    let node = node_with(alloc, address, store)?;
+    Station::new(alloc, node, link)
 }

@@ -93,6 +93,38 @@ const ANSWERED: &[BenchRow] = &[
         "pair",
         ("answered position 2\nanswered read 444290999A\n", "", 0),
     ),
+    // by address, where 47808 is the port without a word
+    (
+        HOUSES,
+        "ask --to 127.0.0.1:47808 read 0:5 85",
+        ("answered read 444290999A\n", "", 0),
+    ),
+    (
+        HOUSES,
+        "ask --to 127.0.0.1 --text read 0:5 85",
+        ("answered real 72.3\n", "", 0),
+    ),
+    // an Error is no success where that is wanted
+    (
+        HOUSES,
+        "ask --port 47808 --fail read 0:9 85",
+        ("answered error 1:31\n", "", 1),
+    ),
+    (
+        HOUSES,
+        "ask --port 47808 --fail --text read 0:9 85",
+        ("answered error object unknown-object (1:31)\n", "", 1),
+    ),
+    (
+        HOUSES,
+        "ask --port 47808 --fail read 0:5 85",
+        ("answered read 444290999A\n", "", 0),
+    ),
+    (
+        HOUSES,
+        "ask --port 47808 --fail write 2:1 85 4443340000",
+        ("answered written\n", "", 0),
+    ),
 ];
 
 #[test]
@@ -221,6 +253,16 @@ const UNANSWERED: &[BenchRow] = &[
         "ask --port 47809 read 0:5 85",
         ("timed-out\n", "", 1),
     ),
+    (
+        HOUSES,
+        "ask --to 127.0.0.1:47809 read 0:5 85",
+        ("timed-out\n", "", 1),
+    ),
+    (
+        HOUSES,
+        "ask --to 192.168.1.20 --fail read 0:5 85",
+        ("timed-out\n", "", 1),
+    ),
     (NOBODY, "pair", ("timed-out\ntimed-out\n", "", 1)),
     (LATE, "ask --port 47808 read 0:5 85", ("expired\n", "", 1)),
     (LATE, "pair", ("expired\nexpired\n", "", 1)),
@@ -261,6 +303,21 @@ const FIVE_REQUESTS: Bench = Bench {
     clock: Some(STANDING),
 };
 
+/// More requests than a clock that goes on by 100 milliseconds has time for.
+const MANY_REQUESTS: Bench = Bench {
+    behind: Behind::Requests(100),
+    clock: Some(STEADY),
+};
+
+/// Each look at the clock takes ten seconds.
+const SLOW_REQUESTS: Bench = Bench {
+    behind: Behind::Requests(5),
+    clock: Some(BenchClock {
+        moment: 0,
+        pace: Pace::On(10_000),
+    }),
+};
+
 /// Each turn performs one request, as long as there are any.
 const SERVED: &[BenchRow] = &[
     (
@@ -277,6 +334,38 @@ const SERVED: &[BenchRow] = &[
         HOUSES,
         "serve --port 47808 --turns 3",
         ("served 0\n", "", 0),
+    ),
+    (
+        FIVE_REQUESTS,
+        "serve --port 47808 --turns 9 --slots 2",
+        ("served 2\n", "", 0),
+    ),
+    // a turn begins at each second look at the clock, from 200 milliseconds on
+    (
+        MANY_REQUESTS,
+        "serve --port 47808 --seconds 1",
+        ("served 5\n", "listening 127.0.0.1:47808, 1024 slots\n", 0),
+    ),
+    (
+        MANY_REQUESTS,
+        "serve --port 47808 --seconds 2 --slots 7 --at 192.168.1.20",
+        ("served 7\n", "listening 192.168.1.20:47808, 7 slots\n", 0),
+    ),
+    (
+        MANY_REQUESTS,
+        "serve --port 47808 --seconds 1 --turns 3",
+        ("served 3\n", "", 0),
+    ),
+    // turns act 30, 50, 70 and 90 seconds after the clock began, and so on
+    (
+        SLOW_REQUESTS,
+        "serve --port 47808 --turns 9 --restarted",
+        ("served 2\n", "serving from 75001\n", 0),
+    ),
+    (
+        SLOW_REQUESTS,
+        "serve --port 47808 --turns 9",
+        ("served 5\n", "", 0),
     ),
 ];
 
@@ -402,8 +491,33 @@ fn tells_that_a_link_failed(rt: HostRuntime) -> Result<(), Fail> {
     all_end_so(rt.alloc(), LINKS)
 }
 
-/// Words that are no request.
+/// Words that are no request, and no address.
 const NO_REQUEST: &[BenchRow] = &[
+    (
+        HOUSES,
+        "ask --to house read 0:5 85",
+        ("", "bad address\n", 2),
+    ),
+    (
+        HOUSES,
+        "ask --to 127.0.0.1: read 0:5 85",
+        ("", "bad address\n", 2),
+    ),
+    (
+        HOUSES,
+        "ask --to 127.0.0.1:0 read 0:5 85",
+        ("", "bad address\n", 2),
+    ),
+    (
+        HOUSES,
+        "ask --to 127.0.0.256 read 0:5 85",
+        ("", "bad address\n", 2),
+    ),
+    (
+        HOUSES,
+        "serve --port 47808 --at localhost --turns 1",
+        ("", "bad address\n", 2),
+    ),
     (
         NO_LINKS,
         "ask --port 47899 get 10:1",

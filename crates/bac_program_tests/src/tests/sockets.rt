@@ -11,6 +11,20 @@ const ROWS: &[(&str, Ending)] = &[
     // nobody asks
     ("serve --port 47899 --turns 2", ("served 0\n", "", 0)),
     (
+        "serve --port 47899 --seconds 1 --restarted",
+        (
+            "served 0\n",
+            "listening 127.0.0.1:47899, 1024 slots\nserving from 65001\n",
+            0,
+        ),
+    ),
+    (
+        "serve --port 47899 --at 127.0.0.9 --turns 1",
+        ("served 0\n", "", 0),
+    ),
+    // an address of another machine
+    ("serve --port 47899 --at 192.0.2.1", ("", "link fault\n", 3)),
+    (
         "pair",
         ("answered position 2\nanswered read 444290999A\n", "", 0),
     ),

@@ -28,12 +28,13 @@ fn take_turn_of<'a>(
     client: &mut MemoryStation<'a>,
     server: &mut MemoryStation<'a>,
     number: u64,
-    now: u64,
+    moment: &Cell<u64>,
 ) -> bool {
+    let mut clock = MemoryClock::new(moment);
     if number % 2 == 1 {
-        client.turn(now).is_ok()
+        client.turn_by(&mut clock, &Patience::AT_ONCE).is_ok()
     } else {
-        server.turn(now).is_ok()
+        server.turn_by(&mut clock, &Patience::UNTIL_DUE).is_ok()
     }
 }
 
@@ -63,7 +64,7 @@ fn take_turns_before<'a>(
 ) -> Result<bool, Fail> {
     for turn in 1..number {
         begin_at(alloc, client, turn, moment.get())?;
-        if !take_turn_of(client, server, turn, moment.get()) {
+        if !take_turn_of(client, server, turn, moment) {
             return Ok(false);
         }
     }

@@ -128,7 +128,7 @@ fn ask_nobody(alloc: Global) -> Result<(String, u64), Fail> {
 fn asks_and_gets_no_answer(rt: HostRuntime) -> Result<(), Fail> {
     let (how, moment) = ask_nobody(rt.alloc())?;
     assert_eq!(&rt; how.as_str(), "timed-out");
-    // repeats at 3, 6 and 9 seconds, and the end at 12, in a turn that waits for 100 milliseconds
-    assert_eq!(&rt; moment, 12_100);
+    // repeats at 3, 6 and 9 seconds, and the end at 12
+    assert_eq!(&rt; moment, 12_000);
     Ok(())
 }

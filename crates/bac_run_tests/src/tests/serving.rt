@@ -13,7 +13,7 @@ fn serve_read(
     moment: &Cell<u64>,
 ) -> Result<Served, Fail> {
     client.send_hex(alloc, SERVER, READ)?;
-    let served = server.serve(&mut MemoryClock::new(moment), 2);
+    let served = server.serve(&mut MemoryClock::new(moment), &Patience::BRIEF, 2);
     let failures = server.link().failures();
     let fresh = server.node().same(&house_node(alloc, SERVER)?);
     Ok(match served {

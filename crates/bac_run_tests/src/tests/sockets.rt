@@ -24,7 +24,7 @@ fn serve_socket<R: std::time::Clock>(
     if sent.is_err() {
         return Err(Fail::from("not sent"));
     }
-    let served = station.serve(clock, 1).ok();
+    let served = station.serve(clock, &Patience::UNTIL_DUE, 1).ok();
     Ok((served, received(alloc, client)?))
 }
 

@@ -7,5 +7,12 @@ returns-clause-taken g c =
     record {
       round = record { of_first = turn_view c.in_ok-turn.turn; of_second = turn_view c.in_ok-turn_by.field-0 };
       is = refl;
-      takes = record { told = _; first = c.in_ok-turn.ensures.taken; second = c.in_ok-turn_by.ensures.taken };
+      takes =
+          record {
+            told = _;
+            first = c.in_ok-turn.ensures.taken;
+            patience = c.patience_beside.result;
+            beside = c.patience_beside.ensures;
+            second = c.in_ok-turn_by.ensures.taken;
+          };
     }

@@ -9,5 +9,5 @@ returns g c =
       words = c.in_ok-words.words.items;
       are = c.in_ok-words.ensures;
       printed = search rules;
-      is = sym c.is_answered.ensures;
+      is = sym c.is_success.ensures;
     }

@@ -1,11 +1,11 @@
 use Rattle.std.proofs.Common.{◌≤◌}
 use Rattle.bac_run.specs.Runs.{timed}
-use Rattle.bac_run.specs.Serving.{Serves}
+use Rattle.bac_run.specs.Serving.{TakesTurns}
 use Rattle.bac_run.proofs.station.Station.serve.Given as goal
 
 abbrev pub invariant-loop : goal.invariant-loop
 invariant-loop g l =
     record {
-      served : Serves l.counter l.effects (timed l.initial.self (g.C.Clock.told l.initial.clock)) (timed l.self (g.C.Clock.told l.clock));
+      served : TakesTurns l.patience l.counter l.effects (timed l.initial.self (g.C.Clock.told l.initial.clock)) (timed l.self (g.C.Clock.told l.clock));
       few : l.effects ≤ l.counter;
     }
