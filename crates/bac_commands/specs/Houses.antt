@@ -17,7 +17,7 @@ node_with link store =
       link = link;
       settings = record { limits = most_limits; window = 32 };
       latest = 0;
-      clients = record { slots = []; capacity = 64; asked = 0; asks_from = 0 };
+      clients = record { slots = []; capacity = 64; asked = 0; asks_from = 0; first_id = 0 };
       servers = record { slots = []; capacity = 64; serves_from = 0 };
       store = store;
     }

@@ -1,7 +1,7 @@
 //! How rows are written.
 //!
 //! A line is an event, `MOMENT from PEER APDU`, `MOMENT hear PEER DATAGRAM`, `MOMENT tick`, `MOMENT prepare`, `MOMENT ask PEER LIMITS REQUEST`,
-//! `MOMENT restart`, `MOMENT count` or `MOMENT compare`; after it each line that is printed stands behind two spaces. Lines that begin with `--` are comments.
+//! `MOMENT begin ID`, `MOMENT restart`, `MOMENT count` or `MOMENT compare`; after it each line that is printed stands behind two spaces. Lines that begin with `--` are comments.
 //! `FIRST,NEXT..LAST: ` before a line stands for that line once for each of these numbers.
 //! In a line `<name>` stands for a text that has this name, `{41*00}` for 41 times the digits, `{41/}` for 41 octets of which the one of number i is
 //! i / 256, `#` for the number in decimal and `@` for it modulo 256 in hexadecimal, `|` for the end of a line, and `_` for nothing.

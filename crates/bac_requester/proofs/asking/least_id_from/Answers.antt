@@ -5,7 +5,7 @@ use Rattle.bac_ends.specs.Ends.{is_id_held}
 use Rattle.bac_ends.specs.Views.{slots_view}
 use Rattle.bac_requester.proofs.Accepting.{least_more, least_found, least_none}
 use Rattle.bac_requester.proofs.Ids.{key_at, next_place, rank_within}
-use Rattle.bac_requester.proofs.asking.least_id.Goals as goal
+use Rattle.bac_requester.proofs.asking.least_id_from.Goals as goal
 
 pub loop-n-init : goal.loop-n-init
 loop-n-init g c = record { least = refl; place = c.rank-place.ensures }
