@@ -66,7 +66,7 @@ found_first test first o id is some = ap (λ p. option_or p (least_not test 256 
 
 pub found_around : (test : ℕ → Bool) (first : ℕ) (o p : Option ℕ) → o ≡ least_not test (256 - first) first → o ≡ None
     → p ≡ least_not test (256 - 0) 0 → p ≡ least_around test first
-found_around test first o p is none then = then ∙ ap (λ q. option_or q (least_not test 256 0)) (sym none ∙ is)
+found_around test first o p is none again = again ∙ ap (λ q. option_or q (least_not test 256 0)) (sym none ∙ is)
 
 -- The slots.
 

@@ -13,4 +13,4 @@ returns-in-Some g c =
 pub returns-in-None : goal.returns-in-None
 returns-in-None g c =
     found_around (is_id_held c.args.now (slots_view (g.S.SlotTable.slots c.args.table.now)) (peer_view c.args.peer.now)) c.args.first_id
-    c.least_id_from.result c.least_id_from-2.result c.least_id_from.ensures c.in-None.is c.least_id_from-2.ensures
+    c.least_id_from.result c.least_id_from-in-None.result c.least_id_from.ensures c.in-None.is c.least_id_from-in-None.ensures

@@ -1,9 +1,7 @@
 -- What is due first in the table is due first at the end.
 use Rattle.std.proofs.Common.{◌∙◌, sym}
-use Rattle.bac_slots.specs.Slots.{EachSlot}
 use Rattle.bac_protocol.specs.declared.times.TheConstants.{REST}
 use Rattle.bac_ends.specs.Ends.{Client, first_after}
-use Rattle.bac_ends.specs.Views.{slots_view}
 use Rattle.bac_aged.proofs.Viewed.{due_viewed, each_viewed}
 use Rattle.bac_ticket.specs.Timers.{IsHeldQuiet}
 use Rattle.bac_requester.specs.Aging.{client_due}
