@@ -1,6 +1,7 @@
 -- What each call of a client's end keeps of its table.
-use Rattle.std.proofs.Common.{◌≡◌, ℕ, zero, suc, ◌+◌, ◌<◌, ◌≤◌, ◌||◌, Bool, true, false, List, [], ◌∷◌, ◌++◌, filter, count_by, length, Option, Some, None}
+use Rattle.std.proofs.Common.{◌≡◌, ℕ, zero, suc, ◌+◌, ◌-◌, ◌<◌, ◌≤◌, ◌||◌, Bool, true, false, List, [], ◌∷◌, ◌++◌, filter, count_by, length, Option, Some, None}
 use Rattle.std.proofs.Common.{if◌then◌else◌, nat_le, refl, ap, sym, subst, ◌∙◌, arith, length-append}
+use Rattle.std.specs.Option.{option_or}
 use Rattle.std.proofs.lemmas.List.{length-map}
 use Rattle.std.proofs.lemmas.Bool.Decides.{nat_tests}
 use Rattle.std.proofs.lemmas.List.Sums.{length-filter}
@@ -15,12 +16,12 @@ use Rattle.bac_protocol.specs.Service.{Octets, Readable}
 use Rattle.bac_protocol.specs.Client.{Ask, client_gets}
 use Rattle.bac_ends.specs.Keys.{PeerKey, same_key}
 use Rattle.bac_ends.specs.Ends.{Client, ClientSlot, ClientEnd, Held, Accepted, AskRefusal, AskOutcome, MOST_ASKS}
-use Rattle.bac_ends.specs.Ends.{is_held, is_held_there, is_slot_held, is_id_held, is_id_taken, waits_to_ask, has_no_slot, least_not, context_of, key_of, held_ticked, client_after}
+use Rattle.bac_ends.specs.Ends.{is_held, is_held_there, is_slot_held, is_id_held, is_id_taken, waits_to_ask, has_no_slot, least_not, least_around, free_id, context_of, key_of, held_ticked, client_after}
 use Rattle.bac_ends.specs.Ends.{client_hears_at, client_hears_held, client_asks, asks_by_way, asks_for, asks_with_id, accepts}
 use Rattle.bac_ends.specs.Ends.Held.{Open, Closed}
 use Rattle.bac_ends.specs.Ends.AskOutcome.{Asked}
 use Rattle.bac_ends.specs.Tables.{IsOrderlyClient, ClientStaysOrderly, ClientOthersStay, client_ticked_at}
-use Rattle.bac_ends.specs.Tables.{IsLeastFree, TakesLeastFree, CanGo, AllTaken, OneFree, RefusesAsks}
+use Rattle.bac_ends.specs.Tables.{steps_to, IsLeastFree, TakesLeastFree, TakesLeastFromZero, CanGo, AllTaken, OneFree, RefusesAsks}
 use Rattle.bac_ends.proofs.KeyedSlots.{keys_equivalent, with_distinct, passing, passing_value, passing_distinct, put_distinct}
 use Rattle.bac_ends.proofs.KeyedSlots.{changed_value, distinct_changed, value_changed}
 
@@ -77,6 +78,70 @@ none_refused test (suc count) from h =
     ap (λ b. if b then least_not test count (from + 1) else Some from) (h from (omega arith) (omega arith))
     ∙ none_refused test count (from + 1) (λ n a b. h n (omega (arith, a)) (omega (arith, b)))
 
+-- From the first one on and around.
+
+pub record IsLeastAround (test : ℕ → Bool) (first id : ℕ) : Type 0 where
+  pub octet : id < 256
+  pub refused : test id ≡ false
+  pub before : (n : ℕ) → n < 256 → steps_to first n < steps_to first id → test n ≡ true
+
+pub least_around_is : (test : ℕ → Bool) (first id : ℕ) → least_around test first ≡ Some id → IsLeastAround test first id
+least_around_is test first id e = go (least_not test (256 - first) first) refl e
+  where
+    -- the first one is no octet, or none of the octets from it on is free
+    below : least_not test (256 - first) first ≡ None → IsLeastNot test 256 0 id → IsLeastAround test first id
+    below none r = record { octet = omega (arith, r.most); refused = r.refused; before = before }
+      where
+        before : (n : ℕ) → n < 256 → steps_to first n < steps_to first id → test n ≡ true
+        before n lt less = by (nat_le first n) refl
+          where
+            by : (b : Bool) → nat_le first n ≡ b → test n ≡ true
+            by true le = all_pass test (256 - first) first none n (grind (arith, nat_tests, le)) (grind (arith, nat_tests, le, lt))
+            by false gt = r.before n (omega arith) (to (nat_le first id) refl)
+              where
+                to : (b : Bool) → nat_le first id ≡ b → n < id
+                to true le = grind (arith, nat_tests, le, gt)
+                to false le = grind (arith, nat_tests, le, gt, less)
+
+    go : (o : Option ℕ) → least_not test (256 - first) first ≡ o → option_or o (least_not test 256 0) ≡ Some id → IsLeastAround test first id
+    go None none e = below none (least_not_is test 256 0 id e)
+    go (Some found) is e =
+        let same : found ≡ id = cc in
+        let r = least_not_is test (256 - first) first id (is ∙ ap Some same) in
+        record { octet = omega (arith, r.least, r.most); refused = r.refused; before = before r }
+      where
+        before : IsLeastNot test (256 - first) first id → (n : ℕ) → n < 256 → steps_to first n < steps_to first id → test n ≡ true
+        before r n lt less = by (nat_le first n) refl
+          where
+            at : nat_le first id ≡ true
+            at = grind (arith, nat_tests, r.least)
+
+            by : (b : Bool) → nat_le first n ≡ b → test n ≡ true
+            by true le = r.before n (grind (arith, nat_tests, le)) (grind (arith, nat_tests, le, at, less))
+            by false gt = absurd (grind (arith, nat_tests, gt, at, less, lt, r.most))
+
+pub all_pass_around : (test : ℕ → Bool) (first : ℕ) → least_around test first ≡ None → (n : ℕ) → n < 256 → test n ≡ true
+all_pass_around test first e n lt = all_pass test 256 0 (go (least_not test (256 - first) first) e) n (omega arith) (omega (arith, lt))
+  where
+    go : (o : Option ℕ) → option_or o (least_not test 256 0) ≡ None → least_not test 256 0 ≡ None
+    go None e = e
+    go (Some found) e = absurd cc
+
+pub none_refused_around : (test : ℕ → Bool) (first : ℕ) → ((n : ℕ) → n < 256 → test n ≡ true) → least_around test first ≡ None
+none_refused_around test first h =
+    ap (λ o. option_or o (least_not test 256 0)) (none_refused test (256 - first) first (λ n le lt. h n (omega (arith, le, lt))))
+    ∙ none_refused test 256 0 (λ n le lt. h n (omega (arith, lt)))
+
+pub takes_least_from_zero : TakesLeastFromZero
+takes_least_from_zero now peer e begins = ap (least_around test) begins ∙ go (least_not test 256 0)
+  where
+    test : ℕ → Bool
+    test = is_id_taken now e peer
+
+    go : (o : Option ℕ) → option_or o o ≡ o
+    go None = refl
+    go (Some id) = refl
+
 -- What is free is not held, and the end does not wait.
 
 pub no_wait : (now : ℕ) (e : ClientEnd) (peer : PeerView) (id : ℕ) → is_id_taken now e peer id ≡ false → waits_to_ask now e ≡ false
@@ -116,7 +181,7 @@ module _ (c : Settings) (now : ℕ) (peer : PeerView) (limits : Limits) (choice 
     pub id : ℕ
     pub ask : Ask
     pub can_go : CanGo (request_way_of c limits octets)
-    pub least : least_not held 256 0 ≡ Some id
+    pub least : free_id now e peer ≡ Some id
     pub room : has_no_slot now e ≡ false
     pub is : x ≡ accepts c now (key id) ask e
 
@@ -126,9 +191,9 @@ module _ (c : Settings) (now : ℕ) (peer : PeerView) (limits : Limits) (choice 
     chosen id b = if b then AskOutcome.Refused AskRefusal.NoSlot else Asked (accepts c now (key id) ask e)
 
     accepted_for : (x : Accepted) → CanGo (request_way_of c limits octets) → asks_for c now peer ask e ≡ Asked x → IsAccepted x
-    accepted_for x goes is = go (least_not held 256 0) refl is
+    accepted_for x goes is = go (free_id now e peer) refl is
       where
-        go : (o : Option ℕ) → least_not held 256 0 ≡ o → asks_with_id c now peer ask e o ≡ Asked x → IsAccepted x
+        go : (o : Option ℕ) → free_id now e peer ≡ o → asks_with_id c now peer ask e o ≡ Asked x → IsAccepted x
         go None least is = absurd cc
         go (Some id) least is = slots (has_no_slot now e) refl is
           where
@@ -139,11 +204,11 @@ module _ (c : Settings) (now : ℕ) (peer : PeerView) (limits : Limits) (choice 
                 record { id = id; ask = ask; can_go = goes; least = least; room = room; is = sym same }
 
     no_id_for : asks_for c now peer ask e ≡ AskOutcome.Refused AskRefusal.NoInvokeId → AllTaken now e peer
-    no_id_for is = go (least_not held 256 0) refl is
+    no_id_for is = go (free_id now e peer) refl is
       where
-        go : (o : Option ℕ) → least_not held 256 0 ≡ o → asks_with_id c now peer ask e o ≡ AskOutcome.Refused AskRefusal.NoInvokeId
+        go : (o : Option ℕ) → free_id now e peer ≡ o → asks_with_id c now peer ask e o ≡ AskOutcome.Refused AskRefusal.NoInvokeId
             → AllTaken now e peer
-        go None least is = λ n lt. all_pass held 256 0 least n (omega arith) (omega (arith, lt))
+        go None least is = all_pass_around held e.first_id least
         go (Some id) least is = slots (has_no_slot now e) is
           where
             slots : (b : Bool) → chosen id b ≡ AskOutcome.Refused AskRefusal.NoInvokeId → AllTaken now e peer
@@ -151,12 +216,12 @@ module _ (c : Settings) (now : ℕ) (peer : PeerView) (limits : Limits) (choice 
             slots false is = absurd cc
 
     all_held_for : AllTaken now e peer → asks_for c now peer ask e ≡ AskOutcome.Refused AskRefusal.NoInvokeId
-    all_held_for h = ap (λ o. asks_with_id c now peer ask e o) (none_refused held 256 0 (λ n le lt. h n (omega (arith, lt))))
+    all_held_for h = ap (λ o. asks_with_id c now peer ask e o) (none_refused_around held e.first_id h)
 
     no_slot_for : asks_for c now peer ask e ≡ AskOutcome.Refused AskRefusal.NoSlot → OneFree now e peer × (has_no_slot now e ≡ true)
-    no_slot_for is = go (least_not held 256 0) refl is
+    no_slot_for is = go (free_id now e peer) refl is
       where
-        go : (o : Option ℕ) → least_not held 256 0 ≡ o → asks_with_id c now peer ask e o ≡ AskOutcome.Refused AskRefusal.NoSlot
+        go : (o : Option ℕ) → free_id now e peer ≡ o → asks_with_id c now peer ask e o ≡ AskOutcome.Refused AskRefusal.NoSlot
             → OneFree now e peer × (has_no_slot now e ≡ true)
         go None least is = absurd cc
         go (Some id) least is = slots (has_no_slot now e) refl is
@@ -164,22 +229,22 @@ module _ (c : Settings) (now : ℕ) (peer : PeerView) (limits : Limits) (choice 
             slots : (b : Bool) → has_no_slot now e ≡ b → chosen id b ≡ AskOutcome.Refused AskRefusal.NoSlot
                 → OneFree now e peer × (has_no_slot now e ≡ true)
             slots true room is =
-                let first = least_not_is held 256 0 id least in
-                (((id, omega (arith, first.most), first.refused)), room)
+                let first = least_around_is held e.first_id id least in
+                (((id, first.octet, first.refused)), room)
             slots false room is = absurd cc
 
     full_for : OneFree now e peer → has_no_slot now e ≡ true → asks_for c now peer ask e ≡ AskOutcome.Refused AskRefusal.NoSlot
-    full_for free room = go (least_not held 256 0) refl
+    full_for free room = go (free_id now e peer) refl
       where
-        go : (o : Option ℕ) → least_not held 256 0 ≡ o → asks_with_id c now peer ask e o ≡ AskOutcome.Refused AskRefusal.NoSlot
+        go : (o : Option ℕ) → free_id now e peer ≡ o → asks_with_id c now peer ask e o ≡ AskOutcome.Refused AskRefusal.NoSlot
         go None least =
-            let passes : held free.0 ≡ true = all_pass held 256 0 least free.0 (omega arith) (omega (arith, free.1)) in
+            let passes : held free.0 ≡ true = all_pass_around held e.first_id least free.0 free.1 in
             let fails : held free.0 ≡ false = free.2 in
             absurd cc
         go (Some id) least = ap (chosen id) room
 
     goes_for : (why : RequestFault) → asks_for c now peer ask e ≡ AskOutcome.Refused (AskRefusal.CannotGo why) → ⊥
-    goes_for why is = go (least_not held 256 0) is
+    goes_for why is = go (free_id now e peer) is
       where
         go : (o : Option ℕ) → asks_with_id c now peer ask e o ≡ AskOutcome.Refused (AskRefusal.CannotGo why) → ⊥
         go None is = cc
@@ -239,12 +304,8 @@ pub takes_least_free : TakesLeastFree
 takes_least_free c now peer limits choice octets e x is =
     let a = accepted_is c now peer limits choice octets e x is in
     let id : x.invoke_id ≡ a.id = ap (λ (y : Accepted). y.invoke_id) a.is in
-    let first = least_not_is (is_id_taken now e peer) 256 0 a.id a.least in
-    subst (IsLeastFree now e peer) (sym id) (record {
-      octet = omega (arith, first.most);
-      free = first.refused;
-      least = λ n lt. first.before n (omega arith) lt;
-    })
+    let first = least_around_is (is_id_taken now e peer) e.first_id a.id a.least in
+    subst (IsLeastFree now e peer) (sym id) (record { octet = first.octet; free = first.refused; least = first.before })
 
 -- The table.
 
@@ -305,7 +366,7 @@ client_stays_orderly = record {
   asks = λ c now peer limits choice octets e x is h.
       let a = accepted_is c now peer limits choice octets e x is in
       let key : PeerKey = record { peer = peer; invoke_id = a.id } in
-      let free = is_untaken now e peer a.id (least_not_is (is_id_taken now e peer) 256 0 a.id a.least).refused in
+      let free = is_untaken now e peer a.id (least_around_is (is_id_taken now e peer) e.first_id a.id a.least).refused in
       let slots : List ClientSlot = passing Client (holds now) e.slots in
       let gone : value_at same_key key slots ≡ None =
       passing_value Client (holds now) key e.slots h.distinct ∙ free_gone now (value_at same_key key e.slots) free in

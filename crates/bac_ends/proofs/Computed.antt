@@ -1,9 +1,12 @@
 -- The examples, computed.
 use Rattle.std.proofs.Common.{refl}
-use Rattle.bac_ends.specs.Examples.{LeastInvokeId, HeldFor, SlotHeldFor, TickOrder, KeptReply, FullTable, WaitsToAsk, WaitsToServe}
+use Rattle.bac_ends.specs.Examples.{LeastInvokeId, LeastAround, HeldFor, SlotHeldFor, TickOrder, KeptReply, FullTable, WaitsToAsk, WaitsToServe}
 
 pub least_invoke_id : LeastInvokeId
 least_invoke_id = record { gap = refl; other_peer = refl }
+
+pub least_around : LeastAround
+least_around = record { first = refl; last = refl; around = refl; gap = refl }
 
 pub held_for : HeldFor
 held_for = record { last = refl; after = refl }

@@ -1,6 +1,7 @@
 -- Both ends of a node as plain lists of slots, and what each call makes of them, by the machines on the one slot.
 use Rattle.std.specs.Prelude.{ℕ, zero, suc, ◌+◌, ◌-◌, Bool, true, false, ◌||◌, ◌&&◌, not, List, [], ◌∷◌, ◌++◌, map, filter, count_by, Option, Some, None}
 use Rattle.std.specs.Prelude.{if◌then◌else◌, nat_lt, nat_le}
+use Rattle.std.specs.Option.{option_or}
 use Rattle.bac_apdu.specs.Apdu.{Apdu, Limits}
 use Rattle.bac_npdu.specs.Peers.{PeerView}
 use Rattle.bac_slots.specs.declared.slot.Slot.{Slot}
@@ -57,6 +58,7 @@ pub record ClientEnd : Type 0 where
   pub capacity : ℕ
   pub asked : ℕ
   pub asks_from : ℕ  -- the first moment at which it asks; 0 where it never restarted
+  pub first_id : ℕ  -- where its invoke IDs begin: 0, or what it was told
 
 -- a slot is held, and with it its invoke ID, while its ticket is open or no more than HOLD has passed (own rule of this profile)
 abbrev pub is_held : ℕ → Held → Bool
@@ -187,6 +189,14 @@ abbrev pub least_not : (ℕ → Bool) → (count from : ℕ) → Option ℕ
 least_not test zero from = None
 least_not test (suc count) from = if test from then least_not test count (from + 1) else Some from
 
+-- the same of all octets, from the first one on and around: up to 255, and where none is refused there, from 0 on
+abbrev pub least_around : (ℕ → Bool) → (first : ℕ) → Option ℕ
+least_around test first = option_or (least_not test (256 - first) first) (least_not test 256 0)
+
+-- the invoke ID that an ask takes for the peer: from the end's first one on and around, the least that is not taken
+abbrev pub free_id : (now : ℕ) → ClientEnd → PeerView → Option ℕ
+free_id now e peer = least_around (is_id_taken now e peer) e.first_id
+
 -- the most asks that an end accepts: so many have a number of 64 bits each
 abbrev pub MOST_ASKS : ℕ
 MOST_ASKS = 18446744073709551615
@@ -232,9 +242,9 @@ asks_with_id c now peer ask e None = AskOutcome.Refused NoInvokeId
 asks_with_id c now peer ask e (Some invoke_id) =
     if has_no_slot now e then AskOutcome.Refused NoSlot else Asked (accepts c now (record { peer = peer; invoke_id = invoke_id }) ask e)
 
--- it takes the least invoke ID that is not taken for the peer
+-- it takes an invoke ID that is free for the peer
 abbrev pub asks_for : Settings → (now : ℕ) → PeerView → Ask → ClientEnd → AskOutcome
-asks_for c now peer ask e = asks_with_id c now peer ask e (least_not (is_id_taken now e peer) 256 0)
+asks_for c now peer ask e = asks_with_id c now peer ask e (free_id now e peer)
 
 -- an ask goes the way of its request: in one APDU, in segments, or not at all (clause 5.2)
 abbrev pub asks_by_way : Settings → (now : ℕ) → PeerView → (choice : ℕ) → Octets → ClientEnd → Way RequestFault → AskOutcome
@@ -339,9 +349,9 @@ abbrev pub first_after : (wait : ℕ) → (restart : Option ℕ) → ℕ
 first_after wait None = 0
 first_after wait (Some restart) = restart + wait + 1
 
--- while a copy of its old life, or an answer to one, may come, a client asks nothing
+-- while a copy of its old life, or an answer to one, may come, a client asks nothing; its invoke IDs begin where they did
 abbrev pub client_restarted : (now : ℕ) → ClientEnd → ClientEnd
-client_restarted now e = record { slots = []; capacity = e.capacity; asked = 0; asks_from = now + REST + 1 }
+client_restarted now e = record { slots = []; capacity = e.capacity; asked = 0; asks_from = now + REST + 1; first_id = e.first_id }
 
 -- while a request may come again that was performed before, a server begins no entry
 abbrev pub server_restarted : (now : ℕ) → ServerEnd → ServerEnd

@@ -35,7 +35,10 @@ abbrev pub ended : (invoke_id : ℕ) → ClientSlot
 ended invoke_id = record { key = key 2 invoke_id; begin = 0; value = record { number = invoke_id; held = Held.Closed 0 } }
 
 abbrev pub clients : List ClientSlot → (capacity : ℕ) → ClientEnd
-clients slots capacity = record { slots = slots; capacity = capacity; asked = 9; asks_from = 0 }
+clients slots capacity = record { slots = slots; capacity = capacity; asked = 9; asks_from = 0; first_id = 0 }
+
+abbrev pub begin_at : (first : ℕ) → ClientEnd → ClientEnd
+begin_at first e = record e { first_id = first }
 
 abbrev pub asks_at : (now n : ℕ) → ClientEnd → AskOutcome
 asks_at now n e = client_asks SETTINGS now (peer n) LIMITS 12 SERVICE_DATA e
@@ -56,6 +59,13 @@ keys_in (AskOutcome.Asked a) = map (λ (s : ClientSlot). s.key) a.end.slots
 pub record LeastInvokeId : Type 0 where
   pub gap : invoke_id_in (asks_at 1000 2 (clients (ended 0 ∷ ended 1 ∷ ended 3 ∷ []) 8)) ≡ Some 2
   pub other_peer : invoke_id_in (asks_at 1000 3 (clients (ended 0 ∷ ended 1 ∷ ended 3 ∷ []) 8)) ≡ Some 0
+
+-- where they begin at 254, it takes 254, then 255, and then 0; what is free before 254 comes last
+pub record LeastAround : Type 0 where
+  pub first : invoke_id_in (asks_at 1000 2 (begin_at 254 (clients (ended 0 ∷ []) 8))) ≡ Some 254
+  pub last : invoke_id_in (asks_at 1000 2 (begin_at 254 (clients (ended 254 ∷ []) 8))) ≡ Some 255
+  pub around : invoke_id_in (asks_at 1000 2 (begin_at 254 (clients (ended 254 ∷ ended 255 ∷ []) 8))) ≡ Some 0
+  pub gap : invoke_id_in (asks_at 1000 2 (begin_at 254 (clients (ended 254 ∷ ended 255 ∷ ended 0 ∷ []) 8))) ≡ Some 1
 
 -- an invoke ID is held for 135,000 ms from the first sending on, and no longer
 pub record HeldFor : Type 0 where

@@ -1,5 +1,5 @@
 -- What each call of an end keeps of its table. Each record here is proved as a law.
-use Rattle.std.specs.Prelude.{◌≡◌, ℕ, ◌<◌, ◌≤◌, ◌↔◌, Bool, true, false, ◌&&◌, not, if◌then◌else◌, List, [], ◌∷◌, length, Option, Some, None}
+use Rattle.std.specs.Prelude.{◌≡◌, ℕ, ◌+◌, ◌-◌, ◌<◌, ◌≤◌, ◌↔◌, Bool, true, false, ◌&&◌, not, if◌then◌else◌, nat_le, List, [], ◌∷◌, length, Option, Some, None}
 use Rattle.std.specs.Option.{option_map}
 use Rattle.bac_apdu.specs.Apdu.{Apdu, Limits}
 use Rattle.bac_apdu.specs.Apdu.Apdu.{ConfirmedRequest, Abort}
@@ -15,7 +15,7 @@ use Rattle.bac_protocol.specs.Server.{Service, Entry, is_live, is_none_live, ser
 use Rattle.bac_ends.specs.Keys.{PeerKey, same_key}
 use Rattle.bac_ends.specs.Sends.{to_peer}
 use Rattle.bac_ends.specs.Ends.{Client, ClientEnd, Accepted, AskRefusal, AskOutcome, ServerSlot, ServerEnd, ServerTurn}
-use Rattle.bac_ends.specs.Ends.{is_held, is_id_taken, has_no_slot, context_of, key_of, held_ticked, entry_or, is_free}
+use Rattle.bac_ends.specs.Ends.{is_held, is_id_taken, least_not, free_id, has_no_slot, context_of, key_of, held_ticked, entry_or, is_free}
 use Rattle.bac_ends.specs.Ends.{client_hears, clients_tick, client_asks, server_hears, servers_tick}
 
 -- a table in order: no two slots have one key, and there are no more than it can have
@@ -51,11 +51,15 @@ pub record ClientOthersStay : Type 0 where
       → same_key (record { peer = peer; invoke_id = x.invoke_id }) q ≡ false
       → value_at same_key q x.end.slots ≡ keep (λ (s : Client). is_held now s.held) (value_at same_key q e.slots)
 
--- the least invoke ID that is not taken for the peer
+-- how many invoke IDs come before that one, from the first one on and around after 255
+abbrev pub steps_to : (first invoke_id : ℕ) → ℕ
+steps_to first invoke_id = if nat_le first invoke_id then invoke_id - first else invoke_id + 256 - first
+
+-- an invoke ID that is not taken for the peer, and those that come before it are, from the end's first one on
 pub record IsLeastFree (now : ℕ) (e : ClientEnd) (peer : PeerView) (invoke_id : ℕ) : Type 0 where
   pub octet : invoke_id < 256
   pub free : is_id_taken now e peer invoke_id ≡ false
-  pub least : (n : ℕ) → n < invoke_id → is_id_taken now e peer n ≡ true
+  pub least : (n : ℕ) → n < 256 → steps_to e.first_id n < steps_to e.first_id invoke_id → is_id_taken now e peer n ≡ true
 
 -- an accepted ask has that one (clause 5.4.1: no two transactions of one pair of peers have one invoke ID at a time)
 abbrev pub TakesLeastFree : Type 0
@@ -67,6 +71,10 @@ abbrev pub CanGo : Way RequestFault → Type 0
 CanGo InOne = Unit {0}
 CanGo (InSegments pieces) = Unit {0}
 CanGo (Refused why) = ⊥
+
+-- where invoke IDs begin at 0, it is the least of all that are free
+abbrev pub TakesLeastFromZero : Type 0
+TakesLeastFromZero = (now : ℕ) (peer : PeerView) (e : ClientEnd) → e.first_id ≡ 0 → free_id now e peer ≡ least_not (is_id_taken now e peer) 256 0
 
 -- all 256 invoke IDs are held for the peer, or the end waits after a restart
 abbrev pub AllTaken : (now : ℕ) → ClientEnd → PeerView → Type 0

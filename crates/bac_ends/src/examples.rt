@@ -1,10 +1,11 @@
 //! Ends that are computed: they show that the definitions do what the protocol's tables say.
-ghost use Rattle.bac_ends.specs.Examples.{LeastInvokeId, HeldFor, SlotHeldFor, TickOrder, KeptReply, FullTable, WaitsToAsk, WaitsToServe};
+ghost use Rattle.bac_ends.specs.Examples.{LeastInvokeId, LeastAround, HeldFor, SlotHeldFor, TickOrder, KeptReply, FullTable, WaitsToAsk, WaitsToServe};
 
 /// Which invoke ID an ask takes, and how long a slot is held.
-#[tactic(auto, using(crate::proofs::Computed::least_invoke_id, crate::proofs::Computed::held_for, crate::proofs::Computed::slot_held_for))]
+#[tactic(auto, using(crate::proofs::Computed::least_invoke_id, crate::proofs::Computed::least_around, crate::proofs::Computed::held_for, crate::proofs::Computed::slot_held_for))]
 pub fn invoke_ids()
     ensures least { LeastInvokeId }
+    ensures around { LeastAround }
     ensures held { HeldFor }
     ensures slot { SlotHeldFor }
 {}

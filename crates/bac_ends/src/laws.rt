@@ -11,7 +11,7 @@ ghost use Rattle.bac_protocol.specs.Client as client;
 ghost use Rattle.bac_protocol.specs.Client.{Ticket};
 ghost use Rattle.bac_ends.specs.Ends.{is_held, kept};
 ghost use Rattle.bac_ends.specs.Keys.{PeerKey, peer_key_cmp};
-ghost use Rattle.bac_ends.specs.Tables.{ClientStaysOrderly, ClientOthersStay, TakesLeastFree, RefusesAsks, ServerStaysOrderly, ServerOthersStay, TurnsAway};
+ghost use Rattle.bac_ends.specs.Tables.{ClientStaysOrderly, ClientOthersStay, TakesLeastFree, TakesLeastFromZero, RefusesAsks, ServerStaysOrderly, ServerOthersStay, TurnsAway};
 
 /// The order of keys is total, and tells any two apart.
 #[tactic(auto, using(crate::proofs::KeyOrder::keys_total, crate::proofs::KeyOrder::keys_equal))]
@@ -34,11 +34,12 @@ pub fn client_tables_stay_in_order()
     ensures others { ClientOthersStay }
 {}
 
-/// An accepted ask has the least invoke ID that is not held for its peer. An ask whose request can go is refused for lack of an invoke ID exactly where
-/// all 256 are held or the end waits after a restart, and for lack of a slot exactly where one is free, but all slots are held or no number is left for a
-/// further ticket.
+/// An accepted ask has the first invoke ID that is not held for its peer, from where the end's begin up to 255 and then from 0; where they begin at 0, the
+/// least. An ask whose request can go is refused for lack of an invoke ID exactly where all 256 are held or the end waits after a restart, wherever they
+/// begin, and for lack of a slot exactly where one is free, but all slots are held or no number is left for a further ticket.
 pub fn asks_take_the_least_invoke_id()
     ensures least { TakesLeastFree }
+    ensures from_zero { TakesLeastFromZero }
     ensures refused { (c : Settings) (now : ℕ) (peer : PeerView) (limits : Limits) (choice : ℕ) (octets : Octets) (e : ClientEnd)
         → RefusesAsks c now peer limits choice octets e }
 {}

@@ -16,17 +16,21 @@ has_slots c = slots_fit c.client_slots && slots_fit c.reply_slots
 abbrev pub window_fits : ℕ → Bool
 window_fits n = nat_le 1 n && nat_le n 64
 
--- a node to which nothing has happened
+-- a node to which nothing has happened; its invoke IDs begin at 0
 abbrev pub fresh_node : Config → Store → Node
 fresh_node c s =
     record {
       link = c.link;
       settings = settings_of c;
       latest = 0;
-      clients = record { slots = []; capacity = c.client_slots; asked = 0; asks_from = 0 };
+      clients = record { slots = []; capacity = c.client_slots; asked = 0; asks_from = 0; first_id = 0 };
       servers = record { slots = []; capacity = c.reply_slots; serves_from = 0 };
       store = s;
     }
+
+-- its invoke IDs begin at that one
+abbrev pub with_first_id : (first_id : ℕ) → Node → Node
+with_first_id first_id n = record n { clients = record n.clients { first_id = first_id } }
 
 -- one that restarts at that moment, if it does
 abbrev pub made_node : Config → Store → (restart : Option ℕ) → Node

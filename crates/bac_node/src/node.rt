@@ -18,7 +18,7 @@ ghost use Rattle.bac_responder.specs.Short.{AreRequestsShort};
 ghost use Rattle.bac_world.specs.Keys.{HasKeysApart};
 ghost use Rattle.bac_world.specs.Node.{NodeOn, NodeTick, IsHeardBy, dropped_for, restarted, store_after_restart, with_change};
 ghost use Rattle.bac_node.specs.Calls.{Hears, IsAsked, IsDue, IsNotHeard, Refuses, ticked};
-ghost use Rattle.bac_node.specs.Fresh.{fresh_node, has_slots, made_node, slots_fit, window_fits};
+ghost use Rattle.bac_node.specs.Fresh.{fresh_node, has_slots, made_node, slots_fit, window_fits, with_first_id};
 ghost use Rattle.bac_node.specs.Views.{cause_view, outcome_view, settings_of};
 ghost use Rattle.bac_node.specs.Waiting.{MovesAt, RestsUntil};
 ghost use Rattle.bac_ticket.specs.Timers.{LAST_MOMENT};
@@ -111,7 +111,7 @@ fn with_ended(room: Vec<Finish>, finish: Option<Finish>) -> Vec<Finish>
 }
 
 impl Node {
-    /// A node to which nothing has happened, with that store.
+    /// A node to which nothing has happened, with that store; its invoke IDs begin at 0.
     ///
     /// `BadSlots` where a number of slots is not 1 to 1,024; otherwise `BadWindow` where the window is not 1 to 64; last, `NoMemory` where the memory for
     /// the slots is refused: no later call takes more of it for them.
@@ -412,8 +412,17 @@ impl Node {
         Some(due.max(self.latest))
     }
 
-    /// Asks a peer, which takes so much, for a request, at a moment in milliseconds. It takes the least invoke ID that is not held for the peer, and a slot
-    /// that is not held.
+    /// From now on its invoke IDs begin at that one: an ask takes the least that is not held for the peer from it on, and where all up to 255 are held, the
+    /// least of all. A program that ends after few asks begins at one that differs each time, as of its clock: where its link had another node before, an
+    /// entry that a server still keeps for that one is then met seldom.
+    pub fn begin_ids_at(&mut self, first_id: u8)
+        ensures { self.new ≡ with_first_id first_id self.old }
+    {
+        self.clients.begin_ids_at(first_id);
+    }
+
+    /// Asks a peer, which takes so much, for a request, at a moment in milliseconds. It takes an invoke ID that is not held for the peer, as `begin_ids_at`
+    /// says, and a slot that is not held.
     ///
     /// It is refused for the first of these that holds: `ClockBack`, the moment is before the latest one; `SelfPeer`, the peer is at the node's own link;
     /// `TooLong`, `NeedsSegments`, `NoInvokeId` and `NoSlot` as of `Requester::ask`; `NoMemory` comes last. After an Err the node is as before.
@@ -483,7 +492,8 @@ impl Node {
         ensures went { OnOk result (self.new ≡ restarted now (store_after_restart self.old.store store) self.old) }
         ensures err { OnErr result (self.new ≡ self.old) }
     {
-        let clients = Requester::new(self.alloc, self.clients.capacity(), Some(now))?;
+        let mut clients = Requester::new(self.alloc, self.clients.capacity(), Some(now))?;
+        clients.begin_ids_at(self.clients.first_id());
         let servers = Responder::new(self.alloc, self.servers.capacity(), Some(now))?;
         if let Some(store) = store {
             self.store = store;

@@ -1,6 +1,7 @@
 -- An ask: the least invoke ID, the slots after it, and how it is refused.
 use Rattle.std.proofs.Common.{◌≡◌, ℕ, zero, suc, ◌+◌, ◌-◌, ◌<◌, ◌≤◌, ◌||◌, Bool, true, false, List, [], ◌∷◌, ◌++◌, filter, count_by, Option}
 use Rattle.std.proofs.Common.{Some, None, Result, Ok, Err, nat_le, if◌then◌else◌, refl, ap, sym, subst, ◌∙◌, arith}
+use Rattle.std.specs.Option.{option_or}
 use Rattle.std.proofs.lemmas.Bool.Decides.{nat_tests}
 use Rattle.bac_npdu.specs.Peers.{PeerView}
 use Rattle.bac_slots.specs.declared.slot.Slot.{Slot}
@@ -13,12 +14,12 @@ use Rattle.bac_segment.specs.Window.{outgoing}
 use Rattle.bac_protocol.specs.Service.{Octets}
 use Rattle.bac_protocol.specs.Sizes as sizes
 use Rattle.bac_ends.specs.Ends.{Client, ClientEnd, ClientSlot, AskOutcome, AskRefusal, CannotGo, Held, MOST_ASKS, context_of, kept, is_held, is_held_there}
-use Rattle.bac_ends.specs.Ends.{is_id_held, is_id_taken, waits_to_ask, is_slot_held, has_no_slot, least_not, accepts, asks_by_way, asks_for, asks_with_id}
+use Rattle.bac_ends.specs.Ends.{is_id_held, is_id_taken, waits_to_ask, is_slot_held, has_no_slot, least_not, least_around, free_id, accepts, asks_by_way, asks_for, asks_with_id}
 use Rattle.bac_ends.specs.Ends.Held.{Open}
 use Rattle.bac_ends.specs.Keys as keys
 use Rattle.bac_ends.specs.Views.{code_same_key, peer_key_view, slot_view, slots_view}
 use Rattle.bac_ends.specs.declared.peer_key.PeerKey.{PeerKey}
-use Rattle.bac_ends.proofs.ClientTables.{none_refused}
+use Rattle.bac_ends.proofs.ClientTables.{least_around_is, none_refused_around}
 use Rattle.bac_ends.proofs.Keyed.{value_viewed, put_viewed, filter_viewed}
 use Rattle.bac_aged.proofs.Viewed.{count_viewed}
 use Rattle.bac_service.specs.Spellings.{request_spelling}
@@ -56,14 +57,16 @@ least_found test n whole lt e t = sym (step test n false lt t) ∙ e
 pub least_none : (test : ℕ → Bool) (n : ℕ) (whole : Option ℕ) → 256 ≤ n → least_not test (256 - n) n ≡ whole → None ≡ whole
 least_none test n whole le e = let count : 256 - n ≡ 0 = omega arith in sym (ap (λ k. least_not test k n) count) ∙ e
 
-pub least_free : (test : ℕ → Bool) (count from id : ℕ) → Some id ≡ least_not test count from → test id ≡ false
-least_free test zero from id e = absurd cc
-least_free test (suc count) from id e = go (test from) refl e (λ f. least_free test count (from + 1) id f)
-  where
-    go : (b : Bool) → test from ≡ b → Some id ≡ or_else b (least_not test count (from + 1)) from
-        → (Some id ≡ least_not test count (from + 1) → test id ≡ false) → test id ≡ false
-    go true is e again = again e
-    go false is e again = let same : id ≡ from = cc in ap test same ∙ is
+pub free_around : (test : ℕ → Bool) (first id : ℕ) → Some id ≡ least_around test first → test id ≡ false
+free_around test first id e = (least_around_is test first id (sym e)).refused
+
+-- the first part has one, or the second part counts
+pub found_first : (test : ℕ → Bool) (first : ℕ) (o : Option ℕ) (id : ℕ) → o ≡ least_not test (256 - first) first → o ≡ Some id → Some id ≡ least_around test first
+found_first test first o id is some = ap (λ p. option_or p (least_not test 256 0)) (sym some ∙ is)
+
+pub found_around : (test : ℕ → Bool) (first : ℕ) (o p : Option ℕ) → o ≡ least_not test (256 - first) first → o ≡ None
+    → p ≡ least_not test (256 - 0) 0 → p ≡ least_around test first
+found_around test first o p is none again = again ∙ ap (λ q. option_or q (least_not test 256 0)) (sym none ∙ is)
 
 -- The slots.
 
@@ -92,42 +95,42 @@ entered now key v slots new put =
 
 -- an end that does not wait refuses the invoke IDs that are held, and no other
 untaken : (now : ℕ) (peer : PeerView) (e : ClientEnd) → waits_to_ask now e ≡ false
-    → least_not (is_id_held now e.slots peer) 256 0 ≡ least_not (is_id_taken now e peer) 256 0
-untaken now peer e awake = ap (λ (b : Bool). least_not (λ id. b || is_id_held now e.slots peer id) 256 0) (sym awake)
+    → least_around (is_id_held now e.slots peer) e.first_id ≡ free_id now e peer
+untaken now peer e awake = ap (λ (b : Bool). least_around (λ id. b || is_id_held now e.slots peer id) e.first_id) (sym awake)
 
 -- one that waits has none to give
 pub waiting : (c : Settings) (now : ℕ) (peer : PeerView) (ask : Ask) (e : ClientEnd) → waits_to_ask now e ≡ true
     → asks_for c now peer ask e ≡ AskOutcome.Refused AskRefusal.NoInvokeId
 waiting c now peer ask e waits =
     ap (λ o. asks_with_id c now peer ask e o)
-    (none_refused (is_id_taken now e peer) 256 0 (λ n le lt. ap (λ (b : Bool). b || is_id_held now e.slots peer n) waits))
+    (none_refused_around (is_id_taken now e peer) e.first_id (λ n lt. ap (λ (b : Bool). b || is_id_held now e.slots peer n) waits))
 
 module _ (c : Settings) (now : ℕ) (peer : PeerView) (ask : Ask) (e : ClientEnd) (awake : waits_to_ask now e ≡ false) where
-  with_id : (o : Option ℕ) → o ≡ least_not (is_id_held now e.slots peer) 256 0 → asks_for c now peer ask e ≡ asks_with_id c now peer ask e o
+  with_id : (o : Option ℕ) → o ≡ least_around (is_id_held now e.slots peer) e.first_id → asks_for c now peer ask e ≡ asks_with_id c now peer ask e o
   with_id o is = ap (λ p. asks_with_id c now peer ask e p) (sym (is ∙ untaken now peer e awake))
 
-  pub no_id : (o : Option ℕ) → o ≡ least_not (is_id_held now e.slots peer) 256 0 → o ≡ None
+  pub no_id : (o : Option ℕ) → o ≡ least_around (is_id_held now e.slots peer) e.first_id → o ≡ None
       → asks_for c now peer ask e ≡ AskOutcome.Refused AskRefusal.NoInvokeId
   no_id o is none = with_id o is ∙ ap (λ p. asks_with_id c now peer ask e p) none
 
   abbrev chosen : ℕ → Bool → AskOutcome
   chosen id full = if full then AskOutcome.Refused AskRefusal.NoSlot else AskOutcome.Asked (accepts c now (record { peer = peer; invoke_id = id }) ask e)
 
-  pub no_slot : (o : Option ℕ) (id : ℕ) → o ≡ least_not (is_id_held now e.slots peer) 256 0 → o ≡ Some id → has_no_slot now e ≡ true
+  pub no_slot : (o : Option ℕ) (id : ℕ) → o ≡ least_around (is_id_held now e.slots peer) e.first_id → o ≡ Some id → has_no_slot now e ≡ true
       → asks_for c now peer ask e ≡ AskOutcome.Refused AskRefusal.NoSlot
   no_slot o id is some full = with_id o is ∙ ap (λ p. asks_with_id c now peer ask e p) some ∙ ap (λ b. chosen id b) full
 
-  pub accepted : (o : Option ℕ) (id : ℕ) → o ≡ least_not (is_id_held now e.slots peer) 256 0 → o ≡ Some id → has_no_slot now e ≡ false
+  pub accepted : (o : Option ℕ) (id : ℕ) → o ≡ least_around (is_id_held now e.slots peer) e.first_id → o ≡ Some id → has_no_slot now e ≡ false
       → asks_for c now peer ask e ≡ AskOutcome.Asked (accepts c now (record { peer = peer; invoke_id = id }) ask e)
   accepted o id is some full = with_id o is ∙ ap (λ p. asks_with_id c now peer ask e p) some ∙ ap (λ b. chosen id b) full
 
-  pub may_begin : (o : Option ℕ) (id : ℕ) → o ≡ least_not (is_id_held now e.slots peer) 256 0 → o ≡ Some id → has_no_slot now e ≡ false
+  pub may_begin : (o : Option ℕ) (id : ℕ) → o ≡ least_around (is_id_held now e.slots peer) e.first_id → o ≡ Some id → has_no_slot now e ≡ false
       → MayBegin (asks_for c now peer ask e)
   may_begin o id is some full = subst MayBegin (sym (accepted o id is some full)) tt
 
-pub has_room : (now : ℕ) (slots : Slots) (capacity asked from : ℕ) → has_no_slot now (end_of slots capacity asked from) ≡ false
+pub has_room : (now : ℕ) (slots : Slots) (capacity asked from first_id : ℕ) → has_no_slot now (end_of slots capacity asked from first_id) ≡ false
     → count_by (λ s. is_held now s.value.held) slots < capacity
-has_room now slots capacity asked from f =
+has_room now slots capacity asked from first_id f =
     subst (λ (n : ℕ). n < capacity) (count_viewed Client (λ (v : Client). is_held now v.held) slots)
     (go (count_by (is_slot_held now) (slots_view slots)) capacity (nat_le MOST_ASKS asked) f)
   where
@@ -179,13 +182,13 @@ can_go c now peer choice octets e w r x is can =
 
 -- The end after an ask.
 
-pub entered_end : (c : Settings) (now : ℕ) (key : keys.PeerKey) (ask : Ask) (slots new : List ClientSlot) (capacity room number from : ℕ) (t : Ticket)
+pub entered_end : (c : Settings) (now : ℕ) (key : keys.PeerKey) (ask : Ask) (slots new : List ClientSlot) (capacity room number from first_id : ℕ) (t : Ticket)
     → t ≡ asked_ticket (context_of c now key) ask
     → new ≡ filter (is_slot_held now) slots ++ record { key = key; begin = now; value = record { number = number; held = Open t } } ∷ [] → room ≡ capacity
-    → (let e : ClientEnd = record { slots = new; capacity = room; asked = number + 1; asks_from = from } in e)
-    ≡ (accepts c now key ask (record { slots = slots; capacity = capacity; asked = number; asks_from = from })).end
-entered_end c now key ask slots new capacity room number from t is put same =
-    let with_slots : List ClientSlot → ℕ → ClientEnd = λ l k. record { slots = l; capacity = k; asked = number + 1; asks_from = from } in
+    → (let e : ClientEnd = record { slots = new; capacity = room; asked = number + 1; asks_from = from; first_id = first_id } in e)
+    ≡ (accepts c now key ask (record { slots = slots; capacity = capacity; asked = number; asks_from = from; first_id = first_id })).end
+entered_end c now key ask slots new capacity room number from first_id t is put same =
+    let with_slots : List ClientSlot → ℕ → ClientEnd = λ l k. record { slots = l; capacity = k; asked = number + 1; asks_from = from; first_id = first_id } in
     let with_held : Held → List ClientSlot = λ h. filter (is_slot_held now) slots
     ++ record { key = key; begin = now; value = record { number = number; held = h } } ∷ [] in
     ap (λ l. with_slots l room) put ∙ ap (λ k. with_slots (with_held (Open t)) k) same

@@ -44,15 +44,15 @@ finishes_are number choice None (Some f) m = absurd m
 finishes_are number choice (Some e) None m = absurd m
 finishes_are number choice (Some e) (Some f) m = (record { ticket = refl; how = m }, tt)
 
-turn_at : (c : Context) (a : Apdu) (slots : Slots) (capacity asked from : ℕ) (o : Option Client) → value_at code_same_key c.key slots ≡ o
-    → turn_of c a (end_of slots capacity asked from)
-    ≡ client_hears_at (settings_view c.settings) reads_reply c.moment a (end_of slots capacity asked from) (peer_key_view c.key) o
-turn_at c a slots capacity asked from o is =
-    ap (λ p. client_hears_at (settings_view c.settings) reads_reply c.moment a (end_of slots capacity asked from) (peer_key_view c.key) p)
+turn_at : (c : Context) (a : Apdu) (slots : Slots) (capacity asked from first_id : ℕ) (o : Option Client) → value_at code_same_key c.key slots ≡ o
+    → turn_of c a (end_of slots capacity asked from first_id)
+    ≡ client_hears_at (settings_view c.settings) reads_reply c.moment a (end_of slots capacity asked from first_id) (peer_key_view c.key) o
+turn_at c a slots capacity asked from first_id o is =
+    ap (λ p. client_hears_at (settings_view c.settings) reads_reply c.moment a (end_of slots capacity asked from first_id) (peer_key_view c.key) p)
     (sym (value_viewed Client c.key slots) ∙ is)
 
-same_end : (old new : Slots) (capacity room asked from : ℕ) → new ≡ old → room ≡ capacity → end_of new room asked from ≡ end_of old capacity asked from
-same_end old new capacity room asked from e f = ap (λ l. end_of l room asked from) e ∙ ap (λ k. end_of old k asked from) f
+same_end : (old new : Slots) (capacity room asked from first_id : ℕ) → new ≡ old → room ≡ capacity → end_of new room asked from first_id ≡ end_of old capacity asked from first_id
+same_end old new capacity room asked from first_id e f = ap (λ l. end_of l room asked from first_id) e ∙ ap (λ k. end_of old k asked from first_id) f
 
 nothing_told : (e : ClientEnd) (x : Turn) → x.sends.items ≡ [] → finishes_of x.ended ≡ []
     → IsTold (record { end = e; sends = []; ended = [] }) x.sends.items (finishes_of x.ended)
@@ -62,46 +62,46 @@ nothing_told e x f g = record {
 }
 
 -- the key has no slot
-pub heard_nothing : (c : Context) (a : Apdu) (old new : Slots) (capacity room asked from : ℕ) (x : Turn)
+pub heard_nothing : (c : Context) (a : Apdu) (old new : Slots) (capacity room asked from first_id : ℕ) (x : Turn)
     → value_at code_same_key c.key old ≡ None → new ≡ old → room ≡ capacity → x.sends.items ≡ [] → finishes_of x.ended ≡ []
-    → Hears (turn_of c a (end_of old capacity asked from)) (end_of old capacity asked from) (Ok x) (end_of new room asked from)
-heard_nothing c a old new capacity room asked from x is stays same sent ended =
-    let e : ClientEnd = end_of old capacity asked from in
-    subst (λ (t : ClientTurn). Hears t e (Ok x) (end_of new room asked from)) (sym (turn_at c a old capacity asked from None is))
-    (record { end = same_end old new capacity room asked from stays same; told = nothing_told e x sent ended })
+    → Hears (turn_of c a (end_of old capacity asked from first_id)) (end_of old capacity asked from first_id) (Ok x) (end_of new room asked from first_id)
+heard_nothing c a old new capacity room asked from first_id x is stays same sent ended =
+    let e : ClientEnd = end_of old capacity asked from first_id in
+    subst (λ (t : ClientTurn). Hears t e (Ok x) (end_of new room asked from first_id)) (sym (turn_at c a old capacity asked from first_id None is))
+    (record { end = same_end old new capacity room asked from first_id stays same; told = nothing_told e x sent ended })
 
 -- its ticket has ended
-pub heard_closed : (c : Context) (a : Apdu) (old new : Slots) (w : Client) (capacity room asked from number first : ℕ) (x : Turn)
+pub heard_closed : (c : Context) (a : Apdu) (old new : Slots) (w : Client) (capacity room asked from first_id number first : ℕ) (x : Turn)
     → value_at code_same_key c.key old ≡ Some (record { number = number; held = Closed first }) → w ≡ record { number = number; held = Closed first }
     → new ≡ with_value code_same_key c.key w old → room ≡ capacity → x.sends.items ≡ [] → finishes_of x.ended ≡ []
-    → Hears (turn_of c a (end_of old capacity asked from)) (end_of old capacity asked from) (Ok x) (end_of new room asked from)
-heard_closed c a old new w capacity room asked from number first x is same set kept sent ended =
-    let e : ClientEnd = end_of old capacity asked from in
-    subst (λ (t : ClientTurn). Hears t e (Ok x) (end_of new room asked from)) (sym (turn_at c a old capacity asked from _ is))
-    (record { end = same_end old new capacity room asked from (put_back Client c.key _ w old new is same set) kept; told = nothing_told e x sent ended })
+    → Hears (turn_of c a (end_of old capacity asked from first_id)) (end_of old capacity asked from first_id) (Ok x) (end_of new room asked from first_id)
+heard_closed c a old new w capacity room asked from first_id number first x is same set kept sent ended =
+    let e : ClientEnd = end_of old capacity asked from first_id in
+    subst (λ (t : ClientTurn). Hears t e (Ok x) (end_of new room asked from first_id)) (sym (turn_at c a old capacity asked from first_id _ is))
+    (record { end = same_end old new capacity room asked from first_id (put_back Client c.key _ w old new is same set) kept; told = nothing_told e x sent ended })
 
 -- out of memory
-pub heard_unchanged : (key : PeerKey) (old new : Slots) (u w : Client) (capacity room asked from : ℕ) → value_at code_same_key key old ≡ Some u
-    → w ≡ u → new ≡ with_value code_same_key key w old → room ≡ capacity → end_of new room asked from ≡ end_of old capacity asked from
-heard_unchanged key old new u w capacity room asked from is same set kept = same_end old new capacity room asked from (put_back Client key u w old new is same set) kept
+pub heard_unchanged : (key : PeerKey) (old new : Slots) (u w : Client) (capacity room asked from first_id : ℕ) → value_at code_same_key key old ≡ Some u
+    → w ≡ u → new ≡ with_value code_same_key key w old → room ≡ capacity → end_of new room asked from first_id ≡ end_of old capacity asked from first_id
+heard_unchanged key old new u w capacity room asked from first_id is same set kept = same_end old new capacity room asked from first_id (put_back Client key u w old new is same set) kept
 
 -- its ticket goes on
-pub heard_open : (c : Context) (a : Apdu) (old new : Slots) (w : Client) (capacity room asked from number : ℕ) (t : Ticket) (r : Reaction) (x : Turn)
+pub heard_open : (c : Context) (a : Apdu) (old new : Slots) (w : Client) (capacity room asked from first_id number : ℕ) (t : Ticket) (r : Reaction) (x : Turn)
     → value_at code_same_key c.key old ≡ Some (record { number = number; held = Open t })
     → IsReaction c t (client_gets (context_view c) reads_reply t a) r
     → w ≡ record { number = number; held = held_view r.held } → new ≡ with_value code_same_key c.key w old → room ≡ capacity
     → x.sends.items ≡ r.sends.items → finishes_of x.ended ≡ finishes_with number (option_map ending_view r.ended)
-    → Hears (turn_of c a (end_of old capacity asked from)) (end_of old capacity asked from) (Ok x) (end_of new room asked from)
-heard_open c a old new w capacity room asked from number t r x is did same set kept sent ended =
-    let e : ClientEnd = end_of old capacity asked from in
+    → Hears (turn_of c a (end_of old capacity asked from first_id)) (end_of old capacity asked from first_id) (Ok x) (end_of new room asked from first_id)
+heard_open c a old new w capacity room asked from first_id number t r x is did same set kept sent ended =
+    let e : ClientEnd = end_of old capacity asked from first_id in
     let next : Client = client_after c.moment number t (client_gets (context_view c) reads_reply t a) in
     let value : w ≡ next = same ∙ ap (λ h. record { number = number; held = h }) did.held in
     let slots : new ≡ with_value code_same_key c.key next old = set ∙ ap (λ y. with_value code_same_key c.key y old) value in
     let viewed : slots_view new ≡ with_value same_key (peer_key_view c.key) next (slots_view old) =
     ap (λ l. slots_view l) slots ∙ with_value_viewed Client c.key next old in
-    let after : end_of new room asked from ≡ record e { slots = with_value same_key (peer_key_view c.key) next (slots_view old) } =
-    ap (λ k. end_of new k asked from) kept ∙ ap (λ l. record e { slots = l }) viewed in
-    subst (λ (t : ClientTurn). Hears t e (Ok x) (end_of new room asked from)) (sym (turn_at c a old capacity asked from _ is)) (record {
+    let after : end_of new room asked from first_id ≡ record e { slots = with_value same_key (peer_key_view c.key) next (slots_view old) } =
+    ap (λ k. end_of new k asked from first_id) kept ∙ ap (λ l. record e { slots = l }) viewed in
+    subst (λ (t : ClientTurn). Hears t e (Ok x) (end_of new room asked from first_id)) (sym (turn_at c a old capacity asked from first_id _ is)) (record {
       end = after;
       told = record {
         sends = subst (λ (l : List Datagram). Pairwise IsSent (to_all (peer_key_view c.key).peer (sends_of (client_gets (context_view c) reads_reply t a))) l)

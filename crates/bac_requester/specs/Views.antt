@@ -9,8 +9,9 @@ use Rattle.bac_ticket.specs.Views.{ending_view}
 use Rattle.bac_requester.specs.declared.turn.Finish.{Finish}
 
 -- the end whose table has these slots
-abbrev pub end_of : List (Slot PeerKey Client) → (capacity asked asks_from : ℕ) → ClientEnd
-end_of slots capacity asked asks_from = record { slots = slots_view slots; capacity = capacity; asked = asked; asks_from = asks_from }
+abbrev pub end_of : List (Slot PeerKey Client) → (capacity asked asks_from first_id : ℕ) → ClientEnd
+end_of slots capacity asked asks_from first_id =
+    record { slots = slots_view slots; capacity = capacity; asked = asked; asks_from = asks_from; first_id = first_id }
 
 abbrev pub finish_view : Finish → meanings.Finish
 finish_view f = record { ticket = f.ticket; how = ending_view f.how }

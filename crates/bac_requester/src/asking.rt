@@ -3,7 +3,7 @@ ghost use Rattle.std.specs.Prelude.{◌≡◌, ℕ, ◌+◌, ◌-◌, ◌<◌, �
 ghost use Rattle.bac_npdu.specs.Views.{peer_view};
 ghost use Rattle.bac_slots.specs.Slots.{rank};
 ghost use Rattle.bac_aged.specs.Ages.{IsKnownBy};
-ghost use Rattle.bac_ends.specs.Ends.{asks_for, has_no_slot, is_held, is_id_held, least_not};
+ghost use Rattle.bac_ends.specs.Ends.{asks_for, has_no_slot, is_held, is_id_held, least_around, least_not};
 ghost use Rattle.bac_ends.specs.Views.{code_key_cmp, code_same_key, settings_view, slots_view};
 ghost use Rattle.bac_service.specs.Spellings.{request_spelling};
 ghost use Rattle.bac_service.specs.Values.{choice_of};
@@ -31,7 +31,7 @@ use std::alloc::Global;
 pub struct Asked {
     /// The ticket's number: how many asks were accepted before.
     pub ticket: u64,
-    /// Its invoke ID: the least that was not held for the peer.
+    /// Its invoke ID: of those that were not held for the peer the first, from where the end's begin.
     pub invoke_id: u8,
     /// The whole request, or its segment 0.
     pub sends: Vec<Datagram>,
@@ -68,19 +68,24 @@ fn is_id_held<S: SlotTable<PeerKey, Client>>(
     }
 }
 
-/// The least invoke ID that is not held for the peer. The peer's slots stand side by side in the order of the keys: the first place is looked up, and those
-/// that are held are walked over.
-fn least_id<S: SlotTable<PeerKey, Client>>(table: &S, peer: &Peer, now: u64) -> Option<u8>
-    ensures { result ≡ least_not (is_id_held now (slots_view (S.slots table.now)) (peer_view peer.now)) 256 0 }
+/// The least invoke ID from one on that is not held for the peer. The peer's slots stand side by side in the order of the keys: the first place is looked
+/// up, and those that are held are walked over.
+fn least_id_from<S: SlotTable<PeerKey, Client>>(
+    table: &S,
+    peer: &Peer,
+    from: u8,
+    now: u64,
+) -> Option<u8>
+    ensures { result ≡ least_not (is_id_held now (slots_view (S.slots table.now)) (peer_view peer.now)) (256 - from) from }
 {
     ranks_of_keys::<PeerKey, Client>();
     let _slots = table.len();
     let first = PeerKey {
         peer: *peer,
-        invoke_id: 0,
+        invoke_id: from,
     };
     let mut place = table.rank(&first);
-    for n in 0..256u16 {
+    for n in u16::from(from)..256 {
         let invoke_id = n as u8;
         if !is_id_held(table, place, peer, invoke_id, now) {
             return Some(invoke_id);
@@ -90,6 +95,21 @@ fn least_id<S: SlotTable<PeerKey, Client>>(table: &S, peer: &Peer, now: u64) -> 
     None
 }
 
+/// The least invoke ID from the first one on that is not held for the peer; where all are held up to 255, the least of all.
+fn free_id<S: SlotTable<PeerKey, Client>>(
+    table: &S,
+    peer: &Peer,
+    first_id: u8,
+    now: u64,
+) -> Option<u8>
+    ensures { result ≡ least_around (is_id_held now (slots_view (S.slots table.now)) (peer_view peer.now)) first_id }
+{
+    match least_id_from(table, peer, first_id, now) {
+        Some(invoke_id) => Some(invoke_id),
+        None => least_id_from(table, peer, 0, now),
+    }
+}
+
 /// Whether all slots are held, or no further ticket has a number.
 fn has_no_slot<S: SlotTable<PeerKey, Client>>(
     aged: &AgedTable<ClientRules, S>,
@@ -97,7 +117,7 @@ fn has_no_slot<S: SlotTable<PeerKey, Client>>(
     now: u64,
 ) -> bool
     requires { AreAged aged.now.ages (S.slots aged.now.table) }
-    ensures { (asks_from : ℕ) → result ≡ has_no_slot now (end_of (S.slots aged.now.table) (S.capacity aged.now.table) asked asks_from) }
+    ensures { (asks_from first_id : ℕ) → result ≡ has_no_slot now (end_of (S.slots aged.now.table) (S.capacity aged.now.table) asked asks_from first_id) }
 {
     !has_room(aged, now) || asked == u64::MAX
 }
@@ -138,6 +158,7 @@ pub(crate) fn ask<S: SlotTable<PeerKey, Client>>(
     settings: &Settings,
     aged: &mut AgedTable<ClientRules, S>,
     asked: &mut u64,
+    first_id: u8,
     now: u64,
     peer: &Peer,
     way: RequestWay,
@@ -147,12 +168,13 @@ pub(crate) fn ask<S: SlotTable<PeerKey, Client>>(
     requires way { IsWayFor way (length (request_spelling (request_view request))) }
     ensures asks { (asks_from : ℕ) → nat_lt now asks_from ≡ false → Asks (asks_for (settings_view settings.now) now (peer_view peer.now)
         (ask_at now (request_by (choice_of (request_view request.entry)) (request_spelling (request_view request.entry)) way))
-        (end_of (S.slots aged.old.table) (S.capacity aged.old.table) asked.old asks_from)) (end_of (S.slots aged.old.table) (S.capacity aged.old.table) asked.old asks_from) result
-        (end_of (S.slots aged.new.table) (S.capacity aged.new.table) asked.new asks_from) }
+        (end_of (S.slots aged.old.table) (S.capacity aged.old.table) asked.old asks_from first_id))
+        (end_of (S.slots aged.old.table) (S.capacity aged.old.table) asked.old asks_from first_id) result
+        (end_of (S.slots aged.new.table) (S.capacity aged.new.table) asked.new asks_from first_id) }
     ensures aged { AreAged aged.new.ages (S.slots aged.new.table) }
     ensures known { IsKnownBy now aged.old.ages.latest → IsKnownBy now aged.new.ages.latest }
 {
-    let Some(invoke_id) = least_id(&aged.table, peer, now) else {
+    let Some(invoke_id) = free_id(&aged.table, peer, first_id, now) else {
         return Err(AskFault::NoInvokeId);
     };
     if has_no_slot(aged, *asked, now) {

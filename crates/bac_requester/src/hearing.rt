@@ -55,9 +55,9 @@ pub(crate) fn hears<S: SlotTable<PeerKey, Client>>(
     apdu: &Apdu<'_>,
 ) -> Result<Turn, NoMemory>
     requires aged { AreAged aged.old.ages (S.slots aged.old.table) }
-    ensures turn { (asked asks_from : ℕ) → Hears (hears_key (settings_view context.now.settings) context.now.moment (peer_key_view context.now.key)
-        (apdu_view apdu.now) (end_of (S.slots aged.old.table) (S.capacity aged.old.table) asked asks_from)) (end_of (S.slots aged.old.table)
-        (S.capacity aged.old.table) asked asks_from) result (end_of (S.slots aged.new.table) (S.capacity aged.new.table) asked asks_from) }
+    ensures turn { (asked asks_from first_id : ℕ) → Hears (hears_key (settings_view context.now.settings) context.now.moment (peer_key_view context.now.key)
+        (apdu_view apdu.now) (end_of (S.slots aged.old.table) (S.capacity aged.old.table) asked asks_from first_id)) (end_of (S.slots aged.old.table)
+        (S.capacity aged.old.table) asked asks_from first_id) result (end_of (S.slots aged.new.table) (S.capacity aged.new.table) asked asks_from first_id) }
     ensures aged { AreAged aged.new.ages (S.slots aged.new.table) }
     ensures known { aged.new.ages.latest ≡ aged.old.ages.latest }
 {

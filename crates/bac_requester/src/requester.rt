@@ -42,6 +42,7 @@ pub struct Requester<S: SlotTable<PeerKey, Client> + Drop> {
     aged: AgedTable<ClientRules, S>,
     asked: u64,
     restart: Option<u64>,
+    first_id: u8,
 }
 
 impl<S: SlotTable<PeerKey, Client> + Drop> Model for Requester<S> {
@@ -54,7 +55,7 @@ impl<S: SlotTable<PeerKey, Client> + Drop> Model for Requester<S> {
     ghost use Rattle.bac_ends.specs.Ends.{first_after};
     ghost use Rattle.bac_protocol.specs.declared.times.TheConstants.{REST};
 
-    ghost view = { λ r. end_of (S.slots r.aged.table) (S.capacity r.aged.table) r.asked (first_after REST r.restart) };
+    ghost view = { λ r. end_of (S.slots r.aged.table) (S.capacity r.aged.table) r.asked (first_after REST r.restart) r.first_id };
 
     ghost invariant = { λ r. AreAged r.aged.ages (S.slots r.aged.table) };
 }
@@ -70,12 +71,12 @@ fn fault_of(fault: RequestFault) -> AskFault
 }
 
 impl<S: SlotTable<PeerKey, Client> + Drop> Requester<S> {
-    /// A client's end without transactions, with room for so many; an Err where the memory for them is refused.
+    /// A client's end without transactions, with room for so many, whose invoke IDs begin at 0; an Err where the memory for them is refused.
     ///
     /// Where its node restarts at a moment, in milliseconds, it has lost what it had, and asks nothing while no more than 75,000 ms have passed since (own
     /// rule of this profile): so long a copy of its old life, or an answer to one, may still come.
     pub fn new(alloc: Global, slots: usize, restart: Option<u64>) -> Result<Requester<S>, NoMemory>
-        ensures { IfOk result (λ r. r ≡ record { slots = []; capacity = slots; asked = 0; asks_from = first_after REST_TIME restart }) }
+        ensures { IfOk result (λ r. r ≡ record { slots = []; capacity = slots; asked = 0; asks_from = first_after REST_TIME restart; first_id = 0 }) }
     {
         let Ok(aged) = empty_table(alloc, slots) else {
             return Err(NoMemory);
@@ -84,11 +85,27 @@ impl<S: SlotTable<PeerKey, Client> + Drop> Requester<S> {
             aged,
             asked: 0,
             restart,
+            first_id: 0,
         })
     }
 
-    /// Asks a peer, of another link than the node's own, that takes so much for a request. It takes the least invoke ID that is not held for the peer, and
-    /// a slot that is not held; while it waits after a restart, it is as if all invoke IDs were held. After a fault nothing has changed; `ClockBack` and `SelfPeer` are never answered, and memory is taken only where no other
+    /// From now on its invoke IDs begin at that one: an ask takes the least that is not held for the peer from it on, and where all up to 255 are held, the
+    /// least of all.
+    pub fn begin_ids_at(&mut self, first_id: u8)
+        ensures { self.new ≡ record self.old { first_id = first_id } }
+    {
+        self.first_id = first_id;
+    }
+
+    /// Where its invoke IDs begin: 0, or what it was told.
+    pub fn first_id(&self) -> u8
+        ensures { result ≡ self.now.first_id }
+    {
+        self.first_id
+    }
+
+    /// Asks a peer, of another link than the node's own, that takes so much for a request. It takes an invoke ID that is not held for the peer, as
+    /// `begin_ids_at` says, and a slot that is not held; while it waits after a restart, it is as if all invoke IDs were held. After a fault nothing has changed; `ClockBack` and `SelfPeer` are never answered, and memory is taken only where no other
     /// fault holds.
     pub fn ask(
         &mut self,
@@ -132,6 +149,7 @@ impl<S: SlotTable<PeerKey, Client> + Drop> Requester<S> {
             settings,
             &mut self.aged,
             &mut self.asked,
+            self.first_id,
             now,
             peer,
             way,
@@ -221,11 +239,12 @@ impl<S: SlotTable<PeerKey, Client> + Drop> Requester<S> {
         each_slot(&self.aged.table, &ShortReplies);
     }
 
-    /// Whether contracts see no difference between two requesters: the same slots in the same order, as many asks, the same restart.
+    /// Whether contracts see no difference between two requesters: the same slots in the same order, as many asks, the same restart, the
+    /// same first invoke ID.
     pub fn same(&self, other: &Requester<S>) -> bool
         ensures { IsTrue result ↔ (self.now ≡ other.now) }
     {
-        if self.restart != other.restart {
+        if self.restart != other.restart || self.first_id != other.first_id {
             return false;
         }
         self.asked == other.asked && same_tables(&self.aged.table, &other.aged.table)

@@ -58,7 +58,7 @@ pub(crate) fn prepare<S: SlotTable<PeerKey, Client>>(
     table: &S,
     now: u64,
 ) -> Result<Due, NoMemory>
-    ensures { IfOk result (IsDue (clients_tick (settings_view settings.now) now (end_of (S.slots table.now) (S.capacity table.now) 0 0))) }
+    ensures { IfOk result (IsDue (clients_tick (settings_view settings.now) now (end_of (S.slots table.now) (S.capacity table.now) 0 0 0))) }
 {
     let mut due = Due {
         sends: Vec::new(alloc),

@@ -21,7 +21,7 @@ house_node limits window node =
       link = link_at node;
       settings = record { limits = limits; window = window };
       latest = 0;
-      clients = record { slots = []; capacity = 64; asked = 0; asks_from = 0 };
+      clients = record { slots = []; capacity = 64; asked = 0; asks_from = 0; first_id = 0 };
       servers = record { slots = []; capacity = 64; serves_from = 0 };
       store = house;
     }

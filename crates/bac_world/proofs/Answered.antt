@@ -85,7 +85,7 @@ key n = record { peer = peer_at (link n); invoke_id = 0 }
 
 abbrev pub ACCEPTED : Accepted
 ACCEPTED = accepts SETTINGS 0 (key 1) (record { first = 0; choice = 12; whole = true; pieces = SERVICE_DATA ∷ [] })
-    (record { slots = []; capacity = 1; asked = 0; asks_from = 0 })
+    (record { slots = []; capacity = 1; asked = 0; asks_from = 0; first_id = 0 })
 
 abbrev pub ASKED_NODE : Node
 ASKED_NODE = record (node 0) { clients = ACCEPTED.end }

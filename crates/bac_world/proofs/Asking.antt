@@ -21,10 +21,10 @@ use Rattle.bac_protocol.proofs.Short.{requests_are_short}
 use Rattle.bac_slots.specs.Slots.{value_at, keep}
 use Rattle.bac_ends.specs.Keys.{PeerKey, same_key}
 use Rattle.bac_ends.specs.Sends.{Pairwise, IsSent}
-use Rattle.bac_ends.specs.Ends.{Client, ClientEnd, kept, is_held, is_held_there, is_id_held, is_id_taken, waits_to_ask, least_not, has_no_slot}
+use Rattle.bac_ends.specs.Ends.{Client, ClientEnd, kept, is_held, is_held_there, is_id_held, is_id_taken, waits_to_ask, free_id, has_no_slot}
 use Rattle.bac_ends.specs.Ends.{Accepted, AskRefusal, AskOutcome, accepts, asks_with_id, asks_for, asks_by_way, client_asks}
 use Rattle.bac_ends.specs.Ends.AskOutcome.{Asked}
-use Rattle.bac_ends.proofs.ClientTables.{is_untaken, no_wait}
+use Rattle.bac_ends.proofs.ClientTables.{is_untaken, least_around_is, no_wait}
 use Rattle.bac_ends.proofs.Holding.{held_is}
 use Rattle.bac_world.specs.Node.{Node}
 use Rattle.bac_world.specs.Once.{Fact, Stores, IsOnce}
@@ -39,14 +39,9 @@ use Rattle.bac_world.proofs.Steps.{Over, Fits, Goes, linked_with, stores_same, d
 
 -- What an accepted ask is.
 
-least_is : (test : ℕ → Bool) (count from id : ℕ) → least_not test count from ≡ Some id → test id ≡ false
-least_is test zero from id e = absurd cc
-least_is test (suc count) from id e = go (test from) refl e (λ f. least_is test count (from + 1) id f)
-  where
-    go : (b : Bool) → test from ≡ b → (if b then least_not test count (from + 1) else Some from) ≡ Some id
-        → (least_not test count (from + 1) ≡ Some id → test id ≡ false) → test id ≡ false
-    go true t e again = again e
-    go false t e again = let same : from ≡ id = cc in subst (λ (k : ℕ). test k ≡ false) same t
+-- the invoke ID that is free is not taken
+is_free : (now : ℕ) (e : ClientEnd) (peer : PeerView) (id : ℕ) → free_id now e peer ≡ Some id → is_id_taken now e peer id ≡ false
+is_free now e peer id free = (least_around_is (is_id_taken now e peer) e.first_id id free).refused
 
 module _ (c : Settings) (now : ℕ) (peer : PeerView) (choice : ℕ) (octets : Octets) (e : ClientEnd) (a : Accepted) where
   -- its pieces, its invoke ID, which is not held, that the end does not wait, and what becomes of the end
@@ -63,12 +58,12 @@ module _ (c : Settings) (now : ℕ) (peer : PeerView) (choice : ℕ) (octets : O
   with_id : (whole : Bool) (front : Octets) (rest : List Octets) → join (front ∷ rest) ≡ octets
       → asks_for c now peer (record { first = now; choice = choice; whole = whole; pieces = front ∷ rest }) e ≡ Asked a
       → (p : IsAccepted) × (p.whole ≡ whole)
-  with_id whole front rest joined is = go (least_not (is_id_taken now e peer) 256 0) refl is
+  with_id whole front rest joined is = go (free_id now e peer) refl is
     where
       ask : Ask
       ask = record { first = now; choice = choice; whole = whole; pieces = front ∷ rest }
 
-      go : (o : Option ℕ) → least_not (is_id_taken now e peer) 256 0 ≡ o → asks_with_id c now peer ask e o ≡ Asked a
+      go : (o : Option ℕ) → free_id now e peer ≡ o → asks_with_id c now peer ask e o ≡ Asked a
           → (p : IsAccepted) × (p.whole ≡ whole)
       go None least is = absurd cc
       go (Some id) least is = slots (has_no_slot now e) is
@@ -84,8 +79,8 @@ module _ (c : Settings) (now : ℕ) (peer : PeerView) (choice : ℕ) (octets : O
               front = front;
               rest = rest;
               joined = joined;
-              free = is_untaken now e peer id (least_is (is_id_taken now e peer) 256 0 id least);
-              awake = no_wait now e peer id (least_is (is_id_taken now e peer) 256 0 id least);
+              free = is_untaken now e peer id (is_free now e peer id least);
+              awake = no_wait now e peer id (is_free now e peer id least);
               is = let same : accepts c now (record { peer = peer; invoke_id = id }) ask e ≡ a = cc in sym same;
             },
             refl,

@@ -27,7 +27,7 @@ node n =
       link = link n;
       settings = SETTINGS;
       latest = 0;
-      clients = record { slots = []; capacity = 1; asked = 0; asks_from = 0 };
+      clients = record { slots = []; capacity = 1; asked = 0; asks_from = 0; first_id = 0 };
       servers = record { slots = []; capacity = 1; serves_from = 0 };
       store = STORE;
     }

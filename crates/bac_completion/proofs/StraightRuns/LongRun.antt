@@ -87,7 +87,7 @@ slot n = record { peer = peer_at (link n); invoke_id = 0 }
 
 abbrev ACCEPTED : Accepted
 ACCEPTED = accepts SETTINGS 0 (slot 1) (record { first = 0; choice = 7; whole = false; pieces = FRONT ∷ BACK ∷ [] })
-    (record { slots = []; capacity = 1; asked = 0; asks_from = 0 })
+    (record { slots = []; capacity = 1; asked = 0; asks_from = 0; first_id = 0 })
 
 abbrev hears : Apdu → ClientEnd → ClientEnd
 hears a e = (client_hears SETTINGS reads_reply 0 (peer_at (link 1)) a e).end

@@ -20,7 +20,7 @@ use Rattle.bac_ends.specs.Keys.{PeerKey, same_key}
 use Rattle.bac_ends.specs.Sends.{Datagram}
 use Rattle.bac_ends.specs.Ends.{Client, ClientEnd, ServerEnd, Held, Accepted, AskOutcome, AskRefusal, is_held, is_slot_held, is_slot_live, is_free}
 use Rattle.bac_ends.specs.Ends.{client_hears_at, client_hears_held, client_after, client_ticked, held_ticked, server_ticked, entry_or, set_or_put, put_entry}
-use Rattle.bac_ends.specs.Ends.{key_of, context_of, has_no_slot, asks_with_id, asks_for, asks_by_way, accepts, least_not, is_id_taken, MOST_ASKS, new_client}
+use Rattle.bac_ends.specs.Ends.{key_of, context_of, has_no_slot, asks_with_id, asks_for, asks_by_way, accepts, free_id, MOST_ASKS, new_client}
 use Rattle.bac_ends.proofs.ServerTables.{has_space}
 use Rattle.bac_ends.specs.Ends.Held.{Open, Closed}
 use Rattle.bac_ends.specs.Ends.AskOutcome.{Asked}
@@ -178,7 +178,7 @@ tick_room now old new o tick h = subst (HasRoom now) (sym tick.node) (record {
 -- An accepted ask had a slot.
 module _ (c : Settings) (now : ℕ) (peer : PeerView) (choice : ℕ) (octets : Octets) (e : ClientEnd) (a : Accepted) where
   slot_for : (ask : Ask) → asks_for c now peer ask e ≡ Asked a → has_no_slot now e ≡ false
-  slot_for ask is = go (least_not (is_id_taken now e peer) 256 0) is
+  slot_for ask is = go (free_id now e peer) is
     where
       go : (o : Option ℕ) → asks_with_id c now peer ask e o ≡ Asked a → has_no_slot now e ≡ false
       go None is = absurd cc

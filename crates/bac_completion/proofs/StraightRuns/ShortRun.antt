@@ -56,7 +56,7 @@ slot n = record { peer = peer_at (link n); invoke_id = 0 }
 
 abbrev ACCEPTED : Accepted
 ACCEPTED = accepts SETTINGS 0 (slot 1) (record { first = 0; choice = 12; whole = true; pieces = SERVICE_DATA ∷ [] })
-    (record { slots = []; capacity = 1; asked = 0; asks_from = 0 })
+    (record { slots = []; capacity = 1; asked = 0; asks_from = 0; first_id = 0 })
 
 abbrev client : ClientEnd → Node
 client e = record (node 0) { clients = e }

@@ -24,7 +24,7 @@ use Rattle.bac_protocol.specs.Client.{Ask}
 use Rattle.bac_protocol.specs.Short.{IsCutInto}
 use Rattle.bac_protocol.specs.Straight.{FitsData, RequestFits, KindFits, WayFits, request_count, way_count}
 use Rattle.bac_protocol.proofs.Short.{requests_are_short, replies_are_short}
-use Rattle.bac_ends.specs.Ends.{ClientEnd, Accepted, AskOutcome, AskRefusal, accepts, asks_with_id, asks_for, asks_by_way, client_asks, is_id_taken, least_not}
+use Rattle.bac_ends.specs.Ends.{ClientEnd, Accepted, AskOutcome, AskRefusal, accepts, asks_with_id, asks_for, asks_by_way, client_asks, free_id}
 use Rattle.bac_ends.specs.Ends.{has_no_slot}
 use Rattle.bac_ends.specs.Ends.AskOutcome.{Asked}
 use Rattle.bac_entry.specs.Services.{outcome_of}
@@ -51,7 +51,7 @@ not_too_long size peer service pieces is = go (nat_lt DATA (length service)) ref
 
 module _ (c : Settings) (now : ℕ) (peer : PeerView) (e : ClientEnd) (a : Accepted) where
   ask_is : (ask : Ask) → asks_for c now peer ask e ≡ Asked a → a.ask ≡ ask
-  ask_is ask is = go (least_not (is_id_taken now e peer) 256 0) is
+  ask_is ask is = go (free_id now e peer) is
     where
       go : (o : Option ℕ) → asks_with_id c now peer ask e o ≡ Asked a → a.ask ≡ ask
       go None is = absurd cc

@@ -35,6 +35,8 @@ pub(super) enum Event {
     /// What a tick would make is said, and not made.
     Prepare,
     Ask(Ask),
+    /// Its invoke IDs begin at that one.
+    Begin(u8),
     /// The node restarts, and keeps its store.
     Restart,
     /// How many slots are held and entries live is asked.
@@ -51,6 +53,7 @@ pub(super) enum Came {
     Asked(Asked),
     Refused(AskFault),
     Fault(NodeFault),
+    Begun,
     Restarted,
     /// How many slots are held and entries live.
     Counted(usize, usize),
@@ -154,6 +157,14 @@ fn peer_is_asked(alloc: Global, line: &str) -> Result<Event, Wrong> {
     }))
 }
 
+/// Invoke IDs begin at one: `ID`.
+fn ids_begin(line: &str) -> Result<Event, Wrong> {
+    match line.parse::<u8>() {
+        Ok(first_id) => Ok(Event::Begin(first_id)),
+        Err(_) => Err(Wrong::Line),
+    }
+}
+
 /// The moment of a line, and its event.
 pub(super) fn event_of(alloc: Global, line: &str) -> Result<(u64, Event), Wrong> {
     let (moment, line) = parted(line, ' ')?;
@@ -162,6 +173,7 @@ pub(super) fn event_of(alloc: Global, line: &str) -> Result<(u64, Event), Wrong>
         b"from" => apdu_comes(alloc, rest)?,
         b"hear" => datagram_comes(alloc, rest)?,
         b"ask" => peer_is_asked(alloc, rest)?,
+        b"begin" => ids_begin(rest)?,
         b"tick" => Event::Tick,
         b"prepare" => Event::Prepare,
         b"restart" => Event::Restart,
@@ -195,6 +207,11 @@ fn asks(node: &mut Node, now: u64, ask: &Ask) -> Came {
     }
 }
 
+fn begins(node: &mut Node, first_id: u8) -> Came {
+    node.begin_ids_at(first_id);
+    Came::Begun
+}
+
 fn restarts(node: &mut Node, now: u64) -> Came {
     match node.restart(now, None) {
         Ok(()) => Came::Restarted,
@@ -210,6 +227,7 @@ impl Event {
             Event::Tick => outcome_of(node.tick(now)),
             Event::Prepare => prepared(node, now),
             Event::Ask(ask) => asks(node, now, ask),
+            Event::Begin(first_id) => begins(node, *first_id),
             Event::Restart => restarts(node, now),
             Event::Count => Came::Counted(node.held(now), node.live(now)),
             Event::Compare => Came::Compared(node.same(fresh), node.store().same(fresh.store())),

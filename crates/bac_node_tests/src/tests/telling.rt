@@ -140,7 +140,7 @@ pub(super) fn print_came(alloc: Global, came: Came, out: &mut Vec<u8>) -> Result
         Came::Asked(asked) => print_accepted(alloc, &asked, out)?,
         Came::Refused(fault) => writeln!(out, "refused {}", fault.number())?,
         Came::Fault(fault) => writeln!(out, "fault {}", fault.number())?,
-        Came::Restarted => {}
+        Came::Begun | Came::Restarted => {}
         Came::Counted(held, live) => writeln!(out, "held {held} live {live}")?,
         Came::Compared(node, store) => writeln!(out, "new node {node} store {store}")?,
     }

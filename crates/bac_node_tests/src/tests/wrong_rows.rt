@@ -16,6 +16,7 @@ const WRONG: &[&str] = &[
     "0 wait",
     "0 ask 2 0275 read 0:5",
     "0 ask 2 02 read 0:5 85",
+    "0 begin 256",
     // no name, no number, no range
     "0 from 2 <value>",
     "0 from 2 {x*10}",

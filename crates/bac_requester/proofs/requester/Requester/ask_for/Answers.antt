@@ -22,7 +22,7 @@ pub returns-then-is_waiting-clause-asks : goal.returns-then-is_waiting-clause-as
 returns-then-is_waiting-clause-asks g c =
     let s : Settings = settings_view c.args.settings.now in
     let e : ClientEnd = end_of (g.S.SlotTable.slots c.self.inside.aged.table) (g.S.SlotTable.capacity c.self.inside.aged.table) c.self.inside.asked
-    (from_of c.self.inside.restart) in
+    (from_of c.self.inside.restart) c.self.inside.first_id in
     let octets : Octets = request_spelling (request_view c.args.request) in
     let is = can_go s c.args.now (peer_view c.args.peer.now) (choice_of (request_view c.args.request)) octets e _ c.of.result c.in-Ok.way
     (c.of.ensures.is octets (sym c.request_len.ensures.len)) c.in-Ok.is in
@@ -32,8 +32,8 @@ pub returns-clause-asks : goal.returns-clause-asks
 returns-clause-asks g c =
     let s : Settings = settings_view c.args.settings.now in
     let from : ℕ = from_of c.self.inside.restart in
-    let e : ClientEnd = end_of (g.S.SlotTable.slots c.self.inside.aged.table) (g.S.SlotTable.capacity c.self.inside.aged.table) c.self.inside.asked from in
-    let after : ClientEnd = end_of (g.S.SlotTable.slots c.ask.new.aged.table) (g.S.SlotTable.capacity c.ask.new.aged.table) c.ask.new.asked from in
+    let e : ClientEnd = end_of (g.S.SlotTable.slots c.self.inside.aged.table) (g.S.SlotTable.capacity c.self.inside.aged.table) c.self.inside.asked from c.self.inside.first_id in
+    let after : ClientEnd = end_of (g.S.SlotTable.slots c.ask.new.aged.table) (g.S.SlotTable.capacity c.ask.new.aged.table) c.ask.new.asked from c.self.inside.first_id in
     let octets : Octets = request_spelling (request_view c.args.request) in
     let is = can_go s c.args.now (peer_view c.args.peer.now) (choice_of (request_view c.args.request)) octets e _ c.of.result c.in-Ok.way
     (c.of.ensures.is octets (sym c.request_len.ensures.len)) c.in-Ok.is in

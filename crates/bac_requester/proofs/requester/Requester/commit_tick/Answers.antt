@@ -8,4 +8,4 @@ pub returns : goal.returns
 returns g c =
     rw (← c.self.view_is) (committed c.args.settings.now c.args.now (g.S.SlotTable.slots c.self.inside.aged.table)
     (g.S.SlotTable.slots c.tick.new.aged.table) (g.S.SlotTable.capacity c.self.inside.aged.table) (g.S.SlotTable.capacity c.tick.new.aged.table)
-    c.self.inside.asked (first_after REST c.self.inside.restart) c.tick.ensures.slots c.tick.ensures.same)
+    c.self.inside.asked (first_after REST c.self.inside.restart) c.self.inside.first_id c.tick.ensures.slots c.tick.ensures.same)

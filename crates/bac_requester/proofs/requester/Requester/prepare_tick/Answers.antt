@@ -11,6 +11,6 @@ pub returns-then-is_quiet : goal.returns-then-is_quiet
 returns-then-is_quiet g c =
     let within = between c.self.inside.aged.ages.from c.self.inside.aged.ages.due c.args.now (sym c.is_quiet.ensures ∙ c.if-is_quiet.true) in
     rw (← c.self.view_is) (nothing_due c.args.settings.now c.args.now c.self.inside.aged.ages.from c.self.inside.aged.ages.due within.1
-    (g.S.SlotTable.slots c.self.inside.aged.table) (g.S.SlotTable.capacity c.self.inside.aged.table) c.self.inside.asked (first_after REST c.self.inside.restart)
+    (g.S.SlotTable.slots c.self.inside.aged.table) (g.S.SlotTable.capacity c.self.inside.aged.table) c.self.inside.asked (first_after REST c.self.inside.restart) c.self.inside.first_id
     c.nothing_due.result.sends.items (map finish_view c.nothing_due.result.ended.items) c.self.invariant.quiet
     c.nothing_due.ensures.sends (ap (λ l. map finish_view l) c.nothing_due.ensures.ended))

@@ -1,14 +1,20 @@
 -- One more invoke ID.
-use Rattle.std.proofs.Common.{◌+◌, ◌∙◌, refl, sym, arith}
+use Rattle.std.proofs.Common.{ℕ, ◌+◌, ◌-◌, ◌∙◌, ap, sym, arith}
 use Rattle.bac_npdu.specs.Views.{peer_view}
-use Rattle.bac_ends.specs.Ends.{is_id_held}
-use Rattle.bac_ends.specs.Views.{slots_view}
+use Rattle.bac_slots.specs.Slots.{rank}
+use Rattle.bac_ends.specs.Ends.{is_id_held, least_not}
+use Rattle.bac_ends.specs.Views.{code_key_cmp, slots_view}
 use Rattle.bac_requester.proofs.Accepting.{least_more, least_found, least_none}
 use Rattle.bac_requester.proofs.Ids.{key_at, next_place, rank_within}
-use Rattle.bac_requester.proofs.asking.least_id.Goals as goal
+use Rattle.bac_requester.proofs.asking.least_id_from.Goals as goal
 
 pub loop-n-init : goal.loop-n-init
-loop-n-init g c = record { least = refl; place = c.rank-place.ensures }
+loop-n-init g c =
+    let slots = g.S.SlotTable.slots c.args.table.now in
+    record {
+      least = ap (λ (k : ℕ). least_not (is_id_held c.args.now (slots_view slots) (peer_view c.args.peer.now)) (256 - k) k) c.from-n.ensures;
+      place = c.rank-place.ensures ∙ ap (λ (k : ℕ). rank code_key_cmp (key_at c.args.peer.now k) slots) (sym c.from-n.ensures);
+    }
 
 pub is_id_held-requires : goal.is_id_held-requires
 is_id_held-requires g c = c.loop-n.invariant.place
