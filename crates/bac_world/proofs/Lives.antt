@@ -104,7 +104,7 @@ hears_lived w w' j from octets h =
 
 delivers_lived : (b : Bool) (w : World) (c : Copy) (w' : World) → DeliversIf b w c w' → (i : ℕ) → LiveOn w.nodes w'.nodes i
 delivers_lived true w c w' d = hears_lived w w' c.to d.link c.octets d.hears
-delivers_lived false w c w' same i = subst (λ (u : World). LiveOn w.nodes u.nodes i) (sym same) (same_lived w.nodes i)
+delivers_lived false w c w' same = λ i. subst (λ (u : World). LiveOn w.nodes u.nodes i) (sym same) (same_lived w.nodes i)
 
 step_lived : (overtake : ℕ) (w w' : World) (e : Event) → WorldStep overtake w e w' → (i : ℕ) → RunsOn i (e ∷ []) → LiveOn w.nodes w'.nodes i
 step_lived overtake w w' (Ask client server limits r) (inl s) i on = with_lived w.nodes w'.nodes client s.before s.after s.at s.nodes
