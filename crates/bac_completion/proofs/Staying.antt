@@ -1,5 +1,5 @@
 -- In each net that moves lead to, no end waits longer than after a restart that is made now.
-use Rattle.std.proofs.Common.{◌≡◌, ℕ, ◌+◌, ◌≤◌, Bool, true, false, List, ◌∷◌, Option, Some, None, slice_get, if◌then◌else◌, nat_eq, arith}
+use Rattle.std.proofs.Common.{ℕ, ◌+◌, ◌≤◌, Bool, true, false, List, Option, Some, None, slice_get, if◌then◌else◌, nat_eq, arith}
 use Rattle.bac_protocol.specs.declared.times.TheConstants.{KEEP, REST}
 use Rattle.bac_protocol.specs.Service.{Octets}
 use Rattle.bac_protocol.specs.Wire.{is_from_client}

@@ -23,6 +23,7 @@ mod noise;
 mod playing;
 mod replies;
 mod requests;
+mod restarts;
 mod scene;
 mod script;
 mod scripts;

@@ -46,6 +46,7 @@ event_of limits (line.Step.Tick node) = world.Event.Tick node
 event_of limits (line.Step.Advance by) = world.Event.Advance by
 event_of limits (line.Step.SetProperty node object property octets) = world.Event.Change node (at_node.Change.Value object property octets)
 event_of limits (line.Step.SetFile node object octets) = world.Event.Change node (at_node.Change.File object octets)
+event_of limits (line.Step.Restart node) = world.Event.Restart node None
 
 abbrev pub event_at : NodeLimits → (line : List ℕ) → Option world.Event
 event_at limits l = option_map (event_of limits) (step_at l)

@@ -137,5 +137,9 @@ pub(crate) fn event_of(world: &World, step: Step) -> Event
         Step::Advance(by) => Event::Advance { by },
         Step::SetProperty(set) => value_change(set),
         Step::SetFile(set) => file_change(set),
+        Step::Restart(node) => Event::Restart {
+            node: node as usize,
+            store: None,
+        },
     }
 }
