@@ -8,12 +8,14 @@ use std::test::Fail;
 
 mod asks;
 mod bad_lines;
+mod chance;
 mod changes;
 mod devices;
 mod endings;
 mod failing;
 mod faults;
 mod files;
+mod generated;
 mod journal;
 mod lives;
 mod long;

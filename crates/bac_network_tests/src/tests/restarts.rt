@@ -21,6 +21,7 @@ const NAMES: Names = &[
         "beginning",
         "810A0038_0100_3C0000200C_0C00800001_191C_3E_7525_{35*00}",
     ),
+    ("last", "810A001D_0104_0A7000012007_{16*AB}_0F"),
     ("away", "810A0009_0100_710000"),
     ("away again", "810A0009_0100_710100"),
 ];
@@ -157,7 +158,7 @@ deliver 3
   ended 1 answered position 2
 ";
 
-/// The server restarts while an append comes in segments.
+/// The server restarts while an append comes in segments: those that are left are nothing to it.
 const REQUEST_RUNS: &str = "
 ask 0 1 append 10:1 {50*AB}
   asked 0 id 0
@@ -167,14 +168,30 @@ deliver 0
 restart 1
   restarted 1
 deliver 1
-  sent 2 0>1 810A001D_0104_0A7000012007_{16*AB}_0F
+  sent 2 0>1 <last>
 deliver 2
-  sent 3 1>0 <away>
+  nothing
+advance 2000
+  nothing
+tick 0
+  sent 3 0>1 <last>
 deliver 3
-  ended 0 aborted 0
+  nothing
+advance 2000
+  nothing
+tick 0
+  sent 4 0>1 <last>
+advance 2000
+  nothing
+tick 0
+  sent 5 0>1 <last>
+advance 2000
+  nothing
+tick 0
+  ended 0 timed-out
 ";
 
-/// The server restarts while its reply goes in segments.
+/// The server restarts while its reply goes in segments: the rest never comes, and the request that is sent again is turned away.
 const REPLY_RUNS: &str = "
 set 1 2:1 28 7525{37*00}
   changed 1
@@ -190,6 +207,14 @@ deliver 1
   sent 2 0>1 810A000A_0100_40000020
 deliver 2
   nothing
+advance 8000
+  nothing
+tick 0
+  sent 3 0>1 810A0011_0104_0270000C_<text>
+deliver 3
+  sent 4 1>0 <away>
+deliver 4
+  ended 0 aborted 0
 ";
 
 const TABLES: &[Table] = &[
