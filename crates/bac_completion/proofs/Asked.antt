@@ -1,6 +1,8 @@
 -- An accepted ask of a world, as its machines make it, and the copies of its request.
-use Rattle.std.proofs.Common.{◌≡◌, ℕ, suc, ◌≤◌, Bool, true, false, List, [], ◌∷◌, ◌++◌, map, length, Option, Some, if◌then◌else◌}
-use Rattle.std.proofs.Common.{refl, sym, ap, subst, ◌∙◌}
+use Rattle.std.proofs.Common.{◌≡◌, ℕ, suc, ◌≤◌, Bool, true, false, List, [], ◌∷◌, ◌++◌, map, length, Option, Some, None, if◌then◌else◌}
+use Rattle.std.proofs.Common.{◌+◌, slice_get, nat_lt, refl, sym, ap, subst, ◌∙◌, arith}
+use Rattle.std.proofs.lemmas.Bool.Decides.{nat_tests}
+use Rattle.std.specs.Option.{option_map}
 use Rattle.bac_apdu.specs.Apdu.{Apdu, Limits}
 use Rattle.bac_apdu.specs.Spelling.{SpellsApdu, apdu_spelling, is_confirmed_request}
 use Rattle.bac_npdu.specs.Datagram.{Means, IsFrameTo, frame}
@@ -8,6 +10,7 @@ use Rattle.bac_npdu.proofs.Datagrams.{frame_means}
 use Rattle.bac_service.specs.Services.{reads_reply}
 use Rattle.bac_service.specs.Values.{Request, choice_of}
 use Rattle.bac_segment.specs.Window.{outgoing}
+use Rattle.bac_protocol.specs.declared.times.TheConstants.{REST}
 use Rattle.bac_protocol.specs.Service.{Octets}
 use Rattle.bac_protocol.specs.Wire.{is_from_client}
 use Rattle.bac_protocol.specs.Server.{Service}
@@ -18,17 +21,20 @@ use Rattle.bac_protocol.specs.Client.Reaction.{Stays, GoesOn, Repeats, Ends}
 use Rattle.bac_protocol.specs.Transaction.{Key, Rules, client_context}
 use Rattle.bac_protocol.specs.World.{Net, Post, post_of}
 use Rattle.bac_protocol.specs.Claims as claims
+use Rattle.bac_protocol.specs.Claims.{ClientStays}
 use Rattle.bac_protocol.proofs.Keys.{set_same}
 use Rattle.bac_progress.specs.RoundTrip.{request_to}
 use Rattle.bac_progress.proofs.Paths.{ask_of, Bounded, Step, Path}
 use Rattle.bac_progress.proofs.Paths.Path.{Here, Then}
 use Rattle.bac_progress.proofs.Changes.{IsThere}
 use Rattle.bac_ends.specs.Sends.{Pairwise}
-use Rattle.bac_world.specs.World.{World, Copy, IsAsked, peer_at}
+use Rattle.bac_world.specs.Node.{Node}
+use Rattle.bac_world.specs.World.{World, Copy, Event, WorldRun, IsAsked, RunsOn, peer_at}
 use Rattle.bac_world.proofs.Bridge.{IsCopyOf, IsBetween, key_of, framed_means}
 use Rattle.bac_world.proofs.Steps.{Over}
+use Rattle.bac_world.proofs.Lives.{run_lived}
 use Rattle.bac_completion.specs.RoundTrip.{IsRequest}
-use Rattle.bac_completion.proofs.Never.{never_bounded}
+use Rattle.bac_completion.proofs.Staying.{reached_bounded}
 use Rattle.bac_completion.proofs.Following.{Parts, asked_free, asked_net, asked_over}
 
 pub after_ask : (now : ℕ) (t : Ticket) (r : Reaction) → (client.after now t r).ask ≡ t.ask
@@ -57,6 +63,10 @@ just_one R a [] h = absurd h
 just_one R a (b ∷ []) h = (b, refl)
 just_one R a (b ∷ d ∷ more) h = absurd h.1
 
+pub node_at : (l : Octets) (o : Option Node) → option_map (λ (b : Node). b.link) o ≡ Some l → (b : Node) × (o ≡ Some b)
+node_at l None e = absurd cc
+node_at l (Some b) e = (b, refl)
+
 module _ (links : ℕ → Option Octets) (apart : (i j : ℕ) (l : Octets) → links i ≡ Some l → links j ≡ Some l → i ≡ j) (W : ℕ) (x : Rules)
     (bound : claims.IsBounded W x) (readable : x.readable ≡ reads_reply) (old : World) (n : Net) (h : Over links apart W x old n)
     (c s : ℕ) (limits : Limits) (r : Request) (asked : World) (a : IsAsked old c s limits r asked)
@@ -74,7 +84,7 @@ module _ (links : ℕ → Option Octets) (apart : (i j : ℕ) (l : Octets) → l
   made_over = asked_over links apart W x bound readable old n h c s limits r asked a p
 
   pub made_bounded : Bounded made
-  made_bounded = never_bounded made made_over.sound.1
+  made_bounded = reached_bounded x made made_over.sound
 
   pub made_path : (Q : Net → ℕ → Bool → Service → Type 0) → Path x Q n made
   made_path Q = Then n made Here (Step.Asks (key_of c s p.id) (choice_of r) p.whole p.front p.rest
@@ -93,6 +103,19 @@ module _ (links : ℕ → Option Octets) (apart : (i j : ℕ) (l : Octets) → l
 
   pub client_link : links c ≡ Some a.before.link
   client_link = (h.nodes c a.before a.at).link
+
+  -- where its client does not restart in a run, the ask was made in its life
+  pub stays : (events : List Event) (w : World) → WorldRun x.overtake asked events w → RunsOn c events → (m : Net) → Over links apart W x w m
+      → ClientStays m key ask
+  stays events w run on m over =
+      let node = node_at a.before.link (slice_get w.nodes c) (over.linked c ∙ client_link) in
+      let lived = run_lived x.overtake events asked w run c on node.0 node.1 in
+      let from : m.asks_from c ≡ n.asks_from c =
+      sym (over.nodes c node.0 node.1).asks ∙ lived.asks ∙ (made_over.nodes c lived.before lived.at).asks in
+      let awake : nat_lt n.now (n.asks_from c) ≡ false = ap (nat_lt n.now) (sym (h.nodes c a.before a.at).asks) ∙ p.awake in
+      let reached : n.asks_from c ≤ n.now = grind (arith, nat_tests) in
+      let made_since : m.asks_from c ≤ n.now + REST = omega arith in
+      made_since
 
   -- nobody asks itself
   pub foreign : c ≡ s → ⊥

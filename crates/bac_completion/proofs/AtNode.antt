@@ -254,15 +254,15 @@ module _ (links : ℕ → Option Octets) (apart : (i j : ℕ) (l : Octets) → l
       let known = (each_at Client (λ q v. IsKnown links apart q × (v.number < a.clients.asked)) p (record { number = number; held = Open t }) a.clients.slots
       fits.known there).0 in
       let key_is : slot_key known.link p.invoke_id ≡ p = λ j. record { peer = sym known.peer j; invoke_id = p.invoke_id } in
-      let found : TicketFits n.now w.notes i (n.numbers (node_key i known.node p.invoke_id)) (Some (record { number = number; held = Open t }))
+      let found : TicketFits (n.asks_from i) n.now w.notes i (n.numbers (node_key i known.node p.invoke_id)) (Some (record { number = number; held = Open t }))
       (n.tickets (node_key i known.node p.invoke_id)) =
-      subst (λ (v : Option Client). TicketFits n.now w.notes i (n.numbers (node_key i known.node p.invoke_id)) v
+      subst (λ (v : Option Client). TicketFits (n.asks_from i) n.now w.notes i (n.numbers (node_key i known.node p.invoke_id)) v
       (n.tickets (node_key i known.node p.invoke_id))) (ap (λ (q : PeerKey). value_at same_key q a.clients.slots) key_is ∙ there)
       (fits.found known.node known.link p.invoke_id known.at) in
-      let is = ticket_at n.now w.notes i (n.numbers (node_key i known.node p.invoke_id)) number t
+      let is = ticket_at (n.asks_from i) n.now w.notes i (n.numbers (node_key i known.node p.invoke_id)) number t
       (n.tickets (node_key i known.node p.invoke_id)) found in
-      let held : TicketFits n.now w.notes i (n.numbers (node_key i known.node p.invoke_id)) (Some (record { number = number; held = Open t })) (Some t) =
-      subst (λ (v : Option Ticket). TicketFits n.now w.notes i (n.numbers (node_key i known.node p.invoke_id))
+      let held : TicketFits (n.asks_from i) n.now w.notes i (n.numbers (node_key i known.node p.invoke_id)) (Some (record { number = number; held = Open t })) (Some t) =
+      subst (λ (v : Option Ticket). TicketFits (n.asks_from i) n.now w.notes i (n.numbers (node_key i known.node p.invoke_id))
       (Some (record { number = number; held = Open t })) v) is.0 found in
       record {
         server = known.node;
@@ -283,7 +283,7 @@ module _ (links : ℕ → Option Octets) (apart : (i j : ℕ) (l : Octets) → l
         let numbers : n.numbers (node_key i one.server p.invoke_id) ≡ n.numbers (node_key i two.server q.invoke_id) =
         (let e : Some (n.numbers (node_key i one.server p.invoke_id)) ≡ Some (n.numbers (node_key i two.server q.invoke_id)) =
         sym one.number_is ∙ two.number_is in cc) in
-        let key = (reached_net W x bound n over.sound.0).apart (node_key i one.server p.invoke_id) (node_key i two.server q.invoke_id) t u
+        let key = (reached_net W x bound n over.sound).apart (node_key i one.server p.invoke_id) (node_key i two.server q.invoke_id) t u
         one.ticket two.ticket numbers in
         let link : one.link ≡ two.link =
         (let e : Some one.link ≡ Some two.link = sym one.linked ∙ ap (λ (k : Key). links k.server) key ∙ two.linked in cc) in

@@ -1,5 +1,5 @@
 -- Each ask ends, in every world.
-use Rattle.std.proofs.Common.{◌≡◌, ◌⊎◌, ℕ, suc, ◌-◌, ◌<◌, ◌≤◌, Bool, true, false, List, [], ◌∷◌, length, Option, Some, None, if◌then◌else◌, not, ◌||◌}
+use Rattle.std.proofs.Common.{◌≡◌, ◌⊎◌, ℕ, suc, ◌-◌, ◌<◌, ◌≤◌, Bool, true, false, List, [], ◌∷◌, ◌++◌, length, Option, Some, None, if◌then◌else◌, not, ◌||◌}
 use Rattle.std.proofs.Common.{nat_eq, refl, sym, ap, subst, inl, inr, ◌∙◌, arith}
 use Rattle.std.proofs.lemmas.Bool.Decides.{nat_tests}
 use Rattle.bac_apdu.specs.Apdu.{Apdu, Limits}
@@ -19,12 +19,12 @@ use Rattle.bac_protocol.specs.Transaction.{Key, Rules, client_context, ended}
 use Rattle.bac_protocol.specs.World.{Net, net_start, later, client_acts}
 use Rattle.bac_protocol.specs.Moves.{taken_by_client}
 use Rattle.bac_protocol.specs.Claims as claims
+use Rattle.bac_protocol.specs.Claims.{ClientStays}
 use Rattle.bac_protocol.proofs.Keys.{copy_at}
 use Rattle.bac_protocol.proofs.Alone.{one}
 use Rattle.bac_protocol.proofs.Sound.{Up, Down, Says, Sound}
 use Rattle.bac_protocol.proofs.Nets.{sound_at}
 use Rattle.bac_protocol.proofs.SingleMoves.{reached_net}
-use Rattle.bac_protocol.proofs.Dead.{ended_is_silent}
 use Rattle.bac_progress.specs.Runs as net
 use Rattle.bac_progress.proofs.Paths.{Any, Path, bounded_start, path_then, path_log}
 use Rattle.bac_progress.proofs.Changes.{IdleIsLogged, HasEnded, IsThere, ended_grows, logged_path}
@@ -36,8 +36,8 @@ use Rattle.bac_ends.specs.Ends.{Client, Held, context_of, kept, open_unless, hel
 use Rattle.bac_ends.specs.Ends.Held.{Open, Closed}
 use Rattle.bac_world.specs.Node.{Node, Outcome, NodeTick}
 use Rattle.bac_world.specs.Once.{Fact}
-use Rattle.bac_world.specs.Once.Fact.{Asked, Performed, Ended, Changed}
-use Rattle.bac_world.specs.World.{World, Copy, Event, WorldStep, WorldRun, IsFresh, IsBounded, IsAsked, Ticks, link_at, peer_at}
+use Rattle.bac_world.specs.Once.Fact.{Asked, Performed, Ended, Changed, Restarted}
+use Rattle.bac_world.specs.World.{World, Copy, Event, WorldStep, WorldRun, IsFresh, IsBounded, IsAsked, Ticks, RunsOn, link_at, peer_at}
 use Rattle.bac_world.specs.World.Event.{Deliver, Tick}
 use Rattle.bac_ends.proofs.KeyedSlots.{changed, changed_value, value_changed}
 use Rattle.bac_world.proofs.Machines.{orderly}
@@ -51,9 +51,25 @@ use Rattle.bac_world.proofs.Headline.{fresh_over, rules_of, rules_bounded}
 use Rattle.bac_completion.specs.Runs.{Throughout, endings_of}
 use Rattle.bac_completion.specs.RoundTrip.{MayArrive, IsFromServer}
 use Rattle.bac_completion.specs.Ends.{IsOpen, EndsInTime, AsksEnd}
-use Rattle.bac_completion.proofs.Never.{never_bounded, client_stays}
-use Rattle.bac_completion.proofs.Asked.{after_ask, key, ask, made, made_over, made_bounded, made_path, there, server_link, foreign}
+use Rattle.bac_completion.proofs.Staying.{reached_bounded}
+use Rattle.bac_completion.proofs.Asked.{after_ask, key, ask, made, made_over, made_bounded, made_path, there, stays, server_link, foreign}
 use Rattle.bac_completion.proofs.Following.{Followed, Parts, IsTaken, accepted, post, heard_now, told_over, Gives, step_followed, run_followed}
+
+-- Runs one after the other.
+
+pub run_join : (overtake : ℕ) (es fs : List Event) (u v w : World) → WorldRun overtake u es v → WorldRun overtake v fs w → WorldRun overtake u (es ++ fs) w
+run_join overtake [] fs u v w h k = subst (λ (y : World). WorldRun overtake y fs w) h k
+run_join overtake (e ∷ es) fs u v w h k = (h.0, h.1, run_join overtake es fs h.0 v w h.2 k)
+
+pub on_then : (i : ℕ) (es fs : List Event) → RunsOn i es → RunsOn i fs → RunsOn i (es ++ fs)
+on_then i [] fs h k = k
+on_then i (Event.Ask c s limits r ∷ es) fs h k = on_then i es fs h k
+on_then i (Event.Deliver number ∷ es) fs h k = on_then i es fs h k
+on_then i (Event.Noise node from octets ∷ es) fs h k = on_then i es fs h k
+on_then i (Event.Tick node ∷ es) fs h k = on_then i es fs h k
+on_then i (Event.Advance by ∷ es) fs h k = on_then i es fs h k
+on_then i (Event.Change node change ∷ es) fs h k = on_then i es fs h k
+on_then i (Event.Restart node store ∷ es) fs h k = (h.0, on_then i es fs h.1 k)
 
 -- Endings are counted alike in a log of octets and in the same log as values.
 
@@ -68,6 +84,7 @@ endings_alike n (f ∷ log) (v ∷ values) h = go f v h.0 (endings_alike n log v
     go (octets.Fact.Asked m c s q) (Asked k d u r) h again = again
     go (octets.Fact.Performed m q p) (Performed k r v) h again = again
     go (octets.Fact.Changed i o) (Changed j c) h again = again
+    go (octets.Fact.Restarted i o) (Restarted j s) h again = again
     go (octets.Fact.Ended m how) (Ended k v) h again =
         ap (λ (i : ℕ). if nat_eq i n then suc (endings_of n values) else endings_of n values) h.0
         ∙ ap (λ (i : ℕ). if nat_eq m n then suc i else i) again
@@ -191,6 +208,7 @@ module _ (links : ℕ → Option Octets) (apart : (i j : ℕ) (l : Octets) → l
   gives_any w n (Event.Tick node) = tt
   gives_any w n (Event.Advance by) = tt
   gives_any w n (Event.Change node change) = tt
+  gives_any w n (Event.Restart node store) = tt
 
   pub on_run : (events : List Event) (w w' : World) (n : Net) → Over links apart W x w n → WorldRun x.overtake w events w'
       → Followed links apart W x bound readable Any w' n
@@ -210,7 +228,7 @@ module _ (links : ℕ → Option Octets) (apart : (i j : ℕ) (l : Octets) → l
       → (key : Key) → key.client ≡ client → (t : Ticket) → n.tickets key ≡ Some t → is_idle t.phase ≡ false
       → (l : Octets) → links key.server ≡ Some l → w.now - t.ask.first ≤ DEADLINE
   open_in_time w w' n h client did now key is t at going l link = go (value_at same_key (slot_key l key.invoke_id) did.after.clients.slots) refl
-      (subst (λ (o : Option Ticket). TicketFits n.now w'.notes client (n.numbers own)
+      (subst (λ (o : Option Ticket). TicketFits (n.asks_from client) n.now w'.notes client (n.numbers own)
       (value_at same_key (slot_key l key.invoke_id) did.after.clients.slots) o) own_at fit)
     where
       own : Key
@@ -222,15 +240,15 @@ module _ (links : ℕ → Option Octets) (apart : (i j : ℕ) (l : Octets) → l
       own_at : n.tickets own ≡ Some t
       own_at = ap n.tickets own_is ∙ at
 
-      fit : TicketFits n.now w'.notes client (n.numbers own) (value_at same_key (slot_key l key.invoke_id) did.after.clients.slots) (n.tickets own)
+      fit : TicketFits (n.asks_from client) n.now w'.notes client (n.numbers own) (value_at same_key (slot_key l key.invoke_id) did.after.clients.slots) (n.tickets own)
       fit = (h.nodes client did.after did.acts.nodes.here).clients.found key.server l key.invoke_id link
 
       still : kept t ≡ Open t
       still = ap (λ (b : Bool). open_unless b t) going
 
       go : (o : Option Client) → value_at same_key (slot_key l key.invoke_id) did.after.clients.slots ≡ o
-          → TicketFits n.now w'.notes client (n.numbers own) o (Some t) → w.now - t.ask.first ≤ DEADLINE
-      go None look f = absurd (let z = sym going ∙ ended_is_silent.unheld n.now t f in cc)
+          → TicketFits (n.asks_from client) n.now w'.notes client (n.numbers own) o (Some t) → w.now - t.ask.first ≤ DEADLINE
+      go None look f = absurd (let z = sym going ∙ f.over in cc)
       go (Some v) look f = tick_leaves w.now did.before did.after did.outcome did.tick (slot_key l key.invoke_id) v.number t
           (look ∙ ap (λ (y : Held). Some (record { number = v.number; held = y })) (f.held ∙ still))
 
@@ -271,10 +289,10 @@ module _ (links : ℕ → Option Octets) (apart : (i j : ℕ) (l : Octets) → l
             omega arith
         go (inr ended) = let e = once w f.net f.over ended in omega arith
 
-    tick : (between : List Event) (late ticked : World) → WorldRun x.overtake asked between late → DEADLINE < late.now - old.now
+    tick : (between : List Event) (late ticked : World) → WorldRun x.overtake asked between late → RunsOn c between → DEADLINE < late.now - old.now
         → WorldStep x.overtake late (Tick c) ticked
         → (after : List Event) (w : World) → WorldRun x.overtake ticked after w → endings_of (length old.notes) w.log ≡ 1
-    tick between late ticked run over ticks after w run' = once w last.net last.over
+    tick between late ticked run on over ticks after w run' = once w last.net last.over
         (ended_grows n.asks then.net.log last.net.log (path_log x Any then.net last.net last.path) ended)
       where
         f : Followed links apart W x bound readable Any late first
@@ -292,9 +310,13 @@ module _ (links : ℕ → Option Octets) (apart : (i j : ℕ) (l : Octets) → l
         now : then.net.now ≡ late.now
         now = then.over.now ∙ ticks.acts.now
 
+        its_client_stays : ClientStays then.net asks_key its_ask
+        its_client_stays = stays links apart W x bound readable old n h c s limits r asked a parts (between ++ Tick c ∷ []) ticked
+            (run_join x.overtake between (Tick c ∷ []) asked late ticked run (ticked, ticks, refl)) (on_then c between (Tick c ∷ []) on tt) then.net then.over
+
         logged_first : IdleIsLogged first
         logged_first = logged_path x Any n first (made_path links apart W x bound readable old n h c s limits r asked a parts Any)
-            (never_bounded n h.sound.1) logged
+            (reached_bounded x n h.sound) logged
 
         logged_then : IdleIsLogged then.net
         logged_then = logged_path x Any first then.net path
@@ -306,7 +328,7 @@ module _ (links : ℕ → Option Octets) (apart : (i j : ℕ) (l : Octets) → l
           where
             by : (b : Bool) → is_idle t.ticket.phase ≡ b → HasEnded n.asks then.net.log
             by true idle = subst (λ (k : ℕ). HasEnded k then.net.log) t.number_is ((logged_then asks_key t.ticket t.at).1
-                (client_stays then.net then.over.sound.1 asks_key t.ticket.ask) idle)
+                (subst (ClientStays then.net asks_key) (sym t.is) its_client_stays) idle)
             by false going = absurd (
                 let young = open_in_time late ticked then.net then.over c ticks now asks_key refl t.ticket t.at going a.link
                 (server_link links apart W x bound readable old n h c s limits r asked a parts) in
@@ -317,7 +339,7 @@ module _ (links : ℕ → Option Octets) (apart : (i j : ℕ) (l : Octets) → l
 
         ended : HasEnded n.asks then.net.log
         ended = go (tracked_path x asks_key n.asks its_ask first then.net path
-            (made_bounded links apart W x bound readable old n h c s limits r asked a parts) (client_stays then.net then.over.sound.1 asks_key its_ask) logged_first
+            (made_bounded links apart W x bound readable old n h c s limits r asked a parts) its_client_stays logged_first
             (inl (there links apart W x bound readable old n h c s limits r asked a parts Any)))
 
     -- a copy of its server's that is heard
@@ -351,7 +373,7 @@ module _ (links : ℕ → Option Octets) (apart : (i j : ℕ) (l : Octets) → l
 
       known : (up : Up) × (down : Down) × Sound W z.other.key (m.serves_from z.other.key.server) m.now m.asks (m.numbers z.other.key) t.ticket (m.entries z.other.key)
           (one m z.other.key).copies m.log up down
-      known = sound_at W m z.other.key (Some t.ticket) at (reached_net W x bound m over.sound.0)
+      known = sound_at W m z.other.key (Some t.ticket) at (reached_net W x bound m over.sound)
 
       of_server : is_from_server z.other.copy.apdu ≡ true
       of_server = from_server W (m.numbers z.other.key) t.ticket.ask m.log known.0 known.1 z.other.copy.moment (later z.other.key number m.posts)
@@ -380,20 +402,23 @@ module _ (links : ℕ → Option Octets) (apart : (i j : ℕ) (l : Octets) → l
           log_is : (client_acts m z.other.key t.ticket turn).log ≡ octets.Fact.Ended n.asks Ending.Expired ∷ m.log
           log_is = (λ i. ended (number_is i) (client.ending_of (expires i)) m.log)
 
-    answer : (between : List Event) (late answered : World) → WorldRun x.overtake asked between late → DEADLINE < late.now - old.now
+    answer : (between : List Event) (late answered : World) → WorldRun x.overtake asked between late → RunsOn c between → DEADLINE < late.now - old.now
         → (number : ℕ) (d : Copy) → MayArrive x.overtake late number d → IsFromServer c s a.accepted.invoke_id d
         → WorldStep x.overtake late (Deliver number) answered
         → (after : List Event) (w : World) → WorldRun x.overtake answered after w → endings_of (length old.notes) w.log ≡ 1
-    answer between late answered run over number d may from did after w run' = go (tracked_path x asks_key n.asks its_ask first f.net f.path
-        (made_bounded links apart W x bound readable old n h c s limits r asked a parts) (client_stays f.net f.over.sound.1 asks_key its_ask) logged_first
+    answer between late answered run on over number d may from did after w run' = go (tracked_path x asks_key n.asks its_ask first f.net f.path
+        (made_bounded links apart W x bound readable old n h c s limits r asked a parts) its_client_stays logged_first
         (inl (there links apart W x bound readable old n h c s limits r asked a parts Any)))
       where
         f : Followed links apart W x bound readable Any late first
         f = followed between late run
 
+        its_client_stays : ClientStays f.net asks_key its_ask
+        its_client_stays = stays links apart W x bound readable old n h c s limits r asked a parts between late run on f.net f.over
+
         logged_first : IdleIsLogged first
         logged_first = logged_path x Any n first (made_path links apart W x bound readable old n h c s limits r asked a parts Any)
-            (never_bounded n h.sound.1) logged
+            (reached_bounded x n h.sound) logged
 
         then : Followed links apart W x bound readable Any answered f.net
         then = on_step late answered f.net f.over (Deliver number) did
@@ -413,7 +438,7 @@ module _ (links : ℕ → Option Octets) (apart : (i j : ℕ) (l : Octets) → l
             by : (b : Bool) → is_idle t.ticket.phase ≡ b → endings_of (length old.notes) w.log ≡ 1
             by true idle = was (subst (λ (k : ℕ). HasEnded k f.net.log) t.number_is
                 ((logged_path x Any first f.net f.path (made_bounded links apart W x bound readable old n h c s limits r asked a parts) logged_first asks_key
-                t.ticket t.at).1 (client_stays f.net f.over.sound.1 asks_key t.ticket.ask) idle))
+                t.ticket t.at).1 (subst (ClientStays f.net asks_key) (sym t.is) its_client_stays) idle))
             by false going = conclude (client_acts f.net _ t.ticket _) (told late answered f.net f.over over number d may from did t going)
                 (has_ended late answered f.net f.over over number d may from did t going)
 

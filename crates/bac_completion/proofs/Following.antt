@@ -16,11 +16,10 @@ use Rattle.bac_protocol.specs.Client.{Ticket}
 use Rattle.bac_protocol.specs.Server as server
 use Rattle.bac_protocol.specs.Server.{Service, server_ticks}
 use Rattle.bac_protocol.specs.Transaction.{Key, Rules, server_context}
-use Rattle.bac_protocol.specs.World.{Net, Post, asked_at, server_acts, notes_change, is_key_held, is_id_held}
+use Rattle.bac_protocol.specs.World.{Net, Post, asked_at, server_acts, notes_change, is_id_held, is_held_since, client_restarted}
 use Rattle.bac_protocol.specs.World as machine
 use Rattle.bac_protocol.specs.Moves.{taken_by_client, taken_by_server, ticket_ticked}
 use Rattle.bac_protocol.specs.Claims as claims
-use Rattle.bac_protocol.proofs.Unchanged.{never_waits}
 use Rattle.bac_slots.specs.Slots.{value_at}
 use Rattle.bac_ends.specs.Keys.{same_key}
 use Rattle.bac_ends.specs.Ends.{AskOutcome, act_at, is_free, client_asks}
@@ -30,7 +29,7 @@ use Rattle.bac_progress.proofs.Paths.Path.{Here, Then}
 use Rattle.bac_world.specs.Services.{ArePerformed}
 use Rattle.bac_world.specs.Node.{Node, Outcome, IsDropped, IsHeard, IsHeardBy, NodeOn}
 use Rattle.bac_world.specs.World.{World, Event, Copy, later, is_deliverable, peer_at, Acts, DeliversIf, Delivers, HearsNoise, IsAsked, WorldStep, WorldRun}
-use Rattle.bac_world.specs.World.Event.{Ask, Deliver, Noise, Tick, Advance, Change}
+use Rattle.bac_world.specs.World.Event.{Ask, Deliver, Noise, Tick, Advance, Change, Restart}
 use Rattle.bac_world.specs.Laws.{IsMeaningless}
 use Rattle.bac_world.proofs.NodeLaws.{drops_exactly}
 use Rattle.bac_world.proofs.Pairs.{IsPaired, pairwise_get}
@@ -38,10 +37,11 @@ use Rattle.bac_world.proofs.Bridge.{IsCopyOf, IsBetween, key_of, slot_key, frame
 use Rattle.bac_world.proofs.Steps.{Over}
 use Rattle.bac_world.proofs.Leads.{Leads}
 use Rattle.bac_world.proofs.Machines.{may_arrive}
-use Rattle.bac_world.proofs.Serving.{serves, served_so}
+use Rattle.bac_world.proofs.Serving.{room_is, serves, served_so}
 use Rattle.bac_world.proofs.Clients.{hears, quiet}
-use Rattle.bac_world.proofs.Asking.{IsAccepted, accepted_is, free_ticket, asks_with}
+use Rattle.bac_world.proofs.Asking.{IsAccepted, accepted_is, free_ticket, key_free, asks_with}
 use Rattle.bac_world.proofs.Ticking.{tick_over, tick_leads}
+use Rattle.bac_world.proofs.Restarting.{restarted_net, restarted_over}
 use Rattle.bac_world.proofs.Headline.{advanced_over, changed_over}
 use Rattle.bac_completion.specs.Runs.{Throughout}
 use Rattle.bac_completion.specs.RoundTrip.{MayArrive}
@@ -68,12 +68,12 @@ module _ (links : ℕ → Option Octets) (apart : (i j : ℕ) (l : Octets) → l
     abbrev pub asked_key : Key
     asked_key = key_of c s p.id
 
-    asked_unheld : is_key_held n.now (n.tickets (key_of c s p.id)) ≡ false
-    asked_unheld = free_ticket n.now w.notes c (n.numbers (key_of c s p.id)) (value_at same_key (slot_key a.link p.id) a.before.clients.slots)
+    asked_unheld : is_held_since (n.asks_from c) n.now (n.tickets (key_of c s p.id)) ≡ false
+    asked_unheld = free_ticket (n.asks_from c) n.now w.notes c (n.numbers (key_of c s p.id)) (value_at same_key (slot_key a.link p.id) a.before.clients.slots)
         (n.tickets (key_of c s p.id)) ((h.nodes c a.before a.at).clients.found s a.link p.id (sym (h.linked s) ∙ a.peer)) p.free
 
     pub asked_free : is_id_held n (key_of c s p.id) ≡ false
-    asked_free = (never_waits n h.sound.1).held (key_of c s p.id) ∙ asked_unheld
+    asked_free = key_free n (key_of c s p.id) a.before.clients (h.nodes c a.before a.at).asks p.awake asked_unheld
 
     abbrev pub asked_net : Net
     asked_net = asked_at x n (key_of c s p.id) (ask_of n.now (choice_of r) p.whole p.front p.rest)
@@ -256,7 +256,7 @@ module _ (links : ℕ → Option Octets) (apart : (i j : ℕ) (l : Octets) → l
               net = server_acts n p.key (served_so links apart W x n p (service_of t.before.store) t.before.servers);
               over = s.over;
               path = subst (λ (b : Bool). Path x Q n (server_acts n p.key (server.server_gets (server_context x p.key n.now)
-                  (service_of t.before.store) (n.entries p.key) b p.copy.apdu))) ((never_waits n h.sound.1).room p.key (is_free n.now t.before.servers))
+                  (service_of t.before.store) (n.entries p.key) b p.copy.apdu))) (room_is n p.key t.before.servers (h.nodes p.key.server t.before s.node).serves)
                   (Then n (taken_by_server x n p (is_free n.now t.before.servers) (service_of t.before.store)) Here
                   (Step.Serves number p (is_free n.now t.before.servers) (service_of t.before.store) comes_now up (gives w' p c t up)));
             }
@@ -320,6 +320,12 @@ module _ (links : ℕ → Option Octets) (apart : (i j : ℕ) (l : Octets) → l
       net = notes_change n node [];
       over = changed_over links apart W x bound readable w w' n h node change s;
       path = Then n (notes_change n node []) Here (Step.Changes node []);
+    }
+    step_followed w w' n h (Restart node store) gives s = record {
+      net = restarted_net n node;
+      over = restarted_over links apart W x bound w w' n h node store s;
+      path = Then (client_restarted n node) (restarted_net n node) (Then n (client_restarted n node) Here (Step.RestartsClient node))
+          (Step.RestartsServer node None);
     }
 
     -- and every run, where what is said of its events gives that

@@ -1,5 +1,5 @@
 -- The laws on endings and answers, and the path of single steps that stands under them.
-pub mod Never
+pub mod Staying
 pub mod Following
 pub mod Asked
 pub mod Endings

@@ -1,7 +1,6 @@
 -- Repeats suffice, in every world.
 use Rattle.std.proofs.Common.{◌≡◌, ◌⊎◌, ℕ, ◌+◌, ◌-◌, ◌<◌, ◌≤◌, Bool, true, false, List, [], ◌∷◌, ◌++◌, map, length, Option, Some, None, slice_get}
 use Rattle.std.proofs.Common.{refl, sym, ap, subst, inl, inr, ◌∙◌, arith}
-use Rattle.std.specs.Option.{option_map}
 use Rattle.bac_apdu.specs.Apdu.{Apdu, Limits}
 use Rattle.bac_segment.specs.Pieces.{join}
 use Rattle.bac_service.specs.Services.{reads_reply}
@@ -26,9 +25,7 @@ use Rattle.bac_protocol.specs.World.{Net, Post, post_of, asked_at, client_acts, 
 use Rattle.bac_protocol.specs.Moves.{taken_by_client}
 use Rattle.bac_protocol.specs.Straight.{KindFits}
 use Rattle.bac_protocol.specs.Claims as claims
-use Rattle.bac_protocol.proofs.Dead.{ended_is_silent}
 use Rattle.bac_protocol.proofs.SingleMoves.{reached_net, reached_calm}
-use Rattle.bac_protocol.proofs.Unchanged.{never_waits}
 use Rattle.bac_progress.specs.RoundTrip.{FitsInOne, request_to, answer_to}
 use Rattle.bac_progress.specs.Repeats as machine
 use Rattle.bac_progress.specs.Repeats.{PATIENCE}
@@ -45,12 +42,13 @@ use Rattle.bac_entry.specs.Services.{service_of}
 use Rattle.bac_world.specs.Services.{Performed, ArePerformed}
 use Rattle.bac_world.specs.Node.{Node}
 use Rattle.bac_world.specs.Once.{Stores, IsOnce}
-use Rattle.bac_world.specs.World.{World, Event, Copy, WorldStep, WorldRun, IsFresh, IsBounded, IsAsked, link_at, stores_of, peer_at}
+use Rattle.bac_world.specs.World.{World, Event, Copy, WorldStep, WorldRun, IsFresh, IsBounded, IsAsked, RunsOn, link_at, stores_of, peer_at}
 use Rattle.bac_world.specs.World.Event.{Deliver}
 use Rattle.bac_world.proofs.Pairs.{IsPaired}
 use Rattle.bac_world.proofs.Logs.{FactMeans}
 use Rattle.bac_world.proofs.Bridge.{IsCopyOf, IsBetween, TicketFits, key_of, slot_key}
 use Rattle.bac_world.proofs.Steps.{Over}
+use Rattle.bac_world.proofs.Serving.{room_is}
 use Rattle.bac_world.proofs.Asking.{accepted_whole}
 use Rattle.bac_world.proofs.Headline.{headline, fresh_over, rules_of, rules_bounded}
 use Rattle.bac_completion.specs.Runs.{Throughout}
@@ -58,16 +56,11 @@ use Rattle.bac_completion.specs.RoundTrip.{MayArrive, IsRequest, CanPerform, IsA
 use Rattle.bac_completion.specs.Repeats.{FindsServer, IsWaiting, IsRobust, RepeatsSuffice}
 use Rattle.bac_completion.proofs.Following.{Gives, Followed, Parts, IsTaken, IsServedBy, served_reaction, accepted, asked_free, post, comes, heard_now}
 use Rattle.bac_completion.proofs.Following.{served_over, told_over, run_followed}
-use Rattle.bac_completion.proofs.Never.{client_stays}
-use Rattle.bac_completion.proofs.Asked.{key, ask, made, made_over, client_link, server_link, foreign, request_is, is_request, pairwise_rest, just_one}
-use Rattle.bac_completion.proofs.Endings.{on_run}
+use Rattle.bac_completion.proofs.Asked.{key, ask, made, made_over, node_at, stays, client_link, server_link, foreign, request_is, is_request}
+use Rattle.bac_completion.proofs.Asked.{pairwise_rest, just_one}
+use Rattle.bac_completion.proofs.Endings.{run_join, on_run}
 use Rattle.bac_completion.proofs.Performing.{id_is, is_none, entry_is, slot, outcome, way, does, reaction}
-use Rattle.bac_completion.proofs.RoundTrips.{run_join}
 use Rattle.bac_completion.proofs.Values.{answered_values, reply_kind}
-
-node_at : (l : Octets) (o : Option Node) → option_map (λ (b : Node). b.link) o ≡ Some l → (b : Node) × (o ≡ Some b)
-node_at l None e = absurd cc
-node_at l (Some b) e = (b, refl)
 
 -- what was performed has a kind that fits
 effect_kind : (readable : _) (store : Store) (q : PeerKey) (choice : ℕ) (text : Octets) (reply : Reply) (o : Option Performed)
@@ -148,18 +141,20 @@ module _ (links : ℕ → Option Octets) (apart : (i j : ℕ) (l : Octets) → l
   gives w m over (Deliver number) f = λ w' y d t up on none.
       let same = some_is y on.post (sym t.at ∙ on.at) in
       let found = finds w w' m over number y d t (ap (λ (z : Post). z.key) same ∙ on.key_is) (ap (λ (z : Post). z.copy.apdu) same ∙ on.apdu_is) f none in
-      (found.0, (never_waits m over.sound.1).room its_key (is_free m.now t.before.servers) ∙ found.1, found.2, found.3)
+      let node = at w w' m over number y d t (ap (λ (z : Post). z.key) same ∙ on.key_is) (ap (λ (z : Post). z.copy.apdu) same ∙ on.apdu_is) in
+      (found.0, room_is m its_key t.before.servers (over.nodes s t.before node).serves ∙ found.1, found.2, found.3)
   gives w m over (Event.Noise node from data') f = tt
   gives w m over (Event.Tick node) f = tt
   gives w m over (Event.Advance by) f = tt
   gives w m over (Event.Change node change) f = tt
+  gives w m over (Event.Restart node store) f = tt
 
   -- It is waited for.
 
   first_on : On first
   first_on = subst (λ (b : Bool). Waits x its_key (ask_of n.now (choice_of r) b p.front p.rest) n.asks
       (asked_at x n its_key (ask_of n.now (choice_of r) b p.front p.rest))) (sym whole)
-      (asked_on W x n (reached_net W x bound n h.sound.0) its_key (choice_of r) p.front p.rest (reached_calm W x bound n h.sound.0)
+      (asked_on W x n (reached_net W x bound n h.sound) its_key (choice_of r) p.front p.rest (reached_calm W x bound n h.sound)
       (asked_free links apart W x bound readable old n h c s limits r asked a p))
 
   followed : (events : List Event) (w : World) (run : WorldRun x.overtake asked events w) → Throughout x.overtake Finding asked events w run
@@ -186,7 +181,7 @@ module _ (links : ℕ → Option Octets) (apart : (i j : ℕ) (l : Octets) → l
   waiting : (w : World) (m : Net) → Over links apart W x w m → m.now < its_ask.first + PATIENCE → (o : On m) → (t : Ticket) → m.tickets its_key ≡ Some t
       → t.phase ≡ AwaitConfirmation → (T_OUT ≤ m.now - t.since → 0 < t.repeats) → IsWaiting w c a.link a.accepted.invoke_id
   waiting w m over young o t at waits left = go (value_at same_key (slot_key a.link p.id) node.0.clients.slots) refl
-      (subst (λ (z : Option Ticket). TicketFits m.now w.notes c (m.numbers its_key) (value_at same_key (slot_key a.link p.id) node.0.clients.slots) z) at
+      (subst (λ (z : Option Ticket). TicketFits (m.asks_from c) m.now w.notes c (m.numbers its_key) (value_at same_key (slot_key a.link p.id) node.0.clients.slots) z) at
       ((over.nodes c node.0 node.1).clients.found s a.link p.id (server_link links apart W x bound readable old n h c s limits r asked a p)))
     where
       node : (b : Node) × (slice_get w.nodes c ≡ Some b)
@@ -197,8 +192,8 @@ module _ (links : ℕ → Option Octets) (apart : (i j : ℕ) (l : Octets) → l
       going = ap is_idle waits
 
       go : (v : Option Client) → value_at same_key (slot_key a.link p.id) node.0.clients.slots ≡ v
-          → TicketFits m.now w.notes c (m.numbers its_key) v (Some t) → IsWaiting w c a.link a.accepted.invoke_id
-      go None look f = absurd (let z = sym going ∙ ended_is_silent.unheld m.now t f in cc)
+          → TicketFits (m.asks_from c) m.now w.notes c (m.numbers its_key) v (Some t) → IsWaiting w c a.link a.accepted.invoke_id
+      go None look f = absurd (let z = sym going ∙ f.over in cc)
       go (Some v) look f = record {
         node = node.0;
         at = node.1;
@@ -212,8 +207,8 @@ module _ (links : ℕ → Option Octets) (apart : (i j : ℕ) (l : Octets) → l
       }
 
   waits : (events : List Event) (w : World) (run : WorldRun x.overtake asked events w) → Throughout x.overtake Finding asked events w run
-      → w.now < old.now + PATIENCE → IsWaiting w c a.link a.accepted.invoke_id ⊎ IsAnswered (length old.notes) r w.log
-  waits events w run each young = go o.ticket.state
+      → RunsOn c events → w.now < old.now + PATIENCE → IsWaiting w c a.link a.accepted.invoke_id ⊎ IsAnswered (length old.notes) r w.log
+  waits events w run each life young = go o.ticket.state
     where
       f : Followed links apart W x bound readable Goes w first
       f = followed events w run each
@@ -226,7 +221,8 @@ module _ (links : ℕ → Option Octets) (apart : (i j : ℕ) (l : Octets) → l
       go (inl k) = inl (waiting w f.net f.over (patience w f.net f.over young) o o.ticket.ticket o.ticket.at k.waits
           (λ due. repeat_left x its_key its_ask n.asks f.net.now o.ticket.ticket k (patience w f.net f.over young) due))
       go (inr (idle, inl answered)) = inr (answered_as w f.net f.net.log f.over.log (once events w run) answered)
-      go (inr (idle, inr lost)) = let stays = client_stays f.net f.over.sound.1 its_key its_ask in absurd (omega arith)
+      go (inr (idle, inr lost)) =
+          let made_since = stays links apart W x bound readable old n h c s limits r asked a p events w run life f.net f.over in absurd (omega arith)
 
   -- A copy of the request brings an answer.
 
@@ -284,7 +280,7 @@ module _ (links : ℕ → Option Octets) (apart : (i j : ℕ) (l : Octets) → l
 
   -- An answer is delivered.
 
-  module _ (events : List Event) (w answered : World) (run : WorldRun x.overtake asked events w) (m : Net) (over : Over links apart W x w m) (on : On m)
+  module _ (events : List Event) (w answered : World) (run : WorldRun x.overtake asked events w) (life : RunsOn c events) (m : Net) (over : Over links apart W x w m) (on : On m)
       (young : m.now < its_ask.first + PATIENCE) (number : ℕ) (d : Copy) (may : MayArrive x.overtake w number d)
       (from : IsFromServer c s a.accepted.invoke_id d) (did : WorldStep x.overtake w (Deliver number) answered) where
     abbrev z : IsPaired (IsCopyOf links apart) m.posts number d
@@ -325,17 +321,17 @@ module _ (links : ℕ → Option Octets) (apart : (i j : ℕ) (l : Octets) → l
         (once (events ++ Deliver number ∷ []) answered
         (run_join x.overtake events (Deliver number ∷ []) asked w answered run (answered, did, refl)))
         (subst (λ (k : ℕ). machine.IsAnswered n.asks its_ask (log_after k)) (sym on.number_is)
-        (told_answered x its_key its_ask n.asks m on young (client_stays m over.sound.1 its_key its_ask) on.ticket.ticket on.ticket.at fine.0 fine.2))
+        (told_answered x its_key its_ask n.asks m on young (stays links apart W x bound readable old n h c s limits r asked a p events w run life m over) on.ticket.ticket on.ticket.at fine.0 fine.2))
 
   pub robust : IsRobust x.overtake old c s limits r asked a
   robust = record {
-    waits = λ events w run each young. waits events w run each young;
+    waits = λ events w run each life young. waits events w run each life young;
     brings = λ events w run each young number d may q f served did.
         let g = followed events w run each in
         brings_one w served g.net g.over (on_of w g young) (patience w g.net g.over young) number d may q f did;
-    answers = λ events w run each young number d may from answered did.
+    answers = λ events w run each life young number d may from answered did.
         let g = followed events w run each in
-        is_answered events w answered run g.net g.over (on_of w g young) (patience w g.net g.over young) number d may from did;
+        is_answered events w answered run life g.net g.over (on_of w g young) (patience w g.net g.over young) number d may from did;
   }
 
 pub repeats_suffice : (W overtake : ℕ) (opening reached : World) → IsFresh opening → IsBounded W overtake opening

@@ -23,6 +23,7 @@ use Rattle.bac_protocol.specs.World.{Net, Post, post_of, client_acts, server_act
 use Rattle.bac_protocol.specs.Moves.{taken_by_client}
 use Rattle.bac_protocol.specs.Straight.{KindFits}
 use Rattle.bac_protocol.specs.Claims as claims
+use Rattle.bac_protocol.specs.Claims.{ClientStays}
 use Rattle.bac_protocol.proofs.Keys.{set_same}
 use Rattle.bac_protocol.proofs.SingleMoves.{reached_net}
 use Rattle.bac_progress.specs.RoundTrip.{FitsInOne, request_to, answer_to}
@@ -37,7 +38,7 @@ use Rattle.bac_progress.proofs.Robust.{at_end}
 use Rattle.bac_ends.specs.Sends.{Pairwise}
 use Rattle.bac_world.specs.Node.{Node}
 use Rattle.bac_world.specs.Once.{Stores, IsOnce}
-use Rattle.bac_world.specs.World.{World, Event, Copy, WorldStep, WorldRun, IsFresh, IsBounded, IsAsked, link_at, stores_of, peer_at}
+use Rattle.bac_world.specs.World.{World, Event, Copy, WorldStep, WorldRun, IsFresh, IsBounded, IsAsked, RunsOn, link_at, stores_of, peer_at}
 use Rattle.bac_world.specs.World.Event.{Deliver}
 use Rattle.bac_world.proofs.Pairs.{IsPaired}
 use Rattle.bac_world.proofs.Bridge.{IsCopyOf}
@@ -47,16 +48,12 @@ use Rattle.bac_world.proofs.Headline.{headline, fresh_over, rules_of, rules_boun
 use Rattle.bac_completion.specs.Runs.{endings_of}
 use Rattle.bac_completion.specs.RoundTrip.{MayArrive, IsRequest, CanPerform, IsAnswered, IsServed, RoundTripSuffices}
 use Rattle.bac_completion.proofs.Following.{Followed, Parts, IsTaken, IsServedBy, served_reaction, accepted, post, heard_now, served_over, told_over}
-use Rattle.bac_completion.proofs.Never.{never_bounded, client_stays}
-use Rattle.bac_completion.proofs.Asked.{key, ask, made, made_over, made_bounded, made_path, there, foreign, request_is, pairwise_rest, pairwise_length}
+use Rattle.bac_completion.proofs.Staying.{reached_bounded}
+use Rattle.bac_completion.proofs.Asked.{key, ask, made, made_over, made_bounded, made_path, there, stays, foreign, request_is, pairwise_rest, pairwise_length}
 use Rattle.bac_completion.proofs.Asked.{just_one}
-use Rattle.bac_completion.proofs.Endings.{on_run, once_in}
+use Rattle.bac_completion.proofs.Endings.{run_join, on_then, on_run, once_in}
 use Rattle.bac_completion.proofs.Performing.{way, does, reaction}
 use Rattle.bac_completion.proofs.Values.{answered_values, kind_fits}
-
-pub run_join : (overtake : ℕ) (es fs : List Event) (u v w : World) → WorldRun overtake u es v → WorldRun overtake v fs w → WorldRun overtake u (es ++ fs) w
-run_join overtake [] fs u v w h k = subst (λ (y : World). WorldRun overtake y fs w) h k
-run_join overtake (e ∷ es) fs u v w h k = (h.0, h.1, run_join overtake es fs h.0 v w h.2 k)
 
 module _ (links : ℕ → Option Octets) (apart : (i j : ℕ) (l : Octets) → links i ≡ Some l → links j ≡ Some l → i ≡ j) (W : ℕ) (x : Rules)
     (bound : claims.IsBounded W x) (readable : x.readable ≡ reads_reply) (opening : Stores) (old : World) (n : Net) (h : Over links apart W x old n)
@@ -74,34 +71,35 @@ module _ (links : ℕ → Option Octets) (apart : (i j : ℕ) (l : Octets) → l
 
   logged_on : (m : Net) → Path x Any first m → IdleIsLogged m
   logged_on m path = logged_path x Any first m path (made_bounded links apart W x bound readable old n h c s limits r asked a p)
-      (logged_path x Any n first (made_path links apart W x bound readable old n h c s limits r asked a p Any) (never_bounded n h.sound.1) logged)
+      (logged_path x Any n first (made_path links apart W x bound readable old n h c s limits r asked a p Any) (reached_bounded x n h.sound) logged)
 
   -- an ask that has no ending is open
   abbrev IsOpenIn : Net → Type 0
   IsOpenIn m = (t : IsThere x Any its_key n.asks its_ask m) × (is_idle t.ticket.phase ≡ false)
 
-  unended_open : (w : World) (m : Net) → Over links apart W x w m → endings_of (length old.notes) w.log ≡ 0 → IdleIsLogged m
-      → IsThere x Any its_key n.asks its_ask m → IsOpenIn m
-  unended_open w m over none log t = go (is_idle t.ticket.phase) refl
+  unended_open : (w : World) (m : Net) → Over links apart W x w m → ClientStays m its_key its_ask → endings_of (length old.notes) w.log ≡ 0
+      → IdleIsLogged m → IsThere x Any its_key n.asks its_ask m → IsOpenIn m
+  unended_open w m over life none log t = go (is_idle t.ticket.phase) refl
     where
       go : (b : Bool) → is_idle t.ticket.phase ≡ b → IsOpenIn m
       go false e = (t, e)
       go true e = absurd (
           let ended = subst (λ (k : ℕ). HasEnded k m.log) t.number_is
-          ((log its_key t.ticket t.at).1 (client_stays m over.sound.1 its_key t.ticket.ask) e) in
+          ((log its_key t.ticket t.at).1 (subst (ClientStays m its_key) (sym t.is) life) e) in
           let one = once_in links apart W x bound readable w m over n.asks ended in
           let zero = subst (λ (k : ℕ). endings_of k w.log ≡ 0) (sym h.asks) none in
           omega arith
           )
 
-  open_in : (w : World) (m : Net) → Path x Any first m → Over links apart W x w m → endings_of (length old.notes) w.log ≡ 0 → IsOpenIn m
-  open_in w m path over none = go (tracked_path x its_key n.asks its_ask first m path
-      (made_bounded links apart W x bound readable old n h c s limits r asked a p) (client_stays m over.sound.1 its_key its_ask)
-      (logged_path x Any n first (made_path links apart W x bound readable old n h c s limits r asked a p Any) (never_bounded n h.sound.1) logged)
+  open_in : (w : World) (m : Net) → Path x Any first m → Over links apart W x w m → ClientStays m its_key its_ask
+      → endings_of (length old.notes) w.log ≡ 0 → IsOpenIn m
+  open_in w m path over life none = go (tracked_path x its_key n.asks its_ask first m path
+      (made_bounded links apart W x bound readable old n h c s limits r asked a p) life
+      (logged_path x Any n first (made_path links apart W x bound readable old n h c s limits r asked a p Any) (reached_bounded x n h.sound) logged)
       (inl (there links apart W x bound readable old n h c s limits r asked a p Any)))
     where
       go : Tracked x its_key n.asks its_ask m → IsOpenIn m
-      go (inl t) = unended_open w m over none (logged_on m path) t
+      go (inl t) = unended_open w m over life none (logged_on m path) t
       go (inr ended) = absurd (
           let one = once_in links apart W x bound readable w m over n.asks ended in
           let zero = subst (λ (k : ℕ). endings_of k w.log ≡ 0) (sym h.asks) none in
@@ -116,7 +114,7 @@ module _ (links : ℕ → Option Octets) (apart : (i j : ℕ) (l : Octets) → l
 
   -- A copy of the request is performed.
 
-  module _ (before : List Event) (w served : World) (run : WorldRun x.overtake asked before w) (m : Net) (path : Path x Any first m)
+  module _ (before : List Event) (w served : World) (run : WorldRun x.overtake asked before w) (on : RunsOn c before) (m : Net) (path : Path x Any first m)
       (over : Over links apart W x w m) (t : IsThere x Any its_key n.asks its_ask m) (number : ℕ) (d : Copy)
       (may : MayArrive x.overtake w number d) (q : IsRequest a.sent d) (node : Node) (at : slice_get w.nodes s ≡ Some node)
       (can : CanPerform w.now a.before node a.accepted.invoke_id r) (did : WorldStep x.overtake w (Deliver number) served) where
@@ -184,7 +182,7 @@ module _ (links : ℕ → Option Octets) (apart : (i j : ℕ) (l : Octets) → l
 
     -- The answer is delivered.
 
-    module _ (between : List Event) (v answered : World) (after : WorldRun x.overtake served between v)
+    module _ (between : List Event) (v answered : World) (after : WorldRun x.overtake served between v) (on_between : RunsOn c between)
         (unended : endings_of (length old.notes) v.log ≡ 0) (young : v.now - old.now ≤ DEADLINE)
         (comes : MayArrive x.overtake v (length w.copies) one.0) (hears : WorldStep x.overtake v (Deliver (length w.copies)) answered) where
       f : Followed links apart W x bound readable Any v u
@@ -213,14 +211,19 @@ module _ (links : ℕ → Option Octets) (apart : (i j : ℕ) (l : Octets) → l
 
       kept_then : IsAwaited x Any its_key n.asks its_ask answer (answer_whole x its_key its_ask can.reply) f.net
       kept_then = awaited_path x Any its_key n.asks its_ask answer (answer_whole x its_key its_ask can.reply) u f.net f.path
-          (awaited_at W x its_key its_ask n.asks m.now can.reply since u (reached_net W x bound u u_over.sound.0) kept (inl whole)) in_time
+          (awaited_at W x its_key its_ask n.asks m.now can.reply since u (reached_net W x bound u u_over.sound) kept (inl whole)) in_time
 
       logged_then : IdleIsLogged f.net
-      logged_then = logged_path x Any u f.net f.path (never_bounded u u_over.sound.1)
+      logged_then = logged_path x Any u f.net f.path (reached_bounded x u u_over.sound)
           (λ k z is_at. let e = logged_on m path k z is_at in (e.0, λ stays idle. let ended = e.1 stays idle in (ended.0, inr ended.1)))
 
+      life : ClientStays f.net its_key its_ask
+      life = stays links apart W x bound readable old n h c s limits r asked a p (before ++ Deliver number ∷ between) v
+          (run_join x.overtake before (Deliver number ∷ between) asked w v run (served, did, after)) (on_then c before (Deliver number ∷ between) on on_between)
+          f.net f.over
+
       going : is_idle kept_then.there.ticket.phase ≡ false
-      going = still (unended_open v f.net f.over unended logged_then kept_then.there)
+      going = still (unended_open v f.net f.over life unended logged_then kept_then.there)
         where
           still : IsOpenIn f.net → is_idle kept_then.there.ticket.phase ≡ false
           still o = subst (λ (z : Ticket). is_idle z.phase ≡ false)
@@ -276,22 +279,23 @@ module _ (links : ℕ → Option Octets) (apart : (i j : ℕ) (l : Octets) → l
           grown : (q : octets.Fact) → octets.Has q ended_net.log → octets.Has q end.net.log
           grown q has = path_log x Any ended_net end.net end.path q has
 
-    is_served : IsServed x.overtake old r w served
+    is_served : IsServed x.overtake old c r w served
     is_served = record {
       answer = one.0;
       sent = taken.acts.copies ∙ ap (λ (cs : List Copy). w.copies ++ cs) one.1;
-      answered = λ between v answered after unended young comes hears more last ran.
-          is_answered between v answered after unended young comes hears more last ran;
+      answered = λ between v answered after on_between unended young comes hears more last ran.
+          is_answered between v answered after on_between unended young comes hears more last ran;
     }
 
-  pub suffices : (before : List Event) (w served : World) → WorldRun x.overtake asked before w → endings_of (length old.notes) w.log ≡ 0
+  pub suffices : (before : List Event) (w served : World) → WorldRun x.overtake asked before w → RunsOn c before → endings_of (length old.notes) w.log ≡ 0
       → (number : ℕ) (d : Copy) → MayArrive x.overtake w number d → IsRequest a.sent d
       → (node : Node) → slice_get w.nodes s ≡ Some node → CanPerform w.now a.before node a.accepted.invoke_id r
-      → WorldStep x.overtake w (Deliver number) served → IsServed x.overtake old r w served
-  suffices before w served run none number d may q node at can did =
+      → WorldStep x.overtake w (Deliver number) served → IsServed x.overtake old c r w served
+  suffices before w served run on none number d may q node at can did =
       let f = on_run links apart W x bound readable before asked w first (made_over links apart W x bound readable old n h c s limits r asked a p) run in
-      let o = open_in w f.net f.path f.over none in
-      is_served before w served run f.net f.path f.over o.0 number d may q node at can did
+      let life = stays links apart W x bound readable old n h c s limits r asked a p before w run on f.net f.over in
+      let o = open_in w f.net f.path f.over life none in
+      is_served before w served run on f.net f.path f.over o.0 number d may q node at can did
 
 pub round_trip_suffices : (W overtake : ℕ) (opening reached : World) → IsFresh opening → IsBounded W overtake opening
     → (events : List Event) → WorldRun overtake opening events reached → RoundTripSuffices overtake reached

@@ -15,7 +15,7 @@ use Rattle.bac_ends.specs.Ends.Held.{Open, Closed}
 use Rattle.bac_world.specs.Node.{Node, Outcome, NodeTick}
 use Rattle.bac_world.specs.Laws.{Gets}
 use Rattle.bac_world.specs.Keys.{HasKeysApart}
-use Rattle.bac_world.specs.World.{World, Copy, Event, WorldStep, WorldRun, IsAsked}
+use Rattle.bac_world.specs.World.{World, Copy, Event, WorldStep, WorldRun, IsAsked, RunsOn}
 use Rattle.bac_world.specs.World.Event.{Deliver, Tick}
 use Rattle.bac_completion.specs.Runs.{endings_of}
 use Rattle.bac_completion.specs.RoundTrip.{MayArrive, IsFromServer}
@@ -66,13 +66,14 @@ AnswerEnds =
 -- In every world.
 
 -- the next ask is accepted: until DEADLINE and beyond it ends at most once; a tick of its client more than DEADLINE later, or a copy of its server's in
--- this transaction that is delivered then, leaves it ended, once, for good, whatever happens in between and afterwards
+-- this transaction that is delivered then, leaves it ended, once, for good, whatever happens in between, but for a restart of its client, and afterwards
 pub record EndsInTime (overtake : ℕ) (old : World) (client server : ℕ) (invoke_id : ℕ) (asked : World) : Type 0 where
   pub before : (events : List Event) (w : World) → WorldRun overtake asked events w → endings_of (length old.notes) w.log ≤ 1
-  pub tick : (between : List Event) (late ticked : World) → WorldRun overtake asked between late → DEADLINE < late.now - old.now
+  pub tick : (between : List Event) (late ticked : World) → WorldRun overtake asked between late → RunsOn client between → DEADLINE < late.now - old.now
       → WorldStep overtake late (Tick client) ticked
       → (after : List Event) (w : World) → WorldRun overtake ticked after w → endings_of (length old.notes) w.log ≡ 1
-  pub answer : (between : List Event) (late answered : World) → WorldRun overtake asked between late → DEADLINE < late.now - old.now
+  pub answer : (between : List Event) (late answered : World) → WorldRun overtake asked between late → RunsOn client between
+      → DEADLINE < late.now - old.now
       → (number : ℕ) (c : Copy) → MayArrive overtake late number c → IsFromServer client server invoke_id c → WorldStep overtake late (Deliver number) answered
       → (after : List Event) (w : World) → WorldRun overtake answered after w → endings_of (length old.notes) w.log ≡ 1
 

@@ -5,7 +5,7 @@ use Rattle.bac_service.specs.Values.{Request}
 use Rattle.bac_protocol.specs.Server.{live_entry}
 use Rattle.bac_slots.specs.Slots.{value_at}
 use Rattle.bac_ends.specs.Keys.{same_key}
-use Rattle.bac_ends.specs.Ends.{is_id_held}
+use Rattle.bac_ends.specs.Ends.{is_id_taken}
 use Rattle.bac_world.specs.Node.{Node}
 use Rattle.bac_world.specs.World.{World, IsAsked, peer_at}
 
@@ -14,9 +14,10 @@ abbrev pub HasNoneLive : (now : ℕ) → (server client : Node) → (invoke_id :
 HasNoneLive now server client invoke_id =
     live_entry now (value_at same_key (record { peer = peer_at client.link; invoke_id = invoke_id }) server.servers.slots) ≡ None
 
--- where a client holds no slot with an invoke ID for a server, that server has no live entry of it; so the server of an accepted ask has none for it
+-- where a client does not wait after a restart and holds no slot with an invoke ID for a server, that server has no live entry of it; so the server of an
+-- accepted ask has none for it
 pub record FreeIdsAreUnused (w : World) : Type 0 where
   pub free : (i j : ℕ) (client server : Node) → slice_get w.nodes i ≡ Some client → slice_get w.nodes j ≡ Some server
-      → (invoke_id : ℕ) → is_id_held w.now client.clients.slots (peer_at server.link) invoke_id ≡ false → HasNoneLive w.now server client invoke_id
+      → (invoke_id : ℕ) → is_id_taken w.now client.clients (peer_at server.link) invoke_id ≡ false → HasNoneLive w.now server client invoke_id
   pub asked : (i j : ℕ) (limits : Limits) (r : Request) (new : World) → (asks : IsAsked w i j limits r new)
       → (server : Node) → slice_get w.nodes j ≡ Some server → HasNoneLive w.now server asks.before asks.accepted.invoke_id

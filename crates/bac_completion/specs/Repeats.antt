@@ -11,7 +11,7 @@ use Rattle.bac_progress.specs.Repeats.{PATIENCE}
 use Rattle.bac_slots.specs.Slots.{value_at}
 use Rattle.bac_ends.specs.Keys.{same_key}
 use Rattle.bac_world.specs.Node.{Node}
-use Rattle.bac_world.specs.World.{World, Copy, Event, WorldStep, WorldRun, IsAsked, peer_at}
+use Rattle.bac_world.specs.World.{World, Copy, Event, WorldStep, WorldRun, IsAsked, RunsOn, peer_at}
 use Rattle.bac_world.specs.World.Event.{Deliver}
 use Rattle.bac_completion.specs.Runs.{Throughout}
 use Rattle.bac_completion.specs.RoundTrip.{MayArrive, IsFromServer, IsWhole, IsRequest, CanPerform, IsAnswered}
@@ -42,9 +42,9 @@ InPatience old new = new.now < old.now + PATIENCE
 -- the next ask, of one APDU, is accepted; as long as each copy of its request that is delivered finds its server, and PATIENCE has not passed:
 pub record IsRobust (overtake : ℕ) (old : World) (client server : ℕ) (limits : Limits) (r : Request) (asked : World)
     (a : IsAsked old client server limits r asked) : Type 0 where
-  -- it is waited for or answered, whatever is lost, repeated, reordered or asked of others
+  -- it is waited for or answered, whatever is lost, repeated, reordered or asked of others, where its client does not restart
   pub waits : (events : List Event) (w : World) (run : WorldRun overtake asked events w)
-      → Throughout overtake (FindsServer overtake server a.before a.accepted.invoke_id r a.sent) asked events w run → InPatience old w
+      → Throughout overtake (FindsServer overtake server a.before a.accepted.invoke_id r a.sent) asked events w run → RunsOn client events → InPatience old w
       → IsWaiting w client a.link a.accepted.invoke_id ⊎ IsAnswered (length old.notes) r w.log
   -- each copy of its request that is delivered brings one answer
   pub brings : (events : List Event) (w : World) (run : WorldRun overtake asked events w)
@@ -54,9 +54,9 @@ pub record IsRobust (overtake : ℕ) (old : World) (client server : ℕ) (limits
       → (served : World) → WorldStep overtake w (Deliver number) served
       → (answer : Copy)
       × (served.copies ≡ w.copies ++ answer ∷ []) × IsFromServer client server a.accepted.invoke_id answer
-  -- and each answer that is delivered leaves it answered
+  -- and each answer that is delivered leaves it answered, where its client does not restart
   pub answers : (events : List Event) (w : World) (run : WorldRun overtake asked events w)
-      → Throughout overtake (FindsServer overtake server a.before a.accepted.invoke_id r a.sent) asked events w run → InPatience old w
+      → Throughout overtake (FindsServer overtake server a.before a.accepted.invoke_id r a.sent) asked events w run → RunsOn client events → InPatience old w
       → (number : ℕ) (answer : Copy) → MayArrive overtake w number answer → IsFromServer client server a.accepted.invoke_id answer
       → (answered : World) → WorldStep overtake w (Deliver number) answered → IsAnswered (length old.notes) r answered.log
 

@@ -19,7 +19,7 @@ use Rattle.bac_entry.specs.Services.{outcome_of}
 use Rattle.bac_world.specs.Node.{Node}
 use Rattle.bac_world.specs.Once.{Fact, Has}
 use Rattle.bac_world.specs.Once.Fact.{Performed, Ended}
-use Rattle.bac_world.specs.World.{World, Copy, Event, WorldStep, WorldRun, IsAsked, is_deliverable, peer_at}
+use Rattle.bac_world.specs.World.{World, Copy, Event, WorldStep, WorldRun, IsAsked, RunsOn, is_deliverable, peer_at}
 use Rattle.bac_world.specs.World.Event.{Deliver}
 use Rattle.bac_completion.specs.Runs.{endings_of}
 
@@ -59,11 +59,11 @@ pub record IsAnswered (n : ℕ) (r : Request) (log : List Fact) : Type 0 where
   pub ended : Has (Ended n (Answered reply)) log
 
 -- a copy of the request was delivered in world w: one answer was sent, and where, after any further events, it is delivered while the ask is open and in
--- time, the ask is answered, whatever happens after that
-pub record IsServed (overtake : ℕ) (old : World) (r : Request) (w served : World) : Type 0 where
+-- time, and its client has not restarted, the ask is answered, whatever happens after that
+pub record IsServed (overtake : ℕ) (old : World) (client : ℕ) (r : Request) (w served : World) : Type 0 where
   pub answer : Copy
   pub sent : served.copies ≡ w.copies ++ answer ∷ []
-  pub answered : (between : List Event) (v answered : World) → WorldRun overtake served between v
+  pub answered : (between : List Event) (v answered : World) → WorldRun overtake served between v → RunsOn client between
       → endings_of (length old.notes) v.log ≡ 0 → v.now - old.now ≤ DEADLINE
       → MayArrive overtake v (length w.copies) answer → WorldStep overtake v (Deliver (length w.copies)) answered
       → (after : List Event) (last : World) → WorldRun overtake answered after last → IsAnswered (length old.notes) r last.log
@@ -74,7 +74,7 @@ abbrev pub RoundTripSuffices : (overtake : ℕ) → World → Type 0
 RoundTripSuffices overtake old =
     (client server : ℕ) (limits : Limits) (r : Request) (asked : World) → (a : IsAsked old client server limits r asked)
     → IsWhole old client server limits r asked a
-    → (before : List Event) (w served : World) → WorldRun overtake asked before w → endings_of (length old.notes) w.log ≡ 0
+    → (before : List Event) (w served : World) → WorldRun overtake asked before w → RunsOn client before → endings_of (length old.notes) w.log ≡ 0
     → (number : ℕ) (c : Copy) → MayArrive overtake w number c → IsRequest a.sent c
     → (node : Node) → slice_get w.nodes server ≡ Some node → CanPerform w.now a.before node a.accepted.invoke_id r
-    → WorldStep overtake w (Deliver number) served → IsServed overtake old r w served
+    → WorldStep overtake w (Deliver number) served → IsServed overtake old client r w served

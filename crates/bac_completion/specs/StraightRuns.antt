@@ -11,7 +11,7 @@ use Rattle.bac_ends.specs.Ends.{Client, Held}
 use Rattle.bac_ends.specs.Ends.Held.{Open, Closed}
 use Rattle.bac_world.specs.Node.{Node}
 use Rattle.bac_world.specs.Once.{Fact}
-use Rattle.bac_world.specs.Once.Fact.{Asked, Performed, Ended, Changed}
+use Rattle.bac_world.specs.Once.Fact.{Asked, Performed, Ended, Changed, Restarted}
 use Rattle.bac_world.specs.World.{World, Copy, Event, WorldStep, WorldRun, IsAsked, peer_at}
 use Rattle.bac_world.specs.World.Event.{Ask, Deliver}
 
@@ -40,6 +40,7 @@ ending_in n (Asked m c s r ∷ log) = ending_in n log
 ending_in n (Performed m r p ∷ log) = ending_in n log
 ending_in n (Ended m how ∷ log) = if nat_eq m n then Some how else ending_in n log
 ending_in n (Changed i c ∷ log) = ending_in n log
+ending_in n (Restarted i o ∷ log) = ending_in n log
 
 -- so many copies are delivered, from that number on, each while the ticket is open
 abbrev pub DeliverEach : (overtake client : ℕ) → PeerKey → (count number : ℕ) → (old new : World) → Type 0

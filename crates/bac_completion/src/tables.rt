@@ -5,8 +5,8 @@ ghost use Rattle.bac_world.specs.World.{World, Event, WorldRun, IsFresh, IsBound
 ghost use Rattle.bac_completion.specs.FreeIds.{FreeIdsAreUnused};
 ghost use Rattle.bac_completion.specs.Room.{HaveRoom};
 
-/// In every world that a run of a fresh one led to: where a client holds no slot with an invoke ID for a server, that server has no live entry of them; so
-/// the server of an accepted ask has none for it.
+/// In every world that a run of a fresh one led to: where a client does not wait after a restart and holds no slot with an invoke ID for a server, that
+/// server has no live entry of them; so the server of an accepted ask has none for it.
 pub fn free_ids_are_unused()
     ensures { (W overtake : ℕ) (first old : World) → IsFresh first → IsBounded W overtake first → (events : List Event) → WorldRun overtake first events old
         → FreeIdsAreUnused old }

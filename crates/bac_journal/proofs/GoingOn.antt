@@ -1,6 +1,6 @@
 -- What is known of each world that a run of a fresh one leads to.
 use Rattle.std.proofs.Common.{◌≡◌, ℕ, suc, ◌+◌, ◌≤◌, ◌⊎◌, Bool, true, false, List, [], ◌∷◌, Option, Some, None, slice_get, if◌then◌else◌}
-use Rattle.std.proofs.Common.{nat_eq, refl, sym, ap, subst, inl, inr, ◌∙◌, arith}
+use Rattle.std.proofs.Common.{nat_eq, nat_lt, refl, sym, ap, subst, inl, inr, ◌∙◌, arith}
 use Rattle.std.proofs.lemmas.Bool.Decides.{nat_tests}
 use Rattle.std.specs.Option.{option_map}
 use Rattle.bac_apdu.specs.Apdu.{Apdu, Limits}
@@ -8,6 +8,7 @@ use Rattle.bac_npdu.specs.Peers.{PeerView}
 use Rattle.bac_service.specs.Values.{Request, choice_of}
 use Rattle.bac_service.specs.Services.{reads_reply}
 use Rattle.bac_store.specs.AtNode as at_node
+use Rattle.bac_store.specs.Stores.{Store}
 use Rattle.bac_protocol.specs.Context.{Settings}
 use Rattle.bac_protocol.specs.Service.{Octets, Readable}
 use Rattle.bac_protocol.specs.Wire.{is_from_client}
@@ -21,15 +22,15 @@ use Rattle.bac_ends.specs.Ends.Held.{Open, Closed}
 use Rattle.bac_entry.specs.Services.{service_of}
 use Rattle.bac_world.specs.Node.{Node, Outcome, IsHeardBy, NodeOn, NodeTick, NodeAsks, with_change}
 use Rattle.bac_world.specs.Once.{IsOnce}
-use Rattle.bac_world.specs.World.{World, Event, Copy, link_at, stores_of, peer_at, is_deliverable, IsWithNode, Acts, Hears, IsAsked, IsChanged}
+use Rattle.bac_world.specs.World.{World, Event, Copy, link_at, stores_of, peer_at, is_deliverable, IsWithNode, Acts, Hears, IsAsked, IsChanged, IsRestarted}
 use Rattle.bac_world.specs.World.{DeliversIf, WorldStep, WorldRun, IsFresh, IsBounded}
-use Rattle.bac_world.specs.World.Event.{Ask, Deliver, Noise, Tick, Advance, Change}
+use Rattle.bac_world.specs.World.Event.{Ask, Deliver, Noise, Tick, Advance, Change, Restart}
 use Rattle.bac_world.proofs.Pairs.{IsPaired, pairwise_get}
 use Rattle.bac_world.proofs.Bridge.{IsCopyOf, IsBetween, framed_means}
 use Rattle.bac_world.proofs.Steps.{Over, decide_number, each_with}
 use Rattle.bac_world.proofs.Asking.{accepted_is}
 use Rattle.bac_world.proofs.Headline.{run_over, rules_of, rules_bounded, fresh_over}
-use Rattle.bac_journal.specs.Entering.{CanGoOn, asks_by}
+use Rattle.bac_journal.specs.Entering.{CanGoOn, with_ticket, tickets_of}
 use Rattle.bac_journal.proofs.Heard.{Enters, nothing_enters, server_enters, client_enters}
 use Rattle.bac_journal.proofs.Ticked.{tick_enters, ask_enters}
 
@@ -89,12 +90,12 @@ ask_counted now l limits r a b accepted ds k =
 
 record Tidy (w : World) : Type 0 where
   punctual : (i : ℕ) (a : Node) → slice_get w.nodes i ≡ Some a → a.latest ≤ w.now
-  counted : (i : ℕ) (a : Node) → slice_get w.nodes i ≡ Some a → a.clients.asked ≡ asks_by i w.notes
+  counted : (i : ℕ) (a : Node) → slice_get w.nodes i ≡ Some a → a.clients.asked ≤ tickets_of i w.notes
 
 -- one node went on, and more asks of it were noted
-tidy_with : (w w' : World) → Tidy w → (i : ℕ) (a b : Node) → slice_get w.nodes i ≡ Some a → IsWithNode w.nodes i b w'.nodes → w'.now ≡ w.now → (more : ℕ)
-    → IsCounted w.now more a b → asks_by i w'.notes ≡ asks_by i w.notes + more → ((j : ℕ) → (j ≡ i → ⊥) → asks_by j w'.notes ≡ asks_by j w.notes) → Tidy w'
-tidy_with w w' t i a b at nodes now more f mine others = record {
+tidy_with : (w w' : World) → Tidy w → (i : ℕ) (b : Node) → IsWithNode w.nodes i b w'.nodes → w'.now ≡ w.now
+    → b.latest ≡ w.now → b.clients.asked ≤ tickets_of i w'.notes → ((j : ℕ) → (j ≡ i → ⊥) → tickets_of j w'.notes ≡ tickets_of j w.notes) → Tidy w'
+tidy_with w w' t i b nodes now latest mine others = record {
   punctual = λ j c at'. later j c at' (decide_number j i);
   counted = λ j c at'. counts j c at' (decide_number j i);
 }
@@ -106,37 +107,65 @@ tidy_with w w' t i a b at nodes now more f mine others = record {
 
     later : (j : ℕ) (c : Node) → slice_get w'.nodes j ≡ Some c → ((j ≡ i) ⊎ (j ≡ i → ⊥)) → c.latest ≤ w'.now
     later j c at' (inl is) =
-        let e : c.latest ≡ w.now = ap (λ (n : Node). n.latest) (sym (here j c at' is)) ∙ f.latest in
+        let e : c.latest ≡ w.now = ap (λ (n : Node). n.latest) (sym (here j c at' is)) ∙ latest in
         omega arith
     later j c at' (inr ne) =
         let e : c.latest ≤ w.now = t.punctual j c (sym (nodes.others j ne) ∙ at') in
         omega arith
 
-    counts : (j : ℕ) (c : Node) → slice_get w'.nodes j ≡ Some c → ((j ≡ i) ⊎ (j ≡ i → ⊥)) → c.clients.asked ≡ asks_by j w'.notes
-    counts j c at' (inl is) =
-        ap (λ (n : Node). n.clients.asked) (sym (here j c at' is)) ∙ f.asked ∙ ap (λ (k : ℕ). k + more) (t.counted i a at) ∙ sym mine
-        ∙ ap (λ (k : ℕ). asks_by k w'.notes) (sym is)
-    counts j c at' (inr ne) = t.counted j c (sym (nodes.others j ne) ∙ at') ∙ sym (others j ne)
+    counts : (j : ℕ) (c : Node) → slice_get w'.nodes j ≡ Some c → ((j ≡ i) ⊎ (j ≡ i → ⊥)) → c.clients.asked ≤ tickets_of j w'.notes
+    counts j c at' (inl is) = subst (λ (k : ℕ). c.clients.asked ≤ tickets_of k w'.notes) (sym is)
+        (subst (λ (n : Node). n.clients.asked ≤ tickets_of i w'.notes) (here j c at' is) mine)
+    counts j c at' (inr ne) = subst (λ (k : ℕ). c.clients.asked ≤ k) (sym (others j ne)) (t.counted j c (sym (nodes.others j ne) ∙ at'))
 
 tidy_acts : (w w' : World) → Tidy w → (i : ℕ) (a b : Node) (o : Outcome) → slice_get w.nodes i ≡ Some a → Acts w i b o w' → IsCounted w.now 0 a b → Tidy w'
-tidy_acts w w' t i a b o at acts f =
-    tidy_with w w' t i a b at acts.nodes acts.now 0 f (ap (asks_by i) acts.notes ∙ no_more (asks_by i w.notes)) (λ j ne. ap (asks_by j) acts.notes)
+tidy_acts w w' t i a b o at acts f = tidy_with w w' t i b acts.nodes acts.now f.latest
+    (subst (λ notes. b.clients.asked ≤ tickets_of i notes) (sym acts.notes) as_many) (λ j ne. ap (tickets_of j) acts.notes)
+  where
+    as_many : b.clients.asked ≤ tickets_of i w.notes
+    as_many =
+        let same : b.clients.asked ≡ a.clients.asked + 0 = f.asked in
+        let was : a.clients.asked ≤ tickets_of i w.notes = t.counted i a at in
+        omega arith
 
 tidy_hears : (w w' : World) → Tidy w → (i : ℕ) (from octets : Octets) → Hears w i from octets w' → Tidy w'
 tidy_hears w w' t i from octets h =
     tidy_acts w w' t i h.before h.after h.outcome h.at h.acts (on_counted w.now from octets h.before h.after h.outcome h.on)
 
-tidy_asked : (w w' : World) → Tidy w → (i s : ℕ) (limits : Limits) (r : Request) → IsAsked w i s limits r w' → Tidy w'
-tidy_asked w w' t i s limits r k =
-    tidy_with w w' t i k.before k.after k.at k.nodes k.now 1 (ask_counted w.now k.link limits r k.before k.after k.accepted k.sends k.asks)
-    (ap (asks_by i) k.notes ∙ ap (λ b. if b then suc (asks_by i w.notes) else asks_by i w.notes) (self i) ∙ one_more (asks_by i w.notes))
-    (λ j ne. ap (asks_by j) k.notes ∙ ap (λ b. if b then suc (asks_by j w.notes) else asks_by j w.notes) (away j ne))
+-- a ticket is among those with it
+pub counts_it : (ticket tickets : ℕ) → ticket + 1 ≤ with_ticket ticket tickets
+counts_it ticket tickets = go (nat_lt ticket tickets) refl
   where
+    go : (b : Bool) → nat_lt ticket tickets ≡ b → ticket + 1 ≤ (if b then tickets else suc ticket)
+    go true e = grind (arith, nat_tests)
+    go false e = omega arith
+
+tidy_asked : (w w' : World) → Tidy w → (i s : ℕ) (limits : Limits) (r : Request) → IsAsked w i s limits r w' → Tidy w'
+tidy_asked w w' t i s limits r k = tidy_with w w' t i k.after k.nodes k.now f.latest
+    (subst (λ notes. k.after.clients.asked ≤ tickets_of i notes) (sym k.notes)
+    (subst (λ (b : Bool). k.after.clients.asked ≤ (if b then with_ticket k.accepted.ticket (tickets_of i w.notes) else tickets_of i w.notes))
+    (sym (self i)) one_more))
+    (λ j ne. ap (tickets_of j) k.notes
+    ∙ ap (λ b. if b then with_ticket k.accepted.ticket (tickets_of j w.notes) else tickets_of j w.notes) (away j ne))
+  where
+    f : IsCounted w.now 1 k.before k.after
+    f = ask_counted w.now k.link limits r k.before k.after k.accepted k.sends k.asks
+
+    ticket_is : k.accepted.ticket ≡ k.before.clients.asked
+    ticket_is =
+        let parts = accepted_is k.before.settings w.now (peer_at k.link) (choice_of r) k.asks.octets k.before.clients k.accepted limits k.asks.accepted in
+        ap (λ (y : Accepted). y.ticket) parts.is
+
+    one_more : k.after.clients.asked ≤ with_ticket k.accepted.ticket (tickets_of i w.notes)
+    one_more =
+        let next : k.after.clients.asked ≡ k.before.clients.asked + 1 = f.asked in
+        let counted : k.accepted.ticket + 1 ≤ with_ticket k.accepted.ticket (tickets_of i w.notes) =
+        counts_it k.accepted.ticket (tickets_of i w.notes) in
+        let same = ticket_is in
+        omega arith
+
     self : (i : ℕ) → nat_eq i i ≡ true
     self i = grind (arith, nat_tests)
-
-    one_more : (m : ℕ) → suc m ≡ m + 1
-    one_more m = omega arith
 
     away : (j : ℕ) → (j ≡ i → ⊥) → nat_eq i j ≡ false
     away j ne = go (nat_eq i j) refl
@@ -149,9 +178,13 @@ tidy_changed : (w w' : World) → Tidy w → (i : ℕ) (c : at_node.Change) → 
 tidy_changed w w' t i c k = record {
   punctual = λ j a at. subst (λ (now : ℕ). a.latest ≤ now) (sym k.now) (each_with (λ m b. b.latest ≤ w.now) w.nodes w'.nodes i
       (with_change c k.before) k.nodes (t.punctual i k.before k.at) t.punctual j a at);
-  counted = λ j a at. each_with (λ m b. b.clients.asked ≡ asks_by m w.notes) w.nodes w'.nodes i
-      (with_change c k.before) k.nodes (t.counted i k.before k.at) t.counted j a at ∙ sym (ap (asks_by j) k.notes);
+  counted = λ j a at. subst (λ notes. a.clients.asked ≤ tickets_of j notes) (sym k.notes)
+      (each_with (λ m b. b.clients.asked ≤ tickets_of m w.notes) w.nodes w'.nodes i
+      (with_change c k.before) k.nodes (t.counted i k.before k.at) t.counted j a at);
 }
+
+tidy_restarted : (w w' : World) → Tidy w → (i : ℕ) (store : Option Store) → IsRestarted w i store w' → Tidy w'
+tidy_restarted w w' t i store k = tidy_with w w' t i _ k.nodes k.now refl (omega arith) (λ j ne. ap (tickets_of j) k.notes)
 
 tidy_delivered : (b : Bool) (w : World) (c : Copy) (w' : World) → Tidy w → DeliversIf b w c w' → Tidy w'
 tidy_delivered true w c w' t d = tidy_hears w w' t c.to d.link c.octets d.hears
@@ -170,6 +203,7 @@ tidy_step overtake w w' (Advance by) t s = subst Tidy (sym s) (record {
   counted = t.counted;
 })
 tidy_step overtake w w' (Change node change) t s = tidy_changed w w' t node change s
+tidy_step overtake w w' (Restart node store) t s = tidy_restarted w w' t node store s
 
 tidy_run : (overtake : ℕ) (events : List Event) (w w' : World) → Tidy w → WorldRun overtake w events w' → Tidy w'
 tidy_run overtake [] w w' t run = subst Tidy (sym run) t
@@ -178,7 +212,7 @@ tidy_run overtake (e ∷ es) w w' t run = tidy_run overtake es run.0 w' (tidy_st
 tidy_fresh : (w : World) → IsFresh w → Tidy w
 tidy_fresh w f = record {
   punctual = λ i a at. let e : a.latest ≡ 0 = (f.nodes i a at).latest in omega arith;
-  counted = λ i a at. (f.nodes i a at).asked ∙ sym (ap (asks_by i) f.notes);
+  counted = λ i a at. let e : a.clients.asked ≡ 0 = (f.nodes i a at).asked in omega arith;
 }
 
 -- All of it.

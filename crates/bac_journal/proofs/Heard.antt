@@ -152,7 +152,7 @@ module _ (links : ℕ → Option Octets) (apart : (i j : ℕ) (l : Octets) → l
     few : length o.sends ≤ W + 1
     few =
         let small : length u.sends ≤ W + 1 = (server_gets_few context service W bound.some (bound.windows key.server) (n.entries key) free apdu
-        (entries_few W x bound n h.sound.0 key)).sends in
+        (entries_few W x bound n h.sound key)).sends in
         let all : length o.sends ≡ length u.sends = paired_length IsSent (to_all (peer_at l) u.sends) o.sends sent ∙ sent_length l u.sends in
         omega arith
 
@@ -187,10 +187,10 @@ module _ (links : ℕ → Option Octets) (apart : (i j : ℕ) (l : Octets) → l
     goes k t found now c small turn =
         let context : Context = context_of c now (slot_key l p.key.invoke_id) in
         let r : client.Reaction = client_gets context reads_reply t p.copy.apdu in
-        let fit : TicketFits n.now w.notes p.key.client (n.numbers p.key) (Some (record { number = k; held = Open t })) (n.tickets p.key) =
-        subst (λ (y : Option Client). TicketFits n.now w.notes p.key.client (n.numbers p.key) y (n.tickets p.key)) found
+        let fit : TicketFits (n.asks_from p.key.client) n.now w.notes p.key.client (n.numbers p.key) (Some (record { number = k; held = Open t })) (n.tickets p.key) =
+        subst (λ (y : Option Client). TicketFits (n.asks_from p.key.client) n.now w.notes p.key.client (n.numbers p.key) y (n.tickets p.key)) found
         (at_client.clients.found p.key.server l p.key.invoke_id server_at) in
-        let noted = (ticket_at n.now w.notes p.key.client (n.numbers p.key) k t (n.tickets p.key) fit).1 in
+        let noted = (ticket_at (n.asks_from p.key.client) n.now w.notes p.key.client (n.numbers p.key) k t (n.tickets p.key) fit).1 in
         let ends = can_end links apart w h.linked p.key.client k (n.numbers p.key) noted t.ask.choice (client.ending_of r) o.ended turn.ended in
         let fewer : length (client.sends_of r) ≤ W + 1 = client_gets_few context reads_reply W bound.some small t p.copy.apdu in
         let all : length o.sends ≡ length (client.sends_of r) =

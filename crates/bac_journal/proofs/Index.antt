@@ -16,7 +16,7 @@ use Rattle.bac_world.proofs.Steps.{decide_number}
 use Rattle.bac_journal.specs.declared.asks.Cell.{Cell}
 use Rattle.bac_journal.specs.declared.asks.Row.{Row}
 use Rattle.bac_journal.specs.declared.copies.Copy.{Copy}
-use Rattle.bac_journal.specs.Entering.{asks_by}
+use Rattle.bac_journal.specs.Entering.{tickets_of}
 use Rattle.bac_journal.specs.Views.{key_view, copy_view}
 use Rattle.bac_journal.specs.Index.{place_of, cell_at, number_at, newest_at, IsWithRow, IsWithCell}
 use Rattle.bac_journal.specs.Records.{IsKept}
@@ -114,11 +114,11 @@ module _ (old new : List Row) (key : Key) (cell : Cell) (h : IsWithRow old key.c
   cells_many c r at (inr away) all = all c r (sym (h.others c away) ∙ at) ∙ ap (λ n. n * 256) (sym h.many)
 
   pub numbers_many : (notes : List Note) (c : ℕ) (r : Row) → slice_get new c ≡ Some r → ((c ≡ key.client) ⊎ (c ≡ key.client → ⊥))
-      → ((d : ℕ) (q : Row) → slice_get old d ≡ Some q → length q.numbers.items ≡ asks_by d notes) → length r.numbers.items ≡ asks_by c notes
+      → ((d : ℕ) (q : Row) → slice_get old d ≡ Some q → length q.numbers.items ≡ tickets_of d notes) → length r.numbers.items ≡ tickets_of c notes
   numbers_many notes c r at (inl is) all =
       let same : h.after ≡ r = let e : Some h.after ≡ Some r = sym h.here ∙ ap (slice_get new) (sym is) ∙ at in cc in
       ap (λ (q : Row). length q.numbers.items) (sym same) ∙ ap (λ v. length v.items) h.goes.numbers ∙ all key.client h.before h.was
-      ∙ ap (λ d. asks_by d notes) (sym is)
+      ∙ ap (λ d. tickets_of d notes) (sym is)
   numbers_many notes c r at (inr away) all = all c r (sym (h.others c away) ∙ at)
 
   -- a place stays one

@@ -1,8 +1,8 @@
 -- What is kept, after an ask was noted.
 use Rattle.std.proofs.Common.{◌≡◌, ℕ, suc, ◌+◌, ◌*◌, ◌<◌, ◌≤◌, ◌⊎◌, Bool, true, false, ◌&&◌, List, [], ◌∷◌, ◌++◌, map, length, Option, Some, slice_get}
-use Rattle.std.proofs.Common.{if◌then◌else◌, refl, sym, ap, subst, inl, inr, ◌∙◌, arith, nat_eq}
+use Rattle.std.proofs.Common.{if◌then◌else◌, refl, sym, ap, subst, inl, inr, ◌∙◌, arith, nat_eq, nat_lt, slice_set}
 use Rattle.std.proofs.lemmas.Bool.Decides.{nat_tests}
-use Rattle.std.proofs.lemmas.List.{length-append, length-map, length-reverse, map-append, reverse-append, reverse-reverse}
+use Rattle.std.proofs.lemmas.List.{length-append, length-set, length-map, length-reverse, map-append, reverse-append, reverse-reverse}
 use Rattle.std.specs.Prelude.{option_and_then, reverse, vec_capacity}
 use Rattle.bac_protocol.specs.Transaction.{Key}
 use Rattle.bac_protocol.specs.World.{same_key}
@@ -13,12 +13,12 @@ use Rattle.bac_journal.specs.declared.asks.Cell.{Cell}
 use Rattle.bac_journal.specs.declared.asks.Row.{Row}
 use Rattle.bac_journal.specs.declared.copies.Copy.{Copy}
 use Rattle.bac_journal.specs.declared.noting.Note as code
-use Rattle.bac_journal.specs.Entering.{asks_by}
+use Rattle.bac_journal.specs.Entering.{with_ticket, tickets_of}
 use Rattle.bac_journal.specs.Notes.{note_view, notes_view}
 use Rattle.bac_journal.specs.Views.{key_view, copy_view}
 use Rattle.bac_journal.specs.Index.{place_of, cell_at, number_at, newest_at, IsSameRow, IsWithRow, IsWithCell, IsWithNumber}
 use Rattle.bac_journal.specs.Records.{IsKept}
-use Rattle.bac_journal.proofs.Lists.{get_push, get_push_other}
+use Rattle.bac_journal.proofs.Lists.{get_set, get_set_other, get_push, get_push_other}
 use Rattle.bac_journal.proofs.Index.{key_other, cell_here, cell_there, numbers_same, still_placed, cells_many, numbers_many}
 
 nat_self : (n : ℕ) → nat_eq n n ≡ true
@@ -33,7 +33,7 @@ nat_other m n ne = go (nat_eq m n) refl
 
 -- A number was added to a client's row.
 
-module _ (old new : List Row) (client number : ℕ) (h : IsWithRow old client (IsWithNumber number) new) where
+module _ (old new : List Row) (client ticket number : ℕ) (h : IsWithRow old client (IsWithNumber ticket number) new) where
   abbrev look_cell : Key → Option Row → Option Cell
   look_cell k o = option_and_then (λ (r : Row). slice_get r.cells.items (place_of k.server k.invoke_id)) o
 
@@ -49,13 +49,11 @@ module _ (old new : List Row) (client number : ℕ) (h : IsWithRow old client (I
           ∙ sym (ap (λ d. look_cell k (slice_get old d)) is)
       go (inr away) = ap (look_cell k) (h.others k.client away)
 
-  number_here : number_at new client (length h.before.numbers.items) ≡ Some number
-  number_here = ap (look_number (length h.before.numbers.items)) h.here
-      ∙ ap (λ l. slice_get l (length h.before.numbers.items)) h.goes.numbers ∙ get_push h.before.numbers.items number
+  number_here : number_at new client ticket ≡ Some number
+  number_here = ap (look_number ticket) h.here ∙ h.goes.here
 
-  number_there : (t : ℕ) → (t ≡ length h.before.numbers.items → ⊥) → number_at new client t ≡ number_at old client t
-  number_there t ne = ap (look_number t) h.here ∙ ap (λ l. slice_get l t) h.goes.numbers ∙ get_push_other h.before.numbers.items number t ne
-      ∙ sym (ap (look_number t) h.was)
+  number_there : (t : ℕ) → (t ≡ ticket → ⊥) → number_at new client t ≡ number_at old client t
+  number_there t ne = ap (look_number t) h.here ∙ h.goes.others t ne ∙ sym (ap (look_number t) h.was)
 
   number_away : (c t : ℕ) → (c ≡ client → ⊥) → number_at new c t ≡ number_at old c t
   number_away c t ne = ap (look_number t) (h.others c ne)
@@ -65,27 +63,26 @@ module _ (old new : List Row) (client number : ℕ) (h : IsWithRow old client (I
 module _ (old mid new : List Row) (key : Key) (cell known : Cell) (number : ℕ)
     (a : IsWithRow old key.client (IsWithCell (place_of key.server key.invoke_id) cell) mid)
     (within : place_of key.server key.invoke_id < length a.before.cells.items)
-    (b : IsWithRow mid key.client (IsWithNumber number) new) (fits : key.invoke_id < 256) (there : cell_at old key ≡ Some known)
-    (newest_cell : cell.newest ≡ Some number) (same_sent : cell.sent ≡ known.sent) (copies : List Copy) (notes : List Note) (ticket : ℕ)
-    (numbered : number ≡ length notes) (ticketed : ticket ≡ asks_by key.client notes) (h : IsKept old copies notes) where
+    (ticket : ℕ) (b : IsWithRow mid key.client (IsWithNumber ticket number) new) (fits : key.invoke_id < 256) (there : cell_at old key ≡ Some known)
+    (newest_cell : cell.newest ≡ Some number) (same_sent : cell.sent ≡ known.sent) (copies : List Copy) (notes : List Note)
+    (numbered : number ≡ length notes) (h : IsKept old copies notes) where
   abbrev note : Note
   note = record { key = key; ticket = ticket }
 
   mid_row : a.after ≡ b.before
   mid_row = let e : Some a.after ≡ Some b.before = sym a.here ∙ b.was in cc
 
-  many_numbers : length b.before.numbers.items ≡ ticket
+  many_numbers : length b.before.numbers.items ≡ tickets_of key.client notes
   many_numbers = ap (λ (r : Row). length r.numbers.items) (sym mid_row) ∙ ap (λ v. length v.items) a.goes.numbers ∙ h.counted key.client a.before a.was
-      ∙ sym ticketed
 
   newests : (q : Key) → q.invoke_id < 256 → ((q ≡ key) ⊎ (q ≡ key → ⊥)) → newest_at new q ≡ newest q (note ∷ notes)
   newests q lq (inl is) =
       ap (newest_at new) is ∙ ap (λ (o : Option Cell). option_and_then (λ (c : Cell). c.newest) o)
-      (cells_same mid new key.client number b key ∙ cell_here old mid key cell a within) ∙ newest_cell ∙ ap Some numbered
+      (cells_same mid new key.client ticket number b key ∙ cell_here old mid key cell a within) ∙ newest_cell ∙ ap Some numbered
       ∙ sym (ap (λ x. if x then Some (length notes) else newest q notes) (ap (same_key key) is ∙ same_key_self key))
   newests q lq (inr ne) =
       ap (λ (o : Option Cell). option_and_then (λ (c : Cell). c.newest) o)
-      (cells_same mid new key.client number b q ∙ cell_there old mid key cell a within q ne lq fits) ∙ h.newest_is q lq
+      (cells_same mid new key.client ticket number b q ∙ cell_there old mid key cell a within q ne lq fits) ∙ h.newest_is q lq
       ∙ sym (ap (λ x. if x then Some (length notes) else newest q notes) (key_other key q (λ e. ne (sym e))))
 
   passes_note : (c t : ℕ) → (nat_eq key.client c && nat_eq ticket t) ≡ false → ask_of c t (note ∷ notes) ≡ ask_of c t notes
@@ -97,29 +94,25 @@ module _ (old mid new : List Row) (key : Key) (cell known : Cell) (number : ℕ)
 
   numbers : (c t : ℕ) → ((c ≡ key.client) ⊎ (c ≡ key.client → ⊥)) → ((t ≡ ticket) ⊎ (t ≡ ticket → ⊥)) → number_at new c t ≡ ask_of c t (note ∷ notes)
   numbers c t (inl is) (inl it) =
-      ap (λ d. number_at new d t) is ∙ ap (number_at new key.client) (it ∙ sym many_numbers) ∙ number_here mid new key.client number b ∙ ap Some numbered
+      ap (λ d. number_at new d t) is ∙ ap (number_at new key.client) it ∙ number_here mid new key.client ticket number b ∙ ap Some numbered
       ∙ sym (ap (λ x. if x && nat_eq ticket t then Some (length notes) else ask_of c t notes) (ap (nat_eq key.client) is ∙ nat_self key.client)
       ∙ ap (λ x. if x then Some (length notes) else ask_of c t notes) (ap (nat_eq ticket) it ∙ nat_self ticket))
   numbers c t (inl is) (inr ne) =
-      ap (λ d. number_at new d t) is ∙ number_there mid new key.client number b t (λ e. ne (e ∙ many_numbers))
+      ap (λ d. number_at new d t) is ∙ number_there mid new key.client ticket number b t ne
       ∙ numbers_same old mid key cell a within key.client t ∙ h.number_is key.client t ∙ ap (λ d. ask_of d t notes) (sym is)
       ∙ sym (passes_note c t (and_right (nat_eq key.client c) (nat_eq ticket t) (nat_other ticket t (λ e. ne (sym e)))))
   numbers c t (inr ne) w =
-      number_away mid new key.client number b c t ne ∙ numbers_same old mid key cell a within c t ∙ h.number_is c t
+      number_away mid new key.client ticket number b c t ne ∙ numbers_same old mid key cell a within c t ∙ h.number_is c t
       ∙ sym (passes_note c t (ap (λ x. x && nat_eq ticket t) (nat_other key.client c (λ e. ne (sym e)))))
 
-  counts : (c : ℕ) (r : Row) → slice_get new c ≡ Some r → ((c ≡ key.client) ⊎ (c ≡ key.client → ⊥)) → length r.numbers.items ≡ asks_by c (note ∷ notes)
+  counts : (c : ℕ) (r : Row) → slice_get new c ≡ Some r → ((c ≡ key.client) ⊎ (c ≡ key.client → ⊥)) → length r.numbers.items ≡ tickets_of c (note ∷ notes)
   counts c r at (inl is) =
       let same : b.after ≡ r = let e : Some b.after ≡ Some r = sym b.here ∙ ap (slice_get new) (sym is) ∙ at in cc in
-      let long : length b.after.numbers.items ≡ length b.before.numbers.items + 1 = ap (λ l. length l) b.goes.numbers
-      ∙ length-append b.before.numbers.items (number ∷ []) in
-      ap (λ (q : Row). length q.numbers.items) (sym same) ∙ long ∙ ap (λ n. n + 1) (many_numbers ∙ ticketed ∙ ap (λ d. asks_by d notes) (sym is)) ∙ one_more
-      ∙ sym (ap (λ x. if x then suc (asks_by c notes) else asks_by c notes) (ap (nat_eq key.client) is ∙ nat_self key.client))
-    where
-      one_more : asks_by c notes + 1 ≡ suc (asks_by c notes)
-      one_more = omega arith
+      ap (λ (q : Row). length q.numbers.items) (sym same) ∙ b.goes.many
+      ∙ ap (with_ticket ticket) (many_numbers ∙ ap (λ d. tickets_of d notes) (sym is))
+      ∙ sym (ap (λ x. if x then with_ticket ticket (tickets_of c notes) else tickets_of c notes) (ap (nat_eq key.client) is ∙ nat_self key.client))
   counts c r at (inr ne) = numbers_many old mid key cell a within notes c r (sym (b.others c ne) ∙ at) (inr ne) h.counted
-      ∙ sym (ap (λ x. if x then suc (asks_by c notes) else asks_by c notes) (nat_other key.client c (λ e. ne (sym e))))
+      ∙ sym (ap (λ x. if x then with_ticket ticket (tickets_of c notes) else tickets_of c notes) (nat_other key.client c (λ e. ne (sym e))))
 
   many_places : (c : ℕ) (r : Row) → slice_get new c ≡ Some r → ((c ≡ key.client) ⊎ (c ≡ key.client → ⊥)) → length r.cells.items ≡ length new * 256
   many_places c r at (inl is) =
@@ -130,11 +123,11 @@ module _ (old mid new : List Row) (key : Key) (cell known : Cell) (number : ℕ)
 
   counts_sent : (q : Key) (c : Cell) → q.invoke_id < 256 → cell_at new q ≡ Some c → ((q ≡ key) ⊎ (q ≡ key → ⊥)) → c.sent ≡ count_of q (map copy_view copies)
   counts_sent q c lq at (inl is) =
-      let same : cell ≡ c = let e : Some cell ≡ Some c = sym (cell_here old mid key cell a within) ∙ sym (cells_same mid new key.client number b key)
+      let same : cell ≡ c = let e : Some cell ≡ Some c = sym (cell_here old mid key cell a within) ∙ sym (cells_same mid new key.client ticket number b key)
       ∙ ap (cell_at new) (sym is) ∙ at in cc in
       ap (λ (d : Cell). d.sent) (sym same) ∙ same_sent ∙ h.sent key known fits there ∙ ap (λ k. count_of k (map copy_view copies)) (sym is)
   counts_sent q c lq at (inr ne) =
-      h.sent q c lq (sym (cell_there old mid key cell a within q ne lq fits) ∙ sym (cells_same mid new key.client number b q) ∙ at)
+      h.sent q c lq (sym (cell_there old mid key cell a within q ne lq fits) ∙ sym (cells_same mid new key.client ticket number b q) ∙ at)
 
   pub kept_note : IsKept new copies (note ∷ notes)
   kept_note = record {
@@ -145,20 +138,52 @@ module _ (old mid new : List Row) (key : Key) (cell known : Cell) (number : ℕ)
     sent = λ q c lq at. counts_sent q c lq at (decide_key q key);
     before = h.before;
     placed = λ n c at.
-        let p = still_placed old mid key cell a within c (h.placed n c at) in (p.0, cells_same mid new key.client number b (key_view c.transaction) ∙ p.1);
+        let p = still_placed old mid key cell a within c (h.placed n c at) in (p.0, cells_same mid new key.client ticket number b (key_view c.transaction) ∙ p.1);
   }
 
 -- a cell leaves the numbers of its row and their room as they were
-pub numbers_kept : (old mid : List Row) (client place : ℕ) (cell : Cell) → IsWithRow old client (IsWithCell place cell) mid
-    → (r : Row) × (slice_get old client ≡ Some r) × (length r.numbers.items + 1 ≤ vec_capacity r.numbers)
-    → (r : Row) × (slice_get mid client ≡ Some r) × (length r.numbers.items + 1 ≤ vec_capacity r.numbers)
-numbers_kept old mid client place cell h room =
+pub numbers_kept : (old mid : List Row) (client place ticket : ℕ) (cell : Cell) → IsWithRow old client (IsWithCell place cell) mid
+    → (r : Row) × (slice_get old client ≡ Some r) × (length r.numbers.items + 1 ≤ vec_capacity r.numbers) × (ticket ≤ length r.numbers.items)
+    → (r : Row) × (slice_get mid client ≡ Some r) × (length r.numbers.items + 1 ≤ vec_capacity r.numbers) × (ticket ≤ length r.numbers.items)
+numbers_kept old mid client place ticket cell h room =
     let same : room.0 ≡ h.before = let e : Some room.0 ≡ Some h.before = sym room.1 ∙ h.was in cc in (
       h.after,
       h.here,
       subst (λ v. length v.items + 1 ≤ vec_capacity v) (sym h.goes.numbers)
           (subst (λ (r : Row). length r.numbers.items + 1 ≤ vec_capacity r.numbers) same room.2),
+      subst (λ v. ticket ≤ length v.items) (sym h.goes.numbers) (subst (λ (r : Row). ticket ≤ length r.numbers.items) same room.3),
     )
+
+-- The number of a ticket is set, or comes after the others.
+
+pub number_set : (old new : Row) (ticket number : ℕ) → new.cells ≡ old.cells → new.numbers.items ≡ slice_set old.numbers.items ticket number
+    → ticket < length old.numbers.items → IsWithNumber ticket number old new
+number_set old new ticket number cells numbers within = record {
+  cells = cells;
+  here = ap (λ l. slice_get l ticket) numbers ∙ get_set old.numbers.items ticket number within;
+  others = λ t ne. ap (λ l. slice_get l t) numbers ∙ get_set_other old.numbers.items ticket t number ne;
+  many = ap (λ l. length l) numbers ∙ length-set old.numbers.items ticket number
+      ∙ sym (ap (λ b. if b then length old.numbers.items else suc ticket) below);
+}
+  where
+    below : nat_lt ticket (length old.numbers.items) ≡ true
+    below = grind (arith, nat_tests)
+
+pub number_pushed : (old new : Row) (ticket number : ℕ) → new.cells ≡ old.cells → new.numbers.items ≡ old.numbers.items ++ number ∷ []
+    → ticket ≡ length old.numbers.items → IsWithNumber ticket number old new
+number_pushed old new ticket number cells numbers last = record {
+  cells = cells;
+  here = ap (slice_get new.numbers.items) last ∙ ap (λ l. slice_get l (length old.numbers.items)) numbers ∙ get_push old.numbers.items number;
+  others = λ t ne. ap (λ l. slice_get l t) numbers ∙ get_push_other old.numbers.items number t (λ e. ne (e ∙ sym last));
+  many = ap (λ l. length l) numbers ∙ length-append old.numbers.items (number ∷ []) ∙ one_more
+      ∙ sym (ap (λ b. if b then length old.numbers.items else suc ticket) beyond);
+}
+  where
+    beyond : nat_lt ticket (length old.numbers.items) ≡ false
+    beyond = grind (arith, nat_tests)
+
+    one_more : length old.numbers.items + 1 ≡ suc ticket
+    one_more = omega arith
 
 pub notes_push : (notes : List code.Note) (n : code.Note) → notes_view (notes ++ n ∷ []) ≡ note_view n ∷ notes_view notes
 notes_push notes n = ap reverse (map-append note_view notes (n ∷ [])) ∙ reverse-append (map note_view notes) (note_view n ∷ [])

@@ -73,10 +73,10 @@ module _ (links : ℕ → Option Octets) (apart : (i j : ℕ) (l : Octets) → l
         let key : Key = key_of i k.node q.invoke_id in
         let there : value_at same_key (slot_key k.link q.invoke_id) a.clients.slots ≡ Some (record { number = number; held = Open t }) =
         subst (λ (y : PeerKey). value_at same_key y a.clients.slots ≡ Some (record { number = number; held = Open t })) (peer_is q k) found in
-        let fit : TicketFits n.now w.notes i (n.numbers key) (Some (record { number = number; held = Open t })) (n.tickets key) =
-        subst (λ (y : Option Client). TicketFits n.now w.notes i (n.numbers key) y (n.tickets key)) there
+        let fit : TicketFits (n.asks_from i) n.now w.notes i (n.numbers key) (Some (record { number = number; held = Open t })) (n.tickets key) =
+        subst (λ (y : Option Client). TicketFits (n.asks_from i) n.now w.notes i (n.numbers key) y (n.tickets key)) there
         (fits.clients.found k.node k.link q.invoke_id k.at) in
-        (can_end links apart w h.linked i number (n.numbers key) (ticket_at n.now w.notes i (n.numbers key) number t (n.tickets key) fit).1
+        (can_end links apart w h.linked i number (n.numbers key) (ticket_at (n.asks_from i) n.now w.notes i (n.numbers key) number t (n.tickets key) fit).1
         t.ask.choice (client.ending_of (client_ticks (context_of c w.now q) t)) fs s).0
 
     abbrev IsClientSlot : PeerKey → Client → Type 0

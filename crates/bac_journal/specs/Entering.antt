@@ -1,5 +1,5 @@
 -- What comes of a node's call can enter the world: each datagram goes to a node, in a transaction; each ending is an ask's, and so is what was performed.
-use Rattle.std.specs.Prelude.{◌≡◌, ℕ, suc, ◌+◌, ◌≤◌, true, List, [], ◌∷◌, length, if◌then◌else◌, nat_eq, Option, Some, None, slice_get}
+use Rattle.std.specs.Prelude.{◌≡◌, ℕ, suc, ◌+◌, ◌≤◌, true, List, [], ◌∷◌, length, if◌then◌else◌, nat_eq, nat_lt, Option, Some, None, slice_get}
 use Rattle.bac_apdu.specs.Apdu.{Limits}
 use Rattle.bac_service.specs.Values.{Request}
 use Rattle.bac_protocol.specs.Service.{Octets}
@@ -40,17 +40,21 @@ pub record CanEnter (w : World) (node : ℕ) (o : Outcome) : Type 0 where
   pub ended : Every (IsNoted w node) o.ended
   pub performed : AreOfClient w node o.performed
 
--- how many asks of that client were noted
-abbrev pub asks_by : ℕ → List Note → ℕ
-asks_by client [] = 0
-asks_by client (n ∷ notes) = if nat_eq n.key.client client then suc (asks_by client notes) else asks_by client notes
+-- how many tickets there are with that one
+abbrev pub with_ticket : (ticket tickets : ℕ) → ℕ
+with_ticket ticket tickets = if nat_lt ticket tickets then tickets else suc ticket
+
+-- how many tickets that client had in the life in which it had the most: a client that restarts numbers its tickets anew
+abbrev pub tickets_of : ℕ → List Note → ℕ
+tickets_of client [] = 0
+tickets_of client (n ∷ notes) = if nat_eq n.key.client client then with_ticket n.ticket (tickets_of client notes) else tickets_of client notes
 
 -- what is known of each world that a run leads to, where all windows are at most W
 pub record CanGoOn (W overtake : ℕ) (w : World) : Type 0 where
   -- no node was told a later moment
   pub punctual : (i : ℕ) (a : Node) → slice_get w.nodes i ≡ Some a → a.latest ≤ w.now
-  -- a node's tickets count its asks
-  pub counted : (i : ℕ) (a : Node) → slice_get w.nodes i ≡ Some a → a.clients.asked ≡ asks_by i w.notes
+  -- a node's next ticket is one of those that it had, or the one after them
+  pub counted : (i : ℕ) (a : Node) → slice_get w.nodes i ≡ Some a → a.clients.asked ≤ tickets_of i w.notes
   -- a copy goes from a node to a node
   pub from : (number : ℕ) (c : Copy) → slice_get w.copies number ≡ Some c → (a : Node) × (slice_get w.nodes c.from ≡ Some a)
   pub to : (number : ℕ) (c : Copy) → slice_get w.copies number ≡ Some c → (a : Node) × (slice_get w.nodes c.to ≡ Some a)

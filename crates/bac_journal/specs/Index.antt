@@ -1,6 +1,7 @@
 -- What is kept of transactions and tickets beside the lists, so that nothing is looked for in them.
-use Rattle.std.specs.Prelude.{◌≡◌, ℕ, ◌+◌, ◌*◌, ◌≤◌, List, [], ◌∷◌, ◌++◌, length, Option, Some, option_and_then, slice_get, slice_set, vec_capacity}
+use Rattle.std.specs.Prelude.{◌≡◌, ℕ, ◌+◌, ◌*◌, ◌≤◌, List, length, Option, Some, option_and_then, slice_get, slice_set, vec_capacity}
 use Rattle.bac_protocol.specs.Transaction.{Key}
+use Rattle.bac_journal.specs.Entering.{with_ticket}
 use Rattle.bac_journal.specs.declared.asks.Cell.{Cell}
 use Rattle.bac_journal.specs.declared.asks.Row.{Row}
 
@@ -32,10 +33,12 @@ pub record IsWithCell (place : ℕ) (cell : Cell) (old new : Row) : Type 0 where
   pub cells : new.cells.items ≡ slice_set old.cells.items place cell
   pub numbers : new.numbers ≡ old.numbers
 
--- the number of its next ticket's ask is noted
-pub record IsWithNumber (number : ℕ) (old new : Row) : Type 0 where
+-- the number of that ticket's ask is noted
+pub record IsWithNumber (ticket number : ℕ) (old new : Row) : Type 0 where
   pub cells : new.cells ≡ old.cells
-  pub numbers : new.numbers.items ≡ old.numbers.items ++ number ∷ []
+  pub here : slice_get new.numbers.items ticket ≡ Some number
+  pub others : (t : ℕ) → (t ≡ ticket → ⊥) → slice_get new.numbers.items t ≡ slice_get old.numbers.items t
+  pub many : length new.numbers.items ≡ with_ticket ticket (length old.numbers.items)
 
 -- what it says is as it was
 pub record IsSameRow (old new : Row) : Type 0 where

@@ -5,16 +5,16 @@ use Rattle.bac_world.specs.World.{Note, newest, ask_of, count_of}
 use Rattle.bac_journal.specs.declared.asks.Cell.{Cell}
 use Rattle.bac_journal.specs.declared.asks.Row.{Row}
 use Rattle.bac_journal.specs.declared.copies.Copy.{Copy}
-use Rattle.bac_journal.specs.Entering.{asks_by}
+use Rattle.bac_journal.specs.Entering.{tickets_of}
 use Rattle.bac_journal.specs.Index.{cell_at, number_at, newest_at}
 use Rattle.bac_journal.specs.Views.{key_view, copy_view}
 
 pub record IsKept (rows : List Row) (copies : List Copy) (notes : List Note) : Type 0 where
-  -- the newest ask of each transaction, and the ask of each ticket
+  -- the newest ask of each transaction, and that of each ticket
   pub newest_is : (k : Key) → k.invoke_id < 256 → newest_at rows k ≡ newest k notes
   pub number_is : (client ticket : ℕ) → number_at rows client ticket ≡ ask_of client ticket notes
-  -- a client's asks are counted, and it has a place for each transaction
-  pub counted : (client : ℕ) (r : Row) → slice_get rows client ≡ Some r → length r.numbers.items ≡ asks_by client notes
+  -- a client's tickets are counted, and it has a place for each transaction
+  pub counted : (client : ℕ) (r : Row) → slice_get rows client ≡ Some r → length r.numbers.items ≡ tickets_of client notes
   pub places : (client : ℕ) (r : Row) → slice_get rows client ≡ Some r → length r.cells.items ≡ length rows * 256
   -- how many copies each transaction has, and how many each copy found
   pub sent : (k : Key) (c : Cell) → k.invoke_id < 256 → cell_at rows k ≡ Some c → c.sent ≡ count_of k (map copy_view copies)

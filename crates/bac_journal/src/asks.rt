@@ -16,7 +16,7 @@ pub(crate) struct Cell {
     pub sent: usize,
 }
 
-/// What is kept of a node as a client: its transactions, by server and invoke ID, and the numbers of its asks, by ticket.
+/// What is kept of a node as a client: its transactions, by server and invoke ID, and the numbers of its newest asks, by ticket.
 #[derive(Drop)]
 pub(crate) struct Row {
     pub cells: Vec<Cell>,
@@ -35,7 +35,7 @@ pub(crate) fn known(rows: &[Row], key: &Transaction) -> Option<Cell>
     row.cells.get(place).copied()
 }
 
-/// The number of the ask of a ticket; None where there is none.
+/// The number of the newest ask of a ticket; None where there is none.
 pub(crate) fn number_of(rows: &[Row], client: usize, ticket: u64) -> Option<usize>
     ensures { result ≡ number_at rows.now client ticket }
 {
@@ -53,13 +53,26 @@ pub(crate) fn set_known(rows: &mut [Row], key: &Transaction, cell: Cell)
     row.cells[place] = cell;
 }
 
-/// Notes the number of the ask of a client's next ticket, for which there is room.
-pub(crate) fn add_number(rows: &mut [Row], client: usize, number: usize)
-    requires { (r : _) × (slice_get rows.old client ≡ Some r) × (length r.numbers.items + 1 ≤ vec_capacity r.numbers) }
-    ensures { IsWithRow rows.old client (IsWithNumber number) rows.new }
+/// Sets the number of the ask of a ticket that there was, or of the one after them, for which there is room.
+fn put_number(row: &mut Row, ticket: u64, number: usize)
+    requires next { ticket ≤ length row.old.numbers.items }
+    requires room { length row.old.numbers.items + 1 ≤ vec_capacity row.old.numbers }
+    ensures { IsWithNumber ticket number row.old row.new }
 {
-    let row = &mut rows[client];
-    row.numbers.push_reserved(number);
+    let place = ticket as usize;
+    if place < row.numbers.len() {
+        row.numbers[place] = number;
+    } else {
+        row.numbers.push_reserved(number);
+    }
+}
+
+/// Notes the number of the ask of a client's ticket, one that there was or the one after them, for which there is room.
+pub(crate) fn add_number(rows: &mut [Row], client: usize, ticket: u64, number: usize)
+    requires { (r : _) × (slice_get rows.old client ≡ Some r) × (length r.numbers.items + 1 ≤ vec_capacity r.numbers) × (ticket ≤ length r.numbers.items) }
+    ensures { IsWithRow rows.old client (IsWithNumber ticket number) rows.new }
+{
+    put_number(&mut rows[client], ticket, number);
 }
 
 /// Makes room for the ask of a client's next ticket; nothing else changes.

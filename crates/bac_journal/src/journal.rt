@@ -4,7 +4,7 @@ ghost use Rattle.std.specs.Prelude.{IsTrue, OnOk, OnErr, List, [], ◌∷◌, No
 ghost use Rattle.bac_world.specs.Node.{Node};
 ghost use Rattle.bac_world.specs.World as world;
 ghost use Rattle.bac_world.specs.World.{ask_of, is_deliverable, newest, IsNoise};
-ghost use Rattle.bac_journal.specs.Entering.{asks_by};
+ghost use Rattle.bac_journal.specs.Entering.{tickets_of};
 ghost use Rattle.bac_journal.specs.Growing.{BecomeCopies, CanGo};
 ghost use Rattle.bac_journal.specs.Journals.{AreFresh, AreSame, HasNoteRoom, IsFreshRow, JournalView};
 ghost use Rattle.bac_journal.specs.Notes.{note_view, notes_view};
@@ -164,7 +164,7 @@ impl Journal {
         known(&self.rows, transaction)?.newest
     }
 
-    /// The ask of a client's ticket, by its number; None where there is none. It takes no memory.
+    /// The newest ask with that ticket of a client, by its number; None where there is none. It takes no memory.
     pub fn ask_of(&self, client: usize, ticket: u64) -> Option<usize>
         ensures { result ≡ ask_of client ticket self.now.notes }
     {
@@ -211,11 +211,12 @@ impl Journal {
         reserve_number(&mut self.rows, client)
     }
 
-    /// An ask that was accepted is noted, for which room was made; its client's tickets count its asks. It takes no memory.
+    /// An ask that was accepted is noted, for which room was made. Its ticket is one that its client had before, as one that restarts numbers its tickets
+    /// anew, or the one after them. It takes no memory.
     pub fn note(&mut self, note: Note)
         requires room { HasNoteRoom self.old note.transaction.client }
         requires server { note.transaction.server < length self.old.links }
-        requires ticket { note.ticket ≡ asks_by note.transaction.client self.old.notes }
+        requires ticket { note.ticket ≤ tickets_of note.transaction.client self.old.notes }
         ensures { self.new ≡ record (self.old) { notes = note_view note ∷ self.old.notes; note_room = self.new.note_room } }
     {
         note.transaction.fits();

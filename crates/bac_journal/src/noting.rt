@@ -3,7 +3,7 @@ ghost use Rattle.std.specs.Prelude.{◌≡◌, ◌+◌, ◌≤◌, List, ◌∷�
 ghost use Rattle.bac_journal.specs.declared.asks.Cell.{Cell};
 ghost use Rattle.bac_journal.specs.declared.asks.Row.{Row};
 ghost use Rattle.bac_journal.specs.declared.copies.Copy.{Copy};
-ghost use Rattle.bac_journal.specs.Entering.{asks_by};
+ghost use Rattle.bac_journal.specs.Entering.{tickets_of};
 ghost use Rattle.bac_journal.specs.Index.{cell_at};
 ghost use Rattle.bac_journal.specs.Notes.{note_view, notes_view};
 ghost use Rattle.bac_journal.specs.Records.{IsKept};
@@ -21,13 +21,15 @@ pub struct Note {
     pub ticket: u64,
 }
 
-/// An ask is noted: it is its transaction's newest. There is room for it, and for its ticket, which is its client's next one.
+/// An ask is noted: it is its transaction's newest, and its ticket's. There is room for it, and for its ticket, which its client had before, or which is
+/// the one after them.
 pub(crate) fn add_note(notes: &mut Vec<Note>, rows: &mut [Row], note: Note)
     requires there { (k : Cell) × (cell_at rows.old (key_view note.transaction) ≡ Some k) }
     requires room { length notes.old.items + 1 ≤ vec_capacity notes.old }
-    requires ticket_room { (r : Row) × (slice_get rows.old note.transaction.client ≡ Some r) × (length r.numbers.items + 1 ≤ vec_capacity r.numbers) }
+    requires ticket_room { (r : Row) × (slice_get rows.old note.transaction.client ≡ Some r) × (length r.numbers.items + 1 ≤ vec_capacity r.numbers)
+        × (note.ticket ≤ length r.numbers.items) }
     ensures notes { notes_view notes.new.items ≡ note_view note ∷ notes_view notes.old.items }
-    ensures kept { (copies : List Copy) → note.ticket ≡ asks_by note.transaction.client (notes_view notes.old.items)
+    ensures kept { (copies : List Copy) → note.ticket ≤ tickets_of note.transaction.client (notes_view notes.old.items)
         → IsKept rows.old copies (notes_view notes.old.items) → IsKept rows.new copies (notes_view notes.new.items) }
     ensures room { vec_capacity notes.new ≡ vec_capacity notes.old }
     ensures many { length rows.new ≡ length rows.old }
@@ -43,6 +45,6 @@ pub(crate) fn add_note(notes: &mut Vec<Note>, rows: &mut [Row], note: Note)
         sent: found.sent,
     };
     set_known(rows, &transaction, cell);
-    add_number(rows, transaction.client, number);
+    add_number(rows, transaction.client, note.ticket, number);
     notes.push_reserved(note);
 }

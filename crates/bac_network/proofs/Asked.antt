@@ -64,9 +64,10 @@ module _ (n : Network) (client server : ℕ) (can : CanAsk client server n) (b :
           client_there = link_within n.nodes.items n.journal.links can.ready.linked client g.before g.at;
           server_there = link_within n.nodes.items n.journal.links can.ready.linked server b there;
           room = can.note;
-          counted = k.ticket
-              ∙ ticket_is n.journal.moment b.link limits r g.before g.after k.accepted x.sends.items k.asks
-              ∙ can.ready.can.counted client g.before g.at;
+          counted =
+              let same = k.ticket ∙ ticket_is n.journal.moment b.link limits r g.before g.after k.accepted x.sends.items k.asks in
+              let few = can.ready.can.counted client g.before g.at in
+              omega arith;
         };
         few = enters.1;
       }

@@ -10,7 +10,7 @@ use Rattle.bac_network.specs.Histories.{WorldView}
 use Rattle.bac_requester.specs.declared.ask_fault.AskFault.{AskFault}
 use Rattle.bac_world.specs.Node.{Node}
 use Rattle.bac_world.specs.World.{World, Event, Copy, WorldStep, link_at, is_deliverable}
-use Rattle.bac_world.specs.World.Event.{Ask, Deliver, Noise, Tick, Advance, Change}
+use Rattle.bac_world.specs.World.Event.{Ask, Deliver, Noise, Tick, Advance, Change, Restart}
 use Rattle.bac_network.specs.Steps.{NamesNoNode, NamesNoCopy, PassesClock, RefusesChange, TakesMemory, Happens, HappensTelling, Tells, Untells}
 use Rattle.bac_network.specs.declared.fault.WorldFault.{WorldFault}
 use Rattle.bac_network.specs.declared.fault.WorldFault.TheVariants as fault
@@ -37,6 +37,7 @@ module _ (overtake : ℕ) (old new : World) where
   no_node (Noise node from octets) (inl h) n = none_some (slice_get old.nodes node) h.hears.before n h.hears.at
   no_node (Noise node from octets) (inr h) n = none_some (slice_get old.nodes node) h.node n h.at
   no_node (Tick node) h n = none_some (slice_get old.nodes node) h.before n h.at
+  no_node (Restart node store) h n = none_some (slice_get old.nodes node) h.before n h.at
   no_node (Advance by) h n = n
   no_node (Change node c) h n = none_some (slice_get old.nodes node) h.before n h.at
 
@@ -45,6 +46,7 @@ module _ (overtake : ℕ) (old new : World) where
   no_copy (Deliver number) h n = none_some (slice_get old.copies number) h.copy n h.there
   no_copy (Noise node from octets) h n = n
   no_copy (Tick node) h n = n
+  no_copy (Restart node store) h n = n
   no_copy (Advance by) h n = n
   no_copy (Change node c) h n = n
 
@@ -53,6 +55,7 @@ module _ (overtake : ℕ) (old new : World) where
   node_or_copy (Deliver number) n c = n
   node_or_copy (Noise node from octets) n c = c
   node_or_copy (Tick node) n c = c
+  node_or_copy (Restart node store) n c = c
   node_or_copy (Advance by) n c = n
   node_or_copy (Change node d) n c = c
 
@@ -61,6 +64,7 @@ module _ (overtake : ℕ) (old new : World) where
   node_or_clock (Deliver number) n c = n
   node_or_clock (Noise node from octets) n c = c
   node_or_clock (Tick node) n c = c
+  node_or_clock (Restart node store) n c = c
   node_or_clock (Advance by) n c = n
   node_or_clock (Change node d) n c = c
 
@@ -69,6 +73,7 @@ module _ (overtake : ℕ) (old new : World) where
   copy_or_clock (Deliver number) n c = c
   copy_or_clock (Noise node from octets) n c = n
   copy_or_clock (Tick node) n c = n
+  copy_or_clock (Restart node store) n c = n
   copy_or_clock (Advance by) n c = n
   copy_or_clock (Change node d) n c = n
 
@@ -77,6 +82,7 @@ module _ (overtake : ℕ) (old new : World) where
   copy_or_memory (Deliver number) n m = none_some (slice_get old.copies number) m.0 n m.1
   copy_or_memory (Noise node from octets) n m = n
   copy_or_memory (Tick node) n m = n
+  copy_or_memory (Restart node store) n m = n
   copy_or_memory (Advance by) n m = n
   copy_or_memory (Change node d) n m = n
 
@@ -85,6 +91,7 @@ module _ (overtake : ℕ) (old new : World) where
   clock_or_memory (Deliver number) n m = n
   clock_or_memory (Noise node from octets) n m = n
   clock_or_memory (Tick node) n m = n
+  clock_or_memory (Restart node store) n m = n
   clock_or_memory (Advance by) n m = m
   clock_or_memory (Change node d) n m = n
 
@@ -97,6 +104,7 @@ module _ (overtake : ℕ) (old new : World) where
   no_refusal (Deliver number) h why r = r
   no_refusal (Noise node from octets) h why r = r
   no_refusal (Tick node) h why r = r
+  no_refusal (Restart node store) h why r = r
   no_refusal (Advance by) h why r = r
 
   node_or_refusal : (e : Event) → NamesNoNode old e → (why : ChangeFault) → RefusesChange old e why → ⊥
@@ -105,6 +113,7 @@ module _ (overtake : ℕ) (old new : World) where
   node_or_refusal (Deliver number) n why r = r
   node_or_refusal (Noise node from octets) n why r = r
   node_or_refusal (Tick node) n why r = r
+  node_or_refusal (Restart node store) n why r = r
   node_or_refusal (Advance by) n why r = r
 
   copy_or_refusal : (e : Event) → NamesNoCopy old e → (why : ChangeFault) → RefusesChange old e why → ⊥
@@ -113,6 +122,7 @@ module _ (overtake : ℕ) (old new : World) where
   copy_or_refusal (Deliver number) n why r = r
   copy_or_refusal (Noise node from octets) n why r = r
   copy_or_refusal (Tick node) n why r = r
+  copy_or_refusal (Restart node store) n why r = r
   copy_or_refusal (Advance by) n why r = r
 
   clock_or_refusal : (e : Event) → PassesClock old e → (why : ChangeFault) → RefusesChange old e why → ⊥
@@ -121,6 +131,7 @@ module _ (overtake : ℕ) (old new : World) where
   clock_or_refusal (Deliver number) n why r = r
   clock_or_refusal (Noise node from octets) n why r = r
   clock_or_refusal (Tick node) n why r = r
+  clock_or_refusal (Restart node store) n why r = r
   clock_or_refusal (Advance by) n why r = r
 
   memory_or_refusal : (e : Event) → TakesMemory overtake old e → (why : ChangeFault) → RefusesChange old e why → ⊥
@@ -129,6 +140,7 @@ module _ (overtake : ℕ) (old new : World) where
   memory_or_refusal (Deliver number) m why r = r
   memory_or_refusal (Noise node from octets) m why r = r
   memory_or_refusal (Tick node) m why r = r
+  memory_or_refusal (Restart node store) m why r = r
   memory_or_refusal (Advance by) m why r = r
 
   one_refusal : (e : Event) (why other : ChangeFault) → RefusesChange old e why → RefusesChange old e other → why ≡ other
@@ -141,6 +153,7 @@ module _ (overtake : ℕ) (old new : World) where
   one_refusal (Deliver number) why other r s = absurd r
   one_refusal (Noise node from octets) why other r s = absurd r
   one_refusal (Tick node) why other r s = absurd r
+  one_refusal (Restart node store) why other r s = absurd r
   one_refusal (Advance by) why other r s = absurd r
 
   -- Each fault comes exactly where it says.
@@ -238,6 +251,7 @@ IsNoAsk (Ask client server limits r) = ⊥
 IsNoAsk (Deliver number) = Unit {0}
 IsNoAsk (Noise node from octets) = Unit {0}
 IsNoAsk (Tick node) = Unit {0}
+IsNoAsk (Restart node store) = Unit {0}
 IsNoAsk (Advance by) = Unit {0}
 IsNoAsk (Change node c) = Unit {0}
 
@@ -246,6 +260,7 @@ tells_none old new (Ask client server limits r) n = absurd n
 tells_none old new (Deliver number) n = tt
 tells_none old new (Noise node from octets) n = tt
 tells_none old new (Tick node) n = tt
+tells_none old new (Restart node store) n = tt
 tells_none old new (Advance by) n = tt
 tells_none old new (Change node c) n = tt
 

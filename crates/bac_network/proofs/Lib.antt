@@ -3,6 +3,7 @@ pub mod Entered
 pub mod Happening
 pub mod Delivered
 pub mod Changed
+pub mod Restarted
 pub mod Alike
 pub mod Asked
 pub mod Makers

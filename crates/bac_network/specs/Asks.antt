@@ -1,5 +1,5 @@
 -- An ask that was accepted enters the journal and the log.
-use Rattle.std.specs.Prelude.{◌≡◌, ◌<◌, ◌+◌, ℕ, List, ◌∷◌, length, Option, Some, Result, Ok, Err}
+use Rattle.std.specs.Prelude.{◌≡◌, ◌<◌, ◌≤◌, ◌+◌, ℕ, List, ◌∷◌, length, Option, Some, Result, Ok, Err}
 use Rattle.bac_ends.specs.Sends.{Datagram}
 use Rattle.bac_requester.specs.declared.ask_fault.AskFault.{AskFault}
 use Rattle.bac_requester.specs.declared.ask_fault.AskFault.TheVariants as ask_fault
@@ -7,7 +7,7 @@ use Rattle.bac_service.specs.Values.{Request}
 use Rattle.bac_world.specs.Node.{Node}
 use Rattle.bac_world.specs.Once.{Fact}
 use Rattle.bac_world.specs.Once.Fact.{Asked}
-use Rattle.bac_journal.specs.Entering.{asks_by}
+use Rattle.bac_journal.specs.Entering.{tickets_of}
 use Rattle.bac_journal.specs.Growing.{BecomeCopies, CanBecome}
 use Rattle.bac_journal.specs.Journals.{HasNoteRoom, JournalView}
 use Rattle.bac_journal.specs.Views.{AreLinks}
@@ -26,7 +26,7 @@ pub record CanAsk (client server : ℕ) (n : Network) : Type 0 where
   pub note : HasNoteRoom n.journal client
   pub room : HasRoom 1 (window + 1) n
 
--- an accepted ask can be noted: its ticket counts its client's asks
+-- an accepted ask can be noted: its ticket is one that its client had, or the one after them
 pub record CanBeNoted (j : JournalView) (client server ticket : ℕ) (sends : List Datagram) : Type 0 where
   pub nodes : List Node
   pub linked : AreLinks nodes j.links
@@ -34,7 +34,7 @@ pub record CanBeNoted (j : JournalView) (client server ticket : ℕ) (sends : Li
   pub client_there : client < length j.links
   pub server_there : server < length j.links
   pub room : HasNoteRoom j client
-  pub counted : ticket ≡ asks_by client j.notes
+  pub counted : ticket ≤ tickets_of client j.notes
 
 -- it is noted
 pub record IsNotedAsk (nodes : List Node) (client server : ℕ) (r : Request) (invoke_id ticket : ℕ) (sends : List Datagram) (old new : JournalView)

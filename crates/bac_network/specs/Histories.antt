@@ -35,7 +35,7 @@ ArePerformedOnceNow w = ArePerformedOnce (opening_stores w) w.world.log
 abbrev pub AreEndedOnceNow : WorldView → Type 0
 AreEndedOnceNow w = AreEndedOnce w.world.log
 
--- of the stores: they are the opening ones after the performed requests and the changes at their nodes, in the log's order
+-- of the stores: they are those of their nodes' last starts, after what was performed and changed since, in the log's order
 abbrev pub AreReplayedNow : WorldView → Type 0
 AreReplayedNow w = AreReplayed (opening_stores w) w.world.log (stores_of w.world.nodes)
 

@@ -8,7 +8,7 @@ use Rattle.bac_store.specs.AtNode.{change_fault}
 use Rattle.bac_store.specs.declared.change_fault.ChangeFault.{ChangeFault}
 use Rattle.bac_world.specs.Node.{Node, Refusal}
 use Rattle.bac_world.specs.World.{World, Copy, Event, WorldStep, IsAsked, IsRefused, is_deliverable}
-use Rattle.bac_world.specs.World.Event.{Ask, Deliver, Noise, Tick, Advance, Change}
+use Rattle.bac_world.specs.World.Event.{Ask, Deliver, Noise, Tick, Advance, Change, Restart}
 use Rattle.bac_network.specs.declared.fault.WorldFault.{WorldFault}
 use Rattle.bac_network.specs.declared.fault.WorldFault.TheVariants as fault
 
@@ -18,6 +18,7 @@ NamesNoNode w (Ask client server limits r) = (slice_get w.nodes client ≡ None)
 NamesNoNode w (Deliver number) = ⊥
 NamesNoNode w (Noise node from octets) = slice_get w.nodes node ≡ None
 NamesNoNode w (Tick node) = slice_get w.nodes node ≡ None
+NamesNoNode w (Restart node store) = slice_get w.nodes node ≡ None
 NamesNoNode w (Advance by) = ⊥
 NamesNoNode w (Change node c) = slice_get w.nodes node ≡ None
 
@@ -27,6 +28,7 @@ NamesNoCopy w (Deliver number) = slice_get w.copies number ≡ None
 NamesNoCopy w (Ask client server limits r) = ⊥
 NamesNoCopy w (Noise node from octets) = ⊥
 NamesNoCopy w (Tick node) = ⊥
+NamesNoCopy w (Restart node store) = ⊥
 NamesNoCopy w (Advance by) = ⊥
 NamesNoCopy w (Change node c) = ⊥
 
@@ -37,6 +39,7 @@ PassesClock w (Ask client server limits r) = ⊥
 PassesClock w (Deliver number) = ⊥
 PassesClock w (Noise node from octets) = ⊥
 PassesClock w (Tick node) = ⊥
+PassesClock w (Restart node store) = ⊥
 PassesClock w (Change node c) = ⊥
 
 -- it is a change that has that fault
@@ -44,12 +47,13 @@ abbrev pub RefusesChange : World → Event → ChangeFault → Type 0
 RefusesChange w (Change node c) why = (a : Node) × (slice_get w.nodes node ≡ Some a) × (change_fault a.store c ≡ Some why)
 RefusesChange w e why = ⊥
 
--- it takes memory: an ask, a tick, a copy that is deliverable, and a change without a fault
+-- it takes memory: an ask, a tick, a restart, a copy that is deliverable, and a change without a fault
 abbrev pub TakesMemory : (overtake : ℕ) → World → Event → Type 0
 TakesMemory overtake w (Ask client server limits r) = Unit {0}
 TakesMemory overtake w (Deliver number) = (c : Copy) × (slice_get w.copies number ≡ Some c) × (is_deliverable overtake w.now number w.copies c ≡ true)
 TakesMemory overtake w (Noise node from octets) = ⊥
 TakesMemory overtake w (Tick node) = Unit {0}
+TakesMemory overtake w (Restart node store) = Unit {0}
 TakesMemory overtake w (Advance by) = ⊥
 TakesMemory overtake w (Change node c) = (why : ChangeFault) → RefusesChange w (Change node c) why → ⊥
 
@@ -85,11 +89,13 @@ Tells (Some f) old (Ask client server limits r) new = (h : IsRefused old client 
 Tells None old (Deliver number) new = Unit {0}
 Tells None old (Noise node from octets) new = Unit {0}
 Tells None old (Tick node) new = Unit {0}
+Tells None old (Restart node store) new = Unit {0}
 Tells None old (Advance by) new = Unit {0}
 Tells None old (Change node c) new = Unit {0}
 Tells (Some f) old (Deliver number) new = ⊥
 Tells (Some f) old (Noise node from octets) new = ⊥
 Tells (Some f) old (Tick node) new = ⊥
+Tells (Some f) old (Restart node store) new = ⊥
 Tells (Some f) old (Advance by) new = ⊥
 Tells (Some f) old (Change node c) new = ⊥
 

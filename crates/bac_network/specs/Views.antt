@@ -16,6 +16,7 @@ fact_view (fact.Asked number client server request) = once.Fact.Asked number cli
 fact_view (fact.Performed number request reply) = once.Fact.Performed number (owned_request_view request) (owned_reply_view reply)
 fact_view (fact.Ended number how) = once.Fact.Ended number (ending_view how)
 fact_view (fact.Changed node change) = once.Fact.Changed node (change_view change)
+fact_view (fact.Restarted node store) = once.Fact.Restarted node store
 
 -- contracts see the newest fact first
 abbrev pub log_view : List Fact → List once.Fact
@@ -28,3 +29,4 @@ event_view (event.Noise node from octets) = world.Event.Noise node from octets.i
 event_view (event.Tick node) = world.Event.Tick node
 event_view (event.Advance by) = world.Event.Advance by
 event_view (event.Change node change) = world.Event.Change node (change_view change)
+event_view (event.Restart node store) = world.Event.Restart node store

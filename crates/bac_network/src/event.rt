@@ -2,7 +2,7 @@
 use bac_apdu::Limits;
 use bac_npdu::LinkAddress;
 use bac_service::OwnedRequest;
-use bac_store::Change;
+use bac_store::{Change, Store};
 
 /// What can happen. Nodes and copies are numbered from 0.
 #[derive(Drop)]
@@ -48,5 +48,12 @@ pub enum Event {
         node: usize,
         /// What changes.
         change: Change,
+    },
+    /// A node restarts: its asks and its reply table are lost, and for a time both its ends wait.
+    Restart {
+        /// The node.
+        node: usize,
+        /// The store with which it starts again; None where it is the one that it has.
+        store: Option<Store>,
     },
 }

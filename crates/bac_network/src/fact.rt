@@ -1,10 +1,12 @@
 //! What is logged.
+ghost use Rattle.std.specs.Prelude.{◌≡◌, ◌↔◌, IsTrue};
+
 use bac_comparing::{Alike, same_change, same_ending, same_reply, same_request};
 use bac_service::{OwnedReply, OwnedRequest};
-use bac_store::Change;
+use bac_store::{Change, Store};
 use bac_ticket::Ending;
 
-/// What was asked, performed, ended or changed. Asks are numbered from 0; clients and servers are numbered among the nodes.
+/// What was asked, performed, ended, changed or restarted. Asks are numbered from 0; clients and servers are numbered among the nodes.
 #[derive(Drop)]
 pub enum Fact {
     /// An ask was accepted.
@@ -41,6 +43,26 @@ pub enum Fact {
         /// What changed.
         change: Change,
     },
+    /// A node restarted.
+    Restarted {
+        /// The node.
+        node: usize,
+        /// The store with which it started again; None where it was the one that it had.
+        store: Option<Store>,
+    },
+}
+
+/// Whether two nodes restarted with the same store, or both with the one that they had.
+fn same_start(one: &Option<Store>, other: &Option<Store>) -> bool
+    ensures { IsTrue result ↔ (one.now ≡ other.now) }
+{
+    match one {
+        Some(store) => match other {
+            Some(another) => store.same(another),
+            None => false,
+        },
+        None => other.is_none(),
+    }
 }
 
 impl Alike for Fact {
@@ -96,6 +118,13 @@ impl Alike for Fact {
                     node: place,
                     change: made,
                 } => node == place && same_change(change, made),
+                _ => false,
+            },
+            Fact::Restarted { node, store } => match other {
+                Fact::Restarted {
+                    node: place,
+                    store: opening,
+                } => node == place && same_start(store, opening),
                 _ => false,
             },
         }

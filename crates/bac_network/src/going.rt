@@ -8,7 +8,7 @@ ghost use Rattle.bac_store.specs.Views.{change_view};
 ghost use Rattle.bac_node.specs.Calls.{Refuses, IsAsked, ticked};
 ghost use Rattle.bac_node.specs.Views.{outcome_view};
 ghost use Rattle.bac_world.specs.Laws.{IsMeaningless};
-ghost use Rattle.bac_world.specs.Node.{Node as NodeView, NodeOn, NodeTick, with_change};
+ghost use Rattle.bac_world.specs.Node.{Node as NodeView, NodeOn, NodeTick, restarted, store_after_restart, with_change};
 ghost use Rattle.bac_world.specs.World.{Copy};
 ghost use Rattle.bac_network.specs.Goings.{ArePunctual, Goes, IsBetween, IsHeardCopy};
 
@@ -18,7 +18,7 @@ use bac_node::{Node, NodeFault, Outcome};
 use bac_npdu::{LinkAddress, Peer};
 use bac_requester::{AskFault, Asked};
 use bac_service::OwnedRequest;
-use bac_store::{Change, ChangeFault};
+use bac_store::{Change, ChangeFault, Store};
 use bac_value::NoMemory;
 
 /// A node hears a datagram from a link, at a moment that is not before its latest.
@@ -115,4 +115,19 @@ pub(crate) fn change_node(nodes: &mut [Node], i: usize, change: &Change) -> Resu
         Err(ChangeFault::NoMemory) => Err(NoMemory),
         Err(_) => unreachable!(),
     }
+}
+
+/// A node restarts, with the store that it has or another one.
+pub(crate) fn restart_node(
+    nodes: &mut [Node],
+    i: usize,
+    now: u64,
+    store: Option<Store>,
+) -> Result<(), NoMemory>
+    requires { i < length nodes.old }
+    ensures went { OnOk result (Goes nodes.old i (λ a b. b ≡ restarted now (store_after_restart a.store store) a) nodes.new) }
+    ensures err { OnErr result (nodes.new ≡ nodes.old) }
+{
+    let node = &mut nodes[i];
+    node.restart(now, store)
 }

@@ -1,4 +1,4 @@
-//! Worlds in code: nodes in one simulated network, with a log of what was asked, performed, answered and changed.
+//! Worlds in code: nodes in one simulated network, with a log of what was asked, performed, answered, changed and restarted.
 //!
 //! Every run of a world is a run of bac_world's definitions, so each accepted ask takes effect at most once in it.
 #![tactic(auto)]
@@ -15,6 +15,7 @@ mod logging;
 mod making;
 mod network;
 mod noise;
+mod restarting;
 mod ticking;
 mod world;
 

@@ -55,6 +55,7 @@ impl Network {
             Event::Tick { node } => untold(self.tick(*node)),
             Event::Advance { by } => untold(self.advance(*by)),
             Event::Change { node, change } => untold(self.change(alloc, *node, change)),
+            Event::Restart { node, store } => untold(self.restart(alloc, *node, store)),
         }
     }
 }

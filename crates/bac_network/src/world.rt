@@ -24,8 +24,8 @@ use std::marker::Model;
 /// Nodes in one simulated network, with a clock, the copies of the datagrams that they sent, and a log of what was asked, performed and answered.
 ///
 /// However events follow each other, the log is right with the stores: every accepted ask takes effect at most once, and exactly once where a service answer
-/// reached its client; the request performed and the answer are its own, whole; and each store is the opening one after the performed requests and the
-/// changes made at its node, in the log's order.
+/// reached its client; the request performed and the answer are its own, whole; and each store is that of its node's last start, after what was performed
+/// and changed there since, in the log's order: at a restart it stays, or is the one that the log tells.
 #[derive(Drop)]
 pub struct World {
     pub(crate) alloc: Global,
@@ -107,7 +107,7 @@ impl World {
 
     /// A run of a fresh world with the opening stores led to it, and its log is right with the stores: every accepted ask was performed at most once, as it
     /// was asked, with the reply of its server's store as it then was (`performed`); it ended at most once, and was answered with that reply alone (`ended`);
-    /// and stores were changed by performed requests and by changes at their nodes alone (`stores`).
+    /// and stores were changed by performed requests, and by changes and restarts of their nodes alone (`stores`).
     pub fn is_once(&self)
         ensures history { HasHistory self.now }
         ensures once { IsOnceNow self.now }

@@ -53,7 +53,7 @@ abbrev pub setting_at : List ℕ → Option Setting
 setting_at line = setting_of (words_of line)
 
 -- ---- the lines after it: ask CLIENT SERVER REQUEST, deliver COPY, lose COPY, noise NODE HEX, tick NODE, advance MILLISECONDS,
--- ---- set NODE OBJECT PROPERTY HEX, file NODE OBJECT HEX
+-- ---- set NODE OBJECT PROPERTY HEX, file NODE OBJECT HEX, restart NODE
 
 pub data Step : Type 0 where
   Ask : (client server : ℕ) (request : Request) → Step
@@ -64,6 +64,7 @@ pub data Step : Type 0 where
   Advance : (by : ℕ) → Step
   SetProperty : (node : ℕ) (object : ObjectId) (property : ℕ) (octets : List ℕ) → Step
   SetFile : (node : ℕ) (object : ObjectId) (octets : List ℕ) → Step
+  Restart : (node : ℕ) → Step
 
 unfoldable pub ask_of : (client server : List ℕ) → (request : List (List ℕ)) → Option Step
 ask_of client server request = do
@@ -110,7 +111,8 @@ numbered word number = do
       else (if bytes_eq word (codes "tick") then Some (Tick n)
       else (if bytes_eq word (codes "advance") then Some (Advance n)
       else (if bytes_eq word (codes "lose") then Some (Lose n)
-      else None)))
+      else (if bytes_eq word (codes "restart") then Some (Restart n)
+      else None))))
 
 abbrev pub step_of : List (List ℕ) → Option Step
 step_of (word ∷ number ∷ []) = numbered word number

@@ -24,6 +24,7 @@ step_view (code.Tick node) = plain.Step.Tick node
 step_view (code.Advance by) = plain.Step.Advance by
 step_view (code.SetProperty s) = plain.Step.SetProperty s.node (object_identifier_view s.object) s.property s.octets.items
 step_view (code.SetFile s) = plain.Step.SetFile s.node (object_identifier_view s.object) s.octets.items
+step_view (code.Restart node) = plain.Step.Restart node
 
 abbrev pub written_view : Written → requests.Written
 written_view w = (w.octets.items, priority_view w.priority)

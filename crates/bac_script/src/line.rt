@@ -76,4 +76,6 @@ pub enum Step {
     SetProperty(SetProperty),
     /// A node changes a file of its own store.
     SetFile(SetFile),
+    /// The node of that number restarts, with the store that it has.
+    Restart(u64),
 }

@@ -143,6 +143,8 @@ fn with_number(word: &[u8], number: &[u8]) -> Result<Step, FormFault>
         Ok(Step::Advance(number))
     } else if word == b"lose".as_slice() {
         Ok(Step::Lose(number))
+    } else if word == b"restart".as_slice() {
+        Ok(Step::Restart(number))
     } else {
         Err(FormFault::NoForm)
     }
@@ -227,7 +229,8 @@ fn step_in(alloc: Global, words: &[&[u8]]) -> Result<Step, FormFault>
 }
 
 /// A line after the first one, without its end: `ask CLIENT SERVER` and the words of a request, `deliver COPY`, `lose COPY`, `noise NODE HEX`,
-/// `tick NODE`, `advance MILLISECONDS`, `set NODE T:I P HEX` or `file NODE T:I HEX`, separated by single spaces. `NoForm` for any other line.
+/// `tick NODE`, `advance MILLISECONDS`, `set NODE T:I P HEX`, `file NODE T:I HEX` or `restart NODE`, separated by single spaces. `NoForm` for any other
+/// line.
 pub fn read_step(alloc: Global, line: &[u8]) -> Result<Step, FormFault>
     ensures { Reads step_view result (step_at line.now) }
 {

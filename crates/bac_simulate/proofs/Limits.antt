@@ -2,7 +2,7 @@
 use Rattle.std.proofs.Common.{◌≡◌, ℕ, zero, suc, ◌+◌, Bool, List, [], ◌∷◌, Option, Some, None, refl, ap, ◌∙◌}
 use Rattle.std.specs.Option.{option_map}
 use Rattle.bac_script.specs.Lines.{Step, step_at}
-use Rattle.bac_script.specs.Lines.Step.{Ask, Deliver, Lose, Noise, Tick, Advance, SetProperty, SetFile}
+use Rattle.bac_script.specs.Lines.Step.{Ask, Deliver, Lose, Noise, Tick, Advance, SetProperty, SetFile, Restart}
 use Rattle.bac_apdu.specs.Apdu as plain
 use Rattle.bac_world.specs.World as world
 use Rattle.bac_simulate.specs.Houses.{house_nodes}
@@ -23,6 +23,7 @@ same_event f g same (Tick node) = refl
 same_event f g same (Advance by) = refl
 same_event f g same (SetProperty node object property octets) = refl
 same_event f g same (SetFile node object octets) = refl
+same_event f g same (Restart node) = refl
 
 same_step : (f g : NodeLimits) → ((node : ℕ) → f node ≡ g node) → (o : Option Step) → option_map (said_by f) o ≡ option_map (said_by g) o
 same_step f g same None = refl

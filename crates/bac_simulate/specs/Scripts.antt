@@ -56,6 +56,7 @@ said_by limits (line.Step.Tick node) = Happens (world.Event.Tick node)
 said_by limits (line.Step.Advance by) = Happens (world.Event.Advance by)
 said_by limits (line.Step.SetProperty node object property octets) = Happens (world.Event.Change node (at_node.Change.Value object property octets))
 said_by limits (line.Step.SetFile node object octets) = Happens (world.Event.Change node (at_node.Change.File object octets))
+said_by limits (line.Step.Restart node) = Happens (world.Event.Restart node None)
 
 -- by what is to be read of a line
 abbrev pub said_in : NodeLimits → (read : Option (List ℕ)) → Option ScriptLine

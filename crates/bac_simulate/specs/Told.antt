@@ -3,10 +3,14 @@ use Rattle.std.specs.Prelude.{ℕ, codes, decimal, ◌+◌, Bool, true, false, �
 use Rattle.bac_requester.specs.Faults.{ask_fault_number}
 use Rattle.bac_requester.specs.declared.ask_fault.AskFault.{AskFault}
 use Rattle.bac_world.specs.Once.{Fact}
-use Rattle.bac_world.specs.Once.Fact.{Asked, Performed, Ended, Changed}
+use Rattle.bac_world.specs.Once.Fact.{Asked, Performed, Ended, Changed, Restarted}
 use Rattle.bac_world.specs.World.{World, Copy, Note}
-use Rattle.bac_text.specs.Texts.{line_end}
 use Rattle.bac_commands.specs.Facts.{asked_line, changed_line, ended_line, nothing_line, performed_line, refused_line, sent_line}
+use Rattle.bac_text.specs.Texts.{line_end}
+
+-- a node restarted
+abbrev pub restarted_line : (node : ℕ) → List ℕ
+restarted_line node = codes "restarted " ++ decimal node ++ line_end
 
 -- an accepted ask, by what is noted of it
 abbrev pub asked_text : (ask : ℕ) → Option Note → List ℕ
@@ -19,6 +23,7 @@ fact_text notes (Asked ask client server request) = asked_text ask (slice_get no
 fact_text notes (Performed ask request reply) = performed_line ask
 fact_text notes (Ended ask how) = ended_line ask how
 fact_text notes (Changed node change) = changed_line node
+fact_text notes (Restarted node store) = restarted_line node
 
 abbrev pub facts_text : List Note → List Fact → List ℕ
 facts_text notes [] = []

@@ -5,7 +5,7 @@ ghost use Rattle.bac_journal.specs.Notes.{note_view};
 ghost use Rattle.bac_journal.specs.Views.{copy_view};
 ghost use Rattle.bac_network.specs.Views.{fact_view};
 ghost use Rattle.bac_commands.specs.Facts.{sent_line};
-ghost use Rattle.bac_simulate.specs.Told.{asked_text, copies_text, fact_text, facts_text, is_as_before, lost_line, news_text, outcome_text};
+ghost use Rattle.bac_simulate.specs.Told.{asked_text, copies_text, fact_text, facts_text, is_as_before, lost_line, news_text, outcome_text, restarted_line};
 
 use bac_commands::{
     print_asked, print_changed, print_ended, print_nothing, print_performed, print_refused,
@@ -46,6 +46,13 @@ fn print_accepted<W: Write>(asks: &[Note], number: usize, out: &mut W) -> io::Re
     }
 }
 
+/// Prints that the node with that number restarted.
+fn print_restarted<W: Write>(node: u64, out: &mut W) -> io::Result<()>
+    ensures { OnOk result (Appends (W.contents out.old) (W.contents out.new) (restarted_line node)) }
+{
+    writeln!(out, "restarted {node}")
+}
+
 fn print_fact<W: Write>(alloc: Global, asks: &[Note], fact: &Fact, out: &mut W) -> io::Result<()>
     ensures { OnOk result (Appends (W.contents out.old) (W.contents out.new) (fact_text (map note_view asks.now) (fact_view fact.now))) }
 {
@@ -54,6 +61,7 @@ fn print_fact<W: Write>(alloc: Global, asks: &[Note], fact: &Fact, out: &mut W) 
         Fact::Performed { number, .. } => print_performed(*number as u64, out),
         Fact::Ended { number, how } => print_ended(alloc, *number as u64, how, out),
         Fact::Changed { node, .. } => print_changed(*node as u64, out),
+        Fact::Restarted { node, .. } => print_restarted(*node as u64, out),
     }
 }
 

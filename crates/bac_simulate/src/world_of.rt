@@ -140,5 +140,9 @@ pub(crate) fn said_by(world: &World, step: Step) -> ScriptLine
         Step::Advance(by) => ScriptLine::Happens(Event::Advance { by }),
         Step::SetProperty(set) => ScriptLine::Happens(value_change(set)),
         Step::SetFile(set) => ScriptLine::Happens(file_change(set)),
+        Step::Restart(node) => ScriptLine::Happens(Event::Restart {
+            node: node as usize,
+            store: None,
+        }),
     }
 }

@@ -1,5 +1,5 @@
 -- While copies of an ask are delivered, its ticket is open exactly as long as the log has no ending of it.
-use Rattle.std.proofs.Common.{◌≡◌, ◌↔◌, ℕ, Bool, true, false, List, length, Option, Some, None, refl, sym, ap, subst, ◌∙◌, arith}
+use Rattle.std.proofs.Common.{◌≡◌, ◌↔◌, ℕ, zero, suc, Bool, true, false, List, length, Option, Some, None, refl, sym, ap, subst, ◌∙◌, arith}
 use Rattle.bac_apdu.specs.Apdu.{Limits}
 use Rattle.bac_service.specs.Services.{reads_reply}
 use Rattle.bac_service.specs.Values.{Request, choice_of}
@@ -10,6 +10,7 @@ use Rattle.bac_protocol.specs.Transaction.{Key, Rules}
 use Rattle.bac_protocol.specs.World.{Net, net_start}
 use Rattle.bac_protocol.specs.Straight.{is_ended}
 use Rattle.bac_protocol.specs.Claims as claims
+use Rattle.bac_protocol.specs.Claims.{ClientStays}
 use Rattle.bac_protocol.proofs.ClientKeeps as keeps
 use Rattle.bac_protocol.proofs.Facts.{below_unended}
 use Rattle.bac_protocol.proofs.Headline.{net_log}
@@ -19,14 +20,14 @@ use Rattle.bac_progress.proofs.Paths.{Any, bounded_start}
 use Rattle.bac_progress.proofs.Changes.{IdleIsLogged, HasEnded, IsThere, logged_path}
 use Rattle.bac_ends.specs.Keys.{PeerKey}
 use Rattle.bac_world.specs.Once.{IsUnended}
-use Rattle.bac_world.specs.World.{World, Event, WorldRun, IsFresh, IsBounded, IsAsked, link_at, peer_at}
+use Rattle.bac_world.specs.World.{World, Event, WorldRun, IsFresh, IsBounded, IsAsked, RunsOn, link_at, peer_at}
 use Rattle.bac_world.proofs.Logs.{unended}
 use Rattle.bac_world.proofs.Bridge.{slot_key}
 use Rattle.bac_world.proofs.Steps.{Over}
 use Rattle.bac_world.proofs.Asking.{accepted_is}
 use Rattle.bac_world.proofs.Headline.{fresh_over, rules_of, rules_bounded}
-use Rattle.bac_completion.proofs.Never.{never_bounded, client_stays}
-use Rattle.bac_completion.proofs.Asked.{key, ask, made, made_over, made_bounded, made_path, there, server_link, client_link}
+use Rattle.bac_completion.proofs.Staying.{reached_bounded}
+use Rattle.bac_completion.proofs.Asked.{key, ask, made, made_over, made_bounded, made_path, there, stays, server_link, client_link}
 use Rattle.bac_completion.proofs.Endings.{on_run, once_in}
 use Rattle.bac_completion.proofs.Following.{Followed, Parts, accepted}
 use Rattle.bac_completion.specs.StraightRuns.{is_open, key_of_ask, ending_in, deliveries}
@@ -34,6 +35,11 @@ use Rattle.bac_completion.proofs.StraightRuns.Tickets.{open_there, closed_there}
 use Rattle.bac_straight_runs.specs.Open.{OpenUntilEnded}
 use Rattle.bac_straight_runs.proofs.Endings.{none_counted, unended_none}
 use Rattle.bac_straight_runs.proofs.Still.{stays_there, deliveries_now}
+
+-- nothing restarts while copies are delivered
+deliveries_on : (i count number : ℕ) → RunsOn i (deliveries count number)
+deliveries_on i zero number = tt
+deliveries_on i (suc count) number = deliveries_on i count (suc number)
 
 module _ (links : ℕ → Option Octets) (apart : (i j : ℕ) (l : Octets) → links i ≡ Some l → links j ≡ Some l → i ≡ j) (W : ℕ) (x : Rules)
     (bound : claims.IsBounded W x) (readable : x.readable ≡ reads_reply) (old : World) (n : Net) (h : Over links apart W x old n)
@@ -81,7 +87,7 @@ module _ (links : ℕ → Option Octets) (apart : (i j : ℕ) (l : Octets) → l
     open_unended : is_open w c (slot_key a.link its_key.invoke_id) ≡ true → ending_in (length old.notes) w.log ≡ None
     open_unended e =
         let going : is_idle t.ticket.phase ≡ false = sym ticket_is ∙ open_there links apart W x w f.net f.over its_key a.link server_at e in
-        let at = sound_at W f.net its_key (Some t.ticket) t.at (reached_net W x bound f.net f.over.sound.0) in
+        let at = sound_at W f.net its_key (Some t.ticket) t.at (reached_net W x bound f.net f.over.sound) in
         let none : octets.IsUnended (f.net.numbers its_key) f.net.log =
         keeps.is_open t.ticket.phase (f.net.numbers its_key) f.net.log going (at.2).unended in
         let its : IsUnended n.asks w.log = unended n.asks f.net.log w.log f.over.log
@@ -94,9 +100,10 @@ module _ (links : ℕ → Option Octets) (apart : (i j : ℕ) (l : Octets) → l
         let idle : is_idle t.ticket.phase ≡ true =
         sym ticket_is ∙ closed_there links apart W x w f.net f.over its_key a.link server_at a.before.link client_at e in
         let logged_then = logged_path x Any first f.net f.path (made_bounded links apart W x bound readable old n h c s limits r asked a parts)
-        (logged_path x Any n first (made_path links apart W x bound readable old n h c s limits r asked a parts Any) (never_bounded n h.sound.1) logged) in
+        (logged_path x Any n first (made_path links apart W x bound readable old n h c s limits r asked a parts Any) (reached_bounded x n h.sound) logged) in
         let ended : HasEnded n.asks f.net.log = subst (λ (k : ℕ). HasEnded k f.net.log) t.number_is ((logged_then its_key t.ticket t.at).1
-        (client_stays f.net f.over.sound.1 its_key t.ticket.ask) idle) in
+        (subst (ClientStays f.net its_key) (sym t.is) (stays links apart W x bound readable old n h c s limits r asked a parts (deliveries count number) w run
+        (deliveries_on c count number) f.net f.over)) idle) in
         let one = once_in links apart W x bound readable w f.net f.over n.asks ended in
         let zero = none_counted n.asks w.log (subst (λ (k : ℕ). ending_in k w.log ≡ None) (sym h.asks) none) in
         omega arith
@@ -130,5 +137,5 @@ none_ended W overtake opening old fresh bounded events run =
     let bound = rules_bounded W overtake opening bounded in
     let f = on_run links fresh.apart W x bound refl events opening old net_start (fresh_over W overtake opening fresh bounded) run in
     let none : octets.IsUnended f.net.asks f.net.log =
-    below_unended f.net.asks f.net.log (net_log W f.net (reached_net W x bound f.net f.over.sound.0)).numbers in
+    below_unended f.net.asks f.net.log (net_log W f.net (reached_net W x bound f.net f.over.sound)).numbers in
     subst (λ (k : ℕ). ending_in k old.log ≡ None) f.over.asks (unended_none f.net.asks old.log (unended f.net.asks f.net.log old.log f.over.log none))

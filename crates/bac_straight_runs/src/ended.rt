@@ -21,6 +21,7 @@ fn ending_by<'a>(found: Option<&'a Ending>, fact: &'a Fact, ask: usize) -> Optio
         Fact::Asked { .. } => found,
         Fact::Performed { .. } => found,
         Fact::Changed { .. } => found,
+        Fact::Restarted { .. } => found,
     }
 }
 

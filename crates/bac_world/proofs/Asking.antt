@@ -1,6 +1,6 @@
 -- An accepted ask.
-use Rattle.std.proofs.Common.{◌≡◌, ℕ, zero, suc, ◌+◌, ◌<◌, ◌⊎◌, Bool, true, false, ◌&&◌, List, [], ◌∷◌, ◌++◌, map, length, Option, Some, None}
-use Rattle.std.proofs.Common.{slice_get, if◌then◌else◌, nat_eq, refl, sym, ap, subst, inl, inr, ◌∙◌, arith}
+use Rattle.std.proofs.Common.{◌≡◌, ℕ, zero, suc, ◌+◌, ◌<◌, ◌⊎◌, Bool, true, false, ◌&&◌, ◌||◌, List, [], ◌∷◌, ◌++◌, map, length, Option, Some, None}
+use Rattle.std.proofs.Common.{slice_get, if◌then◌else◌, nat_eq, nat_le, nat_lt, refl, sym, ap, subst, inl, inr, ◌∙◌, arith}
 use Rattle.std.proofs.lemmas.Bool.Decides.{nat_tests}
 use Rattle.bac_apdu.specs.Apdu.{Apdu, Limits}
 use Rattle.bac_service.specs.Values.{Request, choice_of}
@@ -11,10 +11,14 @@ use Rattle.bac_protocol.specs.Context.{Settings, Context}
 use Rattle.bac_protocol.specs.Sizes.{Way, RequestFault, request_way_of}
 use Rattle.bac_protocol.specs.Sizes.Way.{InOne, InSegments}
 use Rattle.bac_protocol.specs.Service.{Octets}
+use Rattle.bac_protocol.specs.declared.times.TheConstants.{REST}
+use Rattle.bac_protocol.specs.Client as machine
 use Rattle.bac_protocol.specs.Client.{Ask, Ticket, asked_ticket, asks, sends_of}
 use Rattle.bac_protocol.specs.Transaction.{Key, Rules, client_context}
-use Rattle.bac_protocol.specs.World.{Net, set_at, post_of, is_key_held, asked_at}
+use Rattle.bac_protocol.specs.World.{Net, set_at, post_of, is_held_since, asked_at}
+use Rattle.bac_protocol.specs.World as net
 use Rattle.bac_protocol.specs.Claims.{IsBounded}
+use Rattle.bac_protocol.proofs.Dead.{ended_is_silent}
 use Rattle.bac_protocol.proofs.Keys.{set_same, set_other, decide_key}
 use Rattle.bac_protocol.proofs.Own.{client_sends_own}
 use Rattle.bac_protocol.proofs.Short.{requests_are_short}
@@ -34,7 +38,7 @@ use Rattle.bac_ends.proofs.KeyedSlots.{each_at, each_so, each_passing, each_put}
 use Rattle.bac_world.proofs.Machines.{Sound, counted, asked}
 use Rattle.bac_world.proofs.Pairs.{pairwise_join, append_none}
 use Rattle.bac_world.proofs.Logs.{FactMeans, asks_counted}
-use Rattle.bac_world.proofs.Bridge.{NodeFits, ClientsFit, IsKnown, IsCopyOf, TicketFits, key_of, slot_key, copies_of}
+use Rattle.bac_world.proofs.Bridge.{NodeFits, ClientsFit, IsKnown, IsCopyOf, IsGone, TicketFits, key_of, slot_key, copies_of}
 use Rattle.bac_world.proofs.Steps.{Over, Fits, Goes, linked_with, stores_same, decide_number}
 
 -- What an accepted ask is.
@@ -110,35 +114,51 @@ module _ (c : Settings) (now : ℕ) (peer : PeerView) (choice : ℕ) (octets : O
 abbrev pub holds : ℕ → Client → Bool
 holds now s = is_held now s.held
 
--- a slot that is not held may go
-fits_kept : (now : ℕ) (notes : List Note) (i number : ℕ) (o : Option Client) (t : Option Ticket) → TicketFits now notes i number o t
-    → TicketFits now notes i number (keep (holds now) o) t
-fits_kept now notes i number None t h = h
-fits_kept now notes i number (Some s) None h = absurd h
-fits_kept now notes i number (Some s) (Some t) h = go (is_held now s.held) refl
+-- a ticket that is not held is gone, and stays gone
+pub gone_unheld : (from now : ℕ) (t : Ticket) → machine.is_held now t ≡ false → IsGone from now (Some t)
+gone_unheld from now t unheld = record { over = ended_is_silent.unheld now t unheld; free = both (nat_le from (t.ask.first + REST)) }
   where
-    go : (b : Bool) → is_held now s.held ≡ b → TicketFits now notes i number (if b then Some s else None) (Some t)
-    go true is = h
-    go false is = sym (held_is now t) ∙ sym (ap (is_held now) h.held) ∙ is
+    both : (b : Bool) → (b && machine.is_held now t) ≡ false
+    both true = unheld
+    both false = refl
 
--- where an invoke ID is not held for the peer, the ticket is not held
-pub free_ticket : (now : ℕ) (notes : List Note) (i number : ℕ) (o : Option Client) (t : Option Ticket) → TicketFits now notes i number o t
-    → is_held_there now o ≡ false → is_key_held now t ≡ false
-free_ticket now notes i number None t h free = h
-free_ticket now notes i number (Some s) None h free = absurd h
-free_ticket now notes i number (Some s) (Some t) h free = sym (held_is now t) ∙ sym (ap (is_held now) h.held) ∙ free
+-- a slot that is not held may go
+fits_kept : (from now : ℕ) (notes : List Note) (i number : ℕ) (o : Option Client) (t : Option Ticket) → TicketFits from now notes i number o t
+    → TicketFits from now notes i number (keep (holds now) o) t
+fits_kept from now notes i number None t h = h
+fits_kept from now notes i number (Some s) None h = absurd h
+fits_kept from now notes i number (Some s) (Some t) h = go (is_held now s.held) refl
+  where
+    go : (b : Bool) → is_held now s.held ≡ b → TicketFits from now notes i number (if b then Some s else None) (Some t)
+    go true is = h
+    go false is = gone_unheld from now t (sym (held_is now t) ∙ sym (ap (is_held now) h.held) ∙ is)
+
+-- where an invoke ID is not held for the peer, no ticket of its client's life holds it
+pub free_ticket : (from now : ℕ) (notes : List Note) (i number : ℕ) (o : Option Client) (t : Option Ticket) → TicketFits from now notes i number o t
+    → is_held_there now o ≡ false → is_held_since from now t ≡ false
+free_ticket from now notes i number None t h free = h.free
+free_ticket from now notes i number (Some s) None h free = absurd h
+free_ticket from now notes i number (Some s) (Some t) h free =
+    (gone_unheld from now t (sym (held_is now t) ∙ sym (ap (is_held now) h.held) ∙ free)).free
+
+-- so its client can ask under that key, where it does not wait
+pub key_free : (n : Net) (key : Key) (e : ClientEnd) → e.asks_from ≡ n.asks_from key.client → waits_to_ask n.now e ≡ false
+    → is_held_since (n.asks_from key.client) n.now (n.tickets key) ≡ false → net.is_id_held n key ≡ false
+key_free n key e from awake free =
+    ap (λ (y : ℕ). nat_lt n.now y || is_held_since (n.asks_from key.client) n.now (n.tickets key)) (sym from)
+    ∙ ap (λ (b : Bool). b || is_held_since (n.asks_from key.client) n.now (n.tickets key)) awake ∙ free
 
 pub free_kept : (now : ℕ) (o : Option Client) → is_held_there now o ≡ false → keep (holds now) o ≡ None
 free_kept now None e = refl
 free_kept now (Some s) e = ap (λ b. if b then Some s else None) e
 
 -- another note is nothing to a slot of another client or of an earlier ticket
-fits_noted : (now : ℕ) (notes : List Note) (note : Note) (i number : ℕ) (o : Option Client) (t : Option Ticket)
+fits_noted : (from now : ℕ) (notes : List Note) (note : Note) (i number : ℕ) (o : Option Client) (t : Option Ticket)
     → ((s : Client) → o ≡ Some s → (nat_eq note.key.client i && nat_eq note.ticket s.number) ≡ false)
-    → TicketFits now notes i number o t → TicketFits now (note ∷ notes) i number o t
-fits_noted now notes note i number None t other h = h
-fits_noted now notes note i number (Some s) None other h = absurd h
-fits_noted now notes note i number (Some s) (Some t) other h = record {
+    → TicketFits from now notes i number o t → TicketFits from now (note ∷ notes) i number o t
+fits_noted from now notes note i number None t other h = h
+fits_noted from now notes note i number (Some s) None other h = absurd h
+fits_noted from now notes note i number (Some s) (Some t) other h = record {
   held = h.held;
   noted = λ still_open. ap (λ b. if b then Some (length notes) else ask_of i s.number notes) (other s refl) ∙ h.noted still_open;
 }
@@ -194,21 +214,21 @@ module _ (links : ℕ → Option Octets) (apart : (i j : ℕ) (l : Octets) → l
         ∙ ap (λ b. if b then Some (length notes) else ask_of key.client e.asked notes) (equal_self e.asked)
         ∙ ap Some (sym number_is ∙ sym (set_same n.numbers key n.asks))
 
-    fit : TicketFits n.now (note ∷ notes) key.client (m.numbers key) (value_at same_key p ended.slots) (m.tickets key)
-    fit = subst (λ (o : Option Client). TicketFits n.now (note ∷ notes) key.client (m.numbers key) o (m.tickets key))
+    fit : TicketFits (n.asks_from key.client) n.now (note ∷ notes) key.client (m.numbers key) (value_at same_key p ended.slots) (m.tickets key)
+    fit = subst (λ (o : Option Client). TicketFits (n.asks_from key.client) n.now (note ∷ notes) key.client (m.numbers key) o (m.tickets key))
         (sym (put_same Client p n.now client (passing Client (holds n.now) e.slots) gone))
-        (subst (λ (o : Option Ticket). TicketFits n.now (note ∷ notes) key.client (m.numbers key) (Some client) o)
+        (subst (λ (o : Option Ticket). TicketFits (n.asks_from key.client) n.now (note ∷ notes) key.client (m.numbers key) (Some client) o)
         (sym (set_same n.tickets key (Some made))) (record { held = refl; noted = λ still_open. own }))
 
     found : (s : ℕ) (l' : Octets) (id : ℕ) → links s ≡ Some l' → ((key ≡ key_of key.client s id) ⊎ (key ≡ key_of key.client s id → ⊥))
-        → TicketFits n.now (note ∷ notes) key.client (m.numbers (key_of key.client s id)) (value_at same_key (slot_key l' id) ended.slots)
+        → TicketFits (n.asks_from key.client) n.now (note ∷ notes) key.client (m.numbers (key_of key.client s id)) (value_at same_key (slot_key l' id) ended.slots)
         (m.tickets (key_of key.client s id))
     found s l' id at' (inl is) =
         let link : l ≡ l' = let f : Some l ≡ Some l' = sym at ∙ ap (λ (k : Key). links k.server) is ∙ at' in cc in
-        let moved : TicketFits n.now (note ∷ notes) key.client (m.numbers (key_of key.client s id)) (value_at same_key p ended.slots)
+        let moved : TicketFits (n.asks_from key.client) n.now (note ∷ notes) key.client (m.numbers (key_of key.client s id)) (value_at same_key p ended.slots)
         (m.tickets (key_of key.client s id)) =
-        subst (λ (k : Key). TicketFits n.now (note ∷ notes) key.client (m.numbers k) (value_at same_key p ended.slots) (m.tickets k)) is fit in
-        subst (λ (q : PeerKey). TicketFits n.now (note ∷ notes) key.client (m.numbers (key_of key.client s id)) (value_at same_key q ended.slots)
+        subst (λ (k : Key). TicketFits (n.asks_from key.client) n.now (note ∷ notes) key.client (m.numbers k) (value_at same_key p ended.slots) (m.tickets k)) is fit in
+        subst (λ (q : PeerKey). TicketFits (n.asks_from key.client) n.now (note ∷ notes) key.client (m.numbers (key_of key.client s id)) (value_at same_key q ended.slots)
         (m.tickets (key_of key.client s id))) (λ j. slot_key (link j) (is j).invoke_id) moved
     found s l' id at' (inr ne) =
         let other : p ≡ slot_key l' id → ⊥ = λ is.
@@ -219,14 +239,14 @@ module _ (links : ℕ → Option Octets) (apart : (i j : ℕ) (l : Octets) → l
         let k : Key = key_of key.client s id in
         let look : value_at same_key q ended.slots ≡ keep (holds n.now) (value_at same_key q e.slots) =
         put_other Client p q n.now client (passing Client (holds n.now) e.slots) other ∙ passing_value Client (holds n.now) q e.slots h.distinct in
-        let before : TicketFits n.now (note ∷ notes) key.client (n.numbers k) (value_at same_key q e.slots) (n.tickets k) =
-        fits_noted n.now notes note key.client (n.numbers k) (value_at same_key q e.slots) (n.tickets k) (earlier q) (h.found s l' id at') in
-        let after : TicketFits n.now (note ∷ notes) key.client (n.numbers k) (keep (holds n.now) (value_at same_key q e.slots)) (n.tickets k) =
-        fits_kept n.now (note ∷ notes) key.client (n.numbers k) (value_at same_key q e.slots) (n.tickets k) before in
-        subst (λ (o : Option Client). TicketFits n.now (note ∷ notes) key.client (m.numbers k) o (m.tickets k)) (sym look)
-        (subst (λ (y : ℕ). TicketFits n.now (note ∷ notes) key.client y (keep (holds n.now) (value_at same_key q e.slots)) (m.tickets k))
+        let before : TicketFits (n.asks_from key.client) n.now (note ∷ notes) key.client (n.numbers k) (value_at same_key q e.slots) (n.tickets k) =
+        fits_noted (n.asks_from key.client) n.now notes note key.client (n.numbers k) (value_at same_key q e.slots) (n.tickets k) (earlier q) (h.found s l' id at') in
+        let after : TicketFits (n.asks_from key.client) n.now (note ∷ notes) key.client (n.numbers k) (keep (holds n.now) (value_at same_key q e.slots)) (n.tickets k) =
+        fits_kept (n.asks_from key.client) n.now (note ∷ notes) key.client (n.numbers k) (value_at same_key q e.slots) (n.tickets k) before in
+        subst (λ (o : Option Client). TicketFits (n.asks_from key.client) n.now (note ∷ notes) key.client (m.numbers k) o (m.tickets k)) (sym look)
+        (subst (λ (y : ℕ). TicketFits (n.asks_from key.client) n.now (note ∷ notes) key.client y (keep (holds n.now) (value_at same_key q e.slots)) (m.tickets k))
         (sym (set_other n.numbers key n.asks k ne))
-        (subst (λ (o : Option Ticket). TicketFits n.now (note ∷ notes) key.client (n.numbers k) (keep (holds n.now) (value_at same_key q e.slots)) o)
+        (subst (λ (o : Option Ticket). TicketFits (n.asks_from key.client) n.now (note ∷ notes) key.client (n.numbers k) (keep (holds n.now) (value_at same_key q e.slots)) o)
         (sym (set_other n.tickets key (Some made) k ne)) after))
 
     pub ask_fits : ClientsFit links apart n.now (note ∷ notes) (asked_at x n key ask) key.client ended
@@ -245,6 +265,8 @@ module _ (links : ℕ → Option Octets) (apart : (i j : ℕ) (l : Octets) → l
     others_noted j a ne f = record {
       settings = f.settings;
       link = f.link;
+      asks = f.asks;
+      serves = f.serves;
       clients = record {
         distinct = f.clients.distinct;
         known = f.clients.known;
@@ -252,12 +274,12 @@ module _ (links : ℕ → Option Octets) (apart : (i j : ℕ) (l : Octets) → l
             let k : Key = key_of j s id in
             let away : key ≡ k → ⊥ = λ is. ne (sym (ap (λ (y : Key). y.client) is)) in
             let q : PeerKey = slot_key l' id in
-            let before : TicketFits n.now (note ∷ notes) j (n.numbers k) (value_at same_key q a.clients.slots) (n.tickets k) =
-            fits_noted n.now notes note j (n.numbers k) (value_at same_key q a.clients.slots) (n.tickets k)
+            let before : TicketFits (n.asks_from j) n.now (note ∷ notes) j (n.numbers k) (value_at same_key q a.clients.slots) (n.tickets k) =
+            fits_noted (n.asks_from j) n.now notes note j (n.numbers k) (value_at same_key q a.clients.slots) (n.tickets k)
             (λ z is. ap (λ b. b && nat_eq e.asked z.number) (differ key.client j (λ same. ne (sym same)))) (f.clients.found s l' id at') in
-            subst (λ (y : ℕ). TicketFits n.now (note ∷ notes) j y (value_at same_key q a.clients.slots) (m.tickets k))
+            subst (λ (y : ℕ). TicketFits (n.asks_from j) n.now (note ∷ notes) j y (value_at same_key q a.clients.slots) (m.tickets k))
             (sym (set_other n.numbers key n.asks k away))
-            (subst (λ (o : Option Ticket). TicketFits n.now (note ∷ notes) j (n.numbers k) (value_at same_key q a.clients.slots) o)
+            (subst (λ (o : Option Ticket). TicketFits (n.asks_from j) n.now (note ∷ notes) j (n.numbers k) (value_at same_key q a.clients.slots) o)
             (sym (set_other n.tickets key (Some made) k away)) before);
       };
       servers = record { distinct = f.servers.distinct; known = f.servers.known; found = f.servers.found };
@@ -285,9 +307,10 @@ module _ (links : ℕ → Option Octets) (apart : (i j : ℕ) (l : Octets) → l
     fits : Fits links apart W x w n n i step.before
     fits = h.nodes i step.before step.at
 
-    free : is_key_held n.now (n.tickets key) ≡ false
-    free = free_ticket n.now w.notes i (n.numbers key) (value_at same_key (slot_key step.link parts.id) a.clients.slots) (n.tickets key)
-        (fits.clients.found s step.link parts.id server_at) parts.free
+    free : net.is_id_held n key ≡ false
+    free = key_free n key a.clients fits.asks parts.awake
+        (free_ticket (n.asks_from i) n.now w.notes i (n.numbers key) (value_at same_key (slot_key step.link parts.id) a.clients.slots) (n.tickets key)
+        (fits.clients.found s step.link parts.id server_at) parts.free)
 
     sound : Sound x after
     sound = asked W x bound n h.sound key free (choice_of r) parts.whole parts.front parts.rest
@@ -308,6 +331,8 @@ module _ (links : ℕ → Option Octets) (apart : (i j : ℕ) (l : Octets) → l
     made_fits = record {
       settings = fits.settings;
       link = fits.link;
+      asks = fits.asks;
+      serves = fits.serves;
       clients = ask_fits n w.notes h.asks key step.link server_at ask a.clients fits.clients parts.free;
       servers = record { distinct = fits.servers.distinct; known = fits.servers.known; found = fits.servers.found };
     }

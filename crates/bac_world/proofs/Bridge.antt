@@ -14,7 +14,8 @@ use Rattle.bac_protocol.specs.Own.{invoke_id_of}
 use Rattle.bac_protocol.specs.Client.{Ticket, is_idle}
 use Rattle.bac_protocol.specs.Server.{Entry, live_entry}
 use Rattle.bac_protocol.specs.Transaction.{Key, Rules}
-use Rattle.bac_protocol.specs.World.{Net, Post, post_of, is_key_held}
+use Rattle.bac_protocol.specs.Straight.{is_ended}
+use Rattle.bac_protocol.specs.World.{Net, Post, post_of, is_held_since}
 use Rattle.bac_protocol.specs.World as machine
 use Rattle.bac_slots.specs.Slots.{value_at, IsDistinct}
 use Rattle.bac_ends.specs.Keys.{PeerKey, same_key}
@@ -45,11 +46,16 @@ pub record SlotFits (notes : List Note) (client number : ℕ) (s : Client) (t : 
   pub held : s.held ≡ kept t
   pub noted : is_idle t.phase ≡ false → ask_of client s.number notes ≡ Some number
 
--- a slot is its ticket's, and where there is none the ticket is not held
-abbrev pub TicketFits : (now : ℕ) → List Note → (client number : ℕ) → Option Client → Option Ticket → Type 0
-TicketFits now notes client number None o = is_key_held now o ≡ false
-TicketFits now notes client number (Some s) None = ⊥
-TicketFits now notes client number (Some s) (Some t) = SlotFits notes client number s t
+-- nothing is left of a ticket but its copies: it is over, and holds no invoke ID of a client that asks from then on
+pub record IsGone (from now : ℕ) (o : Option Ticket) : Type 0 where
+  pub over : is_ended o ≡ true
+  pub free : is_held_since from now o ≡ false
+
+-- a slot is its ticket's, and where there is none the ticket is gone
+abbrev pub TicketFits : (from now : ℕ) → List Note → (client number : ℕ) → Option Client → Option Ticket → Type 0
+TicketFits from now notes client number None o = IsGone from now o
+TicketFits from now notes client number (Some s) None = ⊥
+TicketFits from now notes client number (Some s) (Some t) = SlotFits notes client number s t
 
 -- entries are alike while they are live
 abbrev pub EntryFits : (now : ℕ) → (a b : Option Entry) → Type 0
@@ -71,7 +77,7 @@ module _ (links : ℕ → Option Octets) (apart : (i j : ℕ) (l : Octets) → l
     pub distinct : IsDistinct same_key e.slots
     pub known : EachSlot Client (λ p s. IsKnown p × (s.number < e.asked)) e.slots
     pub found : (s : ℕ) (l : Octets) (id : ℕ) → links s ≡ Some l
-        → TicketFits now notes i (n.numbers (key_of i s id)) (value_at same_key (slot_key l id) e.slots) (n.tickets (key_of i s id))
+        → TicketFits (n.asks_from i) now notes i (n.numbers (key_of i s id)) (value_at same_key (slot_key l id) e.slots) (n.tickets (key_of i s id))
 
   pub record ServersFit (now : ℕ) (n : Net) (i : ℕ) (e : ServerEnd) : Type 0 where
     pub distinct : IsDistinct same_key e.slots
@@ -82,6 +88,8 @@ module _ (links : ℕ → Option Octets) (apart : (i j : ℕ) (l : Octets) → l
   pub record NodeFits (x : Rules) (now : ℕ) (notes : List Note) (n : Net) (i : ℕ) (a : Node) : Type 0 where
     pub settings : a.settings ≡ x.settings i
     pub link : links i ≡ Some a.link
+    pub asks : a.clients.asks_from ≡ n.asks_from i
+    pub serves : a.servers.serves_from ≡ n.serves_from i
     pub clients : ClientsFit now notes n i a.clients
     pub servers : ServersFit now n i a.servers
 

@@ -13,7 +13,8 @@ use Rattle.bac_protocol.specs.Client as client
 use Rattle.bac_protocol.specs.Client.{Ticket, is_idle, client_gets}
 use Rattle.bac_protocol.specs.Server.{live_entry}
 use Rattle.bac_protocol.specs.Transaction.{Key, Rules, client_context}
-use Rattle.bac_protocol.specs.World.{Net, Post, client_acts, is_key_held}
+use Rattle.bac_protocol.specs.World.{Net, Post, client_acts}
+use Rattle.bac_protocol.specs.Straight.{is_ended}
 use Rattle.bac_protocol.specs.World as net
 use Rattle.bac_protocol.specs.Claims.{IsBounded}
 use Rattle.bac_protocol.specs.Moves.{taken_by_client}
@@ -50,11 +51,11 @@ module _ (links : ℕ → Option Octets) (apart : (i j : ℕ) (l : Octets) → l
   -- what was reached is a step of the world
   pub arrived : (w w' : World) (n : Net) → Over links apart W x w n → (i : ℕ) (a b : Node) (o : Outcome) → slice_get w.nodes i ≡ Some a
       → (acts : Acts w i b o w') → o.performed ≡ None
-      → (e : ClientEnd) → b ≡ record a { latest = w.now; clients = e }
+      → (e : ClientEnd) → b ≡ record a { latest = w.now; clients = e } → e.asks_from ≡ a.clients.asks_from
       → IsDistinct same_key e.slots → EachSlot Client (λ p s. IsKnown links apart p × (s.number < e.asked)) e.slots
       → (m : Net) → Reached links apart W x w i n (λ p. value_at same_key p e.slots) (w.copies ++ acts.sent) acts.between m
       → Goes links apart W x w w' m
-  arrived w w' n h i a b o at acts quiet e b_is distinct known m r = record {
+  arrived w w' n h i a b o at acts quiet e b_is from distinct known m r = record {
     bridge = acts_over links apart W x w w' n m h i a b o at acts r.now r.asks r.noted (ap (λ (d : Node). d.link) b_is)
         (subst (λ (d : Node). Fits links apart W x w n m i d) (sym b_is) made)
         r.others r.posts (subst (λ (lg : List Fact). Pairwise FactMeans m.log lg) (sym log_is) r.log) r.sound;
@@ -70,6 +71,8 @@ module _ (links : ℕ → Option Octets) (apart : (i j : ℕ) (l : Octets) → l
       made = record {
         settings = fits.settings;
         link = fits.link;
+        asks = from ∙ fits.asks ∙ sym (ap (λ (f : ℕ → ℕ). f i) r.asks_from);
+        serves = fits.serves ∙ sym (ap (λ (f : ℕ → ℕ). f i) r.serves_from);
         clients = record { distinct = distinct; known = known; found = r.found };
         servers = record {
           distinct = fits.servers.distinct;
@@ -85,7 +88,7 @@ module _ (links : ℕ → Option Octets) (apart : (i j : ℕ) (l : Octets) → l
   pub quiet : (w w' : World) (n : Net) → Over links apart W x w n → (i : ℕ) (a b : Node) (o : Outcome) → slice_get w.nodes i ≡ Some a
       → Acts w i b o w' → o.performed ≡ None → o.sends ≡ [] → o.ended ≡ [] → b ≡ record a { latest = w.now } → Goes links apart W x w w' n
   quiet w w' n h i a b o at acts performed sends ends b_is =
-      arrived w w' n h i a b o at acts performed a.clients b_is fits.clients.distinct fits.clients.known n
+      arrived w w' n h i a b o at acts performed a.clients b_is refl fits.clients.distinct fits.clients.known n
       (subst (λ (l : List Copy). Reached links apart W x w i n look l acts.between n) (sym copies_is)
       (subst (λ (lg : List Fact). Reached links apart W x w i n look w.copies lg n) (sym between_is) (reached_none links apart W x w n h i a fits)))
     where
@@ -156,7 +159,7 @@ module _ (links : ℕ → Option Octets) (apart : (i j : ℕ) (l : Octets) → l
       made_net : Net
       made_net = taken_by_client x n p (n.tickets key)
 
-      fit : TicketFits n.now w.notes key.client (n.numbers key) (value_at same_key q a.clients.slots) (n.tickets key)
+      fit : TicketFits (n.asks_from key.client) n.now w.notes key.client (n.numbers key) (value_at same_key q a.clients.slots) (n.tickets key)
       fit = fits.clients.found key.server l key.invoke_id server_at
 
       unheard : ((u : Ticket) → n.tickets key ≡ Some u → is_idle u.phase ≡ true) → IsClientTurn (stays a.clients) w.now a b o
@@ -168,7 +171,7 @@ module _ (links : ℕ → Option Octets) (apart : (i j : ℕ) (l : Octets) → l
           → IsClientTurn (client_goes n.now a.clients q k t (client_gets context x.readable t apdu)) w.now a b o
           → Goes links apart W x w w' made_net
       goes k t found turn = subst (λ (m : Net). Goes links apart W x w w' m) (sym (ap (taken_by_client x n p) open_is))
-          (arrived w w' n h key.client a b o node' acts' turn.performed made turn.node
+          (arrived w w' n h key.client a b o node' acts' turn.performed made turn.node refl
           (with_distinct Client q (client_after n.now k t r) a.clients.slots fits.clients.distinct)
           (each_with Client Known q (client_after n.now k t r) a.clients.slots
           (each_at Client Known q (record { number = k; held = Open t }) a.clients.slots fits.clients.known found) fits.clients.known)
@@ -191,8 +194,8 @@ module _ (links : ℕ → Option Octets) (apart : (i j : ℕ) (l : Octets) → l
           Known y z = IsKnown links apart y × (z.number < a.clients.asked)
 
           open_is : n.tickets key ≡ Some t
-          open_is = (ticket_at n.now w.notes key.client (n.numbers key) k t (n.tickets key)
-              (subst (λ (y : Option Client). TicketFits n.now w.notes key.client (n.numbers key) y (n.tickets key)) found fit)).0
+          open_is = (ticket_at (n.asks_from key.client) n.now w.notes key.client (n.numbers key) k t (n.tickets key)
+              (subst (λ (y : Option Client). TicketFits (n.asks_from key.client) n.now w.notes key.client (n.numbers key) y (n.tickets key)) found fit)).0
 
           r : client.Reaction
           r = client_gets context x.readable t apdu
@@ -204,15 +207,15 @@ module _ (links : ℕ → Option Octets) (apart : (i j : ℕ) (l : Octets) → l
           → IsClientTurn (client_hears_held s x.readable n.now apdu a.clients q k y) w.now a b o
           → Goes links apart W x w w' made_net
       held k (Closed first) is turn = unheard
-          (λ u at. closed_idle n.now w.notes key.client (n.numbers key) k first u (subst (λ (y : Option Ticket).
-          TicketFits n.now w.notes key.client (n.numbers key) (Some (record { number = k; held = Closed first })) y) at
-          (subst (λ (y : Option Client). TicketFits n.now w.notes key.client (n.numbers key) y (n.tickets key)) is fit))) turn
+          (λ u at. closed_idle (n.asks_from key.client) n.now w.notes key.client (n.numbers key) k first u (subst (λ (y : Option Ticket).
+          TicketFits (n.asks_from key.client) n.now w.notes key.client (n.numbers key) (Some (record { number = k; held = Closed first })) y) at
+          (subst (λ (y : Option Client). TicketFits (n.asks_from key.client) n.now w.notes key.client (n.numbers key) y (n.tickets key)) is fit))) turn
       held k (Open t) is turn = goes k t is turn
 
       go : (found : Option Client) → value_at same_key q a.clients.slots ≡ found
           → IsClientTurn (client_hears_at s x.readable n.now apdu a.clients q found) w.now a b o
           → Goes links apart W x w w' made_net
       go None is turn = unheard
-          (λ u at. ended_is_silent.unheld n.now u (sym (ap (is_key_held n.now) at)
-          ∙ subst (λ (y : Option Client). TicketFits n.now w.notes key.client (n.numbers key) y (n.tickets key)) is fit)) turn
+          (λ u at. sym (ap is_ended at)
+          ∙ (subst (λ (y : Option Client). TicketFits (n.asks_from key.client) n.now w.notes key.client (n.numbers key) y (n.tickets key)) is fit).over) turn
       go (Some v) is turn = held v.number v.held is turn

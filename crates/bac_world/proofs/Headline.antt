@@ -13,10 +13,12 @@ use Rattle.bac_protocol.specs.declared.times.TheConstants.{LIFE}
 use Rattle.bac_protocol.specs.Context.{Settings}
 use Rattle.bac_protocol.specs.Service.{Octets}
 use Rattle.bac_protocol.specs.Wire.{is_from_client}
+use Rattle.bac_protocol.specs.declared.times.TheConstants.{REST}
+use Rattle.bac_protocol.specs.Client as client
 use Rattle.bac_protocol.specs.Client.{Ticket}
 use Rattle.bac_protocol.specs.Server.{Entry, live_entry}
 use Rattle.bac_protocol.specs.Transaction.{Key, Rules}
-use Rattle.bac_protocol.specs.World.{Net, Post, notes_change, is_key_held, net_start}
+use Rattle.bac_protocol.specs.World.{Net, Post, notes_change, net_start}
 use Rattle.bac_protocol.specs.World as machine
 use Rattle.bac_protocol.specs.Claims as claims
 use Rattle.bac_protocol.proofs.Dead.{dead_is_none, ended_is_silent}
@@ -30,17 +32,18 @@ use Rattle.bac_world.specs.Once.{Fact, Stores, IsOnce, with_changed}
 use Rattle.bac_world.specs.Once.Fact.{Changed}
 use Rattle.bac_world.specs.World.{World, Event, Copy, Note, link_at, stores_of, newest, later, peer_at, Acts, DeliversIf, Delivers, HearsNoise}
 use Rattle.bac_world.specs.World.{IsChanged, WorldStep, WorldRun, IsFresh, IsBounded}
-use Rattle.bac_world.specs.World.Event.{Ask, Deliver, Noise, Tick, Advance, Change}
+use Rattle.bac_world.specs.World.Event.{Ask, Deliver, Noise, Tick, Advance, Change, Restart}
 use Rattle.bac_ends.proofs.KeyedSlots.{EachSlot}
 use Rattle.bac_world.proofs.Machines.{passed, changes, starts}
 use Rattle.bac_world.proofs.Pairs.{IsPaired, pairwise_get}
 use Rattle.bac_world.proofs.Logs.{FactMeans}
-use Rattle.bac_world.proofs.Bridge.{IsKnown, NodeFits, IsCopyOf, IsBetween, TicketFits, EntryFits, key_of, slot_key, framed_means, later_alike}
+use Rattle.bac_world.proofs.Bridge.{IsKnown, NodeFits, IsCopyOf, IsBetween, IsGone, TicketFits, EntryFits, key_of, slot_key, framed_means, later_alike}
 use Rattle.bac_world.proofs.Steps.{Over, Next, decide_number, each_with, linked_with}
 use Rattle.bac_world.proofs.Serving.{serves}
 use Rattle.bac_world.proofs.Clients.{hears, quiet}
 use Rattle.bac_world.proofs.Asking.{asks_over}
 use Rattle.bac_world.proofs.Ticking.{tick_over}
+use Rattle.bac_world.proofs.Restarting.{restarted_next}
 
 module _ (links : ℕ → Option Octets) (apart : (i j : ℕ) (l : Octets) → links i ≡ Some l → links j ≡ Some l → i ≡ j) (W : ℕ) (x : Rules)
     (bound : claims.IsBounded W x) (readable : x.readable ≡ reads_reply) where
@@ -115,12 +118,19 @@ module _ (links : ℕ → Option Octets) (apart : (i j : ℕ) (l : Octets) → l
 
   -- Time.
 
-  ticket_later : (now by : ℕ) (notes : List Note) (i number : ℕ) (o : Option Client) (t : Option Ticket) → TicketFits now notes i number o t
-      → TicketFits (now + by) notes i number o t
-  ticket_later now by notes i number None None h = refl
-  ticket_later now by notes i number None (Some t) h = ended_is_silent.later now (now + by) t (omega arith) h
-  ticket_later now by notes i number (Some s) None h = absurd h
-  ticket_later now by notes i number (Some s) (Some t) h = h
+  gone_later : (from now by : ℕ) (o : Option Ticket) → IsGone from now o → IsGone from (now + by) o
+  gone_later from now by None h = record { over = refl; free = refl }
+  gone_later from now by (Some t) h = record { over = h.over; free = go (nat_le from (t.ask.first + REST)) h.free }
+    where
+      go : (b : Bool) → (b && client.is_held now t) ≡ false → (b && client.is_held (now + by) t) ≡ false
+      go true unheld = ended_is_silent.later now (now + by) t (omega arith) unheld
+      go false unheld = refl
+
+  ticket_later : (from now by : ℕ) (notes : List Note) (i number : ℕ) (o : Option Client) (t : Option Ticket) → TicketFits from now notes i number o t
+      → TicketFits from (now + by) notes i number o t
+  ticket_later from now by notes i number None t h = gone_later from now by t h
+  ticket_later from now by notes i number (Some s) None h = absurd h
+  ticket_later from now by notes i number (Some s) (Some t) h = h
 
   entry_later : (now by : ℕ) (a b : Option Entry) → EntryFits now a b → EntryFits (now + by) a b
   entry_later now by a b h =
@@ -136,10 +146,12 @@ module _ (links : ℕ → Option Octets) (apart : (i j : ℕ) (l : Octets) → l
     nodes = λ i a at. let f = h.nodes i a at in record {
       settings = f.settings;
       link = f.link;
+      asks = f.asks;
+      serves = f.serves;
       clients = record {
         distinct = f.clients.distinct;
         known = f.clients.known;
-        found = λ s l id at'. ticket_later n.now by w.notes i (n.numbers (key_of i s id)) (value_at same_key (slot_key l id) a.clients.slots)
+        found = λ s l id at'. ticket_later (n.asks_from i) n.now by w.notes i (n.numbers (key_of i s id)) (value_at same_key (slot_key l id) a.clients.slots)
             (n.tickets (key_of i s id)) (f.clients.found s l id at');
       };
       servers = record {
@@ -166,6 +178,8 @@ module _ (links : ℕ → Option Octets) (apart : (i j : ℕ) (l : Octets) → l
   other_store now notes n i o j a store f = record {
     settings = f.settings;
     link = f.link;
+    asks = f.asks;
+    serves = f.serves;
     clients = record { distinct = f.clients.distinct; known = f.clients.known; found = f.clients.found };
     servers = record { distinct = f.servers.distinct; known = f.servers.known; found = f.servers.found };
   }
@@ -221,6 +235,7 @@ module _ (links : ℕ → Option Octets) (apart : (i j : ℕ) (l : Octets) → l
   step_over w w' n h (Tick node) s = tick_over links apart W x bound w w' n h node s
   step_over w w' n h (Advance by) s = subst (λ (u : World). Next links apart W x w u) (sym s) (advanced w n h by)
   step_over w w' n h (Change node change) s = changed_next w w' n h node change s
+  step_over w w' n h (Restart node store) s = restarted_next links apart W x bound w w' n h node store s
 
   pub run_over : (opening : Stores) (events : List Event) (w w' : World) (n : Net) → Over links apart W x w n → IsOnce opening w.log (stores_of w.nodes)
       → WorldRun x.overtake w events w' → (m : Net) × Over links apart W x w' m × IsOnce opening w'.log (stores_of w'.nodes)
@@ -255,10 +270,13 @@ fresh_over W overtake w h b = record {
   nodes = λ i a at. let f = h.nodes i a at in record {
     settings = sym (ap settings_or at);
     link = ap (λ (o : Option Node). option_map (λ (n : Node). n.link) o) at;
+    asks = f.asks_from;
+    serves = f.serves_from;
     clients = record {
       distinct = subst (IsDistinct same_key) (sym f.slots) tt;
       known = subst (EachSlot Client (λ p s. IsKnown (link_at w.nodes) h.apart p × (s.number < a.clients.asked))) (sym f.slots) tt;
-      found = λ s l id at'. subst (λ slots. TicketFits 0 w.notes i 0 (value_at same_key (slot_key l id) slots) None) (sym f.slots) refl;
+      found = λ s l id at'. subst (λ slots. TicketFits 0 0 w.notes i 0 (value_at same_key (slot_key l id) slots) None) (sym f.slots)
+          (record { over = refl; free = refl });
     };
     servers = record {
       distinct = subst (IsDistinct same_key) (sym f.entries) tt;

@@ -44,15 +44,15 @@ open_is s u e = go (is_idle u.phase) refl e
     go false is e = record { same = (let same : s ≡ u = cc in same); goes_on = is }
 
 -- the ticket of an open slot
-pub ticket_at : (now : ℕ) (notes : List Note) (i number k : ℕ) (t : Ticket) (o : Option Ticket)
-    → TicketFits now notes i number (Some (record { number = k; held = Open t })) o → (o ≡ Some t) × (ask_of i k notes ≡ Some number)
-ticket_at now notes i number k t None h = absurd h
-ticket_at now notes i number k t (Some u) h = let is = open_is t u h.held in (ap Some (sym is.same), h.noted is.goes_on)
+pub ticket_at : (from now : ℕ) (notes : List Note) (i number k : ℕ) (t : Ticket) (o : Option Ticket)
+    → TicketFits from now notes i number (Some (record { number = k; held = Open t })) o → (o ≡ Some t) × (ask_of i k notes ≡ Some number)
+ticket_at from now notes i number k t None h = absurd h
+ticket_at from now notes i number k t (Some u) h = let is = open_is t u h.held in (ap Some (sym is.same), h.noted is.goes_on)
 
 -- a slot that has closed is of a ticket that has ended
-pub closed_idle : (now : ℕ) (notes : List Note) (i number k first : ℕ) (u : Ticket)
-    → TicketFits now notes i number (Some (record { number = k; held = Closed first })) (Some u) → is_idle u.phase ≡ true
-closed_idle now notes i number k first u h = go (is_idle u.phase) refl h.held
+pub closed_idle : (from now : ℕ) (notes : List Note) (i number k first : ℕ) (u : Ticket)
+    → TicketFits from now notes i number (Some (record { number = k; held = Closed first })) (Some u) → is_idle u.phase ≡ true
+closed_idle from now notes i number k first u h = go (is_idle u.phase) refl h.held
   where
     go : (b : Bool) → is_idle u.phase ≡ b → Closed first ≡ open_unless b u → b ≡ true
     go true is e = refl
@@ -65,9 +65,11 @@ module _ (links : ℕ → Option Octets) (apart : (i j : ℕ) (l : Octets) → l
     pub now : m.now ≡ n.now
     pub asks : m.asks ≡ n.asks
     pub entries : m.entries ≡ n.entries
+    pub asks_from : m.asks_from ≡ n.asks_from
+    pub serves_from : m.serves_from ≡ n.serves_from
     pub noted : (key : Key) (t : Ticket) → m.tickets key ≡ Some t → newest key w.notes ≡ Some (m.numbers key)
     pub found : (s : ℕ) (l : Octets) (id : ℕ) → links s ≡ Some l
-        → TicketFits n.now w.notes i (m.numbers (key_of i s id)) (look (slot_key l id)) (m.tickets (key_of i s id))
+        → TicketFits (m.asks_from i) n.now w.notes i (m.numbers (key_of i s id)) (look (slot_key l id)) (m.tickets (key_of i s id))
     pub others : (j : ℕ) (a : Node) → (j ≡ i → ⊥) → NodeFits links apart x n.now w.notes n j a → NodeFits links apart x n.now w.notes m j a
     pub posts : Pairwise (IsCopyOf links apart) m.posts all
     pub log : Pairwise FactMeans m.log facts
@@ -81,6 +83,8 @@ module _ (links : ℕ → Option Octets) (apart : (i j : ℕ) (l : Octets) → l
     now = refl;
     asks = refl;
     entries = refl;
+    asks_from = refl;
+    serves_from = refl;
     noted = h.noted;
     found = fits.clients.found;
     others = λ j b ne f. f;
@@ -98,8 +102,10 @@ module _ (links : ℕ → Option Octets) (apart : (i j : ℕ) (l : Octets) → l
     now = h.now;
     asks = h.asks;
     entries = h.entries;
+    asks_from = h.asks_from;
+    serves_from = h.serves_from;
     noted = h.noted;
-    found = λ s l id at. subst (λ (o : Option Client). TicketFits n.now w.notes i (m.numbers (key_of i s id)) o (m.tickets (key_of i s id)))
+    found = λ s l id at. subst (λ (o : Option Client). TicketFits (m.asks_from i) n.now w.notes i (m.numbers (key_of i s id)) o (m.tickets (key_of i s id)))
         (same (slot_key l id)) (h.found s l id at);
     others = h.others;
     posts = h.posts;
@@ -126,8 +132,8 @@ module _ (links : ℕ → Option Octets) (apart : (i j : ℕ) (l : Octets) → l
     made = Some (client.after m.now t r)
 
     is : (m.tickets key ≡ Some t) × (ask_of key.client number w.notes ≡ Some (m.numbers key))
-    is = ticket_at n.now w.notes key.client (m.numbers key) number t (m.tickets key)
-        (subst (λ (o : Option Client). TicketFits n.now w.notes key.client (m.numbers key) o (m.tickets key)) there
+    is = ticket_at (m.asks_from key.client) n.now w.notes key.client (m.numbers key) number t (m.tickets key)
+        (subst (λ (o : Option Client). TicketFits (m.asks_from key.client) n.now w.notes key.client (m.numbers key) o (m.tickets key)) there
         (h.found key.server l key.invoke_id to_at))
 
     sound : Sound x (client_acts m key t r)
@@ -137,28 +143,28 @@ module _ (links : ℕ → Option Octets) (apart : (i j : ℕ) (l : Octets) → l
     noted k u at (inl e) = subst (λ (y : Key). newest y w.notes ≡ Some (m.numbers y)) e (h.noted key t is.0)
     noted k u at (inr ne) = h.noted k u (sym (set_other m.tickets key made k ne) ∙ at)
 
-    fit : TicketFits n.now w.notes key.client (m.numbers key) (look' q) (set_at m.tickets key made key)
-    fit = subst (λ (o : Option Client). TicketFits n.now w.notes key.client (m.numbers key) o (set_at m.tickets key made key)) (sym here)
-        (subst (λ (o : Option Ticket). TicketFits n.now w.notes key.client (m.numbers key) (Some (client_after n.now number t r)) o)
+    fit : TicketFits (m.asks_from key.client) n.now w.notes key.client (m.numbers key) (look' q) (set_at m.tickets key made key)
+    fit = subst (λ (o : Option Client). TicketFits (m.asks_from key.client) n.now w.notes key.client (m.numbers key) o (set_at m.tickets key made key)) (sym here)
+        (subst (λ (o : Option Ticket). TicketFits (m.asks_from key.client) n.now w.notes key.client (m.numbers key) (Some (client_after n.now number t r)) o)
         (sym (set_same m.tickets key made))
         (record { held = ap (λ (tm : ℕ). kept (client.after tm t r)) (sym h.now); noted = λ f. is.1 }))
 
     found : (s : ℕ) (l' : Octets) (id : ℕ) → links s ≡ Some l' → ((key ≡ key_of key.client s id) ⊎ (key ≡ key_of key.client s id → ⊥))
-        → TicketFits n.now w.notes key.client (m.numbers (key_of key.client s id)) (look' (slot_key l' id)) (set_at m.tickets key made (key_of key.client s id))
+        → TicketFits (m.asks_from key.client) n.now w.notes key.client (m.numbers (key_of key.client s id)) (look' (slot_key l' id)) (set_at m.tickets key made (key_of key.client s id))
     found s l' id at (inl e) =
         let link : l ≡ l' = let f : Some l ≡ Some l' = sym to_at ∙ ap (λ (k : Key). links k.server) e ∙ at in cc in
-        let moved : TicketFits n.now w.notes key.client (m.numbers (key_of key.client s id)) (look' q) (set_at m.tickets key made (key_of key.client s id)) =
-        subst (λ (k : Key). TicketFits n.now w.notes key.client (m.numbers k) (look' q) (set_at m.tickets key made k)) e fit in
-        subst (λ (p : PeerKey). TicketFits n.now w.notes key.client (m.numbers (key_of key.client s id)) (look' p)
+        let moved : TicketFits (m.asks_from key.client) n.now w.notes key.client (m.numbers (key_of key.client s id)) (look' q) (set_at m.tickets key made (key_of key.client s id)) =
+        subst (λ (k : Key). TicketFits (m.asks_from key.client) n.now w.notes key.client (m.numbers k) (look' q) (set_at m.tickets key made k)) e fit in
+        subst (λ (p : PeerKey). TicketFits (m.asks_from key.client) n.now w.notes key.client (m.numbers (key_of key.client s id)) (look' p)
         (set_at m.tickets key made (key_of key.client s id))) (λ j. slot_key (link j) (e j).invoke_id) moved
     found s l' id at (inr ne) =
         let other : q ≡ slot_key l' id → ⊥ = λ e.
         let link : l ≡ l' = ap (λ (p : PeerKey). p.peer.link) e in
         let node : key.server ≡ s = apart key.server s l' (to_at ∙ ap Some link) at in
         ne (λ j. key_of key.client (node j) (e j).invoke_id) in
-        subst (λ (o : Option Client). TicketFits n.now w.notes key.client (m.numbers (key_of key.client s id)) o
+        subst (λ (o : Option Client). TicketFits (m.asks_from key.client) n.now w.notes key.client (m.numbers (key_of key.client s id)) o
         (set_at m.tickets key made (key_of key.client s id))) (sym (away (slot_key l' id) other))
-        (subst (λ (o : Option Ticket). TicketFits n.now w.notes key.client (m.numbers (key_of key.client s id)) (look (slot_key l' id)) o)
+        (subst (λ (o : Option Ticket). TicketFits (m.asks_from key.client) n.now w.notes key.client (m.numbers (key_of key.client s id)) (look (slot_key l' id)) o)
         (sym (set_other m.tickets key made (key_of key.client s id) ne)) (h.found s l' id at))
 
     others : (j : ℕ) (a : Node) → (j ≡ key.client → ⊥) → NodeFits links apart x n.now w.notes m j a
@@ -166,11 +172,13 @@ module _ (links : ℕ → Option Octets) (apart : (i j : ℕ) (l : Octets) → l
     others j a ne f = record {
       settings = f.settings;
       link = f.link;
+      asks = f.asks;
+      serves = f.serves;
       clients = record {
         distinct = f.clients.distinct;
         known = f.clients.known;
         found = λ s l' id at.
-            subst (λ (o : Option Ticket). TicketFits n.now w.notes j (m.numbers (key_of j s id)) (value_at same_key (slot_key l' id) a.clients.slots) o)
+            subst (λ (o : Option Ticket). TicketFits (m.asks_from j) n.now w.notes j (m.numbers (key_of j s id)) (value_at same_key (slot_key l' id) a.clients.slots) o)
             (sym (set_other m.tickets key made (key_of j s id) (λ e. ne (sym (ap (λ (k : Key). k.client) e))))) (f.clients.found s l' id at);
       };
       servers = record { distinct = f.servers.distinct; known = f.servers.known; found = f.servers.found };
@@ -216,6 +224,8 @@ module _ (links : ℕ → Option Octets) (apart : (i j : ℕ) (l : Octets) → l
           now = h.now;
           asks = h.asks;
           entries = h.entries;
+          asks_from = h.asks_from;
+          serves_from = h.serves_from;
           noted = λ k u at. noted k u at (decide_key key k);
           found = λ s l' id at. found s l' id at (decide_key key (key_of key.client s id));
           others = λ j a ne f. others j a ne (h.others j a ne f);

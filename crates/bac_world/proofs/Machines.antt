@@ -12,23 +12,24 @@ use Rattle.bac_protocol.specs.Server.{Service}
 use Rattle.bac_protocol.specs.Log.{Has, asks_in, IsOrderly}
 use Rattle.bac_protocol.specs.Log.Fact.{Asked}
 use Rattle.bac_protocol.specs.Transaction.{Key, Rules, client_context, server_context}
-use Rattle.bac_protocol.specs.World.{Net, Post, later, client_acts, server_acts, asked_at, notes_change, is_key_held, is_id_held, is_room, is_deliverable, net_start}
-use Rattle.bac_protocol.specs.World.{NeverRestarted}
+use Rattle.bac_protocol.specs.World.{Net, Post, later, client_acts, server_acts, asked_at, notes_change, is_id_held, is_room, is_deliverable, net_start}
+use Rattle.bac_protocol.specs.World.{client_restarted, server_restarted}
 use Rattle.bac_protocol.specs.Claims.{IsBounded}
 use Rattle.bac_protocol.specs.Own.{IsOwnEntry}
 use Rattle.bac_protocol.specs.Moves.{arrived, taken_by_client, taken_by_server, ticket_ticked, IsReached, IsInOrder}
-use Rattle.bac_protocol.specs.Moves.Move.{Asks, Arrives, TicksTicket, TicksEntry, Passes, Changes}
+use Rattle.bac_protocol.specs.Moves.Move.{Asks, Arrives, TicksTicket, TicksEntry, Passes, Changes, RestartsClient, RestartsServer}
 use Rattle.bac_protocol.specs.Moves.IsReached.{Still, Moved}
-use Rattle.bac_protocol.proofs.SingleMoves.{in_order}
-use Rattle.bac_protocol.proofs.Unchanged.{never_waits}
+use Rattle.bac_protocol.proofs.Alone.{one}
+use Rattle.bac_protocol.proofs.Nets.{sound_at}
+use Rattle.bac_protocol.proofs.SingleMoves.{in_order, reached_net}
 
--- moves under these rules lead to the net, and none of them was a restart
+-- moves under these rules lead to the net
 abbrev pub Sound : Rules → Net → Type 0
-Sound x n = IsReached x net_start n × NeverRestarted n
+Sound x n = IsReached x net_start n
 
 module _ (W : ℕ) (x : Rules) (bound : IsBounded W x) where
   known : (n : Net) → Sound x n → IsInOrder n
-  known n s = in_order W x bound n s.0
+  known n s = in_order W x bound n s
 
   pub orderly : (n : Net) → Sound x n → IsOrderly n.log
   orderly n s = (known n s).orderly
@@ -59,25 +60,12 @@ module _ (W : ℕ) (x : Rules) (bound : IsBounded W x) where
       go true false e f = absurd (grind (arith, nat_tests))
       go false b e f = absurd (grind (arith, nat_tests))
 
+  -- no ticket was asked later than now
+  pub asked_before : (n : Net) → Sound x n → (key : Key) (t : Ticket) → n.tickets key ≡ Some t → t.ask.first ≤ n.now
+  asked_before n s key t is = let known = sound_at W n key (Some t) is (reached_net W x bound n s) in (known.2).clock
+
   arrived_sound : (n : Net) → Sound x n → (number : ℕ) (free : Bool) (service : Service) → Sound x (arrived x n number free service (slice_get n.posts number))
-  arrived_sound n s number free service = (Moved n (Arrives number free service) s.0, go (slice_get n.posts number))
-    where
-      heard : (p : Post) (o : Option Ticket) → NeverRestarted (taken_by_client x n p o)
-      heard p None = s.1
-      heard p (Some t) = record { asks = s.1.asks; serves = s.1.serves }
-
-      by_end : (p : Post) (b : Bool) → NeverRestarted (if b then taken_by_server x n p free service else taken_by_client x n p (n.tickets p.key))
-      by_end p true = record { asks = s.1.asks; serves = s.1.serves }
-      by_end p false = heard p (n.tickets p.key)
-
-      if_young : (p : Post) (b : Bool) → NeverRestarted
-          (if b then (if is_from_client p.copy.apdu then taken_by_server x n p free service else taken_by_client x n p (n.tickets p.key)) else n)
-      if_young p true = by_end p (is_from_client p.copy.apdu)
-      if_young p false = s.1
-
-      go : (o : Option Post) → NeverRestarted (arrived x n number free service o)
-      go None = s.1
-      go (Some p) = if_young p (is_deliverable x n.now number n.posts p)
+  arrived_sound n s number free service = Moved n (Arrives number free service) s
 
   by_room : (n : Net) → Sound x n → (number : ℕ) (p : Post) → slice_get n.posts number ≡ Some p → n.now - p.copy.moment ≤ LIFE
       → later p.key number n.posts ≤ x.overtake → is_from_client p.copy.apdu ≡ true → (service : Service) (free : Bool)
@@ -88,12 +76,13 @@ module _ (W : ℕ) (x : Rules) (bound : IsBounded W x) where
       (ap (arrived x n number free service) at ∙ ap (λ b. if b then way (is_from_client p.copy.apdu) else n) (may_arrive n number p young few) ∙ ap way up)
       (arrived_sound n s number free service)
 
+  -- a slot is free for it only where its server does not wait
   pub gets_at_server : (n : Net) → Sound x n → (number : ℕ) (p : Post) → slice_get n.posts number ≡ Some p → n.now - p.copy.moment ≤ LIFE
-      → later p.key number n.posts ≤ x.overtake → is_from_client p.copy.apdu ≡ true → (service : Service) (free : Bool)
+      → later p.key number n.posts ≤ x.overtake → is_from_client p.copy.apdu ≡ true → (service : Service) (free : Bool) → is_room n p.key free ≡ free
       → Sound x (server_acts n p.key (server.server_gets (server_context x p.key n.now) service (n.entries p.key) free p.copy.apdu))
-  gets_at_server n s number p at young few up service free =
+  gets_at_server n s number p at young few up service free room =
       subst (λ (b : Bool). Sound x (server_acts n p.key (server.server_gets (server_context x p.key n.now) service (n.entries p.key) b p.copy.apdu)))
-      ((never_waits n s.1).room p.key free) (by_room n s number p at young few up service free)
+      room (by_room n s number p at young few up service free)
 
   pub gets_at_client : (n : Net) → Sound x n → (number : ℕ) (p : Post) → slice_get n.posts number ≡ Some p → n.now - p.copy.moment ≤ LIFE
       → later p.key number n.posts ≤ x.overtake → is_from_client p.copy.apdu ≡ false → (service : Service) → (t : Ticket) → n.tickets p.key ≡ Some t
@@ -107,35 +96,26 @@ module _ (W : ℕ) (x : Rules) (bound : IsBounded W x) where
 
   pub ticks_at_client : (n : Net) → Sound x n → (key : Key) (t : Ticket) → n.tickets key ≡ Some t
       → Sound x (client_acts n key t (client.client_ticks (client_context x key n.now) t))
-  ticks_at_client n s key t is = subst (λ (m : Net). Sound x m) (ap (ticket_ticked x n key) is)
-      (Moved n (TicksTicket key) s.0, ticked (n.tickets key))
-    where
-      ticked : (o : Option Ticket) → NeverRestarted (ticket_ticked x n key o)
-      ticked None = s.1
-      ticked (Some u) = record { asks = s.1.asks; serves = s.1.serves }
+  ticks_at_client n s key t is = subst (λ (m : Net). Sound x m) (ap (ticket_ticked x n key) is) (Moved n (TicksTicket key) s)
 
   pub ticks_at_server : (n : Net) → Sound x n → (key : Key)
       → Sound x (server_acts n key (server.server_ticks (server_context x key n.now) (n.entries key)))
-  ticks_at_server n s key = (Moved n (TicksEntry key) s.0, record { asks = s.1.asks; serves = s.1.serves })
+  ticks_at_server n s key = Moved n (TicksEntry key) s
 
-  pub asked : (n : Net) → Sound x n → (key : Key) → is_key_held n.now (n.tickets key) ≡ false → (choice : ℕ) (whole : Bool) (front : Octets)
+  pub asked : (n : Net) → Sound x n → (key : Key) → is_id_held n key ≡ false → (choice : ℕ) (whole : Bool) (front : Octets)
       (rest : List Octets) → Sound x (asked_at x n key (record { first = n.now; choice = choice; whole = whole; pieces = front ∷ rest }))
   asked n s key free choice whole front rest = subst (λ (m : Net). Sound x m)
-      (ap (λ b. if b then n else asked_at x n key (record { first = n.now; choice = choice; whole = whole; pieces = front ∷ rest })) unheld)
-      (Moved n (Asks key choice whole front rest) s.0, made (is_id_held n key))
-    where
-      unheld : is_id_held n key ≡ false
-      unheld = (never_waits n s.1).held key ∙ free
-
-      made : (b : Bool) → NeverRestarted (if b then n else asked_at x n key (record { first = n.now; choice = choice; whole = whole; pieces = front ∷ rest }))
-      made true = s.1
-      made false = record { asks = s.1.asks; serves = s.1.serves }
+      (ap (λ b. if b then n else asked_at x n key (record { first = n.now; choice = choice; whole = whole; pieces = front ∷ rest })) free)
+      (Moved n (Asks key choice whole front rest) s)
 
   pub passed : (n : Net) (by : ℕ) → Sound x n → Sound x (record n { now = n.now + by })
-  passed n by s = (Moved n (Passes by) s.0, record { asks = s.1.asks; serves = s.1.serves })
+  passed n by s = Moved n (Passes by) s
 
   pub changes : (n : Net) (node : ℕ) (change : Octets) → Sound x n → Sound x (notes_change n node change)
-  changes n node change s = (Moved n (Changes node change) s.0, record { asks = s.1.asks; serves = s.1.serves })
+  changes n node change s = Moved n (Changes node change) s
+
+  pub restarts : (n : Net) (node : ℕ) → Sound x n → Sound x (server_restarted (client_restarted n node) node None)
+  restarts n node s = Moved (client_restarted n node) (RestartsServer node None) (Moved n (RestartsClient node) s)
 
   pub starts : Sound x net_start
-  starts = (Still, record { asks = λ node. refl; serves = λ node. refl })
+  starts = Still

@@ -45,6 +45,8 @@ module _ (links : ℕ → Option Octets) (apart : (i j : ℕ) (l : Octets) → l
     pub numbers : m.numbers ≡ k.numbers
     pub tickets : m.tickets ≡ k.tickets
     pub log : m.log ≡ k.log
+    pub asks_from : m.asks_from ≡ k.asks_from
+    pub serves_from : m.serves_from ≡ k.serves_from
     pub entries : (c : ℕ) (l : Octets) (id : ℕ) → links c ≡ Some l → EntryFits n.now (found (slot_key l id)) (m.entries (key_of c i id))
     pub others : (j : ℕ) (a : Node) → (j ≡ i → ⊥) → NodeFits links apart x n.now w.notes k j a → NodeFits links apart x n.now w.notes m j a
     pub posts : Pairwise (IsCopyOf links apart) m.posts every
@@ -128,6 +130,8 @@ module _ (links : ℕ → Option Octets) (apart : (i j : ℕ) (l : Octets) → l
           numbers = r.numbers;
           tickets = r.tickets;
           log = ap (λ e. performed (m.numbers key) e m.log) (ticks_quiet (server_context x key m.now) (m.entries key)) ∙ r.log;
+          asks_from = r.asks_from;
+          serves_from = r.serves_from;
           entries = λ c l' id' at'. entries c l' id' at' (decide_key key (key_of c i id'));
           others = λ j a ne f. others_fit links apart W x n.now w.notes m key does j a ne (r.others j a ne f);
           posts = pairwise_join (IsCopyOf links apart) m.posts _ copies cs r.posts
@@ -170,6 +174,8 @@ module _ (links : ℕ → Option Octets) (apart : (i j : ℕ) (l : Octets) → l
             numbers = r.numbers;
             tickets = r.tickets;
             log = r.log;
+            asks_from = r.asks_from;
+            serves_from = r.serves_from;
             entries = λ c l' id' at'. ap (live_entry n.now)
                 (sym (look_same Entry tick all p begin d os distinct.0 change (ap (λ (v : server.Reaction). entry_or d v.entry) still) (slot_key l' id')))
                 ∙ r.entries c l' id' at';

@@ -1,6 +1,6 @@
 -- A copy reaches its server.
-use Rattle.std.proofs.Common.{◌≡◌, ℕ, ◌-◌, ◌≤◌, ◌≢◌, ◌⊎◌, Bool, true, false, List, [], ◌∷◌, map, Option, Some, None, slice_get}
-use Rattle.std.proofs.Common.{if◌then◌else◌, nat_eq, refl, sym, ap, subst, inl, inr, ◌∙◌, arith}
+use Rattle.std.proofs.Common.{◌≡◌, ℕ, ◌-◌, ◌≤◌, ◌≢◌, ◌⊎◌, Bool, true, false, ◌&&◌, not, List, [], ◌∷◌, map, count_by, Option, Some, None, slice_get}
+use Rattle.std.proofs.Common.{if◌then◌else◌, nat_eq, nat_lt, refl, sym, ap, subst, inl, inr, ◌∙◌, arith}
 use Rattle.std.proofs.lemmas.Bool.Decides.{nat_tests}
 use Rattle.std.specs.Option.{option_map}
 use Rattle.bac_apdu.specs.Apdu.{Apdu}
@@ -30,7 +30,7 @@ use Rattle.bac_protocol.proofs.Headline.{asked_once}
 use Rattle.bac_slots.specs.Slots.{value_at}
 use Rattle.bac_ends.specs.Keys.{PeerKey, same_key}
 use Rattle.bac_ends.specs.Sends.{Pairwise, IsSent, to_all}
-use Rattle.bac_ends.specs.Ends.{ServerEnd, ServerTurn, act_at, is_free, put_entry, server_goes, context_of}
+use Rattle.bac_ends.specs.Ends.{ServerEnd, ServerTurn, act_at, is_free, is_slot_live, put_entry, server_goes, context_of}
 use Rattle.bac_world.specs.Services.{Performed, ArePerformed, store_after}
 use Rattle.bac_world.specs.Node.{Node, Outcome, IsServerTurn}
 use Rattle.bac_world.specs.Once.{Fact, Has, Stores, IsOnce, MayPerform}
@@ -59,6 +59,17 @@ server_is_no_client (Abort false i r) e = absurd cc
 pub each_of_server : (id : ℕ) (sends : List Apdu) → Each (IsOfServer id) sends → Each (λ y. (is_from_client y ≡ false) × (invoke_id_of y ≡ id)) sends
 each_of_server id [] h = tt
 each_of_server id (a ∷ sends) h = ((server_is_no_client a h.0.0, h.0.1), each_of_server id sends h.1)
+
+-- where a slot is free its server does not wait
+pub room_is : (n : Net) (key : Key) (e : ServerEnd) → e.serves_from ≡ n.serves_from key.server → machine.is_room n key (is_free n.now e) ≡ is_free n.now e
+room_is n key e from =
+    ap (λ (y : ℕ). is_free n.now e && not (nat_lt n.now y)) (sym from)
+    ∙ twice (nat_lt (count_by (is_slot_live n.now) e.slots) e.capacity) (not (nat_lt n.now e.serves_from))
+  where
+    twice : (a b : Bool) → ((a && b) && b) ≡ (a && b)
+    twice true true = refl
+    twice true false = refl
+    twice false b = refl
 
 module _ (links : ℕ → Option Octets) (apart : (i j : ℕ) (l : Octets) → links i ≡ Some l → links j ≡ Some l → i ≡ j) (W : ℕ) (x : Rules) where
   -- two keys at a server are one where the slots' keys are
@@ -102,6 +113,8 @@ module _ (links : ℕ → Option Octets) (apart : (i j : ℕ) (l : Octets) → l
   others_fit now notes n key u j a ne h = record {
     settings = h.settings;
     link = h.link;
+    asks = h.asks;
+    serves = h.serves;
     clients = record { distinct = h.clients.distinct; known = h.clients.known; found = h.clients.found };
     servers = record {
       distinct = h.servers.distinct;
@@ -270,7 +283,7 @@ module _ (links : ℕ → Option Octets) (apart : (i j : ℕ) (l : Octets) → l
         m = server_acts n key u
 
         sound : Sound x m
-        sound = gets_at_server W x bound n h.sound number p at young few up service free
+        sound = gets_at_server W x bound n h.sound number p at young few up service free (room_is n key a.servers fits.serves)
 
         made : Node
         made = record a {
@@ -283,6 +296,8 @@ module _ (links : ℕ → Option Octets) (apart : (i j : ℕ) (l : Octets) → l
         made_fits = record {
           settings = fits.settings;
           link = fits.link;
+          asks = fits.asks;
+          serves = fits.serves;
           clients = record { distinct = fits.clients.distinct; known = fits.clients.known; found = fits.clients.found };
           servers = end_fits n.now n key l client_at v u same.entry a.servers fits.servers
               (none_left context service (value_at same_key q a.servers.slots) free apdu);

@@ -10,7 +10,7 @@ use Rattle.bac_protocol.specs.World.{Net}
 use Rattle.bac_ends.specs.Sends.{Pairwise}
 use Rattle.bac_world.specs.Node.{Node, Outcome}
 use Rattle.bac_world.specs.Once.{Fact, Stores, AreSame, MayEnter, IsOnce}
-use Rattle.bac_world.specs.Once.Fact.{Asked, Performed, Ended, Changed}
+use Rattle.bac_world.specs.Once.Fact.{Asked, Performed, Ended, Changed, Restarted}
 use Rattle.bac_world.specs.World.{World, Note, Copy, link_at, stores_of, IsWithNode, Acts, newest}
 use Rattle.bac_world.proofs.Machines.{Sound}
 use Rattle.bac_world.proofs.Logs.{FactMeans}
@@ -71,6 +71,7 @@ enter_same (Performed n r p) log old new new' same h = record {
 }
 enter_same (Ended n how) log old new new' same h = (h.0, h.1, λ node. same node ∙ h.2 node)
 enter_same (Changed i c) log old new new' same h = λ node. same node ∙ h node
+enter_same (Restarted i o) log old new new' same h = λ node. same node ∙ h node
 
 pub once_same : (opening : Stores) (log : List Fact) (stores stores' : Stores) → AreSame stores stores' → IsOnce opening log stores → IsOnce opening log stores'
 once_same opening [] stores stores' same h = λ node. same node ∙ h node

@@ -111,6 +111,8 @@ module _ (links : ℕ → Option Octets) (apart : (i j : ℕ) (l : Octets) → l
     numbers = refl;
     tickets = refl;
     log = refl;
+    asks_from = refl;
+    serves_from = refl;
     entries = λ c' l id at. ap (live_entry n.now) (look_all Entry g entries fits.servers.distinct (slot_key l id)) ∙ fits.servers.found c' l id at
         ∙ ap (λ (e : Key → Option Entry). live_entry n.now (e (key_of c' i id))) (sym r.1.entries);
     others = λ j d ne y. y;
@@ -132,9 +134,9 @@ module _ (links : ℕ → Option Octets) (apart : (i j : ℕ) (l : Octets) → l
   log_is : w'.log ≡ step.acts.between
   log_is = subst (λ d. AreLogged w.nodes w.notes i d step.acts.between w'.log) tick'.performed step.acts.logged
 
-  abbrev TicketFound : (Key → ℕ) → (Key → Option Ticket) → (s' : ℕ) → Octets → ℕ → Type 0
-  TicketFound numbers tickets s' l id =
-      TicketFits n.now w.notes i (numbers (key_of i s' id)) (value_at same_key (slot_key l id) (changed Client f clients)) (tickets (key_of i s' id))
+  abbrev TicketFound : (from : ℕ → ℕ) → (Key → ℕ) → (Key → Option Ticket) → (s' : ℕ) → Octets → ℕ → Type 0
+  TicketFound from numbers tickets s' l id =
+      TicketFits (from i) n.now w.notes i (numbers (key_of i s' id)) (value_at same_key (slot_key l id) (changed Client f clients)) (tickets (key_of i s' id))
 
   made : Fits links apart W x w n s.0 i (record (step.before) {
     latest = n.now;
@@ -144,6 +146,8 @@ module _ (links : ℕ → Option Octets) (apart : (i j : ℕ) (l : Octets) → l
   made = record {
     settings = fits.settings;
     link = fits.link;
+    asks = fits.asks ∙ sym (ap (λ (f : ℕ → ℕ). f i) (s.1.asks_from ∙ r.1.asks_from));
+    serves = fits.serves ∙ sym (ap (λ (f : ℕ → ℕ). f i) (s.1.serves_from ∙ r.1.serves_from));
     clients = record {
       distinct = distinct_changed Client f clients fits.clients.distinct;
       known = each_changed Client f (λ p v. IsKnown links apart p × (v.number < a.clients.asked))
@@ -152,8 +156,9 @@ module _ (links : ℕ → Option Octets) (apart : (i j : ℕ) (l : Octets) → l
             subst (λ (z : ℕ). z < a.clients.asked) (sym (number_kept (record { settings = c; invoke_id = p.invoke_id; now = n.now })
                 v.number v.held)) y.1,
           )) clients fits.clients.known;
-      found = λ s' l id at. subst (λ (y : Key → ℕ). TicketFound y s.0.tickets s' l id) (sym s.1.numbers)
-          (subst (λ (y : Key → Option Ticket). TicketFound r.0.numbers y s' l id) (sym s.1.tickets) (r.1.found s' l id at));
+      found = λ s' l id at. subst (λ (y : ℕ → ℕ). TicketFound y s.0.numbers s.0.tickets s' l id) (sym s.1.asks_from)
+          (subst (λ (y : Key → ℕ). TicketFound r.0.asks_from y s.0.tickets s' l id) (sym s.1.numbers)
+          (subst (λ (y : Key → Option Ticket). TicketFound r.0.asks_from r.0.numbers y s' l id) (sym s.1.tickets) (r.1.found s' l id at)));
     };
     servers = record {
       distinct = distinct_changed Entry g entries fits.servers.distinct;

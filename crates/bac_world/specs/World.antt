@@ -9,6 +9,7 @@ use Rattle.bac_npdu.specs.Datagram.{Means}
 use Rattle.bac_service.specs.Values.{Request}
 use Rattle.bac_store.specs.AtNode as at_node
 use Rattle.bac_store.specs.AtNode.{change_fault}
+use Rattle.bac_store.specs.Stores.{Store}
 use Rattle.bac_protocol.specs.declared.times.TheConstants.{LIFE}
 use Rattle.bac_protocol.specs.Service.{Octets}
 use Rattle.bac_protocol.specs.Wire.{is_from_client}
@@ -19,9 +20,9 @@ use Rattle.bac_ends.specs.Sends.{Datagram, Pairwise}
 use Rattle.bac_ends.specs.Meanings.{Finish}
 use Rattle.bac_ends.specs.Ends.{Accepted}
 use Rattle.bac_world.specs.Services as service
-use Rattle.bac_world.specs.Node.{Node, Outcome, Refusal, NodeOn, NodeTick, NodeAsks, NodeRefuses, with_change}
+use Rattle.bac_world.specs.Node.{Node, Outcome, Refusal, NodeOn, NodeTick, NodeAsks, NodeRefuses, with_change, restarted, store_after_restart}
 use Rattle.bac_world.specs.Once.{Fact, Stores}
-use Rattle.bac_world.specs.Once.Fact.{Asked, Performed, Ended, Changed}
+use Rattle.bac_world.specs.Once.Fact.{Asked, Performed, Ended, Changed, Restarted}
 
 -- a datagram that was sent: at that moment, from that node to that one, in that transaction
 pub record Copy : Type 0 where
@@ -67,7 +68,7 @@ abbrev pub newest : Key → List Note → Option ℕ
 newest key [] = None
 newest key (n ∷ notes) = if same_key n.key key then Some (length notes) else newest key notes
 
--- the ask of a node's ticket
+-- the newest ask with that ticket of a node: a node that restarts numbers its tickets anew
 abbrev pub ask_of : (client ticket : ℕ) → List Note → Option ℕ
 ask_of client ticket [] = None
 ask_of client ticket (n ∷ notes) = if nat_eq n.key.client client && nat_eq n.ticket ticket then Some (length notes) else ask_of client ticket notes
@@ -162,6 +163,7 @@ pub data Event : Type 0 where
   Tick : (node : ℕ) → Event
   Advance : (by : ℕ) → Event
   Change : (node : ℕ) (change : at_node.Change) → Event
+  Restart : (node : ℕ) (store : Option Store) → Event
 
 -- an accepted ask: it is noted, and enters the log with the next number
 pub record IsAsked (old : World) (client server : ℕ) (limits : Limits) (r : Request) (new : World) : Type 0 where
@@ -243,6 +245,17 @@ pub record IsChanged (old : World) (i : ℕ) (c : at_node.Change) (new : World) 
   pub notes : new.notes ≡ old.notes
   pub log : new.log ≡ Changed i c ∷ old.log
 
+-- a node restarts, with the store that it has or another one: both its tables are lost, both its ends wait, and the restart enters the log; nothing is sent,
+-- and nothing else changes
+pub record IsRestarted (old : World) (i : ℕ) (store : Option Store) (new : World) : Type 0 where
+  pub before : Node
+  pub at : slice_get old.nodes i ≡ Some before
+  pub nodes : IsWithNode old.nodes i (restarted old.now (store_after_restart before.store store) before) new.nodes
+  pub now : new.now ≡ old.now
+  pub copies : new.copies ≡ old.copies
+  pub notes : new.notes ≡ old.notes
+  pub log : new.log ≡ Restarted i store ∷ old.log
+
 abbrev pub WorldStep : (overtake : ℕ) → World → Event → World → Type 0
 WorldStep overtake old (Ask client server limits r) new = IsAsked old client server limits r new ⊎ IsRefused old client server limits r new
 WorldStep overtake old (Deliver number) new = IsDelivered overtake old number new
@@ -250,10 +263,27 @@ WorldStep overtake old (Noise node from octets) new = HearsNoise old node from o
 WorldStep overtake old (Tick node) new = Ticks old node new
 WorldStep overtake old (Advance by) new = new ≡ record old { now = old.now + by }
 WorldStep overtake old (Change node change) new = IsChanged old node change new
+WorldStep overtake old (Restart node store) new = IsRestarted old node store new
 
 abbrev pub WorldRun : (overtake : ℕ) → World → List Event → World → Type 0
 WorldRun overtake old [] new = new ≡ old
 WorldRun overtake old (e ∷ es) new = (u : World) × WorldStep overtake old e u × WorldRun overtake u es new
+
+-- in these events that node does not restart
+abbrev pub RunsOn : (node : ℕ) → List Event → Type 0
+RunsOn node [] = Unit {0}
+RunsOn node (Restart i store ∷ es) = (i ≢ node) × RunsOn node es
+RunsOn node (e ∷ es) = RunsOn node es
+
+-- in these events no node restarts
+abbrev pub MakeNoRestart : List Event → Type 0
+MakeNoRestart [] = Unit {0}
+MakeNoRestart (Restart i store ∷ es) = ⊥
+MakeNoRestart (e ∷ es) = MakeNoRestart es
+
+-- no node waits, nor ever did
+abbrev pub NeverRestarted : List Node → Type 0
+NeverRestarted nodes = (i : ℕ) (n : Node) → slice_get nodes i ≡ Some n → (n.clients.asks_from ≡ 0) × (n.servers.serves_from ≡ 0)
 
 -- Worlds at their beginning.
 

@@ -8,18 +8,28 @@ pub mod node;
 
 ghost use Rattle.std.specs.Prelude.{ℕ, List};
 ghost use Rattle.bac_world.specs.Claims.{AreEndedOnce, ArePerformedOnce, AreReplayed};
-ghost use Rattle.bac_world.specs.Once.{Fact, HasNoChange, IsOnce, IsOnceByRequests, Stores};
-ghost use Rattle.bac_world.specs.World.{World, Event, WorldRun, IsFresh, IsBounded, stores_of};
+ghost use Rattle.bac_world.specs.Once.{Fact, HasNoChange, HasNoRestart, IsOnce, IsOnceByRequests, IsOnceInOneLife, Stores};
+ghost use Rattle.bac_world.specs.World.{World, Event, WorldRun, IsFresh, IsBounded, MakeNoRestart, NeverRestarted, stores_of};
 
 /// After every run of a fresh world each accepted ask takes effect at most once, and exactly once where a service answer reached its client; the
-/// request performed and the answer are its own, whole; and each server's store is its opening store after the performed requests and the changes made
-/// at that node, in the log's order.
+/// request performed and the answer are its own, whole; and each server's store is that of its last start, after the performed requests and the changes
+/// made at that node since, in the log's order: at a restart it stays, or is the one that the log tells.
 pub fn at_most_once()
     ensures { (W overtake : ℕ) (w w' : World) → IsFresh w → IsBounded W overtake w → (events : List Event) → WorldRun overtake w events w'
         → IsOnce (stores_of w.nodes) w'.log (stores_of w'.nodes) }
 {}
 
-/// Where the log has no change that was made at a node, each server's store is its opening store after the performed requests in their order.
+/// Where the log has no restart, each server's store is its opening store after the performed requests and the changes made at that node, in the log's
+/// order; where no event is a restart, the log has none, and no node ever waits.
+#[tactic(auto, using(crate::proofs::Claims::in_one_life, crate::proofs::Lives::no_restart_in_run))]
+pub fn one_life_without_restarts()
+    ensures log { (opening : Stores) (log : List Fact) (stores : Stores) → HasNoRestart log → IsOnce opening log stores → IsOnceInOneLife opening log stores }
+    ensures run { (overtake : ℕ) (w w' : World) → IsFresh w → (events : List Event) → MakeNoRestart events → WorldRun overtake w events w'
+        → HasNoRestart w'.log × NeverRestarted w'.nodes }
+{}
+
+/// Where the log has no change that was made at a node, nor a restart with another store, each server's store is its opening store after the performed
+/// requests in their order.
 #[tactic(auto, using(crate::proofs::Claims::by_requests))]
 pub fn requests_alone_change_stores()
     ensures { (opening : Stores) (log : List Fact) (stores : Stores) → HasNoChange log → IsOnce opening log stores → IsOnceByRequests opening log stores }

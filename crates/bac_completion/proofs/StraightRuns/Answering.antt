@@ -25,12 +25,12 @@ use Rattle.bac_protocol.specs.Client.{Ask}
 use Rattle.bac_protocol.specs.Server.{is_none_live}
 use Rattle.bac_protocol.specs.Log as machine_log
 use Rattle.bac_protocol.specs.Transaction.{Key, Rules, client_context}
-use Rattle.bac_protocol.specs.World.{Net, ask_made, asked_at, is_key_held, is_id_held}
+use Rattle.bac_protocol.specs.World.{Net, ask_made, asked_at, is_held_since, is_id_held}
 use Rattle.bac_protocol.specs.Claims.{IsBounded}
 use Rattle.bac_protocol.specs.Straight.{IsLike, CanAsk, KindFits, AreStraight, RequestFits, Stops, WayFits, request_count, way_count, way_to, cost}
 use Rattle.bac_protocol.specs.Straight as machine_straight
+use Rattle.bac_protocol.proofs.Nets.{room_opens}
 use Rattle.bac_protocol.proofs.SingleMoves.{in_order}
-use Rattle.bac_protocol.proofs.Unchanged.{never_waits}
 use Rattle.bac_protocol.proofs.StraightRuns.{machines_answer}
 use Rattle.bac_slots.specs.Slots.{value_at}
 use Rattle.bac_ends.specs.Keys.{PeerKey, same_key}
@@ -47,7 +47,8 @@ use Rattle.bac_world.proofs.Pairs.{pairwise_get}
 use Rattle.bac_world.proofs.Logs.{FactMeans, performed_as}
 use Rattle.bac_world.proofs.Bridge.{IsCopyOf, key_of, slot_key}
 use Rattle.bac_world.proofs.Steps.{Over, Goes, stores_same}
-use Rattle.bac_world.proofs.Asking.{IsAccepted, accepted_is, asks_with, free_ticket}
+use Rattle.bac_world.proofs.Serving.{room_is}
+use Rattle.bac_world.proofs.Asking.{IsAccepted, accepted_is, asks_with, free_ticket, key_free}
 use Rattle.bac_completion.specs.StraightRuns.{is_open, DeliverEach, ending_in, IsStraight, key_of_ask, AreOf}
 use Rattle.bac_completion.specs.StraightAnswers.{datagrams, way_between, CanAnswer, IsAnswered}
 use Rattle.bac_completion.proofs.StraightRuns.Posts.{AreOwn, own_none, own_more, own_at}
@@ -114,12 +115,12 @@ module _ (links : ℕ → Option Octets) (apart : (i j : ℕ) (l : Octets) → l
   went : Goes links apart W x w run.asked (asked_at x n key ask)
   went = asks_with links apart W x bound w run.asked n h i s limits r run.asks server_at parts
 
-  free : is_key_held n.now (n.tickets key) ≡ false
-  free = free_ticket n.now w.notes i (n.numbers key) (value_at same_key (slot_key run.asks.link parts.id) a.clients.slots) (n.tickets key)
+  free : is_held_since (n.asks_from i) n.now (n.tickets key) ≡ false
+  free = free_ticket (n.asks_from i) n.now w.notes i (n.numbers key) (value_at same_key (slot_key run.asks.link parts.id) a.clients.slots) (n.tickets key)
       ((h.nodes i a run.asks.at).clients.found s run.asks.link parts.id server_at) parts.free
 
   unheld : is_id_held n key ≡ false
-  unheld = (never_waits n h.sound.1).held key ∙ free
+  unheld = key_free n key a.clients (h.nodes i a run.asks.at).asks parts.awake free
 
   abbrev v0 : Machines
   v0 = record { net = n; stores = stores_of w.nodes }
@@ -225,10 +226,11 @@ module _ (links : ℕ → Option Octets) (apart : (i j : ℕ) (l : Octets) → l
     end = f.end
 
     dead : is_none_live n.now (n.entries key) ≡ true
-    dead = (in_order W x bound n h.sound.0).dead key unheld
+    dead = (in_order W x bound n h.sound).dead key unheld
 
     serving : n.serves_from key.server ≤ n.now
-    serving = let none = h.sound.1.serves key.server in omega arith
+    serving = room_opens n key (is_free n.now b.servers)
+        (room_is n key b.servers (h.nodes s b there).serves ∙ ap (λ (now : ℕ). is_free now b.servers) h.now ∙ can.slot)
 
     -- the request is performed, so its reply can be read
     reads : (c : Complex) → m ≡ machine.Reply.Complex (complex_spelling c) → x.readable (choice_of r) (complex_spelling c) ≡ true

@@ -31,12 +31,11 @@ use Rattle.bac_world.specs.Laws.{IsMeaningless}
 use Rattle.bac_world.specs.Once.{Stores, IsOnce}
 use Rattle.bac_world.specs.World.{World, Copy, stores_of, Acts, Delivers, DeliversIf, IsDelivered, later, peer_at}
 use Rattle.bac_world.specs.World as world
-use Rattle.bac_protocol.proofs.Unchanged.{never_waits}
 use Rattle.bac_world.proofs.NodeLaws.{drops_exactly}
 use Rattle.bac_world.proofs.Pairs.{IsPaired, pairwise_get}
 use Rattle.bac_world.proofs.Bridge.{IsCopyOf, IsBetween, slot_key, framed_means, later_alike}
 use Rattle.bac_world.proofs.Steps.{Over, Goes, stores_same}
-use Rattle.bac_world.proofs.Serving.{serves, served_so}
+use Rattle.bac_world.proofs.Serving.{room_is, serves, served_so}
 use Rattle.bac_world.proofs.Clients.{hears}
 use Rattle.bac_completion.proofs.StraightRuns.Posts.{AreOwn, own_more, own_at}
 use Rattle.bac_completion.proofs.StraightRuns.Growing.{Grows, grows_not, acts_grow}
@@ -179,7 +178,7 @@ module _ (links : ℕ → Option Octets) (apart : (i j : ℕ) (l : Octets) → l
           becomes : with_free v number free ≡ reacts (service_of a.store)
           becomes = reaches free is true up
               ∙ ap (λ b. net.serves (Option Store) shop v p.key (server_gets (server_context x p.key n.now) (net.service_of (Option Store) shop v p.key)
-              (n.entries p.key) b p.copy.apdu)) ((never_waits n h.sound.1).room p.key free)
+              (n.entries p.key) b p.copy.apdu)) (room_is n p.key a.servers (h.nodes p.key.server a node').serves)
               ∙ ap (λ y. reacts (outcome_at y)) (f.stores p.key.server ∙ ap (λ (y : Option Node). option_map (λ (m : Node). m.store) y) node')
 
       at_client : is_from_client p.copy.apdu ≡ false → c.from ≡ p.key.server → c.to ≡ p.key.client

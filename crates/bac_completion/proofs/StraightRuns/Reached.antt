@@ -7,20 +7,20 @@ use Rattle.bac_service.specs.Values.{Request, choice_of}
 use Rattle.bac_protocol.specs.Service.{Octets}
 use Rattle.bac_protocol.specs.Server.{Entry, live_entry, is_live, is_none_live}
 use Rattle.bac_protocol.specs.Transaction.{Key, Rules}
-use Rattle.bac_protocol.specs.World.{Net, net_start, is_key_held}
+use Rattle.bac_protocol.specs.World.{Net, net_start, is_held_since}
 use Rattle.bac_protocol.specs.Claims as claims
 use Rattle.bac_protocol.proofs.SingleMoves.{in_order}
-use Rattle.bac_protocol.proofs.Unchanged.{never_waits}
 use Rattle.bac_slots.specs.Slots.{value_at}
 use Rattle.bac_ends.specs.Keys.{same_key}
-use Rattle.bac_ends.specs.Ends.{Accepted, is_id_held}
+use Rattle.bac_ends.specs.Ends.{Accepted, is_id_held, waits_to_ask}
+use Rattle.bac_ends.proofs.ClientTables.{is_untaken, no_wait}
 use Rattle.bac_world.specs.Node.{Node}
 use Rattle.bac_world.specs.Once.{IsOnce}
 use Rattle.bac_world.specs.World.{World, Event, WorldRun, IsFresh, IsBounded, IsAsked, link_at, stores_of, peer_at}
 use Rattle.bac_world.proofs.NodeLaws.{stores_reply}
 use Rattle.bac_world.proofs.Bridge.{key_of, slot_key}
 use Rattle.bac_world.proofs.Steps.{Over}
-use Rattle.bac_world.proofs.Asking.{accepted_is, free_ticket}
+use Rattle.bac_world.proofs.Asking.{accepted_is, free_ticket, key_free}
 use Rattle.bac_world.proofs.Headline.{rules_of, rules_bounded, fresh_over, run_over}
 use Rattle.bac_completion.specs.StraightRuns.{AreOf, CopiesAreItsOwn}
 use Rattle.bac_completion.specs.StraightAnswers.{StraightAnswers}
@@ -74,17 +74,19 @@ module _ (W overtake : ℕ) (first old : World) (fresh : IsFresh first) (bound :
       go false e = refl
 
   module _ (n : Net) (h : Over links fresh.apart W x old n) (i j : ℕ) (a b : Node) (at : slice_get old.nodes i ≡ Some a)
-      (there : slice_get old.nodes j ≡ Some b) (id : ℕ) (free : is_id_held old.now a.clients.slots (peer_at b.link) id ≡ false) where
+      (there : slice_get old.nodes j ≡ Some b) (id : ℕ) (free : is_id_held old.now a.clients.slots (peer_at b.link) id ≡ false)
+      (awake : waits_to_ask old.now a.clients ≡ false) where
     abbrev key : Key
     key = key_of i j id
 
-    unheld : is_key_held n.now (n.tickets key) ≡ false
-    unheld = free_ticket n.now old.notes i (n.numbers key) (value_at same_key (slot_key b.link id) a.clients.slots) (n.tickets key)
+    unheld : is_held_since (n.asks_from i) n.now (n.tickets key) ≡ false
+    unheld = free_ticket (n.asks_from i) n.now old.notes i (n.numbers key) (value_at same_key (slot_key b.link id) a.clients.slots) (n.tickets key)
         ((h.nodes i a at).clients.found j b.link id (h.nodes j b there).link)
         (ap (λ (now : ℕ). is_id_held now a.clients.slots (peer_at b.link) id) h.now ∙ free)
 
     dead : live_entry n.now (n.entries key) ≡ None
-    dead = none_live n.now (n.entries key) ((in_order W x bounded n h.sound.0).dead key ((never_waits n h.sound.1).held key ∙ unheld))
+    dead = none_live n.now (n.entries key) ((in_order W x bounded n h.sound).dead key
+        (key_free n key a.clients (h.nodes i a at).asks (ap (λ (now : ℕ). waits_to_ask now a.clients) h.now ∙ awake) unheld))
 
     unused : HasNoneLive old.now b a id
     unused = ap (λ (now : ℕ). live_entry now (value_at same_key (slot_key a.link id) b.servers.slots)) (sym h.now)
@@ -92,7 +94,8 @@ module _ (W overtake : ℕ) (first old : World) (fresh : IsFresh first) (bound :
 
   pub free_unused : FreeIdsAreUnused old
   free_unused = record {
-    free = λ i j a b at there id free. unused reached.0 reached.1 i j a b at there id free;
+    free = λ i j a b at there id free. unused reached.0 reached.1 i j a b at there id
+        (is_untaken old.now a.clients (peer_at b.link) id free) (no_wait old.now a.clients (peer_at b.link) id free);
     asked = asked;
   }
     where
@@ -105,4 +108,4 @@ module _ (W overtake : ℕ) (first old : World) (fresh : IsFresh first) (bound :
           asks.asks.accepted in
           let id_is : asks.accepted.invoke_id ≡ parts.id = ap (λ (y : Accepted). y.invoke_id) parts.is in
           unused reached.0 reached.1 i j asks.before b asks.at there asks.accepted.invoke_id
-          ((λ d. is_id_held old.now asks.before.clients.slots (peer_at (sym link d)) (id_is d)) ∙ parts.free)
+          ((λ d. is_id_held old.now asks.before.clients.slots (peer_at (sym link d)) (id_is d)) ∙ parts.free) parts.awake

@@ -8,7 +8,8 @@ use Rattle.bac_store.specs.Replies.{reply_to}
 use Rattle.bac_store.specs.Changes.{after}
 use Rattle.bac_store.specs.AtNode.{changed}
 use Rattle.bac_world.specs.Once.{Fact, Has, Stores, IsOnce, MayPerform, asks_in}
-use Rattle.bac_world.specs.Once.Fact.{Asked, Performed, Ended, Changed}
+use Rattle.bac_world.specs.Once.Fact.{Asked, Performed, Ended, Changed, Restarted}
+use Rattle.bac_world.specs.Node.{store_after_restart}
 
 module _ (opening : Stores) where
   -- asks are numbered from 0
@@ -23,6 +24,8 @@ module _ (opening : Stores) where
   asked_below n c s r (Ended m how ∷ log) stores once (inr h) = asked_below n c s r log once.0 once.2 h
   asked_below n c s r (Changed i d ∷ log) stores once (inl e) = absurd cc
   asked_below n c s r (Changed i d ∷ log) stores once (inr h) = asked_below n c s r log once.0 once.2 h
+  asked_below n c s r (Restarted i d ∷ log) stores once (inl e) = absurd cc
+  asked_below n c s r (Restarted i d ∷ log) stores once (inr h) = asked_below n c s r log once.0 once.2 h
 
   -- so an ask has one server
   one_server : (n c s d u : ℕ) (q r : Request) (log : List Fact) (stores : Stores) → IsOnce opening log stores → Has (Asked n c s q) log
@@ -43,6 +46,9 @@ module _ (opening : Stores) where
   one_server n c s d u q r (Changed i z ∷ log) stores once (inl e) k = absurd cc
   one_server n c s d u q r (Changed i z ∷ log) stores once (inr h) (inl f) = absurd cc
   one_server n c s d u q r (Changed i z ∷ log) stores once (inr h) (inr k) = one_server n c s d u q r log once.0 once.2 h k
+  one_server n c s d u q r (Restarted i z ∷ log) stores once (inl e) k = absurd cc
+  one_server n c s d u q r (Restarted i z ∷ log) stores once (inr h) (inl f) = absurd cc
+  one_server n c s d u q r (Restarted i z ∷ log) stores once (inr h) (inr k) = one_server n c s d u q r log once.0 once.2 h k
 
   one_performed : (n : ℕ) (r : Request) (p : Reply) (log : List Fact) (a b stores other : Stores) → IsOnce opening log a
       → MayPerform n r p log a stores → MayPerform n r p log b other → ((node : ℕ) → a node ≡ b node) → (node : ℕ) → stores node ≡ other node
@@ -63,6 +69,9 @@ module _ (opening : Stores) where
   one_stores (Changed i c ∷ log) stores other h k node =
       let again = one_stores log h.0 k.0 h.2 k.2 in
       h.1 node ∙ (λ d. if nat_eq node i then option_map (changed c) (again i d) else again node d) ∙ sym (k.1 node)
+  one_stores (Restarted i o ∷ log) stores other h k node =
+      let again = one_stores log h.0 k.0 h.2 k.2 in
+      h.1 node ∙ (λ d. if nat_eq node i then option_map (λ (y : Store). store_after_restart y o) (again i d) else again node d) ∙ sym (k.1 node)
 
   -- the reply of a request that was performed just after its ask
   pub reply_is : (n c s : ℕ) (r : Request) (p : Reply) (log : List Fact) (stores before : Stores) (store : Store)

@@ -27,7 +27,7 @@ use Rattle.bac_ends.specs.Ends.AskOutcome.{Asked}
 use Rattle.bac_entry.specs.Services.{service_of}
 use Rattle.bac_world.specs.Node.{Node, Outcome, NodeOn, NodeTick, NodeAsks, IsHeardBy, with_change}
 use Rattle.bac_world.specs.World.{World, Event, WorldStep, WorldRun, IsFresh, IsFreshNode, IsWithNode, Acts, DeliversIf, Hears, is_deliverable}
-use Rattle.bac_world.specs.World.Event.{Deliver, Noise, Tick, Advance, Change}
+use Rattle.bac_world.specs.World.Event.{Deliver, Noise, Tick, Advance, Change, Restart}
 use Rattle.bac_world.proofs.Steps.{decide_number}
 use Rattle.bac_world.proofs.Asking.{accepted_is}
 use Rattle.bac_completion.specs.Room.{HasRoom, HaveRoom}
@@ -285,6 +285,8 @@ step_room overtake w w' (Advance by) s h = subst HaveRoom (sym s) (λ j n at. la
 step_room overtake w w' (Change node change) s h = λ j n at. subst (λ (t : ℕ). HasRoom t n) (sym s.now)
     (with_room w.now w.nodes w'.nodes node (with_change change s.before) s.nodes
     (let room = h node s.before s.at in record { held = room.held; live = room.live }) h j n at)
+step_room overtake w w' (Restart node store) s h = λ j n at. subst (λ (t : ℕ). HasRoom t n) (sym s.now)
+    (with_room w.now w.nodes w'.nodes node _ s.nodes (record { held = omega arith; live = omega arith }) h j n at)
 
 run_room : (overtake : ℕ) (events : List Event) (w w' : World) → WorldRun overtake w events w' → HaveRoom w → HaveRoom w'
 run_room overtake [] w w' run h = same_room w w' run h

@@ -1,5 +1,6 @@
 //! Two drivers of the same nodes: one sleeps until a node says that something is due, the other lets all do what is due at each millisecond. Both go by
 //! schedules that are made up from a number, and send the same datagrams at the same moments.
+use super::chance::Chance;
 use super::scene::{limits_of, request_of};
 use super::*;
 use bac_network::{Event, World, WorldFault};
@@ -15,24 +16,6 @@ const REQUESTS: &[&str] = &[
 
 /// From which numbers schedules are made up.
 const SEEDS: u64 = 6;
-
-/// Numbers that follow one from the other, without an order that can be seen.
-#[derive(Clone, Copy)]
-struct Numbers {
-    state: u64,
-}
-
-impl Numbers {
-    /// The next one, below that limit.
-    fn below(&mut self, limit: usize) -> usize {
-        self.state = self
-            .state
-            .wrapping_mul(6_364_136_223_846_793_005)
-            .wrapping_add(1_442_695_040_888_963_407);
-        let number = (self.state >> 33) as usize;
-        number.checked_rem(limit).unwrap_or(0)
-    }
-}
 
 /// Which nodes do what is due at a moment.
 #[derive(Clone, Copy)]
@@ -132,11 +115,11 @@ impl Drivers {
     }
 
     /// One node asks another one, or itself, which is refused.
-    fn ask(&mut self, alloc: Global, numbers: &mut Numbers) -> Result<(), Wrong> {
-        let words = REQUESTS.get(numbers.below(REQUESTS.len())).unwrap_or(&"");
+    fn ask(&mut self, alloc: Global, chance: &mut Chance) -> Result<(), Wrong> {
+        let words = REQUESTS.get(chance.below(REQUESTS.len())).unwrap_or(&"");
         let event = Event::Ask {
-            client: numbers.below(3),
-            server: numbers.below(3),
+            client: chance.below(3),
+            server: chance.below(3),
             limits: limits_of(alloc, "0270")?,
             request: request_of(alloc, words)?,
         };
@@ -144,30 +127,30 @@ impl Drivers {
     }
 
     /// One of the last copies comes.
-    fn deliver(&mut self, numbers: &mut Numbers) -> Result<(), Wrong> {
+    fn deliver(&mut self, chance: &mut Chance) -> Result<(), Wrong> {
         let copies = self.sleeps.copies().len();
-        match copies.checked_sub(numbers.below(6).saturating_add(1)) {
+        match copies.checked_sub(chance.below(6).saturating_add(1)) {
             Some(number) => self.go_on(&Event::Deliver { number }),
             None => Ok(()),
         }
     }
 
     /// Some time passes: mostly little, and at most 3,100 milliseconds.
-    fn wait(&mut self, numbers: &mut Numbers) -> Result<(), Wrong> {
-        let most = match numbers.below(4) {
+    fn wait(&mut self, chance: &mut Chance) -> Result<(), Wrong> {
+        let most = match chance.below(4) {
             0 | 1 => 10,
             2 => 2_100,
             _ => 3_100,
         };
-        let more = numbers.below(most) as u64;
+        let more = chance.below(most) as u64;
         self.pass(more.saturating_add(1))
     }
 
-    fn follow(&mut self, alloc: Global, numbers: &mut Numbers) -> Result<(), Wrong> {
-        match numbers.below(10) {
-            0 | 1 => self.ask(alloc, numbers),
-            2 => self.wait(numbers),
-            _ => self.deliver(numbers),
+    fn follow(&mut self, alloc: Global, chance: &mut Chance) -> Result<(), Wrong> {
+        match chance.below(10) {
+            0 | 1 => self.ask(alloc, chance),
+            2 => self.wait(chance),
+            _ => self.deliver(chance),
         }
     }
 
@@ -183,9 +166,9 @@ impl Drivers {
 /// Both drivers go by a schedule, and then all is sent again until it is given up; how many datagrams were sent, None where they differ.
 fn sent_by_both(alloc: Global, seed: u64) -> Result<Option<usize>, Wrong> {
     let mut drivers = Drivers::new(alloc)?;
-    let mut numbers = Numbers { state: seed };
+    let mut chance = Chance::of(seed);
     for _ in 0..150u8 {
-        drivers.follow(alloc, &mut numbers)?;
+        drivers.follow(alloc, &mut chance)?;
     }
     drivers.pass(12_500)?;
     let is_same = drivers.are_same()?;

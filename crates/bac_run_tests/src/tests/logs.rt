@@ -157,6 +157,7 @@ fn note_fact(journal: &mut Journal, fact: &Fact) -> Result<(), Fail> {
         } => journal.performed(*number as u64, request, reply),
         Fact::Ended { number, how } => journal.ended(*number as u64, how),
         Fact::Changed { .. } => Err(Fail::from("a change that no request made")),
+        Fact::Restarted { .. } => Err(Fail::from("a restart")),
     }
 }
 

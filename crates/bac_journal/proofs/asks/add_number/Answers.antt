@@ -1,5 +1,4 @@
--- One row has a number more.
-use Rattle.std.proofs.Common.{refl}
+-- One row has the number of a ticket.
 use Rattle.std.proofs.lemmas.List.{length-set}
 use Rattle.std.proofs.lemmas.Option.{slice_get-get_or, slice_get_within}
 use Rattle.bac_journal.proofs.Lists.{get_set, get_set_other}
@@ -10,10 +9,10 @@ returns c =
     let within = slice_get_within c.args.rows.now c.args.client c.requires.0 c.requires.1 in
     record {
       before = _;
-      after = _;
-      was = slice_get-get_or c.args.rows.now c.args.client c.index-rows-client.result within;
+      after = c.put_number.new.row;
+      was = slice_get-get_or c.args.rows.now c.args.client _ within;
       here = get_set c.args.rows.now c.args.client _ within;
-      goes = record { cells = refl; numbers = c.push_reserved.ensures.items };
+      goes = c.put_number.ensures;
       others = λ j ne. get_set_other c.args.rows.now c.args.client j _ ne;
       many = length-set c.args.rows.now c.args.client _;
     }

@@ -14,7 +14,7 @@ set_known-requires c =
 
 pub add_number-requires : goal.add_number-requires
 add_number-requires c =
-    numbers_kept c.args.rows.now c.set_known.new.rows c.args.note.transaction.client _ _ c.set_known.ensures c.requires.ticket_room
+    numbers_kept c.args.rows.now c.set_known.new.rows c.args.note.transaction.client _ c.args.note.ticket _ c.set_known.ensures c.requires.ticket_room
 
 pub returns-clause-notes : goal.returns-clause-notes
 returns-clause-notes c = ap notes_view c.push_reserved.ensures.items ∙ notes_push c.args.notes.now.items c.args.note
@@ -27,5 +27,5 @@ returns-clause-kept c = λ copies ticket h.
     (sym (ap notes_view c.push_reserved.ensures.items ∙ notes_push c.args.notes.now.items c.args.note))
     (kept_note c.args.rows.now c.set_known.new.rows c.add_number.new.rows key _ c.in-Some.found _ c.set_known.ensures
     (within_of c.args.rows.now key c.in-Some.found c.set_known.ensures.before there c.set_known.ensures.was)
-    c.add_number.ensures c.fits.ensures there refl refl copies (notes_view c.args.notes.now.items) c.args.note.ticket
-    (c.len-number.ensures ∙ c.args.notes.now.ok.0 ∙ notes_many c.args.notes.now.items) ticket h)
+    c.args.note.ticket c.add_number.ensures c.fits.ensures there refl refl copies (notes_view c.args.notes.now.items)
+    (c.len-number.ensures ∙ c.args.notes.now.ok.0 ∙ notes_many c.args.notes.now.items) h)

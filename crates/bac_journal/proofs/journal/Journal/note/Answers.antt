@@ -1,6 +1,9 @@
 -- The nodes are there, and so is room.
-use Rattle.std.proofs.Common.{◌≡◌, ◌<◌, Some, length, sym, ap, subst, arith}
+use Rattle.std.proofs.Common.{◌≡◌, ◌<◌, ◌≤◌, ◌+◌, Some, length, slice_get, sym, ap, subst, arith}
+use Rattle.std.specs.Prelude.{vec_capacity}
 use Rattle.bac_journal.specs.declared.asks.Cell.{Cell}
+use Rattle.bac_journal.specs.declared.asks.Row.{Row}
+use Rattle.bac_journal.specs.Entering.{tickets_of}
 use Rattle.bac_journal.specs.Index.{cell_at, HasTicketRoom}
 use Rattle.bac_journal.specs.Notes.{notes_view}
 use Rattle.bac_journal.specs.Views.{key_view}
@@ -12,9 +15,17 @@ pub add_note-requires-clause-ticket_room : goal.add_note-requires-clause-ticket_
 add_note-requires-clause-ticket_room c =
     let value = c.deref_mut.ensures.value in
     let same : c.self.inside.rows.items ≡ c.deref_mut.result.now = cc in
-    subst (λ rows. HasTicketRoom rows c.args.note.transaction.client) same
-    (ticket_room_there c.self.inside.rows.items c.args.note.transaction.client c.args.self.now (ap (λ v. v.note_room.tickets) (sym c.self.view_is))
-    c.requires.room)
+    let rows = c.self.inside.rows.items in
+    let client = c.args.note.transaction.client in
+    let ticket = c.args.note.ticket in
+    let room : HasTicketRoom rows client = ticket_room_there rows client c.args.self.now (ap (λ v. v.note_room.tickets) (sym c.self.view_is))
+    c.requires.room in
+    let next : ticket ≤ tickets_of client (notes_view c.self.inside.notes.items) =
+    subst (λ v. ticket ≤ tickets_of client v.notes) (sym c.self.view_is) c.requires.ticket in
+    let within : ticket ≤ length room.0.numbers.items =
+    subst (λ k. ticket ≤ k) (sym (c.self.invariant.0.counted client room.0 room.1)) next in
+    subst (λ all. (r : Row) × (slice_get all client ≡ Some r) × (length r.numbers.items + 1 ≤ vec_capacity r.numbers) × (ticket ≤ length r.numbers.items)) same
+    (room.0, room.1, room.2, within)
 
 pub add_note-requires-clause-there : goal.add_note-requires-clause-there
 add_note-requires-clause-there c =

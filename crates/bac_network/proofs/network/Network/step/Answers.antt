@@ -2,7 +2,7 @@
 use Rattle.std.proofs.Common.{sym, subst}
 use Rattle.bac_protocol.specs.Service.{Octets}
 use Rattle.bac_store.specs.Views.{change_view}
-use Rattle.bac_world.specs.World.Event.{Noise, Tick, Advance, Change}
+use Rattle.bac_world.specs.World.Event.{Noise, Tick, Advance, Change, Restart}
 use Rattle.bac_network.specs.Networks.{world_of}
 use Rattle.bac_network.specs.Steps.{Happens, HappensTelling}
 use Rattle.bac_network.specs.Views.{event_view}
@@ -42,3 +42,10 @@ returns-in-Change-clause-happens c =
     (sym c.in-Change.is)
     (told_nothing c.args.overtake (world_of c.args.self.now) (world_of c.change.new.self) (Change c.in-Change.node (change_view c.in-Change.change)) tt
     c.change.result c.untold-in-Change.result (c.change.ensures.happens c.args.overtake) c.untold-in-Change.ensures)
+
+pub returns-in-Restart-clause-happens : goal.returns-in-Restart-clause-happens
+returns-in-Restart-clause-happens c =
+    subst (λ (e : Event). HappensTelling c.args.overtake (world_of c.args.self.now) (event_view e) c.untold-in-Restart.result (world_of c.restart.new.self))
+    (sym c.in-Restart.is)
+    (told_nothing c.args.overtake (world_of c.args.self.now) (world_of c.restart.new.self) (Restart c.in-Restart.node c.in-Restart.store) tt
+    c.restart.result c.untold-in-Restart.result (c.restart.ensures.happens c.args.overtake) c.untold-in-Restart.ensures)

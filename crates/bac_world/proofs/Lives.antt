@@ -1,0 +1,204 @@
+-- A node that does not restart asks and serves from the same moments on; where none restarts, the log has no restart, and none ever waits.
+use Rattle.std.proofs.Common.{◌≡◌, ℕ, ◌⊎◌, Bool, true, false, List, [], ◌∷◌, Option, Some, None, slice_get, refl, sym, ap, subst, inl, inr, ◌∙◌}
+use Rattle.bac_apdu.specs.Apdu.{Apdu, Limits}
+use Rattle.bac_npdu.specs.Peers.{PeerView}
+use Rattle.bac_service.specs.Values.{Request, choice_of}
+use Rattle.bac_service.specs.Services.{reads_reply}
+use Rattle.bac_protocol.specs.Context.{Settings}
+use Rattle.bac_protocol.specs.Service.{Octets, Readable}
+use Rattle.bac_protocol.specs.Wire.{is_from_client}
+use Rattle.bac_slots.specs.Slots.{value_at}
+use Rattle.bac_ends.specs.Keys.{PeerKey, same_key}
+use Rattle.bac_ends.specs.Sends.{Datagram}
+use Rattle.bac_ends.specs.Meanings.{Finish}
+use Rattle.bac_ends.specs.Ends.{Client, ClientEnd, Held, Accepted, client_hears_at, client_hears_held, key_of}
+use Rattle.bac_ends.specs.Ends.Held.{Open, Closed}
+use Rattle.bac_world.specs.Services.{Performed}
+use Rattle.bac_world.specs.Node.{Node, Outcome, IsHeardBy, NodeOn, NodeTick, NodeAsks}
+use Rattle.bac_world.specs.Once.{Fact, HasNoRestart}
+use Rattle.bac_world.specs.World.{World, Event, Copy, Note, IsWithNode, Acts, Hears, AreEnded, AreLogged, DeliversIf, is_deliverable, peer_at}
+use Rattle.bac_world.specs.World.{IsAsked, WorldStep, WorldRun, RunsOn, MakeNoRestart, NeverRestarted, IsFresh}
+use Rattle.bac_world.specs.World.Event.{Ask, Deliver, Noise, Tick, Advance, Change, Restart}
+use Rattle.bac_world.proofs.Steps.{decide_number}
+use Rattle.bac_world.proofs.Asking.{accepted_is}
+
+-- A call of a node.
+
+record Stays (a b : Node) : Type 0 where
+  asks : b.clients.asks_from ≡ a.clients.asks_from
+  serves : b.servers.serves_from ≡ a.servers.serves_from
+
+held_from : (c : Settings) (r : Readable) (now : ℕ) (p : Apdu) (e : ClientEnd) (q : PeerKey) (k : ℕ) (y : Held)
+    → (client_hears_held c r now p e q k y).end.asks_from ≡ e.asks_from
+held_from c r now p e q k (Closed first) = refl
+held_from c r now p e q k (Open t) = refl
+
+slot_from : (c : Settings) (r : Readable) (now : ℕ) (p : Apdu) (e : ClientEnd) (q : PeerKey) (s : Option Client)
+    → (client_hears_at c r now p e q s).end.asks_from ≡ e.asks_from
+slot_from c r now p e q None = refl
+slot_from c r now p e q (Some s) = held_from c r now p e q s.number s.held
+
+heard_stays : (up : Bool) (peer : PeerView) (p : Apdu) (now : ℕ) (a b : Node) (o : Outcome) → IsHeardBy up peer p now a b o → Stays a b
+heard_stays true peer p now a b o t =
+    record { asks = ap (λ (n : Node). n.clients.asks_from) t.node; serves = ap (λ (n : Node). n.servers.serves_from) t.node }
+heard_stays false peer p now a b o t = record {
+  asks = ap (λ (n : Node). n.clients.asks_from) t.node
+      ∙ slot_from a.settings reads_reply now p a.clients (key_of peer p) (value_at same_key (key_of peer p) a.clients.slots);
+  serves = ap (λ (n : Node). n.servers.serves_from) t.node;
+}
+
+on_stays : (now : ℕ) (from octets : Octets) (a b : Node) (o : Outcome) → NodeOn now from octets a b o → Stays a b
+on_stays now from octets a b o (inl d) =
+    record { asks = ap (λ (n : Node). n.clients.asks_from) d.node; serves = ap (λ (n : Node). n.servers.serves_from) d.node }
+on_stays now from octets a b o (inr d) = heard_stays (is_from_client d.apdu) d.peer d.apdu now a b o d.heard
+
+tick_stays : (now : ℕ) (a b : Node) (o : Outcome) → NodeTick now a b o → Stays a b
+tick_stays now a b o t =
+    record { asks = ap (λ (n : Node). n.clients.asks_from) t.node; serves = ap (λ (n : Node). n.servers.serves_from) t.node }
+
+asks_stay : (now : ℕ) (l : Octets) (limits : Limits) (r : Request) (a b : Node) (accepted : Accepted) (ds : List Datagram)
+    → NodeAsks now (peer_at l) limits r a b accepted ds → Stays a b
+asks_stay now l limits r a b accepted ds k =
+    let parts = accepted_is a.settings now (peer_at l) (choice_of r) k.octets a.clients accepted limits k.accepted in
+    record {
+      asks = ap (λ (n : Node). n.clients.asks_from) k.node ∙ ap (λ (y : Accepted). y.end.asks_from) parts.is;
+      serves = ap (λ (n : Node). n.servers.serves_from) k.node;
+    }
+
+-- A step.
+
+-- that node was there before, and asks and serves from the same moments on
+pub record Lived (old : List Node) (i : ℕ) (b : Node) : Type 0 where
+  pub before : Node
+  pub at : slice_get old i ≡ Some before
+  pub asks : b.clients.asks_from ≡ before.clients.asks_from
+  pub serves : b.servers.serves_from ≡ before.servers.serves_from
+
+abbrev LiveOn : (old new : List Node) → (i : ℕ) → Type 0
+LiveOn old new i = (b : Node) → slice_get new i ≡ Some b → Lived old i b
+
+same_lived : (old : List Node) (i : ℕ) → LiveOn old old i
+same_lived old i b at = record { before = b; at = at; asks = refl; serves = refl }
+
+other_lived : (old new : List Node) (j : ℕ) (d : Node) → IsWithNode old j d new → (i : ℕ) → (i ≡ j → ⊥) → LiveOn old new i
+other_lived old new j d s i ne b at = record { before = b; at = sym (s.others i ne) ∙ at; asks = refl; serves = refl }
+
+with_lived : (old new : List Node) (j : ℕ) (a d : Node) → slice_get old j ≡ Some a → IsWithNode old j d new → Stays a d → (i : ℕ) → LiveOn old new i
+with_lived old new j a d there s stays i b at = go (decide_number i j)
+  where
+    go : ((i ≡ j) ⊎ (i ≡ j → ⊥)) → Lived old i b
+    go (inl is) =
+        let here : slice_get new j ≡ Some b = subst (λ (k : ℕ). slice_get new k ≡ Some b) is at in
+        let same : d ≡ b = let e : Some d ≡ Some b = sym s.here ∙ here in cc in
+        record {
+          before = a;
+          at = subst (λ (k : ℕ). slice_get old k ≡ Some a) (sym is) there;
+          asks = ap (λ (n : Node). n.clients.asks_from) (sym same) ∙ stays.asks;
+          serves = ap (λ (n : Node). n.servers.serves_from) (sym same) ∙ stays.serves;
+        }
+    go (inr ne) = other_lived old new j d s i ne b at
+
+hears_lived : (w w' : World) (j : ℕ) (from octets : Octets) → Hears w j from octets w' → (i : ℕ) → LiveOn w.nodes w'.nodes i
+hears_lived w w' j from octets h =
+    with_lived w.nodes w'.nodes j h.before h.after h.at h.acts.nodes (on_stays w.now from octets h.before h.after h.outcome h.on)
+
+delivers_lived : (b : Bool) (w : World) (c : Copy) (w' : World) → DeliversIf b w c w' → (i : ℕ) → LiveOn w.nodes w'.nodes i
+delivers_lived true w c w' d = hears_lived w w' c.to d.link c.octets d.hears
+delivers_lived false w c w' same = λ i. subst (λ (u : World). LiveOn w.nodes u.nodes i) (sym same) (same_lived w.nodes i)
+
+step_lived : (overtake : ℕ) (w w' : World) (e : Event) → WorldStep overtake w e w' → (i : ℕ) → RunsOn i (e ∷ []) → LiveOn w.nodes w'.nodes i
+step_lived overtake w w' (Ask client server limits r) (inl s) i on = with_lived w.nodes w'.nodes client s.before s.after s.at s.nodes
+    (asks_stay w.now s.link limits r s.before s.after s.accepted s.sends s.asks) i
+step_lived overtake w w' (Ask client server limits r) (inr s) i on = subst (λ (u : World). LiveOn w.nodes u.nodes i) (sym s.same) (same_lived w.nodes i)
+step_lived overtake w w' (Deliver number) s i on = delivers_lived (is_deliverable overtake w.now number w.copies s.copy) w s.copy w' s.goes i
+step_lived overtake w w' (Noise node from octets) (inl s) i on = hears_lived w w' node from octets s.hears i
+step_lived overtake w w' (Noise node from octets) (inr s) i on = subst (λ (u : World). LiveOn w.nodes u.nodes i) (sym s.same) (same_lived w.nodes i)
+step_lived overtake w w' (Tick node) s i on =
+    with_lived w.nodes w'.nodes node s.before s.after s.at s.acts.nodes (tick_stays w.now s.before s.after s.outcome s.tick) i
+step_lived overtake w w' (Advance by) s i on = subst (λ (u : World). LiveOn w.nodes u.nodes i) (sym s) (same_lived w.nodes i)
+step_lived overtake w w' (Change node c) s i on =
+    with_lived w.nodes w'.nodes node s.before _ s.at s.nodes (record { asks = refl; serves = refl }) i
+step_lived overtake w w' (Restart node store) s i on = other_lived w.nodes w'.nodes node _ s.nodes i (λ is. on.0 (sym is))
+
+-- Runs.
+
+first_on : (i : ℕ) (e : Event) (es : List Event) → RunsOn i (e ∷ es) → RunsOn i (e ∷ []) × RunsOn i es
+first_on i (Ask client server limits r) es h = (tt, h)
+first_on i (Deliver number) es h = (tt, h)
+first_on i (Noise node from octets) es h = (tt, h)
+first_on i (Tick node) es h = (tt, h)
+first_on i (Advance by) es h = (tt, h)
+first_on i (Change node c) es h = (tt, h)
+first_on i (Restart node store) es h = ((h.0, tt), h.1)
+
+-- where a node does not restart in a run
+pub run_lived : (overtake : ℕ) (events : List Event) (w w' : World) → WorldRun overtake w events w' → (i : ℕ) → RunsOn i events
+    → (b : Node) → slice_get w'.nodes i ≡ Some b → Lived w.nodes i b
+run_lived overtake [] w w' run i on b at =
+    subst (λ (u : World). LiveOn w.nodes u.nodes i) (sym run) (same_lived w.nodes i) b at
+run_lived overtake (e ∷ es) w w' run i on b at =
+    let parts = first_on i e es on in
+    let last = run_lived overtake es run.0 w' run.2 i parts.1 b at in
+    let first = step_lived overtake w run.0 e run.1 i parts.0 last.before last.at in
+    record { before = first.before; at = first.at; asks = last.asks ∙ first.asks; serves = last.serves ∙ first.serves }
+
+each_on : (i : ℕ) (es : List Event) → MakeNoRestart es → RunsOn i es
+each_on i [] h = tt
+each_on i (Ask client server limits r ∷ es) h = each_on i es h
+each_on i (Deliver number ∷ es) h = each_on i es h
+each_on i (Noise node from octets ∷ es) h = each_on i es h
+each_on i (Tick node ∷ es) h = each_on i es h
+each_on i (Advance by ∷ es) h = each_on i es h
+each_on i (Change node c ∷ es) h = each_on i es h
+each_on i (Restart node store ∷ es) h = absurd h
+
+-- The log of a run without restarts.
+
+quiet_ended : (notes : List Note) (node : ℕ) (fs : List Finish) (old new : List Fact) → AreEnded notes node fs old new → HasNoRestart old → HasNoRestart new
+quiet_ended notes node [] old new h none = subst HasNoRestart (sym h) none
+quiet_ended notes node (f ∷ fs) old new h none = quiet_ended notes node fs (Fact.Ended h.0 f.how ∷ old) new h.2 none
+
+quiet_logged : (nodes : List Node) (notes : List Note) (node : ℕ) (o : Option Performed) (old new : List Fact) → AreLogged nodes notes node o old new
+    → HasNoRestart old → HasNoRestart new
+quiet_logged nodes notes node None old new h none = subst HasNoRestart (sym h) none
+quiet_logged nodes notes node (Some p) old new h none = subst HasNoRestart (sym h.log) none
+
+quiet_acts : (w w' : World) (i : ℕ) (b : Node) (o : Outcome) → Acts w i b o w' → HasNoRestart w.log → HasNoRestart w'.log
+quiet_acts w w' i b o acts none =
+    quiet_logged w.nodes w.notes i o.performed acts.between w'.log acts.logged (quiet_ended w.notes i o.ended w.log acts.between acts.ended none)
+
+quiet_delivered : (b : Bool) (w : World) (c : Copy) (w' : World) → DeliversIf b w c w' → HasNoRestart w.log → HasNoRestart w'.log
+quiet_delivered true w c w' d none = quiet_acts w w' c.to d.hears.after d.hears.outcome d.hears.acts none
+quiet_delivered false w c w' same none = subst (λ (u : World). HasNoRestart u.log) (sym same) none
+
+quiet_run : (overtake : ℕ) (events : List Event) (w w' : World) → WorldRun overtake w events w' → MakeNoRestart events → HasNoRestart w.log
+    → HasNoRestart w'.log
+quiet_run overtake [] w w' run calm none = subst (λ (u : World). HasNoRestart u.log) (sym run) none
+quiet_run overtake (Ask client server limits r ∷ es) w w' run calm none = quiet_run overtake es run.0 w' run.2 calm (go run.1)
+  where
+    go : WorldStep overtake w (Ask client server limits r) run.0 → HasNoRestart (run.0).log
+    go (inl s) = subst HasNoRestart (sym s.log) none
+    go (inr s) = subst (λ (u : World). HasNoRestart u.log) (sym s.same) none
+quiet_run overtake (Deliver number ∷ es) w w' run calm none = quiet_run overtake es run.0 w' run.2 calm
+    (quiet_delivered (is_deliverable overtake w.now number w.copies run.1.copy) w run.1.copy run.0 run.1.goes none)
+quiet_run overtake (Noise node from octets ∷ es) w w' run calm none = quiet_run overtake es run.0 w' run.2 calm (go run.1)
+  where
+    go : WorldStep overtake w (Noise node from octets) run.0 → HasNoRestart (run.0).log
+    go (inl s) = quiet_acts w run.0 node s.hears.after s.hears.outcome s.hears.acts none
+    go (inr s) = subst (λ (u : World). HasNoRestart u.log) (sym s.same) none
+quiet_run overtake (Tick node ∷ es) w w' run calm none = quiet_run overtake es run.0 w' run.2 calm
+    (quiet_acts w run.0 node run.1.after run.1.outcome run.1.acts none)
+quiet_run overtake (Advance by ∷ es) w w' run calm none = quiet_run overtake es run.0 w' run.2 calm
+    (subst (λ (u : World). HasNoRestart u.log) (sym run.1) none)
+quiet_run overtake (Change node c ∷ es) w w' run calm none = quiet_run overtake es run.0 w' run.2 calm (subst HasNoRestart (sym run.1.log) none)
+quiet_run overtake (Restart node store ∷ es) w w' run calm none = absurd calm
+
+pub no_restart_in_run : (overtake : ℕ) (w w' : World) → IsFresh w → (events : List Event) → MakeNoRestart events → WorldRun overtake w events w'
+    → HasNoRestart w'.log × NeverRestarted w'.nodes
+no_restart_in_run overtake w w' fresh events calm run = (
+  quiet_run overtake events w w' run calm (subst HasNoRestart (sym fresh.log) tt),
+  λ i n at.
+      let lived = run_lived overtake events w w' run i (each_on i events calm) n at in
+      let first = fresh.nodes i lived.before lived.at in
+      (lived.asks ∙ first.asks_from, lived.serves ∙ first.serves_from),
+)

@@ -1,0 +1,152 @@
+-- A node restarts.
+use Rattle.std.proofs.Common.{◌≡◌, ℕ, ◌+◌, ◌≤◌, ◌⊎◌, Bool, true, false, ◌&&◌, List, [], ◌∷◌, length, Option, Some, None, slice_get}
+use Rattle.std.proofs.Common.{nat_le, nat_eq, if◌then◌else◌, refl, sym, ap, subst, inl, inr, ◌∙◌, arith}
+use Rattle.std.proofs.lemmas.Bool.Decides.{nat_tests}
+use Rattle.std.specs.Option.{option_map}
+use Rattle.bac_store.specs.Stores.{Store}
+use Rattle.bac_protocol.specs.declared.times.TheConstants.{KEEP, REST}
+use Rattle.bac_protocol.specs.Service.{Octets}
+use Rattle.bac_protocol.specs.Client as client
+use Rattle.bac_protocol.specs.Client.{Ticket}
+use Rattle.bac_protocol.specs.Client.Phase.{Idle}
+use Rattle.bac_protocol.specs.Server.{live_entry}
+use Rattle.bac_protocol.specs.Transaction.{Key, Rules}
+use Rattle.bac_protocol.specs.World.{Net, lost, client_restarted, server_restarted}
+use Rattle.bac_protocol.specs.Claims.{IsBounded}
+use Rattle.bac_slots.specs.Slots.{value_at}
+use Rattle.bac_ends.specs.Keys.{same_key}
+use Rattle.bac_ends.specs.Sends.{Pairwise}
+use Rattle.bac_world.specs.Node.{Node, restarted, store_after_restart}
+use Rattle.bac_world.specs.Once.{Fact, IsOnce, with_restarted}
+use Rattle.bac_world.specs.World.{World, Copy, Note, stores_of, newest, IsRestarted}
+use Rattle.bac_world.proofs.Machines.{restarts, asked_before}
+use Rattle.bac_world.proofs.Logs.{FactMeans}
+use Rattle.bac_world.proofs.Bridge.{NodeFits, IsCopyOf, IsGone, TicketFits, EntryFits, key_of, slot_key}
+use Rattle.bac_world.proofs.Steps.{Over, Next, decide_number, linked_with}
+
+self : (i : ℕ) → nat_eq i i ≡ true
+self i = grind (arith, nat_tests)
+
+away : (j i : ℕ) → (j ≡ i → ⊥) → nat_eq j i ≡ false
+away j i ne = go (nat_eq j i) refl
+  where
+    go : (b : Bool) → nat_eq j i ≡ b → b ≡ false
+    go true e = absurd (ne (grind (arith, nat_tests)))
+    go false e = refl
+
+-- a lost ticket holds no invoke ID of its client's next life
+gone_lost : (now : ℕ) (o : Option Ticket) → ((t : Ticket) → o ≡ Some t → t.ask.first ≤ now) → IsGone (now + REST + 1) now (lost o)
+gone_lost now None before = record { over = refl; free = refl }
+gone_lost now (Some t) before = record {
+  over = refl;
+  free = ap (λ (b : Bool). b && client.is_held now (record t { phase = Idle })) late;
+}
+  where
+    late : nat_le (now + REST + 1) (t.ask.first + REST) ≡ false
+    late = let first : t.ask.first ≤ now = before t refl in grind (arith, nat_tests)
+
+-- what the net makes of it: both ends of that node restart
+abbrev pub restarted_net : Net → ℕ → Net
+restarted_net n i = server_restarted (client_restarted n i) i None
+
+module _ (links : ℕ → Option Octets) (apart : (i j : ℕ) (l : Octets) → links i ≡ Some l → links j ≡ Some l → i ≡ j) (W : ℕ) (x : Rules)
+    (bound : IsBounded W x) (w w' : World) (n : Net) (h : Over links apart W x w n) (i : ℕ) (o : Option Store) (s : IsRestarted w i o w') where
+  abbrev m : Net
+  m = server_restarted (client_restarted n i) i None
+
+  abbrev made : Node
+  made = restarted w.now (store_after_restart s.before.store o) s.before
+
+  f : NodeFits links apart x n.now w.notes n i s.before
+  f = h.nodes i s.before s.at
+
+  no_ticket : (k : Key) → IsGone (if nat_eq i i then n.now + REST + 1 else n.asks_from i) n.now (if nat_eq i i then lost (n.tickets k) else n.tickets k)
+  no_ticket k = subst (λ (b : Bool). IsGone (if b then n.now + REST + 1 else n.asks_from i) n.now (if b then lost (n.tickets k) else n.tickets k))
+      (sym (self i)) (gone_lost n.now (n.tickets k) (λ t is. asked_before W x bound n h.sound k t is))
+
+  made_fits : NodeFits links apart x n.now w.notes m i made
+  made_fits = record {
+    settings = f.settings;
+    link = f.link;
+    asks = ap (λ (t : ℕ). t + REST + 1) (sym h.now) ∙ sym (ap (λ (b : Bool). if b then n.now + REST + 1 else n.asks_from i) (self i));
+    serves = ap (λ (t : ℕ). t + KEEP + 1) (sym h.now) ∙ sym (ap (λ (b : Bool). if b then n.now + KEEP + 1 else n.serves_from i) (self i));
+    clients = record { distinct = tt; known = tt; found = λ p l id at. no_ticket (key_of i p id) };
+    servers = record {
+      distinct = tt;
+      known = tt;
+      found = λ c l id at. ap (λ (b : Bool). live_entry n.now (if b then None else n.entries (key_of c i id))) (sym (self i));
+    };
+  }
+
+  others : (j : ℕ) (a : Node) → (j ≡ i → ⊥) → NodeFits links apart x n.now w.notes n j a → NodeFits links apart x n.now w.notes m j a
+  others j a ne g = record {
+    settings = g.settings;
+    link = g.link;
+    asks = g.asks ∙ sym (ap (λ (b : Bool). if b then n.now + REST + 1 else n.asks_from j) (away j i ne));
+    serves = g.serves ∙ sym (ap (λ (b : Bool). if b then n.now + KEEP + 1 else n.serves_from j) (away j i ne));
+    clients = record {
+      distinct = g.clients.distinct;
+      known = g.clients.known;
+      found = λ p l id at. subst (λ (b : Bool). TicketFits (if b then n.now + REST + 1 else n.asks_from j) n.now w.notes j (n.numbers (key_of j p id))
+          (value_at same_key (slot_key l id) a.clients.slots) (if b then lost (n.tickets (key_of j p id)) else n.tickets (key_of j p id)))
+          (sym (away j i ne)) (g.clients.found p l id at);
+    };
+    servers = record {
+      distinct = g.servers.distinct;
+      known = g.servers.known;
+      found = λ c l id at. subst (λ (b : Bool). EntryFits n.now (value_at same_key (slot_key l id) a.servers.slots)
+          (if b then None else n.entries (key_of c j id))) (sym (away j i ne)) (g.servers.found c l id at);
+    };
+  }
+
+  fits : (j : ℕ) (c : Node) → slice_get w'.nodes j ≡ Some c → ((j ≡ i) ⊎ (j ≡ i → ⊥)) → NodeFits links apart x n.now w.notes m j c
+  fits j c at (inl is) =
+      let there : slice_get w'.nodes i ≡ Some c = subst (λ (k : ℕ). slice_get w'.nodes k ≡ Some c) is at in
+      let same : made ≡ c = let e : Some made ≡ Some c = sym s.nodes.here ∙ there in cc in
+      subst (λ (k : ℕ). NodeFits links apart x n.now w.notes m k c) (sym is)
+      (subst (λ (d : Node). NodeFits links apart x n.now w.notes m i d) same made_fits)
+  fits j c at (inr ne) = others j c ne (h.nodes j c (sym (s.nodes.others j ne) ∙ at))
+
+  noted : (key : Key) (t : Ticket) (b : Bool) → (if b then lost (n.tickets key) else n.tickets key) ≡ Some t
+      → newest key w.notes ≡ Some (n.numbers key)
+  noted key t false is = h.noted key t is
+  noted key t true is = go (n.tickets key) refl is
+    where
+      go : (y : Option Ticket) → n.tickets key ≡ y → lost y ≡ Some t → newest key w.notes ≡ Some (n.numbers key)
+      go None e is = absurd cc
+      go (Some u) e is = h.noted key u e
+
+  pub restarted_over : Over links apart W x w' (restarted_net n i)
+  restarted_over = record {
+    now = h.now ∙ sym s.now;
+    asks = h.asks ∙ sym (ap (λ (l : List Note). length l) s.notes);
+    linked = linked_with links w.nodes w'.nodes i s.before made s.nodes s.at refl h.linked;
+    nodes = λ j a at. subst (λ (l : List Note). NodeFits links apart x n.now l m j a) (sym s.notes) (fits j a at (decide_number j i));
+    noted = λ key t is. ap (newest key) s.notes ∙ noted key t (nat_eq key.client i) is;
+    posts = subst (λ (l : List Copy). Pairwise (IsCopyOf links apart) n.posts l) (sym s.copies) h.posts;
+    log = subst (λ (l : List Fact). Pairwise FactMeans m.log l) (sym s.log) (refl, h.log);
+    sound = restarts W x bound n i h.sound;
+  }
+
+  stores_restarted : (node : ℕ) → stores_of w'.nodes node ≡ with_restarted i o (stores_of w.nodes) node
+  stores_restarted node = go (nat_eq node i) refl
+    where
+      store : Option Node → Option Store
+      store y = option_map (λ (a : Node). a.store) y
+
+      go : (b : Bool) → nat_eq node i ≡ b → stores_of w'.nodes node
+          ≡ (if b then option_map (λ (y : Store). store_after_restart y o) (stores_of w.nodes i) else stores_of w.nodes node)
+      go true e =
+          let same : node ≡ i = grind (arith, nat_tests) in
+          ap (stores_of w'.nodes) same ∙ ap store s.nodes.here
+          ∙ sym (ap (λ y. option_map (λ (z : Store). store_after_restart z o) (store y)) s.at)
+      go false e = ap store (s.nodes.others node (λ same. grind (arith, nat_tests)))
+
+  pub restarted_next : Next links apart W x w w'
+  restarted_next = (
+    restarted_net n i,
+    record {
+      bridge = restarted_over;
+      once = λ opening once. subst (λ (l : List Fact). IsOnce opening l (stores_of w'.nodes)) (sym s.log) (stores_of w.nodes, stores_restarted, once);
+    },
+  )
