@@ -246,7 +246,9 @@ static inline const char *bac_text(bac_status status)
     return status < sizeof texts / sizeof texts[0] ? texts[status] : "unknown status";
 }
 
-/* A Real (clause 20.2.6) as the five octets of its data, from the bits of an IEEE 754 single. */
+/* ---- values as octets of data (clause 20.2), and back. These are C, and no proof covers them: octets that are no data are refused by each call that takes them. */
+
+/* A Real, from the bits of an IEEE 754 single: five octets. */
 static inline void bac_put_real(uint8_t out[5], uint32_t bits)
 {
     out[0] = 0x44;
@@ -254,6 +256,63 @@ static inline void bac_put_real(uint8_t out[5], uint32_t bits)
     out[2] = (uint8_t)(bits >> 16);
     out[3] = (uint8_t)(bits >> 8);
     out[4] = (uint8_t)bits;
+}
+
+/* Whether the octets are a Real, and its bits. */
+static inline bool bac_take_real(const uint8_t *octets, size_t len, uint32_t *bits)
+{
+    if (len != 5 || octets[0] != 0x44) {
+        return false;
+    }
+    *bits = (uint32_t)octets[1] << 24 | (uint32_t)octets[2] << 16 | (uint32_t)octets[3] << 8 | octets[4];
+    return true;
+}
+
+/* An Unsigned (kind 2) or an Enumerated (kind 9; 0 and 1 are the states of a binary-value), in the fewest octets: how many they are. */
+static inline size_t bac_put_number(uint8_t out[5], unsigned kind, uint32_t number)
+{
+    size_t len = number >> 24 ? 4 : number >> 16 ? 3 : number >> 8 ? 2 : 1;
+    out[0] = (uint8_t)(kind << 4 | len);
+    for (size_t i = 0; i < len; i++) {
+        out[1 + i] = (uint8_t)(number >> 8 * (len - 1 - i));
+    }
+    return 1 + len;
+}
+
+/* Whether the octets are a number of that kind of at most 32 bits, and the number. */
+static inline bool bac_take_number(const uint8_t *octets, size_t len, unsigned kind, uint32_t *number)
+{
+    uint32_t sum = 0;
+    if (len < 2 || len > 5 || octets[0] != (kind << 4 | (len - 1))) {
+        return false;
+    }
+    for (size_t i = 1; i < len; i++) {
+        sum = sum << 8 | octets[i];
+    }
+    *number = sum;
+    return true;
+}
+
+/* A text in UTF-8 of at most 4,000 octets as a CharacterString, for a description: how many octets it has; 0 where it is longer than that or than the room. */
+static inline size_t bac_put_text(uint8_t *out, size_t room, const char *text, size_t text_len)
+{
+    size_t contents = 1 + text_len, at = 1;
+    if (text_len > 4000 || room < contents + 4) {
+        return 0;
+    }
+    out[0] = (uint8_t)(0x70 | (contents < 5 ? contents : 5));
+    if (contents >= 254) {
+        out[at++] = 254;
+        out[at++] = (uint8_t)(contents >> 8);
+        out[at++] = (uint8_t)contents;
+    } else if (contents >= 5) {
+        out[at++] = (uint8_t)contents;
+    }
+    out[at++] = 0;
+    for (size_t i = 0; i < text_len; i++) {
+        out[at++] = (uint8_t)text[i];
+    }
+    return at;
 }
 
 #ifdef __cplusplus

@@ -167,6 +167,43 @@ static int own_rows(bac_node *node)
     return 0;
 }
 
+/* values as octets: each is data that the node takes, and is read back */
+static int value_rows(bac_node *node)
+{
+    static const uint32_t numbers[] = { 0, 1, 255, 256, 65535, 65536, 16777215, 16777216, 4294967295u };
+    static const uint8_t three_hundred[] = { 0x22, 0x01, 0x2C }, active[] = { 0x91, 0x01 }, abc[] = { 0x74, 0, 'a', 'b', 'c' }, abcd[] = { 0x75, 5, 0, 'a', 'b', 'c', 'd' };
+    static char text[4001];
+    static uint8_t data[4096];
+    bac_settings s = BAC_SETTINGS(127, 0, 0, 1, 0xBA, 0xC0);
+    uint32_t back = 0;
+    CALL(BAC_OK, bac_open(node));
+    CALL(BAC_OK, bac_add_object(node, 200, 1, many, 0));
+    HOLDS(bac_put_number(data, 2, 300) == 3 && memcmp(data, three_hundred, 3) == 0);
+    HOLDS(bac_put_number(data, 9, 1) == 2 && memcmp(data, active, 2) == 0);
+    HOLDS(bac_put_text(data, sizeof data, "abc", 3) == 5 && memcmp(data, abc, 5) == 0);
+    HOLDS(bac_put_text(data, sizeof data, "abcd", 4) == 7 && memcmp(data, abcd, 7) == 0);
+    HOLDS(bac_put_text(data, sizeof data, text, 4001) == 0 && bac_put_text(data, 7, "abc", 3) == 0);
+    HOLDS(!bac_take_real(active, 2, &back) && !bac_take_number(active, 2, 2, &back) && back == 0);
+    for (size_t i = 0; i < sizeof numbers / sizeof numbers[0]; i++) {
+        for (unsigned kind = 2; kind <= 9; kind += 7) {
+            n = bac_put_number(data, kind, numbers[i]);
+            HOLDS(bac_take_number(data, n, kind, &back) && back == numbers[i]);
+            CALL(BAC_OK, bac_add_property(node, (uint32_t)(512 + 2 * i + (kind == 9)), data, n, true));
+        }
+        bac_put_real(data, numbers[i]);
+        HOLDS(bac_take_real(data, 5, &back) && back == numbers[i]);
+    }
+    memset(text, 'x', sizeof text);
+    CALL(BAC_OK, bac_add_property(node, 28, data, bac_put_text(data, sizeof data, text, 253), true));
+    CALL(BAC_OK, bac_start_house(node, &s));
+    for (size_t len = 0; len <= 4000; len += len < 260 ? 1 : 340) {
+        n = bac_put_text(data, sizeof data, text, len);
+        CALL(BAC_OK, bac_set_value(node, 2, 1, 28, data, n));
+    }
+    bac_close(node);
+    return 0;
+}
+
 /* a node that ran before: it turns requests away for 65,000 ms, and asks nothing for 75,000 ms */
 static int restarted_rows(bac_node *node)
 {
@@ -296,7 +333,7 @@ static int ask_rows(bac_node *client, bac_node *server)
 
 static int rows(bac_node *client, bac_node *server)
 {
-    if (restarted_rows(client) || limit_rows(client)) { return 1; }
+    if (value_rows(client) || restarted_rows(client) || limit_rows(client)) { return 1; }
     if (closed_rows(client) || house_rows(client) || own_rows(server) || ask_rows(client, server)) { return 1; }
     bac_close(client);
     return closed_rows(client);

@@ -16,6 +16,7 @@ use bac_store::{File, Object, Property};
 use std::alloc::Global;
 
 /// An object of that name, in UTF-8, without properties and without a file.
+#[tactic(auto, using(crate::proofs::Texts::text_is, crate::proofs::Texts::text_is_not))]
 fn bare_object(alloc: Global, object_type: u16, instance: u32, name: &[u8]) -> Result<Object, Fault>
     ensures bare { IfOk result (λ o. object_view o ≡ bare object_type instance name.now) }
     ensures bad { IsErrOf result Fault.BadObject ↔ (can_list object_type instance name.now ≡ false) }

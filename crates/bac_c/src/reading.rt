@@ -17,7 +17,7 @@ use crate::ranges::identifier_of;
 use crate::records::Reference;
 use crate::requests::{FILE, reference_of};
 use bac_service::{AnyComplex, AnyReply, AnyRequest, PropertyReference, ReadAccess, ReadFile};
-use bac_store::{Store, replies_can_be_sent};
+use bac_store::Store;
 use bac_value::ObjectIdentifier;
 use std::alloc::Global;
 
@@ -48,6 +48,7 @@ fn value_out(
 }
 
 /// Copies all octets of a file out: how many they are.
+#[tactic(auto, using(crate::proofs::Files::file_held, crate::proofs::Files::file_told))]
 fn file_out(
     alloc: Global,
     store: &Store,
@@ -59,8 +60,6 @@ fn file_out(
     ensures memory { IsErrOf result Fault.NoMemory → OfFile (λ octets. 1 ≤ length octets) (object_identifier_view file) store.now }
     ensures few { IsTrue (is_one_of FILE_READING (status_of result)) }
 {
-    // so that no file has more octets than are asked for
-    replies_can_be_sent(store);
     let read = ReadFile {
         file,
         access: ReadAccess::Stream {
