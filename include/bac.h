@@ -11,7 +11,7 @@
  * - A link is four octets of IPv4 address and two of UDP port, the high one first, as sockaddr_in has them.
  * - Octets are given by address and number, and stay the caller's. A call that copies octets out returns how many there are; where they are more than there is
  *   room, it copies none.
- * - What came of a call (bac_sends to bac_cause) is there to be read until the next bac_on, bac_tick, bac_ask_.., bac_start or bac_close that succeeds.
+ * - What came of a call (bac_sends to bac_cause) is there to be read until the next bac_on, bac_tick, bac_ask_.., bac_start.. or bac_close that succeeds.
  *
  * What the program promises (nothing checks it)
  * - Each pointer is valid for the call, never null, also where the number is 0, and no two of one call overlap. A bool is 0 or 1.
@@ -54,7 +54,7 @@ enum {
     BAC_SELF_PEER = 11,       /* the peer is at the node's own link */
     BAC_TOO_LONG = 12,        /* more octets than can be sent, or kept */
     BAC_NEEDS_SEGMENTS = 13,  /* the peer takes no segments, or fewer than are needed */
-    BAC_NO_INVOKE_ID = 14,    /* all 256 invoke IDs are held for that peer */
+    BAC_NO_INVOKE_ID = 14,    /* all 256 invoke IDs are held for that peer, or the node restarted less than 75,001 ms ago */
     BAC_NO_SLOT = 15,         /* all client slots are held */
     BAC_NO_SUCH_OBJECT = 16,
     BAC_NO_SUCH_PROPERTY = 17,
@@ -129,7 +129,7 @@ typedef struct bac_act {
 
 /* ---- opening and closing */
 
-/* BAC_OK, BAC_ALREADY_OPEN, BAC_NO_MEMORY */
+/* Opens a node without objects. BAC_ALREADY_OPEN, BAC_NO_MEMORY. */
 bac_status bac_open(bac_node *node);
 
 /* Frees all that the node has. */
@@ -138,33 +138,48 @@ void bac_close(bac_node *node);
 /* ---- objects: between bac_open and bac_start */
 
 /* Lists an object: type 0 analog-input, 2 analog-value, 5 binary-value, 8 device, 10 file, or 128 to 1,023; instance 0 to 4,194,302; name in UTF-8.
- * BAC_BAD_OBJECT where no object has such a type, instance or text; all else is looked at by bac_start. */
+ * BAC_BAD_OBJECT exactly where the type is above 1,023, the instance above 4,194,303, or the name no UTF-8; all else is looked at by bac_start.
+ * BAC_NOT_OPEN, BAC_ALREADY_STARTED, BAC_NO_MEMORY. */
 bac_status bac_add_object(bac_node *node, uint16_t object_type, uint32_t instance, const uint8_t *name, size_t name_len);
 
-/* Lists a property of the object that was listed last: its values as octets of data (clause 20.2), and whether the network may write them. */
+/* Lists a property of the object that was listed last: its values as octets of data (clause 20.2), and whether the network may write them. BAC_BAD_OBJECT
+ * exactly where no object is listed, or the octets are no data. Otherwise as bac_add_object. */
 bac_status bac_add_property(bac_node *node, uint32_t number, const uint8_t *octets, size_t len, bool writable);
 
-/* Gives the object that was listed last, a file, its octets. */
+/* Gives the object that was listed last, a file, its octets. BAC_BAD_OBJECT exactly where no object is listed. Otherwise as bac_add_object. */
 bac_status bac_add_file(bac_node *node, const uint8_t *octets, size_t len, bool writable);
 
-/* Starts the node with the objects that are listed. BAC_BAD_SETTINGS, BAC_DUPLICATE, BAC_BAD_OBJECT, BAC_NO_MEMORY: they stay listed. */
+/* Starts the node with the objects that are listed, which stay listed where it is not started. It never ran before: see bac_start_restarted.
+ * BAC_NOT_OPEN; BAC_ALREADY_STARTED; BAC_BAD_SETTINGS; BAC_NO_MEMORY; BAC_DUPLICATE; BAC_BAD_OBJECT where an object has a type, instance, property or value
+ * that none can have, a property twice, a name or values of more than 4,096 octets, a file of more than 60,000, or is a file without octets or octets without
+ * a file. The first that holds comes, and memory may be refused before the objects are looked at. */
 bac_status bac_start(bac_node *node, const bac_settings *settings);
 
-/* Starts it with the house of `bac serve` instead: device 1, analog-input 5, analog-value 1, binary-value 1, file 1. */
+/* The same at a moment, for a node that ran before, at this link, and lost what it remembered: its program or its host was started anew. List the objects as
+ * they are now. For 65,000 ms each new request is turned away (Abort, reason 0), so that none of the earlier life is performed twice, and for 75,000 ms each
+ * ask is refused (BAC_NO_INVOKE_ID). */
+bac_status bac_start_restarted(bac_node *node, const bac_settings *settings, uint64_t now);
+
+/* Starts it with the house of `bac serve` instead: device 1, analog-input 5, analog-value 1, binary-value 1, file 1. BAC_NOT_OPEN, BAC_ALREADY_STARTED,
+ * BAC_BAD_SETTINGS, BAC_NO_MEMORY. */
 bac_status bac_start_house(bac_node *node, const bac_settings *settings);
 
 /* ---- datagrams and time */
 
-/* A datagram came. BAC_CLOCK_BACK, BAC_NO_MEMORY. */
+/* A datagram came. BAC_NOT_OPEN, BAC_NOT_STARTED, BAC_CLOCK_BACK; BAC_NO_MEMORY, never where the datagram is dropped. */
 bac_status bac_on(bac_node *node, uint64_t now, const uint8_t from[6], const uint8_t *octets, size_t len);
 
-/* Does what is due: repeats, and asks that end. BAC_CLOCK_BACK, BAC_NO_MEMORY. */
+/* Does what is due: repeats, and asks that end. BAC_NOT_OPEN, BAC_NOT_STARTED, BAC_CLOCK_BACK, BAC_NO_MEMORY. */
 bac_status bac_tick(bac_node *node, uint64_t now);
 
 /* The first moment at which bac_tick does anything; UINT64_MAX: none. */
 uint64_t bac_next_due(bac_node *node);
 
-/* ---- asks: each puts out a ticket, which bac_end names later. Statuses 1 to 4 and 10 to 15. */
+/* ---- asks: each puts out a ticket, which bac_end names later
+ *
+ * BAC_NOT_OPEN; BAC_NOT_STARTED; BAC_BAD_REQUEST exactly where a number is outside its range or the octets to be written are no data. Then the first of
+ * BAC_CLOCK_BACK, BAC_SELF_PEER, BAC_TOO_LONG, BAC_NEEDS_SEGMENTS, BAC_NO_INVOKE_ID and BAC_NO_SLOT that holds, or BAC_NO_MEMORY. The ticket is put out with
+ * BAC_OK alone. */
 
 bac_status bac_ask_read(bac_node *node, uint64_t now, const bac_target *target, const bac_reference *reference, uint64_t *ticket);
 
@@ -194,18 +209,24 @@ size_t bac_performed(bac_node *node, bac_act *act, uint8_t *out, size_t room);
 /* Why the last datagram was dropped: 0 it was not, 1 no BVLL, 2 no NPDU, 3 routed elsewhere, 4 a network message, 5 no APDU, 6 from the node's own link. */
 uint32_t bac_cause(bac_node *node);
 
-/* ---- the node's own store */
+/* ---- the node's own store: a change and a read take no time, send nothing, and leave what is there to be read of the last call
+ *
+ * BAC_NOT_OPEN; BAC_NOT_STARTED; BAC_BAD_REQUEST exactly where a type is above 1,023 or an instance above 4,194,303; then what each call names.
+ * BAC_NO_MEMORY only where there are octets to copy. */
 
-/* Sets the values of a listed property, whether or not the network may write it. BAC_BAD_REQUEST, BAC_NO_SUCH_OBJECT, BAC_NO_SUCH_PROPERTY, BAC_BAD_VALUE,
- * BAC_TOO_LONG, BAC_NO_MEMORY. */
+/* Sets the values of a listed property, whether or not the network may write it. The first of BAC_NO_SUCH_OBJECT, BAC_NO_SUCH_PROPERTY, BAC_BAD_VALUE (no
+ * data, or of another kind than the property has) and BAC_TOO_LONG (more than 4,096 octets). */
 bac_status bac_set_value(bac_node *node, uint16_t object_type, uint32_t instance, uint32_t property, const uint8_t *octets, size_t len);
 
-/* Copies the values of a property out, computed ones too, and puts out how many octets they are. BAC_BAD_REQUEST, BAC_NO_SUCH_OBJECT, BAC_NO_SUCH_PROPERTY,
- * BAC_NO_MEMORY. */
+/* Copies the values of a property out, computed ones too, and puts out how many octets they are. BAC_NO_SUCH_OBJECT; BAC_NO_SUCH_PROPERTY, also where an
+ * element is meant: no property is an array. */
 bac_status bac_get_value(bac_node *node, const bac_reference *reference, uint8_t *out, size_t room, size_t *len);
 
-/* Sets all octets of a file. */
+/* Sets all octets of a file, whether or not the network may write it. BAC_NO_SUCH_OBJECT, also where the object is no file; BAC_TOO_LONG (more than 60,000). */
 bac_status bac_set_file(bac_node *node, uint32_t file, const uint8_t *octets, size_t len);
+
+/* Copies all octets of a file out, and puts out how many they are. BAC_NO_SUCH_OBJECT, also where the object is no file. */
+bac_status bac_get_file(bac_node *node, uint32_t file, uint8_t *out, size_t room, size_t *len);
 
 /* ---- how full the node is, at a moment: client slots that are held, and requests that are remembered */
 
@@ -225,7 +246,9 @@ static inline const char *bac_text(bac_status status)
     return status < sizeof texts / sizeof texts[0] ? texts[status] : "unknown status";
 }
 
-/* A Real (clause 20.2.6) as the five octets of its data, from the bits of an IEEE 754 single. */
+/* ---- values as octets of data (clause 20.2), and back. These are C, and no proof covers them: octets that are no data are refused by each call that takes them. */
+
+/* A Real, from the bits of an IEEE 754 single: five octets. */
 static inline void bac_put_real(uint8_t out[5], uint32_t bits)
 {
     out[0] = 0x44;
@@ -233,6 +256,63 @@ static inline void bac_put_real(uint8_t out[5], uint32_t bits)
     out[2] = (uint8_t)(bits >> 16);
     out[3] = (uint8_t)(bits >> 8);
     out[4] = (uint8_t)bits;
+}
+
+/* Whether the octets are a Real, and its bits. */
+static inline bool bac_take_real(const uint8_t *octets, size_t len, uint32_t *bits)
+{
+    if (len != 5 || octets[0] != 0x44) {
+        return false;
+    }
+    *bits = (uint32_t)octets[1] << 24 | (uint32_t)octets[2] << 16 | (uint32_t)octets[3] << 8 | octets[4];
+    return true;
+}
+
+/* An Unsigned (kind 2) or an Enumerated (kind 9; 0 and 1 are the states of a binary-value), in the fewest octets: how many they are. */
+static inline size_t bac_put_number(uint8_t out[5], unsigned kind, uint32_t number)
+{
+    size_t len = number >> 24 ? 4 : number >> 16 ? 3 : number >> 8 ? 2 : 1;
+    out[0] = (uint8_t)(kind << 4 | len);
+    for (size_t i = 0; i < len; i++) {
+        out[1 + i] = (uint8_t)(number >> 8 * (len - 1 - i));
+    }
+    return 1 + len;
+}
+
+/* Whether the octets are a number of that kind of at most 32 bits, and the number. */
+static inline bool bac_take_number(const uint8_t *octets, size_t len, unsigned kind, uint32_t *number)
+{
+    uint32_t sum = 0;
+    if (len < 2 || len > 5 || octets[0] != (kind << 4 | (len - 1))) {
+        return false;
+    }
+    for (size_t i = 1; i < len; i++) {
+        sum = sum << 8 | octets[i];
+    }
+    *number = sum;
+    return true;
+}
+
+/* A text in UTF-8 of at most 4,000 octets as a CharacterString, for a description: how many octets it has; 0 where it is longer than that or than the room. */
+static inline size_t bac_put_text(uint8_t *out, size_t room, const char *text, size_t text_len)
+{
+    size_t contents = 1 + text_len, at = 1;
+    if (text_len > 4000 || room < contents + 4) {
+        return 0;
+    }
+    out[0] = (uint8_t)(0x70 | (contents < 5 ? contents : 5));
+    if (contents >= 254) {
+        out[at++] = 254;
+        out[at++] = (uint8_t)(contents >> 8);
+        out[at++] = (uint8_t)contents;
+    } else if (contents >= 5) {
+        out[at++] = (uint8_t)contents;
+    }
+    out[at++] = 0;
+    for (size_t i = 0; i < text_len; i++) {
+        out[at++] = (uint8_t)text[i];
+    }
+    return at;
 }
 
 #ifdef __cplusplus

@@ -1,5 +1,6 @@
 /* A controller on UDP port argv[1] of 127.0.0.1 (0: any; the port is printed): device 77 with a temperature that moves once a second, a setpoint that the
- * network may write, and a file. It prints each value and octet that the network writes, and ends after argv[2] datagrams (default 100) or 60 seconds. */
+ * network may write, and a file. It prints each value and octet that the network writes, and ends after argv[2] datagrams (default 100) or argv[3] seconds
+ * (default 60). */
 #define _POSIX_C_SOURCE 200809L
 #include "bac.h"
 
@@ -53,7 +54,7 @@ static void send_all(bac_node *node, int s)
 static void act(bac_node *node)
 {
     bac_act a;
-    uint8_t octets[1514];
+    static uint8_t octets[60000]; /* as long as a file can be */
     size_t len = bac_performed(node, &a, octets, sizeof octets);
     if (!a.done || (a.service != 7 && a.service != 15) || len > sizeof octets) {
         return;
@@ -108,7 +109,7 @@ int main(int argc, char **argv)
     printf("port %u\n", ntohs(a.sin_port));
     fflush(stdout);
 
-    uint64_t last = moment() + 60000, moves = moment() + 1000;
+    uint64_t last = moment() + 1000 * (uint64_t)(argc > 3 ? atol(argv[3]) : 60), moves = moment() + 1000;
     float degrees = 20.0f;
     while (left > 0 && moment() < last) {
         uint64_t due = bac_next_due(&node), now = moment();

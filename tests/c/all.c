@@ -42,8 +42,11 @@ static const uint8_t QUESTION[] = { 0x81, 0x0A, 0, 0x11, 1, 4, 0, 5, 1, 0x0C, 0x
 static const uint8_t FLOW[] = { 0x81, 0x0A, 0, 0x17, 1, 0, 0x30, 1, 0x0C, 0x0C, 0, 0, 0, 5, 0x19, 0x55, 0x3E, 0x44, 0x42, 0x90, 0x99, 0x9A, 0x3F };
 static const uint8_t REAL_10[] = { 0x44, 0x41, 0x20, 0, 0 }, REAL_20[] = { 0x44, 0x41, 0xA0, 0, 0 };
 
+/* the Abort of a request that finds no slot, or a node that restarted */
+static const uint8_t ABORTED[] = { 0x81, 0x0A, 0, 0x09, 1, 0, 0x71, 1, 0 };
+
 static size_t n;
-static uint8_t to[6], out[1514];
+static uint8_t to[6], out[1514], many[70000];
 
 /* nothing is open: no harm, and a status */
 static int closed_rows(bac_node *node)
@@ -58,6 +61,7 @@ static int closed_rows(bac_node *node)
     CALL(BAC_NOT_OPEN, bac_add_property(node, 85, REAL_10, 5, true));
     CALL(BAC_NOT_OPEN, bac_add_file(node, out, 1, true));
     CALL(BAC_NOT_OPEN, bac_start(node, &s));
+    CALL(BAC_NOT_OPEN, bac_start_restarted(node, &s, 0));
     CALL(BAC_NOT_OPEN, bac_start_house(node, &s));
     CALL(BAC_NOT_OPEN, bac_on(node, 0, THERE, QUESTION, sizeof QUESTION));
     CALL(BAC_NOT_OPEN, bac_tick(node, 0));
@@ -68,6 +72,7 @@ static int closed_rows(bac_node *node)
     CALL(BAC_NOT_OPEN, bac_set_value(node, 0, 5, 85, REAL_10, 5));
     CALL(BAC_NOT_OPEN, bac_set_file(node, 1, out, 1));
     CALL(BAC_NOT_OPEN, bac_get_value(node, &r, out, sizeof out, &n));
+    CALL(BAC_NOT_OPEN, bac_get_file(node, 1, out, sizeof out, &n));
     HOLDS(bac_next_due(node) == UINT64_MAX && bac_sends(node) == 0 && bac_ends(node) == 0 && bac_cause(node) == 0);
     HOLDS(bac_send(node, 0, to, out, sizeof out) == 0 && bac_end(node, 0, &e, out, sizeof out) == 0);
     HOLDS(bac_performed(node, &a, out, sizeof out) == 0 && a.service == 0);
@@ -85,7 +90,8 @@ static int house_rows(bac_node *node)
     CALL(BAC_OK, bac_open(node));
     CALL(BAC_ALREADY_OPEN, bac_open(node));
     CALL(BAC_NOT_STARTED, bac_on(node, 0, THERE, QUESTION, sizeof QUESTION));
-    CALL(BAC_NOT_STARTED, bac_set_file(node, 1, out, 1));
+    CALL(BAC_NOT_STARTED, bac_set_file(node, 4194304, out, 1));
+    CALL(BAC_NOT_STARTED, bac_get_file(node, 4194304, out, sizeof out, &n));
     CALL(BAC_BAD_SETTINGS, bac_start_house(node, &bad));
     CALL(BAC_OK, bac_start_house(node, &s));
     CALL(BAC_ALREADY_STARTED, bac_start_house(node, &s));
@@ -126,6 +132,7 @@ static int own_rows(bac_node *node)
     CALL(BAC_BAD_OBJECT, bac_start(node, &s)); /* a file without octets */
     CALL(BAC_OK, bac_add_file(node, name, 3, true));
     CALL(BAC_OK, bac_start(node, &s));
+    CALL(BAC_ALREADY_STARTED, bac_start_restarted(node, &s, 0));
     CALL(BAC_NO_SUCH_OBJECT, bac_set_value(node, 2, 9, 85, REAL_10, 5));
     CALL(BAC_NO_SUCH_PROPERTY, bac_set_value(node, 2, 1, 28, REAL_10, 5));
     CALL(BAC_BAD_VALUE, bac_set_value(node, 2, 1, 85, name, 3));
@@ -142,7 +149,112 @@ static int own_rows(bac_node *node)
     r.object_type = 1024;
     CALL(BAC_BAD_REQUEST, bac_get_value(node, &r, out, sizeof out, &n));
     CALL(BAC_NO_SUCH_OBJECT, bac_set_file(node, 2, name, 3));
+    CALL(BAC_BAD_REQUEST, bac_set_file(node, 4194304, name, 3));
+    CALL(BAC_TOO_LONG, bac_set_file(node, 1, many, 60001));
+    CALL(BAC_OK, bac_set_file(node, 1, name, 0));
+    CALL(BAC_OK, bac_get_file(node, 1, out, sizeof out, &n));
+    HOLDS(n == 0);
     CALL(BAC_OK, bac_set_file(node, 1, name, 2));
+    out[0] = out[1] = 'x';
+    CALL(BAC_OK, bac_get_file(node, 1, out, 1, &n));
+    HOLDS(n == 2 && out[0] == 'x');
+    CALL(BAC_OK, bac_get_file(node, 1, out, sizeof out, &n));
+    HOLDS(n == 2 && memcmp(out, "se", 2) == 0);
+    n = 99;
+    CALL(BAC_NO_SUCH_OBJECT, bac_get_file(node, 2, out, sizeof out, &n));
+    CALL(BAC_BAD_REQUEST, bac_get_file(node, 4194304, out, sizeof out, &n));
+    HOLDS(n == 99);
+    return 0;
+}
+
+/* values as octets: each is data that the node takes, and is read back */
+static int value_rows(bac_node *node)
+{
+    static const uint32_t numbers[] = { 0, 1, 255, 256, 65535, 65536, 16777215, 16777216, 4294967295u };
+    static const uint8_t three_hundred[] = { 0x22, 0x01, 0x2C }, active[] = { 0x91, 0x01 }, abc[] = { 0x74, 0, 'a', 'b', 'c' }, abcd[] = { 0x75, 5, 0, 'a', 'b', 'c', 'd' };
+    static char text[4001];
+    static uint8_t data[4096];
+    bac_settings s = BAC_SETTINGS(127, 0, 0, 1, 0xBA, 0xC0);
+    uint32_t back = 0;
+    CALL(BAC_OK, bac_open(node));
+    CALL(BAC_OK, bac_add_object(node, 200, 1, many, 0));
+    HOLDS(bac_put_number(data, 2, 300) == 3 && memcmp(data, three_hundred, 3) == 0);
+    HOLDS(bac_put_number(data, 9, 1) == 2 && memcmp(data, active, 2) == 0);
+    HOLDS(bac_put_text(data, sizeof data, "abc", 3) == 5 && memcmp(data, abc, 5) == 0);
+    HOLDS(bac_put_text(data, sizeof data, "abcd", 4) == 7 && memcmp(data, abcd, 7) == 0);
+    HOLDS(bac_put_text(data, sizeof data, text, 4001) == 0 && bac_put_text(data, 7, "abc", 3) == 0);
+    HOLDS(!bac_take_real(active, 2, &back) && !bac_take_number(active, 2, 2, &back) && back == 0);
+    for (size_t i = 0; i < sizeof numbers / sizeof numbers[0]; i++) {
+        for (unsigned kind = 2; kind <= 9; kind += 7) {
+            n = bac_put_number(data, kind, numbers[i]);
+            HOLDS(bac_take_number(data, n, kind, &back) && back == numbers[i]);
+            CALL(BAC_OK, bac_add_property(node, (uint32_t)(512 + 2 * i + (kind == 9)), data, n, true));
+        }
+        bac_put_real(data, numbers[i]);
+        HOLDS(bac_take_real(data, 5, &back) && back == numbers[i]);
+    }
+    memset(text, 'x', sizeof text);
+    CALL(BAC_OK, bac_add_property(node, 28, data, bac_put_text(data, sizeof data, text, 253), true));
+    CALL(BAC_OK, bac_start_house(node, &s));
+    for (size_t len = 0; len <= 4000; len += len < 260 ? 1 : 340) {
+        n = bac_put_text(data, sizeof data, text, len);
+        CALL(BAC_OK, bac_set_value(node, 2, 1, 28, data, n));
+    }
+    bac_close(node);
+    return 0;
+}
+
+/* a node that ran before: it turns requests away for 65,000 ms, and asks nothing for 75,000 ms */
+static int restarted_rows(bac_node *node)
+{
+    bac_settings s = BAC_SETTINGS(127, 0, 0, 1, 0xBA, 0xC0), bad = s;
+    bac_target t = { { 127, 0, 0, 1, 0xBA, 0xC2 }, 5, true, 7 };
+    bac_reference r = { 0, 5, 85, BAC_WHOLE };
+    bac_act a;
+    uint64_t ticket;
+    bad.reply_slots = 1025;
+    CALL(BAC_OK, bac_open(node));
+    CALL(BAC_OK, bac_add_object(node, 0, 5, many, 0));
+    CALL(BAC_OK, bac_add_property(node, 85, FLOW + 17, 5, false));
+    CALL(BAC_BAD_SETTINGS, bac_start_restarted(node, &bad, 1000));
+    CALL(BAC_OK, bac_add_object(node, 0, 5, many, 0));
+    CALL(BAC_DUPLICATE, bac_start_restarted(node, &s, 1000));
+    bac_close(node);
+    CALL(BAC_OK, bac_open(node));
+    CALL(BAC_OK, bac_add_object(node, 0, 5, many, 0));
+    CALL(BAC_OK, bac_add_property(node, 85, FLOW + 17, 5, false));
+    CALL(BAC_OK, bac_start_restarted(node, &s, 1000));
+    HOLDS(bac_sends(node) == 0);
+    CALL(BAC_CLOCK_BACK, bac_tick(node, 999));
+    CALL(BAC_OK, bac_on(node, 66000, THERE, QUESTION, sizeof QUESTION));
+    n = bac_send(node, 0, to, out, sizeof out);
+    HOLDS(bac_sends(node) == 1 && n == sizeof ABORTED && memcmp(out, ABORTED, n) == 0);
+    HOLDS(bac_performed(node, &a, out, sizeof out) == 0 && a.service == 0);
+    CALL(BAC_OK, bac_on(node, 66001, THERE, QUESTION, sizeof QUESTION));
+    n = bac_send(node, 0, to, out, sizeof out);
+    HOLDS(bac_sends(node) == 1 && n == sizeof FLOW && memcmp(out, FLOW, n) == 0);
+    CALL(BAC_NO_INVOKE_ID, bac_ask_read(node, 76000, &t, &r, &ticket));
+    CALL(BAC_OK, bac_ask_read(node, 76001, &t, &r, &ticket));
+    bac_close(node);
+    return 0;
+}
+
+/* what a peer and the tables allow of asks */
+static int limit_rows(bac_node *node)
+{
+    bac_settings s = BAC_SETTINGS(127, 0, 0, 1, 0xBA, 0xC0);
+    bac_target t = { { 127, 0, 0, 1, 0xBA, 0xC2 }, 5, false, 7 };
+    bac_reference r = { 0, 5, 85, BAC_WHOLE };
+    uint64_t ticket;
+    s.client_slots = 1;
+    CALL(BAC_OK, bac_open(node));
+    CALL(BAC_OK, bac_start_house(node, &s));
+    CALL(BAC_TOO_LONG, bac_ask_put(node, 0, &t, 1, -1, many, sizeof many, &ticket));
+    CALL(BAC_NEEDS_SEGMENTS, bac_ask_put(node, 0, &t, 1, -1, many, 2000, &ticket));
+    CALL(BAC_BAD_REQUEST, bac_ask_get(node, 0, &t, 4194304, 0, 1, &ticket));
+    CALL(BAC_OK, bac_ask_read(node, 0, &t, &r, &ticket));
+    CALL(BAC_NO_SLOT, bac_ask_read(node, 0, &t, &r, &ticket));
+    bac_close(node);
     return 0;
 }
 
@@ -221,6 +333,7 @@ static int ask_rows(bac_node *client, bac_node *server)
 
 static int rows(bac_node *client, bac_node *server)
 {
+    if (value_rows(client) || restarted_rows(client) || limit_rows(client)) { return 1; }
     if (closed_rows(client) || house_rows(client) || own_rows(server) || ask_rows(client, server)) { return 1; }
     bac_close(client);
     return closed_rows(client);

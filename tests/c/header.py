@@ -1,5 +1,5 @@
 #!/usr/bin/env python3
-"""Holds include/bac.h against crates/bac_c: the same calls with the same parameters, the same members, the same numbers of statuses.
+"""Holds include/bac.h against crates/bac_c: the same calls with the same parameters, the same members, the same numbers of statuses, a text for each.
 
 header.py TOP [LIB]: TOP of the repository; of LIB, an archive, each call has to be there, and no other name that begins with bac_.
 """
@@ -82,7 +82,16 @@ def c_statuses():
     return {n: int(v) for n, v in re.findall(r"BAC_(\w+) = (\d+)", body)}
 
 
+def texts():
+    """How many statuses bac_text has a text for."""
+    body = re.search(r"texts\[\] = \{(.*?)\};", header, flags=re.S).group(1)
+    return len(re.findall(r'"[^"]+"', body))
+
+
 wrong = 0
+if texts() != len(c_statuses()):
+    wrong += 1
+    print(f"bac_text: {texts()} texts for {len(c_statuses())} statuses")
 for what, ours, theirs in [("calls", exports(), prototypes()), ("structs", rust_structs(), c_structs()), ("statuses", rust_statuses(), c_statuses())]:
     for name in sorted(ours.keys() | theirs.keys()):
         if ours.get(name) != theirs.get(name):

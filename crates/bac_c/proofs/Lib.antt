@@ -1,7 +1,10 @@
+pub mod Copies
+pub mod Files
 pub mod Heap
 pub mod LetsGo
 pub mod Lists
 pub mod Numbers
 pub mod Refusals
 pub mod Starts
+pub mod Texts
 pub mod Words

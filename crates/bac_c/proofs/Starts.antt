@@ -1,18 +1,18 @@
 -- How a node is started, from the parts of it.
 use Rattle.std.proofs.Common.{◌≡◌, List, subst, ap, ◌∙◌}
-use Rattle.std.specs.Prelude.{Some}
+use Rattle.std.specs.Prelude.{ℕ, Option, Some}
 use Rattle.bac_store.specs.House.{house}
 use Rattle.bac_store.specs.Made.{IsMadeOf}
 use Rattle.bac_store.specs.Stores.{Object, Store}
 use Rattle.bac_world.specs.Node.{Node}
-use Rattle.bac_node.specs.Fresh.{fresh_node}
+use Rattle.bac_node.specs.Fresh.{fresh_node, made_node}
 use Rattle.bac_node.specs.declared.config.Config.{Config}
 use Rattle.bac_c.specs.declared.records.Settings.{Settings}
 use Rattle.bac_c.specs.Starting.{IsConfigOf, IsStartedWith, IsHouseWith}
 
-pub started_with : (s : Settings) (c : Config) (objects copies : List Object) (store : Store) (n : Node) → IsConfigOf s c → copies ≡ objects → IsMadeOf copies store
-    → n ≡ fresh_node c store → IsStartedWith s objects (Some n)
-started_with s c objects copies store n says same made fresh =
+pub started_with : (s : Settings) (c : Config) (restart : Option ℕ) (objects copies : List Object) (store : Store) (n : Node) → IsConfigOf s c → copies ≡ objects
+    → IsMadeOf copies store → n ≡ made_node c store restart → IsStartedWith s restart objects (Some n)
+started_with s c restart objects copies store n says same made fresh =
     record { config = c; says = says; started = record { store = store; made = subst (λ (os : List Object). IsMadeOf os store) same made; fresh = fresh } }
 
 pub house_with : (s : Settings) (c : Config) (store : Store) (n : Node) → IsConfigOf s c → store ≡ house → n ≡ fresh_node c store → IsHouseWith s (Some n)

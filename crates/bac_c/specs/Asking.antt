@@ -1,5 +1,5 @@
 -- What a C program asks for, and what comes of an ask.
-use Rattle.std.specs.Prelude.{◌≡◌, ◌⊎◌, ℕ, ℤ, nat_eq, if◌then◌else◌, List, [], Option, Some, None}
+use Rattle.std.specs.Prelude.{◌≡◌, ℕ, ℤ, nat_eq, Bool, true, false, if◌then◌else◌, List, [], Option, Some, None}
 use Rattle.bac_apdu.specs.Apdu.{Limits}
 use Rattle.bac_npdu.specs.Peers.{PeerView}
 use Rattle.bac_value.specs.Value.{ObjectId}
@@ -17,6 +17,8 @@ use Rattle.bac_c.specs.Devices.{HasRun, Runs, IsIdle}
 use Rattle.bac_c.specs.declared.device.Device.{Device}
 use Rattle.bac_c.specs.declared.fault.Fault.{Fault}
 use Rattle.bac_c.specs.declared.fault.Fault.TheVariants as fault
+use Rattle.bac_c.specs.declared.question.Question.{Question}
+use Rattle.bac_c.specs.declared.question.Question.TheVariants as question
 use Rattle.bac_c.specs.declared.records.Reference.{Reference}
 use Rattle.bac_c.specs.declared.records.Target.{Target}
 use Rattle.bac_c.specs.Statuses.{fault_number}
@@ -24,16 +26,19 @@ use Rattle.bac_c.specs.Statuses.{fault_number}
 abbrev pub index_of : ℕ → Option ℕ
 index_of n = if nat_eq n 4294967295 then None else Some n
 
-abbrev pub reference_of : Reference → service.Reference
-reference_of r = record { object = record { kind = r.object_type; instance = r.instance }; property = r.property; index = index_of r.index }
-
 -- 0 is no priority
 abbrev pub priority_of : ℕ → Option ℕ
 priority_of n = if nat_eq n 0 then None else Some n
 
+abbrev pub identifier_of : (object_type instance : ℕ) → ObjectId
+identifier_of t i = record { kind = t; instance = i }
+
 -- a file is an object of type 10 (clause 12.13)
 abbrev pub file_of : (instance : ℕ) → ObjectId
-file_of i = record { kind = 10; instance = i }
+file_of i = identifier_of 10 i
+
+abbrev pub reference_of : Reference → service.Reference
+reference_of r = record { object = identifier_of r.object_type r.instance; property = r.property; index = index_of r.index }
 
 abbrev pub read_of : Reference → Request
 read_of r = ReadProperty (reference_of r)
@@ -47,15 +52,17 @@ put_of f position octets = WriteFile (file_of f) (WriteStream position octets)
 abbrev pub get_of : (file : ℕ) → (position : ℤ) → (count : ℕ) → Request
 get_of f position count = ReadFile (file_of f) (ReadStream position count)
 
+abbrev pub request_of : Question → Request
+request_of (question.Read r) = read_of r
+request_of (question.Write r octets p) = write_of r octets.now p
+request_of (question.Put f position octets) = put_of f position octets.now
+request_of (question.Get f position count) = get_of f position count
+
 abbrev pub peer_of : Target → PeerView
 peer_of t = record { link = t.link; route = None }
 
 abbrev pub limits_of : Target → Limits
 limits_of t = record { takes_segments = t.takes_segments; max_segments = t.max_segments; max_apdu = t.max_apdu }
-
--- a request that was not made: a number is outside its range or octets are no data, or memory was refused
-abbrev pub IsUnready : Fault → Type 0
-IsUnready f = (f ≡ fault.BadRequest) ⊎ (f ≡ fault.NoMemory)
 
 -- an ask was accepted under this ticket, and nothing else came of it
 pub record IsAsking (now : ℕ) (t : Target) (r : Request) (ticket : ℕ) (old new : Node) (o : Outcome) : Type 0 where
@@ -66,25 +73,25 @@ pub record IsAsking (now : ℕ) (t : Target) (r : Request) (ticket : ℕ) (old n
   pub ended : o.ended ≡ []
   pub dropped : o.dropped ≡ None
 
--- why an ask is refused
-abbrev pub AskRefused : Fault → (now : ℕ) → Target → Request → Device → Type 0
-AskRefused fault.ClockBack now t r d = Runs (λ n. Refuses ask.ClockBack now (peer_of t) (limits_of t) r n) d
-AskRefused fault.SelfPeer now t r d = Runs (λ n. Refuses ask.SelfPeer now (peer_of t) (limits_of t) r n) d
-AskRefused fault.TooLong now t r d = Runs (λ n. Refuses ask.TooLong now (peer_of t) (limits_of t) r n) d
-AskRefused fault.NeedsSegments now t r d = Runs (λ n. Refuses ask.NeedsSegments now (peer_of t) (limits_of t) r n) d
-AskRefused fault.NoInvokeId now t r d = Runs (λ n. Refuses ask.NoInvokeId now (peer_of t) (limits_of t) r n) d
-AskRefused fault.NoSlot now t r d = Runs (λ n. Refuses ask.NoSlot now (peer_of t) (limits_of t) r n) d
-AskRefused fault.NotStarted now t r d = IsIdle d
-AskRefused fault.NoMemory now t r d = Unit {0}
-AskRefused fault.BadRequest now t r d = Unit {0}
-AskRefused _ now t r d = ⊥
+-- why an ask is refused, of a request that is right or wrong; memory may be refused to a right one alone
+abbrev pub AskRefused : Fault → Bool → (now : ℕ) → Target → Request → Device → Type 0
+AskRefused fault.ClockBack right now t r d = Runs (λ n. Refuses ask.ClockBack now (peer_of t) (limits_of t) r n) d
+AskRefused fault.SelfPeer right now t r d = Runs (λ n. Refuses ask.SelfPeer now (peer_of t) (limits_of t) r n) d
+AskRefused fault.TooLong right now t r d = Runs (λ n. Refuses ask.TooLong now (peer_of t) (limits_of t) r n) d
+AskRefused fault.NeedsSegments right now t r d = Runs (λ n. Refuses ask.NeedsSegments now (peer_of t) (limits_of t) r n) d
+AskRefused fault.NoInvokeId right now t r d = Runs (λ n. Refuses ask.NoInvokeId now (peer_of t) (limits_of t) r n) d
+AskRefused fault.NoSlot right now t r d = Runs (λ n. Refuses ask.NoSlot now (peer_of t) (limits_of t) r n) d
+AskRefused fault.NotStarted right now t r d = IsIdle d
+AskRefused fault.NoMemory right now t r d = Runs (λ n. right ≡ true) d
+AskRefused fault.BadRequest right now t r d = Runs (λ n. right ≡ false) d
+AskRefused _ right now t r d = ⊥
 
 abbrev pub HasAsked : (now : ℕ) → Target → Request → (ticket : ℕ) → (old new : Option Device) → Type 0
 HasAsked now t r ticket = HasRun (IsAsking now t r ticket)
 
 -- the status of an ask says why it was refused, if it was
-abbrev pub IsRefusedAsk : (status now : ℕ) → Target → Request → Device → Type 0
-IsRefusedAsk status now t r d = (f : Fault) → status ≡ fault_number f → AskRefused f now t r d
+abbrev pub IsRefusedAsk : (status : ℕ) → Bool → (now : ℕ) → Target → Request → Device → Type 0
+IsRefusedAsk status right now t r d = (f : Fault) → status ≡ fault_number f → AskRefused f right now t r d
 
 abbrev pub fault_for : AskFault → Fault
 fault_for ask.ClockBack = fault.ClockBack

@@ -1,5 +1,5 @@
 -- What a call makes of what is behind a handle.
-use Rattle.std.specs.Prelude.{◌≡◌, Option, None, MatchOption}
+use Rattle.std.specs.Prelude.{◌≡◌, [], Option, None, MatchOption}
 use Rattle.bac_world.specs.Node.{Node, Outcome}
 use Rattle.bac_node.specs.Views.{outcome_view}
 use Rattle.bac_c.specs.declared.device.Device.{Device}
@@ -22,3 +22,10 @@ Ran goes d e = MatchOption d.node ⊥ (λ m. MatchOption e.node ⊥ (λ n. goes 
 
 abbrev pub HasRun : (Node → Node → Outcome → Type 0) → (old new : Option Device) → Type 0
 HasRun goes old new = MatchOption old ⊥ (λ d. MatchOption new ⊥ (λ e. Ran goes d e))
+
+-- nothing that came of a call is there to be read
+pub record IsQuiet (d : Device) : Type 0 where
+  pub sends : d.outcome.sends.items ≡ []
+  pub effect : d.outcome.effect ≡ None
+  pub ended : d.outcome.ended.items ≡ []
+  pub dropped : d.outcome.dropped ≡ None

@@ -5,6 +5,8 @@ pub mod Endings
 pub mod Listing
 pub mod Parking
 pub mod Performing
+pub mod Ranges
+pub mod Reading
 pub mod Results
 pub mod Starting
 pub mod Statuses

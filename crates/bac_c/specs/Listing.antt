@@ -1,5 +1,6 @@
 -- What is listed for a node that is to be started.
-use Rattle.std.specs.Prelude.{◌≡◌, ℕ, Bool, List, [], ◌∷◌, ◌++◌, Option, Some, None, MatchOption}
+use Rattle.std.specs.Prelude.{◌≡◌, ℕ, Bool, false, List, [], ◌∷◌, ◌++◌, Option, Some, None, MatchOption}
+use Rattle.bac_store.specs.AtNode.{is_data}
 use Rattle.bac_store.specs.Stores.{Object, kind_of}
 use Rattle.bac_c.specs.declared.device.Device.{Device}
 use Rattle.bac_c.specs.Starting.{listed_in}
@@ -12,6 +13,11 @@ bare t i name = record { id = record { kind = t; instance = i }; name = name; pr
 abbrev pub with_property : (number : ℕ) → (values : List ℕ) → (writable : Bool) → Object → Object
 with_property n values writable o =
     record o { properties = o.properties ++ record { number = n; values = values; writable = writable; kind = kind_of values } ∷ [] }
+
+-- there is an object that can have one more, and the octets are data
+abbrev pub can_add : (values : List ℕ) → List Object → Bool
+can_add values [] = false
+can_add values (o ∷ os) = is_data values
 
 -- an object with octets of a file
 abbrev pub with_file : (octets : List ℕ) → (writable : Bool) → Object → Object

@@ -1,6 +1,7 @@
 -- The request that was performed, as a C program is told.
 use Rattle.std.specs.Prelude.{◌≡◌, MatchOption, ℕ, ℤ, pos, Bool, true, false, List, [], ◌∷◌, Option, Some, None}
-use Rattle.bac_service.specs.Values.{Request, Reference, ReadAccess, WriteAccess}
+use Rattle.bac_responder.specs.declared.served.Act.{Act}
+use Rattle.bac_service.specs.Values.{Request, Reference, ReadAccess, WriteAccess, held}
 use Rattle.bac_service.specs.Values.Request.{ReadFile, WriteFile, ReadProperty, WriteProperty}
 use Rattle.bac_service.specs.Values.ReadAccess.{ReadStream, ReadRecords}
 use Rattle.bac_service.specs.Values.WriteAccess.{WriteStream, WriteRecords}
@@ -62,3 +63,12 @@ nothing_performed =
 abbrev pub TellsAct : Option Device → Performed → Type 0
 TellsAct held p =
     MatchOption held (p ≡ nothing_performed) (λ d. MatchOption d.outcome.effect (p ≡ nothing_performed) (λ a. p ≡ performed_told (performed_view a)))
+
+-- the octets that it wrote
+abbrev pub octets_in : Option Act → List ℕ
+octets_in None = []
+octets_in (Some a) = held (performed_view a).request
+
+abbrev pub octets_written : Option Device → List ℕ
+octets_written None = []
+octets_written (Some d) = octets_in d.outcome.effect

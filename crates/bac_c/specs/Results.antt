@@ -1,9 +1,11 @@
 -- What a C program reads of what came of a call.
-use Rattle.std.specs.Prelude.{◌≡◌, ◌≤◌, ◌<◌, ◌++◌, ℕ, List, Option, IfSome, MatchOption, length, drop, slice_get}
+use Rattle.std.specs.Prelude.{◌≡◌, ◌≤◌, ◌<◌, ◌++◌, ℕ, List, [], Option, Some, None, MatchOption, length, drop, slice_get}
+use Rattle.std.specs.Option.{option_map}
 use Rattle.bac_ends.specs.Meanings.{Finish}
 use Rattle.bac_ends.specs.Sends.{Datagram}
 use Rattle.bac_requester.specs.Views.{finish_view}
 use Rattle.bac_world.specs.Node.{Node}
+use Rattle.bac_c.specs.Endings.{octets_of}
 use Rattle.bac_c.specs.declared.device.Device.{Device}
 
 -- octets are copied to the front of a buffer where they fit, and none otherwise; how many they are is told
@@ -12,13 +14,30 @@ pub record IsCopied (octets before : List ℕ) (len : ℕ) (after : List ℕ) : 
   pub fits : length octets ≤ length before → after ≡ octets ++ drop (length octets) before
   pub short : length before < length octets → after ≡ before
 
--- the datagram at an index, or nothing
-abbrev pub IsSendAt : List Datagram → (index : ℕ) → (to before : List ℕ) → (len : ℕ) → (after : List ℕ) → Type 0
-IsSendAt sends index to before len after = MatchOption (slice_get sends index) (len ≡ 0) (λ d. (to ≡ d.to) × IsCopied d.octets before len after)
+-- the datagram at an index, where one is to be sent
+abbrev pub send_in : Option Device → (index : ℕ) → Option Datagram
+send_in None i = None
+send_in (Some d) i = slice_get d.outcome.sends.items i
 
--- of the ending at an index, if there is one, this holds
-abbrev pub OfEnd : (index : ℕ) → (Finish → Type 0) → Option Device → Type 0
-OfEnd index p held = IfSome held (λ d. IfSome (slice_get d.outcome.ended.items index) (λ f. p (finish_view f)))
+abbrev pub link_of : Datagram → List ℕ
+link_of d = d.to
+
+abbrev pub octets_sent : Option Datagram → List ℕ
+octets_sent None = []
+octets_sent (Some d) = d.octets
+
+-- the ending at an index, where an ask has ended
+abbrev pub end_in : Option Device → (index : ℕ) → Option Finish
+end_in None i = None
+end_in (Some d) i = option_map finish_view (slice_get d.outcome.ended.items i)
+
+abbrev pub octets_ended : Option Finish → List ℕ
+octets_ended None = []
+octets_ended (Some f) = octets_of f
+
+-- a place holds something else where there is something to tell, and stays otherwise
+abbrev pub IsTold : {A B : Type 0} → (A → B) → Option A → (old new : B) → Type 0
+IsTold tell from old new = MatchOption from (new ≡ old) (λ x. new ≡ tell x)
 
 -- so much is counted of a node; 0 where none is started
 abbrev pub Counts : (Node → ℕ) → Option Device → ℕ → Type 0

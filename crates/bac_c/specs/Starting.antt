@@ -1,13 +1,14 @@
 -- How a node is started.
-use Rattle.std.specs.Prelude.{◌≡◌, Bool, ◌&&◌, List, Option, Some, MatchOption, map}
+use Rattle.std.specs.Prelude.{◌≡◌, ℕ, Bool, ◌&&◌, IsTrue, List, Option, Some, MatchOption, map}
 use Rattle.bac_apdu.specs.Spelling.{codes_fit}
 use Rattle.bac_store.specs.Made.{IsMadeOf}
 use Rattle.bac_store.specs.House.{house}
 use Rattle.bac_store.specs.Stores.{Object, Store}
 use Rattle.bac_store.specs.Views.{object_view}
 use Rattle.bac_world.specs.Node.{Node}
-use Rattle.bac_node.specs.Fresh.{fresh_node, slots_fit, window_fits}
+use Rattle.bac_node.specs.Fresh.{fresh_node, made_node, slots_fit, window_fits}
 use Rattle.bac_node.specs.declared.config.Config.{Config}
+use Rattle.bac_c.specs.Devices.{IsIdle}
 use Rattle.bac_c.specs.declared.device.Device.{Device}
 use Rattle.bac_c.specs.declared.records.Settings.{Settings}
 
@@ -29,28 +30,32 @@ pub record IsConfigOf (s : Settings) (c : Config) : Type 0 where
 abbrev pub listed_in : Device → List Object
 listed_in d = map object_view d.listed.items
 
--- the node is a fresh one with the store of these objects
-pub record IsStarted (objects : List Object) (c : Config) (n : Node) : Type 0 where
+-- the node is as it was made, with the store of these objects; it restarts at that moment, if there is one
+pub record IsStarted (restart : Option ℕ) (objects : List Object) (c : Config) (n : Node) : Type 0 where
   pub store : Store
   pub made : IsMadeOf objects store
-  pub fresh : n ≡ fresh_node c store
+  pub fresh : n ≡ made_node c store restart
 
-abbrev pub IsStartedOf : List Object → Config → Option Node → Type 0
-IsStartedOf objects c node = MatchOption node ⊥ (IsStarted objects c)
+abbrev pub IsStartedOf : (restart : Option ℕ) → List Object → Config → Option Node → Type 0
+IsStartedOf restart objects c node = MatchOption node ⊥ (IsStarted restart objects c)
 
-pub record IsStartedWith (s : Settings) (objects : List Object) (node : Option Node) : Type 0 where
+pub record IsStartedWith (s : Settings) (restart : Option ℕ) (objects : List Object) (node : Option Node) : Type 0 where
   pub config : Config
   pub says : IsConfigOf s config
-  pub started : IsStartedOf objects config node
+  pub started : IsStartedOf restart objects config node
 
 pub record IsHouseWith (s : Settings) (node : Option Node) : Type 0 where
   pub config : Config
   pub says : IsConfigOf s config
   pub fresh : node ≡ Some (fresh_node config house)
 
+-- it can be started, if there is memory and the objects can be a store
+abbrev pub IsReady : Settings → Device → Type 0
+IsReady s d = IsIdle d × IsTrue (is_right s)
+
 -- the node runs with the listed objects, as the settings say
-abbrev pub HasStarted : Settings → (old new : Option Device) → Type 0
-HasStarted s old new = MatchOption old ⊥ (λ d. MatchOption new ⊥ (λ e. IsStartedWith s (listed_in d) e.node))
+abbrev pub HasStarted : Settings → (restart : Option ℕ) → (old new : Option Device) → Type 0
+HasStarted s restart old new = MatchOption old ⊥ (λ d. MatchOption new ⊥ (λ e. IsStartedWith s restart (listed_in d) e.node))
 
 abbrev pub HasHouse : Settings → (new : Option Device) → Type 0
 HasHouse s new = MatchOption new ⊥ (λ e. IsHouseWith s e.node)

@@ -1,5 +1,5 @@
 -- The status of a call, as a C program sees it: 0 where it was done, otherwise the number of a fault (own numbers of this library).
-use Rattle.std.specs.Prelude.{ℕ, Result, Ok, Err}
+use Rattle.std.specs.Prelude.{ℕ, Bool, false, ◌==◌, ◌||◌, List, [], ◌∷◌, Result, Ok, Err}
 use Rattle.bac_c.specs.declared.fault.Fault.{Fault}
 use Rattle.bac_c.specs.declared.fault.Fault.TheVariants as fault
 
@@ -80,6 +80,30 @@ fault_number fault.NoSuchObject = NO_SUCH_OBJECT
 fault_number fault.NoSuchProperty = NO_SUCH_PROPERTY
 fault_number fault.BadValue = BAD_VALUE
 
-abbrev pub status_of : Result (Unit {0}) Fault → ℕ
+abbrev pub status_of : {X : Type 0} → Result X Fault → ℕ
 status_of (Ok _) = DONE
 status_of (Err f) = fault_number f
+
+abbrev pub is_one_of : List ℕ → ℕ → Bool
+is_one_of [] n = false
+is_one_of (x ∷ xs) n = (n == x) || is_one_of xs n
+
+-- ---- which statuses a call answers
+
+abbrev pub OPENING : List ℕ
+OPENING = DONE ∷ NO_MEMORY ∷ ALREADY_OPEN ∷ []
+
+abbrev pub LISTING : List ℕ
+LISTING = DONE ∷ NO_MEMORY ∷ NOT_OPEN ∷ ALREADY_STARTED ∷ BAD_OBJECT ∷ []
+
+abbrev pub STARTING : List ℕ
+STARTING = DONE ∷ NO_MEMORY ∷ NOT_OPEN ∷ ALREADY_STARTED ∷ BAD_SETTINGS ∷ BAD_OBJECT ∷ DUPLICATE ∷ []
+
+abbrev pub HOUSE_STARTING : List ℕ
+HOUSE_STARTING = DONE ∷ NO_MEMORY ∷ NOT_OPEN ∷ ALREADY_STARTED ∷ BAD_SETTINGS ∷ []
+
+abbrev pub READING : List ℕ
+READING = DONE ∷ NO_MEMORY ∷ NOT_OPEN ∷ NOT_STARTED ∷ BAD_REQUEST ∷ NO_SUCH_OBJECT ∷ NO_SUCH_PROPERTY ∷ []
+
+abbrev pub FILE_READING : List ℕ
+FILE_READING = DONE ∷ NO_MEMORY ∷ NOT_OPEN ∷ NOT_STARTED ∷ BAD_REQUEST ∷ NO_SUCH_OBJECT ∷ []

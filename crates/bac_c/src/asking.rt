@@ -1,20 +1,20 @@
 //! Asks.
-ghost use Rattle.std.specs.Prelude.{◌≡◌, ◌≢◌, ◌↔◌, IfErr, IfOk, IfSome, None, OnErr};
-ghost use Rattle.bac_service.specs.Views.{owned_request_view};
-ghost use Rattle.bac_c.specs.Asking.{fault_for, get_of, put_of, read_of, write_of, AskRefused, HasAsked, IsAsking, IsRefusedAsk};
-ghost use Rattle.bac_c.specs.Devices.{Ran};
-ghost use Rattle.bac_c.specs.Statuses.{DONE, NOT_OPEN};
+ghost use Rattle.std.specs.Prelude.{◌≡◌, ◌≢◌, ◌↔◌, false, IfErr, IfOk, IfSome, IsErrOf, None, OnErr};
+ghost use Rattle.bac_c.specs.Asking.{fault_for, get_of, put_of, read_of, request_of as plain_request, write_of, AskRefused, HasAsked, IsAsking, IsRefusedAsk};
+ghost use Rattle.bac_c.specs.Devices.{Holds, IsIdle, Ran, Runs};
+ghost use Rattle.bac_c.specs.Ranges.{can_ask, is_instance, is_put, is_question, is_reference, is_written};
+ghost use Rattle.bac_c.specs.Statuses.{BAD_REQUEST, DONE, NOT_OPEN, NOT_STARTED};
 
 use crate::device::Device;
 use crate::fault::{Fault, status};
 use crate::handle::Handle;
+use crate::question::Question;
 use crate::records::{Reference, Target};
-use crate::requests::{get_request, put_request, read_request, write_request};
+use crate::requests::request_of;
 use bac_apdu::Limits;
 use bac_node::Outcome;
 use bac_npdu::Peer;
 use bac_requester::{AskFault, Asked};
-use bac_service::OwnedRequest;
 use std::alloc::Global;
 
 /// The fault of an ask.
@@ -39,10 +39,12 @@ impl Device {
         alloc: Global,
         now: u64,
         target: &Target,
-        request: &OwnedRequest,
+        question: &Question<'_>,
     ) -> Result<u64, Fault>
-        ensures asked { IfOk result (λ t. Ran (IsAsking now target.now (owned_request_view request.now) t) self.old self.new) }
-        ensures refused { IfErr result (λ e. AskRefused e now target.now (owned_request_view request.now) self.old) }
+        ensures asked { IfOk result (λ t. Ran (IsAsking now target.now (plain_request question.now) t) self.old self.new) }
+        ensures idle { IsErrOf result Fault.NotStarted ↔ IsIdle self.old }
+        ensures bad { IsErrOf result Fault.BadRequest ↔ Runs (λ n. can_ask target.now (is_question question.now) ≡ false) self.old }
+        ensures refused { IfErr result (λ e. AskRefused e (can_ask target.now (is_question question.now)) now target.now (plain_request question.now) self.old) }
         ensures err { OnErr result (self.new ≡ self.old) }
     {
         let Some(node) = &mut self.node else {
@@ -52,11 +54,12 @@ impl Device {
         else {
             return Err(Fault::BadRequest);
         };
+        let request = request_of(alloc, question)?;
         let peer = Peer {
             link: target.link,
             route: None,
         };
-        match node.ask(now, &peer, &limits, request) {
+        match node.ask(now, &peer, &limits, &request) {
             Ok(
                 Asked {
                     ticket,
@@ -84,18 +87,21 @@ fn ask_by(
     handle: &mut Handle,
     now: u64,
     target: &Target,
-    request: &OwnedRequest,
+    question: &Question<'_>,
     ticket: &mut u64,
 ) -> u32
-    ensures went { result ≡ DONE → HasAsked now target.now (owned_request_view request.now) ticket.new handle.old.parked.device handle.new.parked.device }
+    ensures went { result ≡ DONE → HasAsked now target.now (plain_request question.now) ticket.new handle.old.parked.device handle.new.parked.device }
     ensures closed { (result ≡ NOT_OPEN) ↔ (handle.old.parked.device ≡ None) }
-    ensures refused { IfSome handle.old.parked.device (IsRefusedAsk result now target.now (owned_request_view request.now)) }
+    ensures idle { (result ≡ NOT_STARTED) ↔ Holds IsIdle handle.old.parked.device }
+    ensures bad { (result ≡ BAD_REQUEST) ↔ Holds (Runs (λ n. can_ask target.now (is_question question.now) ≡ false)) handle.old.parked.device }
+    ensures refused { IfSome handle.old.parked.device (IsRefusedAsk result (can_ask target.now (is_question question.now)) now target.now (plain_request question.now)) }
+    ensures kept { result ≢ DONE → ticket.new ≡ ticket.old }
     ensures err { result ≢ DONE → handle.new.parked.device ≡ handle.old.parked.device }
 {
     let Some(mut device) = handle.take(alloc) else {
         return status(Err(Fault::NotOpen));
     };
-    let asked = device.ask(alloc, now, target, request);
+    let asked = device.ask(alloc, now, target, question);
     *handle = Handle::of(device);
     match asked {
         Ok(number) => {
@@ -108,7 +114,6 @@ fn ask_by(
 
 /// Asks for a property, at a moment in milliseconds.
 #[unsafe(no_mangle)]
-#[tactic(auto, using(crate::proofs::Refusals::unready_refuses, crate::proofs::Refusals::unready_is_open))]
 pub extern "C" fn bac_ask_read(
     alloc: Global,
     handle: &mut Handle,
@@ -119,22 +124,18 @@ pub extern "C" fn bac_ask_read(
 ) -> u32
     ensures went { result ≡ DONE → HasAsked now target.now (read_of reference.now) ticket.new handle.old.parked.device handle.new.parked.device }
     ensures closed { (result ≡ NOT_OPEN) ↔ (handle.old.parked.device ≡ None) }
-    ensures refused { IfSome handle.old.parked.device (IsRefusedAsk result now target.now (read_of reference.now)) }
+    ensures idle { (result ≡ NOT_STARTED) ↔ Holds IsIdle handle.old.parked.device }
+    ensures bad { (result ≡ BAD_REQUEST) ↔ Holds (Runs (λ n. can_ask target.now (is_reference reference.now) ≡ false)) handle.old.parked.device }
+    ensures refused { IfSome handle.old.parked.device (IsRefusedAsk result (can_ask target.now (is_reference reference.now)) now target.now (read_of reference.now)) }
+    ensures kept { result ≢ DONE → ticket.new ≡ ticket.old }
     ensures err { result ≢ DONE → handle.new.parked.device ≡ handle.old.parked.device }
 {
-    if !handle.is_open() {
-        return status(Err(Fault::NotOpen));
-    }
-    let request = match read_request(reference) {
-        Ok(request) => request,
-        Err(fault) => return status(Err(fault)),
-    };
-    ask_by(alloc, handle, now, target, &request, ticket)
+    let question = Question::Read(*reference);
+    ask_by(alloc, handle, now, target, &question, ticket)
 }
 
 /// Asks to write octets of data to a property, with a priority where it is not 0.
 #[unsafe(no_mangle)]
-#[tactic(auto, using(crate::proofs::Refusals::unready_refuses, crate::proofs::Refusals::unready_is_open))]
 pub extern "C" fn bac_ask_write(
     alloc: Global,
     handle: &mut Handle,
@@ -147,22 +148,22 @@ pub extern "C" fn bac_ask_write(
 ) -> u32
     ensures went { result ≡ DONE → HasAsked now target.now (write_of reference.now octets.now priority) ticket.new handle.old.parked.device handle.new.parked.device }
     ensures closed { (result ≡ NOT_OPEN) ↔ (handle.old.parked.device ≡ None) }
-    ensures refused { IfSome handle.old.parked.device (IsRefusedAsk result now target.now (write_of reference.now octets.now priority)) }
+    ensures idle { (result ≡ NOT_STARTED) ↔ Holds IsIdle handle.old.parked.device }
+    ensures bad { (result ≡ BAD_REQUEST) ↔ Holds (Runs (λ n. can_ask target.now (is_written reference.now octets.now priority) ≡ false)) handle.old.parked.device }
+    ensures refused { IfSome handle.old.parked.device (IsRefusedAsk result (can_ask target.now (is_written reference.now octets.now priority)) now target.now (write_of reference.now octets.now priority)) }
+    ensures kept { result ≢ DONE → ticket.new ≡ ticket.old }
     ensures err { result ≢ DONE → handle.new.parked.device ≡ handle.old.parked.device }
 {
-    if !handle.is_open() {
-        return status(Err(Fault::NotOpen));
-    }
-    let request = match write_request(alloc, reference, octets, priority) {
-        Ok(request) => request,
-        Err(fault) => return status(Err(fault)),
+    let question = Question::Write {
+        reference: *reference,
+        octets,
+        priority,
     };
-    ask_by(alloc, handle, now, target, &request, ticket)
+    ask_by(alloc, handle, now, target, &question, ticket)
 }
 
 /// Asks to write octets to a file from a position on; position -1 appends them.
 #[unsafe(no_mangle)]
-#[tactic(auto, using(crate::proofs::Refusals::unready_refuses, crate::proofs::Refusals::unready_is_open))]
 pub extern "C" fn bac_ask_put(
     alloc: Global,
     handle: &mut Handle,
@@ -175,22 +176,22 @@ pub extern "C" fn bac_ask_put(
 ) -> u32
     ensures went { result ≡ DONE → HasAsked now target.now (put_of file position octets.now) ticket.new handle.old.parked.device handle.new.parked.device }
     ensures closed { (result ≡ NOT_OPEN) ↔ (handle.old.parked.device ≡ None) }
-    ensures refused { IfSome handle.old.parked.device (IsRefusedAsk result now target.now (put_of file position octets.now)) }
+    ensures idle { (result ≡ NOT_STARTED) ↔ Holds IsIdle handle.old.parked.device }
+    ensures bad { (result ≡ BAD_REQUEST) ↔ Holds (Runs (λ n. can_ask target.now (is_put file octets.now) ≡ false)) handle.old.parked.device }
+    ensures refused { IfSome handle.old.parked.device (IsRefusedAsk result (can_ask target.now (is_put file octets.now)) now target.now (put_of file position octets.now)) }
+    ensures kept { result ≢ DONE → ticket.new ≡ ticket.old }
     ensures err { result ≢ DONE → handle.new.parked.device ≡ handle.old.parked.device }
 {
-    if !handle.is_open() {
-        return status(Err(Fault::NotOpen));
-    }
-    let request = match put_request(alloc, file, position, octets) {
-        Ok(request) => request,
-        Err(fault) => return status(Err(fault)),
+    let question = Question::Put {
+        file,
+        position,
+        octets,
     };
-    ask_by(alloc, handle, now, target, &request, ticket)
+    ask_by(alloc, handle, now, target, &question, ticket)
 }
 
 /// Asks for so many octets of a file from a position on.
 #[unsafe(no_mangle)]
-#[tactic(auto, using(crate::proofs::Refusals::unready_refuses, crate::proofs::Refusals::unready_is_open))]
 pub extern "C" fn bac_ask_get(
     alloc: Global,
     handle: &mut Handle,
@@ -203,15 +204,16 @@ pub extern "C" fn bac_ask_get(
 ) -> u32
     ensures went { result ≡ DONE → HasAsked now target.now (get_of file position count) ticket.new handle.old.parked.device handle.new.parked.device }
     ensures closed { (result ≡ NOT_OPEN) ↔ (handle.old.parked.device ≡ None) }
-    ensures refused { IfSome handle.old.parked.device (IsRefusedAsk result now target.now (get_of file position count)) }
+    ensures idle { (result ≡ NOT_STARTED) ↔ Holds IsIdle handle.old.parked.device }
+    ensures bad { (result ≡ BAD_REQUEST) ↔ Holds (Runs (λ n. can_ask target.now (is_instance file) ≡ false)) handle.old.parked.device }
+    ensures refused { IfSome handle.old.parked.device (IsRefusedAsk result (can_ask target.now (is_instance file)) now target.now (get_of file position count)) }
+    ensures kept { result ≢ DONE → ticket.new ≡ ticket.old }
     ensures err { result ≢ DONE → handle.new.parked.device ≡ handle.old.parked.device }
 {
-    if !handle.is_open() {
-        return status(Err(Fault::NotOpen));
-    }
-    let request = match get_request(file, position, count) {
-        Ok(request) => request,
-        Err(fault) => return status(Err(fault)),
+    let question = Question::Get {
+        file,
+        position,
+        count,
     };
-    ask_by(alloc, handle, now, target, &request, ticket)
+    ask_by(alloc, handle, now, target, &question, ticket)
 }

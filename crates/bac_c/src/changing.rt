@@ -1,16 +1,20 @@
 //! Changes of the node's own store.
-ghost use Rattle.std.specs.Prelude.{◌≡◌, ◌≢◌, ◌↔◌, IfErr, IfSome, None, OnErr, OnOk};
-ghost use Rattle.bac_store.specs.AtNode.{Change as ChangeView};
+ghost use Rattle.std.specs.Prelude.{◌≡◌, ◌≢◌, ◌↔◌, ◌≤◌, false, true, length, IfErr, IfOk, IfSome, IsErrOf, None, OnErr, OnOk};
+ghost use Rattle.bac_store.specs.AtNode.{octets_of};
 ghost use Rattle.bac_store.specs.Views.{change_view};
-ghost use Rattle.bac_c.specs.Asking.{file_of as plain_file};
-ghost use Rattle.bac_c.specs.Changing.{fault_for_change, value_of, ChangeRefused, Changes, HasChanged, IsRefusedChange};
-ghost use Rattle.bac_c.specs.Statuses.{DONE, NOT_OPEN};
+ghost use Rattle.bac_c.specs.Changing.{change_for, contents_of, fault_for_change, value_of, ChangeRefused, Changes, HasChanged, IsRefusedChange};
+ghost use Rattle.bac_c.specs.Devices.{Holds, IsIdle, Runs};
+ghost use Rattle.bac_c.specs.Ranges.{is_identifier, is_instance, is_setting, IsUnready};
+ghost use Rattle.bac_c.specs.Statuses.{BAD_REQUEST, DONE, NOT_OPEN, NOT_STARTED};
 
+use crate::copying::copied_octets;
 use crate::device::Device;
 use crate::fault::{Fault, status};
 use crate::handle::Handle;
+use crate::ranges::identifier_of;
+use crate::requests::FILE;
+use crate::setting::Setting;
 use bac_store::{Change, ChangeFault};
-use bac_value::ObjectIdentifier;
 use std::alloc::Global;
 
 /// The fault of a change.
@@ -26,17 +30,55 @@ fn fault_of(fault: ChangeFault) -> Fault
     }
 }
 
+/// The change that a C program means; `BadRequest` exactly where a number is out of range, otherwise `NoMemory` where that was refused for its octets.
+fn change_of(alloc: Global, setting: &Setting<'_>) -> Result<Change, Fault>
+    ensures same { IfOk result (λ c. change_view c ≡ change_for setting.now) }
+    ensures may { OnOk result (is_setting setting.now ≡ true) }
+    ensures why { IfErr result (IsUnready (is_setting setting.now)) }
+    ensures held { IsErrOf result Fault.NoMemory → 1 ≤ length (octets_of (change_for setting.now)) }
+{
+    match setting {
+        Setting::Value {
+            object_type,
+            instance,
+            property,
+            octets,
+        } => {
+            let Some(object) = identifier_of(*object_type, *instance) else {
+                return Err(Fault::BadRequest);
+            };
+            let property = *property;
+            let octets = copied_octets(alloc, octets)?;
+            Ok(Change::Value {
+                object,
+                property,
+                octets,
+            })
+        }
+        Setting::File { instance, octets } => {
+            let Some(object) = identifier_of(FILE, *instance) else {
+                return Err(Fault::BadRequest);
+            };
+            let octets = copied_octets(alloc, octets)?;
+            Ok(Change::File { object, octets })
+        }
+    }
+}
+
 impl Device {
     /// Makes a change of the store at the node itself.
-    pub fn change(&mut self, change: &Change) -> Result<(), Fault>
-        ensures made { OnOk result (Changes (change_view change.now) self.old self.new) }
-        ensures refused { IfErr result (λ e. ChangeRefused e (change_view change.now) self.old) }
+    pub fn change(&mut self, alloc: Global, setting: &Setting<'_>) -> Result<(), Fault>
+        ensures made { OnOk result (Changes (change_for setting.now) self.old self.new) }
+        ensures idle { IsErrOf result Fault.NotStarted ↔ IsIdle self.old }
+        ensures bad { IsErrOf result Fault.BadRequest ↔ Runs (λ n. is_setting setting.now ≡ false) self.old }
+        ensures refused { IfErr result (λ e. ChangeRefused e (is_setting setting.now) (change_for setting.now) self.old) }
         ensures err { OnErr result (self.new ≡ self.old) }
     {
         let Some(node) = &mut self.node else {
             return Err(Fault::NotStarted);
         };
-        match node.change(change) {
+        let change = change_of(alloc, setting)?;
+        match node.change(&change) {
             Ok(()) => Ok(()),
             Err(fault) => Err(fault_of(fault)),
         }
@@ -45,16 +87,18 @@ impl Device {
 
 /// Makes a change of the store of the node.
 #[tactic(auto, using(crate::proofs::Refusals::done_keeps, crate::proofs::Refusals::keeps))]
-fn change_by(alloc: Global, handle: &mut Handle, change: &Change) -> u32
-    ensures went { result ≡ DONE → HasChanged (change_view change.now) handle.old.parked.device handle.new.parked.device }
+fn change_by(alloc: Global, handle: &mut Handle, setting: &Setting<'_>) -> u32
+    ensures went { result ≡ DONE → HasChanged (change_for setting.now) handle.old.parked.device handle.new.parked.device }
     ensures closed { (result ≡ NOT_OPEN) ↔ (handle.old.parked.device ≡ None) }
-    ensures refused { IfSome handle.old.parked.device (IsRefusedChange result (change_view change.now)) }
+    ensures idle { (result ≡ NOT_STARTED) ↔ Holds IsIdle handle.old.parked.device }
+    ensures bad { (result ≡ BAD_REQUEST) ↔ Holds (Runs (λ n. is_setting setting.now ≡ false)) handle.old.parked.device }
+    ensures refused { IfSome handle.old.parked.device (IsRefusedChange result (is_setting setting.now) (change_for setting.now)) }
     ensures err { result ≢ DONE → handle.new.parked.device ≡ handle.old.parked.device }
 {
     let Some(mut device) = handle.take(alloc) else {
         return status(Err(Fault::NotOpen));
     };
-    let done = device.change(change);
+    let done = device.change(alloc, setting);
     *handle = Handle::of(device);
     match done {
         Ok(()) => status(Ok(())),
@@ -62,9 +106,8 @@ fn change_by(alloc: Global, handle: &mut Handle, change: &Change) -> u32
     }
 }
 
-/// Sets the values of a property of the node's own store, as octets of data. The reference is to the property as a whole.
+/// Sets the values of a property of the node's own store, as octets of data.
 #[unsafe(no_mangle)]
-#[tactic(auto, using(crate::proofs::Refusals::bad_request_keeps, crate::proofs::Refusals::no_memory_keeps))]
 pub extern "C" fn bac_set_value(
     alloc: Global,
     handle: &mut Handle,
@@ -75,54 +118,33 @@ pub extern "C" fn bac_set_value(
 ) -> u32
     ensures went { result ≡ DONE → HasChanged (value_of object_type instance property octets.now) handle.old.parked.device handle.new.parked.device }
     ensures closed { (result ≡ NOT_OPEN) ↔ (handle.old.parked.device ≡ None) }
-    ensures refused { IfSome handle.old.parked.device (IsRefusedChange result (value_of object_type instance property octets.now)) }
+    ensures idle { (result ≡ NOT_STARTED) ↔ Holds IsIdle handle.old.parked.device }
+    ensures bad { (result ≡ BAD_REQUEST) ↔ Holds (Runs (λ n. is_identifier object_type instance ≡ false)) handle.old.parked.device }
+    ensures refused { IfSome handle.old.parked.device (IsRefusedChange result (is_identifier object_type instance) (value_of object_type instance property octets.now)) }
     ensures err { result ≢ DONE → handle.new.parked.device ≡ handle.old.parked.device }
 {
-    if !handle.is_open() {
-        return status(Err(Fault::NotOpen));
-    }
-    if object_type >= 1_024 || instance >= 0x40_0000 {
-        return status(Err(Fault::BadRequest));
-    }
-    let Ok(octets) = Vec::from_slice(alloc, octets) else {
-        return status(Err(Fault::NoMemory));
-    };
-    let object = ObjectIdentifier {
-        kind: object_type,
+    let setting = Setting::Value {
+        object_type,
         instance,
+        property,
+        octets,
     };
-    change_by(
-        alloc,
-        handle,
-        &Change::Value {
-            object,
-            property,
-            octets,
-        },
-    )
+    change_by(alloc, handle, &setting)
 }
 
 /// Sets all octets of a file of the node's own store.
 #[unsafe(no_mangle)]
-#[tactic(auto, using(crate::proofs::Refusals::bad_request_keeps, crate::proofs::Refusals::no_memory_keeps))]
 pub extern "C" fn bac_set_file(alloc: Global, handle: &mut Handle, file: u32, octets: &[u8]) -> u32
-    ensures went { result ≡ DONE → HasChanged (ChangeView.File (plain_file file) octets.now) handle.old.parked.device handle.new.parked.device }
+    ensures went { result ≡ DONE → HasChanged (contents_of file octets.now) handle.old.parked.device handle.new.parked.device }
     ensures closed { (result ≡ NOT_OPEN) ↔ (handle.old.parked.device ≡ None) }
-    ensures refused { IfSome handle.old.parked.device (IsRefusedChange result (ChangeView.File (plain_file file) octets.now)) }
+    ensures idle { (result ≡ NOT_STARTED) ↔ Holds IsIdle handle.old.parked.device }
+    ensures bad { (result ≡ BAD_REQUEST) ↔ Holds (Runs (λ n. is_instance file ≡ false)) handle.old.parked.device }
+    ensures refused { IfSome handle.old.parked.device (IsRefusedChange result (is_instance file) (contents_of file octets.now)) }
     ensures err { result ≢ DONE → handle.new.parked.device ≡ handle.old.parked.device }
 {
-    if !handle.is_open() {
-        return status(Err(Fault::NotOpen));
-    }
-    if file >= 0x40_0000 {
-        return status(Err(Fault::BadRequest));
-    }
-    let Ok(octets) = Vec::from_slice(alloc, octets) else {
-        return status(Err(Fault::NoMemory));
-    };
-    let object = ObjectIdentifier {
-        kind: 10,
+    let setting = Setting::File {
         instance: file,
+        octets,
     };
-    change_by(alloc, handle, &Change::File { object, octets })
+    change_by(alloc, handle, &setting)
 }

@@ -1,9 +1,10 @@
 //! What is behind a handle.
 ghost use Rattle.std.specs.Prelude.{◌≡◌, ◌↔◌, ◌<◌, ◌≤◌, [], None, Some, IfErr, IfOk, IfSome, IsErrOf, MatchOption, OnErr, OnOk};
+ghost use Rattle.bac_node.specs.Calls.{IsNotHeard};
 ghost use Rattle.bac_node.specs.Waiting.{MovesAt, RestsUntil};
 ghost use Rattle.bac_ticket.specs.Timers.{LAST_MOMENT};
 ghost use Rattle.bac_world.specs.Node.{NodeOn, NodeTick};
-ghost use Rattle.bac_c.specs.Devices.{IsIdle, Ran, Runs};
+ghost use Rattle.bac_c.specs.Devices.{IsIdle, IsQuiet, Ran, Runs};
 ghost use Rattle.bac_c.specs.Statuses.{fault_number, NOT_STARTED};
 
 use crate::fault::Fault;
@@ -39,6 +40,7 @@ impl Device {
     pub fn new(alloc: Global) -> Device
         ensures listed { result.listed.items ≡ [] }
         ensures node { result.node ≡ None }
+        ensures quiet { IsQuiet result }
     {
         Device {
             listed: Vec::new(alloc),
@@ -52,6 +54,7 @@ impl Device {
         ensures went { OnOk result (Ran (NodeOn now from octets.now) self.old self.new) }
         ensures idle { IsErrOf result Fault.NotStarted ↔ IsIdle self.old }
         ensures early { IsErrOf result Fault.ClockBack ↔ Runs (λ n. now < n.latest) self.old }
+        ensures dropped { IsErrOf result Fault.NoMemory → Runs (λ n. IsNotHeard n.link from octets.now → ⊥) self.old }
         ensures open { IsErrOf result Fault.NotOpen → ⊥ }
         ensures few { IfErr result (λ e. fault_number e ≤ NOT_STARTED) }
         ensures err { OnErr result (self.new ≡ self.old) }

@@ -1,7 +1,8 @@
 //! Why a call was refused, and its status for a C program.
 ghost use Rattle.std.specs.Prelude.{◌≡◌, ◌↔◌, IsErrOf};
 ghost use Rattle.bac_c.specs.Statuses.{fault_number, status_of};
-ghost use Rattle.bac_c.specs.Statuses.{ALREADY_OPEN, ALREADY_STARTED, BAD_OBJECT, BAD_SETTINGS, CLOCK_BACK, DUPLICATE, NOT_OPEN, NOT_STARTED, NO_MEMORY};
+ghost use Rattle.bac_c.specs.Statuses.{ALREADY_OPEN, ALREADY_STARTED, BAD_OBJECT, BAD_REQUEST, BAD_SETTINGS, CLOCK_BACK, DUPLICATE};
+ghost use Rattle.bac_c.specs.Statuses.{NOT_OPEN, NOT_STARTED, NO_MEMORY, NO_SUCH_OBJECT, NO_SUCH_PROPERTY};
 ghost use Rattle.bac_c.specs.declared.fault.Fault.TheVariants as fault;
 
 use bac_value::NoMemory;
@@ -86,6 +87,9 @@ pub fn status(done: Result<(), Fault>) -> u32
     ensures bad_settings { (result ≡ BAD_SETTINGS) ↔ IsErrOf done Fault.BadSettings }
     ensures bad_object { (result ≡ BAD_OBJECT) ↔ IsErrOf done Fault.BadObject }
     ensures duplicate { (result ≡ DUPLICATE) ↔ IsErrOf done Fault.Duplicate }
+    ensures bad_request { (result ≡ BAD_REQUEST) ↔ IsErrOf done Fault.BadRequest }
+    ensures no_such_object { (result ≡ NO_SUCH_OBJECT) ↔ IsErrOf done Fault.NoSuchObject }
+    ensures no_such_property { (result ≡ NO_SUCH_PROPERTY) ↔ IsErrOf done Fault.NoSuchProperty }
 {
     match done {
         Ok(()) => 0,

@@ -1,57 +1,30 @@
 //! The objects of a node that is to be started.
-ghost use Rattle.std.specs.Prelude.{◌≡◌, ◌≢◌, ◌↔◌, ◌++◌, ◌∷◌, [], IfOk, IsErrOf, IsTrue, None, OnErr, OnOk};
+ghost use Rattle.std.specs.Prelude.{◌≡◌, ◌≢◌, ◌↔◌, ◌++◌, ◌∷◌, [], false, IfOk, IsErrOf, IsTrue, None, OnErr, OnOk};
 ghost use Rattle.bac_store.specs.Views.{object_view};
-ghost use Rattle.bac_c.specs.Devices.{Holds};
-ghost use Rattle.bac_c.specs.Listing.{bare, with_file, with_property, HasListed, IsLastChanged, StaysListed};
+ghost use Rattle.bac_c.specs.Devices.{Holds, IsIdle};
+ghost use Rattle.bac_c.specs.Listing.{bare, can_add, with_file, with_property, HasListed, IsLastChanged, StaysListed};
+ghost use Rattle.bac_c.specs.Ranges.{can_list};
 ghost use Rattle.bac_c.specs.Starting.{listed_in};
-ghost use Rattle.bac_c.specs.Statuses.{ALREADY_STARTED, DONE, NOT_OPEN};
+ghost use Rattle.bac_c.specs.Statuses.{is_one_of, status_of, ALREADY_STARTED, BAD_OBJECT, DONE, LISTING, NOT_OPEN};
 
+use crate::copying::copied_octets;
 use crate::device::Device;
 use crate::fault::{Fault, status};
 use crate::handle::Handle;
+use crate::ranges::{identifier_of, whole_data};
 use bac_store::{File, Object, Property};
-use bac_value::{DataBuf, ObjectIdentifier, read_data};
 use std::alloc::Global;
 
-/// The identifier of an object; `BadObject` where a number is outside its range.
-fn object_of(object_type: u16, instance: u32) -> Result<ObjectIdentifier, Fault>
-    ensures same { IfOk result (λ o. (o.kind ≡ object_type) × (o.instance ≡ instance)) }
-    ensures bad { OnErr result (IsErrOf result Fault.BadObject) }
-{
-    if object_type >= 1_024 || instance >= 0x40_0000 {
-        return Err(Fault::BadObject);
-    }
-    Ok(ObjectIdentifier {
-        kind: object_type,
-        instance,
-    })
-}
-
-/// Octets that are data as a whole (clause 20.2), with their own memory.
-fn values_of(alloc: Global, octets: &[u8]) -> Result<DataBuf, Fault>
-    ensures same { IfOk result (λ d. d.octets.items ≡ octets.now) }
-    ensures started { IsErrOf result Fault.AlreadyStarted → ⊥ }
-    ensures open { IsErrOf result Fault.NotOpen → ⊥ }
-{
-    let Ok((data, len)) = read_data(octets) else {
-        return Err(Fault::BadObject);
-    };
-    if len != octets.len() {
-        return Err(Fault::BadObject);
-    }
-    match data.to_owned(alloc) {
-        Ok(values) => Ok(values),
-        Err(_) => Err(Fault::NoMemory),
-    }
-}
-
 /// An object of that name, in UTF-8, without properties and without a file.
+#[tactic(auto, using(crate::proofs::Texts::text_is, crate::proofs::Texts::text_is_not))]
 fn bare_object(alloc: Global, object_type: u16, instance: u32, name: &[u8]) -> Result<Object, Fault>
     ensures bare { IfOk result (λ o. object_view o ≡ bare object_type instance name.now) }
-    ensures started { IsErrOf result Fault.AlreadyStarted → ⊥ }
-    ensures open { IsErrOf result Fault.NotOpen → ⊥ }
+    ensures bad { IsErrOf result Fault.BadObject ↔ (can_list object_type instance name.now ≡ false) }
+    ensures few { IsTrue (is_one_of LISTING (status_of result)) }
 {
-    let id = object_of(object_type, instance)?;
+    let Some(id) = identifier_of(object_type, instance) else {
+        return Err(Fault::BadObject);
+    };
     let Ok(text) = std::str::from_utf8(name) else {
         return Err(Fault::BadObject);
     };
@@ -88,6 +61,8 @@ impl Device {
     ) -> Result<(), Fault>
         ensures listed { OnOk result (listed_in self.new ≡ listed_in self.old ++ bare object_type instance name.now ∷ []) }
         ensures again { IsErrOf result Fault.AlreadyStarted ↔ (self.old.node ≢ None) }
+        ensures bad { IsErrOf result Fault.BadObject ↔ IsIdle self.old × (can_list object_type instance name.now ≡ false) }
+        ensures few { IsTrue (is_one_of LISTING (status_of result)) }
         ensures open { IsErrOf result Fault.NotOpen → ⊥ }
         ensures node { self.new.node ≡ self.old.node }
         ensures err { OnErr result (listed_in self.new ≡ listed_in self.old) }
@@ -113,6 +88,8 @@ impl Device {
     ) -> Result<(), Fault>
         ensures listed { OnOk result (IsLastChanged (with_property number octets.now writable) (listed_in self.old) (listed_in self.new)) }
         ensures again { IsErrOf result Fault.AlreadyStarted ↔ (self.old.node ≢ None) }
+        ensures bad { IsErrOf result Fault.BadObject ↔ IsIdle self.old × (can_add octets.now (listed_in self.old) ≡ false) }
+        ensures few { IsTrue (is_one_of LISTING (status_of result)) }
         ensures open { IsErrOf result Fault.NotOpen → ⊥ }
         ensures node { self.new.node ≡ self.old.node }
         ensures err { OnErr result (listed_in self.new ≡ listed_in self.old) }
@@ -120,7 +97,13 @@ impl Device {
         if self.node.is_some() {
             return Err(Fault::AlreadyStarted);
         }
-        let values = values_of(alloc, octets)?;
+        if self.listed.is_empty() {
+            return Err(Fault::BadObject);
+        }
+        let Some(data) = whole_data(octets) else {
+            return Err(Fault::BadObject);
+        };
+        let values = data.to_owned(alloc)?;
         let Some(object) = self.listed.pop() else {
             return Err(Fault::BadObject);
         };
@@ -141,6 +124,8 @@ impl Device {
     pub fn add_file(&mut self, alloc: Global, octets: &[u8], writable: bool) -> Result<(), Fault>
         ensures listed { OnOk result (IsLastChanged (with_file octets.now writable) (listed_in self.old) (listed_in self.new)) }
         ensures again { IsErrOf result Fault.AlreadyStarted ↔ (self.old.node ≢ None) }
+        ensures bad { IsErrOf result Fault.BadObject ↔ IsIdle self.old × (listed_in self.old ≡ []) }
+        ensures few { IsTrue (is_one_of LISTING (status_of result)) }
         ensures open { IsErrOf result Fault.NotOpen → ⊥ }
         ensures node { self.new.node ≡ self.old.node }
         ensures err { OnErr result (listed_in self.new ≡ listed_in self.old) }
@@ -148,9 +133,10 @@ impl Device {
         if self.node.is_some() {
             return Err(Fault::AlreadyStarted);
         }
-        let Ok(octets) = Vec::from_slice(alloc, octets) else {
-            return Err(Fault::NoMemory);
-        };
+        if self.listed.is_empty() {
+            return Err(Fault::BadObject);
+        }
+        let octets = copied_octets(alloc, octets)?;
         let Some(mut object) = self.listed.pop() else {
             return Err(Fault::BadObject);
         };
@@ -172,6 +158,8 @@ pub extern "C" fn bac_add_object(
     ensures went { result ≡ DONE → HasListed (λ a b. b ≡ a ++ bare object_type instance name.now ∷ []) handle.old.parked.device handle.new.parked.device }
     ensures closed { (result ≡ NOT_OPEN) ↔ (handle.old.parked.device ≡ None) }
     ensures again { (result ≡ ALREADY_STARTED) ↔ Holds (λ d. d.node ≢ None) handle.old.parked.device }
+    ensures bad { (result ≡ BAD_OBJECT) ↔ Holds (λ d. IsIdle d × (can_list object_type instance name.now ≡ false)) handle.old.parked.device }
+    ensures few { IsTrue (is_one_of LISTING result) }
     ensures err { result ≢ DONE → StaysListed handle.old.parked.device handle.new.parked.device }
 {
     let Some(mut device) = handle.take(alloc) else {
@@ -194,6 +182,8 @@ pub extern "C" fn bac_add_property(
     ensures went { result ≡ DONE → HasListed (IsLastChanged (with_property number octets.now writable)) handle.old.parked.device handle.new.parked.device }
     ensures closed { (result ≡ NOT_OPEN) ↔ (handle.old.parked.device ≡ None) }
     ensures again { (result ≡ ALREADY_STARTED) ↔ Holds (λ d. d.node ≢ None) handle.old.parked.device }
+    ensures bad { (result ≡ BAD_OBJECT) ↔ Holds (λ d. IsIdle d × (can_add octets.now (listed_in d) ≡ false)) handle.old.parked.device }
+    ensures few { IsTrue (is_one_of LISTING result) }
     ensures err { result ≢ DONE → StaysListed handle.old.parked.device handle.new.parked.device }
 {
     let Some(mut device) = handle.take(alloc) else {
@@ -215,6 +205,8 @@ pub extern "C" fn bac_add_file(
     ensures went { result ≡ DONE → HasListed (IsLastChanged (with_file octets.now writable)) handle.old.parked.device handle.new.parked.device }
     ensures closed { (result ≡ NOT_OPEN) ↔ (handle.old.parked.device ≡ None) }
     ensures again { (result ≡ ALREADY_STARTED) ↔ Holds (λ d. d.node ≢ None) handle.old.parked.device }
+    ensures bad { (result ≡ BAD_OBJECT) ↔ Holds (λ d. IsIdle d × (listed_in d ≡ [])) handle.old.parked.device }
+    ensures few { IsTrue (is_one_of LISTING result) }
     ensures err { result ≢ DONE → StaysListed handle.old.parked.device handle.new.parked.device }
 {
     let Some(mut device) = handle.take(alloc) else {

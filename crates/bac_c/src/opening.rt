@@ -1,7 +1,7 @@
 //! Open and close.
-ghost use Rattle.std.specs.Prelude.{◌≡◌, ◌≢◌, ◌↔◌, [], None};
-ghost use Rattle.bac_c.specs.Devices.{Holds, IsIdle};
-ghost use Rattle.bac_c.specs.Statuses.{ALREADY_OPEN, DONE, NO_MEMORY};
+ghost use Rattle.std.specs.Prelude.{◌≡◌, ◌≢◌, ◌↔◌, [], None, IsTrue};
+ghost use Rattle.bac_c.specs.Devices.{Holds, IsIdle, IsQuiet};
+ghost use Rattle.bac_c.specs.Statuses.{is_one_of, ALREADY_OPEN, DONE, OPENING};
 
 use crate::device::Device;
 use crate::fault::{Fault, status};
@@ -12,7 +12,9 @@ use std::alloc::Global;
 #[unsafe(no_mangle)]
 pub extern "C" fn bac_open(alloc: Global, handle: &mut Handle) -> u32
     ensures opened { result ≡ DONE → Holds (λ d. (d.listed.items ≡ []) × IsIdle d) handle.new.parked.device }
+    ensures quiet { result ≡ DONE → Holds IsQuiet handle.new.parked.device }
     ensures open { (result ≡ ALREADY_OPEN) ↔ (handle.old.parked.device ≢ None) }
+    ensures few { IsTrue (is_one_of OPENING result) }
     ensures err { result ≢ DONE → handle.new.parked.device ≡ handle.old.parked.device }
 {
     if handle.is_open() {

@@ -1,10 +1,10 @@
 //! The request that was performed, so that a C program acts on it.
-ghost use Rattle.std.specs.Prelude.{◌≡◌, IfSome};
+ghost use Rattle.std.specs.Prelude.{◌≡◌};
 ghost use Rattle.bac_node.specs.Views.{performed_view};
 ghost use Rattle.bac_service.specs.Values.{held};
 ghost use Rattle.bac_service.specs.Views.{owned_reply_view, owned_request_view, property_reference_view};
 ghost use Rattle.bac_value.specs.Views.{object_identifier_view};
-ghost use Rattle.bac_c.specs.Performing.{is_done, nothing_performed, of_file as plain_file, of_property as plain_property, performed_told, request_told, TellsAct};
+ghost use Rattle.bac_c.specs.Performing.{is_done, nothing_performed, octets_written, of_file as plain_file, of_property as plain_property, performed_told, request_told, TellsAct};
 ghost use Rattle.bac_c.specs.Results.{IsCopied};
 
 use crate::copying::copy_out;
@@ -124,6 +124,7 @@ fn performed_of(act: &Act) -> Performed
 /// Puts out the request that was performed, if one was, and copies the octets that it wrote out: how many they are. Where they are more than there is room,
 /// none is copied.
 #[unsafe(no_mangle)]
+#[tactic(auto, using(crate::proofs::Copies::none_copied))]
 pub extern "C" fn bac_performed(
     alloc: Global,
     handle: &mut Handle,
@@ -131,7 +132,7 @@ pub extern "C" fn bac_performed(
     out: &mut [u8],
 ) -> usize
     ensures told { TellsAct handle.old.parked.device performed.new }
-    ensures octets { IfSome handle.old.parked.device (λ d. IfSome d.outcome.effect (λ a. IsCopied (held (performed_view a).request) out.old result out.new)) }
+    ensures octets { IsCopied (octets_written handle.old.parked.device) out.old result out.new }
     ensures same { handle.new.parked.device ≡ handle.old.parked.device }
 {
     let Some(device) = handle.take(alloc) else {

@@ -1,62 +1,130 @@
 //! What the node's own store holds.
-ghost use Rattle.std.specs.Prelude.{◌≡◌, ◌↔◌, IfOk, IsErrOf, None};
-ghost use Rattle.bac_service.specs.Values.Request.{ReadProperty};
+ghost use Rattle.std.specs.Prelude.{◌≡◌, ◌≢◌, ◌↔◌, ◌≤◌, false, length, IfErr, IfOk, IsErrOf, IsTrue, None};
 ghost use Rattle.bac_service.specs.Views.{property_reference_view};
-ghost use Rattle.bac_c.specs.Asking.{read_of};
-ghost use Rattle.bac_c.specs.Changing.{IsReadOut, IsUnreadable};
-ghost use Rattle.bac_c.specs.Devices.{Holds, IsIdle};
-ghost use Rattle.bac_c.specs.Statuses.{DONE, NOT_OPEN};
+ghost use Rattle.bac_value.specs.Views.{object_identifier_view};
+ghost use Rattle.bac_c.specs.Devices.{Holds, IsIdle, Runs};
+ghost use Rattle.bac_c.specs.Ranges.{is_instance, is_reference};
+ghost use Rattle.bac_c.specs.Reading.{Finds, FindsFile, LacksFile, LacksObject, LacksProperty, OfFile, OfValues};
+ghost use Rattle.bac_c.specs.Results.{IsCopied};
+ghost use Rattle.bac_c.specs.Statuses.{is_one_of, status_of, FILE_READING, READING};
+ghost use Rattle.bac_c.specs.Statuses.{BAD_REQUEST, DONE, NOT_OPEN, NOT_STARTED, NO_MEMORY, NO_SUCH_OBJECT, NO_SUCH_PROPERTY};
 
 use crate::copying::copy_out;
 use crate::device::Device;
 use crate::fault::{Fault, status};
 use crate::handle::Handle;
+use crate::ranges::identifier_of;
 use crate::records::Reference;
-use crate::requests::reference_of;
-use bac_service::{AnyComplex, AnyReply, AnyRequest, PropertyReference};
+use crate::requests::{FILE, reference_of};
+use bac_service::{AnyComplex, AnyReply, AnyRequest, PropertyReference, ReadAccess, ReadFile};
+use bac_store::Store;
+use bac_value::ObjectIdentifier;
 use std::alloc::Global;
 
-/// The code of the Error unknown-object (clause 18).
+/// The code of an Error where there is no such object (clause 18).
 const UNKNOWN_OBJECT: u32 = 31;
 
+/// Copies the values of a property out: how many octets they are.
+fn value_out(
+    alloc: Global,
+    store: &Store,
+    reference: PropertyReference,
+    out: &mut [u8],
+) -> Result<usize, Fault>
+    ensures read { IfOk result (λ len. OfValues (λ octets. IsCopied octets out.old len out.new) (property_reference_view reference) store.now) }
+    ensures object { IsErrOf result Fault.NoSuchObject ↔ LacksObject (property_reference_view reference) store.now }
+    ensures property { IsErrOf result Fault.NoSuchProperty ↔ LacksProperty (property_reference_view reference) store.now }
+    ensures memory { IsErrOf result Fault.NoMemory → OfValues (λ octets. 1 ≤ length octets) (property_reference_view reference) store.now }
+    ensures few { IsTrue (is_one_of READING (status_of result)) }
+{
+    let Ok(plan) = store.prepare(alloc, &AnyRequest::ReadProperty(reference)) else {
+        return Err(Fault::NoMemory);
+    };
+    match plan.reply() {
+        AnyReply::Complex(AnyComplex::PropertyRead(read)) => Ok(copy_out(read.values.octets, out)),
+        AnyReply::Error { code, .. } if code == UNKNOWN_OBJECT => Err(Fault::NoSuchObject),
+        _ => Err(Fault::NoSuchProperty),
+    }
+}
+
+/// Copies all octets of a file out: how many they are.
+#[tactic(auto, using(crate::proofs::Files::file_held, crate::proofs::Files::file_told))]
+fn file_out(
+    alloc: Global,
+    store: &Store,
+    file: ObjectIdentifier,
+    out: &mut [u8],
+) -> Result<usize, Fault>
+    ensures read { IfOk result (λ len. OfFile (λ octets. IsCopied octets out.old len out.new) (object_identifier_view file) store.now) }
+    ensures object { IsErrOf result Fault.NoSuchObject ↔ LacksFile (object_identifier_view file) store.now }
+    ensures memory { IsErrOf result Fault.NoMemory → OfFile (λ octets. 1 ≤ length octets) (object_identifier_view file) store.now }
+    ensures few { IsTrue (is_one_of FILE_READING (status_of result)) }
+{
+    let read = ReadFile {
+        file,
+        access: ReadAccess::Stream {
+            start: 0,
+            count: u64::MAX,
+        },
+    };
+    let Ok(plan) = store.prepare(alloc, &AnyRequest::ReadFile(read)) else {
+        return Err(Fault::NoMemory);
+    };
+    match plan.reply() {
+        AnyReply::Complex(AnyComplex::FileRead(read)) => Ok(copy_out(read.content.octets, out)),
+        _ => Err(Fault::NoSuchObject),
+    }
+}
+
 impl Device {
-    /// Copies the values of a property of the node's own store out: how many octets they are. The store answers a read with nothing but values or an Error.
-    pub fn read_out(
+    /// Copies the values of a property of the node's own store out: how many octets they are.
+    pub fn get_value(
         &self,
         alloc: Global,
-        reference: PropertyReference,
+        reference: &Reference,
         out: &mut [u8],
     ) -> Result<usize, Fault>
-        ensures read { IfOk result (λ len. IsReadOut (ReadProperty (property_reference_view reference)) out.old len out.new self.now) }
-        ensures object { IsErrOf result Fault.NoSuchObject → IsUnreadable (ReadProperty (property_reference_view reference)) self.now }
-        ensures property { IsErrOf result Fault.NoSuchProperty → IsUnreadable (ReadProperty (property_reference_view reference)) self.now }
+        ensures read { IfOk result (λ len. Finds (OfValues (λ octets. IsCopied octets out.old len out.new)) reference.now self.now) }
         ensures idle { IsErrOf result Fault.NotStarted ↔ IsIdle self.now }
+        ensures bad { IsErrOf result Fault.BadRequest ↔ Runs (λ n. is_reference reference.now ≡ false) self.now }
+        ensures object { IsErrOf result Fault.NoSuchObject ↔ Finds LacksObject reference.now self.now }
+        ensures property { IsErrOf result Fault.NoSuchProperty ↔ Finds LacksProperty reference.now self.now }
+        ensures memory { IsErrOf result Fault.NoMemory → Finds (OfValues (λ octets. 1 ≤ length octets)) reference.now self.now }
+        ensures few { IsTrue (is_one_of READING (status_of result)) }
         ensures open { IsErrOf result Fault.NotOpen → ⊥ }
     {
         let Some(node) = &self.node else {
             return Err(Fault::NotStarted);
         };
-        let Ok(plan) = node
-            .store()
-            .prepare(alloc, &AnyRequest::ReadProperty(reference))
-        else {
-            return Err(Fault::NoMemory);
+        let Some(reference) = reference_of(reference) else {
+            return Err(Fault::BadRequest);
         };
-        match plan.reply() {
-            AnyReply::Complex(AnyComplex::PropertyRead(read)) => {
-                Ok(copy_out(read.values.octets, out))
-            }
-            AnyReply::Error { code, .. } if code == UNKNOWN_OBJECT => Err(Fault::NoSuchObject),
-            AnyReply::Error { .. } => Err(Fault::NoSuchProperty),
-            _ => Err(Fault::BadValue),
-        }
+        value_out(alloc, node.store(), reference, out)
+    }
+
+    /// Copies all octets of a file of the node's own store out: how many they are.
+    pub fn get_file(&self, alloc: Global, file: u32, out: &mut [u8]) -> Result<usize, Fault>
+        ensures read { IfOk result (λ len. FindsFile (OfFile (λ octets. IsCopied octets out.old len out.new)) file self.now) }
+        ensures idle { IsErrOf result Fault.NotStarted ↔ IsIdle self.now }
+        ensures bad { IsErrOf result Fault.BadRequest ↔ Runs (λ n. is_instance file ≡ false) self.now }
+        ensures object { IsErrOf result Fault.NoSuchObject ↔ FindsFile LacksFile file self.now }
+        ensures memory { IsErrOf result Fault.NoMemory → FindsFile (OfFile (λ octets. 1 ≤ length octets)) file self.now }
+        ensures few { IsTrue (is_one_of FILE_READING (status_of result)) }
+        ensures open { IsErrOf result Fault.NotOpen → ⊥ }
+    {
+        let Some(node) = &self.node else {
+            return Err(Fault::NotStarted);
+        };
+        let Some(file) = identifier_of(FILE, file) else {
+            return Err(Fault::BadRequest);
+        };
+        file_out(alloc, node.store(), file, out)
     }
 }
 
 /// Copies the values of a property of the node's own store out, as octets of data; how many they are is put out. Where they are more than there is room, none
 /// is copied.
 #[unsafe(no_mangle)]
-#[tactic(auto, using(crate::proofs::Refusals::unready_is_open))]
 pub extern "C" fn bac_get_value(
     alloc: Global,
     handle: &mut Handle,
@@ -64,21 +132,54 @@ pub extern "C" fn bac_get_value(
     out: &mut [u8],
     len: &mut usize,
 ) -> u32
-    ensures went { result ≡ DONE → Holds (IsReadOut (read_of reference.now) out.old len.new out.new) handle.old.parked.device }
+    ensures went { result ≡ DONE → Holds (Finds (OfValues (λ octets. IsCopied octets out.old len.new out.new)) reference.now) handle.old.parked.device }
     ensures closed { (result ≡ NOT_OPEN) ↔ (handle.old.parked.device ≡ None) }
+    ensures idle { (result ≡ NOT_STARTED) ↔ Holds IsIdle handle.old.parked.device }
+    ensures bad { (result ≡ BAD_REQUEST) ↔ Holds (Runs (λ n. is_reference reference.now ≡ false)) handle.old.parked.device }
+    ensures object { (result ≡ NO_SUCH_OBJECT) ↔ Holds (Finds LacksObject reference.now) handle.old.parked.device }
+    ensures property { (result ≡ NO_SUCH_PROPERTY) ↔ Holds (Finds LacksProperty reference.now) handle.old.parked.device }
+    ensures memory { result ≡ NO_MEMORY → Holds (Finds (OfValues (λ octets. 1 ≤ length octets)) reference.now) handle.old.parked.device }
+    ensures few { IsTrue (is_one_of READING result) }
+    ensures kept { result ≢ DONE → len.new ≡ len.old }
     ensures same { handle.new.parked.device ≡ handle.old.parked.device }
 {
-    if !handle.is_open() {
-        return status(Err(Fault::NotOpen));
-    }
-    let reference = match reference_of(reference) {
-        Ok(reference) => reference,
-        Err(fault) => return status(Err(fault)),
-    };
     let Some(device) = handle.take(alloc) else {
         return status(Err(Fault::NotOpen));
     };
-    let read = device.read_out(alloc, reference, out);
+    let read = device.get_value(alloc, reference, out);
+    *handle = Handle::of(device);
+    match read {
+        Ok(number) => {
+            *len = number;
+            status(Ok(()))
+        }
+        Err(fault) => status(Err(fault)),
+    }
+}
+
+/// Copies all octets of a file of the node's own store out; how many they are is put out. Where they are more than there is room, none is copied.
+#[unsafe(no_mangle)]
+pub extern "C" fn bac_get_file(
+    alloc: Global,
+    handle: &mut Handle,
+    file: u32,
+    out: &mut [u8],
+    len: &mut usize,
+) -> u32
+    ensures went { result ≡ DONE → Holds (FindsFile (OfFile (λ octets. IsCopied octets out.old len.new out.new)) file) handle.old.parked.device }
+    ensures closed { (result ≡ NOT_OPEN) ↔ (handle.old.parked.device ≡ None) }
+    ensures idle { (result ≡ NOT_STARTED) ↔ Holds IsIdle handle.old.parked.device }
+    ensures bad { (result ≡ BAD_REQUEST) ↔ Holds (Runs (λ n. is_instance file ≡ false)) handle.old.parked.device }
+    ensures object { (result ≡ NO_SUCH_OBJECT) ↔ Holds (FindsFile LacksFile file) handle.old.parked.device }
+    ensures memory { result ≡ NO_MEMORY → Holds (FindsFile (OfFile (λ octets. 1 ≤ length octets)) file) handle.old.parked.device }
+    ensures few { IsTrue (is_one_of FILE_READING result) }
+    ensures kept { result ≢ DONE → len.new ≡ len.old }
+    ensures same { handle.new.parked.device ≡ handle.old.parked.device }
+{
+    let Some(device) = handle.take(alloc) else {
+        return status(Err(Fault::NotOpen));
+    };
+    let read = device.get_file(alloc, file, out);
     *handle = Handle::of(device);
     match read {
         Ok(number) => {

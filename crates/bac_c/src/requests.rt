@@ -1,119 +1,90 @@
 //! Requests, as a C program says them.
-ghost use Rattle.std.specs.Prelude.{◌≡◌, IfOk, IfErr};
+ghost use Rattle.std.specs.Prelude.{◌≡◌, true, false, nat_le, IfErr, IfOk, MatchOption, OnOk};
 ghost use Rattle.std.specs.Option.{option_map};
 ghost use Rattle.bac_service.specs.Views.{owned_request_view, property_reference_view};
-ghost use Rattle.bac_c.specs.Asking.{get_of, priority_of as plain_priority, put_of, read_of, reference_of as plain_reference, write_of, IsUnready};
+ghost use Rattle.bac_c.specs.Asking.{get_of, priority_of as plain_priority, put_of, read_of, reference_of as plain_reference, request_of as plain_request, write_of};
+ghost use Rattle.bac_c.specs.Ranges.{is_instance, is_put, is_question, is_reference, is_written, IsUnready};
 
+use crate::copying::copied_octets;
 use crate::fault::Fault;
+use crate::question::Question;
+use crate::ranges::{identifier_of, whole_data};
 use crate::records::Reference;
 use bac_service::{
     AnyRequest, OwnedRequest, Priority, PropertyReference, ReadAccess, ReadFile, WriteAccess,
     WriteFile, WriteProperty, WriteStream,
 };
-use bac_value::{DataBuf, ObjectIdentifier, OctetString, read_data};
+use bac_value::OctetString;
 use std::alloc::Global;
 
-/// A property; `BadRequest` where a number is outside its range.
-pub fn reference_of(reference: &Reference) -> Result<PropertyReference, Fault>
-    ensures same { IfOk result (λ r. property_reference_view r ≡ plain_reference reference.now) }
-    ensures why { IfErr result IsUnready }
+/// The type of file objects (BACnetObjectType).
+pub const FILE: u16 = 10;
+
+/// A property; None where a number is out of range.
+pub fn reference_of(reference: &Reference) -> Option<PropertyReference>
+    ensures { MatchOption result (is_reference reference.now ≡ false)
+        (λ r. (is_reference reference.now ≡ true) × (property_reference_view r ≡ plain_reference reference.now)) }
 {
-    if reference.object_type >= 1_024 || reference.instance >= 0x40_0000 {
-        return Err(Fault::BadRequest);
-    }
+    let object = identifier_of(reference.object_type, reference.instance)?;
     let index = if reference.index == u32::MAX {
         None
     } else {
         Some(reference.index)
     };
-    Ok(PropertyReference {
-        object: ObjectIdentifier {
-            kind: reference.object_type,
-            instance: reference.instance,
-        },
+    Some(PropertyReference {
+        object,
         property: reference.property,
         index,
     })
 }
 
-/// A file; `BadRequest` where the instance is outside its range.
-fn file_of(instance: u32) -> Result<ObjectIdentifier, Fault>
-    ensures same { IfOk result (λ f. (f.kind ≡ 10) × (f.instance ≡ instance)) }
-    ensures why { IfErr result IsUnready }
-{
-    if instance >= 0x40_0000 {
-        return Err(Fault::BadRequest);
-    }
-    Ok(ObjectIdentifier { kind: 10, instance })
-}
-
-/// A priority where the number is not 0; `BadRequest` where it is above 16.
-fn priority_of(number: u8) -> Result<Option<Priority>, Fault>
-    ensures same { IfOk result (λ p. option_map (λ q. q.number) p ≡ plain_priority number) }
-    ensures why { IfErr result IsUnready }
+/// A priority where the number is not 0; None where it is above 16.
+fn priority_of(number: u8) -> Option<Option<Priority>>
+    ensures { MatchOption result (nat_le number 16 ≡ false)
+        (λ p. (nat_le number 16 ≡ true) × (option_map (λ q. q.number) p ≡ plain_priority number)) }
 {
     if number == 0 {
-        return Ok(None);
+        return Some(None);
     }
     match Priority::new(number) {
-        Some(priority) => Ok(Some(priority)),
-        None => Err(Fault::BadRequest),
-    }
-}
-
-/// Octets that are data as a whole, with their own memory.
-fn values_of(alloc: Global, octets: &[u8]) -> Result<DataBuf, Fault>
-    ensures same { IfOk result (λ d. d.octets.items ≡ octets.now) }
-    ensures why { IfErr result IsUnready }
-{
-    let Ok((data, len)) = read_data(octets) else {
-        return Err(Fault::BadRequest);
-    };
-    if len != octets.len() {
-        return Err(Fault::BadRequest);
-    }
-    match data.to_owned(alloc) {
-        Ok(values) => Ok(values),
-        Err(_) => Err(Fault::NoMemory),
-    }
-}
-
-/// Octets for a file, with their own memory.
-fn content_of(alloc: Global, octets: &[u8]) -> Result<OctetString, Fault>
-    ensures same { IfOk result (λ s. s.octets.items ≡ octets.now) }
-    ensures why { IfErr result IsUnready }
-{
-    let Ok(copy) = Vec::from_slice(alloc, octets) else {
-        return Err(Fault::NoMemory);
-    };
-    match OctetString::new(copy) {
-        Some(content) => Ok(content),
-        None => Err(Fault::BadRequest),
+        Some(priority) => Some(Some(priority)),
+        None => None,
     }
 }
 
 /// A property is read.
-pub fn read_request(reference: &Reference) -> Result<OwnedRequest, Fault>
+fn read_request(reference: &Reference) -> Result<OwnedRequest, Fault>
     ensures same { IfOk result (λ r. owned_request_view r ≡ read_of reference.now) }
-    ensures why { IfErr result IsUnready }
+    ensures may { OnOk result (is_reference reference.now ≡ true) }
+    ensures why { IfErr result (IsUnready (is_reference reference.now)) }
 {
-    let reference = reference_of(reference)?;
+    let Some(reference) = reference_of(reference) else {
+        return Err(Fault::BadRequest);
+    };
     Ok(AnyRequest::ReadProperty(reference))
 }
 
 /// A property is written, with that priority where it is not 0.
-pub fn write_request(
+fn write_request(
     alloc: Global,
     reference: &Reference,
     octets: &[u8],
     priority: u8,
 ) -> Result<OwnedRequest, Fault>
     ensures same { IfOk result (λ r. owned_request_view r ≡ write_of reference.now octets.now priority) }
-    ensures why { IfErr result IsUnready }
+    ensures may { OnOk result (is_written reference.now octets.now priority ≡ true) }
+    ensures why { IfErr result (IsUnready (is_written reference.now octets.now priority)) }
 {
-    let reference = reference_of(reference)?;
-    let priority = priority_of(priority)?;
-    let values = values_of(alloc, octets)?;
+    let Some(reference) = reference_of(reference) else {
+        return Err(Fault::BadRequest);
+    };
+    let Some(priority) = priority_of(priority) else {
+        return Err(Fault::BadRequest);
+    };
+    let Some(data) = whole_data(octets) else {
+        return Err(Fault::BadRequest);
+    };
+    let values = data.to_owned(alloc)?;
     Ok(AnyRequest::WriteProperty(WriteProperty {
         reference,
         values,
@@ -122,17 +93,24 @@ pub fn write_request(
 }
 
 /// A file is written from a position on; position -1 appends.
-pub fn put_request(
+fn put_request(
     alloc: Global,
     file: u32,
     position: i64,
     octets: &[u8],
 ) -> Result<OwnedRequest, Fault>
     ensures same { IfOk result (λ r. owned_request_view r ≡ put_of file position octets.now) }
-    ensures why { IfErr result IsUnready }
+    ensures may { OnOk result (is_put file octets.now ≡ true) }
+    ensures why { IfErr result (IsUnready (is_put file octets.now)) }
 {
-    let file = file_of(file)?;
-    let content = content_of(alloc, octets)?;
+    let Some(file) = identifier_of(FILE, file) else {
+        return Err(Fault::BadRequest);
+    };
+    if octets.len() >= 0x1_0000_0000 {
+        return Err(Fault::BadRequest);
+    }
+    let octets = copied_octets(alloc, octets)?;
+    let content = OctetString { octets };
     Ok(AnyRequest::WriteFile(WriteFile {
         file,
         access: WriteAccess::Stream(WriteStream {
@@ -143,11 +121,14 @@ pub fn put_request(
 }
 
 /// Octets of a file are read from a position on.
-pub fn get_request(file: u32, position: i64, count: u64) -> Result<OwnedRequest, Fault>
+fn get_request(file: u32, position: i64, count: u64) -> Result<OwnedRequest, Fault>
     ensures same { IfOk result (λ r. owned_request_view r ≡ get_of file position count) }
-    ensures why { IfErr result IsUnready }
+    ensures may { OnOk result (is_instance file ≡ true) }
+    ensures why { IfErr result (IsUnready (is_instance file)) }
 {
-    let file = file_of(file)?;
+    let Some(file) = identifier_of(FILE, file) else {
+        return Err(Fault::BadRequest);
+    };
     Ok(AnyRequest::ReadFile(ReadFile {
         file,
         access: ReadAccess::Stream {
@@ -155,4 +136,30 @@ pub fn get_request(file: u32, position: i64, count: u64) -> Result<OwnedRequest,
             count,
         },
     }))
+}
+
+/// The request that a C program asks for; `BadRequest` exactly where it is none, otherwise `NoMemory` where that was refused.
+pub fn request_of(alloc: Global, question: &Question<'_>) -> Result<OwnedRequest, Fault>
+    ensures same { IfOk result (λ r. owned_request_view r ≡ plain_request question.now) }
+    ensures may { OnOk result (is_question question.now ≡ true) }
+    ensures why { IfErr result (IsUnready (is_question question.now)) }
+{
+    match question {
+        Question::Read(reference) => read_request(reference),
+        Question::Write {
+            reference,
+            octets,
+            priority,
+        } => write_request(alloc, reference, octets, *priority),
+        Question::Put {
+            file,
+            position,
+            octets,
+        } => put_request(alloc, *file, *position, octets),
+        Question::Get {
+            file,
+            position,
+            count,
+        } => get_request(*file, *position, *count),
+    }
 }

@@ -1,8 +1,8 @@
 //! What came of the last call that did something, read by index.
 ghost use Rattle.std.specs.Prelude.{◌≡◌, MatchOption, length};
 ghost use Rattle.bac_node.specs.Faults.{cause_number};
-ghost use Rattle.bac_c.specs.Endings.{end_of as plain_end, octets_of as plain_octets};
-ghost use Rattle.bac_c.specs.Results.{IsCopied, IsSendAt, OfEnd};
+ghost use Rattle.bac_c.specs.Endings.{end_of as plain_end};
+ghost use Rattle.bac_c.specs.Results.{end_in, link_of, octets_ended, octets_sent, send_in, IsCopied, IsTold};
 
 use crate::copying::copy_out;
 use crate::ending::{end_of, octets_of};
@@ -27,6 +27,7 @@ pub extern "C" fn bac_sends(alloc: Global, handle: &mut Handle) -> usize
 /// Copies a datagram that is to be sent out, with the link that it goes to: how many octets it has, 0 where there is none at that index. Where they are
 /// more than there is room, no octets are copied.
 #[unsafe(no_mangle)]
+#[tactic(auto, using(crate::proofs::Copies::none_copied))]
 pub extern "C" fn bac_send(
     alloc: Global,
     handle: &mut Handle,
@@ -34,7 +35,8 @@ pub extern "C" fn bac_send(
     to: &mut [u8; 6],
     out: &mut [u8],
 ) -> usize
-    ensures sent { MatchOption handle.old.parked.device (result ≡ 0) (λ d. IsSendAt d.outcome.sends.items index to.new out.old result out.new) }
+    ensures to { IsTold link_of (send_in handle.old.parked.device index) to.old to.new }
+    ensures octets { IsCopied (octets_sent (send_in handle.old.parked.device index)) out.old result out.new }
     ensures same { handle.new.parked.device ≡ handle.old.parked.device }
 {
     let Some(device) = handle.take(alloc) else {
@@ -68,6 +70,7 @@ pub extern "C" fn bac_ends(alloc: Global, handle: &mut Handle) -> usize
 /// Puts out how the ask at an index ended, and copies the octets that came out: how many they are, 0 where there is none at that index. Where they are more
 /// than there is room, none is copied.
 #[unsafe(no_mangle)]
+#[tactic(auto, using(crate::proofs::Copies::none_copied))]
 pub extern "C" fn bac_end(
     alloc: Global,
     handle: &mut Handle,
@@ -75,8 +78,8 @@ pub extern "C" fn bac_end(
     end: &mut End,
     out: &mut [u8],
 ) -> usize
-    ensures ended { OfEnd index (λ f. end.new ≡ plain_end f) handle.old.parked.device }
-    ensures octets { OfEnd index (λ f. IsCopied (plain_octets f) out.old result out.new) handle.old.parked.device }
+    ensures ended { IsTold plain_end (end_in handle.old.parked.device index) end.old end.new }
+    ensures octets { IsCopied (octets_ended (end_in handle.old.parked.device index)) out.old result out.new }
     ensures same { handle.new.parked.device ≡ handle.old.parked.device }
 {
     let Some(device) = handle.take(alloc) else {

@@ -1,10 +1,11 @@
 //! Datagrams and time.
 ghost use Rattle.std.specs.Prelude.{◌≡◌, ◌≢◌, ◌↔◌, ◌<◌, ◌≤◌, None, Some, IfSome, MatchOption};
+ghost use Rattle.bac_node.specs.Calls.{IsNotHeard};
 ghost use Rattle.bac_node.specs.Waiting.{MovesAt, RestsUntil};
 ghost use Rattle.bac_ticket.specs.Timers.{LAST_MOMENT};
 ghost use Rattle.bac_world.specs.Node.{NodeOn, NodeTick};
 ghost use Rattle.bac_c.specs.Devices.{HasRun, Holds, IsIdle, Runs};
-ghost use Rattle.bac_c.specs.Statuses.{CLOCK_BACK, DONE, NOT_OPEN, NOT_STARTED};
+ghost use Rattle.bac_c.specs.Statuses.{CLOCK_BACK, DONE, NOT_OPEN, NOT_STARTED, NO_MEMORY};
 
 use crate::fault::{Fault, status};
 use crate::handle::Handle;
@@ -23,6 +24,7 @@ pub extern "C" fn bac_on(
     ensures closed { (result ≡ NOT_OPEN) ↔ (handle.old.parked.device ≡ None) }
     ensures idle { (result ≡ NOT_STARTED) ↔ Holds IsIdle handle.old.parked.device }
     ensures early { (result ≡ CLOCK_BACK) ↔ Holds (Runs (λ n. now < n.latest)) handle.old.parked.device }
+    ensures dropped { result ≡ NO_MEMORY → Holds (Runs (λ n. IsNotHeard n.link from.now octets.now → ⊥)) handle.old.parked.device }
     ensures few { result ≤ NOT_STARTED }
     ensures err { result ≢ DONE → handle.new.parked.device ≡ handle.old.parked.device }
 {

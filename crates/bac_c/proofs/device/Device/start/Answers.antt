@@ -7,5 +7,5 @@ use Rattle.bac_c.proofs.device.Device.start.Goals as goal
 
 pub returns-clause-started : goal.returns-clause-started
 returns-clause-started c =
-    started_with c.args.settings.now c.in_ok-config.config (listed_in c.args.self.now) (map object_view c.in-Ok.objects.items) c.in_ok-store.store c.in_ok-node.node c.in_ok-config.ensures.says
-    (c.in-Ok.ensures ∙ ap (map object_view) c.deref.ensures.value) c.in_ok-store.ensures.made c.in_ok-node.ensures.fresh
+    started_with c.args.settings.now c.in_ok-config.config c.args.restart (listed_in c.args.self.now) (map object_view c.in-Ok.objects.items) c.in_ok-store.store c.in_ok-node.node c.in_ok-config.ensures.says
+    (c.in-Ok.ensures ∙ ap (map object_view) c.deref.ensures.value) c.in_ok-store.ensures.made c.in_ok-node.ensures.made
