@@ -7,7 +7,7 @@ use Rattle.bac_run.specs.Runs.{Timed}
 use Rattle.bac_run.specs.declared.patience.Patience.{Patience}
 use Rattle.bac_commands.specs.Houses.{server_node}
 use Rattle.bac_commands.specs.Reports.{ReportsServing, ServedText}
-use Rattle.bac_command_line.specs.Online.{Clocks, HasTold, IsRefused, IsServedBy, Links, Serves}
+use Rattle.bac_command_line.specs.Online.{Clocks, HasTold, IsServedBy, Links, Serves}
 use Rattle.bac_command_line.specs.Serving.{patience_of, restart_of, turns_of}
 use Rattle.bac_command_line.specs.declared.serving.Serving.{Serving}
 use Rattle.bac_command_line.proofs.Statuses.{lifted}

@@ -1,5 +1,5 @@
 -- What `answer` and `serve` print, and their statuses, with the house store or one that a file means.
-use Rattle.std.specs.Prelude.{◌≡◌, ⊤, ℕ, List, Option, Some, None, Ok}
+use Rattle.std.specs.Prelude.{⊤, ℕ, List, Option, Some, None, Ok}
 use Rattle.std.specs.Io.KnownBytes.{Keeps}
 use Rattle.bac_store.specs.House.{house}
 use Rattle.bac_store.specs.Stores.{Store}

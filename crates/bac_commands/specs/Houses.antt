@@ -1,5 +1,5 @@
 -- The nodes that commands make.
-use Rattle.std.specs.Prelude.{ℕ, List, [], true, Option, Some, None}
+use Rattle.std.specs.Prelude.{ℕ, [], true, Option, Some, None}
 use Rattle.bac_apdu.specs.Apdu.{Limits}
 use Rattle.bac_protocol.specs.Service.{Octets}
 use Rattle.bac_store.specs.House.{house}

@@ -1,6 +1,6 @@
 -- The station is on a link that was bound, the clock was made, and it told when serving began.
 use Rattle.std.proofs.Common.{refl}
-use Rattle.bac_command_line.specs.Online.{HasTold, OnClock, OnPort}
+use Rattle.bac_command_line.specs.Online.{OnClock, OnPort}
 use Rattle.bac_command_line.proofs.Served.{served_so}
 use Rattle.bac_command_line.proofs.online.serve.Goals as goal
 
