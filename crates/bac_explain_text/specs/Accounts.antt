@@ -1,5 +1,5 @@
 -- What is known of a capture so far, and what a frame makes of it.
-use Rattle.std.specs.Prelude.{ℕ, [], List, Option, Some, None, Result, Ok, Err}
+use Rattle.std.specs.Prelude.{ℕ, [], Option, Some, None, Result, Ok, Err}
 use Rattle.bac_capture.specs.Blocks.{FrameView}
 use Rattle.bac_capture.specs.declared.fault.FileFault.{FileFault}
 use Rattle.bac_explain.specs.Keys.{Key}

@@ -1,5 +1,5 @@
 -- Answers in words.
-use Rattle.std.specs.Prelude.{◌≡◌, ℕ, ℤ, Bool, List, [], ◌++◌, codes, decimal, Option, Some, None, Result, Ok, Err}
+use Rattle.std.specs.Prelude.{◌≡◌, ℕ, ℤ, Bool, List, [], ◌++◌, codes, Option, Some, None, Result, Ok, Err}
 use Rattle.std.specs.Fmt.{signed_decimal}
 use Rattle.hex.specs.Hex.{encode_upper}
 use Rattle.bac_apdu.specs.Apdu.{Segment, Apdu, SimpleAck, ComplexAck, Error, Reject, Abort}

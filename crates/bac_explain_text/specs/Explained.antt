@@ -1,5 +1,5 @@
 -- What `bac explain` prints of a capture file, and how it ends.
-use Rattle.std.specs.Prelude.{◌≡◌, ℕ, ◌++◌, List, [], take, codes, decimal, ⊤, Option, Some, None}
+use Rattle.std.specs.Prelude.{◌≡◌, ℕ, ◌++◌, List, take, codes, decimal, ⊤, Option, Some, None}
 use Rattle.std.specs.Io.KnownBytes.{Appends}
 use Rattle.bac_capture.specs.declared.fault.FileFault.{FileFault}
 use Rattle.bac_capture.specs.declared.form.Form.{Form}

@@ -1,6 +1,6 @@
 -- The transactions that are open at the end.
 use Rattle.std.specs.Prelude.{◌≡◌, ℕ, Bool, true, false, List, [], ◌∷◌, ◌++◌, Option}
-use Rattle.std.specs.Io.KnownBytes.{Appends, Keeps}
+use Rattle.std.specs.Io.KnownBytes.{Appends}
 use Rattle.bac_slots.specs.declared.slot.Slot.{Slot}
 use Rattle.bac_explain.specs.Keys.{Key}
 use Rattle.bac_explain.specs.Tables.{Transactions, closed_of}
