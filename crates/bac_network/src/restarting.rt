@@ -74,7 +74,8 @@ impl Network {
     {
         let now = self.journal.now();
         restart_node(&mut self.nodes, node, now, given)?;
-        self.log.push_reserved(Fact::Restarted { node, store: kept });
+        let fact = Fact::Restarted { node, store: kept };
+        self.log.push_reserved(fact);
         Ok(())
     }
 }
