@@ -9,6 +9,7 @@ use std::test::Fail;
 mod alone;
 mod asks;
 mod event;
+mod first_ids;
 mod laws;
 mod limits;
 mod memory;

@@ -244,71 +244,6 @@ const ALL_INVOKE_IDS: &str = "
   <read>
 ";
 
-/// Where invoke IDs begin at 200 the first asks take 200 and 201. From 199 on those that are held are passed over, but for another peer.
-const FROM_200: &str = "
-0 begin 200
-0 ask 2 0275 read 0:5 85
-  asked 0 id 200
-  sent 2 0275C80C_0C00000005_1955
-0 ask 2 0275 read 0:5 85
-  asked 1 id 201
-  sent 2 0275C90C_0C00000005_1955
-0 begin 199
-0 ask 2 0275 read 0:5 85
-  asked 2 id 199
-  sent 2 0275C70C_0C00000005_1955
-0 ask 2 0275 read 0:5 85
-  asked 3 id 202
-  sent 2 0275CA0C_0C00000005_1955
-0 ask 3 0275 read 0:5 85
-  asked 4 id 199
-  sent 3 0275C70C_0C00000005_1955
-";
-
-/// After 255 comes 0; what stands before the first one comes last. A restarted node begins where it did.
-const AROUND: &str = "
-0 begin 255
-0 ask 2 0275 read 0:5 85
-  asked 0 id 255
-  sent 2 0275FF0C_0C00000005_1955
-0 ask 2 0275 read 0:5 85
-  asked 1 id 0
-  <read>
-0 begin 254
-0 ask 2 0275 read 0:5 85
-  asked 2 id 254
-  sent 2 0275FE0C_0C00000005_1955
-0 ask 2 0275 read 0:5 85
-  asked 3 id 1
-  sent 2 0275010C_0C00000005_1955
-0 restart
-75001 ask 2 0275 read 0:5 85
-  asked 0 id 254
-  sent 2 0275FE0C_0C00000005_1955
-";
-
-/// Where all are held there is none, wherever they begin.
-const NONE_AROUND: &str = "
-0,1..255: 0 ask 2 0000 read 0:5 85
-  0,1..255: asked # id #|sent 2 0275@0C_0C00000005_1955
-0 begin 200
-0 ask 2 0000 read 0:5 85
-  refused 2
-0 begin 255
-0 ask 2 0000 read 0:5 85
-  refused 2
-135000 tick
-  0,1..255: ended # expired
-135000 ask 2 0000 read 0:5 85
-  refused 2
-135001 ask 2 0000 read 0:5 85
-  asked 256 id 255
-  sent 2 0275FF0C_0C00000005_1955
-135001 ask 2 0000 read 0:5 85
-  asked 257 id 0
-  <read>
-";
-
 /// Where no invoke ID and no slot is left, it is the invoke ID that is told; of another peer it is the slot.
 const INVOKE_ID_FIRST: &str = "
 0,1..255: 0 ask 2 0000 read 0:5 85
@@ -426,7 +361,7 @@ const TABLES: &[Table] = &[
         scene: HOUSE,
         names: NAMES,
         first: "",
-        scripts: &[WRITE, TICK_BY_KEYS, COUNTS, FROM_200, AROUND],
+        scripts: &[WRITE, TICK_BY_KEYS, COUNTS],
     },
     Table {
         scene: ONE_SLOT,
@@ -462,7 +397,7 @@ const TABLES: &[Table] = &[
         scene: SLOTS_1024,
         names: NAMES,
         first: "",
-        scripts: &[ALL_INVOKE_IDS, NONE_AROUND],
+        scripts: &[ALL_INVOKE_IDS],
     },
 ];
 
