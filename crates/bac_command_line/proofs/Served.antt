@@ -21,6 +21,7 @@ served_so IsOn IsClock store serving start restart address p turns before after 
     lifted s served (λ (no : ⊥). absurd no) (λ (no : ⊥). absurd no) reports where
       node_is : before.station.node ≡ server_node serving.slots (restart_of serving.restarted start) address store
       node_is = subst (λ (r : Option ℕ). before.station.node ≡ server_node serving.slots r address store) restarts node
+
       served : ServedText p turns before after old new → Serves store IsOn IsClock serving old new
       served text =
           record {

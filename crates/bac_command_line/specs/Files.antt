@@ -1,9 +1,9 @@
 -- What `check`, `explain` and `simulate` print of a file, and their statuses.
-use Rattle.std.specs.Prelude.{◌≡◌, ℕ, List, Option, ⊤}
+use Rattle.std.specs.Prelude.{◌≡◌, ℕ, Bool, List, Option, ⊤}
 use Rattle.bac_check.specs.Checked.{IsReportOf}
 use Rattle.bac_explain_text.specs.Explained as explained
 use Rattle.bac_text.specs.declared.status.Status.{Status}
-use Rattle.bac_simulate.specs.Runs.{Simulates}
+use Rattle.bac_simulate.specs.Runs.{SimulatesAs}
 use Rattle.bac_commands.specs.Statuses.{ByStatus}
 
 -- a file that was opened at a path, by the octets that it gives where those are known
@@ -36,5 +36,5 @@ abbrev pub IsExplainedFile : (IsAt : (path : List ℕ) → (content : Option (Li
 IsExplainedFile IsAt path also s old new = IsToldFile IsAt path s (λ content. explained.IsReportOf also content old new s)
 
 -- the events of the script in the file happened, all of them or up to the first that could not
-abbrev pub IsSimulatedFile : (IsAt : (path : List ℕ) → (content : Option (List ℕ)) → Type 0) → (path : List ℕ) → Status → (old new : Option (List ℕ)) → Type 0
-IsSimulatedFile IsAt path s old new = IsToldFile IsAt path s (λ content. Simulates content old new s)
+abbrev pub IsSimulatedFile : (IsAt : (path : List ℕ) → (content : Option (List ℕ)) → Type 0) → (notes : Bool) → (path : List ℕ) → Status → (old new : Option (List ℕ)) → Type 0
+IsSimulatedFile IsAt notes path s old new = IsToldFile IsAt path s (λ content. SimulatesAs notes content old new s)

@@ -1,4 +1,5 @@
 pub mod Files
+pub mod Lines
 pub mod Serving
 pub mod Online
 pub mod Stores

@@ -1,9 +1,9 @@
 -- What a command line asks for, and what the status of doing it says.
 use Rattle.std.specs.Prelude.{ℕ, List, Option, map}
 use Rattle.std.specs.Option.{option_map}
-use Rattle.bac_text.specs.Outcome.{IsDecoded}
 use Rattle.bac_text.specs.declared.status.Status.{Status}
 use Rattle.bac_command_line.specs.Files.{IsCheckedFile, IsExplainedFile, IsSimulatedFile}
+use Rattle.bac_command_line.specs.Lines.{AreCheckedLines, IsDecodedFrom}
 use Rattle.bac_command_line.specs.Stores.{IsAnsweredFrom, IsServedFrom}
 use Rattle.bac_command_line.specs.Online.{Clocks, IsAsked, IsPair, Links}
 use Rattle.bac_command_line.specs.declared.task.Task.{Task}
@@ -14,10 +14,11 @@ abbrev pub IsPerformed : (IsAt : (path : List ℕ) → (content : Option (List �
     → Links → Clocks → Task → Status → (old new : Option (List ℕ)) → Type 0
 IsPerformed IsAt IsOn IsClock (task.Answer datagram objects) s old new =
     IsAnsweredFrom IsAt (option_map (λ p. p.now) objects) datagram.now s old new
-IsPerformed IsAt IsOn IsClock (task.Decode datagram) s old new = IsDecoded datagram.now old new s
+IsPerformed IsAt IsOn IsClock (task.Decode in_words datagram) s old new = IsDecodedFrom IsAt in_words datagram.now s old new
 IsPerformed IsAt IsOn IsClock (task.Check path port) s old new = IsCheckedFile IsAt path.now port s old new
+IsPerformed IsAt IsOn IsClock (task.CheckLines path) s old new = AreCheckedLines IsAt path.now s old new
 IsPerformed IsAt IsOn IsClock (task.Explain path port) s old new = IsExplainedFile IsAt path.now port s old new
-IsPerformed IsAt IsOn IsClock (task.Simulate path) s old new = IsSimulatedFile IsAt path.now s old new
+IsPerformed IsAt IsOn IsClock (task.Simulate notes path) s old new = IsSimulatedFile IsAt notes path.now s old new
 IsPerformed IsAt IsOn IsClock (task.Serve serving objects) s old new =
     IsServedFrom IsAt (option_map (λ p. p.now) objects) IsOn IsClock s serving old new
 IsPerformed IsAt IsOn IsClock (task.Ask asking words) s old new = IsAsked IsOn IsClock s asking (map (λ w. w.now) words.now) old new

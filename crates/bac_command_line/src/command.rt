@@ -5,11 +5,12 @@ ghost use Rattle.bac_command_line.specs.Tasks.{IsPerformed};
 
 use crate::files::{OpenFiles, check, explain, simulate};
 use crate::grammar::matches;
+use crate::lines::{check_lines, decode};
 use crate::objects::{answer, serve};
 use crate::online;
 use crate::online::Machine;
 use crate::task::{Task, task_of};
-use bac_text::{Status, complain, decode_over, no_memory};
+use bac_text::{Status, complain, no_memory};
 use clap::ArgMatches;
 use clap::error::ErrorKind;
 use std::alloc::Global;
@@ -29,10 +30,13 @@ fn perform<F: OpenFiles, M: Machine, O: Write, E: Write>(
 {
     match task {
         Task::Answer { datagram, objects } => { answer(alloc, files, datagram, objects, out, err) }
-        Task::Decode(datagram) => decode_over(alloc, datagram, out, err),
+        Task::Decode { in_words, datagram } => {
+            decode(alloc, files, in_words, datagram, out, err)
+        }
         Task::Check { path, port } => check(alloc, files, path, port, out, err),
+        Task::CheckLines(path) => check_lines(alloc, files, path, out, err),
         Task::Explain { path, port } => explain(alloc, files, path, port, out, err),
-        Task::Simulate(path) => simulate(alloc, files, path, out, err),
+        Task::Simulate { notes, path } => simulate(alloc, files, notes, path, out, err),
         Task::Serve { serving, objects } => {
             serve(alloc, files, machine, &serving, objects, out, err)
         }

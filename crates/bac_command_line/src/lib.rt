@@ -3,9 +3,11 @@
 
 mod address;
 mod asking;
+mod bad_words;
 mod command;
 mod files;
 mod grammar;
+mod lines;
 mod objects;
 mod online;
 mod serving;

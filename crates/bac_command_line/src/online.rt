@@ -8,6 +8,7 @@ ghost use Rattle.bac_run.specs.Views.{question_view};
 
 use crate::address::LOCAL_HOST;
 use crate::asking::Asking;
+use crate::bad_words::tell_bad_words;
 use crate::serving::Serving;
 use bac_commands::{clock_fault, house_station, link_fault, read_question, server_station};
 use bac_link::{Clock, Link};
@@ -16,7 +17,7 @@ use bac_npdu::LinkAddress;
 use bac_run::{Question, Station};
 use bac_script::FormFault;
 use bac_store::Store;
-use bac_text::{Status, complain, no_memory};
+use bac_text::{Status, no_memory};
 use std::alloc::Global;
 use std::io::Write;
 
@@ -136,7 +137,7 @@ fn ask_on<L: Link, C: Clock, O: Write, E: Write>(
 }
 
 /// A node at any free port asks the one at an address; how that ended is printed, in words where that is wanted. Words that are no request: `bad words` on
-/// `err`.
+/// `err`, and in words which is bad.
 pub(crate) fn ask<M: Machine, O: Write, E: Write>(
     alloc: Global,
     machine: &M,
@@ -150,7 +151,12 @@ pub(crate) fn ask<M: Machine, O: Write, E: Write>(
 {
     let question = match question_in(alloc, asking.peer, words) {
         Ok(question) => question,
-        Err(FormFault::NoForm) => return complain(err, "bad words", Status::CommandLine),
+        Err(FormFault::NoForm) => {
+            return match tell_bad_words(alloc, asking.text, words, err) {
+                Ok(()) => Status::CommandLine,
+                Err(_) => no_memory(err),
+            };
+        }
         Err(FormFault::NoMemory) => return no_memory(err),
     };
     let Some(bound) = machine.bind(asking.host, 0) else {

@@ -10,20 +10,28 @@ pub(crate) enum Task<'m, 'a> {
         datagram: &'a str,
         objects: Option<&'a str>,
     },
-    /// The layers of this datagram.
-    Decode(&'a str),
+    /// The layers of this datagram, or of those on standard input; in words or not.
+    Decode {
+        in_words: bool,
+        datagram: &'a str,
+    },
     /// What is bad of the capture in this file, with a port beside those of BACnet/IP.
     Check {
         path: &'a str,
         port: Option<u16>,
     },
+    /// The bad lines of the capture in this file, which has notes.
+    CheckLines(&'a str),
     /// The transactions of the capture in this file, with such a port.
     Explain {
         path: &'a str,
         port: Option<u16>,
     },
-    /// The script in this file.
-    Simulate(&'a str),
+    /// The script in this file, with notes or without.
+    Simulate {
+        notes: bool,
+        path: &'a str,
+    },
     /// A node that serves so, with the house or the objects in this file.
     Serve {
         serving: Serving,
@@ -46,7 +54,14 @@ pub(crate) fn task_of<'m, 'a>(matches: &'m ArgMatches<'a>) -> Option<Task<'m, 'a
             let objects = given.get_str("objects");
             Some(Task::Answer { datagram, objects })
         }
-        ("decode", given) => Some(Task::Decode(given.get_str("HEX")?)),
+        ("decode", given) => {
+            let datagram = given.get_str("HEX")?;
+            let in_words = given.get_flag("text");
+            Some(Task::Decode { in_words, datagram })
+        }
+        ("check", given) if given.get_flag("notes") => {
+            Some(Task::CheckLines(given.get_str("FILE")?))
+        }
         ("check", given) => {
             let path = given.get_str("FILE")?;
             let port = given.get_one("port");
@@ -57,7 +72,11 @@ pub(crate) fn task_of<'m, 'a>(matches: &'m ArgMatches<'a>) -> Option<Task<'m, 'a
             let port = given.get_one("port");
             Some(Task::Explain { path, port })
         }
-        ("simulate", given) => Some(Task::Simulate(given.get_str("FILE")?)),
+        ("simulate", given) => {
+            let path = given.get_str("FILE")?;
+            let notes = given.get_flag("notes");
+            Some(Task::Simulate { notes, path })
+        }
         ("serve", given) => {
             let serving = serving_of(given)?;
             let objects = given.get_str("objects");

@@ -1,0 +1,37 @@
+//! What is told of words that are no request.
+use bac_script::bad_word;
+use std::alloc::{AllocError, Global};
+use std::io::Write;
+
+/// `bad words`, and which is bad and what was wanted.
+fn bad_words_text(alloc: Global, words: &[&str]) -> Result<Vec<u8>, AllocError> {
+    let mut octets = Vec::new(alloc);
+    for word in words {
+        octets.push(word.as_bytes())?;
+    }
+    let mut text = Vec::from_slice(alloc, b"bad words")?;
+    if let Some(bad) = bad_word(alloc, &octets)? {
+        text.extend_from_slice(b": ")?;
+        text.extend_from_slice(bad.text(alloc)?.as_slice())?;
+    }
+    text.push(b'\n')?;
+    Ok(text)
+}
+
+/// Complains of words that are no request: `bad words`, and where the text is wanted in words which is bad and what was wanted. An Err says that memory
+/// was refused.
+pub(crate) fn tell_bad_words<E: Write>(
+    alloc: Global,
+    in_words: bool,
+    words: &[&str],
+    err: &mut E,
+) -> Result<(), AllocError> {
+    if in_words {
+        let text = bad_words_text(alloc, words)?;
+        // where even that fails, the status alone tells
+        let _ = err.write_all(&text);
+    } else {
+        let _ = err.writeln("bad words");
+    }
+    Ok(())
+}

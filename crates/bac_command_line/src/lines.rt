@@ -1,0 +1,71 @@
+//! Files of lines: datagrams, captures with notes and scripts with notes. The path `-` is standard input.
+ghost use Rattle.std.specs.Str.{bytes_eq};
+ghost use Rattle.bac_command_line.specs.Files.{OnFile};
+ghost use Rattle.bac_command_line.specs.Lines.{AreCheckedLines, AreDecodedLines, IsDecodedFrom};
+
+use crate::files::{OpenFiles, opened};
+use bac_text::{Status, check_lines_over, decode_lines_over, decode_text_over, no_memory};
+use std::alloc::Global;
+use std::io::{BufReader, Write};
+
+/// What stands for standard input in the place of a datagram.
+const STANDARD_INPUT: &str = "-";
+
+/// The layers of the datagrams in a file, one on each line, in words or not. A file that cannot be opened: `cannot read` on `err`.
+fn decode_lines<F: OpenFiles, O: Write, E: Write>(
+    alloc: Global,
+    files: &F,
+    in_words: bool,
+    path: &str,
+    out: &mut O,
+    err: &mut E,
+) -> Status
+    ensures { AreDecodedLines (OnFile F.is_file F.File.remaining) in_words path.now result (O.contents out.old) (O.contents out.new) }
+{
+    let file = match opened(files, path, err) {
+        Ok(file) => file,
+        Err(status) => return status,
+    };
+    match BufReader::new(alloc, file) {
+        Ok(mut input) => decode_lines_over(alloc, in_words, &mut input, out, err),
+        Err(_) => no_memory(err),
+    }
+}
+
+/// The layers of a datagram, or where `-` stands in its place of those on standard input, one on each line; in words or not.
+pub(crate) fn decode<F: OpenFiles, O: Write, E: Write>(
+    alloc: Global,
+    files: &F,
+    in_words: bool,
+    datagram: &str,
+    out: &mut O,
+    err: &mut E,
+) -> Status
+    ensures { IsDecodedFrom (OnFile F.is_file F.File.remaining) in_words datagram.now result (O.contents out.old) (O.contents out.new) }
+{
+    if datagram == STANDARD_INPUT {
+        decode_lines(alloc, files, in_words, datagram, out, err)
+    } else {
+        decode_text_over(alloc, in_words, datagram, out, err)
+    }
+}
+
+/// Checks the capture of lines and notes in a file. A file that cannot be opened: `cannot read` on `err`.
+pub(crate) fn check_lines<F: OpenFiles, O: Write, E: Write>(
+    alloc: Global,
+    files: &F,
+    path: &str,
+    out: &mut O,
+    err: &mut E,
+) -> Status
+    ensures { AreCheckedLines (OnFile F.is_file F.File.remaining) path.now result (O.contents out.old) (O.contents out.new) }
+{
+    let file = match opened(files, path, err) {
+        Ok(file) => file,
+        Err(status) => return status,
+    };
+    match BufReader::new(alloc, file) {
+        Ok(mut input) => check_lines_over(alloc, true, &mut input, out, err),
+        Err(_) => no_memory(err),
+    }
+}
