@@ -21,6 +21,8 @@ fn bare_object(alloc: Global, object_type: u16, instance: u32, name: &[u8]) -> R
     ensures bare { IfOk result (λ o. object_view o ≡ bare object_type instance name.now) }
     ensures bad { IsErrOf result Fault.BadObject ↔ (can_list object_type instance name.now ≡ false) }
     ensures few { IsTrue (is_one_of LISTING (status_of result)) }
+    ensures started { IsErrOf result Fault.AlreadyStarted → ⊥ }
+    ensures open { IsErrOf result Fault.NotOpen → ⊥ }
 {
     let Some(id) = identifier_of(object_type, instance) else {
         return Err(Fault::BadObject);

@@ -36,6 +36,9 @@ fn value_out(
     ensures property { IsErrOf result Fault.NoSuchProperty ↔ LacksProperty (property_reference_view reference) store.now }
     ensures memory { IsErrOf result Fault.NoMemory → OfValues (λ octets. 1 ≤ length octets) (property_reference_view reference) store.now }
     ensures few { IsTrue (is_one_of READING (status_of result)) }
+    ensures idle { IsErrOf result Fault.NotStarted → ⊥ }
+    ensures bad { IsErrOf result Fault.BadRequest → ⊥ }
+    ensures open { IsErrOf result Fault.NotOpen → ⊥ }
 {
     let Ok(plan) = store.prepare(alloc, &AnyRequest::ReadProperty(reference)) else {
         return Err(Fault::NoMemory);
@@ -48,7 +51,7 @@ fn value_out(
 }
 
 /// Copies all octets of a file out: how many they are.
-#[tactic(auto, using(crate::proofs::Files::file_held, crate::proofs::Files::file_told))]
+#[tactic(auto, using(crate::proofs::Files::file_held))]
 fn file_out(
     alloc: Global,
     store: &Store,
@@ -59,6 +62,9 @@ fn file_out(
     ensures object { IsErrOf result Fault.NoSuchObject ↔ LacksFile (object_identifier_view file) store.now }
     ensures memory { IsErrOf result Fault.NoMemory → OfFile (λ octets. 1 ≤ length octets) (object_identifier_view file) store.now }
     ensures few { IsTrue (is_one_of FILE_READING (status_of result)) }
+    ensures idle { IsErrOf result Fault.NotStarted → ⊥ }
+    ensures bad { IsErrOf result Fault.BadRequest → ⊥ }
+    ensures open { IsErrOf result Fault.NotOpen → ⊥ }
 {
     let read = ReadFile {
         file,
