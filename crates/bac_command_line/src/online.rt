@@ -17,7 +17,7 @@ use bac_npdu::LinkAddress;
 use bac_run::{Question, Station};
 use bac_script::FormFault;
 use bac_store::Store;
-use bac_text::{Status, no_memory};
+use bac_text::{Status, complain, no_memory};
 use std::alloc::Global;
 use std::io::Write;
 
