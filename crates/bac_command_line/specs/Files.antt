@@ -1,6 +1,7 @@
--- What `check` and `simulate` print of a file, and their statuses.
-use Rattle.std.specs.Prelude.{◌≡◌, ℕ, List, Option, None, ⊤}
+-- What `check`, `explain` and `simulate` print of a file, and their statuses.
+use Rattle.std.specs.Prelude.{◌≡◌, ℕ, List, Option, ⊤}
 use Rattle.bac_check.specs.Checked.{IsReportOf}
+use Rattle.bac_explain_text.specs.Explained as explained
 use Rattle.bac_text.specs.declared.status.Status.{Status}
 use Rattle.bac_simulate.specs.Runs.{Simulates}
 use Rattle.bac_commands.specs.Statuses.{ByStatus}
@@ -20,12 +21,20 @@ pub record OfFile (IsAt : (path : List ℕ) → (content : Option (List ℕ)) �
   pub at : IsAt path content
   pub says : Says content
 
--- the capture in the file was checked to its end
-abbrev pub IsCheckedFile : (IsAt : (path : List ℕ) → (content : Option (List ℕ)) → Type 0) → (path : List ℕ) → Status → (old new : Option (List ℕ)) → Type 0
-IsCheckedFile IsAt path s old new =
-    ByStatus s (OfFile IsAt path (λ content. IsReportOf None content old new s)) (OfFile IsAt path (λ content. IsReportOf None content old new s)) ⊤
+-- the same where the command ended with 0 or 1
+abbrev pub IsToldFile : (IsAt : (path : List ℕ) → (content : Option (List ℕ)) → Type 0) → (path : List ℕ) → Status → (Says : Option (List ℕ) → Type 0) → Type 0
+IsToldFile IsAt path s Says = ByStatus s (OfFile IsAt path Says) (OfFile IsAt path Says) ⊤
+
+-- the capture in the file was checked to its end; there is a port beside those of BACnet/IP, or none
+abbrev pub IsCheckedFile : (IsAt : (path : List ℕ) → (content : Option (List ℕ)) → Type 0) → (path : List ℕ) → (also : Option ℕ) → Status
+    → (old new : Option (List ℕ)) → Type 0
+IsCheckedFile IsAt path also s old new = IsToldFile IsAt path s (λ content. IsReportOf also content old new s)
+
+-- the capture in the file was explained to its end
+abbrev pub IsExplainedFile : (IsAt : (path : List ℕ) → (content : Option (List ℕ)) → Type 0) → (path : List ℕ) → (also : Option ℕ) → Status
+    → (old new : Option (List ℕ)) → Type 0
+IsExplainedFile IsAt path also s old new = IsToldFile IsAt path s (λ content. explained.IsReportOf also content old new s)
 
 -- the events of the script in the file happened, all of them or up to the first that could not
 abbrev pub IsSimulatedFile : (IsAt : (path : List ℕ) → (content : Option (List ℕ)) → Type 0) → (path : List ℕ) → Status → (old new : Option (List ℕ)) → Type 0
-IsSimulatedFile IsAt path s old new =
-    ByStatus s (OfFile IsAt path (λ content. Simulates content old new s)) (OfFile IsAt path (λ content. Simulates content old new s)) ⊤
+IsSimulatedFile IsAt path s old new = IsToldFile IsAt path s (λ content. Simulates content old new s)

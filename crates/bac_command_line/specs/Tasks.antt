@@ -6,7 +6,7 @@ use Rattle.bac_link.specs.Calls.{Calls}
 use Rattle.bac_link.specs.Moments.{Told}
 use Rattle.bac_text.specs.Outcome.{IsDecoded}
 use Rattle.bac_text.specs.declared.status.Status.{Status}
-use Rattle.bac_command_line.specs.Files.{IsCheckedFile, IsSimulatedFile}
+use Rattle.bac_command_line.specs.Files.{IsCheckedFile, IsExplainedFile, IsSimulatedFile}
 use Rattle.bac_command_line.specs.Stores.{IsAnsweredFrom, IsServedFrom}
 use Rattle.bac_command_line.specs.Online.{IsAsked, IsPair}
 use Rattle.bac_command_line.specs.declared.task.Task.{Task}
@@ -19,7 +19,8 @@ abbrev pub IsPerformed : (IsAt : (path : List ℕ) → (content : Option (List �
 IsPerformed IsAt IsOn IsClock (task.Answer datagram objects) s old new =
     IsAnsweredFrom IsAt (option_map (λ p. p.now) objects) datagram.now s old new
 IsPerformed IsAt IsOn IsClock (task.Decode datagram) s old new = IsDecoded datagram.now old new s
-IsPerformed IsAt IsOn IsClock (task.Check path) s old new = IsCheckedFile IsAt path.now s old new
+IsPerformed IsAt IsOn IsClock (task.Check path port) s old new = IsCheckedFile IsAt path.now port s old new
+IsPerformed IsAt IsOn IsClock (task.Explain path port) s old new = IsExplainedFile IsAt path.now port s old new
 IsPerformed IsAt IsOn IsClock (task.Simulate path) s old new = IsSimulatedFile IsAt path.now s old new
 IsPerformed IsAt IsOn IsClock (task.Serve port turns objects) s old new =
     IsServedFrom IsAt (option_map (λ p. p.now) objects) IsOn IsClock s port turns old new

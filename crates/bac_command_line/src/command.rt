@@ -3,7 +3,7 @@ ghost use Rattle.bac_command_line.specs.Files.{OnFile};
 ghost use Rattle.bac_command_line.specs.Online.{OnClock, OnPort};
 ghost use Rattle.bac_command_line.specs.Tasks.{IsPerformed};
 
-use crate::files::{OpenFiles, check, simulate};
+use crate::files::{OpenFiles, check, explain, simulate};
 use crate::grammar::matches;
 use crate::objects::{answer, serve};
 use crate::online;
@@ -29,7 +29,8 @@ fn perform<F: OpenFiles, M: Machine, O: Write, E: Write>(
     match task {
         Task::Answer { datagram, objects } => { answer(alloc, files, datagram, objects, out, err) }
         Task::Decode(datagram) => decode_over(alloc, datagram, out, err),
-        Task::Check(path) => check(alloc, files, path, out, err),
+        Task::Check { path, port } => check(alloc, files, path, port, out, err),
+        Task::Explain { path, port } => explain(alloc, files, path, port, out, err),
         Task::Simulate(path) => simulate(alloc, files, path, out, err),
         Task::Serve {
             port,

@@ -1,9 +1,10 @@
-//! Files that a command line names: what `check` and `simulate` do.
+//! Files that a command line names: what `check`, `explain` and `simulate` do.
 ghost use Rattle.std.specs.Prelude.{◌≡◌, ℕ, List, IfOk, IfErr};
 ghost use Rattle.bac_text.specs.Statuses.{IsStop};
-ghost use Rattle.bac_command_line.specs.Files.{IsCheckedFile, IsSimulatedFile, OnFile};
+ghost use Rattle.bac_command_line.specs.Files.{IsCheckedFile, IsExplainedFile, IsSimulatedFile, OnFile};
 
 use bac_check::{Ports, check_capture_over};
+use bac_explain_text::explain_over;
 use bac_simulate::simulate_over;
 use bac_text::{Status, complain, no_memory};
 use std::alloc::Global;
@@ -37,22 +38,45 @@ pub(crate) fn opened<F: OpenFiles, E: Write>(
     }
 }
 
-/// Checks the capture in a file: one of pcap or pcapng, or of lines. A file that cannot be opened: `cannot read` on `err`.
+/// Checks the capture in a file: one of pcap or pcapng, or of lines; with a port beside those of BACnet/IP. A file that cannot be opened: `cannot read` on `err`.
 pub(crate) fn check<F: OpenFiles, O: Write, E: Write>(
     alloc: Global,
     files: &F,
     path: &str,
+    port: Option<u16>,
     out: &mut O,
     err: &mut E,
 ) -> Status
-    ensures { IsCheckedFile (OnFile F.is_file F.File.remaining) path.now result (O.contents out.old) (O.contents out.new) }
+    ensures { IsCheckedFile (OnFile F.is_file F.File.remaining) path.now port result (O.contents out.old) (O.contents out.new) }
 {
     let file = match opened(files, path, err) {
         Ok(file) => file,
         Err(status) => return status,
     };
     match BufReader::new(alloc, file) {
-        Ok(mut input) => check_capture_over(alloc, &mut input, Ports { also: None }, out, err),
+        Ok(mut input) => check_capture_over(alloc, &mut input, Ports { also: port }, out, err),
+        Err(_) => no_memory(err),
+    }
+}
+
+/// Explains the capture in a file of pcap or pcapng; with a port beside those of BACnet/IP. A file that cannot be opened:
+/// `cannot read` on `err`.
+pub(crate) fn explain<F: OpenFiles, O: Write, E: Write>(
+    alloc: Global,
+    files: &F,
+    path: &str,
+    port: Option<u16>,
+    out: &mut O,
+    err: &mut E,
+) -> Status
+    ensures { IsExplainedFile (OnFile F.is_file F.File.remaining) path.now port result (O.contents out.old) (O.contents out.new) }
+{
+    let file = match opened(files, path, err) {
+        Ok(file) => file,
+        Err(status) => return status,
+    };
+    match BufReader::new(alloc, file) {
+        Ok(mut input) => explain_over(alloc, &mut input, Ports { also: port }, out, err),
         Err(_) => no_memory(err),
     }
 }

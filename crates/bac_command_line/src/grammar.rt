@@ -35,6 +35,47 @@ fn port<'a>(alloc: Global, help: &'a str) -> Arg<'a> {
     number(alloc, "port", "P", 65_535, help)
 }
 
+/// A port beside those of BACnet/IP.
+fn other_port<'a>(alloc: Global) -> Arg<'a> {
+    Arg::new(alloc, "port")
+        .long("port")
+        .action(ArgAction::Set)
+        .value_name("P")
+        .value_parser(ValueParser::unsigned(1, 65_535))
+        .help("A UDP port that carries BACnet/IP beside 47808 to 47823")
+}
+
+/// Captures that may be checked.
+const CHECK_EXAMPLES: &str = "\
+Example: bac check capture.txt
+Example: bac check capture.pcapng";
+
+fn check_command<'a>(alloc: Global) -> Result<Command<'a>, clap::Error> {
+    let check = Command::new(alloc, "check")
+        .about(
+            "Prints the bad frames of a file of pcap or pcapng, or the bad lines of a capture, and how many are good",
+        )
+        .after_help(CHECK_EXAMPLES)
+        .arg(word(
+            alloc,
+            "FILE",
+            "The capture: pcap, pcapng, or lines `moment from to hex`",
+        ))?
+        .arg(other_port(alloc))?;
+    Ok(check)
+}
+
+fn explain_command<'a>(alloc: Global) -> Result<Command<'a>, clap::Error> {
+    let explain = Command::new(alloc, "explain")
+        .about(
+            "Prints the transactions of a file of pcap or pcapng, how they ended, and what was wrong with their datagrams",
+        )
+        .after_help("Example: bac explain capture.pcapng")
+        .arg(word(alloc, "FILE", "The capture: pcap or pcapng"))?
+        .arg(other_port(alloc))?;
+    Ok(explain)
+}
+
 /// What the lines of a script are.
 const LINES_HELP: &str = "\
 The first line of a script sets the network: `nodes N`, or `nodes N window W overtake V`
@@ -140,16 +181,13 @@ fn command<'a>(alloc: Global) -> Result<Command<'a>, clap::Error> {
         .about("Prints the layers of a datagram, one a line, up to the first that has a fault")
         .after_help("Example: bac decode 810A000801001013")
         .arg(word(alloc, "HEX", "The datagram, in hexadecimal"))?;
-    let check = Command::new(alloc, "check")
-        .about("Prints the bad lines of a capture, and how many are good")
-        .after_help("Example: bac check capture.txt")
-        .arg(word(alloc, "FILE", "The capture: lines `moment from to hex`"))?;
     let bac = Command::new(alloc, "bac")
         .about("BACnet confirmed services, proved")
         .subcommand_required(true)
         .subcommand(answer)?
         .subcommand(decode)?
-        .subcommand(check)?
+        .subcommand(check_command(alloc)?)?
+        .subcommand(explain_command(alloc)?)?
         .subcommand(simulate_command(alloc)?)?
         .subcommand(serve_command(alloc)?)?
         .subcommand(ask_command(alloc)?)?

@@ -10,8 +10,16 @@ pub(crate) enum Task<'m, 'a> {
     },
     /// The layers of this datagram.
     Decode(&'a str),
-    /// The bad lines of the capture in this file.
-    Check(&'a str),
+    /// What is bad of the capture in this file, with a port beside those of BACnet/IP.
+    Check {
+        path: &'a str,
+        port: Option<u16>,
+    },
+    /// The transactions of the capture in this file, with such a port.
+    Explain {
+        path: &'a str,
+        port: Option<u16>,
+    },
     /// The script in this file.
     Simulate(&'a str),
     /// So many turns at a port, with the house or the objects in this file.
@@ -51,7 +59,16 @@ pub(crate) fn task_of<'m, 'a>(matches: &'m ArgMatches<'a>) -> Option<Task<'m, 'a
             Some(Task::Answer { datagram, objects })
         }
         ("decode", given) => Some(Task::Decode(given.get_str("HEX")?)),
-        ("check", given) => Some(Task::Check(given.get_str("FILE")?)),
+        ("check", given) => {
+            let path = given.get_str("FILE")?;
+            let port = given.get_one("port");
+            Some(Task::Check { path, port })
+        }
+        ("explain", given) => {
+            let path = given.get_str("FILE")?;
+            let port = given.get_one("port");
+            Some(Task::Explain { path, port })
+        }
         ("simulate", given) => Some(Task::Simulate(given.get_str("FILE")?)),
         ("serve", given) => {
             let (port, turns) = serve_of(given)?;

@@ -1,4 +1,4 @@
-//! What `check` and `simulate` print of a file, and what `answer` and `serve` print with the objects of one.
+//! What `check`, `explain` and `simulate` print of a file, and what `answer` and `serve` print with the objects of one.
 use super::*;
 
 /// The text of the file, a command line, and its ending.
@@ -93,6 +93,60 @@ lines=9 good=1 bad=8
 #[test]
 fn checks_captures(rt: HostRuntime) -> Result<(), Fail> {
     all_end_so(rt.alloc(), CAPTURES)
+}
+
+/// A file of pcapng without a frame.
+const NO_FRAME: &str = "\n\r\r\n\0\0\0\x1C\x1A+<M\0\x01\0\0\0\0\0\0\0\0\0\0\0\0\0\x1C";
+
+/// A capture file, one that is none, and files that fail.
+const EXPLAINED: &[FileRow] = &[
+    (
+        NO_FRAME,
+        "explain capture",
+        (
+            "transactions=0 answered=0 rejected=0 aborted=0 unanswered=0 slowest=- findings=0 frames=0 unread=0\n",
+            "",
+            0,
+        ),
+    ),
+    (
+        NO_FRAME,
+        "explain capture --port 47824",
+        (
+            "transactions=0 answered=0 rejected=0 aborted=0 unanswered=0 slowest=- findings=0 frames=0 unread=0\n",
+            "",
+            0,
+        ),
+    ),
+    (
+        "\n\r\r\n\0\0",
+        "explain capture",
+        (
+            "\
+frame 1: file ends early
+transactions=0 answered=0 rejected=0 aborted=0 unanswered=0 slowest=- findings=0 frames=1 unread=1
+",
+            "",
+            1,
+        ),
+    ),
+    (
+        NO_FRAME,
+        "check capture --port 47824",
+        ("frames=0 good=0 bad=0 other=0\n", "", 0),
+    ),
+    ("x\n", "explain capture", ("", "no capture file\n", 2)),
+    ("", "explain capture", ("", "no capture file\n", 2)),
+    ("", "explain missing", ("", "cannot read\n", 2)),
+    ("", "explain starved", ("", "no memory\n", 4)),
+    (NO_FRAME, "explain broken", ("", "cannot read\n", 2)),
+    (NO_FRAME, "explain starving", ("", "no memory\n", 4)),
+    ("x\n", "explain broken", ("", "cannot read\n", 2)),
+];
+
+#[test]
+fn explains_captures(rt: HostRuntime) -> Result<(), Fail> {
+    all_end_so(rt.alloc(), EXPLAINED)
 }
 
 /// Scripts: one event, one that could not happen, a line of no form; files that can't be opened, and files that fail where their text ends.
