@@ -154,7 +154,7 @@ Example: bac serve --port 47808 --at 192.168.1.20 --restarted
 Example: bac serve --port 47808 --turns 600";
 
 /// How long it serves.
-fn span<'a>(alloc: Global) -> [Arg<'a>; 2] {
+fn span<'a>(alloc: Global) -> (Arg<'a>, Arg<'a>) {
     let turns = number(
         alloc,
         "turns",
@@ -169,11 +169,11 @@ fn span<'a>(alloc: Global) -> [Arg<'a>; 2] {
         1_000_000_000,
         "After how many seconds it ends, 1 to 1000000000",
     );
-    [turns.required(false), seconds.required(false)]
+    (turns.required(false), seconds.required(false))
 }
 
 /// What its node has.
-fn setting<'a>(alloc: Global) -> [Arg<'a>; 3] {
+fn setting<'a>(alloc: Global) -> (Arg<'a>, Arg<'a>, Arg<'a>) {
     let at = Arg::new(alloc, "at")
         .long("at")
         .action(ArgAction::Set)
@@ -194,12 +194,12 @@ fn setting<'a>(alloc: Global) -> [Arg<'a>; 3] {
         .help(
             "It served before, and has lost what it remembered: it turns new requests away for 65 seconds, so that none is performed twice",
         );
-    [at, slots.required(false), restarted]
+    (at, slots.required(false), restarted)
 }
 
 fn serve_command<'a>(alloc: Global) -> Result<Command<'a>, clap::Error> {
-    let [turns, seconds] = span(alloc);
-    let [at, slots, restarted] = setting(alloc);
+    let (turns, seconds) = span(alloc);
+    let (at, slots, restarted) = setting(alloc);
     let serve = Command::new(alloc, "serve")
         .about("Serves a house over UDP on 127.0.0.1, and prints how many requests it performed")
         .after_help(SERVE_EXAMPLES)
@@ -233,7 +233,7 @@ Example: bac ask --to 192.168.1.20 write analog-value:1 present-value real:72.5 
 Example: bac ask --port 47808 -- put 10:1 -1 AA";
 
 /// Who is asked: a port of this machine, or an address.
-fn peer<'a>(alloc: Global) -> Result<[Arg<'a>; 2], clap::Error> {
+fn peer<'a>(alloc: Global) -> Result<(Arg<'a>, Arg<'a>), clap::Error> {
     let port = port(alloc, "The UDP port of the node that is asked, 1 to 65535")
         .required(false)
         .required_unless_present("to")?;
@@ -245,7 +245,7 @@ fn peer<'a>(alloc: Global) -> Result<[Arg<'a>; 2], clap::Error> {
         .help(
             "The IPv4 address of the node that is asked, and its UDP port, 47808 where there is none",
         );
-    Ok([port, to])
+    Ok((port, to))
 }
 
 fn ask_command<'a>(alloc: Global) -> Result<Command<'a>, clap::Error> {
@@ -263,7 +263,7 @@ fn ask_command<'a>(alloc: Global) -> Result<Command<'a>, clap::Error> {
         .long("fail")
         .action(ArgAction::SetTrue)
         .help("Ends with status 1 also where the answer is an Error");
-    let [port, to] = peer(alloc)?;
+    let (port, to) = peer(alloc)?;
     let ask = Command::new(alloc, "ask")
         .about("Asks the node at a UDP port of 127.0.0.1, and prints how that ended")
         .before_help(FORMS_HELP)
