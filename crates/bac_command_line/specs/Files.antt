@@ -1,8 +1,8 @@
 -- What `check` and `simulate` print of a file, and their statuses.
-use Rattle.std.specs.Prelude.{◌≡◌, ℕ, Bool, List, Option, None, ⊤}
+use Rattle.std.specs.Prelude.{◌≡◌, ℕ, List, Option, None, ⊤}
 use Rattle.bac_check.specs.Checked.{IsReportOf}
 use Rattle.bac_text.specs.declared.status.Status.{Status}
-use Rattle.bac_simulate.specs.Runs.{SimulatesAs}
+use Rattle.bac_simulate.specs.Runs.{Simulates}
 use Rattle.bac_commands.specs.Statuses.{ByStatus}
 
 -- a file that was opened at a path, by the octets that it gives where those are known
@@ -20,14 +20,12 @@ pub record OfFile (IsAt : (path : List ℕ) → (content : Option (List ℕ)) �
   pub at : IsAt path content
   pub says : Says content
 
--- the same where the command ended with 0 or 1
-abbrev pub IsToldFile : (IsAt : (path : List ℕ) → (content : Option (List ℕ)) → Type 0) → (path : List ℕ) → Status → (Says : Option (List ℕ) → Type 0) → Type 0
-IsToldFile IsAt path s Says = ByStatus s (OfFile IsAt path Says) (OfFile IsAt path Says) ⊤
-
 -- the capture in the file was checked to its end
 abbrev pub IsCheckedFile : (IsAt : (path : List ℕ) → (content : Option (List ℕ)) → Type 0) → (path : List ℕ) → Status → (old new : Option (List ℕ)) → Type 0
-IsCheckedFile IsAt path s old new = IsToldFile IsAt path s (λ content. IsReportOf None content old new s)
+IsCheckedFile IsAt path s old new =
+    ByStatus s (OfFile IsAt path (λ content. IsReportOf None content old new s)) (OfFile IsAt path (λ content. IsReportOf None content old new s)) ⊤
 
 -- the events of the script in the file happened, all of them or up to the first that could not
-abbrev pub IsSimulatedFile : (IsAt : (path : List ℕ) → (content : Option (List ℕ)) → Type 0) → (notes : Bool) → (path : List ℕ) → Status → (old new : Option (List ℕ)) → Type 0
-IsSimulatedFile IsAt notes path s old new = IsToldFile IsAt path s (λ content. SimulatesAs notes content old new s)
+abbrev pub IsSimulatedFile : (IsAt : (path : List ℕ) → (content : Option (List ℕ)) → Type 0) → (path : List ℕ) → Status → (old new : Option (List ℕ)) → Type 0
+IsSimulatedFile IsAt path s old new =
+    ByStatus s (OfFile IsAt path (λ content. Simulates content old new s)) (OfFile IsAt path (λ content. Simulates content old new s)) ⊤

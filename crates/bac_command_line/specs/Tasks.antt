@@ -4,9 +4,9 @@ use Rattle.std.specs.Option.{option_map}
 use Rattle.bac_protocol.specs.Service.{Octets}
 use Rattle.bac_link.specs.Calls.{Calls}
 use Rattle.bac_link.specs.Moments.{Told}
+use Rattle.bac_text.specs.Outcome.{IsDecoded}
 use Rattle.bac_text.specs.declared.status.Status.{Status}
 use Rattle.bac_command_line.specs.Files.{IsCheckedFile, IsSimulatedFile}
-use Rattle.bac_command_line.specs.Lines.{AreCheckedLines, IsDecodedFrom}
 use Rattle.bac_command_line.specs.Stores.{IsAnsweredFrom, IsServedFrom}
 use Rattle.bac_command_line.specs.Online.{IsAsked, IsPair}
 use Rattle.bac_command_line.specs.declared.task.Task.{Task}
@@ -18,10 +18,9 @@ abbrev pub IsPerformed : (IsAt : (path : List ℕ) → (content : Option (List �
     → (old new : Option (List ℕ)) → Type 0
 IsPerformed IsAt IsOn IsClock (task.Answer datagram objects) s old new =
     IsAnsweredFrom IsAt (option_map (λ p. p.now) objects) datagram.now s old new
-IsPerformed IsAt IsOn IsClock (task.Decode in_words datagram) s old new = IsDecodedFrom IsAt in_words datagram.now s old new
+IsPerformed IsAt IsOn IsClock (task.Decode datagram) s old new = IsDecoded datagram.now old new s
 IsPerformed IsAt IsOn IsClock (task.Check path) s old new = IsCheckedFile IsAt path.now s old new
-IsPerformed IsAt IsOn IsClock (task.CheckLines path) s old new = AreCheckedLines IsAt path.now s old new
-IsPerformed IsAt IsOn IsClock (task.Simulate notes path) s old new = IsSimulatedFile IsAt notes path.now s old new
+IsPerformed IsAt IsOn IsClock (task.Simulate path) s old new = IsSimulatedFile IsAt path.now s old new
 IsPerformed IsAt IsOn IsClock (task.Serve port turns objects) s old new =
     IsServedFrom IsAt (option_map (λ p. p.now) objects) IsOn IsClock s port turns old new
 IsPerformed IsAt IsOn IsClock (task.Ask text port words) s old new = IsAsked IsOn IsClock s text port (map (λ w. w.now) words.now) old new

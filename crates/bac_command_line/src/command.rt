@@ -5,12 +5,11 @@ ghost use Rattle.bac_command_line.specs.Tasks.{IsPerformed};
 
 use crate::files::{OpenFiles, check, simulate};
 use crate::grammar::matches;
-use crate::lines::{check_lines, decode};
 use crate::objects::{answer, serve};
 use crate::online;
 use crate::online::Machine;
 use crate::task::{Task, task_of};
-use bac_text::{Status, complain, no_memory};
+use bac_text::{Status, complain, decode_over, no_memory};
 use clap::error::ErrorKind;
 use std::alloc::Global;
 use std::io::Write;
@@ -29,12 +28,9 @@ fn perform<F: OpenFiles, M: Machine, O: Write, E: Write>(
 {
     match task {
         Task::Answer { datagram, objects } => { answer(alloc, files, datagram, objects, out, err) }
-        Task::Decode { in_words, datagram } => {
-            decode(alloc, files, in_words, datagram, out, err)
-        }
+        Task::Decode(datagram) => decode_over(alloc, datagram, out, err),
         Task::Check(path) => check(alloc, files, path, out, err),
-        Task::CheckLines(path) => check_lines(alloc, files, path, out, err),
-        Task::Simulate { notes, path } => simulate(alloc, files, notes, path, out, err),
+        Task::Simulate(path) => simulate(alloc, files, path, out, err),
         Task::Serve {
             port,
             turns,

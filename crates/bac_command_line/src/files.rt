@@ -4,7 +4,7 @@ ghost use Rattle.bac_text.specs.Statuses.{IsStop};
 ghost use Rattle.bac_command_line.specs.Files.{IsCheckedFile, IsSimulatedFile, OnFile};
 
 use bac_check::{Ports, check_capture_over};
-use bac_simulate::simulate_lines_over;
+use bac_simulate::simulate_over;
 use bac_text::{Status, complain, no_memory};
 use std::alloc::Global;
 use std::io;
@@ -57,19 +57,18 @@ pub(crate) fn check<F: OpenFiles, O: Write, E: Write>(
     }
 }
 
-/// Runs the script in a file, with notes or without. A file that cannot be opened: `cannot read` on `err`.
+/// Runs the script in a file. A file that cannot be opened: `cannot read` on `err`.
 pub(crate) fn simulate<F: OpenFiles, O: Write, E: Write>(
     alloc: Global,
     files: &F,
-    notes: bool,
     path: &str,
     out: &mut O,
     err: &mut E,
 ) -> Status
-    ensures { IsSimulatedFile (OnFile F.is_file F.File.remaining) notes path.now result (O.contents out.old) (O.contents out.new) }
+    ensures { IsSimulatedFile (OnFile F.is_file F.File.remaining) path.now result (O.contents out.old) (O.contents out.new) }
 {
     match opened(files, path, err) {
-        Ok(mut file) => simulate_lines_over(alloc, notes, &mut file, out, err),
+        Ok(mut file) => simulate_over(alloc, &mut file, out, err),
         Err(status) => status,
     }
 }

@@ -35,46 +35,6 @@ fn port<'a>(alloc: Global, help: &'a str) -> Arg<'a> {
     number(alloc, "port", "P", 65_535, help)
 }
 
-/// A choice that is made by its name alone.
-fn flag<'a>(alloc: Global, name: &'a str, help: &'a str) -> Arg<'a> {
-    Arg::new(alloc, name)
-        .long(name)
-        .action(ArgAction::SetTrue)
-        .help(help)
-}
-
-/// Lines as an editor leaves them.
-fn notes<'a>(alloc: Global) -> Arg<'a> {
-    flag(
-        alloc,
-        "notes",
-        "Takes lines that end in CRLF, and passes over blank lines and those that begin with `#`",
-    )
-}
-
-/// Datagrams that may be decoded.
-const DECODE_EXAMPLES: &str = "\
-Example: bac decode 810A000801001013
-Example: bac decode --text '81 0a 00 11 01 04 00 05 01 0c 0c 00 00 00 05 19 55'
-Example: bac decode --text - < datagrams.txt";
-
-fn decode_command<'a>(alloc: Global) -> Result<Command<'a>, clap::Error> {
-    let decode = Command::new(alloc, "decode")
-        .about("Prints the layers of a datagram, one a line, up to the first that has a fault")
-        .after_help(DECODE_EXAMPLES)
-        .arg(word(
-            alloc,
-            "HEX",
-            "The datagram in hexadecimal, in groups with spaces or colons between them or not, and `0x` before a group or not; `-` for datagrams on standard input, one on each line",
-        ))?
-        .arg(flag(
-            alloc,
-            "text",
-            "Prints objects, properties, errors, reasons and faults by their names, and values by their kinds",
-        ))?;
-    Ok(decode)
-}
-
 /// What the lines of a script are.
 const LINES_HELP: &str = "\
 The first line of a script sets the network: `nodes N`, or `nodes N window W overtake V`
@@ -84,7 +44,6 @@ The first line of a script sets the network: `nodes N`, or `nodes N window W ove
 Each later line is an event; nodes and datagrams count from 0:
   ask C S REQUEST  node C asks node S; the requests are those of `bac ask`
   deliver K        the datagram of that number comes to its node
-  lose K           the datagram of that number counts as lost
   noise N HEX      octets that no node sent come to node N
   tick N           node N looks at its timers
   advance MS       so many milliseconds pass";
@@ -99,8 +58,7 @@ fn simulate_command<'a>(alloc: Global) -> Result<Command<'a>, clap::Error> {
             alloc,
             "FILE",
             "The script: what it sets, and then one event a line",
-        ))?
-        .arg(notes(alloc))?;
+        ))?;
     Ok(simulate)
 }
 
@@ -150,11 +108,10 @@ fn ask_command<'a>(alloc: Global) -> Result<Command<'a>, clap::Error> {
         .num_args(1..)
         .action(ArgAction::Append)
         .help(WORDS_HELP);
-    let text = flag(
-        alloc,
-        "text",
-        "Prints values by their kinds, errors and reasons by their names, and which of the WORDS is bad",
-    );
+    let text = Arg::new(alloc, "text")
+        .long("text")
+        .action(ArgAction::SetTrue)
+        .help("Prints values by their kinds, and errors and reasons by their names");
     let ask = Command::new(alloc, "ask")
         .about("Asks the node at a UDP port of 127.0.0.1, and prints how that ended")
         .before_help(FORMS_HELP)
@@ -179,16 +136,19 @@ fn command<'a>(alloc: Global) -> Result<Command<'a>, clap::Error> {
         .after_help("Example: bac answer 810A001101040005010C0C000000051955")
         .arg(word(alloc, "HEX", "The datagram, in hexadecimal"))?
         .arg(objects(alloc))?;
+    let decode = Command::new(alloc, "decode")
+        .about("Prints the layers of a datagram, one a line, up to the first that has a fault")
+        .after_help("Example: bac decode 810A000801001013")
+        .arg(word(alloc, "HEX", "The datagram, in hexadecimal"))?;
     let check = Command::new(alloc, "check")
         .about("Prints the bad lines of a capture, and how many are good")
         .after_help("Example: bac check capture.txt")
-        .arg(word(alloc, "FILE", "The capture: lines `moment from to hex`"))?
-        .arg(notes(alloc))?;
+        .arg(word(alloc, "FILE", "The capture: lines `moment from to hex`"))?;
     let bac = Command::new(alloc, "bac")
         .about("BACnet confirmed services, proved")
         .subcommand_required(true)
         .subcommand(answer)?
-        .subcommand(decode_command(alloc)?)?
+        .subcommand(decode)?
         .subcommand(check)?
         .subcommand(simulate_command(alloc)?)?
         .subcommand(serve_command(alloc)?)?

@@ -1,11 +1,9 @@
 //! The command line of `bac`: what its words ask for, and doing it over any files, links, clocks and writers.
 #![tactic(auto)]
 
-mod bad_words;
 mod command;
 mod files;
 mod grammar;
-mod lines;
 mod objects;
 mod online;
 mod system;

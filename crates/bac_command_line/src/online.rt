@@ -6,14 +6,13 @@ ghost use Rattle.bac_command_line.specs.Online.{IsAsked, IsPair, IsServedBy, OnC
 ghost use Rattle.bac_run.specs.Runs.{timed};
 ghost use Rattle.bac_run.specs.Views.{question_view};
 
-use crate::bad_words::tell_bad_words;
 use bac_commands::{clock_fault, house_station, link_fault, local, read_question, station_with};
 use bac_link::{Clock, Link};
 use bac_npdu::LinkAddress;
 use bac_run::{Question, Station};
 use bac_script::FormFault;
 use bac_store::Store;
-use bac_text::{Status, no_memory};
+use bac_text::{Status, complain, no_memory};
 use std::alloc::Global;
 use std::io::Write;
 
@@ -95,7 +94,7 @@ fn ask_on<L: Link, C: Clock, O: Write, E: Write>(
     }
 }
 
-/// A node at any free port asks the one at a port; how that ended is printed, in words where that is wanted. Words that are no request: `bad words` on `err`, and in words which is bad.
+/// A node at any free port asks the one at a port; how that ended is printed, in words where that is wanted. Words that are no request: `bad words` on `err`.
 pub(crate) fn ask<M: Machine, O: Write, E: Write>(
     alloc: Global,
     machine: &M,
@@ -110,12 +109,7 @@ pub(crate) fn ask<M: Machine, O: Write, E: Write>(
 {
     let question = match question_in(alloc, port, words) {
         Ok(question) => question,
-        Err(FormFault::NoForm) => {
-            return match tell_bad_words(alloc, text, words, err) {
-                Ok(()) => Status::CommandLine,
-                Err(_) => no_memory(err),
-            };
-        }
+        Err(FormFault::NoForm) => return complain(err, "bad words", Status::CommandLine),
         Err(FormFault::NoMemory) => return no_memory(err),
     };
     let Some(bound) = machine.bind(0) else {

@@ -11,9 +11,6 @@ use std::net::Net;
 use std::rt::Files;
 use std::{fs, io};
 
-/// The file that is standard input, which `-` stands for.
-const STANDARD_INPUT: &str = "/dev/stdin";
-
 /// What a runtime has: the files, sockets and clock that command lines run on.
 #[derive(Drop)]
 pub struct System<'a, R> {
@@ -33,7 +30,6 @@ impl<R: Files> OpenFiles for System<'_, R> {
     ghost is_file = { λ _ _. ⊤ };
 
     fn open(&self, path: &str) -> io::Result<R::File> {
-        let path = if path == "-" { STANDARD_INPUT } else { path };
         fs::open(self.runtime, path)
     }
 }

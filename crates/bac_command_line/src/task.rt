@@ -8,20 +8,12 @@ pub(crate) enum Task<'m, 'a> {
         datagram: &'a str,
         objects: Option<&'a str>,
     },
-    /// The layers of this datagram, or of those on standard input; in words or not.
-    Decode {
-        in_words: bool,
-        datagram: &'a str,
-    },
+    /// The layers of this datagram.
+    Decode(&'a str),
     /// The bad lines of the capture in this file.
     Check(&'a str),
-    /// The bad lines of the capture in this file, which has notes.
-    CheckLines(&'a str),
-    /// The script in this file, with notes or without.
-    Simulate {
-        notes: bool,
-        path: &'a str,
-    },
+    /// The script in this file.
+    Simulate(&'a str),
     /// So many turns at a port, with the house or the objects in this file.
     Serve {
         port: u16,
@@ -58,20 +50,9 @@ pub(crate) fn task_of<'m, 'a>(matches: &'m ArgMatches<'a>) -> Option<Task<'m, 'a
             let objects = given.get_str("objects");
             Some(Task::Answer { datagram, objects })
         }
-        ("decode", given) => {
-            let datagram = given.get_str("HEX")?;
-            let in_words = given.get_flag("text");
-            Some(Task::Decode { in_words, datagram })
-        }
-        ("check", given) if given.get_flag("notes") => {
-            Some(Task::CheckLines(given.get_str("FILE")?))
-        }
+        ("decode", given) => Some(Task::Decode(given.get_str("HEX")?)),
         ("check", given) => Some(Task::Check(given.get_str("FILE")?)),
-        ("simulate", given) => {
-            let path = given.get_str("FILE")?;
-            let notes = given.get_flag("notes");
-            Some(Task::Simulate { notes, path })
-        }
+        ("simulate", given) => Some(Task::Simulate(given.get_str("FILE")?)),
         ("serve", given) => {
             let (port, turns) = serve_of(given)?;
             let objects = given.get_str("objects");

@@ -228,23 +228,6 @@ const WORDS: &[(&str, Ending)] = &[
     ),
     ("decode 810B0004", ("fault bvll 6\n", "", 1)),
     ("decode 8G", ("", "bad hex\n", 2)),
-    (
-        "decode 0x81:0x0A:00:08:0100:10:13",
-        (
-            "bvll len=8\nnpdu expecting=0 priority=0\nunconfirmed-request choice=19 data=\n",
-            "",
-            0,
-        ),
-    ),
-    (
-        "decode --text 810B0004",
-        (
-            "fault bvll 6 (function 0B: not Original-Unicast-NPDU)\n",
-            "",
-            1,
-        ),
-    ),
-    ("decode --text 8G", ("", "bad hex\n", 2)),
 ];
 
 #[test]

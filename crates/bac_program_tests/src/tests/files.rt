@@ -67,65 +67,28 @@ lines=9 good=1 bad=8
         "check starving",
         ("line 1: not a capture line\n", "no memory\n", 4),
     ),
-    // the first four octets tell whether it is a file of pcap or pcapng
-    ("x\n", "check broken", ("", "cannot read\n", 2)),
-    ("x\n", "check starving", ("", "no memory\n", 4)),
-];
-
-/// Lines with notes: datagrams on standard input, a capture and scripts.
-const NOTED: &[FileRow] = &[
+    // the first four octets tell whether it is a file of pcap or pcapng: one that ends before them is none
     (
-        "# two\r\n\r\n81 0B 00 04\r\n8G\n",
-        "decode -",
-        ("fault bvll 6\nline 4: bad hex\n", "", 1),
+        "x\n",
+        "check broken",
+        ("line 1: not a capture line\n", "cannot read\n", 2),
     ),
     (
-        "810B0004",
-        "decode --text -",
+        "\n\nx",
+        "check broken",
         (
-            "fault bvll 6 (function 0B: not Original-Unicast-NPDU)\n",
-            "",
-            1,
+            "line 1: not a capture line\nline 2: not a capture line\n",
+            "cannot read\n",
+            2,
         ),
-    ),
-    ("", "decode -", ("", "", 0)),
-    (
-        "# one\r\n\n1 7F000001BAC1 7F000001BAC0 810A000801001013\r\n",
-        "check --notes capture",
-        ("lines=3 good=1 bad=0 notes=2\n", "", 0),
     ),
     (
         "x\n",
-        "check --notes capture",
-        (
-            "line 1: not a capture line\nlines=1 good=0 bad=1 notes=0\n",
-            "",
-            1,
-        ),
+        "check starving",
+        ("line 1: not a capture line\n", "no memory\n", 4),
     ),
-    (
-        "#\n",
-        "check capture",
-        ("line 1: not a capture line\nlines=1 good=0 bad=1\n", "", 1),
-    ),
-    ("", "check --notes missing", ("", "cannot read\n", 2)),
-    (
-        "# two\r\nnodes 2\r\n\r\nlose 0\r\n",
-        "simulate --notes capture",
-        ("line 4: fault 2\n", "", 1),
-    ),
-    (
-        "# two\nnodes 2\n",
-        "simulate capture",
-        ("", "line 1: not a script line\n", 2),
-    ),
-    ("", "simulate --notes -", ("", "line 1: not a script line\n", 2)),
+    ("x", "check broken", ("", "cannot read\n", 2)),
 ];
-
-#[test]
-fn passes_over_notes(rt: HostRuntime) -> Result<(), Fail> {
-    all_end_so(rt.alloc(), NOTED)
-}
 
 #[test]
 fn checks_captures(rt: HostRuntime) -> Result<(), Fail> {

@@ -414,20 +414,6 @@ const NO_REQUEST: &[BenchRow] = &[
         "ask --port 47899 append 10:1 4G",
         ("", "bad words\n", 2),
     ),
-    (
-        NO_LINKS,
-        "ask --port 47899 --text read analog-input:5 presentvalue",
-        (
-            "",
-            "bad words: property \"presentvalue\" is no name and no number\n",
-            2,
-        ),
-    ),
-    (
-        NO_LINKS,
-        "ask --port 47899 --text get 10:1",
-        ("", "bad words: position is missing\n", 2),
-    ),
 ];
 
 #[test]
