@@ -17,8 +17,8 @@ node_of slots link store =
       link = link;
       settings = record { limits = most_limits; window = 32 };
       latest = 0;
-       clients = record { slots = []; capacity = slots; asked = 0; asks_from = 0; first_id = 0 };
-       servers = record { slots = []; capacity = slots; serves_from = 0 };
+      clients = record { slots = []; capacity = slots; asked = 0; asks_from = 0; first_id = 0 };
+      servers = record { slots = []; capacity = slots; serves_from = 0 };
       store = store;
     }
 

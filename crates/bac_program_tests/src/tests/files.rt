@@ -137,7 +137,11 @@ const NOTED: &[FileRow] = &[
         "simulate capture",
         ("", "line 1: not a script line\n", 2),
     ),
-    ("", "simulate --notes -", ("", "line 1: not a script line\n", 2)),
+    (
+        "",
+        "simulate --notes -",
+        ("", "line 1: not a script line\n", 2),
+    ),
 ];
 
 #[test]
