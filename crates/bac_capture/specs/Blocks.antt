@@ -76,7 +76,7 @@ abbrev pub described_of : LayoutView → (link : ℕ) → List ℕ → Result In
 described_of layout link body =
     if nat_lt (length body) 8 then Err BlockLength else
     (if nat_le 1024 (length layout.interfaces) then Err TooManyInterfaces else
-    Ok (record { link = link; most = number_of layout.order 4 body; resolution = resolution_of (resolution_in OPTION_LIMIT layout.order (drop 8 body)) }))
+    Ok (record { link = link; most = number_of layout.order 4 body; resolution = resolution_of (resolution_in OPTION_LIMIT layout.order (drop 4 body)) }))
 
 abbrev framed : Result FrameView FileFault → Result BlockView FileFault
 framed (Err fault) = Err fault

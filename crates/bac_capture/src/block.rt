@@ -116,7 +116,7 @@ impl Layout {
         Ok(Interface {
             link,
             most: self.order.long(body),
-            resolution: resolution_of(resolution_in(OPTION_LIMIT, self.order, &body[8..])),
+            resolution: resolution_of(resolution_in(OPTION_LIMIT, self.order, &body[4..])),
         })
     }
 

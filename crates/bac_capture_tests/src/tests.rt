@@ -1,9 +1,12 @@
 //! What the tests share.
 
+mod explained;
+mod explained_rows;
 mod failing;
 mod file_rows;
 mod files;
 mod frames;
+mod moment_rows;
 mod rows;
 mod transaction_rows;
 mod transactions;

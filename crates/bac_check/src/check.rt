@@ -4,7 +4,9 @@ ghost use Rattle.std.specs.Io.KnownBytes.{Appends};
 ghost use Rattle.bac_check.specs.Checked.{verdict_text, tally_text, IsCounted, IsFileReport, IsFrontReport, IsReportOf};
 ghost use Rattle.bac_check.specs.Counted.{counts_of};
 ghost use Rattle.bac_check.specs.Reports.{IsTold};
+ghost use Rattle.bac_text.specs.Statuses.{IsStop};
 
+use crate::broken::Broken;
 use crate::error::{CheckError, stopped};
 use crate::fault::{CapturedFault, Verdict};
 use crate::judging::judge;
@@ -128,6 +130,24 @@ fn check_after<R: BufRead, O: Write, E: Write>(
     }
 }
 
+/// Tells of an input that failed within its first octets: the lines that ended before that are told, and then how it failed.
+fn failed_early<O: Write, E: Write>(
+    alloc: Global,
+    front: &[u8],
+    kind: ErrorKind,
+    out: &mut O,
+    err: &mut E,
+) -> Status
+    ensures { IsStop result }
+{
+    let mut whole = front.chain(Broken { kind });
+    match check_over(alloc, &mut whole, out, err) {
+        // an input that fails is not checked to its end
+        Status::Done | Status::Faulty => Status::CommandLine,
+        status => status,
+    }
+}
+
 /// Checks a capture: a file of pcap or pcapng, as its first four octets tell, or else lines, as `check_over` of bac_text does.
 ///
 /// Of a file each bad frame is told, by its number from 1, and at the end how many frames there are, and how many of them carry a
@@ -148,6 +168,6 @@ pub fn check_capture_over<R: BufRead, O: Write, E: Write>(
     let mut front = Vec::new(alloc);
     match read_run(input, 4, &mut front) {
         Ok(_) => check_after(alloc, &front, input, ports, out, err),
-        Err(error) => stopped(CheckError::Input(error), out, err),
+        Err(error) => failed_early(alloc, &front, error.kind(), out, err),
     }
 }

@@ -9,11 +9,14 @@ use bac_text::{Status, complain, no_memory, output_failed};
 use std::io;
 use std::io::{ErrorKind, Write};
 
-/// Why checking stopped.
+/// Why checking stopped, or another walk over a capture.
 #[derive(Debug, Drop)]
-pub(crate) enum CheckError {
+pub enum CheckError {
+    /// The input cannot be read.
     Input(io::Error),
+    /// The output cannot be written.
     Output(io::Error),
+    /// An allocation was refused.
     Memory,
 }
 
@@ -55,8 +58,9 @@ fn stopped_so<E: Write>(error: CheckError, flushed: io::Result<()>, err: &mut E)
     }
 }
 
-/// Why checking stopped, as a status. What was printed before goes out as far as it can.
-pub(crate) fn stopped<O: Write, E: Write>(error: CheckError, out: &mut O, err: &mut E) -> Status
+/// Why checking stopped, as a status: `CommandLine` and `cannot read` on `err` for the input, `Output` for the output, `Memory` and
+/// `no memory` on `err` for both where memory was refused. What was printed before goes out as far as it can.
+pub fn stopped<O: Write, E: Write>(error: CheckError, out: &mut O, err: &mut E) -> Status
     ensures { IsStop result }
 {
     let flushed = out.flush();

@@ -1,6 +1,7 @@
-//! What `bac check` prints of a capture file: which of its frames carry good datagrams.
+//! Capture files, frame by frame for whoever watches, and what `bac check` prints of them: which frames carry good datagrams.
 #![tactic(auto)]
 
+mod broken;
 mod check;
 mod error;
 mod fault;
@@ -10,3 +11,5 @@ mod walk;
 
 pub use bac_capture::Ports;
 pub use check::check_capture_over;
+pub use error::{CheckError, stopped};
+pub use walk::{Watch, walk_file};

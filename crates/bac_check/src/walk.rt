@@ -13,7 +13,7 @@ use std::io;
 use std::io::{BufRead, ErrorKind, Write};
 
 /// Who watches the frames of a capture file, and tells of them.
-pub(crate) trait Watch<W: Write> {
+pub trait Watch<W: Write> {
     // What it keeps.
     ghost State: { Type 0 };
 
@@ -155,8 +155,9 @@ fn walk_records<R: BufRead, W: Write, V: Watch<W>>(
     Err(CheckError::Input(io::Error::from(ErrorKind::TimedOut)))
 }
 
-/// Takes a file of that form and byte order, record by record and block by block.
-pub(crate) fn walk_file<R: BufRead, W: Write, V: Watch<W>>(
+/// Takes a file of that form and byte order, as its first four octets tell them, record by record and block by block: each frame is
+/// seen, in the order of the file, up to its end or to where it cannot be read on. Memory does not grow with the file.
+pub fn walk_file<R: BufRead, W: Write, V: Watch<W>>(
     alloc: Global,
     form: Form,
     order: Order,

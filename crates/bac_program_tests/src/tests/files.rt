@@ -67,9 +67,27 @@ lines=9 good=1 bad=8
         "check starving",
         ("line 1: not a capture line\n", "no memory\n", 4),
     ),
-    // the first four octets tell whether it is a file of pcap or pcapng
-    ("x\n", "check broken", ("", "cannot read\n", 2)),
-    ("x\n", "check starving", ("", "no memory\n", 4)),
+    // the first four octets tell whether it is a file of pcap or pcapng: one that ends before them is none
+    (
+        "x\n",
+        "check broken",
+        ("line 1: not a capture line\n", "cannot read\n", 2),
+    ),
+    (
+        "\n\nx",
+        "check broken",
+        (
+            "line 1: not a capture line\nline 2: not a capture line\n",
+            "cannot read\n",
+            2,
+        ),
+    ),
+    (
+        "x\n",
+        "check starving",
+        ("line 1: not a capture line\n", "no memory\n", 4),
+    ),
+    ("x", "check broken", ("", "cannot read\n", 2)),
 ];
 
 #[test]

@@ -8,5 +8,5 @@ returns-in-Ok g c =
 
 pub returns : goal.returns
 returns g c =
-    stop_reported c.args.ports.also (g.R.Read.remaining c.args.input.now) (g.O.Write.contents c.args.out.now) (g.O.Write.contents c.stopped.new.out)
-    c.stopped.result c.stopped.ensures
+    stop_reported c.args.ports.also (g.R.Read.remaining c.args.input.now) (g.O.Write.contents c.args.out.now) (g.O.Write.contents c.failed_early.new.out)
+    c.failed_early.result c.failed_early.ensures

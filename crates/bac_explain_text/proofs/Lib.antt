@@ -1,0 +1,3 @@
+pub mod Blocking
+pub mod Report
+pub mod Telling

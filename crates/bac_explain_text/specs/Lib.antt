@@ -1,0 +1,14 @@
+pub mod Peers
+pub mod Words
+pub mod Requests
+pub mod Answers
+pub mod Endings
+pub mod Blocks
+pub mod Tallies
+pub mod Unread
+pub mod Seen
+pub mod Accounts
+pub mod AccountViews
+pub mod Told
+pub mod Rest
+pub mod Explained
