@@ -31,10 +31,11 @@ fn sockets_are_bound_at_addresses(rt: HostRuntime) -> Result<(), Fail> {
     let to = near.address();
     assert!(&rt; to.starts_with(&[127, 0, 0, 2]));
     assert_eq!(&rt; every.send(to, &[0x81]), Ok(()));
+    let bound = every.address();
+    let from = [127, 0, 0, 1, bound[4], bound[5]];
     let mut buffer = [0u8; 2];
-    let Ok(Some((from, 1))) = near.recv(&mut buffer, u64::MAX) else {
-        return Err(Fail::from("not received"));
-    };
+    let received = near.recv(&mut buffer, u64::MAX);
+    assert_eq!(&rt; received, Ok(Some((from, 1))));
     assert_eq!(&rt; near.send(from, &[0x81, 0x0A]), Ok(()));
     let answered = every.recv(&mut buffer, u64::MAX);
     assert_eq!(&rt; answered, Ok(Some((to, 2))));
