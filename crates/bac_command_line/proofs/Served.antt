@@ -1,5 +1,5 @@
 -- What a node that was made as is said printed.
-use Rattle.std.proofs.Common.{◌≡◌, ℕ, List, Option, subst, absurd}
+use Rattle.std.proofs.Common.{◌≡◌, ℕ, List, Option, subst}
 use Rattle.bac_protocol.specs.Service.{Octets}
 use Rattle.bac_store.specs.Stores.{Store}
 use Rattle.bac_text.specs.declared.status.Status.{Status}
