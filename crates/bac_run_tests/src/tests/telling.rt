@@ -206,15 +206,16 @@ fn turns_wait_as_long_as_they_may(rt: HostRuntime) -> Result<(), Fail> {
 }
 
 /// Calls of both links of a pair that asks for so many rounds, without octets.
-fn pair_waits_of<R: Abort>(
+fn pair_waits_of<'a, R: Abort>(
     alloc: Global,
-    first: TellingLink<'_, R>,
-    second: TellingLink<'_, R>,
-    clock: &mut ListedClock<'_, R>,
+    first: TellingLink<'a, R>,
+    second: TellingLink<'a, R>,
+    clock: &mut ListedClock<'a, R>,
 ) -> Result<(String, String), Fail> {
     let mut first = Station::new(alloc, house_node(alloc, CLIENT)?, first)?;
     let mut second = Station::new(alloc, house_node(alloc, SERVER)?, second)?;
-    let _ = pair(&mut first, &mut second, clock, &read(alloc)?, 3).is_ok();
+    let question = read(alloc)?;
+    let _ = pair(&mut first, &mut second, clock, &question, 3).is_ok();
     let of_first = lines_of(alloc, first.link().noted())?;
     let of_second = lines_of(alloc, second.link().noted())?;
     Ok((of_first, of_second))
