@@ -209,7 +209,12 @@ fn serve_command<'a>(alloc: Global) -> Result<Command<'a>, clap::Error> {
         .arg(at)?
         .arg(slots)?
         .arg(restarted)?
-        .arg(objects(alloc))?;
+        .arg(objects(alloc))?
+        .arg(flag(
+            alloc,
+            "log",
+            "Tells on standard error each datagram that comes, and what is done",
+        ))?;
     Ok(serve)
 }
 

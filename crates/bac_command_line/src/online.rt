@@ -9,7 +9,7 @@ ghost use Rattle.bac_run.specs.Views.{question_view};
 use crate::address::LOCAL_HOST;
 use crate::asking::Asking;
 use crate::bad_words::tell_bad_words;
-use crate::serving::Serving;
+use crate::serving::{Serving, serve_from, tell_listening};
 use bac_commands::{clock_fault, house_station, link_fault, read_question, server_station};
 use bac_link::{Clock, Link};
 use bac_node::NewNodeFault;
@@ -20,9 +20,6 @@ use bac_store::Store;
 use bac_text::{Status, complain, no_memory};
 use std::alloc::Global;
 use std::io::Write;
-
-/// How many milliseconds after its restart a server serves again.
-const RESTED: u64 = 65_001;
 
 /// The links and the clock of a machine.
 pub trait Machine {
@@ -42,26 +39,6 @@ pub trait Machine {
     /// A clock; None where it can't be read.
     fn timer(&self) -> Option<Self::Timer>
         ensures { IfSome result Self.is_made };
-}
-
-/// Tells on `err` where a node listens, and how many slots it has; and from when on it serves, where it restarted.
-fn tell_listening<E: Write>(
-    serving: &Serving,
-    link: LinkAddress,
-    restart: Option<u64>,
-    err: &mut E,
-) {
-    let [a, b, c, d, high, low] = link;
-    let port = u16::from_be_bytes([high, low]);
-    let slots = serving.slots;
-    // where even that fails, nothing tells it
-    if serving.turns.is_none() {
-        let _ = writeln!(err, "listening {a}.{b}.{c}.{d}:{port}, {slots} slots");
-    }
-    if let Some(now) = restart {
-        let from = now.saturating_add(RESTED);
-        let _ = writeln!(err, "serving from {from}");
-    }
 }
 
 /// A node with a store serves.
@@ -90,16 +67,8 @@ pub(crate) fn serve<M: Machine, O: Write, E: Write>(
         Err(NewNodeFault::BadSlots) => return complain(err, "bad slots", Status::CommandLine),
         Err(_) => return no_memory(err),
     };
-    tell_listening(serving, address, restart, err);
-    let patience = serving.patience(start);
-    bac_commands::serve(
-        &mut station,
-        &mut timer,
-        &patience,
-        serving.most_turns(),
-        out,
-        err,
-    )
+    tell_listening(serving, address, start, err);
+    serve_from(alloc, serving, start, &mut station, &mut timer, out, err)
 }
 
 /// The question for a peer that some words are.

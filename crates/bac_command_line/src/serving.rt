@@ -1,10 +1,20 @@
 //! How a node is to serve.
 ghost use Rattle.std.specs.Prelude.{◌≡◌};
+ghost use Rattle.bac_run.specs.Runs.{timed};
+ghost use Rattle.bac_commands.specs.Reports.{ReportsServing};
 ghost use Rattle.bac_command_line.specs.Serving.{patience_of, restart_of, turns_of};
 
 use crate::address::{LOCAL_HOST, read_host};
-use bac_run::Patience;
+use bac_link::{Clock, Link};
+use bac_npdu::LinkAddress;
+use bac_run::{Patience, Station, Unwatched};
+use bac_text::Status;
 use clap::ArgMatches;
+use std::alloc::Global;
+use std::io::Write;
+
+/// How many milliseconds after its restart a server serves again.
+const RESTED: u64 = 65_001;
 
 /// How a node is to serve.
 #[derive(Clone, Copy, Debug, PartialEq, Eq)]
@@ -21,6 +31,8 @@ pub(crate) struct Serving {
     pub slots: usize,
     /// Whether it served before, and lost what it remembered.
     pub restarted: bool,
+    /// Whether its turns are logged.
+    pub log: bool,
 }
 
 impl Serving {
@@ -55,6 +67,62 @@ impl Serving {
     {
         if self.restarted { Some(start) } else { None }
     }
+
+    /// The first moment at which it performs requests, where it begins at that one.
+    fn serves_from(&self, start: u64) -> u64 {
+        if self.restarted {
+            start.saturating_add(RESTED)
+        } else {
+            0
+        }
+    }
+}
+
+/// Tells on `err` where a node listens that begins at that moment, and how many slots it has; and from when on it serves, where it restarted.
+pub(crate) fn tell_listening<E: Write>(
+    serving: &Serving,
+    link: LinkAddress,
+    start: u64,
+    err: &mut E,
+) {
+    let [a, b, c, d, high, low] = link;
+    let port = u16::from_be_bytes([high, low]);
+    let slots = serving.slots;
+    // where even that fails, nothing tells it
+    if serving.turns.is_none() {
+        let _ = writeln!(err, "listening {a}.{b}.{c}.{d}:{port}, {slots} slots");
+    }
+    if serving.restarted {
+        let from = serving.serves_from(start);
+        let _ = writeln!(err, "serving from {from}");
+    }
+}
+
+/// A node serves from that moment on, and its turns are logged on `err` where that is wanted; where a line of the log could not be written, `log fault` ends it.
+pub(crate) fn serve_from<L: Link, C: Clock, O: Write, E: Write>(
+    alloc: Global,
+    serving: &Serving,
+    start: u64,
+    station: &mut Station<L>,
+    clock: &mut C,
+    out: &mut O,
+    err: &mut E,
+) -> Status
+    ensures { ReportsServing result (patience_of serving.now start) (turns_of serving.now.turns) (timed station.old (C.told clock.old))
+        (timed station.new (C.told clock.new)) (O.contents out.old) (O.contents out.new) }
+{
+    let patience = serving.patience(start);
+    let turns = serving.most_turns();
+    if !serving.log {
+        return bac_commands::serve(station, clock, &patience, turns, &mut Unwatched, out, err);
+    }
+    let from = serving.serves_from(start);
+    let logged = bac_log::serve(alloc, station, clock, &patience, turns, from, out, err);
+    if !logged.whole {
+        // where even that fails, nothing tells it
+        let _ = err.writeln("log fault");
+    }
+    logged.status
 }
 
 /// How many slots each end has where nothing is said: 64 of a run of so many turns, otherwise all that there can be.
@@ -80,5 +148,6 @@ pub(crate) fn serving_of(given: &ArgMatches<'_>) -> Option<Serving> {
         seconds: given.get_one("seconds"),
         slots: slots.unwrap_or(slots_without_word(turns)),
         restarted: given.get_flag("restarted"),
+        log: given.get_flag("log"),
     })
 }

@@ -12,6 +12,7 @@ use Rattle.bac_text.specs.Texts.{line_end}
 use Rattle.bac_text.specs.declared.status.Status.{Status}
 use Rattle.bac_run.specs.Asking.{AskingEnds, Question}
 use Rattle.bac_run.specs.Runs.{Timed}
+use Rattle.bac_run.specs.Seen.{Watcher, Watches}
 use Rattle.bac_run.specs.Serving.{Serves}
 use Rattle.bac_run.specs.declared.patience.Patience.{Patience}
 use Rattle.bac_run.specs.declared.question.AskEnd.{AskEnd}
@@ -31,6 +32,14 @@ pub record ServedText (p : Patience) (turns : ℕ) (before after : Timed) (old n
 
 abbrev pub ReportsServing : Status → Patience → (turns : ℕ) → (before after : Timed) → (old new : Option (List ℕ)) → Type 0
 ReportsServing s p turns before after old new = ByStatus s (ServedText p turns before after old new) ⊥ ⊥
+
+-- the watcher saw each turn
+pub record WatchedServing {S : Type 0} (Sees : Watcher S) (p : Patience) (turns : ℕ) (before after : Timed) (from to : S) : Type 0 where
+  pub effects : ℕ
+  pub watches : Watches Sees p from to turns effects before after
+
+abbrev pub ServingIsWatched : {S : Type 0} → Status → Watcher S → Patience → (turns : ℕ) → (before after : Timed) → (from to : S) → Type 0
+ServingIsWatched s Sees p turns before after from to = ByStatus s (WatchedServing Sees p turns before after from to) ⊥ ⊥
 
 -- ---- asking
 

@@ -10,7 +10,7 @@ mod online;
 pub use answering::{CLIENT, answer_datagram, answer_over};
 pub use facts::{
     print_asked, print_changed, print_ended, print_ending, print_fault, print_nothing,
-    print_performed, print_refused, print_sent,
+    print_performed, print_refused, print_sent, reply_words,
 };
 pub use online::{
     ask, ask_in_words, clock_fault, house_station, link_fault, pair, read_question, serve,

@@ -16,3 +16,5 @@ mod unread;
 mod words;
 
 pub use explain::explain_over;
+pub use peers::{link_text, peer_text};
+pub use request_words::{request_words, service_words};

@@ -9,7 +9,7 @@ use bac_npdu::{LinkAddress, Peer, Route};
 use std::alloc::{AllocError, Global};
 
 /// A BACnet/IP address, as `192.168.1.5:47808`.
-fn link_text(alloc: Global, link: LinkAddress) -> Result<String, AllocError>
+pub fn link_text(alloc: Global, link: LinkAddress) -> Result<String, AllocError>
     ensures { IfOk result (λ t. string_bytes t ≡ link_text link) }
 {
     let (a, b, c, d) = (link[0], link[1], link[2], link[3]);
@@ -27,7 +27,7 @@ fn route_text(alloc: Global, route: Route) -> Result<String, AllocError>
 }
 
 /// A peer, as `192.168.1.5:47808` or behind a router `192.168.1.5:47808/5:2A`.
-fn peer_text(alloc: Global, peer: Peer) -> Result<String, AllocError>
+pub fn peer_text(alloc: Global, peer: Peer) -> Result<String, AllocError>
     ensures { IfOk result (λ t. string_bytes t ≡ peer_text (peer_view peer)) }
 {
     let link = link_text(alloc, peer.link)?;

@@ -114,7 +114,8 @@ fn put_records_text(
     Ok(text.into_bytes())
 }
 
-fn request_words(alloc: Global, request: Request<'_>) -> Result<Vec<u8>, NoMemory>
+/// A request, as `write analog-value:1 present-value real 72.3 priority 8`.
+pub fn request_words(alloc: Global, request: Request<'_>) -> Result<Vec<u8>, NoMemory>
     ensures { IfOk result (λ t. AreRequestWords (request_view request.entry) t.items) }
 {
     match request {
@@ -129,7 +130,7 @@ fn request_words(alloc: Global, request: Request<'_>) -> Result<Vec<u8>, NoMemor
 }
 
 /// What service data ask for; what spells no request of the four services is told by its choice.
-fn service_words(alloc: Global, choice: u8, service: &[u8]) -> Result<Vec<u8>, NoMemory>
+pub fn service_words(alloc: Global, choice: u8, service: &[u8]) -> Result<Vec<u8>, NoMemory>
     ensures { IfOk result (λ t. AreServiceWords choice service.now t.items) }
 {
     match read_request(choice, service) {

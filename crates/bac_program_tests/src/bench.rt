@@ -22,6 +22,10 @@ pub(crate) enum Behind {
     Answer(&'static [u8]),
     /// So many requests wait at each link.
     Requests(u8),
+    /// These come at each link, one after the other: the last octet of the port of 127.0.0.1 that sent one, and it in hexadecimal.
+    Datagrams(&'static [(u8, &'static str)]),
+    /// The same, and nothing can be sent.
+    Unsent(&'static [(u8, &'static str)]),
     /// A link fails to receive.
     Deaf,
 }
@@ -49,6 +53,8 @@ pub(crate) struct BenchLink {
     behind: Behind,
     /// How many requests still wait.
     requests: u8,
+    /// How many datagrams came.
+    came: usize,
     /// The answer to what was sent last.
     answer: Option<Waiting>,
     failures: u64,
@@ -68,6 +74,19 @@ impl BenchLink {
             Behind::Answer(answer) => answer.to_vec(self.alloc).ok(),
             _ => None,
         }
+    }
+
+    /// The datagram that comes next, if one does.
+    fn next_datagram(&mut self) -> Option<Waiting>
+        ensures { self.new.failures ≡ self.old.failures }
+    {
+        let (Behind::Datagrams(list) | Behind::Unsent(list)) = self.behind else {
+            return None;
+        };
+        let (port, octets) = list.get(self.came)?;
+        self.came = self.came.saturating_add(1);
+        let octets = hex::decode(self.alloc, octets).ok()?;
+        Some(([127, 0, 0, 1, 0xBA, *port], octets))
     }
 
     fn failed(&mut self) -> LinkFault
@@ -95,6 +114,9 @@ impl Link for BenchLink {
     }
 
     fn send(&mut self, to: [u8; 6], octets: &[u8]) -> Result<(), LinkFault> {
+        if matches!(self.behind, Behind::Unsent(_)) {
+            return Err(self.failed());
+        }
         if let Some(answer) = self.answer_from(to, octets) {
             self.answer = Some((to, answer));
         }
@@ -110,6 +132,9 @@ impl Link for BenchLink {
             self.requests -= 1;
             let len = copy_front(&request(self.requests), buffer);
             return Ok(Some((CLIENT, len)));
+        }
+        if let Some(datagram) = self.next_datagram() {
+            return Ok(Some(hand_over(datagram, buffer)));
         }
         match self.answer.take() {
             Some(waiting) => Ok(Some(hand_over(waiting, buffer))),
@@ -190,6 +215,7 @@ impl BenchMachine {
             alloc: self.alloc,
             behind: self.bench.behind,
             requests,
+            came: 0,
             answer: None,
             failures: 0,
         }

@@ -10,6 +10,7 @@ mod answers;
 mod decoded;
 mod files;
 mod help;
+mod logged;
 mod online;
 mod outputs;
 mod sockets;

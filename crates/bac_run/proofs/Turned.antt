@@ -36,13 +36,14 @@ carried_of a b all more lost old new is is_more sent =
 
 -- both steps of a station that was so before them, over the octets that it had in its buffer
 pub acted : (now : ℕ) (seen : Octets) (before old new : Station) (turn : Turn) (first second : Step) → before ≡ old → seen ≡ before.buffer
-    → new.buffer ≡ before.buffer → Steps now seen before.node new.node turn first second → IsCarried (first.sends ++ second.sends) turn.lost before new
+    → turn.at ≡ now → new.buffer ≡ before.buffer → Steps now seen before.node new.node turn first second → IsCarried (first.sends ++ second.sends) turn.lost before new
     → Acts now old turn new
-acted now seen before old new turn first second is seen_is same steps sent =
+acted now seen before old new turn first second is seen_is at same steps sent =
     subst (λ (o : Station). Acts now o turn new) is
     (record {
       first = first;
       second = second;
+      at = at;
       steps = subst (λ (b : Octets). Steps now b before.node new.node turn first second) seen_is steps;
       carried = sent;
       buffer = same;

@@ -4,6 +4,7 @@ pub mod Turns
 pub mod Waits
 pub mod Runs
 pub mod Serving
+pub mod Seen
 pub mod Asking
 pub mod Pairs
 pub mod Views

@@ -35,12 +35,6 @@ pub record IsOver (p : Patience) (old new : Timed) : Type 0 where
   pub late : MatchOption p.until ⊥ (λ moment. moment ≤ now)
   pub same : new.station ≡ old.station
 
--- one such turn, in which so many requests were performed
-pub record ServesOnce (p : Patience) (effects : ℕ) (old new : Timed) : Type 0 where
-  pub turn : Turn
-  pub takes : TakesEarlyTurn p old turn new
-  pub counted : effects ≡ count_of turn.performed
-
 -- so many such turns were taken, and so many requests performed
 pub record TakesTurns (p : Patience) (turns effects : ℕ) (old new : Timed) : Type 0 where
   pub taken : List Turn
@@ -48,22 +42,26 @@ pub record TakesTurns (p : Patience) (turns effects : ℕ) (old new : Timed) : T
   pub run : Run (TakesEarlyTurn p) taken old new
   pub counted : effects ≡ performed_in taken
 
--- after fewer turns, in which so many requests were performed, this happened
-pub record StopsAfter (p : Patience) (turns effects : ℕ) (happens : Timed → Timed → Type 0) (old new : Timed) : Type 0 where
+-- fewer turns were taken so, and then this happened
+pub record StopsAfter (Takes : (turns : ℕ) → Timed → Timed → Type 0) (turns : ℕ) (happens : Timed → Timed → Type 0) (old new : Timed) : Type 0 where
   pub taken : ℕ
   pub fewer : taken < turns
   pub middle : Timed
-  pub takes : TakesTurns p taken effects old middle
+  pub takes : Takes taken old middle
   pub stopped : happens middle new
+
+-- so many turns, in which so many requests were performed
+abbrev pub TurnsWith : Patience → (effects : ℕ) → (turns : ℕ) → Timed → Timed → Type 0
+TurnsWith p effects turns old new = TakesTurns p turns effects old new
 
 -- all turns were taken, or the time was over before
 abbrev pub Serves : Patience → (turns effects : ℕ) → (old new : Timed) → Type 0
-Serves p turns effects old new = TakesTurns p turns effects old new ⊎ StopsAfter p turns effects (IsOver p) old new
+Serves p turns effects old new = TakesTurns p turns effects old new ⊎ StopsAfter (TurnsWith p effects) turns (IsOver p) old new
 
 -- the same, whatever was performed
 pub record StopsServing (p : Patience) (turns : ℕ) (happens : Timed → Timed → Type 0) (old new : Timed) : Type 0 where
   pub effects : ℕ
-  pub stops : StopsAfter p turns effects happens old new
+  pub stops : StopsAfter (TurnsWith p effects) turns happens old new
 
 -- why serving stopped
 abbrev pub ServingFails : TurnFault → Patience → (turns : ℕ) → (old new : Timed) → Type 0

@@ -6,17 +6,21 @@ use Rattle.bac_ends.specs.Sends.{Datagram}
 use Rattle.bac_ends.specs.Meanings.{Finish}
 use Rattle.bac_link.specs.Calls.{Call, Calls, one_more, received, with_call}
 use Rattle.bac_link.specs.Calls.Call.{Send}
-use Rattle.bac_world.specs.Node.{Node, Outcome, NodeOn, NodeTick}
+use Rattle.bac_world.specs.Node.{Cause, Node, Outcome, NodeOn, NodeTick}
 use Rattle.bac_world.specs.Services.{Performed}
 use Rattle.bac_node.specs.Calls.{IsNotHeard}
 use Rattle.bac_run.specs.Stations.{Station}
 use Rattle.bac_run.specs.Waits.{IsWait}
 use Rattle.bac_run.specs.declared.patience.Patience.{Patience}
 
--- what a turn answers: who sent the datagram that came, and how many octets it has; failed sends, and steps that found no memory; what was performed; the
--- tickets that ended by the datagram, and by the tick
+-- what a turn answers: when the node acted; who sent the datagram that came, and how many octets it has; why it was dropped; what was sent for it, and by the
+-- tick; failed sends, and steps that found no memory; what was performed; the tickets that ended by the datagram, and by the tick
 pub record Turn : Type 0 where
+  pub at : ℕ
   pub received : Option (Octets × ℕ)
+  pub dropped : Option Cause
+  pub sends : List Datagram
+  pub tick_sends : List Datagram
   pub lost : ℕ
   pub skipped : ℕ
   pub performed : Option Performed
@@ -30,13 +34,14 @@ pub record Step : Type 0 where
   pub sends : List Datagram
   pub performed : Option Performed
   pub ended : List Finish
+  pub dropped : Option Cause
   pub skipped : ℕ
 
 abbrev pub no_step : (skipped : ℕ) → Step
-no_step skipped = record { sends = []; performed = None; ended = []; skipped = skipped }
+no_step skipped = record { sends = []; performed = None; ended = []; dropped = None; skipped = skipped }
 
 abbrev pub step_of : Outcome → Step
-step_of o = record { sends = o.sends; performed = o.performed; ended = o.ended; skipped = 0 }
+step_of o = record { sends = o.sends; performed = o.performed; ended = o.ended; dropped = o.dropped; skipped = 0 }
 
 -- the step was done
 pub record IsDone (goes_to : Node → Node → Outcome → Type 0) (old new : Node) (step : Step) : Type 0 where
@@ -88,6 +93,9 @@ pub record Steps (now : ℕ) (buffer : Octets) (old new : Node) (turn : Turn) (f
   pub hears : Hears now buffer turn.received old middle first
   pub ticks : Ticks now middle new second
   pub performed : turn.performed ≡ first.performed
+  pub dropped : turn.dropped ≡ first.dropped
+  pub sends : turn.sends ≡ first.sends
+  pub tick_sends : turn.tick_sends ≡ second.sends
   pub ended : turn.ended ≡ first.ended
   pub tick_ended : turn.tick_ended ≡ second.ended
   pub skipped : turn.skipped ≡ first.skipped + second.skipped
@@ -112,6 +120,7 @@ pub record Receives (p : Patience) (now : ℕ) (old : Station) (came : Option (O
 pub record Acts (now : ℕ) (old : Station) (turn : Turn) (new : Station) : Type 0 where
   pub first : Step
   pub second : Step
+  pub at : turn.at ≡ now
   pub steps : Steps now old.buffer old.node new.node turn first second
   pub carried : IsCarried (first.sends ++ second.sends) turn.lost old new
   pub buffer : new.buffer ≡ old.buffer

@@ -5,7 +5,7 @@ use Rattle.bac_apdu.specs.Views.{limits_view}
 use Rattle.bac_npdu.specs.Views.{peer_view}
 use Rattle.bac_service.specs.Views.{owned_request_view}
 use Rattle.bac_requester.specs.Views.{finish_view}
-use Rattle.bac_node.specs.Views.{performed_view}
+use Rattle.bac_node.specs.Views.{cause_view, performed_view}
 use Rattle.bac_run.specs.Asking as asking
 use Rattle.bac_run.specs.Turns as turns
 use Rattle.bac_run.specs.declared.question.Question.{Question}
@@ -15,7 +15,11 @@ use Rattle.bac_run.specs.declared.turn.Turn.{Turn}
 abbrev pub turn_view : Turn → turns.Turn
 turn_view t =
     record {
+      at = t.at;
       received = t.received;
+      dropped = option_map cause_view t.dropped;
+      sends = t.sends.items;
+      tick_sends = t.tick_sends.items;
       lost = t.lost;
       skipped = t.skipped;
       performed = option_map performed_view t.effect;
@@ -30,6 +34,7 @@ step_view s =
       sends = s.sends.items;
       performed = option_map performed_view s.effect;
       ended = map finish_view s.ended.items;
+      dropped = option_map cause_view s.dropped;
       skipped = s.skipped;
     }
 

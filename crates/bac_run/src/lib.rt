@@ -13,6 +13,7 @@ mod serving;
 mod station;
 mod step;
 mod turn;
+mod watch;
 
 pub use fault::TurnFault;
 pub use pairing::pair;
@@ -20,3 +21,4 @@ pub use patience::Patience;
 pub use question::{AskEnd, Question};
 pub use station::Station;
 pub use turn::Turn;
+pub use watch::{Unwatched, Watch};

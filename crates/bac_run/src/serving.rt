@@ -1,13 +1,15 @@
 //! A node that serves.
-ghost use Rattle.std.specs.Prelude.{◌↔◌, ◌<◌, ◌≤◌, IfOk, IfErr, IfSome, IsTrue, MatchOption};
+ghost use Rattle.std.specs.Prelude.{◌≡◌, ◌↔◌, ◌<◌, ◌≤◌, IfOk, IfErr, IfSome, IsTrue, MatchOption};
 ghost use Rattle.bac_run.specs.Runs.{TakesTurn, TurnFails, timed};
-ghost use Rattle.bac_run.specs.Serving.{IsBefore, IsOver, Serves, ServesOnce, ServingFails};
+ghost use Rattle.bac_run.specs.Seen.{Watches, WatchesOnce};
+ghost use Rattle.bac_run.specs.Serving.{IsBefore, IsOver, Serves, ServingFails};
 ghost use Rattle.bac_run.specs.Views.{turn_view};
 
 use crate::fault::TurnFault;
 use crate::patience::Patience;
 use crate::station::Station;
 use crate::turn::Turn;
+use crate::watch::{Unwatched, Watch};
 use bac_link::{Clock, Link};
 
 impl Patience {
@@ -39,16 +41,19 @@ impl<L: Link> Station<L> {
         self.turn_from(began, clock, patience)
     }
 
-    /// The same where it begins before the last moment, if there is one; how many requests were performed: 0 or 1.
-    fn serve_once<C: Clock>(
+    /// The same where it begins before the last moment, if there is one, and the watcher sees it; how many requests were performed: 0 or 1.
+    fn serve_once<C: Clock, W, V: Watch<W>>(
         &mut self,
         clock: &mut C,
         patience: &Patience,
+        watch: &mut V,
+        out: &mut W,
     ) -> Result<Option<u64>, TurnFault>
-        ensures served { IfOk result (λ r. IfSome r (λ effects. ServesOnce patience.now effects (timed self.old (C.told clock.old))
-            (timed self.new (C.told clock.new)))) }
+        ensures served { IfOk result (λ r. IfSome r (λ effects. WatchesOnce V.Sees patience.now (V.state watch.old out.old) (V.state watch.new out.new)
+            effects (timed self.old (C.told clock.old)) (timed self.new (C.told clock.new)))) }
         ensures over { IfOk result (λ r. MatchOption r (IsOver patience.now (timed self.old (C.told clock.old)) (timed self.new (C.told clock.new)))
             (λ effects. effects ≤ 1)) }
+        ensures unseen { IfOk result (λ r. MatchOption r (V.state watch.new out.new ≡ V.state watch.old out.old) (λ effects. effects ≤ 1)) }
         ensures failed { IfErr result (λ e. TurnFails e (timed self.old (C.told clock.old)) (timed self.new (C.told clock.new))) }
     {
         let began = clock.now();
@@ -56,6 +61,7 @@ impl<L: Link> Station<L> {
             return Ok(None);
         }
         let turn = self.turn_from(began, clock, patience)?;
+        watch.see(self.node(), self.buffer(), &turn, out);
         match turn.effect {
             Some(_) => Ok(Some(1)),
             None => Ok(Some(0)),
@@ -63,9 +69,35 @@ impl<L: Link> Station<L> {
     }
 
     /// The node takes so many turns, at the moments that a clock tells, but none that would begin at the last moment of its patience or later; a turn waits
-    /// no longer than its patience says. Answers how many requests it performed.
+    /// no longer than its patience says. The watcher sees each, and may tell of it. Answers how many requests it performed.
     ///
     /// `Link` where the link could not receive, `ClockBack` where the clock went back, both in the turn after those that stand.
+    pub fn serve_watched<C: Clock, W, V: Watch<W>>(
+        &mut self,
+        clock: &mut C,
+        patience: &Patience,
+        turns: u64,
+        watch: &mut V,
+        out: &mut W,
+    ) -> Result<u64, TurnFault>
+        ensures served { IfOk result (λ effects. Serves patience.now turns effects (timed self.old (C.told clock.old))
+            (timed self.new (C.told clock.new))) }
+        ensures watched { IfOk result (λ effects. Watches V.Sees patience.now (V.state watch.old out.old) (V.state watch.new out.new) turns effects
+            (timed self.old (C.told clock.old)) (timed self.new (C.told clock.new))) }
+        ensures failed { IfErr result (λ e. ServingFails e patience.now turns (timed self.old (C.told clock.old)) (timed self.new (C.told clock.new))) }
+    {
+        let mut effects = 0;
+        for _ in 0..turns {
+            let once = self.serve_once(clock, patience, watch, out)?;
+            let Some(more) = once else {
+                return Ok(effects);
+            };
+            effects += more;
+        }
+        Ok(effects)
+    }
+
+    /// The same, watched by nobody.
     pub fn serve<C: Clock>(
         &mut self,
         clock: &mut C,
@@ -76,14 +108,6 @@ impl<L: Link> Station<L> {
             (timed self.new (C.told clock.new))) }
         ensures failed { IfErr result (λ e. ServingFails e patience.now turns (timed self.old (C.told clock.old)) (timed self.new (C.told clock.new))) }
     {
-        let mut effects = 0;
-        for _ in 0..turns {
-            let once = self.serve_once(clock, patience)?;
-            let Some(more) = once else {
-                return Ok(effects);
-            };
-            effects += more;
-        }
-        Ok(effects)
+        self.serve_watched(clock, patience, turns, &mut Unwatched, &mut ())
     }
 }

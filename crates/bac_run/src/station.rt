@@ -124,7 +124,11 @@ impl<L: Link> Station<L> {
         let second = tick(self.alloc, &mut self.node, now);
         let second_lost = send_all(&mut self.link, &second.sends);
         Turn {
+            at: now,
             received,
+            dropped: first.dropped,
+            sends: first.sends,
+            tick_sends: second.sends,
             lost: first_lost.saturating_add(second_lost),
             skipped: first.skipped + second.skipped,
             effect: first.effect,

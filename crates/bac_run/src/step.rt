@@ -5,7 +5,7 @@ ghost use Rattle.bac_run.specs.Turns.{Hears, HearsOne, Ticks, no_step, step_of};
 ghost use Rattle.bac_run.specs.Views.{step_view};
 
 use bac_ends::Datagram;
-use bac_node::{Node, NodeFault, Outcome};
+use bac_node::{Cause, Node, NodeFault, Outcome};
 use bac_npdu::LinkAddress;
 use bac_requester::Finish;
 use bac_responder::Act;
@@ -17,6 +17,8 @@ pub(crate) struct Step {
     pub(crate) sends: Vec<Datagram>,
     pub(crate) effect: Option<Act>,
     pub(crate) ended: Vec<Finish>,
+    /// Why the datagram was dropped, if it was.
+    pub(crate) dropped: Option<Cause>,
     /// 1 where the step found no memory, and so changed nothing; otherwise 0.
     pub(crate) skipped: u8,
 }
@@ -30,6 +32,7 @@ impl Step {
             sends: outcome.sends,
             effect: outcome.effect,
             ended: outcome.ended,
+            dropped: outcome.dropped,
             skipped: 0,
         }
     }
@@ -44,6 +47,7 @@ impl Step {
             sends: Vec::new(alloc),
             effect: None,
             ended: Vec::new(alloc),
+            dropped: None,
             skipped,
         }
     }

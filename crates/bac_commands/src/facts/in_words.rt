@@ -69,7 +69,8 @@ fn complex_words(alloc: Global, complex: Complex<'_>) -> io::Result<Vec<u8>>
     }
 }
 
-fn reply_words(alloc: Global, reply: Reply<'_>) -> io::Result<Vec<u8>>
+/// A reply, in words, as [`ending_words`] tells it.
+pub fn reply_words(alloc: Global, reply: Reply<'_>) -> io::Result<Vec<u8>>
     ensures { IfOk result (λ t. AreReplyWords (reply_view reply.entry) t.items) }
 {
     match reply {

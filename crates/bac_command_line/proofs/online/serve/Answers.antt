@@ -7,12 +7,11 @@ use Rattle.bac_command_line.proofs.online.serve.Goals as goal
 pub returns : goal.returns
 returns g c =
     served_so (OnPort g.M.Machine.is_bound g.M.Link.Link.failures g.M.Link.Link.calls) (OnClock g.M.Machine.is_made g.M.Timer.Clock.told) _ _ c.now-start.result
-    c.restart-restart.result c.in-Some.bound.1 c.patience-patience.result c.most_turns.result _ _ _ _ c.serve.result c.restart-restart.ensures
-    c.patience-patience.ensures c.most_turns.ensures c.in-Ok.ensures.node
+    c.restart-restart.result c.in-Some.bound.1 _ _ _ _ _ _ c.serve_from.result c.restart-restart.ensures refl refl c.in-Ok.ensures.node
     (record { link = c.in-Some.bound.0; bound = c.in-Some.ensures; failed = c.in-Ok.ensures.failures; made = c.in-Ok.ensures.calls })
     (record {
       before = g.M.Timer.Clock.told c.in-Some-timer.timer;
       made = record { timer = c.in-Some-timer.timer; made = c.in-Some-timer.ensures; is = refl };
       is = c.now-start.ensures.tells;
     })
-    c.serve.ensures
+    c.serve_from.ensures

@@ -5,12 +5,15 @@ use Rattle.bac_run.proofs.station.Station.act.Goals as goal
 
 pub returns-clause-acted : goal.returns-clause-acted
 returns-clause-acted g c =
-    acted _ c.deref.result.now _ _ _ _ (step_view c.hear_received-first.result) (step_view c.tick-second.result) c.self.view_is c.deref.ensures.value refl
+    acted _ c.deref.result.now _ _ _ _ (step_view c.hear_received-first.result) (step_view c.tick-second.result) c.self.view_is c.deref.ensures.value refl refl
     (record {
       middle = c.hear_received-first.new.node;
       hears = c.hear_received-first.ensures.heard;
       ticks = c.tick-second.ensures.ticked;
       performed = refl;
+      dropped = refl;
+      sends = refl;
+      tick_sends = refl;
       ended = refl;
       tick_ended = refl;
       skipped = refl;

@@ -1,0 +1,4 @@
+pub mod Frames
+pub mod Words
+pub mod Lines
+pub mod Logs
