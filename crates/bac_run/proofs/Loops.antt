@@ -1,5 +1,5 @@
 -- What a loop over turns keeps, and what follows where it ends.
-use Rattle.std.proofs.Common.{◌≡◌, ℕ, suc, ◌+◌, ◌<◌, Bool, true, false, ◌==◌, if◌then◌else◌, List, [], ◌∷◌, ◌++◌, map, length, Option, Some, None}
+use Rattle.std.proofs.Common.{◌≡◌, ℕ, suc, ◌+◌, ◌<◌, Bool, true, false, ◌==◌, if◌then◌else◌, List, [], ◌∷◌, ◌++◌, Option, Some, None}
 use Rattle.std.proofs.Common.{refl, ap, sym, ◌∙◌, subst, arith, add-one, inl, inr}
 use Rattle.std.specs.Option.{option_map}
 use Rattle.std.specs.Prelude.{IfSome, MatchOption}
@@ -8,31 +8,25 @@ use Rattle.bac_run.specs.Turns.{Turn}
 use Rattle.bac_link.specs.Moments.{with_moment}
 use Rattle.bac_protocol.specs.Service.{Octets}
 use Rattle.bac_world.specs.Node.{Node}
-use Rattle.bac_run.specs.Runs.{Run, TakesTurnFrom, Timed, timed}
-use Rattle.bac_run.specs.Seen.{Seen, TakesSeenTurn, Watcher, Watches, WatchesOnce, WatchesTurns, seen, turn_of}
-use Rattle.bac_run.specs.Serving.{IsBefore, IsOver, Serves, StopsServing, TakesEarlyTurn, TakesTurns, count_of}
+use Rattle.bac_run.specs.Runs.{TakesTurnFrom, Timed, timed}
+use Rattle.bac_run.specs.Seen.{Watcher, WatchesOnce, WatchesTurns, seen}
+use Rattle.bac_run.specs.Serving.{IsBefore, IsOver, Serves, StopsAfter, StopsServing, TakesEarlyTurn, TakesTurns, TurnsWith, count_of}
 use Rattle.bac_run.specs.declared.patience.Patience.{Patience}
 use Rattle.bac_run.specs.Asking.{EndsIn, NeverEnds, Stops, ending_in, ending_of}
 
 -- ---- serving
 
--- turns that were seen were taken
-run_of : (p : Patience) (taken : List Seen) (old new : Timed) → Run (TakesSeenTurn p) taken old new → Run (TakesEarlyTurn p) (map turn_of taken) old new
-run_of p [] old new run = run
-run_of p (s ∷ before) old new run = record { middle = run.middle; so_far = run_of p before old run.middle run.so_far; last = run.last.takes }
+pub none_served : (p : Patience) (old : Timed) → TakesTurns p 0 0 old old
+none_served p old = record { taken = []; all = refl; run = refl; counted = refl }
 
-map_length : (taken : List Seen) → length (map turn_of taken) ≡ length taken
-map_length [] = refl
-map_length (s ∷ taken) = ap suc (map_length taken)
-
-taken_of : {S : Type 0} (Sees : Watcher S) (p : Patience) (from to : S) (turns effects : ℕ) (old new : Timed)
-    → WatchesTurns Sees p from to turns effects old new → TakesTurns p turns effects old new
-taken_of Sees p from to turns effects old new w =
+pub one_more_served : (p : Patience) (turns effects more : ℕ) (turn : Turn) (old middle new : Timed) → TakesTurns p turns effects old middle
+    → TakesEarlyTurn p middle turn new → more ≡ count_of turn.performed → TakesTurns p (turns + 1) (effects + more) old new
+one_more_served p turns effects more turn old middle new before takes counted =
     record {
-      taken = map turn_of w.taken;
-      all = map_length w.taken ∙ w.all;
-      run = run_of p w.taken old new w.run;
-      counted = w.counted;
+      taken = turn ∷ before.taken;
+      all = rw (add-one turns) (ap suc before.all);
+      run = record { middle = middle; so_far = before.run; last = takes };
+      counted = let a = before.counted in omega (arith, counted);
     }
 
 pub none_watched : {S : Type 0} (Sees : Watcher S) (p : Patience) (from : S) (old : Timed) → WatchesTurns Sees p from from 0 0 old old
@@ -76,29 +70,22 @@ few_of r is_over is_few more is over = subst (λ (o : Option ℕ). MatchOption o
 pub over_of : (r : Option ℕ) (is_over : Type 0) (is_few : ℕ → Type 0) → r ≡ None → MatchOption r is_over is_few → is_over
 over_of r is_over is_few is over = subst (λ (o : Option ℕ). MatchOption o is_over is_few) is over
 
-pub watched_all : {S : Type 0} (Sees : Watcher S) (p : Patience) (from to : S) (turns effects : ℕ) (old new : Timed)
-    → WatchesTurns Sees p from to turns effects old new
-    → Serves p turns effects old new × Watches Sees p from to turns effects old new
-watched_all Sees p from to turns effects old new w = (inl (taken_of Sees p from to turns effects old new w), inl w)
+stops_after : (p : Patience) (turns all effects : ℕ) (happens : Timed → Timed → Type 0) (old middle new : Timed) → turns < all
+    → TakesTurns p turns effects old middle → happens middle new → StopsAfter (TurnsWith p effects) all happens old new
+stops_after p turns all effects happens old middle new fewer before stopped =
+    record { taken = turns; fewer = fewer; middle = middle; takes = before; stopped = stopped }
 
--- the time was over, and nothing more was seen
-pub watched_in_time : {S : Type 0} (Sees : Watcher S) (p : Patience) (from between to : S) (turns all effects : ℕ) (old middle new : Timed) → turns < all
-    → WatchesTurns Sees p from between turns effects old middle → to ≡ between → IsOver p middle new
-    → Serves p all effects old new × Watches Sees p from to all effects old new
-watched_in_time Sees p from between to turns all effects old middle new fewer w same over = (
-  inr (record { taken = turns; fewer = fewer; middle = middle; takes = taken_of Sees p from between turns effects old middle w; stopped = over }),
-  subst (λ (s : _). Watches Sees p from s all effects old new) (sym same)
-      (inr (record { taken = turns; fewer = fewer; middle = middle; takes = w; stopped = over })),
-)
+pub served_all : (p : Patience) (turns effects : ℕ) (old new : Timed) → TakesTurns p turns effects old new → Serves p turns effects old new
+served_all p turns effects old new takes = inl takes
 
-pub stops_serving : {S : Type 0} (Sees : Watcher S) (p : Patience) (from to : S) (turns all effects : ℕ) (happens : Timed → Timed → Type 0)
-    (old middle new : Timed) → turns < all → WatchesTurns Sees p from to turns effects old middle → happens middle new → StopsServing p all happens old new
-stops_serving Sees p from to turns all effects happens old middle new fewer w stopped =
-    record {
-      effects = effects;
-      stops =
-          record { taken = turns; fewer = fewer; middle = middle; takes = taken_of Sees p from to turns effects old middle w; stopped = stopped };
-    }
+pub served_in_time : (p : Patience) (turns all effects : ℕ) (old middle new : Timed) → turns < all → TakesTurns p turns effects old middle
+    → IsOver p middle new → Serves p all effects old new
+served_in_time p turns all effects old middle new fewer before over = inr (stops_after p turns all effects (IsOver p) old middle new fewer before over)
+
+pub stops_serving : (p : Patience) (turns all effects : ℕ) (happens : Timed → Timed → Type 0) (old middle new : Timed) → turns < all
+    → TakesTurns p turns effects old middle → happens middle new → StopsServing p all happens old new
+stops_serving p turns all effects happens old middle new fewer before stopped =
+    record { effects = effects; stops = stops_after p turns all effects happens old middle new fewer before stopped }
 
 -- ---- waiting
 

@@ -4,7 +4,6 @@ use Rattle.bac_protocol.specs.Service.{Octets}
 use Rattle.bac_world.specs.Node.{Node}
 use Rattle.bac_run.specs.Runs.{Run, Timed}
 use Rattle.bac_run.specs.Serving.{IsOver, StopsAfter, TakesEarlyTurn, count_of, performed_in}
-use Rattle.bac_run.specs.Stations.{Station}
 use Rattle.bac_run.specs.Turns.{Turn}
 use Rattle.bac_run.specs.declared.patience.Patience.{Patience}
 
