@@ -1,9 +1,10 @@
 #!/usr/bin/env python3
 """200 appends over a bad network, to servers that are killed and started again: restarts.py PROGRAM SEED [forgetful]
 
-Eight processes of `bac serve`, with 25 appends each by processes of `bac ask`, all through a proxy. While the tenth append of each is under way, its server is
-killed, and started again with `--restarted` and, by `--objects`, the file that it had. Asks go on at once, and are turned away; 65 seconds later they are
-performed again. At the end each file is read: no append may be in it twice, or in part, and each that was answered has to be at the position of its answer.
+Eight processes of `bac serve`, with 25 appends each by processes of `bac ask`, all through a proxy. While the tenth append of each is under way, and each
+answer to it is lost, its server is killed, and started again with `--restarted` and, by `--objects`, the file that it had. Asks go on at once, and are turned
+away; 65 seconds later they are performed again. At the end each file is read: no append may be in it twice, or in part, and each that was answered has to be
+at the position of its answer.
 
 With `forgetful` the servers are started again without `--restarted`: then some append has to be found twice, which shows that it would be seen.
 """
@@ -67,9 +68,11 @@ def run(program, network, server_number, folder, house, options):
         for number in range(first, first + KILLED_AT):
             append(number)
         under_way = threading.Thread(target=append, args=(first + KILLED_AT,))
-        under_way.start()
-        time.sleep(draws.random() * 3)
-        with restarted(program, network, server, folder, house, options) as serving:
+        with ExitStack() as runs:
+            with network.silent(server.port):
+                under_way.start()
+                time.sleep(draws.random() * 3)
+                serving = runs.enter_context(restarted(program, network, server, folder, house, options))
             began = time.monotonic()
             under_way.join()
             for number in range(first + KILLED_AT + 1, first + KILLED_AT + 1 + TURNED_AWAY):

@@ -25,7 +25,7 @@ TYPED = re.compile(r'(out/bac|cp|cd|rt|sh|make|cc) ')
 BY_RT = re.compile(r'cd crates/bac && rt (try|run) -- ')
 TOLD = re.compile(r'(?:prints|says) `([^`]*)`')  # at the begin of the words after a block
 INLINE = re.compile(r'`(out/bac [^`]*)`[^`]*\bprints$')  # at the end of the words before a block
-WRITTEN = re.compile(r'script `([^`]*)`$')  # so: the block is a file
+WRITTEN = re.compile(r'(?:script|file|list) `([\w.]+)`$')  # so: the block is that file
 ENDED = re.compile(r'ends with `([^`]*)`')
 
 
