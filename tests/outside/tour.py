@@ -4,7 +4,7 @@
 Each `out/bac` command of README's code blocks is run, in a folder that has that program, and what it prints on either stream is held against the lines below
 it; where there are none, against what the next words say: a block, or a text in backquotes after `prints` or `says`. `rt run --` and `rt try --` are run as
 `out/bac`. A `serve` runs on, at a free port that stands for README's, while the commands after it are run; where README says what it `ends with`, it has to
-end so, otherwise it is killed in the end. Other commands are named and not run.
+end so, otherwise it is killed in the end. Other commands are named and not run. The texts of SAID, which README's sentences have, are held too.
 """
 
 import re
@@ -27,6 +27,14 @@ TOLD = re.compile(r'(?:prints|says) `([^`]*)`')  # at the begin of the words aft
 INLINE = re.compile(r'`(out/bac [^`]*)`[^`]*\bprints$')  # at the end of the words before a block
 WRITTEN = re.compile(r'(?:script|file|list) `([\w.]+)`$')  # so: the block is that file
 ENDED = re.compile(r'ends with `([^`]*)`')
+ASKS = 'for ask in $(seq 65); do out/bac ask --port 47808 read 0:5 85; done | tail -n 1'
+SAID = [  # a text of a sentence, and a command of which it is a line
+    ('bad words: property "presentvalue" is no name and no number', 'out/bac ask --port 47808 --text read analog-input:5 presentvalue'),
+    ('plant.toml: object 2 (analog-input 5): present-value: real wanted, text given',
+     "sed 's/real = 72.3/text = \"flow\"/' ../../docs/house.toml > plant.toml; out/bac serve --port 47808 --objects plant.toml"),
+    ('serving from 65001', 'out/bac serve --port 47808 --seconds 1 --restarted'),
+    ('aborted 0', f'out/bac serve --port 47808 --turns 100000 & served=$!; sleep 0.5; {ASKS}; kill $served'),
+]
 
 
 def parts_of(text):
@@ -86,24 +94,29 @@ class Tour:
     def run(self, command):
         """A command, at the port of the latest server: what it prints."""
         self.ran += 1
-        command = BY_RT.sub('out/bac ', command)
-        if ' serve ' in command:
-            self.port = free_port()
-            self.servers.append(Serving(command.replace(PORT, str(self.port)), self.port, self.here))
-            said = self.servers[-1].said.read_text()
-            if not self.servers[-1].serves:
-                self.wrong.append(f'{command}: it does not serve, and says {said!r}')
-            return said
         words = ['sh', '-c', command.replace(PORT, str(self.port))]
         done = subprocess.run(words, cwd=self.here, stdout=subprocess.PIPE, stderr=subprocess.STDOUT, text=True, timeout=120)
         return done.stdout
+
+    def serve(self, command):
+        """A server, at a port of its own: what it says when it listens."""
+        self.ran, self.port = self.ran + 1, free_port()
+        self.servers.append(Serving(command.replace(PORT, str(self.port)), self.port, self.here))
+        said = self.servers[-1].said.read_text()
+        if not self.servers[-1].serves:
+            self.wrong.append(f'{command}: it does not serve, and says {said!r}')
+        return said
+
+    def start(self, command):
+        command = BY_RT.sub('out/bac ', command)
+        return self.serve(command) if ' serve ' in command else self.run(command)
 
     def type(self, command, below):
         """A command of a block, and the lines below it."""
         if not BY_RT.match(command) and not command.startswith(('out/bac ', 'cp ')):
             self.left_out.append(command)
             return
-        self.open = command, self.run(command)
+        self.open = command, self.start(command)
         if below or command.startswith('cp '):
             self.hold(command, '\n'.join(below), self.open[1])
 
@@ -116,7 +129,7 @@ class Tour:
             self.hold(self.servers[-1].command, ended, self.servers[-1].end())
         inline, written = INLINE.search(text.rstrip(':')), WRITTEN.search(text.rstrip(':'))
         if inline:
-            self.open = inline[1], self.run(inline[1])
+            self.open = inline[1], self.start(inline[1])
         self.file = written[1] if written else None
 
     def read_block(self, lines):
@@ -131,6 +144,15 @@ class Tour:
         else:
             self.wrong.append(f'a block that is no command and no output: {lines[0]}')
 
+    def read_said(self, text):
+        """The texts that stand in sentences."""
+        for said, command in SAID:
+            self.port, self.held = free_port(), self.held + 1
+            if f'`{said}`' not in text:
+                self.left_out.append(f'README no longer says {said}')
+            elif said not in (lines := self.run(command).splitlines()):
+                self.wrong.append(f'{command}\n  README:  {said!r}\n  printed: {lines}')
+
     def close(self):
         for server in self.servers:
             server.close()
@@ -143,9 +165,10 @@ def main(words):
         try:
             for is_block, lines in parts_of(text):
                 tour.read_block(lines) if is_block else tour.read_words(' '.join(lines))
+            tour.read_said(text)
         finally:
             tour.close()
-    print(f'{tour.ran} commands run, {tour.held} outputs held against README, {len(tour.left_out)} commands left out: {"; ".join(tour.left_out)}')
+    print(f'{tour.ran} commands run, {tour.held} outputs held against README, left out: {"; ".join(tour.left_out)}')
     for wrong in tour.wrong:
         print(f'WRONG: {wrong}')
     return 1 if tour.wrong else 0
