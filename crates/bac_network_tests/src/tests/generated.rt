@@ -119,9 +119,12 @@ impl Followed {
     }
 
     fn changes(&mut self, alloc: Global, node: usize, change: &Change) -> Result<(), Wrong> {
-        match self.stores.get_mut(node) {
-            Some(store) if store.change(alloc, change).is_ok() => Ok(()),
-            _ => Err(Wrong::Line),
+        let Some(store) = self.stores.get_mut(node) else {
+            return Err(Wrong::Line);
+        };
+        match store.change(alloc, change) {
+            Ok(()) => Ok(()),
+            Err(_) => Err(Wrong::Line),
         }
     }
 
