@@ -13,6 +13,8 @@ mod help;
 mod logged;
 mod online;
 mod outputs;
+mod restarts;
+mod served_documents;
 mod sockets;
 mod wrong;
 
