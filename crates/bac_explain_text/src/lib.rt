@@ -17,4 +17,4 @@ mod words;
 
 pub use explain::explain_over;
 pub use peers::{link_text, peer_text};
-pub use request_words::{request_words, service_words};
+pub use request_words::{request_in_words, service_words};

@@ -115,7 +115,7 @@ fn put_records_text(
 }
 
 /// A request, as `write analog-value:1 present-value real 72.3 priority 8`.
-pub fn request_words(alloc: Global, request: Request<'_>) -> Result<Vec<u8>, NoMemory>
+pub fn request_in_words(alloc: Global, request: Request<'_>) -> Result<Vec<u8>, NoMemory>
     ensures { IfOk result (λ t. AreRequestWords (request_view request.entry) t.items) }
 {
     match request {
@@ -134,7 +134,7 @@ pub fn service_words(alloc: Global, choice: u8, service: &[u8]) -> Result<Vec<u8
     ensures { IfOk result (λ t. AreServiceWords choice service.now t.items) }
 {
     match read_request(choice, service) {
-        Ok(request) => request_words(alloc, request),
+        Ok(request) => request_in_words(alloc, request),
         Err(_) => Ok(service_text(alloc, choice)?),
     }
 }

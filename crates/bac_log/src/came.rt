@@ -7,7 +7,7 @@ ghost use Rattle.bac_value_text.specs.Reasons.{abort_text};
 ghost use Rattle.bac_log.specs.Words.{AreAskedWords, AreAskingWords, AreCameWords, segment_words};
 
 use bac_apdu::{Apdu, Segment};
-use bac_explain_text::{request_words, service_words};
+use bac_explain_text::{request_in_words, service_words};
 use bac_responder::Act;
 use bac_value::NoMemory;
 use bac_value_text::abort_text;
@@ -78,7 +78,7 @@ pub(crate) fn asking_words(
     ensures { IfOk result (λ t. AreAskingWords (option_map performed_view effect.now) (apdu_view apdu.now) t.items) }
 {
     match effect {
-        Some(act) => request_words(alloc, act.effect.request.as_request()),
+        Some(act) => request_in_words(alloc, act.effect.request.as_request()),
         None => came_words(alloc, apdu),
     }
 }

@@ -226,6 +226,6 @@ fn serves_on_where_the_log_fails(rt: HostRuntime) -> Result<(), Fail> {
     };
     let status = run(rt.alloc(), &words, &EMPTY, &machine, &mut out, &mut err);
     holds(status.code() == 0, "status")?;
-    holds(out.as_slice() == b"served 2\n", "out")?;
-    holds(err.text.as_slice() == b"log fault\n", "err")
+    holds(out.as_slice() == b"served 2\n".as_slice(), "out")?;
+    holds(err.text.as_slice() == b"log fault\n".as_slice(), "err")
 }
