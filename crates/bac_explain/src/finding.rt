@@ -46,7 +46,7 @@ impl fmt::Display for Finding {
             Finding::SegmentMissing => write!(f, "a segment before it is missing"),
             Finding::BeyondWindow => write!(f, "a segment beyond the window"),
             Finding::SegmentSentTooOften => write!(f, "a segment sent more than four times"),
-            Finding::OldCopy => write!(f, "a copy older than 5,000 ms"),
+            Finding::OldCopy => write!(f, "a copy older than 5 s"),
             Finding::NegativeAck => write!(f, "a negative SegmentACK"),
         }
     }
