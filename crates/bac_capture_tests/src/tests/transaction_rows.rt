@@ -255,11 +255,11 @@ pub(super) const SEGMENTS: &[Row] = &[
             (
                 0,
                 true,
-                "810A000D01040C0502FE020F19E",
+                "810A000D01040C0502FE020F9E",
                 "a segment before it is missing",
             ),
             (1, false, "810A000A01004102FE02", "-"),
-            (2, true, "810A000D01040C0502FF020F19F", "-"),
+            (2, true, "810A000D01040C0502FF020F9F", "-"),
             (3, true, "810A000D01040C050200020FA0", "-"),
             (
                 4,
