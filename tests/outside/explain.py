@@ -232,6 +232,15 @@ def segment_finding(sent, where, seen):
     return 'a segment sent more than four times' if taken and ahead == 1 and sent.grant[2] >= MOST_SENDS else None
 
 
+def again_finding(sent, seen):
+    """What is wrong with a request, or its first segment, that comes again."""
+    if sent.times < MOST_SENDS:
+        return None
+    if seen.segment is None:
+        return 'a request sent more than four times'
+    return 'a segment sent more than four times' if sent.grant == 'first' else None
+
+
 @dataclass
 class Watch:
     """The open transactions, in the order of their beginning, and what is to be printed."""
@@ -266,11 +275,11 @@ class Watch:
         it = self.live(seen)
         where = place(it.request, seen) if it else 'other'
         if where != 'other':
-            finding = None if where == 'again' else segment_finding(it.request, where, seen)
+            finding = again_finding(it.request, seen) if where == 'again' else segment_finding(it.request, where, seen)
             count(it.request, where, seen)
             if it.answer and isinstance(it.answer.grant, tuple):
                 it.answer.grant = (*it.answer.grant[:2], 0)
-            return 'a request sent more than four times' if where == 'again' and it.request.times > MOST_SENDS else finding
+            return finding
         finding = 'another request with the invoke ID of an earlier one' if it else 'a segment before it is missing' if seen.segment else None
         if seen.key in self.open:
             self.close(seen.key)

@@ -5,6 +5,8 @@ use Rattle.bac_protocol.specs.declared.times.TheConstants.{KEEP, LIFE}
 use Rattle.bac_explain.specs.declared.finding.Finding.{Finding}
 use Rattle.bac_explain.specs.declared.finding.Finding.TheVariants.{AnotherAnswer, PerformedTwice, SentTooOften, SegmentMissing, BeyondWindow}
 use Rattle.bac_explain.specs.declared.finding.Finding.TheVariants.{SegmentSentTooOften, OldCopy, NegativeAck}
+use Rattle.bac_explain.specs.declared.grant.Grant.{Grant}
+use Rattle.bac_explain.specs.declared.grant.Grant.TheVariants.{First, Unknown, Window}
 use Rattle.bac_explain.specs.declared.numbers.TheConstants.{MOST_SENDS}
 use Rattle.bac_explain.specs.declared.part.Taken.{Taken}
 use Rattle.bac_explain.specs.declared.sent.Place.{Place}
@@ -48,12 +50,18 @@ granted_finding place number s =
 abbrev pub segment_finding : Place → Option ℕ → SentView → Option Finding
 segment_finding place number s = if is_beyond s.grant number then Some BeyondWindow else granted_finding place number s
 
--- once, and three retries
-abbrev pub sends_finding : ℕ → Option Finding
-sends_finding times = if nat_le MOST_SENDS times then Some SentTooOften else None
+-- once, and three retries; the first segment comes again with each repeat of the whole, but before any is acknowledged only by its retries
+abbrev pub spent_finding : Option ℕ → Grant → Option Finding
+spent_finding None grant = Some SentTooOften
+spent_finding (Some number) First = Some SegmentSentTooOften
+spent_finding (Some number) Unknown = None
+spent_finding (Some number) (Window g) = None
+
+abbrev pub again_finding : Option ℕ → SentView → Option Finding
+again_finding number s = if nat_lt s.times MOST_SENDS then None else spent_finding number s.grant
 
 abbrev pub request_finding : Place → Option ℕ → SentView → Option Finding
-request_finding Again number s = sends_finding s.times
+request_finding Again number s = again_finding number s
 request_finding Next number s = segment_finding Next number s
 request_finding Back number s = segment_finding Back number s
 request_finding Ahead number s = segment_finding Ahead number s

@@ -1,13 +1,14 @@
 //! One transaction, as it was seen.
 ghost use Rattle.std.specs.Prelude.{◌≡◌, ◌-◌, IfOk, OnErr, nat_le};
 ghost use Rattle.std.specs.Option.{option_map};
-ghost use Rattle.bac_explain.specs.Transactions.{acknowledged, answer_finding, answered, first_finding, first_request, given_up, is_live, is_old, nak_counted};
+ghost use Rattle.bac_explain.specs.Transactions.{acknowledged, again_finding, answer_finding, answered, first_finding, first_request, given_up, is_live, is_old, nak_counted};
 ghost use Rattle.bac_explain.specs.Transactions.{other_answer, request_finding, requested, segment_finding, segments_taken};
 ghost use Rattle.bac_explain.specs.Views.{transaction_view};
 ghost use Rattle.bac_explain.specs.SentViews.{sent_view};
 
 use crate::appends::is_performed_twice;
 use crate::finding::Finding;
+use crate::grant::Grant;
 use crate::numbers::{MOST_SENDS, one_more};
 use crate::part::Taken;
 use crate::sent::{Place, Sent};
@@ -53,13 +54,27 @@ fn segment_finding(sent: &Sent, place: Place, number: Option<u8>) -> Option<Find
     None
 }
 
+/// What is wrong with a request, or its first segment, that comes again.
+fn again_finding(request: &Sent, number: Option<u8>) -> Option<Finding>
+    ensures { result ≡ again_finding number (sent_view request.now) }
+{
+    if request.times < MOST_SENDS {
+        return None;
+    }
+    match (number, request.grant) {
+        (None, _) => Some(Finding::SentTooOften),
+        (Some(_), Grant::First) => Some(Finding::SegmentSentTooOften),
+        (Some(_), Grant::Unknown | Grant::Window(_)) => None,
+    }
+}
+
 /// What is wrong with a request that stands there after what was asked before.
 fn request_finding(request: &Sent, place: Place, number: Option<u8>) -> Option<Finding>
     ensures { result ≡ request_finding place number (sent_view request.now) }
 {
     match place {
-        Place::Again if request.times >= MOST_SENDS => Some(Finding::SentTooOften),
-        Place::Again | Place::Other => None,
+        Place::Again => again_finding(request, number),
+        Place::Other => None,
         Place::Next | Place::Back | Place::Ahead => segment_finding(request, place, number),
     }
 }

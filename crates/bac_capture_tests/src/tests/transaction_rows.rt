@@ -219,6 +219,32 @@ pub(super) const SEGMENTS: &[Row] = &[
         ],
     ),
     (
+        "the first segment sent five times",
+        &[
+            (0, true, "810A000D01040C050200020FA0", "-"),
+            (2000, true, "810A000D01040C050200020FA0", "-"),
+            (4000, true, "810A000D01040C050200020FA0", "-"),
+            (6000, true, "810A000D01040C050200020FA0", "-"),
+            (
+                8000,
+                true,
+                "810A000D01040C050200020FA0",
+                "a segment sent more than four times",
+            ),
+        ],
+    ),
+    (
+        "the first segment sent five times, after it was taken",
+        &[
+            (0, true, "810A000D01040C050200020FA0", "-"),
+            (1, false, "810A000A010041020002", "-"),
+            (2000, true, "810A000D01040C050200020FA0", "-"),
+            (4000, true, "810A000D01040C050200020FA0", "-"),
+            (6000, true, "810A000D01040C050200020FA0", "-"),
+            (8000, true, "810A000D01040C050200020FA0", "-"),
+        ],
+    ),
+    (
         "begun again",
         &[
             (0, true, "810A000D01040C050200020FA0", "-"),
