@@ -4,7 +4,8 @@
 Each `out/bac` command of README's code blocks is run, in a folder that has that program, and what it prints on either stream is held against the lines below
 it; where there are none, against what the next words say: a block, or a text in backquotes after `prints` or `says`. `rt run --` and `rt try --` are run as
 `out/bac`. A `serve` runs on, at a free port that stands for README's, while the commands after it are run; where README says what it `ends with`, it has to
-end so, otherwise it is killed in the end. Other commands are named and not run. The texts of SAID, which README's sentences have, are held too.
+end so, otherwise it is killed in the end. Lines below it have to be among those that it said, in their order, but for moments, ports of clients and invoke
+IDs. Other commands are named and not run. The texts of SAID, which README's sentences have, are held too.
 """
 
 import re
@@ -51,10 +52,17 @@ def parts_of(text):
     return [part for part in parts if part[1]]
 
 
-class Serving:
-    """A `serve` that runs on, at a free port."""
+def masked(line, port):
+    """A line without what differs from run to run."""
+    line = re.sub(r'^\d+ ', 'MOMENT ', line.replace(str(port), PORT))
+    return re.sub(r'\bid \d+', 'id ID', re.sub(rf'(127\.0\.0\.1):(?!{PORT}\b)\d+', r'\1:ANY', line))
 
-    def __init__(self, command, port, folder):
+
+class Serving:
+    """A `serve` that runs on, at a free port. `below` are the lines that README has below it."""
+
+    def __init__(self, command, port, folder, below):
+        self.port, self.below = port, below
         command = re.sub(r'--seconds (\d+)', lambda found: f'--seconds {min(int(found[1]), LIVES)}', command)
         self.command, self.said = command, folder / f'said{port}'
         with open(self.said, 'w') as err:
@@ -69,8 +77,11 @@ class Serving:
         return self.process.communicate(timeout=LIVES + START_SECONDS)[0]
 
     def close(self):
+        """Ends it. Those of the lines below that it did not say in their order."""
         self.process.kill()
         self.process.communicate()
+        said = (masked(line, self.port) for line in self.said.read_text().splitlines())
+        return [line for line in self.below if masked(line, PORT) not in said]
 
 
 class Tour:
@@ -98,26 +109,28 @@ class Tour:
         done = subprocess.run(words, cwd=self.here, stdout=subprocess.PIPE, stderr=subprocess.STDOUT, text=True, timeout=120)
         return done.stdout
 
-    def serve(self, command):
+    def serve(self, command, below):
         """A server, at a port of its own: what it says when it listens."""
         self.ran, self.port = self.ran + 1, free_port()
-        self.servers.append(Serving(command.replace(PORT, str(self.port)), self.port, self.here))
+        self.servers.append(Serving(command.replace(PORT, str(self.port)), self.port, self.here, below))
         said = self.servers[-1].said.read_text()
         if not self.servers[-1].serves:
             self.wrong.append(f'{command}: it does not serve, and says {said!r}')
         return said
 
-    def start(self, command):
+    def start(self, command, below=()):
         command = BY_RT.sub('out/bac ', command)
-        return self.serve(command) if ' serve ' in command else self.run(command)
+        return self.serve(command, below) if ' serve ' in command else self.run(command)
 
     def type(self, command, below):
         """A command of a block, and the lines below it."""
         if not BY_RT.match(command) and not command.startswith(('out/bac ', 'cp ')):
             self.left_out.append(command)
             return
-        self.open = command, self.start(command)
-        if below or command.startswith('cp '):
+        self.open = command, self.start(command, below)
+        if ' serve ' in command and below:
+            self.open = None
+        elif below or command.startswith('cp '):
             self.hold(command, '\n'.join(below), self.open[1])
 
     def read_words(self, text):
@@ -155,7 +168,8 @@ class Tour:
 
     def close(self):
         for server in self.servers:
-            server.close()
+            self.held += bool(server.below)
+            self.wrong += [f'{server.command}: it did not say {line!r}' for line in server.close()]
 
 
 def main(words):

@@ -13,6 +13,7 @@ mod help;
 mod online;
 mod outputs;
 mod restarts;
+mod served_documents;
 mod sockets;
 mod wrong;
 

@@ -198,10 +198,11 @@ impl Drivers {
             && self.sleeps.log().len() == self.ticks.log().len()
     }
 
-    /// Whether nothing differs, once all nodes know the same latest moment.
+    /// The same, and nothing differs once all nodes know the same latest moment.
     fn are_same(&mut self) -> Result<bool, Wrong> {
+        let are_alike = self.are_alike();
         settle(&mut self.sleeps, Driver::Ticks)?;
-        Ok(self.are_alike() && self.sleeps.same(&self.ticks))
+        Ok(are_alike && self.sleeps.same(&self.ticks))
     }
 }
 
