@@ -58,9 +58,9 @@ pub record IsAt (IsOn : Links) (host : Octets) (port : ℕ) (node_at : (address 
   pub node : station.node ≡ node_at address
   pub on : IsOn host port address station.failures station.calls
 
--- one with the house store, to which nothing has happened, at any free port
-abbrev pub IsHouseAt : Links → (host : Octets) → Station → Type 0
-IsHouseAt IsOn host station = IsAt IsOn host FREE house_node station
+-- one with the house store, to which nothing has happened, at any free port; its invoke IDs begin at that one
+abbrev pub IsHouseAt : Links → (host : Octets) → (first_id : ℕ) → Station → Type 0
+IsHouseAt IsOn host first_id station = IsAt IsOn host FREE (house_node first_id) station
 
 -- ---- serving
 
@@ -99,13 +99,14 @@ abbrev pub ReportsAs : Status → (text strict : Bool) → Question → (before 
 ReportsAs s text strict q before after old new =
     ByStatus s (AskedAs text strict true q before after old new) (AskedAs text strict false q before after old new) ⊥
 
--- a house at any free port asked the node at an address, and how that ended was printed
+-- a house at any free port, whose invoke IDs began anywhere, asked the node at an address, and how that ended was printed
 pub record Asks (IsOn : Links) (IsClock : Clocks) (asking : Asking) (succeeded : Bool) (words : List (List ℕ)) (old new : Option (List ℕ)) : Type 0 where
   pub question : Question
   pub is : IsQuestion asking.peer words question
   pub before : Timed
   pub after : Timed
-  pub house : IsHouseAt IsOn asking.host before.station
+  pub first_id : ℕ
+  pub house : IsHouseAt IsOn asking.host first_id before.station
   pub clock : IsClock before.told
   pub printed : AskedAs asking.text asking.strict succeeded question before after old new
 
@@ -120,8 +121,8 @@ IsAsked IsOn IsClock s asking words old new =
 pub record Pairs (IsOn : Links) (IsClock : Clocks) (answered : Bool) (old new : Option (List ℕ)) : Type 0 where
   pub before : Pair
   pub after : Pair
-  pub first : IsHouseAt IsOn LOCAL_HOST before.first
-  pub second : IsHouseAt IsOn LOCAL_HOST before.second
+  pub first : IsHouseAt IsOn LOCAL_HOST 0 before.first
+  pub second : IsHouseAt IsOn LOCAL_HOST 0 before.second
   pub clock : IsClock before.told
   pub texts : TwoTexts answered before after old new
 

@@ -42,6 +42,9 @@ pub trait Machine {
     /// A clock; None where it can't be read.
     fn timer(&self) -> Option<Self::Timer>
         ensures { IfSome result Self.is_made };
+
+    /// The invoke ID at which a new client begins, one that differs from run to run where the machine can tell one; None where its clock can't be read.
+    fn first_id(&self) -> Option<u8>;
 }
 
 /// Tells on `err` where a node listens, and how many slots it has; and from when on it serves, where it restarted.
@@ -136,8 +139,8 @@ fn ask_on<L: Link, C: Clock, O: Write, E: Write>(
     }
 }
 
-/// A node at any free port asks the one at an address; how that ended is printed, in words where that is wanted. Words that are no request: `bad words` on
-/// `err`, and in words which is bad.
+/// A node at any free port, whose invoke IDs begin where the machine says, asks the one at an address; how that ended is printed, in words where that is
+/// wanted. Words that are no request: `bad words` on `err`, and in words which is bad.
 pub(crate) fn ask<M: Machine, O: Write, E: Write>(
     alloc: Global,
     machine: &M,
@@ -165,14 +168,17 @@ pub(crate) fn ask<M: Machine, O: Write, E: Write>(
     let Some(mut timer) = machine.timer() else {
         return clock_fault(err);
     };
+    let Some(first_id) = machine.first_id() else {
+        return clock_fault(err);
+    };
     let address = bound.1;
-    let Ok(mut station) = house_station(alloc, bound.0, address) else {
+    let Ok(mut station) = house_station(alloc, bound.0, address, first_id) else {
         return no_memory(err);
     };
     ask_on(alloc, asking, &mut station, &mut timer, &question, out, err)
 }
 
-/// Two nodes at free ports: one asks the other.
+/// Two nodes at free ports, both new: one asks the other.
 pub(crate) fn pair<M: Machine, O: Write, E: Write>(
     alloc: Global,
     machine: &M,
@@ -192,11 +198,11 @@ pub(crate) fn pair<M: Machine, O: Write, E: Write>(
         return clock_fault(err);
     };
     let address = bound.1;
-    let Ok(mut station) = house_station(alloc, bound.0, address) else {
+    let Ok(mut station) = house_station(alloc, bound.0, address, 0) else {
         return no_memory(err);
     };
     let other_address = other_bound.1;
-    let Ok(mut other) = house_station(alloc, other_bound.0, other_address) else {
+    let Ok(mut other) = house_station(alloc, other_bound.0, other_address, 0) else {
         return no_memory(err);
     };
     bac_commands::pair(alloc, &mut station, &mut other, &mut timer, out, err)

@@ -34,17 +34,20 @@ pub fn server_station<L: Link>(
     Ok(Station::new(alloc, node, link)?)
 }
 
-/// A node of that address with a house store of its own and 64 slots at each end, on that link; an Err where memory is refused.
+/// A node of that address with a house store of its own and 64 slots at each end, on that link, whose invoke IDs begin at that one; an Err where memory is
+/// refused.
 pub fn house_station<L: Link>(
     alloc: Global,
     link: L,
     address: LinkAddress,
+    first_id: u8,
 ) -> Result<Station<L>, NoMemory>
-    ensures node { IfOk result (λ s. s.node ≡ house_node address) }
+    ensures node { IfOk result (λ s. s.node ≡ house_node first_id address) }
     ensures failures { IfOk result (λ s. s.failures ≡ L.failures link) }
     ensures calls { IfOk result (λ s. s.calls ≡ L.calls link) }
 {
     let store = house(alloc)?;
-    let node = node_with(alloc, address, store)?;
+    let mut node = node_with(alloc, address, store)?;
+    node.begin_ids_at(first_id);
     Station::new(alloc, node, link)
 }

@@ -132,6 +132,43 @@ fn asks_and_is_answered(rt: HostRuntime) -> Result<(), Fail> {
     all_end_so(rt.alloc(), ANSWERED)
 }
 
+/// A clock that begins at a moment where a new client begins at invoke ID 200.
+const LATER: BenchClock = BenchClock {
+    moment: 968,
+    pace: Pace::On(100),
+};
+
+/// Written for invoke ID 200, and for 0.
+const WRITTEN: [Bench; 2] = [
+    Bench {
+        behind: Behind::Answer(b"\x81\x0A\x00\x09\x01\x00\x20\xC8\x0F"),
+        clock: Some(LATER),
+    },
+    Bench {
+        behind: Behind::Answer(b"\x81\x0A\x00\x09\x01\x00\x20\x00\x0F"),
+        clock: Some(LATER),
+    },
+];
+
+/// Asks of a client that does not begin at invoke ID 0.
+const FROM_200: &[BenchRow] = &[
+    (
+        WRITTEN[0],
+        "ask --port 47808 write 2:1 85 4443340000",
+        ("answered written\n", "", 0),
+    ),
+    (
+        WRITTEN[1],
+        "ask --port 47808 write 2:1 85 4443340000",
+        ("timed-out\n", "", 1),
+    ),
+];
+
+#[test]
+fn begins_where_the_machine_says(rt: HostRuntime) -> Result<(), Fail> {
+    all_end_so(rt.alloc(), FROM_200)
+}
+
 /// A datagram, the words of an ask that is answered with it, and the ending.
 type Answer = (&'static [u8], &'static str, Ending);
 
