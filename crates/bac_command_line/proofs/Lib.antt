@@ -2,3 +2,4 @@ pub mod CheckedFiles
 pub mod Statuses
 pub mod StoresOfFiles
 pub mod Served
+pub mod Asked

@@ -1,6 +1,7 @@
 pub mod Files
 pub mod Lines
 pub mod Serving
+pub mod Asking
 pub mod Online
 pub mod Stores
 pub mod Tasks

@@ -7,6 +7,7 @@ use Rattle.bac_link.specs.Calls.{Calls}
 use Rattle.bac_link.specs.Moments.{Told, with_moment}
 use Rattle.bac_link.specs.Udp.{LOCAL_HOST}
 use Rattle.bac_node.specs.Fresh.{slots_fit}
+use Rattle.bac_npdu.specs.Views.{peer_view}
 use Rattle.bac_script.specs.Requests.{request_of}
 use Rattle.bac_store.specs.Stores.{Store}
 use Rattle.bac_text.specs.declared.status.Status.{Status}
@@ -14,6 +15,7 @@ use Rattle.bac_run.specs.Asking.{Question}
 use Rattle.bac_run.specs.Pairs.{Pair}
 use Rattle.bac_run.specs.Runs.{Timed}
 use Rattle.bac_run.specs.Stations.{Station}
+use Rattle.bac_run.specs.declared.patience.Patience.{Patience}
 use Rattle.bac_world.specs.Node.{Node}
 use Rattle.bac_commands.specs.Houses.{house_node, server_node}
 use Rattle.bac_commands.specs.Pairs.{TwoTexts}
@@ -21,6 +23,7 @@ use Rattle.bac_commands.specs.Questions.{IsQuestion}
 use Rattle.bac_commands.specs.Reports.{AskedText, ServedText}
 use Rattle.bac_commands.specs.Statuses.{ByStatus}
 use Rattle.bac_commands.specs.Words.{AskedWords}
+use Rattle.bac_command_line.specs.Asking.{patience_for}
 use Rattle.bac_command_line.specs.Serving.{patience_of, restart_of, turns_of}
 use Rattle.bac_command_line.specs.declared.asking.Asking.{Asking}
 use Rattle.bac_command_line.specs.declared.serving.Serving.{Serving}
@@ -91,24 +94,25 @@ IsServedBy store IsOn IsClock s serving old new = ByStatus s (Serves store IsOn 
 -- ---- asking
 
 -- how it ended was printed: in words, or in octets
-abbrev pub AskedAs : (text strict succeeded : Bool) → Question → (before after : Timed) → (old new : Option (List ℕ)) → Type 0
-AskedAs true strict succeeded question before after old new = AskedWords strict succeeded question before after old new
-AskedAs false strict succeeded question before after old new = AskedText strict succeeded question before after old new
+abbrev pub AskedAs : (text strict succeeded : Bool) → Question → Patience → (before after : Timed) → (old new : Option (List ℕ)) → Type 0
+AskedAs true strict succeeded q p before after old new = AskedWords strict succeeded q p before after old new
+AskedAs false strict succeeded q p before after old new = AskedText strict succeeded q p before after old new
 
-abbrev pub ReportsAs : Status → (text strict : Bool) → Question → (before after : Timed) → (old new : Option (List ℕ)) → Type 0
-ReportsAs s text strict q before after old new =
-    ByStatus s (AskedAs text strict true q before after old new) (AskedAs text strict false q before after old new) ⊥
+abbrev pub ReportsAs : Status → (text strict : Bool) → Question → Patience → (before after : Timed) → (old new : Option (List ℕ)) → Type 0
+ReportsAs s text strict q p before after old new =
+    ByStatus s (AskedAs text strict true q p before after old new) (AskedAs text strict false q p before after old new) ⊥
 
--- a house at any free port, whose invoke IDs began anywhere, asked the node at an address, and how that ended was printed
+-- a house at any free port, whose invoke IDs began anywhere, asked a node from a moment on, and how that ended was printed
 pub record Asks (IsOn : Links) (IsClock : Clocks) (asking : Asking) (succeeded : Bool) (words : List (List ℕ)) (old new : Option (List ℕ)) : Type 0 where
   pub question : Question
-  pub is : IsQuestion asking.peer words question
+  pub is : IsQuestion (peer_view asking.peer) words question
+  pub start : ℕ
   pub before : Timed
   pub after : Timed
   pub first_id : ℕ
   pub house : IsHouseAt IsOn asking.host first_id before.station
-  pub clock : IsClock before.told
-  pub printed : AskedAs asking.text asking.strict succeeded question before after old new
+  pub clock : HasTold IsClock start before.told
+  pub printed : AskedAs asking.text asking.strict succeeded question (patience_for asking.timeout start) before after old new
 
 -- the command line is refused only where the words are no request
 abbrev pub IsAsked : Links → Clocks → Status → Asking → (words : List (List ℕ)) → (old new : Option (List ℕ)) → Type 0

@@ -1,5 +1,6 @@
 //! Nodes on links of the machine: what `serve`, `ask` and `pair` do.
 ghost use Rattle.std.specs.Prelude.{◌≡◌, ℕ, map, IfSome};
+ghost use Rattle.bac_npdu.specs.Views.{peer_view};
 ghost use Rattle.bac_protocol.specs.Service.{Octets};
 ghost use Rattle.bac_commands.specs.Questions.{ReadsQuestion};
 ghost use Rattle.bac_command_line.specs.Online.{IsAsked, IsPair, IsServedBy, OnClock, OnPort, ReportsAs};
@@ -13,8 +14,8 @@ use crate::serving::Serving;
 use bac_commands::{clock_fault, house_station, link_fault, read_question, server_station};
 use bac_link::{Clock, Link};
 use bac_node::NewNodeFault;
-use bac_npdu::LinkAddress;
-use bac_run::{Question, Station};
+use bac_npdu::{LinkAddress, Peer};
+use bac_run::{Patience, Question, Station};
 use bac_script::FormFault;
 use bac_store::Store;
 use bac_text::{Status, complain, no_memory};
@@ -106,8 +107,8 @@ pub(crate) fn serve<M: Machine, O: Write, E: Write>(
 }
 
 /// The question for a peer that some words are.
-fn question_in(alloc: Global, peer: LinkAddress, words: &[&str]) -> Result<Question, FormFault>
-    ensures { ReadsQuestion peer (map (λ w. w.now) words.now) result }
+fn question_in(alloc: Global, peer: Peer, words: &[&str]) -> Result<Question, FormFault>
+    ensures { ReadsQuestion (peer_view peer) (map (λ w. w.now) words.now) result }
 {
     let mut octets = Vec::new(alloc);
     for word in words {
@@ -125,22 +126,22 @@ fn ask_on<L: Link, C: Clock, O: Write, E: Write>(
     station: &mut Station<L>,
     clock: &mut C,
     question: &Question,
+    patience: &Patience,
     out: &mut O,
     err: &mut E,
 ) -> Status
-    ensures { ReportsAs result asking.now.text asking.now.strict (question_view question.now)
+    ensures { ReportsAs result asking.now.text asking.now.strict (question_view question.now) patience.now
         (timed station.old (C.told clock.old)) (timed station.new (C.told clock.new)) (O.contents out.old) (O.contents out.new) }
 {
     let strict = asking.strict;
     if asking.text {
-        bac_commands::ask_in_words(alloc, station, clock, strict, question, out, err)
+        bac_commands::ask_in_words(alloc, station, clock, strict, question, patience, out, err)
     } else {
-        bac_commands::ask(alloc, station, clock, strict, question, out, err)
+        bac_commands::ask(alloc, station, clock, strict, question, patience, out, err)
     }
 }
 
-/// A node at any free port, whose invoke IDs begin where the machine says, asks the one at an address; how that ended is printed, in words where that is
-/// wanted. Words that are no request: `bad words` on `err`, and in words which is bad.
+/// A node at any free port, whose invoke IDs begin where the machine says, asks a node; how that ended is printed, in words where that is wanted. Words that are no request: `bad words` on `err`, and in words which is bad.
 pub(crate) fn ask<M: Machine, O: Write, E: Write>(
     alloc: Global,
     machine: &M,
@@ -175,7 +176,17 @@ pub(crate) fn ask<M: Machine, O: Write, E: Write>(
     let Ok(mut station) = house_station(alloc, bound.0, address, first_id) else {
         return no_memory(err);
     };
-    ask_on(alloc, asking, &mut station, &mut timer, &question, out, err)
+    let patience = asking.patience(timer.now());
+    ask_on(
+        alloc,
+        asking,
+        &mut station,
+        &mut timer,
+        &question,
+        &patience,
+        out,
+        err,
+    )
 }
 
 /// Two nodes at free ports, both new: one asks the other.

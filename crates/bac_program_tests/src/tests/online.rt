@@ -138,27 +138,27 @@ const LATER: BenchClock = BenchClock {
     pace: Pace::On(100),
 };
 
-/// Written for invoke ID 200, and for 0.
-const WRITTEN: [Bench; 2] = [
-    Bench {
-        behind: Behind::Answer(b"\x81\x0A\x00\x09\x01\x00\x20\xC8\x0F"),
-        clock: Some(LATER),
-    },
-    Bench {
-        behind: Behind::Answer(b"\x81\x0A\x00\x09\x01\x00\x20\x00\x0F"),
-        clock: Some(LATER),
-    },
-];
+/// Who is asked says that it has written, for invoke ID 200.
+const WRITTEN_200: Bench = Bench {
+    behind: Behind::Answer(b"\x81\x0A\x00\x09\x01\x00\x20\xC8\x0F"),
+    clock: Some(LATER),
+};
+
+/// The same for invoke ID 0.
+const WRITTEN_0: Bench = Bench {
+    behind: Behind::Answer(b"\x81\x0A\x00\x09\x01\x00\x20\x00\x0F"),
+    clock: Some(LATER),
+};
 
 /// Asks of a client that does not begin at invoke ID 0.
 const FROM_200: &[BenchRow] = &[
     (
-        WRITTEN[0],
+        WRITTEN_200,
         "ask --port 47808 write 2:1 85 4443340000",
         ("answered written\n", "", 0),
     ),
     (
-        WRITTEN[1],
+        WRITTEN_0,
         "ask --port 47808 write 2:1 85 4443340000",
         ("timed-out\n", "", 1),
     ),
@@ -167,6 +167,106 @@ const FROM_200: &[BenchRow] = &[
 #[test]
 fn begins_where_the_machine_says(rt: HostRuntime) -> Result<(), Fail> {
     all_end_so(rt.alloc(), FROM_200)
+}
+
+/// A device at 5:2A, behind the router that is asked, says that it has written.
+const ROUTED: Bench = Bench {
+    behind: Behind::Answer(b"\x81\x0A\x00\x0D\x01\x08\x00\x05\x01\x2A\x20\x00\x0F"),
+    clock: Some(STEADY),
+};
+
+/// Asks through a router.
+const BEHIND_A_ROUTER: &[BenchRow] = &[
+    (
+        ROUTED,
+        "ask --to 10.0.0.1 --route 5:2A write 2:1 85 4443340000",
+        ("answered written\n", "", 0),
+    ),
+    (
+        ROUTED,
+        "ask --to 10.0.0.1 write 2:1 85 4443340000",
+        ("timed-out\n", "", 1),
+    ),
+    (
+        ROUTED,
+        "ask --to 10.0.0.1 --route 5:2B write 2:1 85 4443340000",
+        ("timed-out\n", "", 1),
+    ),
+    (
+        NOBODY,
+        "ask --to 10.0.0.1 --route 65534:0102030405060708 read 0:5 85",
+        ("timed-out\n", "", 1),
+    ),
+    (
+        NOBODY,
+        "ask --port 47808 --route 0:2A read 0:5 85",
+        ("", "bad address\n", 2),
+    ),
+    (
+        NOBODY,
+        "ask --port 47808 --route 65535:2A read 0:5 85",
+        ("", "bad address\n", 2),
+    ),
+    (
+        NOBODY,
+        "ask --port 47808 --route 5 read 0:5 85",
+        ("", "bad address\n", 2),
+    ),
+    (
+        NOBODY,
+        "ask --port 47808 --route 5: read 0:5 85",
+        ("", "bad address\n", 2),
+    ),
+    (
+        NOBODY,
+        "ask --port 47808 --route 5:2 read 0:5 85",
+        ("", "bad address\n", 2),
+    ),
+    (
+        NOBODY,
+        "ask --port 47808 --route 5:010203040506070809 read 0:5 85",
+        ("", "bad address\n", 2),
+    ),
+    (
+        NOBODY,
+        "ask --port 47808 --route net:2A read 0:5 85",
+        ("", "bad address\n", 2),
+    ),
+];
+
+#[test]
+fn asks_through_a_router(rt: HostRuntime) -> Result<(), Fail> {
+    all_end_so(rt.alloc(), BEHIND_A_ROUTER)
+}
+
+/// Asks that wait no longer than is said.
+const WAITING: &[BenchRow] = &[
+    (
+        HOUSES,
+        "ask --port 47808 --timeout 1 read 0:5 85",
+        ("answered read 444290999A\n", "", 0),
+    ),
+    (
+        NOBODY,
+        "ask --port 47808 --timeout 1 read 0:5 85",
+        ("no ending\n", "", 1),
+    ),
+    // the fourth sending of a request is given up after twelve seconds
+    (
+        NOBODY,
+        "ask --port 47808 --timeout 11 read 0:5 85",
+        ("no ending\n", "", 1),
+    ),
+    (
+        NOBODY,
+        "ask --port 47808 --timeout 13 --text read 0:5 85",
+        ("timed-out\n", "", 1),
+    ),
+];
+
+#[test]
+fn waits_no_longer_than_is_said(rt: HostRuntime) -> Result<(), Fail> {
+    all_end_so(rt.alloc(), WAITING)
 }
 
 /// A datagram, the words of an ask that is answered with it, and the ending.
