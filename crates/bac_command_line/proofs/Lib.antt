@@ -3,3 +3,5 @@ pub mod Statuses
 pub mod StoresOfFiles
 pub mod Served
 pub mod Asked
+pub mod LastWords
+pub mod AskedOf

@@ -2,6 +2,8 @@ pub mod Files
 pub mod Lines
 pub mod Serving
 pub mod Asking
+pub mod FileWords
 pub mod Online
+pub mod AskedLists
 pub mod Stores
 pub mod Tasks

@@ -1,11 +1,23 @@
 //! Whom a node is to ask, how long it waits, and how that is told.
 ghost use Rattle.std.specs.Prelude.{◌≡◌};
-ghost use Rattle.bac_command_line.specs.Asking.{patience_for};
+ghost use Rattle.bac_command_line.specs.Asking.{course_of, in_words, patience_for};
 
 use crate::address::{LOCAL_HOST, host_towards, link_at, read_link, read_route};
+use bac_asks::Course;
 use bac_npdu::{LinkAddress, Peer, Route};
 use bac_run::Patience;
 use clap::ArgMatches;
+
+/// How the end of an ask is told.
+#[derive(Clone, Copy, Debug, PartialEq, Eq)]
+pub(crate) enum Style {
+    /// With numbers and octets, as in a script.
+    Numbers,
+    /// In words.
+    Words,
+    /// By the octets of a file alone, where it was answered with them.
+    Octets,
+}
 
 /// Whom a node is to ask, how long it waits, and how that is told.
 #[derive(Clone, Copy, Debug)]
@@ -16,10 +28,12 @@ pub(crate) struct Asking {
     pub host: [u8; 4],
     /// After so many seconds it waits no longer; None where it waits until the ask has ended.
     pub timeout: Option<u64>,
-    /// Whether it is told in words.
-    pub text: bool,
+    /// How it is told.
+    pub style: Style,
     /// Whether an Error is no success.
     pub strict: bool,
+    /// How many asks of a list are in flight at once.
+    pub window: usize,
 }
 
 impl Asking {
@@ -34,6 +48,32 @@ impl Asking {
         Patience {
             wait: u64::MAX,
             until,
+        }
+    }
+
+    /// How the asks of a list go, and how they are told.
+    pub(crate) fn course(&self) -> Course
+        ensures { result ≡ course_of self.now }
+    {
+        Course {
+            window: self.window,
+            timeout: match self.timeout {
+                Some(seconds) => Some(seconds.saturating_mul(1_000)),
+                None => None,
+            },
+            in_words: self.in_words(),
+            strict: self.strict,
+        }
+    }
+
+    /// Whether it is told in words.
+    pub(crate) fn in_words(&self) -> bool
+        ensures { result ≡ in_words self.now.style }
+    {
+        match self.style {
+            Style::Numbers => false,
+            Style::Words => true,
+            Style::Octets => false,
         }
     }
 }
@@ -54,6 +94,16 @@ fn route_of(given: &ArgMatches<'_>) -> Option<Option<Route>> {
     }
 }
 
+fn style_of(given: &ArgMatches<'_>) -> Style {
+    if given.get_flag("raw") {
+        Style::Octets
+    } else if given.get_flag("text") {
+        Style::Words
+    } else {
+        Style::Numbers
+    }
+}
+
 /// None where there is no address, or what is given is none.
 pub(crate) fn asking_of(given: &ArgMatches<'_>) -> Option<Asking> {
     let link = link_of(given)?;
@@ -62,7 +112,8 @@ pub(crate) fn asking_of(given: &ArgMatches<'_>) -> Option<Asking> {
         peer: Peer { link, route },
         host: host_towards(link),
         timeout: given.get_one("timeout"),
-        text: given.get_flag("text"),
+        style: style_of(given),
         strict: given.get_flag("fail"),
+        window: given.get_one("window").unwrap_or(1),
     })
 }

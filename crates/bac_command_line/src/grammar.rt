@@ -223,7 +223,7 @@ T:I is an object by its type and instance, P a property, both by number or name,
 VALUE is a value by its kind, as real:72.5, null, boolean:true, enumerated:1 or text:Room, or the spelling of data in HEX
 Behind the last VALUE `priority N` may stand, 1 to 16
 POS is the position in a file from which on octets are put or got, COUNT how many are got
-A word that begins with `-` is given after `--`";
+In the place of a last HEX `@FILE` may stand, for the octets of that file";
 
 /// Asks that may be made.
 const ASK_EXAMPLES: &str = "\
@@ -231,7 +231,9 @@ Example: bac ask --port 47808 read 0:5 85
 Example: bac ask --port 47808 --text read analog-input:5 present-value
 Example: bac ask --to 192.168.1.20 --route 5:2A --timeout 3 read device:7 object-name
 Example: bac ask --to 192.168.1.20 write analog-value:1 present-value real:72.5 priority 8
-Example: bac ask --port 47808 -- put 10:1 -1 AA";
+Example: bac ask --port 47808 put file:1 0 @log.bin
+Example: bac ask --port 47808 --lines points.txt --window 8
+Example: bac ask --port 47808 --raw get file:1 0 1000 > log.bin";
 
 /// Who is asked: a port of this machine, or an address.
 fn peer<'a>(alloc: Global) -> Result<(Arg<'a>, Arg<'a>), clap::Error> {
@@ -268,11 +270,33 @@ fn reach<'a>(alloc: Global) -> (Arg<'a>, Arg<'a>) {
     (route, timeout.required(false))
 }
 
+/// Many requests.
+fn list<'a>(alloc: Global) -> Result<(Arg<'a>, Arg<'a>), clap::Error> {
+    let lines = Arg::new(alloc, "lines")
+        .long("lines")
+        .action(ArgAction::Set)
+        .value_name("FILE")
+        .conflicts_with("WORDS")?
+        .conflicts_with("raw")?
+        .help(
+            "Asks for each line of that file in their order, `-` for standard input, and prints how each ended, a line for each; blank lines and those that begin with `#` are passed over",
+        );
+    let window = number(
+        alloc,
+        "window",
+        "N",
+        64,
+        "How many of them are asked at once, 1 to 64; without it 1",
+    );
+    Ok((lines, window.required(false).conflicts_with("WORDS")?))
+}
+
 fn ask_command<'a>(alloc: Global) -> Result<Command<'a>, clap::Error> {
     let words = Arg::new(alloc, "WORDS")
-        .required(true)
+        .required_unless_present("lines")?
         .num_args(1..)
         .action(ArgAction::Append)
+        .allow_negative_numbers(true)
         .help(WORDS_HELP);
     let text = flag(
         alloc,
@@ -283,8 +307,14 @@ fn ask_command<'a>(alloc: Global) -> Result<Command<'a>, clap::Error> {
         .long("fail")
         .action(ArgAction::SetTrue)
         .help("Ends with status 1 also where the answer is an Error");
+    let raw = flag(
+        alloc,
+        "raw",
+        "Of `get`: writes the octets of the file alone; where there are none, the error output tells how it ended, and the status is 1",
+    );
     let (port, to) = peer(alloc)?;
     let (route, timeout) = reach(alloc);
+    let (lines, window) = list(alloc)?;
     let ask = Command::new(alloc, "ask")
         .about("Asks a node, and prints how that ended")
         .before_help(FORMS_HELP)
@@ -295,6 +325,9 @@ fn ask_command<'a>(alloc: Global) -> Result<Command<'a>, clap::Error> {
         .arg(timeout)?
         .arg(text)?
         .arg(fail)?
+        .arg(lines)?
+        .arg(window)?
+        .arg(raw.conflicts_with("text")?)?
         .arg(words)?;
     Ok(ask)
 }

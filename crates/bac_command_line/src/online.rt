@@ -3,15 +3,17 @@ ghost use Rattle.std.specs.Prelude.{◌≡◌, ℕ, map, IfSome};
 ghost use Rattle.bac_npdu.specs.Views.{peer_view};
 ghost use Rattle.bac_protocol.specs.Service.{Octets};
 ghost use Rattle.bac_commands.specs.Questions.{ReadsQuestion};
-ghost use Rattle.bac_command_line.specs.Online.{IsAsked, IsPair, IsServedBy, OnClock, OnPort, ReportsAs};
+ghost use Rattle.bac_command_line.specs.Online.{IsAsked, IsPair, IsServedBy, OnClock, OnPort, ReadsAsked, ReportsAs, is_told_by};
 ghost use Rattle.bac_run.specs.Runs.{timed};
 ghost use Rattle.bac_run.specs.Views.{question_view};
 
 use crate::address::LOCAL_HOST;
-use crate::asking::Asking;
+use crate::asking::{Asking, Style};
 use crate::bad_words::tell_bad_words;
 use crate::serving::Serving;
-use bac_commands::{clock_fault, house_station, link_fault, read_question, server_station};
+use bac_commands::{
+    asks_for_file, clock_fault, house_station, link_fault, read_question, server_station,
+};
 use bac_link::{Clock, Link};
 use bac_node::NewNodeFault;
 use bac_npdu::{LinkAddress, Peer};
@@ -119,7 +121,30 @@ fn question_in(alloc: Global, peer: Peer, words: &[&str]) -> Result<Question, Fo
     read_question(alloc, peer, &octets)
 }
 
-/// A node asks; how that ended is printed, in words where that is wanted.
+/// Whether a question can be told so: octets of a file are there only for one that asks for them.
+fn is_told_by(style: Style, question: &Question) -> bool
+    ensures { result ≡ is_told_by style (question_view question.now).request }
+{
+    match style {
+        Style::Numbers => true,
+        Style::Words => true,
+        Style::Octets => asks_for_file(question),
+    }
+}
+
+/// The same where it can be told so; `NoForm` also where it can't.
+fn asked_in(alloc: Global, asking: &Asking, words: &[&str]) -> Result<Question, FormFault>
+    ensures { ReadsAsked asking.now.style (peer_view asking.now.peer) (map (λ w. w.now) words.now) result }
+{
+    let question = question_in(alloc, asking.peer, words)?;
+    if is_told_by(asking.style, &question) {
+        Ok(question)
+    } else {
+        Err(FormFault::NoForm)
+    }
+}
+
+/// A node asks; how that ended is printed as is wanted.
 fn ask_on<L: Link, C: Clock, O: Write, E: Write>(
     alloc: Global,
     asking: &Asking,
@@ -130,18 +155,24 @@ fn ask_on<L: Link, C: Clock, O: Write, E: Write>(
     out: &mut O,
     err: &mut E,
 ) -> Status
-    ensures { ReportsAs result asking.now.text asking.now.strict (question_view question.now) patience.now
+    ensures { ReportsAs result asking.now.style asking.now.strict (question_view question.now) patience.now
         (timed station.old (C.told clock.old)) (timed station.new (C.told clock.new)) (O.contents out.old) (O.contents out.new) }
 {
     let strict = asking.strict;
-    if asking.text {
-        bac_commands::ask_in_words(alloc, station, clock, strict, question, patience, out, err)
-    } else {
-        bac_commands::ask(alloc, station, clock, strict, question, patience, out, err)
+    match asking.style {
+        Style::Numbers => {
+            bac_commands::ask(alloc, station, clock, strict, question, patience, out, err)
+        }
+        Style::Words => {
+            bac_commands::ask_in_words(alloc, station, clock, strict, question, patience, out, err)
+        }
+        Style::Octets => {
+            bac_commands::ask_for_octets(alloc, station, clock, question, patience, out, err)
+        }
     }
 }
 
-/// A node at any free port, whose invoke IDs begin where the machine says, asks a node; how that ended is printed, in words where that is wanted. Words that are no request: `bad words` on `err`, and in words which is bad.
+/// A node at any free port, whose invoke IDs begin where the machine says, asks a node; how that ended is printed as is wanted. Words that are no request: `bad words` on `err`, and in words which is bad.
 pub(crate) fn ask<M: Machine, O: Write, E: Write>(
     alloc: Global,
     machine: &M,
@@ -153,10 +184,11 @@ pub(crate) fn ask<M: Machine, O: Write, E: Write>(
     ensures { IsAsked (OnPort M.is_bound M.Link.failures M.Link.calls) (OnClock M.is_made M.Timer.told) result asking.now (map (λ w. w.now) words.now)
         (O.contents out.old) (O.contents out.new) }
 {
-    let question = match question_in(alloc, asking.peer, words) {
+    let in_words = asking.style == Style::Words;
+    let question = match asked_in(alloc, asking, words) {
         Ok(question) => question,
         Err(FormFault::NoForm) => {
-            return match tell_bad_words(alloc, asking.text, words, err) {
+            return match tell_bad_words(alloc, in_words, words, err) {
                 Ok(()) => Status::CommandLine,
                 Err(_) => no_memory(err),
             };

@@ -32,6 +32,10 @@ abbrev pub server_node : (slots : ℕ) → (restart : Option ℕ) → (link : Oc
 server_node slots None link store = node_of slots link store
 server_node slots (Some now) link store = restarted now store (node_of slots link store)
 
+-- one that asks for a list: a slot for each invoke ID of a peer
+abbrev pub client_node : (first_id : ℕ) → (link : Octets) → Node
+client_node first_id link = with_first_id first_id (node_of 256 link house)
+
 -- the one of 64 slots with the house store, whose invoke IDs begin at that one
 abbrev pub house_node : (first_id : ℕ) → (link : Octets) → Node
 house_node first_id link = with_first_id first_id (node_with link house)

@@ -19,9 +19,10 @@ use std::io;
 use std::io::Write;
 
 /// The most turns that a node takes for an ask.
-pub(crate) const TURNS: u64 = 100_000;
+pub const TURNS: u64 = 100_000;
 
-fn is_answer(ending: &Ending) -> bool
+/// Whether a ticket ended with an answer.
+pub fn is_answer(ending: &Ending) -> bool
     ensures { result ≡ is_answer ending.now }
 {
     matches!(ending, Ending::Answered(_))
@@ -48,7 +49,8 @@ fn is_error_reply(reply: &OwnedReply) -> bool
     }
 }
 
-fn ends_with_error(ending: &Ending) -> bool
+/// Whether it ended with an Error.
+pub fn ends_with_error(ending: &Ending) -> bool
     ensures { result ≡ ends_with_error (ending_view ending.now) }
 {
     match ending {

@@ -65,6 +65,11 @@ const ANSWERED: &[BenchRow] = &[
     ),
     (
         HOUSES,
+        "ask --port 47808 put 10:1 -1 AA",
+        ("answered position 2\n", "", 0),
+    ),
+    (
+        HOUSES,
         "ask --port 47808 read 0:9 85",
         ("answered error 1:31\n", "", 0),
     ),
@@ -267,6 +272,203 @@ const WAITING: &[BenchRow] = &[
 #[test]
 fn waits_no_longer_than_is_said(rt: HostRuntime) -> Result<(), Fail> {
     all_end_so(rt.alloc(), WAITING)
+}
+
+/// Asks for the octets of a file alone.
+const OCTETS: &[BenchRow] = &[
+    (
+        HOUSES,
+        "ask --port 47808 --raw get 10:1 0 10",
+        ("OK", "", 0),
+    ),
+    (HOUSES, "ask --port 47808 --raw get 10:1 2 10", ("", "", 0)),
+    (
+        HOUSES,
+        "ask --port 47808 --raw get 10:9 0 10",
+        ("", "answered error 1:31\n", 1),
+    ),
+    (
+        NOBODY,
+        "ask --port 47808 --raw get 10:1 0 10",
+        ("", "timed-out\n", 1),
+    ),
+    (
+        NO_LINKS,
+        "ask --port 47808 --raw read 0:5 85",
+        ("", "bad words\n", 2),
+    ),
+];
+
+#[test]
+fn writes_octets_alone(rt: HostRuntime) -> Result<(), Fail> {
+    all_end_so(rt.alloc(), OCTETS)
+}
+
+/// The text of the file `capture`, a bench, a command line, and its ending.
+type FileRow = (&'static str, Bench, &'static str, Ending);
+
+/// Words whose last one names a file. The spelling of a real stands in hexadecimal where it is, and not as it stands in the file.
+const OF_A_FILE: &[FileRow] = &[
+    (
+        "DC4\0\0",
+        HOUSES,
+        "ask --port 47808 write 2:1 85 @capture",
+        ("answered written\n", "", 0),
+    ),
+    (
+        "zz",
+        NO_LINKS,
+        "ask --port 47808 write 2:1 85 @capture",
+        ("", "bad words\n", 2),
+    ),
+    (
+        "AB",
+        HOUSES,
+        "ask --port 47808 append 10:1 @-",
+        ("answered position 2\n", "", 0),
+    ),
+    (
+        "",
+        HOUSES,
+        "ask --port 47808 --text put 10:1 0 @capture",
+        ("answered position 0\n", "", 0),
+    ),
+    (
+        "AB",
+        NO_LINKS,
+        "ask --port 47808 put 10:1 @capture AA",
+        ("", "bad words\n", 2),
+    ),
+    (
+        "AB",
+        NO_LINKS,
+        "ask --port 47808 put 10:1 0 @nothing",
+        ("", "cannot read\n", 2),
+    ),
+    (
+        "AB",
+        NO_LINKS,
+        "ask --port 47808 put 10:1 0 @broken",
+        ("", "cannot read\n", 2),
+    ),
+    (
+        "AB",
+        NO_LINKS,
+        "ask --port 47808 put 10:1 0 @starving",
+        ("", "no memory\n", 4),
+    ),
+    (
+        "AB",
+        NO_LINKS,
+        "ask --port 47808 put 10:1 0 @starved",
+        ("", "no memory\n", 4),
+    ),
+];
+
+fn all_end_beside_files(alloc: Global, rows: &[FileRow]) -> Result<(), Fail> {
+    for (text, bench, line, ending) in rows {
+        holds(run_on(alloc, *text, *bench, *line)?.is(ending), line)?;
+    }
+    Ok(())
+}
+
+#[test]
+fn takes_octets_from_a_file(rt: HostRuntime) -> Result<(), Fail> {
+    all_end_beside_files(rt.alloc(), OF_A_FILE)
+}
+
+/// Requests of a file. A bench keeps one answer, so of two asks at once the first is answered when it is sent again.
+const LISTS: &[FileRow] = &[
+    (
+        "read 0:5 85\n# a note\n\nread 0:9 85\r\nget 10:1 0 10",
+        HOUSES,
+        "ask --port 47808 --lines capture",
+        (
+            "answered read 444290999A\nanswered error 1:31\nanswered file 1 0 4F4B\n",
+            "",
+            0,
+        ),
+    ),
+    (
+        "read 0:5 85\nread 0:9 85\nget 10:1 0 10\n",
+        HOUSES,
+        "ask --port 47808 --lines - --window 2",
+        (
+            "answered read 444290999A\nanswered error 1:31\nanswered file 1 0 4F4B\n",
+            "",
+            0,
+        ),
+    ),
+    (
+        "read 0:5 85\nread 0:9 85\n",
+        HOUSES,
+        "ask --port 47808 --lines capture --window 64 --text --fail",
+        (
+            "answered real 72.3\nanswered error object unknown-object (1:31)\n",
+            "",
+            1,
+        ),
+    ),
+    (
+        "read 0:5 85\nread 0:9 85\n",
+        NOBODY,
+        "ask --port 47808 --lines capture --window 2 --timeout 1",
+        ("no ending\nno ending\n", "", 1),
+    ),
+    (
+        "read 0:5 85\nread 0:9 85\n",
+        NOBODY,
+        "ask --port 47808 --lines capture --text",
+        ("timed-out\ntimed-out\n", "", 1),
+    ),
+    (
+        "read 0:5 85\n",
+        HOUSES,
+        "ask --port 50001 --lines capture",
+        ("refused 5\n", "", 1),
+    ),
+    ("", HOUSES, "ask --port 47808 --lines capture", ("", "", 0)),
+    (
+        "read 0:5 85\n\nread 0:5\nfly 0:5 85\n",
+        NO_LINKS,
+        "ask --port 47808 --lines capture",
+        ("", "line 3: bad words\n", 2),
+    ),
+    (
+        "read 0:5 85\n",
+        NO_LINKS,
+        "ask --port 47808 --lines capture",
+        ("", "link fault\n", 3),
+    ),
+    (
+        "read 0:5 85\n",
+        NO_CLOCK,
+        "ask --port 47808 --lines capture",
+        ("", "clock fault\n", 3),
+    ),
+    (
+        "read 0:5 85\n",
+        DEAF,
+        "ask --port 47808 --lines capture",
+        ("", "link fault\n", 3),
+    ),
+    (
+        "",
+        NO_LINKS,
+        "ask --port 47808 --lines nothing",
+        ("", "cannot read\n", 2),
+    ),
+    (
+        "",
+        NO_LINKS,
+        "ask --port 47808 --lines starving",
+        ("", "no memory\n", 4),
+    ),
+];
+
+#[test]
+fn asks_for_lists(rt: HostRuntime) -> Result<(), Fail> {
+    all_end_beside_files(rt.alloc(), LISTS)
 }
 
 /// A datagram, the words of an ask that is answered with it, and the ending.
@@ -602,6 +804,11 @@ const LINKS: &[BenchRow] = &[
     (
         NO_LINKS,
         "ask --port 47899 get 10:1 -- -1 5",
+        ("", "link fault\n", 3),
+    ),
+    (
+        NO_LINKS,
+        "ask --port 47899 get 10:1 -1 5",
         ("", "link fault\n", 3),
     ),
     (

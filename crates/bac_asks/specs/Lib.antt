@@ -1,0 +1,4 @@
+pub mod Ends
+pub mod Batches
+pub mod Lists
+pub mod Questions
