@@ -4,6 +4,5 @@ pub mod Serving
 pub mod Asking
 pub mod FileWords
 pub mod Online
-pub mod AskedLists
 pub mod Stores
 pub mod Tasks

@@ -1,9 +1,8 @@
 //! Whom a node is to ask, how long it waits, and how that is told.
 ghost use Rattle.std.specs.Prelude.{◌≡◌};
-ghost use Rattle.bac_command_line.specs.Asking.{course_of, in_words, patience_for};
+ghost use Rattle.bac_command_line.specs.Asking.{patience_for};
 
 use crate::address::{LOCAL_HOST, host_towards, link_at, read_link, read_route};
-use bac_asks::Course;
 use bac_npdu::{LinkAddress, Peer, Route};
 use bac_run::Patience;
 use clap::ArgMatches;
@@ -32,8 +31,6 @@ pub(crate) struct Asking {
     pub style: Style,
     /// Whether an Error is no success.
     pub strict: bool,
-    /// How many asks of a list are in flight at once.
-    pub window: usize,
 }
 
 impl Asking {
@@ -48,32 +45,6 @@ impl Asking {
         Patience {
             wait: u64::MAX,
             until,
-        }
-    }
-
-    /// How the asks of a list go, and how they are told.
-    pub(crate) fn course(&self) -> Course
-        ensures { result ≡ course_of self.now }
-    {
-        Course {
-            window: self.window,
-            timeout: match self.timeout {
-                Some(seconds) => Some(seconds.saturating_mul(1_000)),
-                None => None,
-            },
-            in_words: self.in_words(),
-            strict: self.strict,
-        }
-    }
-
-    /// Whether it is told in words.
-    pub(crate) fn in_words(&self) -> bool
-        ensures { result ≡ in_words self.now.style }
-    {
-        match self.style {
-            Style::Numbers => false,
-            Style::Words => true,
-            Style::Octets => false,
         }
     }
 }
@@ -114,6 +85,5 @@ pub(crate) fn asking_of(given: &ArgMatches<'_>) -> Option<Asking> {
         timeout: given.get_one("timeout"),
         style: style_of(given),
         strict: given.get_flag("fail"),
-        window: given.get_one("window").unwrap_or(1),
     })
 }

@@ -9,7 +9,7 @@ use crate::lines::{check_lines, decode};
 use crate::objects::{answer, serve};
 use crate::online::Machine;
 use crate::task::{Task, task_of};
-use crate::{file_words, list, online};
+use crate::{file_words, online};
 use bac_text::{Status, complain, no_memory};
 use clap::ArgMatches;
 use clap::error::ErrorKind;
@@ -42,9 +42,6 @@ fn perform<F: OpenFiles, M: Machine, O: Write, E: Write>(
         }
         Task::Ask { asking, words } => {
             file_words::ask(alloc, files, machine, &asking, words, out, err)
-        }
-        Task::AskList { asking, path } => {
-            list::ask(alloc, files, machine, &asking, path, out, err)
         }
         Task::Pair => online::pair(alloc, machine, out, err),
     }

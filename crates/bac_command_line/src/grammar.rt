@@ -232,7 +232,6 @@ Example: bac ask --port 47808 --text read analog-input:5 present-value
 Example: bac ask --to 192.168.1.20 --route 5:2A --timeout 3 read device:7 object-name
 Example: bac ask --to 192.168.1.20 write analog-value:1 present-value real:72.5 priority 8
 Example: bac ask --port 47808 put file:1 0 @log.bin
-Example: bac ask --port 47808 --lines points.txt --window 8
 Example: bac ask --port 47808 --raw get file:1 0 1000 > log.bin";
 
 /// Who is asked: a port of this machine, or an address.
@@ -270,30 +269,9 @@ fn reach<'a>(alloc: Global) -> (Arg<'a>, Arg<'a>) {
     (route, timeout.required(false))
 }
 
-/// Many requests.
-fn list<'a>(alloc: Global) -> Result<(Arg<'a>, Arg<'a>), clap::Error> {
-    let lines = Arg::new(alloc, "lines")
-        .long("lines")
-        .action(ArgAction::Set)
-        .value_name("FILE")
-        .conflicts_with("WORDS")?
-        .conflicts_with("raw")?
-        .help(
-            "Asks for each line of that file in their order, `-` for standard input, and prints how each ended, a line for each; blank lines and those that begin with `#` are passed over",
-        );
-    let window = number(
-        alloc,
-        "window",
-        "N",
-        64,
-        "How many of them are asked at once, 1 to 64; without it 1",
-    );
-    Ok((lines, window.required(false).conflicts_with("WORDS")?))
-}
-
 fn ask_command<'a>(alloc: Global) -> Result<Command<'a>, clap::Error> {
     let words = Arg::new(alloc, "WORDS")
-        .required_unless_present("lines")?
+        .required(true)
         .num_args(1..)
         .action(ArgAction::Append)
         .allow_negative_numbers(true)
@@ -314,7 +292,6 @@ fn ask_command<'a>(alloc: Global) -> Result<Command<'a>, clap::Error> {
     );
     let (port, to) = peer(alloc)?;
     let (route, timeout) = reach(alloc);
-    let (lines, window) = list(alloc)?;
     let ask = Command::new(alloc, "ask")
         .about("Asks a node, and prints how that ended")
         .before_help(FORMS_HELP)
@@ -325,8 +302,6 @@ fn ask_command<'a>(alloc: Global) -> Result<Command<'a>, clap::Error> {
         .arg(timeout)?
         .arg(text)?
         .arg(fail)?
-        .arg(lines)?
-        .arg(window)?
         .arg(raw.conflicts_with("text")?)?
         .arg(words)?;
     Ok(ask)

@@ -9,7 +9,6 @@ mod file_words;
 mod files;
 mod grammar;
 mod lines;
-mod list;
 mod objects;
 mod online;
 mod serving;

@@ -42,11 +42,6 @@ pub(crate) enum Task<'m, 'a> {
         asking: Asking,
         words: &'m [&'a str],
     },
-    /// The requests in this file, one a line.
-    AskList {
-        asking: Asking,
-        path: &'a str,
-    },
     /// Two nodes.
     Pair,
 }
@@ -86,11 +81,6 @@ pub(crate) fn task_of<'m, 'a>(matches: &'m ArgMatches<'a>) -> Option<Task<'m, 'a
             let serving = serving_of(given)?;
             let objects = given.get_str("objects");
             Some(Task::Serve { serving, objects })
-        }
-        ("ask", given) if given.contains_id("lines") => {
-            let asking = asking_of(given)?;
-            let path = given.get_str("lines")?;
-            Some(Task::AskList { asking, path })
         }
         ("ask", given) => {
             let asking = asking_of(given)?;

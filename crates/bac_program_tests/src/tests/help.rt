@@ -45,11 +45,6 @@ const WORDS: &[(&str, &str)] = &[
         "61 is not in 1..=60",
     ),
     ("ask --port 47899 --raw --text get 10:1 0 5", "--raw"),
-    ("ask --port 47899 --lines capture read 0:5 85", "--lines"),
-    (
-        "ask --port 47899 --lines capture --window 65",
-        "65 is not in 1..=64",
-    ),
     (
         "serve --help",
         "Example: bac serve --port 47808 --turns 600",

@@ -1,4 +1,0 @@
-pub mod Ends
-pub mod Batches
-pub mod Lists
-pub mod Questions
