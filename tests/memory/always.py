@@ -62,6 +62,8 @@ def failing(row, folder):
 def main(words):
     rows = [line.split('\t') for line in (TOP / 'tests/memory/always.tsv').read_text().splitlines()]
     rows = [row for row in rows if not words or set(words) & set(row)]
+    for crate, file, function, error, _ in rows:  # a row that names nothing is told before any test is run
+        refusing((TOP / 'crates' / crate / file).read_text(), function, error)
     passed = 0
     with tempfile.TemporaryDirectory() as name:
         folder = Path(name)

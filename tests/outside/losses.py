@@ -38,6 +38,7 @@ class Story:
     ends: dict = field(default_factory=dict)  # the line of each append, by its number
     looks: list = field(default_factory=list)  # the lines of reads through the network
     file: bytes = b''
+    found: dict = field(default_factory=dict)  # the positions of each append in it, by its number
     performed: int = 0
     wrong: list = field(default_factory=list)
 
@@ -70,7 +71,7 @@ def run(program, network, server_number):
 
 
 def appends_in(story):
-    """The position of each append in the file, by its number."""
+    """The positions of each append in the file, by its number."""
     found, at = {}, len(OPENING)
     if not story.file.startswith(OPENING):
         story.wrong.append('the file has lost its front')
@@ -80,24 +81,29 @@ def appends_in(story):
         if number not in story.ends or story.file[at:at + len(octets)] != octets:
             story.wrong.append(f'octets of no append at {at}')
             break
-        if number in found:
-            story.wrong.append(f'append {number} twice')
-        found[number] = at
+        found.setdefault(number, []).append(at)
         at += len(octets)
     return found
 
 
-def judge(story):
-    found = appends_in(story)
+def judge_appends(story):
+    """Finds the appends; each that was answered has to be at the position of its answer."""
+    story.found = appends_in(story)
     for number, line in story.ends.items():
-        if line.startswith('answered') and line != f'answered position {found.get(number)}':
-            story.wrong.append(f'append {number}: {line}, and found at {found.get(number)}')
+        places = story.found.get(number, [])
+        if line.startswith('answered') and line not in [f'answered position {place}' for place in places]:
+            story.wrong.append(f'append {number}: {line}, and found at {places}')
+
+
+def judge(story):
+    judge_appends(story)
+    story.wrong += [f'append {number} twice' for number, places in story.found.items() if len(places) > 1]
     looks = [octets_of(line) for line in story.looks]
     for octets in looks:
         if octets is not None and not story.file.startswith(octets):
             story.wrong.append('a read gave octets that the file never had')
     # the last read was performed, and each that was answered
-    answered = len(found) + 1 + sum(octets is not None for octets in looks)
+    answered = len(story.found) + 1 + sum(octets is not None for octets in looks)
     unanswered = sum(octets is None for octets in looks)
     if not answered <= story.performed <= answered + unanswered:
         story.wrong.append(f'served {story.performed}, where {answered} were seen, and {unanswered} asks not answered')
@@ -116,7 +122,7 @@ def main(words):
     ends = [line for story in stories for line in story.ends.values()]
     print(f'appends: {counts(ends)}')
     print(f'reads through the network: {counts([line for story in stories for line in story.looks])}')
-    print(f'found in files: {sum(len(appends_in(story)) for story in stories)} appends, {sum(len(story.file) for story in stories)} octets')
+    print(f'found in files: {sum(len(story.found) for story in stories)} appends, {sum(len(story.file) for story in stories)} octets')
     print(f'performed by the servers: {sum(story.performed for story in stories)} requests')
     print(f'network: {network.summary()}')
     wrong = [text for story in stories for text in story.wrong]

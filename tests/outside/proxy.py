@@ -39,6 +39,7 @@ class Network:
 
     def __init__(self, seed):
         self.seed, self.order, self.under_way, self.held_back = seed, count(), [], set()
+        self.unheard = set()
         self.selector, self.lock, self.ended = selectors.DefaultSelector(), threading.Lock(), False
         self.counts = {'came': 0, 'dropped': 0, 'repeated': 0, 'late': 0, 'overtaken': 0}
         self.thread = threading.Thread(target=self.carry)
@@ -74,6 +75,17 @@ class Network:
             with self.lock:
                 self.held_back.remove(server)
 
+    @contextmanager
+    def silent(self, server):
+        """Meanwhile all that the server sends is lost."""
+        with self.lock:
+            self.unheard.add(server)
+        try:
+            yield
+        finally:
+            with self.lock:
+                self.unheard.remove(server)
+
     def wait_until_empty(self):
         """Waits until all copies that are under way now have come."""
         time.sleep(DELAYS[-1][1] + 0.5)
@@ -92,7 +104,8 @@ class Network:
         if taken is route.front:
             route.client = sender
         self.counts['came'] += 1
-        if route.draws.random() < DROPPED:
+        is_lost = taken is route.back and route.server[1] in self.unheard
+        if route.draws.random() < DROPPED or is_lost:
             self.counts['dropped'] += 1
             return
         self.start(route, taken is route.front, octets)

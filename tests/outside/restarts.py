@@ -1,11 +1,12 @@
 #!/usr/bin/env python3
 """200 appends over a bad network, to servers that are killed and started again: restarts.py PROGRAM SEED [forgetful]
 
-Eight processes of `bac serve`, with 25 appends each by processes of `bac ask`, all through a proxy. While the tenth append of each is under way, its server is
-killed, and started again with `--restarted` and, by `--objects`, the file that it had. Asks go on at once, and are turned away; 65 seconds later they are
-performed again. At the end each file is read: no append may be in it twice, or in part, and each that was answered has to be at the position of its answer.
+Eight processes of `bac serve`, with 25 appends each by processes of `bac ask`, all through a proxy. While the tenth append of each is under way, and each
+answer to it is lost, its server is killed, and started again with `--restarted` and, by `--objects`, the file that it had. Asks go on at once, and are turned
+away; 65 seconds later they are performed again. At the end each file is read: no append may be in it twice, or in part, and each that was answered has to be
+at the position of its answer.
 
-With `forgetful` the servers are started again without `--restarted`: then appends are found twice, which shows that they would be seen.
+With `forgetful` the servers are started again without `--restarted`: then some append has to be found twice, which shows that it would be seen.
 """
 
 import sys
@@ -16,9 +17,10 @@ import tempfile
 import threading
 import time
 from concurrent.futures import ThreadPoolExecutor
+from contextlib import ExitStack, contextmanager
 from pathlib import Path
 
-from losses import APPENDS, FILE, SERVERS, TURNS, WHOLE, Story, append_of, appends_in, counts, octets_of
+from losses import APPENDS, FILE, SERVERS, TURNS, WHOLE, Story, append_of, counts, judge_appends, octets_of
 from processes import Server, ask
 from proxy import Network
 
@@ -36,18 +38,21 @@ def document(house, octets):
     return house.replace(HOUSE_FILE, f'file = {{ hex = "{octets.hex()}"')
 
 
-def restart(program, network, server, folder, house, options):
+@contextmanager
+def restarted(program, network, server, folder, house, options):
     """While nothing comes to the server, its file is read; it is killed, and another one with that file is at its port."""
-    with network.held(server.port):
-        octets = octets_of(ask(program, server.port, WHOLE))
-        if octets is None:
-            raise SystemExit('the file was not read')
-        path = Path(folder) / f'{server.port}.toml'
-        path.write_text(document(house, octets))
-        server.process.kill()
-        server.process.wait()
-        said = SAYS if options else ''
-        return Server(program, TURNS, server.port, [*options, '--objects', str(path)], said).__enter__()
+    with ExitStack() as runs:
+        with network.held(server.port):
+            octets = octets_of(ask(program, server.port, WHOLE))
+            if octets is None:
+                raise SystemExit('the file was not read')
+            path = Path(folder) / f'{server.port}.toml'
+            path.write_text(document(house, octets))
+            server.process.kill()
+            server.process.wait()
+            said = SAYS if options else ''
+            again = runs.enter_context(Server(program, TURNS, server.port, [*options, '--objects', str(path)], said))
+        yield again
 
 
 def run(program, network, server_number, folder, house, options):
@@ -55,7 +60,6 @@ def run(program, network, server_number, folder, house, options):
     story, draws = Story(), random.Random(f'{network.seed} restart {server_number}')
     first = server_number * APPENDS
     with Server(program, TURNS) as server:
-        serving = server
 
         def append(number):
             with network.route(server.port, number) as port:
@@ -64,12 +68,13 @@ def run(program, network, server_number, folder, house, options):
         for number in range(first, first + KILLED_AT):
             append(number)
         under_way = threading.Thread(target=append, args=(first + KILLED_AT,))
-        under_way.start()
-        time.sleep(draws.random() * 3)
-        serving = restart(program, network, server, folder, house, options)
-        began = time.monotonic()
-        under_way.join()
-        with serving:
+        with ExitStack() as runs:
+            with network.silent(server.port):
+                under_way.start()
+                time.sleep(draws.random() * 3)
+                serving = runs.enter_context(restarted(program, network, server, folder, house, options))
+            began = time.monotonic()
+            under_way.join()
             for number in range(first + KILLED_AT + 1, first + KILLED_AT + 1 + TURNED_AWAY):
                 append(number)
             time.sleep(max(0, began + WAITS - time.monotonic()))
@@ -78,15 +83,8 @@ def run(program, network, server_number, folder, house, options):
             network.wait_until_empty()
             story.file = octets_of(ask(program, serving.port, WHOLE)) or b''
             story.performed = serving.finish()
-    judge(story)
+    judge_appends(story)
     return story
-
-
-def judge(story):
-    found = appends_in(story)
-    for number, line in story.ends.items():
-        if line.startswith('answered') and line != f'answered position {found.get(number)}':
-            story.wrong.append(f'append {number}: {line}, and found at {found.get(number)}')
 
 
 def main(words):
@@ -96,10 +94,16 @@ def main(words):
     with Network(seed) as network, tempfile.TemporaryDirectory() as folder, ThreadPoolExecutor(SERVERS) as pool:
         stories = list(pool.map(lambda number: run(program, network, number, folder, house, options), range(SERVERS)))
     ends = [line for story in stories for line in story.ends.values()]
+    twice = [number for story in stories for number, places in story.found.items() if len(places) > 1]
     print(f'appends: {counts(ends)}')
-    print(f'found in files: {sum(len(appends_in(story)) for story in stories)} appends, {sum(len(story.file) for story in stories)} octets')
+    print(f'found in files: {sum(len(story.found) for story in stories)} appends, {len(twice)} of them twice, {sum(len(story.file) for story in stories)} octets')
+    print(f'performed by the servers that were started again: {sum(story.performed for story in stories)} requests')
     print(f'network: {network.summary()}')
     wrong = [text for story in stories for text in story.wrong]
+    if options:
+        wrong += [f'append {number} is there twice' for number in twice]
+    elif not twice:
+        wrong.append('no append was found twice')
     for text in wrong:
         print(f'WRONG: {text}')
     print(f'{len(wrong)} wrong')

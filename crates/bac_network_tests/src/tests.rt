@@ -6,6 +6,7 @@ use bac_value::NoMemory;
 use std::alloc::Global;
 use std::test::Fail;
 
+mod anew;
 mod asks;
 mod bad_lines;
 mod chance;

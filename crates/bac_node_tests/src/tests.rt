@@ -8,6 +8,8 @@ use std::test::Fail;
 
 mod alone;
 mod asks;
+mod changes;
+mod due;
 mod event;
 mod first_ids;
 mod laws;

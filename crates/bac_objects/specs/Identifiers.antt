@@ -1,10 +1,11 @@
 -- Object types and identifiers in a document (clause 20.2.14).
-use Rattle.std.specs.Prelude.{ℕ, List, codes, Bool, nat_le, if◌then◌else◌, Option, Some, None, Result, Ok, Err}
+use Rattle.std.specs.Prelude.{ℕ, ◌==◌, List, codes, Bool, nat_le, if◌then◌else◌, Option, Some, None, Result, Ok, Err}
 use Rattle.bac_names.specs.Names.{number_in}
 use Rattle.bac_names.specs.ObjectTypes.{OBJECT_TYPES}
 use Rattle.bac_value.specs.Steps.{◌>>=◌}
 use Rattle.bac_value.specs.Value.{ObjectId}
 use Rattle.toml.specs.Data.{Data, Members, get_member, as_str}
+use Rattle.bac_objects.specs.Held.{count}
 use Rattle.bac_objects.specs.Reading.{number_up_to, other, table_of}
 use Rattle.bac_objects.specs.declared.problem.Problem.{Problem}
 use Rattle.bac_objects.specs.declared.problem.Wanted.{Wanted}
@@ -40,10 +41,14 @@ the_type w ms = or_nothing w (get_member (codes "type") ms) >>= type_of w
 abbrev pub the_instance : (most : ℕ) → Wanted → Members → Result ℕ Problem
 the_instance most w ms = or_nothing w (get_member (codes "instance") ms) >>= number_up_to most w
 
+-- a table has these two keys alone
+abbrev pub alone : (keys : ℕ) → ObjectId → Result ObjectId Problem
+alone keys id = if keys == 2 then Ok id else Err (record { wanted = wanted.Identifier; given = given.More })
+
 -- any identifier, from a table of a type and an instance
 unfoldable pub identifier_of : Data → Result ObjectId Problem
 identifier_of d = do
   ms ← table_of wanted.Identifier d
   kind ← the_type wanted.ObjectType ms
   instance ← the_instance 4194303 wanted.AnyInstance ms
-  Ok (record { kind = kind; instance = instance })
+  alone (count ms) (record { kind = kind; instance = instance })

@@ -73,10 +73,25 @@ object_with id ms = do
   properties ← properties_on id [] ms
   Ok (record { id = id; name = name; properties = properties; file = file })
 
-unfoldable pub object_of : Data → Result Object Flaw
-object_of d = do
+abbrev pub has_id : ObjectId → List Object → Bool
+has_id id [] = false
+has_id id (o ∷ os) = if is_object id o then true else has_id id os
+
+abbrev pub not_yet : List Object → ObjectId → Result ObjectId Flaw
+not_yet done id =
+    if has_id id done
+    then Err (record { id = Some id; key = codes "instance"; problem = record { wanted = wanted.OwnIdentifier; given = given.Again } })
+    else Ok id
+
+-- one that no earlier object has
+abbrev pub own_identifier : List Object → Members → Result ObjectId Flaw
+own_identifier done ms = identifier_in ms >>= not_yet done
+
+-- the object, after some that are read
+unfoldable pub object_of : List Object → Data → Result Object Flaw
+object_of done d = do
   ms ← at None [] (table_of wanted.Table d)
-  id ← identifier_in ms
+  id ← own_identifier done ms
   object_with id ms
 
 -- ---- all objects
@@ -90,19 +105,8 @@ abbrev pub in_object : {A : Type 0} → ℕ → Result A Flaw → Result A Fault
 in_object n (Ok x) = Ok x
 in_object n (Err f) = Err (record { object = n; flaw = f })
 
-abbrev pub has_id : ObjectId → List Object → Bool
-has_id id [] = false
-has_id id (o ∷ os) = if is_object id o then true else has_id id os
-
--- no earlier object has its identifier
-abbrev pub own_object : List Object → Object → Result Object Flaw
-own_object done o =
-    if has_id o.id done
-    then Err (record { id = Some o.id; key = codes "instance"; problem = record { wanted = wanted.OwnIdentifier; given = given.Again } })
-    else Ok o
-
 abbrev pub with_object : List Object → Data → Result (List Object) Flaw
-with_object done d = object_of d >>= own_object done >>= (λ o. Ok (done ++ o ∷ []))
+with_object done d = object_of done d >>= (λ o. Ok (done ++ o ∷ []))
 
 -- the objects, in the order of the document, after some that are read
 abbrev pub objects_on : List Object → Items → Result (List Object) Fault
@@ -116,8 +120,8 @@ alone keys ds = if keys == 1 then Ok ds else Err (record { wanted = wanted.Objec
 abbrev pub list_in : Members → Result Items Problem
 list_in ms = or_nothing wanted.Objects (get_member (codes "object") ms) >>= (λ d. array_of wanted.Objects d >>= alone (count ms))
 
--- the objects that a document means, or the first fault: objects in the order of the document; in each `type`, `instance`, `name` and `file`, and then
--- the other keys in the order of their octets
+-- the objects that a document means, or the first fault: objects in the order of the document; in each `type`, `instance`, whether an earlier one has both,
+-- `name` and `file`, and then the other keys in the order of their octets
 unfoldable pub objects_in : Members → Result (List Object) Fault
 objects_in ms = do
   ds ← in_object 0 (at None (codes "object") (list_in ms))

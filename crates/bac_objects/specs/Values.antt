@@ -1,6 +1,6 @@
 -- The value that a document gives under the word of its kind (clause 20.2).
-use Rattle.std.specs.Prelude.{ℕ, ◌+◌, ◌-◌, ◌*◌, ◌/◌, ◌%◌, ◌^◌, nat_le, nat_lt, ◌==◌, ◌&&◌, ◌||◌, List, [], ◌∷◌, ◌++◌, length, map, Bool, true, false, to_bits, if◌then◌else◌, Option, Some, None, Result, Ok, Err}
-use Rattle.std.specs.Float.{Float, binary32, binary64, round_to_format}
+use Rattle.std.specs.Prelude.{ℕ, ◌+◌, ◌-◌, ◌*◌, ◌/◌, ◌%◌, ◌^◌, nat_le, nat_lt, ◌==◌, ◌&&◌, ◌||◌, not, List, [], ◌∷◌, ◌++◌, length, map, Bool, true, false, to_bits, if◌then◌else◌, Option, Some, None, Result, Ok, Err}
+use Rattle.std.specs.Float.{Float, binary32, binary64, float_is_finite, round_to_format}
 use Rattle.std.specs.Int.{w32, w64, to_be_bytes}
 use Rattle.hex.specs.Hex.{decode_of}
 use Rattle.hex.specs.declared.error.FromHexError.{FromHexError}
@@ -42,12 +42,19 @@ signed_of d = integer_of wanted.Integer d >>= (λ z. Ok (signed z))
 abbrev pub enumerated_of : Data → Result Datum Problem
 enumerated_of d = number_up_to (2 ^ 32 - 1) wanted.Enumerated d >>= (λ n. Ok (enumerated n))
 
--- clause 20.2.6: the four octets of the float of 32 bits that is nearest to the document's, which has 64
-abbrev pub real_octets : Float → List ℕ
-real_octets x = to_be_bytes w32 (to_bits binary32 (round_to_format binary32 x))
+-- clause 20.2.6: the float of 32 bits that is nearest to TOML's, which has 64 bits and is itself the nearest to what is written
+abbrev pub single : Float → Float
+single x = round_to_format binary32 x
+
+-- a number for which 32 bits have only an infinity
+abbrev pub is_beyond : Float → Bool
+is_beyond x = float_is_finite x && not (float_is_finite (single x))
+
+abbrev pub real_with : Float → Result Datum Problem
+real_with x = if is_beyond x then Err (other wanted.Single) else Ok (real (to_be_bytes w32 (to_bits binary32 (single x))))
 
 abbrev pub real_of : Data → Result Datum Problem
-real_of d = float_of wanted.Float d >>= (λ x. Ok (real (real_octets x)))
+real_of d = float_of wanted.Float d >>= real_with
 
 abbrev pub double_of : Data → Result Datum Problem
 double_of d = float_of wanted.Float d >>= (λ x. Ok (double (to_be_bytes w64 (to_bits binary64 x))))

@@ -1,13 +1,12 @@
 //! A document as a whole: the store that it means.
 ghost use Rattle.std.specs.Prelude.{◌≡◌, [], map, IfOk};
 ghost use Rattle.bac_value.specs.Steps.{ReadsAll};
-ghost use Rattle.bac_value.specs.Views.{object_identifier_view};
 ghost use Rattle.bac_store.specs.Views.{object_view};
 ghost use Rattle.toml.specs.View.{array_view, items_view, table_view, view};
 ghost use Rattle.bac_objects.specs.Answers.{ReadsObject};
 ghost use Rattle.bac_objects.specs.Documents.{IsInObject, IsRead, IsReadTable, ReadsDocument};
 ghost use Rattle.bac_objects.specs.Right.{AreFit};
-ghost use Rattle.bac_objects.specs.Objects.{has_id as has_id_in, list_in as list_of, objects_in as objects_of, objects_on, own_object as own_object_of, with_object as with_object_of};
+ghost use Rattle.bac_objects.specs.Objects.{list_in as list_of, objects_in as objects_of, objects_on, with_object as with_object_of};
 
 use crate::fault::{DocumentFault, Flaw, ObjectFault, Place};
 use crate::held::{count, member};
@@ -15,24 +14,10 @@ use crate::object::object_in;
 use crate::problem::{Given, Problem, Wanted};
 use crate::scalars::array;
 use bac_store::{Object, Store, StoreFault};
-use bac_value::ObjectIdentifier;
 use std::alloc::Global;
 use toml::de::Error;
 use toml::value::Array;
 use toml::{Table, Value};
-
-/// Whether some objects have one of that identifier.
-#[tactic(auto, using(crate::proofs::Identifiers::id_next))]
-fn has_id(id: ObjectIdentifier, objects: &[Object]) -> bool
-    ensures { result ≡ has_id_in (object_identifier_view id) (map object_view objects.now) }
-{
-    for object in objects {
-        if object.id.kind == id.kind && object.id.instance == id.instance {
-            return true;
-        }
-    }
-    false
-}
 
 /// The objects with one more.
 fn with_object<'a>(
@@ -44,17 +29,7 @@ fn with_object<'a>(
     ensures is { ReadsObject (λ v. map object_view v.items) result (with_object_of (map object_view done.items) (view value.now)) }
     ensures fit { IfOk result (λ v. AreFit (map object_view v.items)) }
 {
-    let object = object_in(alloc, value)?;
-    if has_id(object.id, &done) {
-        return Err(ObjectFault::Flaw(Flaw {
-            id: Some(object.id),
-            key: "instance",
-            problem: Problem {
-                wanted: Wanted::OwnIdentifier,
-                given: Given::Again,
-            },
-        }));
-    }
+    let object = object_in(alloc, &done, value)?;
     let mut objects = done;
     objects.push(object)?;
     Ok(objects)
@@ -163,7 +138,7 @@ fn line_of(text: &[u8], error: &Error) -> usize {
 /// The store that a document means: TOML in UTF-8.
 ///
 /// `NoToml` where it is no TOML. `Wrong` names the first fault: the objects in the order of the document, in each `type`,
-/// `instance`, `name` and `file` and then the other keys in the order of their octets. `NoMemory` where memory is refused.
+/// `instance`, whether an earlier object has both, `name` and `file` and then the other keys in the order of their octets. `NoMemory` where memory is refused.
 pub fn read_objects(alloc: Global, text: &[u8]) -> Result<Store, DocumentFault>
     ensures { IsRead text.now result }
 {

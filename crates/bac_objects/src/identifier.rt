@@ -5,7 +5,7 @@ ghost use Rattle.bac_value.specs.Views.{object_identifier_view};
 ghost use Rattle.toml.specs.View.{view, table_view};
 ghost use Rattle.bac_objects.specs.Identifiers.{identifier_of, named as named_of, the_instance as instance_of, the_type as the_type_of, type_of};
 
-use crate::held::member;
+use crate::held::{count, member};
 use crate::problem::{Given, Problem, Wanted};
 use crate::scalars::{number_up_to, table};
 use bac_names::object_type_number;
@@ -65,7 +65,7 @@ pub(crate) fn the_instance(most: u64, wanted: Wanted, table: &Table) -> Result<u
     }
 }
 
-/// An identifier of any type and instance.
+/// An identifier of any type and instance; nothing stands beside them.
 #[tactic(auto, unfolding(crate::specs::Identifiers::identifier_of))]
 pub(crate) fn identifier_in(value: &Value) -> Result<ObjectIdentifier, Problem>
     ensures { ReadsAll object_identifier_view result (identifier_of (view value.now)) }
@@ -73,6 +73,12 @@ pub(crate) fn identifier_in(value: &Value) -> Result<ObjectIdentifier, Problem>
     let table = table(Wanted::Identifier, value)?;
     let kind = the_type(Wanted::ObjectType, table)?;
     let instance = the_instance(4_194_303, Wanted::AnyInstance, table)?;
+    if count(table) != 2 {
+        return Err(Problem {
+            wanted: Wanted::Identifier,
+            given: Given::More,
+        });
+    }
     Ok(ObjectIdentifier {
         kind: kind as u16,
         instance: instance as u32,

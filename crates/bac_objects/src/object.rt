@@ -1,5 +1,5 @@
 //! An object in a document (clause 12).
-ghost use Rattle.std.specs.Prelude.{◌≡◌, ◌<◌, ◌≤◌, [], length, map, IfOk, IsTrue};
+ghost use Rattle.std.specs.Prelude.{◌≡◌, ◌<◌, ◌≤◌, [], false, length, map, IfOk, IsTrue};
 ghost use Rattle.std.specs.Option.{option_map};
 ghost use Rattle.std.specs.String.{string_bytes};
 ghost use Rattle.bac_value.specs.Views.{object_identifier_view};
@@ -11,8 +11,8 @@ ghost use Rattle.bac_objects.specs.Right.{AreRight};
 ghost use Rattle.bac_store.specs.Views.{file_view, object_view, property_view};
 ghost use Rattle.toml.specs.View.{view, table_view};
 ghost use Rattle.bac_objects.specs.Answers.{IsAt, Reads, ReadsObject};
-ghost use Rattle.bac_objects.specs.Objects.{file_in as file_in_members, identifier_in as identifier_of, is_reserved as is_kept, kind_in as kind_of, name_in as name_of};
-ghost use Rattle.bac_objects.specs.Objects.{object_of, object_with as object_by, properties_on, served_type, with_property as with_property_of};
+ghost use Rattle.bac_objects.specs.Objects.{file_in as file_in_members, has_id as has_id_in, identifier_in as identifier_of, is_reserved as is_kept, kind_in as kind_of, name_in as name_of};
+ghost use Rattle.bac_objects.specs.Objects.{object_of, object_with as object_by, own_identifier as own_identifier_of, properties_on, served_type, with_property as with_property_of};
 
 use crate::fault::{Flaw, ObjectFault, ValueFault};
 use crate::held::member;
@@ -82,6 +82,39 @@ fn identifier_in<'a>(table: &Table) -> Result<ObjectIdentifier, ObjectFault<'a>>
         }),
         Err(problem) => Err(at(None, "instance", ValueFault::Wrong(problem))),
     }
+}
+
+/// Whether some objects have one of that identifier.
+#[tactic(auto, using(crate::proofs::Identifiers::id_next))]
+fn has_id(id: ObjectIdentifier, objects: &[Object]) -> bool
+    ensures { result ≡ has_id_in (object_identifier_view id) (map object_view objects.now) }
+{
+    for object in objects {
+        if object.id.kind == id.kind && object.id.instance == id.instance {
+            return true;
+        }
+    }
+    false
+}
+
+/// The type and the instance of an object after some that have others.
+fn own_identifier<'a>(done: &[Object], table: &Table) -> Result<ObjectIdentifier, ObjectFault<'a>>
+    ensures is { ReadsObject object_identifier_view result (own_identifier_of (map object_view done.now) (table_view table.now)) }
+    ensures right { IfOk result (λ i. IsTrue (is_right_id (object_identifier_view i))) }
+    ensures new { IfOk result (λ i. has_id_in (object_identifier_view i) (map object_view done.now) ≡ false) }
+{
+    let id = identifier_in(table)?;
+    if has_id(id, done) {
+        return Err(ObjectFault::Flaw(Flaw {
+            id: Some(id),
+            key: "instance",
+            problem: Problem {
+                wanted: Wanted::OwnIdentifier,
+                given: Given::Again,
+            },
+        }));
+    }
+    Ok(id)
 }
 
 /// The name of an object.
@@ -179,6 +212,7 @@ fn object_with<'a>(
     requires { IsTrue (is_right_id (object_identifier_view id)) }
     ensures is { ReadsObject object_view result (object_by (object_identifier_view id) (table_view table.now)) }
     ensures right { IfOk result (λ o. IsRight (object_view o)) }
+    ensures id { IfOk result (λ o. o.id ≡ id) }
 {
     let name = match name_in(alloc, table) {
         Ok(name) => name,
@@ -197,16 +231,21 @@ fn object_with<'a>(
     })
 }
 
-/// The object that a table means.
+/// The object that a table means, after some that are read.
 #[tactic(auto, unfolding(crate::specs::Objects::object_of))]
-pub(crate) fn object_in(alloc: Global, value: &Value) -> Result<Object, ObjectFault<'_>>
-    ensures is { ReadsObject object_view result (object_of (view value.now)) }
+pub(crate) fn object_in<'a>(
+    alloc: Global,
+    done: &[Object],
+    value: &'a Value,
+) -> Result<Object, ObjectFault<'a>>
+    ensures is { ReadsObject object_view result (object_of (map object_view done.now) (view value.now)) }
     ensures right { IfOk result (λ o. IsRight (object_view o)) }
+    ensures new { IfOk result (λ o. has_id_in (object_identifier_view o.id) (map object_view done.now) ≡ false) }
 {
     let table = match table(Wanted::Table, value) {
         Ok(table) => table,
         Err(problem) => return Err(at(None, "", ValueFault::Wrong(problem))),
     };
-    let id = identifier_in(table)?;
+    let id = own_identifier(done, table)?;
     object_with(alloc, id, table)
 }

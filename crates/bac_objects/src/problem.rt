@@ -43,6 +43,8 @@ pub enum Wanted {
     Integer,
     /// A number with a point or an exponent, or inf or nan.
     Float,
+    /// A number that does not become infinite in 32 bits.
+    Single,
     /// An integer from 0 to 4,294,967,295.
     Enumerated,
     /// A text of digits 0 and 1.
@@ -123,6 +125,7 @@ impl Wanted {
             Wanted::Unsigned => "integer from 0 on",
             Wanted::Integer => "integer",
             Wanted::Float => "number with a point",
+            Wanted::Single => "number of 32 bits",
             Wanted::Enumerated => "0 to 4294967295",
             Wanted::Bits => "text of 0 and 1",
             Wanted::Hex => "octets in hexadecimal",

@@ -70,12 +70,16 @@ fn enumerated(value: &toml::Value) -> Result<Value, Problem>
     Ok(Value::Enumerated(number as u32))
 }
 
-/// The nearest float of 32 bits; one pattern stands for all that are no number.
+/// The float of 32 bits that is nearest to TOML's of 64; one pattern stands for all that are no number. A finite one does not become infinite.
 fn real(value: &toml::Value) -> Result<Value, Problem>
     ensures { ReadsAll value_view result (real_of (view value.now)) }
 {
     let number = float(Wanted::Float, value)?;
-    let bits = f32_to_bits_with_nan(nearest_f64_to_f32_with_nan(number));
+    let nearest = nearest_f64_to_f32_with_nan(number);
+    if number.is_finite() && !nearest.is_finite() {
+        return Err(other(Wanted::Single));
+    }
+    let bits = f32_to_bits_with_nan(nearest);
     Ok(Value::Real(bits.to_be_bytes()))
 }
 

@@ -12,6 +12,8 @@ mod files;
 mod help;
 mod online;
 mod outputs;
+mod restarts;
+mod served_documents;
 mod sockets;
 mod wrong;
 

@@ -1,4 +1,4 @@
-//! Tests of bac_store: the house's rows, which objects a store takes, its limits, and refused memory.
+//! Tests of bac_store and bac_objects: the house's rows, which objects a store takes, its limits, documents of objects, and refused memory.
 //!
 //! They stand in a crate of their own, so that no crate is proved a second time for its tests.
 #![tactic(auto)]

@@ -8,6 +8,7 @@ use std::alloc::Global;
 use std::test::Fail;
 
 mod changes;
+mod documents;
 mod limits;
 mod memory;
 mod objects;

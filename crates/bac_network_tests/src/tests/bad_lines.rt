@@ -104,6 +104,11 @@ const EVENTS: &[&str] = &[
     "file 0 10:1",
     "file 0 10:1 00 00",
     "files 0 10:1 00",
+    "restart",
+    "restart x",
+    "restart 1 2",
+    "restart 1 ",
+    "restarts 1",
 ];
 
 /// Numbers that are none, or outside their range, each in a line that is good with 0 in its place.
@@ -124,6 +129,7 @@ const PLACES: &[(&str, &str)] = &[
     ("nodes 2\nask 0 1 read 0:5 85\nset ", " 0:5 85 00\n"),
     ("nodes 2\nask 0 1 read 0:5 85\nset 0 0:5 ", " 00\n"),
     ("nodes 2\nask 0 1 read 0:5 85\nfile ", " 10:1 00\n"),
+    ("nodes 2\nask 0 1 read 0:5 85\nrestart ", "\n"),
 ];
 
 /// Numbers above the ranges of an object's type, its instance, a property and a place in a file, and octets that are no hexadecimal or no data.

@@ -41,6 +41,21 @@ fn segments_that_cross(rt: HostRuntime) -> Result<(), Fail> {
     plays(rt.alloc(), SMALL_ONES, requests::NAMES, requests::CROSSED)
 }
 
+#[test]
+fn server_that_restarts(rt: HostRuntime) -> Result<(), Fail> {
+    plays(rt.alloc(), LARGE_ONES, restarts::NAMES, restarts::SERVER)
+}
+
+#[test]
+fn client_that_restarts(rt: HostRuntime) -> Result<(), Fail> {
+    plays(rt.alloc(), LARGE_ONES, restarts::NAMES, restarts::CLIENT)
+}
+
+#[test]
+fn restart_with_another_store(rt: HostRuntime) -> Result<(), Fail> {
+    plays(rt.alloc(), LARGE_ONES, restarts::NAMES, restarts::ANOTHER)
+}
+
 /// A window of 3.
 const CLIENT: Member = Member { window: 3, ..SMALL };
 

@@ -63,7 +63,7 @@ pub(super) fn request_of(alloc: Global, text: &str) -> Result<OwnedRequest, Wron
 }
 
 /// The house store, after a request where there is one.
-fn store(alloc: Global, after: &str) -> Result<Store, Wrong> {
+pub(super) fn house_after(alloc: Global, after: &str) -> Result<Store, Wrong> {
     let mut store = house(alloc)?;
     if !after.is_empty() {
         let request = request_of(alloc, after)?;
@@ -82,7 +82,7 @@ impl Member {
             client_slots: self.client_slots,
             reply_slots: self.reply_slots,
         };
-        Ok((config, store(alloc, self.after)?))
+        Ok((config, house_after(alloc, self.after)?))
     }
 }
 

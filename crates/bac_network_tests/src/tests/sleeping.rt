@@ -1,9 +1,14 @@
 //! Two drivers of the same nodes: one sleeps until a node says that something is due, the other lets all do what is due at each millisecond. Both go by
 //! schedules that are made up from a number, and send the same datagrams at the same moments.
+//!
+//! Sometimes both stand still so long that a ticket which is sent again then ends before its timer is due, or an entry of a reply table does.
 use super::chance::Chance;
+use super::generated::{change, restart};
 use super::scene::{limits_of, request_of};
 use super::*;
-use bac_network::{Event, World, WorldFault};
+use bac_network::{Event, Fact, World, WorldFault};
+use bac_rows::octets_of;
+use bac_ticket::Ending;
 
 /// What nodes ask, in words.
 const REQUESTS: &[&str] = &[
@@ -13,6 +18,18 @@ const REQUESTS: &[&str] = &[
     "write 2:1 28 7564{100*00}",
     "read 2:1 28",
 ];
+
+/// What comes from a link of no node.
+const NOISE: &[&str] = &[
+    "",
+    "81",
+    "810B000C0120FFFF00FF1008",
+    "810A000A0100400000",
+    "810A00080100FFFF",
+];
+
+/// How long both drivers stand still, in milliseconds: a ticket ends 60,001 after it was first sent, an entry 65,001.
+const PAUSES: &[u64] = &[58_500, 61_000, 64_000, 66_000];
 
 /// From which numbers schedules are made up.
 const SEEDS: u64 = 6;
@@ -28,7 +45,7 @@ enum Driver {
 
 fn happens(world: &mut World, event: &Event) -> Result<(), Wrong> {
     match world.step(event) {
-        Ok(_) => Ok(()),
+        Ok(_) | Err(WorldFault::BadChange(_)) => Ok(()),
         Err(WorldFault::NoMemory) => Err(Wrong::NoMemory),
         Err(_) => Err(Wrong::Line),
     }
@@ -146,42 +163,95 @@ impl Drivers {
         self.pass(more.saturating_add(1))
     }
 
+    /// Something comes from a link of no node.
+    fn hear(&mut self, alloc: Global, chance: &mut Chance) -> Result<(), Wrong> {
+        let node = chance.below(3);
+        let digits = NOISE.get(chance.below(NOISE.len())).unwrap_or(&"");
+        let octets = octets_of(alloc, digits)?;
+        let from = link(9);
+        self.go_on(&Event::Noise { node, from, octets })
+    }
+
+    /// Both stand still.
+    fn pause(&mut self, chance: &mut Chance) -> Result<(), Wrong> {
+        let least = PAUSES.get(chance.below(PAUSES.len())).copied().unwrap_or(0);
+        let more = chance.below(900) as u64;
+        let by = least.saturating_add(more);
+        self.go_on(&Event::Advance { by })
+    }
+
     fn follow(&mut self, alloc: Global, chance: &mut Chance) -> Result<(), Wrong> {
-        match chance.below(10) {
-            0 | 1 => self.ask(alloc, chance),
-            2 => self.wait(chance),
+        match chance.below(64) {
+            0..=11 => self.ask(alloc, chance),
+            12..=16 => self.wait(chance),
+            17..=19 => self.go_on(&change(alloc, chance)?),
+            20..=22 => self.hear(alloc, chance),
+            23 => self.go_on(&restart(alloc, chance)?),
+            24 | 25 => self.pause(chance),
             _ => self.deliver(chance),
         }
     }
 
-    /// Whether as many datagrams were sent and as much was logged; and, once all nodes know the same latest moment, whether nothing differs.
+    /// Whether as many datagrams were sent and as much was logged.
+    fn are_alike(&self) -> bool {
+        self.sleeps.copies().len() == self.ticks.copies().len()
+            && self.sleeps.log().len() == self.ticks.log().len()
+    }
+
+    /// The same, and nothing differs once all nodes know the same latest moment.
     fn are_same(&mut self) -> Result<bool, Wrong> {
-        let is_sent = self.sleeps.copies().len() == self.ticks.copies().len();
-        let is_logged = self.sleeps.log().len() == self.ticks.log().len();
+        let are_alike = self.are_alike();
         settle(&mut self.sleeps, Driver::Ticks)?;
-        Ok(is_sent && is_logged && self.sleeps.same(&self.ticks))
+        Ok(are_alike && self.sleeps.same(&self.ticks))
     }
 }
 
-/// Both drivers go by a schedule, and then all is sent again until it is given up; how many datagrams were sent, None where they differ.
-fn sent_by_both(alloc: Global, seed: u64) -> Result<Option<usize>, Wrong> {
+/// How many datagrams a world sent, and how many asks expired in it.
+fn counted(world: &World) -> (usize, usize) {
+    let expired = world
+        .log()
+        .iter()
+        .filter(|fact| matches!(
+            fact,
+            Fact::Ended {
+                how: Ending::Expired,
+                ..
+            }
+        ))
+        .count();
+    (world.copies().len(), expired)
+}
+
+/// Both drivers go by a schedule, and then all is sent again until it is given up; what is counted then, None where they differ.
+fn gone_by_both(alloc: Global, seed: u64) -> Result<Option<(usize, usize)>, Wrong> {
     let mut drivers = Drivers::new(alloc)?;
     let mut chance = Chance::of(seed);
     for _ in 0..150u8 {
         drivers.follow(alloc, &mut chance)?;
+        if !drivers.are_alike() {
+            return Ok(None);
+        }
     }
     drivers.pass(12_500)?;
     let is_same = drivers.are_same()?;
-    Ok(is_same.then_some(drivers.ticks.copies().len()))
+    Ok(is_same.then_some(counted(&drivers.ticks)))
 }
 
 #[test]
 fn sleeping_and_ticking_send_the_same(rt: HostRuntime) -> Result<(), Fail> {
+    let mut sent = 0usize;
+    let mut expired = 0usize;
     for seed in 0..SEEDS {
-        match sent_by_both(rt.alloc(), seed) {
-            Ok(Some(sent)) if sent > 80 => {}
+        match gone_by_both(rt.alloc(), seed) {
+            Ok(Some(counts)) => {
+                sent = sent.saturating_add(counts.0);
+                expired = expired.saturating_add(counts.1);
+            }
             _ => return Err(Fail::from("another datagram")),
         }
+    }
+    if sent < 300 || expired < 3 {
+        return Err(Fail::from("too little happened"));
     }
     Ok(())
 }

@@ -1,4 +1,5 @@
 //! Worlds that go by scripts, and their twins.
+use super::anew::restart_anew;
 use super::playing::{Stage, WrongLine, go_by};
 use super::scene::{Scene, Table};
 use super::wrong::Wrong;
@@ -36,8 +37,11 @@ impl Printed {
     }
 }
 
-/// What lines print in a world.
+/// What lines print in a world. A line `anew N WORDS` is no script's: node N restarts with the house store as it is after the request of these words.
 pub(super) fn run(alloc: Global, world: &mut World, lines: &str) -> Result<Printed, Wrong> {
+    if let Some(words) = lines.strip_prefix("anew ") {
+        return restart_anew(alloc, world, words);
+    }
     let mut out = Vec::with_capacity(alloc, 4_096)?;
     let mut err = Vec::with_capacity(alloc, 64)?;
     let status = simulate_in(alloc, world, lines.as_bytes(), &mut out, &mut err).code();

@@ -6,8 +6,9 @@ use bac_node::{Node, NodeFault, Outcome};
 use bac_npdu::Peer;
 use bac_requester::{AskFault, Asked};
 use bac_rows::script::{number, parted};
-use bac_script::{FormFault, read_request_words};
+use bac_script::{FormFault, SetFile, SetProperty, Step, read_request_words, read_step};
 use bac_service::OwnedRequest;
+use bac_store::{Change, ChangeFault};
 use bac_value::NoMemory;
 use hex::FromHexError;
 use std::alloc::Global;
@@ -39,6 +40,10 @@ pub(super) enum Event {
     Begin(u8),
     /// The node restarts, and keeps its store.
     Restart,
+    /// The node changes its store.
+    Change(Change),
+    /// When something is next due is asked.
+    Due,
     /// How many slots are held and entries live is asked.
     Count,
     /// Whether the node and its store are as at first is asked.
@@ -55,6 +60,10 @@ pub(super) enum Came {
     Fault(NodeFault),
     Begun,
     Restarted,
+    Changed,
+    Unchanged(ChangeFault),
+    /// The moment at which something is next due.
+    Due(Option<u64>),
     /// How many slots are held and entries live.
     Counted(usize, usize),
     /// Whether the node and its store are as those of a new one.
@@ -165,6 +174,32 @@ fn ids_begin(line: &str) -> Result<Event, Wrong> {
     }
 }
 
+/// The node changes a property, `set TYPE:INSTANCE PROPERTY HEX`, or a file, `file TYPE:INSTANCE HEX`.
+fn store_changes(alloc: Global, verb: &str, rest: &str) -> Result<Event, Wrong> {
+    let line = format!(in alloc; "{verb} 0 {rest}")?;
+    match read_step(alloc, line.as_bytes()) {
+        Ok(
+            Step::SetProperty(
+                SetProperty {
+                    object,
+                    property,
+                    octets,
+                    ..
+                },
+            ),
+        ) => Ok(Event::Change(Change::Value {
+            object,
+            property,
+            octets,
+        })),
+        Ok(Step::SetFile(SetFile { object, octets, .. })) => {
+            Ok(Event::Change(Change::File { object, octets }))
+        }
+        Err(FormFault::NoMemory) => Err(Wrong::NoMemory),
+        _ => Err(Wrong::Line),
+    }
+}
+
 /// The moment of a line, and its event.
 pub(super) fn event_of(alloc: Global, line: &str) -> Result<(u64, Event), Wrong> {
     let (moment, line) = parted(line, ' ')?;
@@ -177,6 +212,8 @@ pub(super) fn event_of(alloc: Global, line: &str) -> Result<(u64, Event), Wrong>
         b"tick" => Event::Tick,
         b"prepare" => Event::Prepare,
         b"restart" => Event::Restart,
+        b"set" | b"file" => store_changes(alloc, verb, rest)?,
+        b"due" => Event::Due,
         b"count" => Event::Count,
         b"compare" => Event::Compare,
         _ => return Err(Wrong::Line),
@@ -219,6 +256,13 @@ fn restarts(node: &mut Node, now: u64) -> Came {
     }
 }
 
+fn changes(node: &mut Node, change: &Change) -> Came {
+    match node.change(change) {
+        Ok(()) => Came::Changed,
+        Err(fault) => Came::Unchanged(fault),
+    }
+}
+
 impl Event {
     /// What comes of it at a node; `fresh` is one to which nothing happened.
     pub(super) fn happens(&self, node: &mut Node, fresh: &Node, now: u64) -> Came {
@@ -229,6 +273,8 @@ impl Event {
             Event::Ask(ask) => asks(node, now, ask),
             Event::Begin(first_id) => begins(node, *first_id),
             Event::Restart => restarts(node, now),
+            Event::Change(change) => changes(node, change),
+            Event::Due => Came::Due(node.next_due()),
             Event::Count => Came::Counted(node.held(now), node.live(now)),
             Event::Compare => Came::Compared(node.same(fresh), node.store().same(fresh.store())),
         }
@@ -240,7 +286,9 @@ impl Came {
     pub(super) fn is_out_of_memory(&self) -> bool {
         matches!(
             self,
-            Came::Refused(AskFault::NoMemory) | Came::Fault(NodeFault::NoMemory)
+            Came::Refused(AskFault::NoMemory)
+                | Came::Fault(NodeFault::NoMemory)
+                | Came::Unchanged(ChangeFault::NoMemory)
         )
     }
 
@@ -253,7 +301,7 @@ impl Came {
     pub(super) fn is_heard(&self) -> bool {
         match self {
             Came::Outcome(outcome) => outcome.dropped.is_none(),
-            Came::Refused(_) | Came::Fault(_) => false,
+            Came::Refused(_) | Came::Fault(_) | Came::Unchanged(_) => false,
             _ => true,
         }
     }

@@ -16,6 +16,10 @@ const WHOLE: &str = "
   sent 2 300007_0902
 1 from 2 0005040C_0C00000005
   sent 2 600405
+1 set 0:5 85 4442C80000
+  changed
+1 file 10:1 414243
+  changed
 ";
 
 const REQUESTS: &[Table] = &[Table {

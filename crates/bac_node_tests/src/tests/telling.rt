@@ -141,6 +141,10 @@ pub(super) fn print_came(alloc: Global, came: Came, out: &mut Vec<u8>) -> Result
         Came::Refused(fault) => writeln!(out, "refused {}", fault.number())?,
         Came::Fault(fault) => writeln!(out, "fault {}", fault.number())?,
         Came::Begun | Came::Restarted => {}
+        Came::Changed => writeln!(out, "changed")?,
+        Came::Unchanged(fault) => writeln!(out, "unchanged {}", fault.number())?,
+        Came::Due(Some(moment)) => writeln!(out, "due {moment}")?,
+        Came::Due(None) => writeln!(out, "due none")?,
         Came::Counted(held, live) => writeln!(out, "held {held} live {live}")?,
         Came::Compared(node, store) => writeln!(out, "new node {node} store {store}")?,
     }

@@ -1,7 +1,7 @@
 //! Commands on the files, sockets and the clock of this machine.
 use super::*;
 use bac_command_line::System;
-use bac_link::UdpLink;
+use bac_link::{Clock, MonotonicClock, UdpLink};
 
 /// A port that is taken while the commands run.
 const TAKEN: u16 = 47_897;
@@ -10,14 +10,6 @@ const TAKEN: u16 = 47_897;
 const ROWS: &[(&str, Ending)] = &[
     // nobody asks
     ("serve --port 47899 --turns 2", ("served 0\n", "", 0)),
-    (
-        "serve --port 47899 --seconds 1 --restarted",
-        (
-            "served 0\n",
-            "listening 127.0.0.1:47899, 1024 slots\nserving from 65001\n",
-            0,
-        ),
-    ),
     (
         "serve --port 47899 --at 127.0.0.9 --turns 1",
         ("served 0\n", "", 0),
@@ -44,5 +36,34 @@ fn runs_on_this_machine(rt: HostRuntime) -> Result<(), Fail> {
             line,
         )?;
     }
+    Ok(())
+}
+
+/// What a server says, before the moment from which it takes new requests.
+const RESTARTED: &str = "listening 127.0.0.1:47898, 1024 slots\nserving from ";
+
+/// The moment that a server that restarted says, and nothing else; None where it is something else.
+fn moment_of(err: &[u8]) -> Option<u64> {
+    let said = std::str::from_utf8(err).ok()?;
+    let digits = said.strip_prefix(RESTARTED)?.strip_suffix('\n')?;
+    digits.parse::<u64>().ok()
+}
+
+/// A server that restarts takes new requests 65,001 ms after it began to listen, which it did while the command ran: its clock begins at 0 with the command.
+#[test]
+fn serves_from_a_moment(rt: HostRuntime) -> Result<(), Fail> {
+    let words = words_of(rt.alloc(), "serve --port 47898 --seconds 1 --restarted")?;
+    let system = System::new(&rt);
+    let mut clock = MonotonicClock::new(&rt)?;
+    let printed = run_words(rt.alloc(), &words, &system, &system);
+    let took = clock.now();
+    let Some(moment) = moment_of(&printed.err) else {
+        return Err(Fail::from("no moment"));
+    };
+    assert!(rt; printed.out.as_slice() == b"served 0\n".as_slice());
+    assert!(rt; printed.code == 0);
+    assert!(rt; moment >= 65_001);
+    // it listened for a second
+    assert!(rt; moment <= took.saturating_add(64_001));
     Ok(())
 }

@@ -1,5 +1,7 @@
 //! Run with each allocation refused in turn, too: `sh tests/memory/refused.sh`.
+use super::documents::HOUSE;
 use super::*;
+use bac_objects::{DocumentFault, read_objects};
 use bac_service::{OwnedReply, Request};
 use bac_store::ChangeFault;
 
@@ -239,4 +241,24 @@ fn changes_or_refuses(rt: HostRuntime) -> Result<(), Fail> {
     let log = ObjectIdentifier::new(10, 1).ok_or("no such identifier")?;
     holds(is_set(rt.alloc(), &mut store, flow)?, "flow")?;
     holds(is_filled(rt.alloc(), &mut store, log)?, "log")
+}
+
+/// The store of a document, where one allocation alone is refused; None where the document is told to mean none.
+fn read_at_last(alloc: Global, document: &[u8]) -> Option<Store> {
+    match read_objects(alloc, document) {
+        Ok(store) => Some(store),
+        Err(DocumentFault::NoMemory) => read_objects(alloc, document).ok(),
+        Err(_) => None,
+    }
+}
+
+/// A document is read, or memory is refused and then it is read: no other fault is told.
+#[test]
+fn reads_a_document_or_refuses(rt: HostRuntime) -> Result<(), Fail> {
+    let house = house_at_last(rt.alloc())?;
+    let is_read = match read_at_last(rt.alloc(), HOUSE.as_bytes()) {
+        Some(store) => store.same(&house),
+        None => false,
+    };
+    holds(is_read, "the house")
 }

@@ -1,9 +1,8 @@
 -- The object that was pushed is right, and no earlier one has its identifier.
-use Rattle.std.proofs.Common.{sym, ◌∙◌}
 use Rattle.bac_objects.proofs.RightLaws.{fit_pushed}
 use Rattle.bac_objects.proofs.document.with_object.Goals as goal
 
 pub returns-clause-fit : goal.returns-clause-fit
 returns-clause-fit c =
     fit_pushed _ _ c.in_ok-object.object c.in_ok-push.ensures.items c.requires c.in_ok-object.ensures.right
-    (rw c.deref.ensures.value at (sym c.has_id.ensures ∙ c.if-has_id.false))
+    (rw c.deref.ensures.value at c.in_ok-object.ensures.new)

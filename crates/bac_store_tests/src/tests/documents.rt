@@ -1,11 +1,10 @@
-//! Documents, and the stores that they mean.
+//! Documents of objects, and the stores that they mean: the house, each kind of value, each fault, each limit.
+use super::*;
 use bac_objects::read_objects;
-use bac_store::{Store, house};
-use std::alloc::{AllocError, Global};
-use std::test::Fail;
+use std::alloc::AllocError;
 
 /// docs/house.toml; tests/house.sh says that both are one.
-const HOUSE: &str =
+pub(super) const HOUSE: &str =
     r#"# The house: the objects that `bac serve` and `bac answer` have without a document.
 
 [[object]]
@@ -40,7 +39,7 @@ file = { text = "OK", writable = true }
 "#;
 
 /// The store that a document means, or an Err with what is told of it.
-fn store_of(alloc: Global, document: &str) -> Result<Store, Fail> {
+fn meant_by(alloc: Global, document: &str) -> Result<Store, Fail> {
     match read_objects(alloc, document.as_bytes()) {
         Ok(store) => Ok(store),
         Err(fault) => {
@@ -53,14 +52,13 @@ fn store_of(alloc: Global, document: &str) -> Result<Store, Fail> {
 #[test]
 fn the_house_is_the_house(rt: HostRuntime) -> Result<(), Fail> {
     let alloc = rt.alloc();
-    let store = store_of(alloc, HOUSE)?;
+    let store = meant_by(alloc, HOUSE)?;
     let house = house(alloc)?;
-    assert!(rt; store.same(&house));
-    Ok(())
+    holds(store.same(&house), "another house")
 }
 
 /// A document of one object of a vendor's own type with one property.
-fn with_property(alloc: Global, value: &str) -> Result<String, AllocError> {
+fn document_with(alloc: Global, value: &str) -> Result<String, AllocError> {
     format!(in alloc; "[[object]]\ntype = 200\ninstance = 0\nname = \"a\"\n600 = {value}\n")
 }
 
@@ -75,6 +73,10 @@ const VALUES: &[(&str, &str)] = &[
     ("{ real = 72.3 }", "444290999A"),
     ("{ real = -0.0 }", "4480000000"),
     ("{ real = inf }", "447F800000"),
+    ("{ real = nan }", "447FC00000"),
+    ("{ real = -3.4028235e38 }", "44FF7FFFFF"),
+    // nearest to what is written are 3F800001; TOML's float is halfway between both, and then the even one is taken
+    ("{ real = 1.00000005960464478 }", "443F800000"),
     ("{ double = 72.3 }", "55084052133333333333"),
     ("{ octets = \"1234FF\" }", "631234FF"),
     (
@@ -86,7 +88,9 @@ const VALUES: &[(&str, &str)] = &[
     ("{ bits = \"111111110\" }", "8307FF00"),
     ("{ enumerated = 4294967295 }", "94FFFFFFFF"),
     ("{ date = 1991-01-24 }", "A45B0118FF"),
+    ("{ date = 2154-12-31 }", "A4FE0C1FFF"),
     ("{ time = 17:35:45.17 }", "B411232D11"),
+    ("{ time = 17:35:45.179 }", "B411232D11"),
     (
         "{ object = { type = \"binary-input\", instance = 15 } }",
         "C400C0000F",
@@ -100,8 +104,8 @@ const VALUES: &[(&str, &str)] = &[
 /// Whether both values make one store.
 fn are_same(alloc: Global, value: &str, spelling: &str) -> Result<bool, Fail> {
     let hex = format!(in alloc; "{{ hex = \"{spelling}\" }}")?;
-    let by_kind = store_of(alloc, with_property(alloc, value)?.as_str())?;
-    let by_hex = store_of(alloc, with_property(alloc, hex.as_str())?.as_str())?;
+    let by_kind = meant_by(alloc, document_with(alloc, value)?.as_str())?;
+    let by_hex = meant_by(alloc, document_with(alloc, hex.as_str())?.as_str())?;
     Ok(by_kind.same(&by_hex))
 }
 
@@ -109,7 +113,7 @@ fn are_same(alloc: Global, value: &str, spelling: &str) -> Result<bool, Fail> {
 fn values_have_their_spelling(rt: HostRuntime) -> Result<(), Fail> {
     let alloc = rt.alloc();
     for (value, spelling) in VALUES {
-        assert!(rt; are_same(alloc, value, spelling)?);
+        holds(are_same(alloc, value, spelling)?, value)?;
     }
     Ok(())
 }
@@ -167,11 +171,20 @@ const FAULTS: &[(&str, &str)] = &[
         "object 1: instance: 0 to 4194302 wanted, another one given",
     ),
     (
+        "[[object]]\ntype = 200\ninstance = \"5\"",
+        "object 1: instance: 0 to 4194302 wanted, text given",
+    ),
+    (
         "[[object]]\ntype = 200\ninstance = 1",
         "object 1 (200 1): name: text wanted, nothing given",
     ),
     (
         "[[object]]\ntype = 200\ninstance = 1\nname = \"a\"\n[[object]]\ntype = 200\ninstance = 1\nname = \"a\"",
+        "object 2 (200 1): instance: type and instance of its own wanted, the same again given",
+    ),
+    // before its name, its file and its properties are looked at
+    (
+        "[[object]]\ntype = 200\ninstance = 1\nname = \"a\"\n[[object]]\ntype = 200\ninstance = 1",
         "object 2 (200 1): instance: type and instance of its own wanted, the same again given",
     ),
     (
@@ -189,6 +202,11 @@ const FAULTS: &[(&str, &str)] = &[
     (
         "[[object]]\ntype = 200\ninstance = 1\nname = \"a\"\n85 = { real = 1.0 }\npresent-value = { real = 1.0 }",
         "object 1 (200 1): present-value: each property once wanted, the same again given",
+    ),
+    // keys by their octets
+    (
+        "[[object]]\ntype = 200\ninstance = 1\nname = \"a\"\npresent-value = 1\n600 = 1\n1000 = 1",
+        "object 1 (200 1): 1000: table with a value wanted, integer given",
     ),
     (
         "[[object]]\ntype = \"file\"\ninstance = 1\nname = \"a\"",
@@ -209,6 +227,10 @@ const FAULTS: &[(&str, &str)] = &[
     (
         "[[object]]\ntype = 200\ninstance = 1\nname = \"a\"\n600 = { real = 1.5, text = \"b\" }",
         "object 1 (200 1): 600: one value by its kind, and writable wanted, more given",
+    ),
+    (
+        "[[object]]\ntype = 200\ninstance = 1\nname = \"a\"\n600 = { float = 1.0 }",
+        "object 1 (200 1): 600: one value by its kind, and writable wanted, nothing given",
     ),
     (
         "[[object]]\ntype = 200\ninstance = 1\nname = \"a\"\n600 = { real = 1.5, writable = 1 }",
@@ -235,6 +257,14 @@ const FAULTS: &[(&str, &str)] = &[
         "object 1 (200 1): 600: number with a point wanted, integer given",
     ),
     (
+        "[[object]]\ntype = 200\ninstance = 1\nname = \"a\"\n600 = { real = 1e39 }",
+        "object 1 (200 1): 600: number of 32 bits wanted, another one given",
+    ),
+    (
+        "[[object]]\ntype = 200\ninstance = 1\nname = \"a\"\n600 = { real = -3.4028235677973366e38 }",
+        "object 1 (200 1): 600: number of 32 bits wanted, another one given",
+    ),
+    (
         "[[object]]\ntype = 200\ninstance = 1\nname = \"a\"\n600 = { enumerated = 4294967296 }",
         "object 1 (200 1): 600: 0 to 4294967295 wanted, another one given",
     ),
@@ -247,6 +277,10 @@ const FAULTS: &[(&str, &str)] = &[
         "object 1 (200 1): 600: text of 0 and 1 wanted, another one given",
     ),
     (
+        "[[object]]\ntype = 200\ninstance = 1\nname = \"a\"\n600 = { octets = \"1\" }",
+        "object 1 (200 1): 600: octets in hexadecimal wanted, another one given",
+    ),
+    (
         "[[object]]\ntype = 200\ninstance = 1\nname = \"a\"\n600 = { hex = \"3E\" }",
         "object 1 (200 1): 600: spelling of values in hexadecimal wanted, another one given",
     ),
@@ -255,7 +289,23 @@ const FAULTS: &[(&str, &str)] = &[
         "object 1 (200 1): 600: date from 1900 to 2154 wanted, another one given",
     ),
     (
+        "[[object]]\ntype = 200\ninstance = 1\nname = \"a\"\n600 = { date = 2155-01-01 }",
+        "object 1 (200 1): 600: date from 1900 to 2154 wanted, another one given",
+    ),
+    (
+        "[[object]]\ntype = 200\ninstance = 1\nname = \"a\"\n600 = { date = 2156-01-01 }",
+        "object 1 (200 1): 600: date from 1900 to 2154 wanted, another one given",
+    ),
+    (
+        "[[object]]\ntype = 200\ninstance = 1\nname = \"a\"\n600 = { date = 1991-01-24T17:35:45 }",
+        "object 1 (200 1): 600: date from 1900 to 2154 wanted, another one given",
+    ),
+    (
         "[[object]]\ntype = 200\ninstance = 1\nname = \"a\"\n600 = { time = 2000-01-01 }",
+        "object 1 (200 1): 600: time of day wanted, another one given",
+    ),
+    (
+        "[[object]]\ntype = 200\ninstance = 1\nname = \"a\"\n600 = { time = 1991-01-24T17:35:45 }",
         "object 1 (200 1): 600: time of day wanted, another one given",
     ),
     (
@@ -271,6 +321,10 @@ const FAULTS: &[(&str, &str)] = &[
         "object 1 (200 1): 600: 0 to 4194303 wanted, table given",
     ),
     (
+        "[[object]]\ntype = 200\ninstance = 1\nname = \"a\"\n600 = { object = { type = 0, instance = 1, writable = true } }",
+        "object 1 (200 1): 600: table with type and instance wanted, more given",
+    ),
+    (
         "[[object]]\ntype = \"analog-input\"\ninstance = 7\nname = \"a\"\npresent-value = { text = \"b\" }",
         "object 1 (analog-input 7): present-value: real wanted, text given",
     ),
@@ -284,13 +338,11 @@ const FAULTS: &[(&str, &str)] = &[
     ),
 ];
 
-fn is_told(alloc: Global, document: &str, told: &str) -> Result<bool, Fail> {
-    match read_objects(alloc, document.as_bytes()) {
-        Ok(_) => Ok(false),
-        Err(fault) => {
-            let text = format!(in alloc; "{fault}")?;
-            Ok(text.as_str() == told)
-        }
+/// What is told of a document; nothing where it means a store.
+fn told_of(alloc: Global, document: &[u8]) -> Result<String, Fail> {
+    match read_objects(alloc, document) {
+        Ok(_) => Ok(String::new(alloc)),
+        Err(fault) => Ok(format!(in alloc; "{fault}")?),
     }
 }
 
@@ -298,7 +350,88 @@ fn is_told(alloc: Global, document: &str, told: &str) -> Result<bool, Fail> {
 fn faults_are_told(rt: HostRuntime) -> Result<(), Fail> {
     let alloc = rt.alloc();
     for (document, told) in FAULTS {
-        assert!(rt; is_told(alloc, document, told)?);
+        holds(told_of(alloc, document.as_bytes())?.as_str() == *told, told)?;
+    }
+    Ok(())
+}
+
+/// What stands before so many letters and after them, and what is told of it, or nothing.
+const LENGTHS: &[(&str, usize, &str, &str)] = &[
+    (
+        "[[object]]\ntype = 200\ninstance = 1\nname = \"",
+        4_091,
+        "\"",
+        "",
+    ),
+    (
+        "[[object]]\ntype = 200\ninstance = 1\nname = \"",
+        4_092,
+        "\"",
+        "object 1 (200 1): name: at most 4091 octets wanted, more given",
+    ),
+    // the spelling of a text has five octets more, that of an octet string four
+    (
+        "[[object]]\ntype = 200\ninstance = 1\nname = \"a\"\n600 = { text = \"",
+        4_091,
+        "\" }",
+        "",
+    ),
+    (
+        "[[object]]\ntype = 200\ninstance = 1\nname = \"a\"\n600 = { text = \"",
+        4_092,
+        "\" }",
+        "object 1 (200 1): 600: at most 4096 octets wanted, more given",
+    ),
+    (
+        "[[object]]\ntype = 200\ninstance = 1\nname = \"a\"\n600 = { octets = \"",
+        8_184,
+        "\" }",
+        "",
+    ),
+    (
+        "[[object]]\ntype = 200\ninstance = 1\nname = \"a\"\n600 = { octets = \"",
+        8_186,
+        "\" }",
+        "object 1 (200 1): 600: at most 4096 octets wanted, more given",
+    ),
+    (
+        "[[object]]\ntype = \"file\"\ninstance = 1\nname = \"a\"\nfile = { text = \"",
+        60_000,
+        "\" }",
+        "",
+    ),
+    (
+        "[[object]]\ntype = \"file\"\ninstance = 1\nname = \"a\"\nfile = { text = \"",
+        60_001,
+        "\" }",
+        "object 1 (file 1): file: at most 60000 octets wanted, more given",
+    ),
+    (
+        "[[object]]\ntype = \"file\"\ninstance = 1\nname = \"a\"\nfile = { hex = \"",
+        120_002,
+        "\" }",
+        "object 1 (file 1): file: at most 60000 octets wanted, more given",
+    ),
+];
+
+fn is_long_told(
+    alloc: Global,
+    before: &str,
+    letters: usize,
+    after: &str,
+    told: &str,
+) -> Result<bool, Fail> {
+    let mut document = Vec::from_slice(alloc, before.as_bytes())?;
+    document.extend_from_slice(&octets_alike(alloc, b'a', letters)?)?;
+    document.extend_from_slice(after.as_bytes())?;
+    Ok(told_of(alloc, &document)?.as_str() == told)
+}
+
+#[test]
+fn documents_have_limits(rt: HostRuntime) -> Result<(), Fail> {
+    for (before, letters, after, told) in LENGTHS {
+        let is = is_long_told(rt.alloc(), before, *letters, after, told)?;
+        holds(is, told)?;
     }
     Ok(())
 }

@@ -3,7 +3,7 @@ use Rattle.std.proofs.Common.{◌≡◌, drop, map}
 use Rattle.bac_value.specs.Views.{object_identifier_view}
 use Rattle.bac_store.specs.Views.{object_view}
 use Rattle.bac_objects.specs.Objects.{has_id}
-use Rattle.bac_objects.proofs.document.has_id.Given as goal
+use Rattle.bac_objects.proofs.object.has_id.Given as goal
 
 abbrev pub invariant-loop-object : goal.invariant-loop-object
 invariant-loop-object l =

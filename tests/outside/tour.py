@@ -1,0 +1,192 @@
+#!/usr/bin/env python3
+"""The tour of README.md as it stands there: tour.py PROGRAM [DOCUMENT]
+
+Each `out/bac` command of README's code blocks is run, in a folder that has that program, and what it prints on either stream is held against the lines below
+it; where there are none, against what the next words say: a block, or a text in backquotes after `prints` or `says`. `rt run --` and `rt try --` are run as
+`out/bac`. A `serve` runs on, at a free port that stands for README's, while the commands after it are run; where README says what it `ends with`, it has to
+end so, otherwise it is killed in the end. Lines below it have to be among those that it said, in their order, but for moments, ports of clients and invoke
+IDs. Other commands are named and not run. The texts of SAID, which README's sentences have, are held too.
+"""
+
+import re
+import subprocess
+import sys
+sys.dont_write_bytecode = True  # no __pycache__ beside the sources
+
+import tempfile
+import time
+from pathlib import Path
+
+from processes import START_SECONDS, free_port, has_port
+
+TOP = Path(__file__).resolve().parents[2]
+PORT = '47808'  # README's; a free one stands for it
+LIVES = 30  # seconds of a server that README lets live longer
+TYPED = re.compile(r'(out/bac|cp|cd|rt|sh|make|cc) ')
+BY_RT = re.compile(r'cd crates/bac && rt (try|run) -- ')
+TOLD = re.compile(r'(?:prints|says) `([^`]*)`')  # at the begin of the words after a block
+INLINE = re.compile(r'`(out/bac [^`]*)`[^`]*\bprints$')  # at the end of the words before a block
+WRITTEN = re.compile(r'(?:script|file|list) `([\w.]+)`$')  # so: the block is that file
+ENDED = re.compile(r'ends with `([^`]*)`')
+ASKS = 'for ask in $(seq 65); do out/bac ask --port 47808 read 0:5 85; done | tail -n 1'
+SAID = [  # a text of a sentence, and a command of which it is a line
+    ('bad words: property "presentvalue" is no name and no number', 'out/bac ask --port 47808 --text read analog-input:5 presentvalue'),
+    ('plant.toml: object 2 (analog-input 5): present-value: real wanted, text given',
+     "sed 's/real = 72.3/text = \"flow\"/' ../../docs/house.toml > plant.toml; out/bac serve --port 47808 --objects plant.toml"),
+    ('serving from 65001', 'out/bac serve --port 47808 --seconds 1 --restarted'),
+    ('aborted 0', f'out/bac serve --port 47808 --turns 100000 & served=$!; sleep 0.5; {ASKS}; kill $served'),
+]
+
+
+def parts_of(text):
+    """The paragraphs and the code blocks of a document, in order: whether it is a block, and its lines."""
+    parts = [(False, [])]
+    for line in text.splitlines():
+        is_block = line.startswith('    ')
+        if not line:
+            parts.append((False, []))
+        elif parts[-1][1] and parts[-1][0] == is_block:
+            parts[-1][1].append(line[4:] if is_block else line)
+        else:
+            parts.append((is_block, [line[4:] if is_block else line]))
+    return [part for part in parts if part[1]]
+
+
+def masked(line, port):
+    """A line without what differs from run to run."""
+    line = re.sub(r'^\d+ ', 'MOMENT ', line.replace(str(port), PORT))
+    return re.sub(r'\bid \d+', 'id ID', re.sub(rf'(127\.0\.0\.1):(?!{PORT}\b)\d+', r'\1:ANY', line))
+
+
+class Serving:
+    """A `serve` that runs on, at a free port. `below` are the lines that README has below it."""
+
+    def __init__(self, command, port, folder, below):
+        self.port, self.below = port, below
+        command = re.sub(r'--seconds (\d+)', lambda found: f'--seconds {min(int(found[1]), LIVES)}', command)
+        self.command, self.said = command, folder / f'said{port}'
+        with open(self.said, 'w') as err:
+            self.process = subprocess.Popen(command.split(), cwd=folder, stdout=subprocess.PIPE, stderr=err, text=True)
+        self.serves, end = False, time.monotonic() + START_SECONDS
+        while not self.serves and self.process.poll() is None and time.monotonic() < end:
+            time.sleep(0.02)
+            self.serves = has_port(self.process.pid, port) and self.said.read_text().endswith('\n')
+
+    def end(self):
+        """What it prints when it ends by itself."""
+        return self.process.communicate(timeout=LIVES + START_SECONDS)[0]
+
+    def close(self):
+        """Ends it. Those of the lines below that it did not say in their order."""
+        self.process.kill()
+        self.process.communicate()
+        said = (masked(line, self.port) for line in self.said.read_text().splitlines())
+        return [line for line in self.below if masked(line, PORT) not in said]
+
+
+class Tour:
+    """What was run and held so far. `open` is the last command, and what it printed, where that was held against nothing yet."""
+
+    def __init__(self, folder, program):
+        self.here, self.port, self.servers = folder / 'crates/bac', PORT, []
+        self.wrong, self.left_out, self.ran, self.held = [], [], 0, 0
+        self.open, self.wanted, self.file = None, '', None
+        # README's commands are typed in crates/bac
+        (self.here / 'out').mkdir(parents=True)
+        (self.here / 'out/bac').symlink_to(Path(program).resolve())
+        (folder / 'docs').symlink_to(TOP / 'docs')
+
+    def hold(self, command, wanted, printed):
+        self.held += 1
+        self.open, self.wanted = None, wanted
+        if printed.rstrip('\n') != wanted.replace(PORT, str(self.port)).rstrip('\n'):
+            self.wrong.append(f'{command}\n  README:  {wanted!r}\n  printed: {printed!r}')
+
+    def run(self, command):
+        """A command, at the port of the latest server: what it prints."""
+        self.ran += 1
+        words = ['sh', '-c', command.replace(PORT, str(self.port))]
+        done = subprocess.run(words, cwd=self.here, stdout=subprocess.PIPE, stderr=subprocess.STDOUT, text=True, timeout=120)
+        return done.stdout
+
+    def serve(self, command, below):
+        """A server, at a port of its own: what it says when it listens."""
+        self.ran, self.port = self.ran + 1, free_port()
+        self.servers.append(Serving(command.replace(PORT, str(self.port)), self.port, self.here, below))
+        said = self.servers[-1].said.read_text()
+        if not self.servers[-1].serves:
+            self.wrong.append(f'{command}: it does not serve, and says {said!r}')
+        return said
+
+    def start(self, command, below=()):
+        command = BY_RT.sub('out/bac ', command)
+        return self.serve(command, below) if ' serve ' in command else self.run(command)
+
+    def type(self, command, below):
+        """A command of a block, and the lines below it."""
+        if not BY_RT.match(command) and not command.startswith(('out/bac ', 'cp ')):
+            self.left_out.append(command)
+            return
+        self.open = command, self.start(command, below)
+        if ' serve ' in command and below:
+            self.open = None
+        elif below or command.startswith('cp '):
+            self.hold(command, '\n'.join(below), self.open[1])
+
+    def read_words(self, text):
+        """A paragraph: what the command before it printed, how a server ends, what the block after it is."""
+        told = TOLD.match(text)
+        if self.open and (told or text.startswith('prints the same')):
+            self.hold(self.open[0], told[1] if told else self.wanted, self.open[1])
+        for ended in ENDED.findall(text) if self.servers else []:
+            self.hold(self.servers[-1].command, ended, self.servers[-1].end())
+        inline, written = INLINE.search(text.rstrip(':')), WRITTEN.search(text.rstrip(':'))
+        if inline:
+            self.open = inline[1], self.start(inline[1])
+        self.file = written[1] if written else None
+
+    def read_block(self, lines):
+        if self.file:
+            (self.here / self.file).write_text('\n'.join(lines) + '\n')
+        elif TYPED.match(lines[0]):
+            starts = [number for number, line in enumerate(lines) if TYPED.match(line)]
+            for start, end in zip(starts, [*starts[1:], len(lines)]):
+                self.type(lines[start], lines[start + 1:end])
+        elif self.open:
+            self.hold(self.open[0], '\n'.join(lines), self.open[1])
+        else:
+            self.wrong.append(f'a block that is no command and no output: {lines[0]}')
+
+    def read_said(self, text):
+        """The texts that stand in sentences."""
+        for said, command in SAID:
+            self.port, self.held = free_port(), self.held + 1
+            if f'`{said}`' not in text:
+                self.left_out.append(f'README no longer says {said}')
+            elif said not in (lines := self.run(command).splitlines()):
+                self.wrong.append(f'{command}\n  README:  {said!r}\n  printed: {lines}')
+
+    def close(self):
+        for server in self.servers:
+            self.held += bool(server.below)
+            self.wrong += [f'{server.command}: it did not say {line!r}' for line in server.close()]
+
+
+def main(words):
+    text = Path(words[1] if len(words) > 1 else TOP / 'README.md').read_text()
+    with tempfile.TemporaryDirectory() as folder:
+        tour = Tour(Path(folder), words[0])
+        try:
+            for is_block, lines in parts_of(text):
+                tour.read_block(lines) if is_block else tour.read_words(' '.join(lines))
+            tour.read_said(text)
+        finally:
+            tour.close()
+    print(f'{tour.ran} commands run, {tour.held} outputs held against README, left out: {"; ".join(tour.left_out)}')
+    for wrong in tour.wrong:
+        print(f'WRONG: {wrong}')
+    return 1 if tour.wrong else 0
+
+
+if __name__ == '__main__':
+    sys.exit(main(sys.argv[1:]))
