@@ -1,28 +1,42 @@
 -- What `serve`, `ask` and `pair` print, and their statuses: over links that the machine bound to the address of the command, and beside a clock that it made,
 -- bac_commands' promise holds.
-use Rattle.std.specs.Prelude.{◌≡◌, ℕ, Bool, true, false, List, Option, None}
+use Rattle.std.specs.Prelude.{◌≡◌, ℕ, Bool, true, false, List, Option, None, Some, IfSome, Result, Ok, Err, ⊤}
 use Rattle.std.specs.Io.KnownBytes.{Keeps}
 use Rattle.bac_protocol.specs.Service.{Octets}
 use Rattle.bac_link.specs.Calls.{Calls}
 use Rattle.bac_link.specs.Moments.{Told, with_moment}
 use Rattle.bac_link.specs.Udp.{LOCAL_HOST}
 use Rattle.bac_node.specs.Fresh.{slots_fit}
+use Rattle.bac_npdu.specs.Peers.{PeerView}
+use Rattle.bac_npdu.specs.Views.{peer_view}
+use Rattle.bac_service.specs.Values.{Request}
 use Rattle.bac_script.specs.Requests.{request_of}
+use Rattle.bac_script.specs.declared.form_fault.FormFault.{FormFault}
+use Rattle.bac_script.specs.declared.form_fault.FormFault.TheVariants.{NoForm, NoMemory}
 use Rattle.bac_store.specs.Stores.{Store}
 use Rattle.bac_text.specs.declared.status.Status.{Status}
 use Rattle.bac_run.specs.Asking.{Question}
 use Rattle.bac_run.specs.Pairs.{Pair}
 use Rattle.bac_run.specs.Runs.{Timed}
 use Rattle.bac_run.specs.Stations.{Station}
+use Rattle.bac_run.specs.Views.{question_view}
+use Rattle.bac_run.specs.declared.patience.Patience.{Patience}
+use Rattle.bac_run.specs.declared.question.Question as code
 use Rattle.bac_world.specs.Node.{Node}
+use Rattle.bac_commands.specs.FileOctets.{AskedOctets, reads_file}
 use Rattle.bac_commands.specs.Houses.{house_node, server_node}
 use Rattle.bac_commands.specs.Pairs.{TwoTexts}
 use Rattle.bac_commands.specs.Questions.{IsQuestion}
 use Rattle.bac_commands.specs.Reports.{AskedText, ServedText}
 use Rattle.bac_commands.specs.Statuses.{ByStatus}
 use Rattle.bac_commands.specs.Words.{AskedWords}
+use Rattle.bac_command_line.specs.Asking.{patience_for}
+use Rattle.bac_command_line.specs.Files.{OfFile}
+use Rattle.bac_command_line.specs.FileWords.{file_of, with_octets}
 use Rattle.bac_command_line.specs.Serving.{patience_of, restart_of, turns_of}
 use Rattle.bac_command_line.specs.declared.asking.Asking.{Asking}
+use Rattle.bac_command_line.specs.declared.asking.Style.{Style}
+use Rattle.bac_command_line.specs.declared.asking.Style.TheVariants as style
 use Rattle.bac_command_line.specs.declared.serving.Serving.{Serving}
 
 -- ---- links and clocks
@@ -58,9 +72,9 @@ pub record IsAt (IsOn : Links) (host : Octets) (port : ℕ) (node_at : (address 
   pub node : station.node ≡ node_at address
   pub on : IsOn host port address station.failures station.calls
 
--- one with the house store, to which nothing has happened, at any free port
-abbrev pub IsHouseAt : Links → (host : Octets) → Station → Type 0
-IsHouseAt IsOn host station = IsAt IsOn host FREE house_node station
+-- one with the house store, to which nothing has happened, at any free port; its invoke IDs begin at that one
+abbrev pub IsHouseAt : Links → (host : Octets) → (first_id : ℕ) → Station → Type 0
+IsHouseAt IsOn host first_id station = IsAt IsOn host FREE (house_node first_id) station
 
 -- ---- serving
 
@@ -91,28 +105,70 @@ IsServedBy store IsOn IsClock s serving old new = ByStatus s (Serves store IsOn 
 -- ---- asking
 
 -- how it ended was printed: in words, or in octets
-abbrev pub AskedAs : (text strict succeeded : Bool) → Question → (before after : Timed) → (old new : Option (List ℕ)) → Type 0
-AskedAs true strict succeeded question before after old new = AskedWords strict succeeded question before after old new
-AskedAs false strict succeeded question before after old new = AskedText strict succeeded question before after old new
+abbrev pub AskedAs : Style → (strict succeeded : Bool) → Question → Patience → (before after : Timed) → (old new : Option (List ℕ)) → Type 0
+AskedAs style.Numbers strict succeeded q p before after old new = AskedText strict succeeded q p before after old new
+AskedAs style.Words strict succeeded q p before after old new = AskedWords strict succeeded q p before after old new
+AskedAs style.Octets strict succeeded q p before after old new = AskedOctets succeeded q p before after old new
 
-abbrev pub ReportsAs : Status → (text strict : Bool) → Question → (before after : Timed) → (old new : Option (List ℕ)) → Type 0
-ReportsAs s text strict q before after old new =
-    ByStatus s (AskedAs text strict true q before after old new) (AskedAs text strict false q before after old new) ⊥
+abbrev pub ReportsAs : Status → Style → (strict : Bool) → Question → Patience → (before after : Timed) → (old new : Option (List ℕ)) → Type 0
+ReportsAs s style strict q p before after old new =
+    ByStatus s (AskedAs style strict true q p before after old new) (AskedAs style strict false q p before after old new) ⊥
 
--- a house at any free port asked the node at an address, and how that ended was printed
+-- octets of a file are there only for a request that reads one
+abbrev pub is_told_by : Style → Request → Bool
+is_told_by style.Numbers r = true
+is_told_by style.Words r = true
+is_told_by style.Octets r = reads_file r
+
+abbrev pub is_request_for : Style → Option Request → Bool
+is_request_for style None = false
+is_request_for style (Some r) = is_told_by style r
+
+-- it is read, or there is a fault: the words are no such request, or memory was refused
+abbrev pub ReadsAsked : Style → PeerView → (words : List (List ℕ)) → Result code.Question FormFault → Type 0
+ReadsAsked style peer words (Ok q) = IsQuestion peer words (question_view q)
+ReadsAsked style peer words (Err NoForm) = is_request_for style (request_of words) ≡ false
+ReadsAsked style peer words (Err NoMemory) = ⊤
+
+-- a house at any free port, whose invoke IDs began anywhere, asked a node from a moment on, and how that ended was printed
 pub record Asks (IsOn : Links) (IsClock : Clocks) (asking : Asking) (succeeded : Bool) (words : List (List ℕ)) (old new : Option (List ℕ)) : Type 0 where
   pub question : Question
-  pub is : IsQuestion asking.peer words question
+  pub is : IsQuestion (peer_view asking.peer) words question
+  pub start : ℕ
   pub before : Timed
   pub after : Timed
-  pub house : IsHouseAt IsOn asking.host before.station
-  pub clock : IsClock before.told
-  pub printed : AskedAs asking.text asking.strict succeeded question before after old new
+  pub first_id : ℕ
+  pub house : IsHouseAt IsOn asking.host first_id before.station
+  pub clock : HasTold IsClock start before.told
+  pub printed : AskedAs asking.style asking.strict succeeded question (patience_for asking.timeout start) before after old new
 
--- the command line is refused only where the words are no request
+-- the words are no request that can be told so, and nothing was printed
+pub record IsNoRequest (asking : Asking) (words : List (List ℕ)) (old new : Option (List ℕ)) : Type 0 where
+  pub none : is_request_for asking.style (request_of words) ≡ false
+  pub keeps : Keeps old new
+
 abbrev pub IsAsked : Links → Clocks → Status → Asking → (words : List (List ℕ)) → (old new : Option (List ℕ)) → Type 0
 IsAsked IsOn IsClock s asking words old new =
-    ByStatus s (Asks IsOn IsClock asking true words old new) (Asks IsOn IsClock asking false words old new) (request_of words ≡ None)
+    ByStatus s (Asks IsOn IsClock asking true words old new) (Asks IsOn IsClock asking false words old new) (IsNoRequest asking words old new)
+
+-- the same where octets stand in hexadecimal in the place of the last word: those of a file, where they are known
+pub record AsksWith (IsOn : Links) (IsClock : Clocks) (asking : Asking) (succeeded : Bool) (words : List (List ℕ)) (old new : Option (List ℕ))
+    (content : Option (List ℕ)) : Type 0 where
+  pub octets : List ℕ
+  pub known : IfSome content (λ file. octets ≡ file)
+  pub asks : Asks IsOn IsClock asking succeeded (with_octets octets words) old new
+
+abbrev pub IsAskedOf : (IsFile : (path : List ℕ) → (content : Option (List ℕ)) → Type 0) → (file : Option (List ℕ)) → Links → Clocks → Status → Asking
+    → (words : List (List ℕ)) → (old new : Option (List ℕ)) → Type 0
+IsAskedOf IsFile None IsOn IsClock s asking words old new = IsAsked IsOn IsClock s asking words old new
+IsAskedOf IsFile (Some path) IsOn IsClock s asking words old new =
+    ByStatus s (OfFile IsFile path (AsksWith IsOn IsClock asking true words old new)) (OfFile IsFile path (AsksWith IsOn IsClock asking false words old new))
+    (Keeps old new)
+
+-- where the last word names a file, its octets stand there
+abbrev pub IsAskedFrom : (IsFile : (path : List ℕ) → (content : Option (List ℕ)) → Type 0) → Links → Clocks → Status → Asking → (words : List (List ℕ))
+    → (old new : Option (List ℕ)) → Type 0
+IsAskedFrom IsFile IsOn IsClock s asking words old new = IsAskedOf IsFile (file_of words) IsOn IsClock s asking words old new
 
 -- ---- two nodes
 
@@ -120,8 +176,8 @@ IsAsked IsOn IsClock s asking words old new =
 pub record Pairs (IsOn : Links) (IsClock : Clocks) (answered : Bool) (old new : Option (List ℕ)) : Type 0 where
   pub before : Pair
   pub after : Pair
-  pub first : IsHouseAt IsOn LOCAL_HOST before.first
-  pub second : IsHouseAt IsOn LOCAL_HOST before.second
+  pub first : IsHouseAt IsOn LOCAL_HOST 0 before.first
+  pub second : IsHouseAt IsOn LOCAL_HOST 0 before.second
   pub clock : IsClock before.told
   pub texts : TwoTexts answered before after old new
 

@@ -5,7 +5,7 @@ use Rattle.bac_text.specs.declared.status.Status.{Status}
 use Rattle.bac_command_line.specs.Files.{IsCheckedFile, IsExplainedFile, IsSimulatedFile}
 use Rattle.bac_command_line.specs.Lines.{AreCheckedLines, IsDecodedFrom}
 use Rattle.bac_command_line.specs.Stores.{IsAnsweredFrom, IsServedFrom}
-use Rattle.bac_command_line.specs.Online.{Clocks, IsAsked, IsPair, Links}
+use Rattle.bac_command_line.specs.Online.{Clocks, IsAskedFrom, IsPair, Links}
 use Rattle.bac_command_line.specs.declared.task.Task.{Task}
 use Rattle.bac_command_line.specs.declared.task.Task.TheVariants as task
 
@@ -21,5 +21,5 @@ IsPerformed IsAt IsOn IsClock (task.Explain path port) s old new = IsExplainedFi
 IsPerformed IsAt IsOn IsClock (task.Simulate notes path) s old new = IsSimulatedFile IsAt notes path.now s old new
 IsPerformed IsAt IsOn IsClock (task.Serve serving objects) s old new =
     IsServedFrom IsAt (option_map (λ p. p.now) objects) IsOn IsClock s serving old new
-IsPerformed IsAt IsOn IsClock (task.Ask asking words) s old new = IsAsked IsOn IsClock s asking (map (λ w. w.now) words.now) old new
+IsPerformed IsAt IsOn IsClock (task.Ask asking words) s old new = IsAskedFrom IsAt IsOn IsClock s asking (map (λ w. w.now) words.now) old new
 IsPerformed IsAt IsOn IsClock task.Pair s old new = IsPair IsOn IsClock s old new

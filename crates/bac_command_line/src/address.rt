@@ -1,5 +1,5 @@
-//! IPv4 addresses and UDP ports as words.
-use bac_npdu::LinkAddress;
+//! IPv4 addresses, UDP ports and the ways behind routers as words.
+use bac_npdu::{LinkAddress, Route};
 use std::net::Ipv4Addr;
 
 /// The address of this machine that no other one reaches.
@@ -36,6 +36,21 @@ pub(crate) fn read_link(text: &str) -> Option<LinkAddress> {
         Some((host, port)) => Some(link_at(read_host(host)?, read_port(port)?)),
         None => Some(link_at(read_host(text)?, BACNET_PORT)),
     }
+}
+
+/// The most octets of a device's address on its network.
+const MOST_OCTETS: usize = 8;
+
+/// The way on from a router that a text as `5:2A` is: a network's number, 1 to 65,534, and a device's address there, 1 to 8 octets in hexadecimal.
+pub(crate) fn read_route(text: &str) -> Option<Route> {
+    let (network, digits) = text.split_once(':')?;
+    let count = digits.len() / 2;
+    if count > MOST_OCTETS {
+        return None;
+    }
+    let mut address = [0; MOST_OCTETS];
+    hex::decode_to_slice(digits, &mut address[..count]).ok()?;
+    Route::new(network.parse().ok()?, &address[..count])
 }
 
 /// The address from which one on the loopback is reached, or any other.

@@ -1,36 +1,89 @@
-//! Whom a node is to ask, and how that is told.
-use crate::address::{LOCAL_HOST, host_towards, link_at, read_link};
-use bac_npdu::LinkAddress;
+//! Whom a node is to ask, how long it waits, and how that is told.
+ghost use Rattle.std.specs.Prelude.{◌≡◌};
+ghost use Rattle.bac_command_line.specs.Asking.{patience_for};
+
+use crate::address::{LOCAL_HOST, host_towards, link_at, read_link, read_route};
+use bac_npdu::{LinkAddress, Peer, Route};
+use bac_run::Patience;
 use clap::ArgMatches;
 
-/// Whom a node is to ask, and how that is told.
+/// How the end of an ask is told.
 #[derive(Clone, Copy, Debug, PartialEq, Eq)]
+pub(crate) enum Style {
+    /// With numbers and octets, as in a script.
+    Numbers,
+    /// In words.
+    Words,
+    /// By the octets of a file alone, where it was answered with them.
+    Octets,
+}
+
+/// Whom a node is to ask, how long it waits, and how that is told.
+#[derive(Clone, Copy, Debug)]
 pub(crate) struct Asking {
-    /// The address of the node that is asked.
-    pub peer: LinkAddress,
+    /// The node that is asked.
+    pub peer: Peer,
     /// The IPv4 address of the one that asks.
     pub host: [u8; 4],
-    /// Whether it is told in words.
-    pub text: bool,
+    /// After so many seconds it waits no longer; None where it waits until the ask has ended.
+    pub timeout: Option<u64>,
+    /// How it is told.
+    pub style: Style,
     /// Whether an Error is no success.
     pub strict: bool,
 }
 
+impl Asking {
+    /// How long its turns wait, where it begins at that moment: until something is due, and when it waits no longer.
+    pub(crate) fn patience(&self, start: u64) -> Patience
+        ensures { result ≡ patience_for self.now.timeout start }
+    {
+        let until = match self.timeout {
+            Some(seconds) => Some(start.saturating_add(seconds.saturating_mul(1_000))),
+            None => None,
+        };
+        Patience {
+            wait: u64::MAX,
+            until,
+        }
+    }
+}
+
 /// The address that is asked: that behind `--to`, or a port of this machine.
-fn peer_of(given: &ArgMatches<'_>) -> Option<LinkAddress> {
+fn link_of(given: &ArgMatches<'_>) -> Option<LinkAddress> {
     match given.get_str("to") {
         Some(text) => read_link(text),
         None => Some(link_at(LOCAL_HOST, given.get_one("port")?)),
     }
 }
 
+/// The way on from there, where one is given. None where it is none.
+fn route_of(given: &ArgMatches<'_>) -> Option<Option<Route>> {
+    match given.get_str("route") {
+        Some(text) => Some(Some(read_route(text)?)),
+        None => Some(None),
+    }
+}
+
+fn style_of(given: &ArgMatches<'_>) -> Style {
+    if given.get_flag("raw") {
+        Style::Octets
+    } else if given.get_flag("text") {
+        Style::Words
+    } else {
+        Style::Numbers
+    }
+}
+
 /// None where there is no address, or what is given is none.
 pub(crate) fn asking_of(given: &ArgMatches<'_>) -> Option<Asking> {
-    let peer = peer_of(given)?;
+    let link = link_of(given)?;
+    let route = route_of(given)?;
     Some(Asking {
-        peer,
-        host: host_towards(peer),
-        text: given.get_flag("text"),
+        peer: Peer { link, route },
+        host: host_towards(link),
+        timeout: given.get_one("timeout"),
+        style: style_of(given),
         strict: given.get_flag("fail"),
     })
 }

@@ -7,9 +7,9 @@ use crate::files::{OpenFiles, check, explain, simulate};
 use crate::grammar::matches;
 use crate::lines::{check_lines, decode};
 use crate::objects::{answer, serve};
-use crate::online;
 use crate::online::Machine;
 use crate::task::{Task, task_of};
+use crate::{file_words, online};
 use bac_text::{Status, complain, no_memory};
 use clap::ArgMatches;
 use clap::error::ErrorKind;
@@ -40,7 +40,9 @@ fn perform<F: OpenFiles, M: Machine, O: Write, E: Write>(
         Task::Serve { serving, objects } => {
             serve(alloc, files, machine, &serving, objects, out, err)
         }
-        Task::Ask { asking, words } => online::ask(alloc, machine, &asking, words, out, err),
+        Task::Ask { asking, words } => {
+            file_words::ask(alloc, files, machine, &asking, words, out, err)
+        }
         Task::Pair => online::pair(alloc, machine, out, err),
     }
 }

@@ -228,14 +228,16 @@ T:I is an object by its type and instance, P a property, both by number or name,
 VALUE is a value by its kind, as real:72.5, null, boolean:true, enumerated:1 or text:Room, or the spelling of data in HEX
 Behind the last VALUE `priority N` may stand, 1 to 16
 POS is the position in a file from which on octets are put or got, COUNT how many are got
-A word that begins with `-` is given after `--`";
+In the place of a last HEX `@FILE` may stand, for the octets of that file";
 
 /// Asks that may be made.
 const ASK_EXAMPLES: &str = "\
 Example: bac ask --port 47808 read 0:5 85
 Example: bac ask --port 47808 --text read analog-input:5 present-value
+Example: bac ask --to 192.168.1.20 --route 5:2A --timeout 3 read device:7 object-name
 Example: bac ask --to 192.168.1.20 write analog-value:1 present-value real:72.5 priority 8
-Example: bac ask --port 47808 -- put 10:1 -1 AA";
+Example: bac ask --port 47808 put file:1 0 @log.bin
+Example: bac ask --port 47808 --raw get file:1 0 1000 > log.bin";
 
 /// Who is asked: a port of this machine, or an address.
 fn peer<'a>(alloc: Global) -> Result<(Arg<'a>, Arg<'a>), clap::Error> {
@@ -253,11 +255,31 @@ fn peer<'a>(alloc: Global) -> Result<(Arg<'a>, Arg<'a>), clap::Error> {
     Ok((port, to))
 }
 
+/// The way behind a router, and how long the answer is waited for.
+fn reach<'a>(alloc: Global) -> (Arg<'a>, Arg<'a>) {
+    let route = Arg::new(alloc, "route")
+        .long("route")
+        .action(ArgAction::Set)
+        .value_name("NET:MAC")
+        .help(
+            "The node that is asked stands behind a router at that address: its network, 1 to 65534, and its address there, 1 to 8 octets in hexadecimal",
+        );
+    let timeout = number(
+        alloc,
+        "timeout",
+        "S",
+        60,
+        "After how many seconds it waits no longer, 1 to 60, and prints `no ending`; an ask ends by itself after 60 seconds at the latest",
+    );
+    (route, timeout.required(false))
+}
+
 fn ask_command<'a>(alloc: Global) -> Result<Command<'a>, clap::Error> {
     let words = Arg::new(alloc, "WORDS")
         .required(true)
         .num_args(1..)
         .action(ArgAction::Append)
+        .allow_negative_numbers(true)
         .help(WORDS_HELP);
     let text = flag(
         alloc,
@@ -268,15 +290,24 @@ fn ask_command<'a>(alloc: Global) -> Result<Command<'a>, clap::Error> {
         .long("fail")
         .action(ArgAction::SetTrue)
         .help("Ends with status 1 also where the answer is an Error");
+    let raw = flag(
+        alloc,
+        "raw",
+        "Of `get`: writes the octets of the file alone; where there are none, the error output tells how it ended, and the status is 1",
+    );
     let (port, to) = peer(alloc)?;
+    let (route, timeout) = reach(alloc);
     let ask = Command::new(alloc, "ask")
-        .about("Asks the node at a UDP port of 127.0.0.1, and prints how that ended")
+        .about("Asks a node, and prints how that ended")
         .before_help(FORMS_HELP)
         .after_help(ASK_EXAMPLES)
         .arg(port)?
         .arg(to)?
+        .arg(route)?
+        .arg(timeout)?
         .arg(text)?
         .arg(fail)?
+        .arg(raw.conflicts_with("text")?)?
         .arg(words)?;
     Ok(ask)
 }

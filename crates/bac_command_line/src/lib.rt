@@ -5,6 +5,7 @@ mod address;
 mod asking;
 mod bad_words;
 mod command;
+mod file_words;
 mod files;
 mod grammar;
 mod lines;

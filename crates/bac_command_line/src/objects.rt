@@ -21,7 +21,7 @@ use std::io;
 use std::io::{Read, Write};
 
 /// All octets of a file. Where it cannot be read, `err` and the status tell it.
-fn octets_of<F: Read + Drop, E: Write>(
+pub(crate) fn octets_of<F: Read + Drop, E: Write>(
     alloc: Global,
     file: F,
     err: &mut E,

@@ -1,20 +1,23 @@
 //! Nodes on links of the machine: what `serve`, `ask` and `pair` do.
 ghost use Rattle.std.specs.Prelude.{◌≡◌, ℕ, map, IfSome};
+ghost use Rattle.bac_npdu.specs.Views.{peer_view};
 ghost use Rattle.bac_protocol.specs.Service.{Octets};
 ghost use Rattle.bac_commands.specs.Questions.{ReadsQuestion};
-ghost use Rattle.bac_command_line.specs.Online.{IsAsked, IsPair, IsServedBy, OnClock, OnPort, ReportsAs};
+ghost use Rattle.bac_command_line.specs.Online.{IsAsked, IsPair, IsServedBy, OnClock, OnPort, ReadsAsked, ReportsAs, is_told_by};
 ghost use Rattle.bac_run.specs.Runs.{timed};
 ghost use Rattle.bac_run.specs.Views.{question_view};
 
 use crate::address::LOCAL_HOST;
-use crate::asking::Asking;
+use crate::asking::{Asking, Style};
 use crate::bad_words::tell_bad_words;
 use crate::serving::{Serving, serve_from, tell_listening};
-use bac_commands::{clock_fault, house_station, link_fault, read_question, server_station};
+use bac_commands::{
+    asks_for_file, clock_fault, house_station, link_fault, read_question, server_station,
+};
 use bac_link::{Clock, Link};
 use bac_node::NewNodeFault;
-use bac_npdu::LinkAddress;
-use bac_run::{Question, Station};
+use bac_npdu::{LinkAddress, Peer};
+use bac_run::{Patience, Question, Station};
 use bac_script::FormFault;
 use bac_store::Store;
 use bac_text::{Status, complain, no_memory};
@@ -39,6 +42,9 @@ pub trait Machine {
     /// A clock; None where it can't be read.
     fn timer(&self) -> Option<Self::Timer>
         ensures { IfSome result Self.is_made };
+
+    /// The invoke ID at which a new client begins, one that differs from run to run where the machine can tell one; None where its clock can't be read.
+    fn first_id(&self) -> Option<u8>;
 }
 
 /// A node with a store serves.
@@ -72,8 +78,8 @@ pub(crate) fn serve<M: Machine, O: Write, E: Write>(
 }
 
 /// The question for a peer that some words are.
-fn question_in(alloc: Global, peer: LinkAddress, words: &[&str]) -> Result<Question, FormFault>
-    ensures { ReadsQuestion peer (map (λ w. w.now) words.now) result }
+fn question_in(alloc: Global, peer: Peer, words: &[&str]) -> Result<Question, FormFault>
+    ensures { ReadsQuestion (peer_view peer) (map (λ w. w.now) words.now) result }
 {
     let mut octets = Vec::new(alloc);
     for word in words {
@@ -84,29 +90,58 @@ fn question_in(alloc: Global, peer: LinkAddress, words: &[&str]) -> Result<Quest
     read_question(alloc, peer, &octets)
 }
 
-/// A node asks; how that ended is printed, in words where that is wanted.
+/// Whether a question can be told so: octets of a file are there only for one that asks for them.
+fn is_told_by(style: Style, question: &Question) -> bool
+    ensures { result ≡ is_told_by style (question_view question.now).request }
+{
+    match style {
+        Style::Numbers => true,
+        Style::Words => true,
+        Style::Octets => asks_for_file(question),
+    }
+}
+
+/// The same where it can be told so; `NoForm` also where it can't.
+fn asked_in(alloc: Global, asking: &Asking, words: &[&str]) -> Result<Question, FormFault>
+    ensures { ReadsAsked asking.now.style (peer_view asking.now.peer) (map (λ w. w.now) words.now) result }
+{
+    let question = question_in(alloc, asking.peer, words)?;
+    if is_told_by(asking.style, &question) {
+        Ok(question)
+    } else {
+        Err(FormFault::NoForm)
+    }
+}
+
+/// A node asks; how that ended is printed as is wanted.
 fn ask_on<L: Link, C: Clock, O: Write, E: Write>(
     alloc: Global,
     asking: &Asking,
     station: &mut Station<L>,
     clock: &mut C,
     question: &Question,
+    patience: &Patience,
     out: &mut O,
     err: &mut E,
 ) -> Status
-    ensures { ReportsAs result asking.now.text asking.now.strict (question_view question.now)
+    ensures { ReportsAs result asking.now.style asking.now.strict (question_view question.now) patience.now
         (timed station.old (C.told clock.old)) (timed station.new (C.told clock.new)) (O.contents out.old) (O.contents out.new) }
 {
     let strict = asking.strict;
-    if asking.text {
-        bac_commands::ask_in_words(alloc, station, clock, strict, question, out, err)
-    } else {
-        bac_commands::ask(alloc, station, clock, strict, question, out, err)
+    match asking.style {
+        Style::Numbers => {
+            bac_commands::ask(alloc, station, clock, strict, question, patience, out, err)
+        }
+        Style::Words => {
+            bac_commands::ask_in_words(alloc, station, clock, strict, question, patience, out, err)
+        }
+        Style::Octets => {
+            bac_commands::ask_for_octets(alloc, station, clock, question, patience, out, err)
+        }
     }
 }
 
-/// A node at any free port asks the one at an address; how that ended is printed, in words where that is wanted. Words that are no request: `bad words` on
-/// `err`, and in words which is bad.
+/// A node at any free port, whose invoke IDs begin where the machine says, asks a node; how that ended is printed as is wanted. Words that are no request: `bad words` on `err`, and in words which is bad.
 pub(crate) fn ask<M: Machine, O: Write, E: Write>(
     alloc: Global,
     machine: &M,
@@ -118,10 +153,11 @@ pub(crate) fn ask<M: Machine, O: Write, E: Write>(
     ensures { IsAsked (OnPort M.is_bound M.Link.failures M.Link.calls) (OnClock M.is_made M.Timer.told) result asking.now (map (λ w. w.now) words.now)
         (O.contents out.old) (O.contents out.new) }
 {
-    let question = match question_in(alloc, asking.peer, words) {
+    let in_words = asking.style == Style::Words;
+    let question = match asked_in(alloc, asking, words) {
         Ok(question) => question,
         Err(FormFault::NoForm) => {
-            return match tell_bad_words(alloc, asking.text, words, err) {
+            return match tell_bad_words(alloc, in_words, words, err) {
                 Ok(()) => Status::CommandLine,
                 Err(_) => no_memory(err),
             };
@@ -134,14 +170,27 @@ pub(crate) fn ask<M: Machine, O: Write, E: Write>(
     let Some(mut timer) = machine.timer() else {
         return clock_fault(err);
     };
+    let Some(first_id) = machine.first_id() else {
+        return clock_fault(err);
+    };
     let address = bound.1;
-    let Ok(mut station) = house_station(alloc, bound.0, address) else {
+    let Ok(mut station) = house_station(alloc, bound.0, address, first_id) else {
         return no_memory(err);
     };
-    ask_on(alloc, asking, &mut station, &mut timer, &question, out, err)
+    let patience = asking.patience(timer.now());
+    ask_on(
+        alloc,
+        asking,
+        &mut station,
+        &mut timer,
+        &question,
+        &patience,
+        out,
+        err,
+    )
 }
 
-/// Two nodes at free ports: one asks the other.
+/// Two nodes at free ports, both new: one asks the other.
 pub(crate) fn pair<M: Machine, O: Write, E: Write>(
     alloc: Global,
     machine: &M,
@@ -161,11 +210,11 @@ pub(crate) fn pair<M: Machine, O: Write, E: Write>(
         return clock_fault(err);
     };
     let address = bound.1;
-    let Ok(mut station) = house_station(alloc, bound.0, address) else {
+    let Ok(mut station) = house_station(alloc, bound.0, address, 0) else {
         return no_memory(err);
     };
     let other_address = other_bound.1;
-    let Ok(mut other) = house_station(alloc, other_bound.0, other_address) else {
+    let Ok(mut other) = house_station(alloc, other_bound.0, other_address, 0) else {
         return no_memory(err);
     };
     bac_commands::pair(alloc, &mut station, &mut other, &mut timer, out, err)

@@ -9,6 +9,7 @@ use bac_link::{MonotonicClock, UdpLink};
 use bac_npdu::LinkAddress;
 use std::net::Net;
 use std::rt::Files;
+use std::time::{SystemTime, UNIX_EPOCH};
 use std::{fs, io};
 
 /// The file that is standard input, which `-` stands for.
@@ -55,5 +56,12 @@ impl<'a, R: Net + std::time::Clock> Machine for System<'a, R> {
 
     fn timer(&self) -> Option<MonotonicClock<'a, R>> {
         MonotonicClock::new(self.runtime).ok()
+    }
+
+    /// The microseconds of the time of day, up to 255.
+    fn first_id(&self) -> Option<u8> {
+        let now = SystemTime::now(self.runtime).ok()?;
+        let passed = now.duration_since(UNIX_EPOCH).ok()?;
+        Some(passed.as_micros().to_le_bytes()[0])
     }
 }

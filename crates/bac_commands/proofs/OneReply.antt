@@ -26,7 +26,7 @@ use Rattle.bac_world.specs.Node.{Node}
 use Rattle.bac_world.specs.Laws.{Gets, IsPerformedNow}
 use Rattle.bac_world.proofs.NodeLaws.{new_is_performed, stores_reply}
 use Rattle.bac_commands.specs.Answers.{AreAnswers, Asks, IsReplied}
-use Rattle.bac_commands.specs.Houses.{house_node}
+use Rattle.bac_commands.specs.Houses.{node_with}
 use Rattle.bac_commands.specs.ReplyApdus.{IsShort, reply_apdu}
 use Rattle.bac_commands.specs.declared.answering.TheConstants.{CLIENT, SERVER}
 use Rattle.bac_commands.proofs.HouseReplies.{house_short}
@@ -60,7 +60,7 @@ apdu_is c choice (plain.Reply.Reject reason) reply says = absurd cc
 -- ---- the node
 
 abbrev server_node : Node
-server_node = house_node SERVER
+server_node = node_with SERVER house
 
 foreign : CLIENT ≢ server_node.link
 foreign e = let last : 0xC1 ≡ 0xC0 = ap (λ (l : List ℕ). get_or l 5 0) e in absurd (omega (arith, last))

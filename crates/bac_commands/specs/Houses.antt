@@ -4,6 +4,7 @@ use Rattle.bac_apdu.specs.Apdu.{Limits}
 use Rattle.bac_protocol.specs.Service.{Octets}
 use Rattle.bac_store.specs.House.{house}
 use Rattle.bac_store.specs.Stores.{Store}
+use Rattle.bac_node.specs.Fresh.{with_first_id}
 use Rattle.bac_world.specs.Node.{Node, restarted}
 
 -- APDUs of 1,476 octets (code 5 of clause 20.1.2.5), and any number of segments (code 7 of clause 20.1.2.4)
@@ -31,6 +32,10 @@ abbrev pub server_node : (slots : ℕ) → (restart : Option ℕ) → (link : Oc
 server_node slots None link store = node_of slots link store
 server_node slots (Some now) link store = restarted now store (node_of slots link store)
 
--- the same with the house store
-abbrev pub house_node : (link : Octets) → Node
-house_node link = node_with link house
+-- one that asks for a list: a slot for each invoke ID of a peer
+abbrev pub client_node : (first_id : ℕ) → (link : Octets) → Node
+client_node first_id link = with_first_id first_id (node_of 256 link house)
+
+-- the one of 64 slots with the house store, whose invoke IDs begin at that one
+abbrev pub house_node : (first_id : ℕ) → (link : Octets) → Node
+house_node first_id link = with_first_id first_id (node_with link house)

@@ -9,3 +9,4 @@ pub mod Reports
 pub mod Pairs
 pub mod Troubles
 pub mod Words
+pub mod FileOctets

@@ -8,7 +8,7 @@ use Rattle.bac_text.specs.declared.status.Status.{Status}
 use Rattle.bac_run.specs.Asking.{Question}
 use Rattle.bac_run.specs.Pairs.{Pair, PairEnds}
 use Rattle.bac_run.specs.declared.question.AskEnd.{AskEnd}
-use Rattle.bac_commands.specs.Questions.{question_for}
+use Rattle.bac_commands.specs.Questions.{peer_at, question_for}
 use Rattle.bac_commands.specs.Reports.{end_line, is_answered}
 use Rattle.bac_commands.specs.Statuses.{ByStatus}
 
@@ -33,8 +33,8 @@ pub record TwoTexts (answered : Bool) (old new : Pair) (text text_after : Option
   pub read : Bool
   pub middle : Pair
   pub between : Option (List ℕ)
-  pub appends : PairText appended (question_for old.second.node.link append_request) old middle text between
-  pub reads : PairText read (question_for old.second.node.link read_request) middle new between text_after
+  pub appends : PairText appended (question_for (peer_at old.second.node.link) append_request) old middle text between
+  pub reads : PairText read (question_for (peer_at old.second.node.link) read_request) middle new between text_after
   pub both : answered ≡ appended && read
 
 abbrev pub ReportsPair : Status → (old new : Pair) → (text text_after : Option (List ℕ)) → Type 0

@@ -84,13 +84,13 @@ is_answered end.NoEnding = false
 abbrev pub is_success : (strict : Bool) → AskEnd → Bool
 is_success strict end = is_answered end && not (strict && is_error end)
 
--- a node asked, for at most so many turns, and how that ended was printed
-pub record AskedText (strict succeeded : Bool) (q : Question) (before after : Timed) (old new : Option (List ℕ)) : Type 0 where
+-- a node asked, for at most so many turns with that patience, and how that ended was printed
+pub record AskedText (strict succeeded : Bool) (q : Question) (p : Patience) (before after : Timed) (old new : Option (List ℕ)) : Type 0 where
   pub end : AskEnd
-  pub ends : AskingEnds q end 100000 before after
+  pub ends : AskingEnds q end p 100000 before after
   pub printed : Appends old new (end_line end)
   pub is : is_success strict end ≡ succeeded
 
-abbrev pub ReportsAsking : Status → (strict : Bool) → Question → (before after : Timed) → (old new : Option (List ℕ)) → Type 0
-ReportsAsking s strict q before after old new =
-    ByStatus s (AskedText strict true q before after old new) (AskedText strict false q before after old new) ⊥
+abbrev pub ReportsAsking : Status → (strict : Bool) → Question → Patience → (before after : Timed) → (old new : Option (List ℕ)) → Type 0
+ReportsAsking s strict q p before after old new =
+    ByStatus s (AskedText strict true q p before after old new) (AskedText strict false q p before after old new) ⊥

@@ -14,6 +14,7 @@ use Rattle.bac_text.specs.Texts.{line_end}
 use Rattle.bac_text.specs.declared.status.Status.{Status}
 use Rattle.bac_run.specs.Asking.{AskingEnds, Question}
 use Rattle.bac_run.specs.Runs.{Timed}
+use Rattle.bac_run.specs.declared.patience.Patience.{Patience}
 use Rattle.bac_run.specs.declared.question.AskEnd.{AskEnd}
 use Rattle.bac_run.specs.declared.question.AskEnd.TheVariants as end
 use Rattle.bac_commands.specs.Facts.{complex_text}
@@ -48,15 +49,15 @@ AreEndWords (end.Ended how) words = AreEndingWords (ending_view how) words
 AreEndWords (end.Refused why) words = words ≡ codes "refused " ++ decimal (ask_fault_number why)
 AreEndWords end.NoEnding words = words ≡ codes "no ending"
 
--- a node asked, for at most so many turns, and how that ended was printed in words
-pub record AskedWords (strict succeeded : Bool) (q : Question) (before after : Timed) (old new : Option (List ℕ)) : Type 0 where
+-- a node asked, for at most so many turns with that patience, and how that ended was printed in words
+pub record AskedWords (strict succeeded : Bool) (q : Question) (p : Patience) (before after : Timed) (old new : Option (List ℕ)) : Type 0 where
   pub end : AskEnd
-  pub ends : AskingEnds q end 100000 before after
+  pub ends : AskingEnds q end p 100000 before after
   pub words : List ℕ
   pub are : AreEndWords end words
   pub printed : Appends old new (words ++ line_end)
   pub is : is_success strict end ≡ succeeded
 
-abbrev pub ReportsInWords : Status → (strict : Bool) → Question → (before after : Timed) → (old new : Option (List ℕ)) → Type 0
-ReportsInWords s strict q before after old new =
-    ByStatus s (AskedWords strict true q before after old new) (AskedWords strict false q before after old new) ⊥
+abbrev pub ReportsInWords : Status → (strict : Bool) → Question → Patience → (before after : Timed) → (old new : Option (List ℕ)) → Type 0
+ReportsInWords s strict q p before after old new =
+    ByStatus s (AskedWords strict true q p before after old new) (AskedWords strict false q p before after old new) ⊥

@@ -1,7 +1,7 @@
 //! The node that each command makes.
-ghost use Rattle.std.specs.Prelude.{◌≡◌, false, IfOk, IsErrOf};
+ghost use Rattle.std.specs.Prelude.{◌≡◌, true, false, IfOk, IsErrOf};
 ghost use Rattle.bac_node.specs.Fresh.{slots_fit};
-ghost use Rattle.bac_commands.specs.Houses.{node_with, server_node};
+ghost use Rattle.bac_commands.specs.Houses.{node_of, node_with, server_node};
 
 use bac_apdu::Limits;
 use bac_node::{Config, NewNodeFault, Node};
@@ -47,13 +47,26 @@ pub(crate) fn server_node(
     }
 }
 
-/// A node of that link with a store, windows of 32 segments, and 64 slots at each end.
-pub(crate) fn node_with(alloc: Global, link: LinkAddress, store: Store) -> Result<Node, NoMemory>
-    ensures { IfOk result (λ n. n ≡ node_with link store) }
+/// A node of that link with a store, windows of 32 segments, and so many slots at each end, 1 to 1,024.
+pub(crate) fn node_of(
+    alloc: Global,
+    slots: usize,
+    link: LinkAddress,
+    store: Store,
+) -> Result<Node, NoMemory>
+    requires { slots_fit slots ≡ true }
+    ensures { IfOk result (λ n. n ≡ node_of slots link store) }
 {
-    match server_node(alloc, SLOTS, None, link, store) {
+    match server_node(alloc, slots, None, link, store) {
         Ok(node) => Ok(node),
         Err(NewNodeFault::NoMemory) => Err(NoMemory),
         Err(NewNodeFault::BadSlots | NewNodeFault::BadWindow) => unreachable!(),
     }
+}
+
+/// The same with 64 slots.
+pub(crate) fn node_with(alloc: Global, link: LinkAddress, store: Store) -> Result<Node, NoMemory>
+    ensures { IfOk result (λ n. n ≡ node_with link store) }
+{
+    node_of(alloc, SLOTS, link, store)
 }

@@ -9,10 +9,11 @@ mod online;
 
 pub use answering::{CLIENT, answer_datagram, answer_over};
 pub use facts::{
-    print_asked, print_changed, print_ended, print_ending, print_fault, print_nothing,
-    print_performed, print_refused, print_sent, reply_words,
+    ending_words, print_asked, print_changed, print_ended, print_ending, print_ending_line,
+    print_fault, print_nothing, print_performed, print_refused, print_sent, reply_words,
 };
 pub use online::{
-    ask, ask_in_words, clock_fault, house_station, link_fault, pair, read_question, serve,
+    TURNS, Trouble, ask, ask_for_octets, ask_in_words, asks_for_file, client_station, clock_fault,
+    ends_with_error, house_station, is_answer, link_fault, pair, read_question, serve,
     server_station,
 };

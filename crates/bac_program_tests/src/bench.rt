@@ -243,4 +243,10 @@ impl Machine for BenchMachine {
     fn timer(&self) -> Option<BenchClock> {
         self.bench.clock
     }
+
+    /// The moment at which the clock begins, up to 255.
+    fn first_id(&self) -> Option<u8> {
+        let clock = self.bench.clock?;
+        Some(clock.moment.to_le_bytes()[0])
+    }
 }

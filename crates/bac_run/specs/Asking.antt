@@ -15,10 +15,11 @@ use Rattle.bac_ticket.specs.Views.{ending_view}
 use Rattle.bac_ticket.specs.declared.ending.Ending as how
 use Rattle.bac_run.specs.Stations.{Station}
 use Rattle.bac_run.specs.Turns.{IsCarried, Turn}
-use Rattle.bac_run.specs.Runs.{CannotReceive, GoesBack, Run, TakesTurn, Timed}
-use Rattle.bac_run.specs.Waits.{UNTIL_DUE}
+use Rattle.bac_run.specs.Runs.{CannotReceive, GoesBack, Run, Timed}
+use Rattle.bac_run.specs.Serving.{IsOver, TakesEarlyTurn}
 use Rattle.bac_run.specs.declared.fault.TurnFault.{TurnFault}
 use Rattle.bac_run.specs.declared.fault.TurnFault.TheVariants as fault
+use Rattle.bac_run.specs.declared.patience.Patience.{Patience}
 use Rattle.bac_run.specs.declared.question.AskEnd.{AskEnd}
 use Rattle.bac_run.specs.declared.question.AskEnd.TheVariants as end
 
@@ -115,23 +116,40 @@ pub record Begins {S : Type 0} (begins : S → ℕ → S → Type 0) (rest : ℕ
   pub begun : begins old ticket asked
   pub rest_is : rest ticket asked new
 
--- ---- one node on its link
+-- ---- one node on its link: its turns begin before the last moment of its patience
 
 abbrev pub own_turn : Turn → Turn
 own_turn turn = turn
 
+-- after such turns, none of which ended the ticket, this happened
+abbrev pub StopsSo : Patience → (turns : ℕ) → (fails : Timed → Timed → Type 0) → (ticket : ℕ) → (old new : Timed) → Type 0
+StopsSo p turns fails ticket old new = Stops (TakesEarlyTurn p) own_turn turns fails ticket old new
+
+-- a turn ended the ticket, so
+abbrev pub EndsSo : Patience → (turns : ℕ) → (how : Ending) → (ticket : ℕ) → (old new : Timed) → Type 0
+EndsSo p turns how ticket old new = EndsIn (TakesEarlyTurn p) own_turn turns how ticket old new
+
+-- none did: so many were taken, or the time was over before
+abbrev pub StaysSo : Patience → (turns ticket : ℕ) → (old new : Timed) → Type 0
+StaysSo p turns ticket old new = NeverEnds (TakesEarlyTurn p) own_turn turns ticket old new ⊎ StopsSo p turns (IsOver p) ticket old new
+
+-- the ticket was waited for
+abbrev pub WaitsSo : Patience → (turns ticket : ℕ) → (old new : Timed) → Option how.Ending → Type 0
+WaitsSo p turns ticket old new None = StaysSo p turns ticket old new
+WaitsSo p turns ticket old new (Some how) = EndsSo p turns (ending_view how) ticket old new
+
 -- why waiting stopped
-abbrev pub WaitingFails : TurnFault → (turns ticket : ℕ) → (old new : Timed) → Type 0
-WaitingFails fault.Link turns ticket old new = Stops (TakesTurn UNTIL_DUE) own_turn turns CannotReceive ticket old new
-WaitingFails fault.ClockBack turns ticket old new = Stops (TakesTurn UNTIL_DUE) own_turn turns GoesBack ticket old new
+abbrev pub WaitingFails : TurnFault → Patience → (turns ticket : ℕ) → (old new : Timed) → Type 0
+WaitingFails fault.Link p turns ticket old new = StopsSo p turns CannotReceive ticket old new
+WaitingFails fault.ClockBack p turns ticket old new = StopsSo p turns GoesBack ticket old new
 
 -- how asking ended
-abbrev pub AskingEnds : Question → AskEnd → (turns : ℕ) → (old new : Timed) → Type 0
-AskingEnds q (end.Ended how) turns old new = Begins (Asks q) (EndsIn (TakesTurn UNTIL_DUE) own_turn turns (ending_view how)) old new
-AskingEnds q (end.Refused why) turns old new = IsRefused q why old new
-AskingEnds q end.NoEnding turns old new = Begins (Asks q) (NeverEnds (TakesTurn UNTIL_DUE) own_turn turns) old new
+abbrev pub AskingEnds : Question → AskEnd → Patience → (turns : ℕ) → (old new : Timed) → Type 0
+AskingEnds q (end.Ended how) p turns old new = Begins (Asks q) (EndsSo p turns (ending_view how)) old new
+AskingEnds q (end.Refused why) p turns old new = IsRefused q why old new
+AskingEnds q end.NoEnding p turns old new = Begins (Asks q) (StaysSo p turns) old new
 
 -- why asking stopped
-abbrev pub AskingFails : Question → TurnFault → (turns : ℕ) → (old new : Timed) → Type 0
-AskingFails q fault.Link turns old new = Begins (Asks q) (Stops (TakesTurn UNTIL_DUE) own_turn turns CannotReceive) old new
-AskingFails q fault.ClockBack turns old new = GoesBack old new ⊎ Begins (Asks q) (Stops (TakesTurn UNTIL_DUE) own_turn turns GoesBack) old new
+abbrev pub AskingFails : Question → TurnFault → Patience → (turns : ℕ) → (old new : Timed) → Type 0
+AskingFails q fault.Link p turns old new = Begins (Asks q) (StopsSo p turns CannotReceive) old new
+AskingFails q fault.ClockBack p turns old new = GoesBack old new ⊎ Begins (Asks q) (StopsSo p turns GoesBack) old new

@@ -1,22 +1,25 @@
 //! A node that asks.
-ghost use Rattle.std.specs.Prelude.{◌≢◌, IfOk, IfErr, IsErrOf};
-ghost use Rattle.bac_run.specs.Runs.{GoesBack, TakesTurn, timed};
-ghost use Rattle.bac_run.specs.Waits.{UNTIL_DUE};
-ghost use Rattle.bac_run.specs.Asking.{Asks, AskingEnds, AskingFails, IsRefused, WaitingFails, Waits, own_turn};
-ghost use Rattle.bac_run.specs.Views.{question_view};
+ghost use Rattle.std.specs.Prelude.{◌≢◌, IfOk, IfErr, IsErrOf, MatchOption};
+ghost use Rattle.bac_run.specs.Runs.{GoesBack, TurnFails, timed};
+ghost use Rattle.bac_run.specs.Serving.{IsOver, TakesEarlyTurn};
+ghost use Rattle.bac_run.specs.Asking.{Asks, AskingEnds, AskingFails, IsRefused, WaitingFails, WaitsSo};
+ghost use Rattle.bac_run.specs.Views.{question_view, turn_view};
 
 use crate::endings::ending_in;
 use crate::fault::TurnFault;
 use crate::patience::Patience;
 use crate::question::{AskEnd, Question};
 use crate::station::Station;
+use crate::turn::Turn;
 use bac_link::{Clock, Link};
 use bac_requester::AskFault;
 use bac_ticket::Ending;
 
 impl<L: Link> Station<L> {
     /// The node asks at the moment that a clock tells. Answers the ticket's number.
-    pub(crate) fn begin_by<C: Clock>(
+    ///
+    /// It is refused as `Node::ask` is. After an Err the station is as before.
+    pub fn begin_by<C: Clock>(
         &mut self,
         clock: &mut C,
         question: &Question,
@@ -30,18 +33,39 @@ impl<L: Link> Station<L> {
         self.begin(clock.now(), question)
     }
 
-    /// Takes turns until the ticket has ended, but no more than so many.
+    /// One turn as [`turn_by`](Station::turn_by), where it begins before the last moment of its patience, if there is one; otherwise None, and nothing has changed.
+    pub fn turn_before<C: Clock>(
+        &mut self,
+        clock: &mut C,
+        patience: &Patience,
+    ) -> Result<Option<Turn>, TurnFault>
+        ensures taken { IfOk result (λ r. MatchOption r (IsOver patience.now (timed self.old (C.told clock.old)) (timed self.new (C.told clock.new)))
+            (λ t. TakesEarlyTurn patience.now (timed self.old (C.told clock.old)) (turn_view t) (timed self.new (C.told clock.new)))) }
+        ensures failed { IfErr result (λ e. TurnFails e (timed self.old (C.told clock.old)) (timed self.new (C.told clock.new))) }
+    {
+        let began = clock.now();
+        if !patience.is_before(began) {
+            return Ok(None);
+        }
+        let turn = self.turn_from(began, clock, patience)?;
+        Ok(Some(turn))
+    }
+
+    /// Takes turns until the ticket has ended, but no more than so many, and none that would begin at the last moment of its patience or later.
     fn wait<C: Clock>(
         &mut self,
         clock: &mut C,
         ticket: u64,
+        patience: &Patience,
         turns: u64,
     ) -> Result<Option<Ending>, TurnFault>
-        ensures waited { IfOk result (Waits (TakesTurn UNTIL_DUE) own_turn turns ticket (timed self.old (C.told clock.old)) (timed self.new (C.told clock.new))) }
-        ensures failed { IfErr result (λ e. WaitingFails e turns ticket (timed self.old (C.told clock.old)) (timed self.new (C.told clock.new))) }
+        ensures waited { IfOk result (WaitsSo patience.now turns ticket (timed self.old (C.told clock.old)) (timed self.new (C.told clock.new))) }
+        ensures failed { IfErr result (λ e. WaitingFails e patience.now turns ticket (timed self.old (C.told clock.old)) (timed self.new (C.told clock.new))) }
     {
         for _ in 0..turns {
-            let turn = self.turn_by(clock, &Patience::UNTIL_DUE)?;
+            let Some(turn) = self.turn_before(clock, patience)? else {
+                return Ok(None);
+            };
             if let Some(ending) = ending_in(turn, ticket) {
                 return Ok(Some(ending));
             }
@@ -49,19 +73,20 @@ impl<L: Link> Station<L> {
         Ok(None)
     }
 
-    /// The node asks, and takes turns, at the moments that a clock tells, until its ticket has ended, but no more than so many. Each waits until something is
-    /// due, or a datagram comes.
+    /// The node asks, and takes turns, at the moments that a clock tells, until its ticket has ended, but no more than so many, and none that would begin at the
+    /// last moment of its patience or later; a turn waits no longer than its patience says.
     ///
     /// `Link` where the link could not receive, `ClockBack` where the clock went back; the turns before it stand.
     pub fn ask<C: Clock>(
         &mut self,
         clock: &mut C,
         question: &Question,
+        patience: &Patience,
         turns: u64,
     ) -> Result<AskEnd, TurnFault>
-        ensures ended { IfOk result (λ end. AskingEnds (question_view question.now) end turns
+        ensures ended { IfOk result (λ end. AskingEnds (question_view question.now) end patience.now turns
             (timed self.old (C.told clock.old)) (timed self.new (C.told clock.new))) }
-        ensures failed { IfErr result (λ e. AskingFails (question_view question.now) e turns
+        ensures failed { IfErr result (λ e. AskingFails (question_view question.now) e patience.now turns
             (timed self.old (C.told clock.old)) (timed self.new (C.told clock.new))) }
     {
         let ticket = match self.begin_by(clock, question) {
@@ -69,7 +94,7 @@ impl<L: Link> Station<L> {
             Err(AskFault::ClockBack) => return Err(TurnFault::ClockBack),
             Err(fault) => return Ok(AskEnd::Refused(fault)),
         };
-        match self.wait(clock, ticket, turns)? {
+        match self.wait(clock, ticket, patience, turns)? {
             Some(ending) => Ok(AskEnd::Ended(ending)),
             None => Ok(AskEnd::NoEnding),
         }

@@ -23,6 +23,6 @@ pub enum AskEnd {
     Ended(Ending),
     /// The node refused the ask, for a reason other than a clock that goes back. Nothing has changed.
     Refused(AskFault),
-    /// All turns were taken, and the ticket is open.
+    /// All turns were taken, or the time for them is over, and the ticket is open.
     NoEnding,
 }

@@ -14,7 +14,7 @@ use bac_link::{Clock, Link};
 
 impl Patience {
     /// Whether a moment is before its last one, if it has one.
-    fn is_before(&self, now: u64) -> bool
+    pub(crate) fn is_before(&self, now: u64) -> bool
         ensures { IsTrue result ↔ IsBefore now self.now.until }
     {
         match self.until {

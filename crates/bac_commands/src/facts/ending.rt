@@ -24,11 +24,7 @@ pub fn print_ending<W: Write>(alloc: Global, ending: &Ending, out: &mut W) -> io
 }
 
 /// The same as a line.
-pub(crate) fn print_ending_line<W: Write>(
-    alloc: Global,
-    ending: &Ending,
-    out: &mut W,
-) -> io::Result<()>
+pub fn print_ending_line<W: Write>(alloc: Global, ending: &Ending, out: &mut W) -> io::Result<()>
     ensures { OnOk result (Appends (W.contents out.old) (W.contents out.new) (ending_line (ending_view ending.now))) }
 {
     print_ending(alloc, ending, out)?;

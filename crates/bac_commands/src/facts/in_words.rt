@@ -82,7 +82,7 @@ pub fn reply_words(alloc: Global, reply: Reply<'_>) -> io::Result<Vec<u8>>
 }
 
 /// How a ticket ended, in words: values by their kinds, an Error and reasons by their names in the standard.
-pub(crate) fn ending_words(alloc: Global, ending: &Ending) -> io::Result<Vec<u8>>
+pub fn ending_words(alloc: Global, ending: &Ending) -> io::Result<Vec<u8>>
     ensures { IfOk result (λ t. AreEndingWords (ending_view ending.now) t.items) }
 {
     match ending {

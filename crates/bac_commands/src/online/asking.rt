@@ -10,7 +10,7 @@ ghost use Rattle.bac_commands.specs.Reports.{AskedText, ReportsAsking, end_line,
 use super::trouble::Trouble;
 use crate::facts::{print_ending_line, print_refused};
 use bac_link::{Clock, Link};
-use bac_run::{AskEnd, Question, Station};
+use bac_run::{AskEnd, Patience, Question, Station};
 use bac_service::{AnyReply, OwnedReply};
 use bac_text::Status;
 use bac_ticket::Ending;
@@ -19,9 +19,10 @@ use std::io;
 use std::io::Write;
 
 /// The most turns that a node takes for an ask.
-pub(crate) const TURNS: u64 = 100_000;
+pub const TURNS: u64 = 100_000;
 
-fn is_answer(ending: &Ending) -> bool
+/// Whether a ticket ended with an answer.
+pub fn is_answer(ending: &Ending) -> bool
     ensures { result ≡ is_answer ending.now }
 {
     matches!(ending, Ending::Answered(_))
@@ -48,7 +49,8 @@ fn is_error_reply(reply: &OwnedReply) -> bool
     }
 }
 
-fn ends_with_error(ending: &Ending) -> bool
+/// Whether it ended with an Error.
+pub fn ends_with_error(ending: &Ending) -> bool
     ensures { result ≡ ends_with_error (ending_view ending.now) }
 {
     match ending {
@@ -96,19 +98,20 @@ fn ask_and_print<L: Link, C: Clock, O: Write>(
     clock: &mut C,
     strict: bool,
     question: &Question,
+    patience: &Patience,
     out: &mut O,
 ) -> Result<bool, Trouble>
-    ensures { IfOk result (λ succeeded. AskedText strict succeeded (question_view question.now)
+    ensures { IfOk result (λ succeeded. AskedText strict succeeded (question_view question.now) patience.now
         (timed station.old (C.told clock.old)) (timed station.new (C.told clock.new)) (O.contents out.old) (O.contents out.new)) }
 {
-    let end = station.ask(clock, question, TURNS)?;
+    let end = station.ask(clock, question, patience, TURNS)?;
     print_end(alloc, &end, out)?;
     out.flush()?;
     Ok(is_success(strict, &end))
 }
 
-/// A node asks, and takes at most 100,000 turns on its link until the ask has ended; how it did is printed. Ends with `Faulty` where it was
-/// not answered, and where that is strict, also where an Error was.
+/// A node asks, and takes at most 100,000 turns on its link, each with that patience, until the ask has ended; how it did is printed. Ends with `Faulty` where
+/// it was not answered, and where that is strict, also where an Error was.
 ///
 /// `link fault` on `err` where the link can't receive, `clock fault` where the clock goes back, both with status `Output`; `no memory` where memory is
 /// refused.
@@ -118,13 +121,14 @@ pub fn ask<L: Link, C: Clock, O: Write, E: Write>(
     clock: &mut C,
     strict: bool,
     question: &Question,
+    patience: &Patience,
     out: &mut O,
     err: &mut E,
 ) -> Status
-    ensures { ReportsAsking result strict (question_view question.now)
+    ensures { ReportsAsking result strict (question_view question.now) patience.now
         (timed station.old (C.told clock.old)) (timed station.new (C.told clock.new)) (O.contents out.old) (O.contents out.new) }
 {
-    match ask_and_print(alloc, station, clock, strict, question, out) {
+    match ask_and_print(alloc, station, clock, strict, question, patience, out) {
         Ok(true) => Status::Done,
         Ok(false) => Status::Faulty,
         Err(trouble) => trouble.tell(err),

@@ -10,7 +10,7 @@ use super::asking::{TURNS, is_success};
 use super::trouble::Trouble;
 use crate::facts::ending_words;
 use bac_link::{Clock, Link};
-use bac_run::{AskEnd, Question, Station};
+use bac_run::{AskEnd, Patience, Question, Station};
 use bac_text::Status;
 use std::alloc::Global;
 use std::io;
@@ -48,12 +48,13 @@ fn ask_and_tell<L: Link, C: Clock, O: Write>(
     clock: &mut C,
     strict: bool,
     question: &Question,
+    patience: &Patience,
     out: &mut O,
 ) -> Result<bool, Trouble>
-    ensures { IfOk result (λ succeeded. AskedWords strict succeeded (question_view question.now)
+    ensures { IfOk result (λ succeeded. AskedWords strict succeeded (question_view question.now) patience.now
         (timed station.old (C.told clock.old)) (timed station.new (C.told clock.new)) (O.contents out.old) (O.contents out.new)) }
 {
-    let end = station.ask(clock, question, TURNS)?;
+    let end = station.ask(clock, question, patience, TURNS)?;
     let words = end_words(alloc, &end)?;
     print_line(words.as_slice(), out)?;
     out.flush()?;
@@ -67,13 +68,14 @@ pub fn ask_in_words<L: Link, C: Clock, O: Write, E: Write>(
     clock: &mut C,
     strict: bool,
     question: &Question,
+    patience: &Patience,
     out: &mut O,
     err: &mut E,
 ) -> Status
-    ensures { ReportsInWords result strict (question_view question.now)
+    ensures { ReportsInWords result strict (question_view question.now) patience.now
         (timed station.old (C.told clock.old)) (timed station.new (C.told clock.new)) (O.contents out.old) (O.contents out.new) }
 {
-    match ask_and_tell(alloc, station, clock, strict, question, out) {
+    match ask_and_tell(alloc, station, clock, strict, question, patience, out) {
         Ok(true) => Status::Done,
         Ok(false) => Status::Faulty,
         Err(trouble) => trouble.tell(err),

@@ -6,7 +6,7 @@ ghost use Rattle.bac_run.specs.Views.{question_view};
 ghost use Rattle.bac_commands.specs.Pairs.{ReportsPair, TwoTexts, PairText, append_request, read_request};
 
 use super::asking::{is_answered, print_end};
-use super::question::question_for;
+use super::question::{peer_at, question_for};
 use super::trouble::Trouble;
 use bac_link::{Clock, Link};
 use bac_run::{Question, Station};
@@ -90,9 +90,9 @@ fn ask_both<L: Link, C: Clock, O: Write>(
     ensures { IfOk result (λ answered. TwoTexts answered
         (paired first.old second.old (C.told clock.old)) (paired first.new second.new (C.told clock.new)) (O.contents out.old) (O.contents out.new)) }
 {
-    let address = second.node().link();
-    let append = question_for(address, append_request(alloc)?);
-    let read = question_for(address, read_request());
+    let peer = peer_at(second.node().link());
+    let append = question_for(peer, append_request(alloc)?);
+    let read = question_for(peer, read_request());
     let appended = ask_beside(alloc, first, second, clock, &append, out)?;
     let was_read = ask_beside(alloc, first, second, clock, &read, out)?;
     Ok(are_both(appended, was_read))

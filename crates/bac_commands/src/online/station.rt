@@ -1,9 +1,9 @@
 //! The node of each command, on its link.
 ghost use Rattle.std.specs.Prelude.{◌≡◌, false, IfOk, IsErrOf};
 ghost use Rattle.bac_node.specs.Fresh.{slots_fit};
-ghost use Rattle.bac_commands.specs.Houses.{house_node, server_node};
+ghost use Rattle.bac_commands.specs.Houses.{client_node, house_node, server_node};
 
-use crate::fresh_node::{node_with, server_node};
+use crate::fresh_node::{node_of, node_with, server_node};
 use bac_link::Link;
 use bac_node::NewNodeFault;
 use bac_npdu::LinkAddress;
@@ -34,17 +34,40 @@ pub fn server_station<L: Link>(
     Ok(Station::new(alloc, node, link)?)
 }
 
-/// A node of that address with a house store of its own and 64 slots at each end, on that link; an Err where memory is refused.
+/// A node of that address with a house store of its own and 64 slots at each end, on that link, whose invoke IDs begin at that one; an Err where memory is
+/// refused.
 pub fn house_station<L: Link>(
     alloc: Global,
     link: L,
     address: LinkAddress,
+    first_id: u8,
 ) -> Result<Station<L>, NoMemory>
-    ensures node { IfOk result (λ s. s.node ≡ house_node address) }
+    ensures node { IfOk result (λ s. s.node ≡ house_node first_id address) }
     ensures failures { IfOk result (λ s. s.failures ≡ L.failures link) }
     ensures calls { IfOk result (λ s. s.calls ≡ L.calls link) }
 {
     let store = house(alloc)?;
-    let node = node_with(alloc, address, store)?;
+    let mut node = node_with(alloc, address, store)?;
+    node.begin_ids_at(first_id);
+    Station::new(alloc, node, link)
+}
+
+/// How many slots a node has that asks for a list: one for each invoke ID.
+const IDS: usize = 256;
+
+/// The same with 256 slots at each end.
+pub fn client_station<L: Link>(
+    alloc: Global,
+    link: L,
+    address: LinkAddress,
+    first_id: u8,
+) -> Result<Station<L>, NoMemory>
+    ensures node { IfOk result (λ s. s.node ≡ client_node first_id address) }
+    ensures failures { IfOk result (λ s. s.failures ≡ L.failures link) }
+    ensures calls { IfOk result (λ s. s.calls ≡ L.calls link) }
+{
+    let store = house(alloc)?;
+    let mut node = node_of(alloc, IDS, address, store)?;
+    node.begin_ids_at(first_id);
     Station::new(alloc, node, link)
 }

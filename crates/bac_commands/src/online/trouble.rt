@@ -13,10 +13,14 @@ use std::io::Write;
 
 /// Why a command stopped before its end.
 #[derive(Debug, Drop)]
-pub(crate) enum Trouble {
+pub enum Trouble {
+    /// The link can't be made, or can't receive.
     Link,
+    /// The clock can't be read, or goes back.
     Clock,
+    /// Memory was refused.
     Memory,
+    /// What is told could not be written.
     Output(io::Error),
 }
 
@@ -36,7 +40,7 @@ pub fn clock_fault<E: Write>(err: &mut E) -> Status
 
 impl Trouble {
     /// Complains of it.
-    pub(crate) fn tell<E: Write>(self, err: &mut E) -> Status
+    pub fn tell<E: Write>(self, err: &mut E) -> Status
         ensures told { IsToldBy self result }
         ensures failed { IsFailure result }
     {

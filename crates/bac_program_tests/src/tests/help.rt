@@ -40,7 +40,11 @@ const WORDS: &[(&str, &str)] = &[
     ("ask --port 0 read 0:5 85", "0 is not in 1..=65535"),
     ("ask --port 65536 read 0:5 85", "65536"),
     ("ask --port 47899", "<WORDS>"),
-    ("ask --port 47899 get 10:1 -1 5", "-1"),
+    (
+        "ask --port 47899 --timeout 61 read 0:5 85",
+        "61 is not in 1..=60",
+    ),
+    ("ask --port 47899 --raw --text get 10:1 0 5", "--raw"),
     (
         "serve --help",
         "Example: bac serve --port 47808 --turns 600",
@@ -50,7 +54,7 @@ const WORDS: &[(&str, &str)] = &[
     ("ask --help", "Example: bac ask --port 47808 read 0:5 85"),
     (
         "ask --help",
-        "Example: bac ask --port 47808 -- put 10:1 -1 AA",
+        "Example: bac ask --port 47808 put file:1 0 @log.bin",
     ),
     ("ask --help", "COUNT how many are got"),
     ("pair --help", "Example: bac pair"),

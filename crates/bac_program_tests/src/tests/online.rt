@@ -65,6 +65,11 @@ const ANSWERED: &[BenchRow] = &[
     ),
     (
         HOUSES,
+        "ask --port 47808 put 10:1 -1 AA",
+        ("answered position 2\n", "", 0),
+    ),
+    (
+        HOUSES,
         "ask --port 47808 read 0:9 85",
         ("answered error 1:31\n", "", 0),
     ),
@@ -130,6 +135,246 @@ const ANSWERED: &[BenchRow] = &[
 #[test]
 fn asks_and_is_answered(rt: HostRuntime) -> Result<(), Fail> {
     all_end_so(rt.alloc(), ANSWERED)
+}
+
+/// A clock that begins at a moment where a new client begins at invoke ID 200.
+const LATER: BenchClock = BenchClock {
+    moment: 968,
+    pace: Pace::On(100),
+};
+
+/// Who is asked says that it has written, for invoke ID 200.
+const WRITTEN_200: Bench = Bench {
+    behind: Behind::Answer(b"\x81\x0A\x00\x09\x01\x00\x20\xC8\x0F"),
+    clock: Some(LATER),
+};
+
+/// The same for invoke ID 0.
+const WRITTEN_0: Bench = Bench {
+    behind: Behind::Answer(b"\x81\x0A\x00\x09\x01\x00\x20\x00\x0F"),
+    clock: Some(LATER),
+};
+
+/// Asks of a client that does not begin at invoke ID 0.
+const FROM_200: &[BenchRow] = &[
+    (
+        WRITTEN_200,
+        "ask --port 47808 write 2:1 85 4443340000",
+        ("answered written\n", "", 0),
+    ),
+    (
+        WRITTEN_0,
+        "ask --port 47808 write 2:1 85 4443340000",
+        ("timed-out\n", "", 1),
+    ),
+];
+
+#[test]
+fn begins_where_the_machine_says(rt: HostRuntime) -> Result<(), Fail> {
+    all_end_so(rt.alloc(), FROM_200)
+}
+
+/// A device at 5:2A, behind the router that is asked, says that it has written.
+const ROUTED: Bench = Bench {
+    behind: Behind::Answer(b"\x81\x0A\x00\x0D\x01\x08\x00\x05\x01\x2A\x20\x00\x0F"),
+    clock: Some(STEADY),
+};
+
+/// Asks through a router.
+const BEHIND_A_ROUTER: &[BenchRow] = &[
+    (
+        ROUTED,
+        "ask --to 10.0.0.1 --route 5:2A write 2:1 85 4443340000",
+        ("answered written\n", "", 0),
+    ),
+    (
+        ROUTED,
+        "ask --to 10.0.0.1 write 2:1 85 4443340000",
+        ("timed-out\n", "", 1),
+    ),
+    (
+        ROUTED,
+        "ask --to 10.0.0.1 --route 5:2B write 2:1 85 4443340000",
+        ("timed-out\n", "", 1),
+    ),
+    (
+        NOBODY,
+        "ask --to 10.0.0.1 --route 65534:0102030405060708 read 0:5 85",
+        ("timed-out\n", "", 1),
+    ),
+    (
+        NOBODY,
+        "ask --port 47808 --route 0:2A read 0:5 85",
+        ("", "bad address\n", 2),
+    ),
+    (
+        NOBODY,
+        "ask --port 47808 --route 65535:2A read 0:5 85",
+        ("", "bad address\n", 2),
+    ),
+    (
+        NOBODY,
+        "ask --port 47808 --route 5 read 0:5 85",
+        ("", "bad address\n", 2),
+    ),
+    (
+        NOBODY,
+        "ask --port 47808 --route 5: read 0:5 85",
+        ("", "bad address\n", 2),
+    ),
+    (
+        NOBODY,
+        "ask --port 47808 --route 5:2 read 0:5 85",
+        ("", "bad address\n", 2),
+    ),
+    (
+        NOBODY,
+        "ask --port 47808 --route 5:010203040506070809 read 0:5 85",
+        ("", "bad address\n", 2),
+    ),
+    (
+        NOBODY,
+        "ask --port 47808 --route net:2A read 0:5 85",
+        ("", "bad address\n", 2),
+    ),
+];
+
+#[test]
+fn asks_through_a_router(rt: HostRuntime) -> Result<(), Fail> {
+    all_end_so(rt.alloc(), BEHIND_A_ROUTER)
+}
+
+/// Asks that wait no longer than is said.
+const WAITING: &[BenchRow] = &[
+    (
+        HOUSES,
+        "ask --port 47808 --timeout 1 read 0:5 85",
+        ("answered read 444290999A\n", "", 0),
+    ),
+    (
+        NOBODY,
+        "ask --port 47808 --timeout 1 read 0:5 85",
+        ("no ending\n", "", 1),
+    ),
+    // the fourth sending of a request is given up after twelve seconds
+    (
+        NOBODY,
+        "ask --port 47808 --timeout 11 read 0:5 85",
+        ("no ending\n", "", 1),
+    ),
+    (
+        NOBODY,
+        "ask --port 47808 --timeout 13 --text read 0:5 85",
+        ("timed-out\n", "", 1),
+    ),
+];
+
+#[test]
+fn waits_no_longer_than_is_said(rt: HostRuntime) -> Result<(), Fail> {
+    all_end_so(rt.alloc(), WAITING)
+}
+
+/// Asks for the octets of a file alone.
+const OCTETS: &[BenchRow] = &[
+    (
+        HOUSES,
+        "ask --port 47808 --raw get 10:1 0 10",
+        ("OK", "", 0),
+    ),
+    (HOUSES, "ask --port 47808 --raw get 10:1 2 10", ("", "", 0)),
+    (
+        HOUSES,
+        "ask --port 47808 --raw get 10:9 0 10",
+        ("", "answered error 1:31\n", 1),
+    ),
+    (
+        NOBODY,
+        "ask --port 47808 --raw get 10:1 0 10",
+        ("", "timed-out\n", 1),
+    ),
+    (
+        NO_LINKS,
+        "ask --port 47808 --raw read 0:5 85",
+        ("", "bad words\n", 2),
+    ),
+];
+
+#[test]
+fn writes_octets_alone(rt: HostRuntime) -> Result<(), Fail> {
+    all_end_so(rt.alloc(), OCTETS)
+}
+
+/// The text of the file `capture`, a bench, a command line, and its ending.
+type FileRow = (&'static str, Bench, &'static str, Ending);
+
+/// Words whose last one names a file. The spelling of a real stands in hexadecimal where it is, and not as it stands in the file.
+const OF_A_FILE: &[FileRow] = &[
+    (
+        "DC4\0\0",
+        HOUSES,
+        "ask --port 47808 write 2:1 85 @capture",
+        ("answered written\n", "", 0),
+    ),
+    (
+        "zz",
+        NO_LINKS,
+        "ask --port 47808 write 2:1 85 @capture",
+        ("", "bad words\n", 2),
+    ),
+    (
+        "AB",
+        HOUSES,
+        "ask --port 47808 append 10:1 @-",
+        ("answered position 2\n", "", 0),
+    ),
+    (
+        "",
+        HOUSES,
+        "ask --port 47808 --text put 10:1 0 @capture",
+        ("answered position 0\n", "", 0),
+    ),
+    (
+        "AB",
+        NO_LINKS,
+        "ask --port 47808 put 10:1 @capture AA",
+        ("", "bad words\n", 2),
+    ),
+    (
+        "AB",
+        NO_LINKS,
+        "ask --port 47808 put 10:1 0 @nothing",
+        ("", "cannot read\n", 2),
+    ),
+    (
+        "AB",
+        NO_LINKS,
+        "ask --port 47808 put 10:1 0 @broken",
+        ("", "cannot read\n", 2),
+    ),
+    (
+        "AB",
+        NO_LINKS,
+        "ask --port 47808 put 10:1 0 @starving",
+        ("", "no memory\n", 4),
+    ),
+    (
+        "AB",
+        NO_LINKS,
+        "ask --port 47808 put 10:1 0 @starved",
+        ("", "no memory\n", 4),
+    ),
+];
+
+fn all_end_beside_files(alloc: Global, rows: &[FileRow]) -> Result<(), Fail> {
+    for (text, bench, line, ending) in rows {
+        holds(run_on(alloc, *text, *bench, *line)?.is(ending), line)?;
+    }
+    Ok(())
+}
+
+#[test]
+fn takes_octets_from_a_file(rt: HostRuntime) -> Result<(), Fail> {
+    all_end_beside_files(rt.alloc(), OF_A_FILE)
 }
 
 /// A datagram, the words of an ask that is answered with it, and the ending.
@@ -465,6 +710,11 @@ const LINKS: &[BenchRow] = &[
     (
         NO_LINKS,
         "ask --port 47899 get 10:1 -- -1 5",
+        ("", "link fault\n", 3),
+    ),
+    (
+        NO_LINKS,
+        "ask --port 47899 get 10:1 -1 5",
         ("", "link fault\n", 3),
     ),
     (

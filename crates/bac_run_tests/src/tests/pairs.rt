@@ -110,7 +110,7 @@ fn ask_alone(
     clock: &mut MemoryClock<'_>,
 ) -> Result<String, Fail> {
     let question = read(alloc)?;
-    let end = client.ask(clock, &question, 100_000);
+    let end = client.ask(clock, &question, &Patience::UNTIL_DUE, 100_000);
     told_end(alloc, end)
 }
 

@@ -7,12 +7,12 @@ use Rattle.bac_command_line.proofs.online.pair.Goals as goal
 
 pub returns : goal.returns
 returns g c =
-    let first : IsHouseAt (OnPort g.M.Machine.is_bound g.M.Link.Link.failures g.M.Link.Link.calls) LOCAL_HOST c.in-Ok.station = record {
+    let first : IsHouseAt (OnPort g.M.Machine.is_bound g.M.Link.Link.failures g.M.Link.Link.calls) LOCAL_HOST 0 c.in-Ok.station = record {
       address = c.in-Some.bound.1;
       node = c.in-Ok.ensures.node;
       on = record { link = c.in-Some.bound.0; bound = c.in-Some.ensures; failed = c.in-Ok.ensures.failures; made = c.in-Ok.ensures.calls };
     } in
-    let second : IsHouseAt (OnPort g.M.Machine.is_bound g.M.Link.Link.failures g.M.Link.Link.calls) LOCAL_HOST c.in-Ok-house_station.other = record {
+    let second : IsHouseAt (OnPort g.M.Machine.is_bound g.M.Link.Link.failures g.M.Link.Link.calls) LOCAL_HOST 0 c.in-Ok-house_station.other = record {
       address = c.in-Some-bind.other_bound.1;
       node = c.in-Ok-house_station.ensures.node;
       on = record {

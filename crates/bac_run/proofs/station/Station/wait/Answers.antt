@@ -1,12 +1,17 @@
+use Rattle.std.proofs.Common.{◌≡◌, Option, Some, MatchOption, subst}
 use Rattle.bac_ticket.specs.Views.{ending_view}
 use Rattle.bac_run.specs.Views.{turn_view}
-use Rattle.bac_run.specs.Runs.{TakesTurn}
-use Rattle.bac_run.specs.Waits.{UNTIL_DUE}
+use Rattle.bac_run.specs.Serving.{TakesEarlyTurn}
 use Rattle.bac_run.specs.Asking.{own_turn}
 use Rattle.bac_run.proofs.Loops.{none_told, one_more_waited}
 use Rattle.bac_run.proofs.station.Station.wait.Goals as goal
 
+-- what a turn was, where it was taken
+taken_of : {A : Type 0} (r : Option A) (is_over : Type 0) (is_taken : A → Type 0) (x : A) → r ≡ Some x → MatchOption r is_over is_taken → is_taken x
+taken_of r is_over is_taken x is taken = subst (λ o. MatchOption o is_over is_taken) is taken
+
 pub loop-preserved : goal.loop-preserved
 loop-preserved g c =
-    one_more_waited (TakesTurn UNTIL_DUE) own_turn c.loop.counter c.args.ticket (turn_view c.in_ok-turn.turn) _ _ _ c.loop.invariant c.in_ok-turn.ensures.taken
-    (none_told ending_view c.ending_in.result _ c.in_default.not-Some c.ending_in.ensures)
+    one_more_waited (TakesEarlyTurn c.args.patience.now) own_turn c.loop.counter c.args.ticket (turn_view c.in-Some.turn) _ _ _ c.loop.invariant
+    (taken_of _ _ _ c.in-Some.turn c.in-Some.is c.in_ok-turn.ensures.taken)
+    (none_told ending_view c.ending_in.result _ c.in_default-ending_in.not-Some c.ending_in.ensures)
