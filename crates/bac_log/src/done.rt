@@ -5,6 +5,7 @@ ghost use Rattle.bac_apdu.specs.Views.{apdu_view};
 ghost use Rattle.bac_node.specs.Views.{performed_view};
 ghost use Rattle.bac_service.specs.Views.{reply_view};
 ghost use Rattle.bac_value_text.specs.Reasons.{reject_text};
+ghost use Rattle.bac_log.specs.Frames.{apdu_in};
 ghost use Rattle.bac_log.specs.Words.{AreDoneWords, AreRepeatWords, AreReplyOrWords, AreSentWords, abort_words, kept_reply, other_words};
 
 use crate::frames::apdu_in;
