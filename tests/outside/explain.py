@@ -2,8 +2,8 @@
 """`bac explain` beside tshark: explain.py PROGRAM SEED
 
 Makes transactions of three clients and two servers from a seed: answered in each way, repeated, sent too often, in segments that may be missing, answered
-twice or never, with invoke IDs that are used again. text2pcap and mergecap write them as pcapng, editcap as pcap with micro- and nanoseconds. Of each file
-tshark tells the frames' moments, addresses, kinds of APDU, invoke IDs and sequence numbers; what they make by the rules of docs/PROTOCOL.md, told again here,
+twice or never, with invoke IDs that are used again, and segments beyond their windows. text2pcap and mergecap write them as pcapng, editcap as pcap with micro- and nanoseconds. Of each file
+tshark tells the frames' moments, addresses, kinds of APDU, invoke IDs, sequence numbers and windows; what they make by the rules of docs/PROTOCOL.md, told again here,
 has to be what `bac explain` prints, but for the words of requests and answers. And README.md has to be right about docs/lost.pcapng.
 """
 
@@ -16,9 +16,9 @@ from pathlib import Path
 
 sys.dont_write_bytecode = True  # no __pycache__ beside the sources
 
-KEEP, MOST_SENDS = 65_000, 4
+KEEP, LIFE, MOST_SENDS = 65_000, 5_000, 4
 FIELDS = ['frame.number', 'frame.time_epoch', 'ip.src', 'udp.srcport', 'ip.dst', 'udp.dstport', 'bacapp.type', 'bacapp.invoke_id', 'bacapp.sequence_number',
-          'bacapp.NAK', 'bacapp.SRV', 'udp.payload']
+          'bacapp.NAK', 'bacapp.SRV', 'bacapp.window_size', 'udp.payload']
 CLIENTS, SERVERS, PORT = ['10.0.0.5', '10.0.0.6', '10.0.0.7'], ['10.0.0.9', '10.0.0.10'], 47808
 APPEND = '07C4028000010E31FF61AA0F'
 FORMATS = ['pcapng', 'pcap', 'nsecpcap']
@@ -63,20 +63,27 @@ def exchange(chance, number, invoke_id, begin):
 
 
 def segments(chance, invoke_id, begin):
-    """A request in segments, of which some may be missing or come twice, with acknowledgements."""
-    now = begin
-    count = chance.randrange(2, 6)
+    """A request or an answer in segments, of which some may be missing, come twice, too often or too early, with acknowledgements."""
+    now, by_client = begin, chance.randrange(3) > 0
+    if not by_client:
+        yield now, True, request(0, invoke_id)
+    front = bytes([0x08, 0x05, invoke_id]) if by_client else bytes([0x38, invoke_id])
+    count = chance.randrange(2, 7)
     for place in range(count):
-        if place and chance.randrange(5) == 0:
+        if chance.randrange(6) == 0:
             continue
-        more = place + 1 < count
-        apdu = bytes([0x0C if more else 0x08, 0x05, invoke_id, place, 4, 0x0F, place])
-        for _ in range(chance.choice([1, 1, 2])):
+        more = 4 if place + 1 < count else 0
+        apdu = bytes([front[0] | more]) + front[1:] + bytes([place, 4, 0x0F if by_client else 0x0C, place])
+        for _ in range(chance.choice([1, 1, 1, 2, 6])):
             now += chance.randrange(1, 50)
-            yield now, True, apdu
+            yield now, by_client, apdu
+        if chance.randrange(5) == 0:
+            continue
         now += 1
-        yield now, False, bytes([0x43 if chance.randrange(4) == 0 else 0x41, invoke_id, place, 4])
-    yield now + 9, False, bytes([0x20, invoke_id, 0x0F])
+        kind = (0x43 if chance.randrange(4) == 0 else 0x41) if by_client else (0x42 if chance.randrange(4) == 0 else 0x40)
+        yield now, not by_client, bytes([kind, invoke_id, max(0, place - chance.choice([0, 0, 0, 1])), chance.choice([1, 1, 2, 4])])
+    if by_client:
+        yield now + 9, False, bytes([0x20, invoke_id, 0x0F])
 
 
 def schedule(seed):
@@ -132,6 +139,7 @@ class Seen:
     key: tuple
     role: str
     segment: int | None
+    window: int | None
     apdu: bytes
 
 
@@ -140,6 +148,8 @@ class Sent:
     moment: int
     apdu: bytes
     number: int
+    last: int
+    grant: str | tuple
     times: int = 1
     more: int = 0
 
@@ -156,16 +166,16 @@ ROLES = {0: 'asks', 2: 'answers', 3: 'answers', 4: 'acknowledges', 5: 'answers',
 
 
 def seen_of(line):
-    number, moment, source, source_port, to, to_port, kind, invoke_id, sequence, nak, server, payload = line.split('|')
+    number, moment, source, source_port, to, to_port, kind, invoke_id, sequence, nak, server, window, payload = line.split('|')
     kind = int(kind)
     by_server = kind in (2, 3, 5, 6) or (kind in (4, 7) and server == '1')
     ends = (f'{to}:{to_port}', f'{source}:{source_port}') if by_server else (f'{source}:{source_port}', f'{to}:{to_port}')
     role = ROLES.get(kind) or ('answers' if by_server else 'gives up')
-    if role == 'acknowledges' and nak == '1':
-        role = 'refuses'
+    if role == 'acknowledges':
+        role = ('refuses' if nak == '1' else 'takes') + (' request' if by_server else ' answer')
     seconds, part = moment.split('.')
-    return Seen(int(number), int(seconds) * 1000 + int(part[:3]), (*ends, int(invoke_id)), role, int(sequence) if sequence and kind in (0, 3) else None,
-                bytes.fromhex(payload)[6:])
+    return Seen(int(number), int(seconds) * 1000 + int(part[:3]), (*ends, int(invoke_id)), role, int(sequence) if sequence and kind in (0, 3, 4) else None,
+                int(window) if window else None, bytes.fromhex(payload)[6:])
 
 
 def shown(path):
@@ -189,12 +199,46 @@ def place(sent, seen):
     return 'ahead' if 0 < (seen.segment - sent.number) % 256 < 128 else 'back'
 
 
-def count(sent, where, segment):
+def begun(seen):
+    """What is seen first: which segments may be sent after it is a word, or what the last SegmentACK took, its window, and how often the next one was sent."""
+    return Sent(seen.moment, seen.apdu, seen.segment or 0, seen.moment, 'unknown' if seen.segment else 'first')
+
+
+def count(sent, where, seen):
     if where == 'again':
         sent.times += 1
+        sent.grant = 'first' if sent.grant == 'first' else 'unknown'
     else:
         sent.more += 1
-    sent.number = segment or 0
+        if isinstance(sent.grant, tuple) and seen.segment == (sent.grant[0] + 1) % 256:
+            sent.grant = (*sent.grant[:2], sent.grant[2] + 1)
+    sent.number, sent.last = seen.segment or 0, seen.moment
+
+
+def take(sent, seen):
+    """A SegmentACK: one behind the last was sent before."""
+    if isinstance(sent.grant, str) or (seen.segment - sent.grant[0]) % 256 < 128:
+        sent.grant = (seen.segment, seen.window, 0)
+
+
+def segment_finding(sent, where, seen):
+    """What is wrong with a segment after what was sent before."""
+    taken = isinstance(sent.grant, tuple)
+    ahead = (seen.segment - sent.grant[0]) % 256 if taken else 0
+    if (sent.grant == 'first' and seen.segment) or (taken and sent.grant[1] < ahead < 128):
+        return 'a segment beyond the window'
+    if where == 'ahead':
+        return 'a segment before it is missing'
+    return 'a segment sent more than four times' if taken and ahead == 1 and sent.grant[2] >= MOST_SENDS else None
+
+
+def again_finding(sent, seen):
+    """What is wrong with a request, or its first segment, that comes again."""
+    if sent.times < MOST_SENDS:
+        return None
+    if seen.segment is None:
+        return 'a request sent more than four times'
+    return 'a segment sent more than four times' if sent.grant == 'first' else None
 
 
 @dataclass
@@ -228,17 +272,18 @@ class Watch:
         return it if it and seen.moment - it.request.moment <= KEEP else None
 
     def asks(self, seen):
-        it, finding = self.live(seen), None
+        it = self.live(seen)
         where = place(it.request, seen) if it else 'other'
         if where != 'other':
-            count(it.request, where, seen.segment)
-            if where == 'again' and it.request.times > MOST_SENDS:
-                return 'a request sent more than four times'
-            return 'a segment before it is missing' if where == 'ahead' else None
-        finding = 'another request with the invoke ID of an earlier one' if it else None
+            finding = again_finding(it.request, seen) if where == 'again' else segment_finding(it.request, where, seen)
+            count(it.request, where, seen)
+            if it.answer and isinstance(it.answer.grant, tuple):
+                it.answer.grant = (*it.answer.grant[:2], 0)
+            return finding
+        finding = 'another request with the invoke ID of an earlier one' if it else 'a segment before it is missing' if seen.segment else None
         if seen.key in self.open:
             self.close(seen.key)
-        self.open[seen.key] = Transaction(Sent(seen.moment, seen.apdu, seen.segment or 0))
+        self.open[seen.key] = Transaction(begun(seen))
         return finding
 
     def answers(self, seen):
@@ -246,21 +291,28 @@ class Watch:
         if not it:
             return 'an answer to no request'
         if not it.answer:
-            it.answer = Sent(seen.moment, seen.apdu, seen.segment or 0)
-            return None
+            it.answer = begun(seen)
+            return 'a segment before it is missing' if seen.segment else None
         where = place(it.answer, seen)
         if where == 'other':
             written = all(apdu[0] == 0x30 and apdu[2] == 7 for apdu in (it.answer.apdu, seen.apdu))
             return 'an append performed twice' if written and it.request.apdu[3:].hex().upper() == APPEND else 'another answer than before'
-        count(it.answer, where, seen.segment)
-        return 'a segment before it is missing' if where == 'ahead' else None
+        old = seen.segment is None and seen.moment - it.answer.moment > LIFE and seen.moment - it.request.last > 2 * LIFE
+        finding = ('a copy older than 5 s' if old else None) if where == 'again' else segment_finding(it.answer, where, seen)
+        count(it.answer, where, seen)
+        return finding
 
-    def refuses(self, seen):
+    def takes(self, seen):
         it = self.live(seen)
         if not it:
             return None
-        it.naks += 1
-        return 'a negative SegmentACK'
+        sent = it.request if seen.role.endswith('request') else it.answer
+        if sent:
+            take(sent, seen)
+        if seen.role.startswith('refuses'):
+            it.naks += 1
+            return 'a negative SegmentACK'
+        return None
 
     def gives_up(self, seen):
         it = self.live(seen)
@@ -272,8 +324,8 @@ class Watch:
         first = next(iter(self.open), None)
         if first and seen.moment - self.open[first].request.moment > KEEP:
             self.close(first)
-        heard = {'asks': self.asks, 'answers': self.answers, 'refuses': self.refuses, 'gives up': self.gives_up}.get(seen.role)
-        finding = heard(seen) if heard else None
+        heard = {'asks': self.asks, 'answers': self.answers, 'gives up': self.gives_up}.get(seen.role, self.takes)
+        finding = heard(seen)
         if finding:
             self.findings += 1
             self.lines.append(f'frame {seen.number}: {finding}, {seen.key[0]} > {seen.key[1]} id {seen.key[2]}')

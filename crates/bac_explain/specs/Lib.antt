@@ -3,6 +3,8 @@ pub mod KeyViews
 pub mod Parts
 pub mod Texts
 pub mod Appends
+pub mod Numbers
+pub mod Grants
 pub mod Sent
 pub mod SentViews
 pub mod Transactions

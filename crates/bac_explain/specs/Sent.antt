@@ -1,20 +1,23 @@
 -- Requests and answers, as they are seen, and where an APDU stands after them.
-use Rattle.std.specs.Prelude.{ℕ, ◌+◌, ◌-◌, ◌%◌, ◌^◌, Bool, true, false, nat_lt, ◌==◌, ◌&&◌, if◌then◌else◌, min, List, Option, Some, None}
+use Rattle.std.specs.Prelude.{ℕ, Bool, true, false, ◌==◌, if◌then◌else◌, List, Option, Some, None}
 use Rattle.std.specs.Cmp.Lexicographic.{pointwise}
+use Rattle.bac_explain.specs.declared.grant.Grant.{Grant}
+use Rattle.bac_explain.specs.declared.part.Taken.{Taken}
 use Rattle.bac_explain.specs.declared.sent.Place.{Place}
 use Rattle.bac_explain.specs.declared.sent.Place.TheVariants.{Again, Next, Back, Ahead, Other}
+use Rattle.bac_explain.specs.Grants.{asked_again, at_first, begun_again, moved, sent}
+use Rattle.bac_explain.specs.Numbers.{following, is_ahead, one_more}
 
--- when it was first seen, the octets of that APDU, how many times they were seen, how many other segments, and the number of the last segment
+-- when it was first seen, the octets of that APDU, how many times they were seen, how many other segments, the number of the last segment,
+-- when the last was seen, and which segments may be sent
 pub record SentView : Type 0 where
   pub moment : ℕ
   pub octets : List ℕ
   pub times : ℕ
   pub segments : ℕ
   pub number : ℕ
-
--- counts stay at their last value
-abbrev pub one_more : ℕ → ℕ
-one_more count = min (count + 1) (2 ^ 64 - 1)
+  pub last : ℕ
+  pub grant : Grant
 
 -- what is whole counts as number 0
 abbrev pub number_in : Option ℕ → ℕ
@@ -22,22 +25,22 @@ number_in None = 0
 number_in (Some number) = number
 
 abbrev pub first_sent : ℕ → Option ℕ → List ℕ → SentView
-first_sent now number octets = record { moment = now; octets = octets; times = 1; segments = 0; number = number_in number }
+first_sent now number octets = record {
+  moment = now;
+  octets = octets;
+  times = 1;
+  segments = 0;
+  number = number_in number;
+  last = now;
+  grant = at_first number;
+}
 
 -- the octets are the same
 abbrev pub are_same : List ℕ → List ℕ → Bool
 are_same = pointwise (λ a b. a == b)
 
--- numbers of segments go on modulo 256 (clause 20.1.2.7)
-abbrev pub is_next : SentView → ℕ → Bool
-is_next s number = ((s.number + 1) % 256) == number
-
--- how far a number is ahead of the last one; half of all count as behind
-abbrev pub ahead : ℕ → ℕ → ℕ
-ahead last number = (number + 256 - last) % 256
-
 abbrev pub numbered_place : ℕ → ℕ → Place
-numbered_place last number = if nat_lt 0 (ahead last number) && nat_lt (ahead last number) 128 then Ahead else Back
+numbered_place last number = if is_ahead last number then Ahead else Back
 
 -- a segment 0 with other octets begins something else
 abbrev pub other_place : SentView → Option ℕ → Place
@@ -50,7 +53,7 @@ unlike_next s number octets = if are_same s.octets octets then Again else other_
 -- where an APDU stands: a segment of that number, or a whole
 abbrev pub place_of : SentView → Option ℕ → List ℕ → Place
 place_of s None octets = unlike_next s None octets
-place_of s (Some number) octets = if is_next s number then Next else unlike_next s (Some number) octets
+place_of s (Some number) octets = if following s.number number then Next else unlike_next s (Some number) octets
 
 abbrev pub is_other : Place → Bool
 is_other Again = false
@@ -59,13 +62,25 @@ is_other Back = false
 is_other Ahead = false
 is_other Other = true
 
-abbrev pub with_segment : Option ℕ → SentView → SentView
-with_segment number s = record s { segments = one_more s.segments; number = number_in number }
+-- the first again
+abbrev pub with_first : ℕ → Option ℕ → SentView → SentView
+with_first now number s = record s { times = one_more s.times; number = number_in number; last = now; grant = begun_again s.grant }
+
+abbrev pub with_segment : ℕ → Option ℕ → SentView → SentView
+with_segment now number s = record s { segments = one_more s.segments; number = number_in number; last = now; grant = sent number s.grant }
 
 -- an APDU that stands there is counted
-abbrev pub counted : Place → Option ℕ → SentView → SentView
-counted Again number s = record s { times = one_more s.times; number = number_in number }
-counted Next number s = with_segment number s
-counted Back number s = with_segment number s
-counted Ahead number s = with_segment number s
-counted Other number s = s
+abbrev pub counted : ℕ → Place → Option ℕ → SentView → SentView
+counted now Again number s = with_first now number s
+counted now Next number s = with_segment now number s
+counted now Back number s = with_segment now number s
+counted now Ahead number s = with_segment now number s
+counted now Other number s = s
+
+-- a SegmentACK for its segments is seen
+abbrev pub with_taken : Taken → SentView → SentView
+with_taken taken s = record s { grant = moved taken s.grant }
+
+-- what it answers is asked again
+abbrev pub with_asked_again : SentView → SentView
+with_asked_again s = record s { grant = asked_again s.grant }

@@ -3,4 +3,12 @@ use Rattle.bac_explain.specs.declared.sent.Sent.{Sent}
 use Rattle.bac_explain.specs.Sent.{SentView}
 
 abbrev pub sent_view : Sent → SentView
-sent_view s = record { moment = s.moment; octets = s.octets.items; times = s.times; segments = s.segments; number = s.number }
+sent_view s = record {
+  moment = s.moment;
+  octets = s.octets.items;
+  times = s.times;
+  segments = s.segments;
+  number = s.number;
+  last = s.last;
+  grant = s.grant;
+}

@@ -6,11 +6,12 @@ use Rattle.bac_explain.specs.declared.finding.Finding.{Finding}
 use Rattle.bac_explain.specs.declared.finding.Finding.TheVariants.{AnswerToNoRequest, InvokeIdReused}
 use Rattle.bac_explain.specs.declared.part.Role.{Role}
 use Rattle.bac_explain.specs.declared.part.Role.TheVariants.{Request, Answer, Acknowledgement, GivesUp}
+use Rattle.bac_explain.specs.declared.part.Taken.{Taken}
 use Rattle.bac_explain.specs.declared.sent.Place.{Place}
 use Rattle.bac_explain.specs.declared.table.TheConstants.{OPEN_LIMIT}
 use Rattle.bac_explain.specs.Keys.{Key, same_key}
 use Rattle.bac_explain.specs.Sent.{is_other, place_of}
-use Rattle.bac_explain.specs.Transactions.{TransactionView, first_request, is_live, requested, answered, acknowledged, given_up}
+use Rattle.bac_explain.specs.Transactions.{TransactionView, first_finding, first_request, is_live, requested, answered, acknowledged, given_up}
 
 abbrev pub Transactions : Type 0
 Transactions = List (Slot Key TransactionView)
@@ -89,19 +90,19 @@ begins now key number octets finding slots = begins_in key now (first_request no
 -- a request stands there after that of the live transaction of its key: another one begins a transaction, whose invoke ID is used again
 abbrev pub request_at : Place → ℕ → Key → Option ℕ → List ℕ → TransactionView → Transactions → Heard
 request_at place now key number octets t slots =
-    if is_other place then begins now key number octets (Some InvokeIdReused) slots else goes_on key slots (requested place number t)
+    if is_other place then begins now key number octets (Some InvokeIdReused) slots else goes_on key slots (requested now place number t)
 
 abbrev pub request_heard : ℕ → Key → Option ℕ → List ℕ → Option TransactionView → Transactions → Heard
-request_heard now key number octets None slots = begins now key number octets None slots
+request_heard now key number octets None slots = begins now key number octets (first_finding number) slots
 request_heard now key number octets (Some t) slots = request_at (place_of t.request number octets) now key number octets t slots
 
 abbrev pub answer_heard : ℕ → Key → Option ℕ → List ℕ → Option TransactionView → Transactions → Heard
 answer_heard now key number octets None slots = unheard (Some AnswerToNoRequest) slots
 answer_heard now key number octets (Some t) slots = goes_on key slots (answered now number octets t)
 
-abbrev pub acknowledgement_heard : Key → Bool → Option TransactionView → Transactions → Heard
-acknowledgement_heard key nak None slots = unheard None slots
-acknowledgement_heard key nak (Some t) slots = goes_on key slots (acknowledged nak t)
+abbrev pub acknowledgement_heard : Key → Taken → Option TransactionView → Transactions → Heard
+acknowledgement_heard key taken None slots = unheard None slots
+acknowledgement_heard key taken (Some t) slots = goes_on key slots (acknowledged taken t)
 
 abbrev pub giving_up_heard : Key → Option TransactionView → Transactions → Heard
 giving_up_heard key None slots = unheard None slots
@@ -111,5 +112,5 @@ giving_up_heard key (Some t) slots = goes_on key slots (given_up t, None)
 abbrev pub heard : ℕ → Key → Role → List ℕ → Transactions → Heard
 heard now key (Request number) octets slots = request_heard now key number octets (live now key slots) slots
 heard now key (Answer number) octets slots = answer_heard now key number octets (live now key slots) slots
-heard now key (Acknowledgement nak) octets slots = acknowledgement_heard key nak (live now key slots) slots
+heard now key (Acknowledgement taken) octets slots = acknowledgement_heard key taken (live now key slots) slots
 heard now key GivesUp octets slots = giving_up_heard key (live now key slots) slots

@@ -2,7 +2,7 @@
 use Rattle.std.specs.Prelude.{ℕ, List, codes}
 use Rattle.bac_explain.specs.declared.finding.Finding.{Finding}
 use Rattle.bac_explain.specs.declared.finding.Finding.TheVariants.{AnswerToNoRequest, AnotherAnswer, PerformedTwice, InvokeIdReused}
-use Rattle.bac_explain.specs.declared.finding.Finding.TheVariants.{SentTooOften, SegmentMissing, NegativeAck}
+use Rattle.bac_explain.specs.declared.finding.Finding.TheVariants.{SentTooOften, SegmentMissing, BeyondWindow, SegmentSentTooOften, OldCopy, NegativeAck}
 
 abbrev pub finding_text : Finding → List ℕ
 finding_text AnswerToNoRequest = codes "an answer to no request"
@@ -11,4 +11,7 @@ finding_text PerformedTwice = codes "an append performed twice"
 finding_text InvokeIdReused = codes "another request with the invoke ID of an earlier one"
 finding_text SentTooOften = codes "a request sent more than four times"
 finding_text SegmentMissing = codes "a segment before it is missing"
+finding_text BeyondWindow = codes "a segment beyond the window"
+finding_text SegmentSentTooOften = codes "a segment sent more than four times"
+finding_text OldCopy = codes "a copy older than 5 s"
 finding_text NegativeAck = codes "a negative SegmentACK"

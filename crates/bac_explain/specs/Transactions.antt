@@ -1,13 +1,20 @@
 -- One transaction, as it is seen: what each of its APDUs makes of it, and what is wrong with that APDU.
-use Rattle.std.specs.Prelude.{ℕ, ◌-◌, nat_le, nat_lt, Bool, true, false, if◌then◌else◌, List, Option, Some, None}
-use Rattle.bac_protocol.specs.declared.times.TheConstants.{KEEP}
+use Rattle.std.specs.Prelude.{ℕ, ◌+◌, ◌-◌, ◌==◌, ◌&&◌, nat_le, nat_lt, Bool, true, false, if◌then◌else◌, List, Option, Some, None, is_none}
+use Rattle.std.specs.Option.{option_map}
+use Rattle.bac_protocol.specs.declared.times.TheConstants.{KEEP, LIFE}
 use Rattle.bac_explain.specs.declared.finding.Finding.{Finding}
-use Rattle.bac_explain.specs.declared.finding.Finding.TheVariants.{AnotherAnswer, PerformedTwice, SentTooOften, SegmentMissing, NegativeAck}
+use Rattle.bac_explain.specs.declared.finding.Finding.TheVariants.{AnotherAnswer, PerformedTwice, SentTooOften, SegmentMissing, BeyondWindow}
+use Rattle.bac_explain.specs.declared.finding.Finding.TheVariants.{SegmentSentTooOften, OldCopy, NegativeAck}
+use Rattle.bac_explain.specs.declared.grant.Grant.{Grant}
+use Rattle.bac_explain.specs.declared.grant.Grant.TheVariants.{First, Unknown, Window}
+use Rattle.bac_explain.specs.declared.numbers.TheConstants.{MOST_SENDS}
+use Rattle.bac_explain.specs.declared.part.Taken.{Taken}
 use Rattle.bac_explain.specs.declared.sent.Place.{Place}
 use Rattle.bac_explain.specs.declared.sent.Place.TheVariants.{Again, Next, Back, Ahead, Other}
-use Rattle.bac_explain.specs.declared.transaction.TheConstants.{MOST_SENDS}
 use Rattle.bac_explain.specs.Appends.{is_performed_twice}
-use Rattle.bac_explain.specs.Sent.{SentView, first_sent, counted, place_of, one_more}
+use Rattle.bac_explain.specs.Grants.{is_beyond, is_spent}
+use Rattle.bac_explain.specs.Numbers.{one_more}
+use Rattle.bac_explain.specs.Sent.{SentView, first_sent, counted, place_of, with_asked_again, with_taken}
 
 -- its request, the first of its answers, how many negative SegmentACKs were seen, and whether the client's Abort was
 pub record TransactionView : Type 0 where
@@ -23,56 +30,88 @@ first_request now number octets = record { request = first_sent now number octet
 abbrev pub is_live : ℕ → TransactionView → Bool
 is_live now t = nat_le (now - t.request.moment) KEEP
 
--- segments before it were not seen
-abbrev pub place_finding : Place → Option Finding
-place_finding Again = None
-place_finding Next = None
-place_finding Back = None
-place_finding Ahead = Some SegmentMissing
-place_finding Other = None
+-- segments before the first that is seen were not
+abbrev pub first_finding : Option ℕ → Option Finding
+first_finding None = None
+first_finding (Some number) = if number == 0 then None else Some SegmentMissing
 
--- once, and three retries
-abbrev pub sends_finding : ℕ → Option Finding
-sends_finding times = if nat_lt MOST_SENDS times then Some SentTooOften else None
+abbrev pub is_ahead_of : Place → Bool
+is_ahead_of Again = false
+is_ahead_of Next = false
+is_ahead_of Back = false
+is_ahead_of Ahead = true
+is_ahead_of Other = false
 
-abbrev pub request_finding : Place → SentView → Option Finding
-request_finding Again s = sends_finding s.times
-request_finding Next s = None
-request_finding Back s = None
-request_finding Ahead s = Some SegmentMissing
-request_finding Other s = None
+abbrev pub granted_finding : Place → Option ℕ → SentView → Option Finding
+granted_finding place number s =
+    if is_ahead_of place then Some SegmentMissing else (if is_spent s.grant number then Some SegmentSentTooOften else None)
+
+-- a segment: it was not granted, or segments before it were not seen, or it was sent so often
+abbrev pub segment_finding : Place → Option ℕ → SentView → Option Finding
+segment_finding place number s = if is_beyond s.grant number then Some BeyondWindow else granted_finding place number s
+
+-- once, and three retries; the first segment comes again with each repeat of the whole, but before any is acknowledged only by its retries
+abbrev pub spent_finding : Option ℕ → Grant → Option Finding
+spent_finding None grant = Some SentTooOften
+spent_finding (Some number) First = Some SegmentSentTooOften
+spent_finding (Some number) Unknown = None
+spent_finding (Some number) (Window g) = None
+
+abbrev pub again_finding : Option ℕ → SentView → Option Finding
+again_finding number s = if nat_lt s.times MOST_SENDS then None else spent_finding number s.grant
+
+abbrev pub request_finding : Place → Option ℕ → SentView → Option Finding
+request_finding Again number s = again_finding number s
+request_finding Next number s = segment_finding Next number s
+request_finding Back number s = segment_finding Back number s
+request_finding Ahead number s = segment_finding Ahead number s
+request_finding Other number s = None
 
 -- its request is seen again, or a segment of it
-abbrev pub requested : Place → Option ℕ → TransactionView → TransactionView × Option Finding
-requested place number t =
-    let request = counted place number t.request in
-    (record t { request = request }, request_finding place request)
+abbrev pub requested : ℕ → Place → Option ℕ → TransactionView → TransactionView × Option Finding
+requested now place number t = (
+  record t { request = counted now place number t.request; answer = option_map with_asked_again t.answer },
+  request_finding place number t.request,
+)
+
+-- an answer comes again so late that it was on its way too long, or the copy of the request was with which it was sent; segments are sent
+-- again by themselves
+abbrev pub is_old : ℕ → Option ℕ → (request answer : SentView) → Bool
+is_old now number request answer = is_none number && (nat_lt LIFE (now - answer.moment) && nat_lt (LIFE + LIFE) (now - request.last))
 
 -- two answers differ
 abbrev pub other_answer : (request first other : List ℕ) → Finding
 other_answer request first other = if is_performed_twice request first other then PerformedTwice else AnotherAnswer
 
-abbrev pub answer_finding : Place → (request first other : List ℕ) → Option Finding
-answer_finding Again request first other = None
-answer_finding Next request first other = None
-answer_finding Back request first other = None
-answer_finding Ahead request first other = Some SegmentMissing
-answer_finding Other request first other = Some (other_answer request first other)
+abbrev pub answer_finding : ℕ → Place → Option ℕ → (request first : SentView) → List ℕ → Option Finding
+answer_finding now Again number request first other = if is_old now number request first then Some OldCopy else None
+answer_finding now Next number request first other = segment_finding Next number first
+answer_finding now Back number request first other = segment_finding Back number first
+answer_finding now Ahead number request first other = segment_finding Ahead number first
+answer_finding now Other number request first other = Some (other_answer request.octets first.octets other)
 
 abbrev pub answered_after : ℕ → Option ℕ → List ℕ → Option SentView → TransactionView → TransactionView × Option Finding
-answered_after now number octets None t = (record t { answer = Some (first_sent now number octets) }, None)
+answered_after now number octets None t = (record t { answer = Some (first_sent now number octets) }, first_finding number)
 answered_after now number octets (Some first) t =
     let place = place_of first number octets in
-    (record t { answer = Some (counted place number first) }, answer_finding place t.request.octets first.octets octets)
+    (record t { answer = Some (counted now place number first) }, answer_finding now place number t.request first octets)
 
 -- an answer is seen, or a segment of one: the first is kept
 abbrev pub answered : ℕ → Option ℕ → List ℕ → TransactionView → TransactionView × Option Finding
 answered now number octets t = answered_after now number octets t.answer t
 
+-- segments of its request or its answer are acknowledged
+abbrev pub segments_taken : Taken → TransactionView → TransactionView
+segments_taken a t =
+    if a.of_request then record t { request = with_taken a t.request } else record t { answer = option_map (with_taken a) t.answer }
+
+abbrev pub nak_counted : Bool → TransactionView → TransactionView × Option Finding
+nak_counted true t = (record t { naks = one_more t.naks }, Some NegativeAck)
+nak_counted false t = (t, None)
+
 -- a SegmentACK is seen, negative or not
-abbrev pub acknowledged : Bool → TransactionView → TransactionView × Option Finding
-acknowledged true t = (record t { naks = one_more t.naks }, Some NegativeAck)
-acknowledged false t = (t, None)
+abbrev pub acknowledged : Taken → TransactionView → TransactionView × Option Finding
+acknowledged a t = nak_counted a.nak (segments_taken a t)
 
 -- the client's Abort is seen
 abbrev pub given_up : TransactionView → TransactionView

@@ -11,10 +11,10 @@ ghost use Rattle.bac_explain.specs.Closings.{IsHeard, closed_view};
 
 use crate::finding::Finding;
 use crate::key::TransactionKey;
-use crate::part::Role;
+use crate::part::{Role, Taken};
 use crate::sent::Place;
 use crate::table::{Closed, OPEN_LIMIT, OpenTable, enter, find, take_oldest, take_over};
-use crate::transaction::Transaction;
+use crate::transaction::{Transaction, first_finding};
 use bac_slots::SlotTable;
 use std::alloc::{AllocError, Global};
 use std::marker::Model;
@@ -118,14 +118,20 @@ impl Explainer {
     }
 
     /// The request of the live transaction of a key is seen again, or a segment of it.
-    fn repeat(&mut self, key: &TransactionKey, place: Place, number: Option<u8>) -> Option<Finding>
+    fn repeat(
+        &mut self,
+        now: u64,
+        key: &TransactionKey,
+        place: Place,
+        number: Option<u8>,
+    ) -> Option<Finding>
         ensures { (t : TransactionView) → value_at same_key (key_view key.now) self.old ≡ Some t
-            → record { slots = self.new; closed = None; finding = result } ≡ goes_on (key_view key.now) self.old (requested place number t) }
+            → record { slots = self.new; closed = None; finding = result } ≡ goes_on (key_view key.now) self.old (requested now place number t) }
     {
         let Some(transaction) = self.table.get_mut(key) else {
             return None;
         };
-        transaction.requested(place, number)
+        transaction.requested(now, place, number)
     }
 
     /// A request is seen, or a segment of one.
@@ -141,14 +147,14 @@ impl Explainer {
         ensures err { OnErr result (self.new ≡ self.old) }
     {
         let Some(place) = self.place(now, &key, number, octets) else {
-            return self.begin(alloc, now, key, number, octets, None);
+            return self.begin(alloc, now, key, number, octets, first_finding(number));
         };
         if place.is_other() {
             let finding = Some(Finding::InvokeIdReused);
             return self.begin(alloc, now, key, number, octets, finding);
         }
         Ok(Heard {
-            finding: self.repeat(&key, place, number),
+            finding: self.repeat(now, &key, place, number),
             closed: None,
         })
     }
@@ -176,9 +182,14 @@ impl Explainer {
     }
 
     /// A SegmentACK is seen.
-    fn hear_acknowledgement(&mut self, now: u64, key: &TransactionKey, nak: bool) -> Option<Finding>
+    fn hear_acknowledgement(
+        &mut self,
+        now: u64,
+        key: &TransactionKey,
+        taken: Taken,
+    ) -> Option<Finding>
         ensures { record { slots = self.new; closed = None; finding = result }
-            ≡ acknowledgement_heard (key_view key.now) nak (live now (key_view key.now) self.old) self.old }
+            ≡ acknowledgement_heard (key_view key.now) taken (live now (key_view key.now) self.old) self.old }
     {
         if !self.is_live(now, key) {
             return None;
@@ -186,7 +197,7 @@ impl Explainer {
         let Some(transaction) = self.table.get_mut(key) else {
             return None;
         };
-        transaction.acknowledged(nak)
+        transaction.acknowledged(taken)
     }
 
     /// The client's Abort is seen.
@@ -220,7 +231,7 @@ impl Explainer {
         let finding = match role {
             Role::Request(number) => return self.hear_request(alloc, now, key, number, octets),
             Role::Answer(number) => self.hear_answer(alloc, now, &key, number, octets)?,
-            Role::Acknowledgement(nak) => self.hear_acknowledgement(now, &key, nak),
+            Role::Acknowledgement(taken) => self.hear_acknowledgement(now, &key, taken),
             Role::GivesUp => {
                 self.hear_giving_up(now, &key);
                 None

@@ -15,10 +15,17 @@ pub enum Finding {
     PerformedTwice,
     /// It asks with an invoke ID that had another request at most 65,000 ms before.
     InvokeIdReused,
-    /// It asks for the fifth time, or later: once, and three retries, is the default of the standard (clause 12.11.28).
+    /// It asks in one APDU for the fifth time, or later: once, and three retries, is the default of the standard (clause 12.11.28).
     SentTooOften,
     /// It is a segment after one or more that were not seen.
     SegmentMissing,
+    /// It is a segment that no SegmentACK granted: after the window of the last one, or after segment 0 where none was seen (clause 5.3).
+    BeyondWindow,
+    /// It is the first segment of a window, for the fifth time or later since the SegmentACK; or that of a request before any.
+    SegmentSentTooOften,
+    /// It is an answer again, more than 5,000 ms after it was first seen and 10,000 ms after the request was last: a server answers
+    /// again only where a copy of the request comes, so one of the two was on its way for more than 5,000 ms.
+    OldCopy,
     /// It is a negative SegmentACK.
     NegativeAck,
 }
@@ -37,6 +44,9 @@ impl fmt::Display for Finding {
             ),
             Finding::SentTooOften => write!(f, "a request sent more than four times"),
             Finding::SegmentMissing => write!(f, "a segment before it is missing"),
+            Finding::BeyondWindow => write!(f, "a segment beyond the window"),
+            Finding::SegmentSentTooOften => write!(f, "a segment sent more than four times"),
+            Finding::OldCopy => write!(f, "a copy older than 5 s"),
             Finding::NegativeAck => write!(f, "a negative SegmentACK"),
         }
     }

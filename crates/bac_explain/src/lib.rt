@@ -4,7 +4,9 @@
 mod appends;
 mod explainer;
 mod finding;
+mod grant;
 mod key;
+mod numbers;
 mod part;
 mod sent;
 mod sighting;
@@ -13,8 +15,9 @@ mod transaction;
 
 pub use explainer::{Explainer, Heard};
 pub use finding::Finding;
+pub use grant::{Grant, Granted};
 pub use key::TransactionKey;
-pub use part::{Part, Role, part_of};
+pub use part::{Part, Role, Taken, part_of};
 pub use sent::Sent;
 pub use sighting::{Sighting, read_sighting};
 pub use table::{Closed, OPEN_LIMIT};

@@ -6,6 +6,19 @@ ghost use Rattle.bac_explain.specs.Parts.{number_of, part_of};
 
 use bac_apdu::{Apdu, Segment};
 
+/// What a SegmentACK says of the segments of its transaction.
+#[derive(Clone, Copy, Debug, PartialEq, Eq)]
+pub struct Taken {
+    /// Whether they are those of the request: the server sent it.
+    pub of_request: bool,
+    /// Whether one was out of order.
+    pub nak: bool,
+    /// The number of the last one taken in order, modulo 256.
+    pub number: u8,
+    /// How many after that may be sent before the next SegmentACK.
+    pub window: u8,
+}
+
 /// What an APDU is in its transaction. A segment has its number modulo 256; what is whole has none.
 #[derive(Clone, Copy, Debug, PartialEq, Eq)]
 pub enum Role {
@@ -13,8 +26,8 @@ pub enum Role {
     Request(Option<u8>),
     /// A reply, or the server's Abort.
     Answer(Option<u8>),
-    /// A SegmentACK of either end, and whether it is negative.
-    Acknowledgement(bool),
+    /// A SegmentACK of either end.
+    Acknowledgement(Taken),
     /// The client's Abort.
     GivesUp,
 }
@@ -61,8 +74,18 @@ pub fn part_of(apdu: &Apdu<'_>) -> Option<Part>
             nak,
             server,
             invoke_id,
-            ..
-        } => (!*server, *invoke_id, Role::Acknowledgement(*nak)),
+            number,
+            window,
+        } => (
+            !*server,
+            *invoke_id,
+            Role::Acknowledgement(Taken {
+                of_request: *server,
+                nak: *nak,
+                number: *number,
+                window: window.size,
+            }),
+        ),
         Apdu::Abort {
             server: true,
             invoke_id,

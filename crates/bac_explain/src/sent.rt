@@ -1,8 +1,12 @@
 //! A request or an answer, as it was seen.
 ghost use Rattle.std.specs.Prelude.{◌≡◌, IfOk};
 ghost use Rattle.bac_explain.specs.SentViews.{sent_view};
-ghost use Rattle.bac_explain.specs.Sent.{are_same, counted, first_sent, is_next, is_other, number_in, numbered_place, one_more, place_of, unlike_next};
+ghost use Rattle.bac_explain.specs.Sent.{are_same, counted, first_sent, is_other, number_in, numbered_place, place_of, unlike_next, with_taken, with_asked_again};
+ghost use Rattle.bac_explain.specs.Numbers.{following};
 
+use crate::grant::Grant;
+use crate::numbers::{is_ahead, is_following, one_more};
+use crate::part::Taken;
 use std::alloc::{AllocError, Global};
 
 /// A request or an answer, as it was seen: by the first of its APDUs, and how many came after it.
@@ -18,6 +22,10 @@ pub struct Sent {
     pub segments: u64,
     /// The number of the last segment that was seen, modulo 256; 0 of what is whole.
     pub number: u8,
+    /// When the last of its APDUs was seen, in milliseconds.
+    pub last: u64,
+    /// Which of its segments may be sent.
+    pub grant: Grant,
 }
 
 /// Where an APDU stands after what was seen.
@@ -43,13 +51,6 @@ impl Place {
     }
 }
 
-/// A count with one more; it stays at its last value.
-pub(crate) fn one_more(count: u64) -> u64
-    ensures { result ≡ one_more count }
-{
-    count.saturating_add(1)
-}
-
 fn number_in(number: Option<u8>) -> u8
     ensures { result ≡ number_in number }
 {
@@ -60,8 +61,7 @@ fn number_in(number: Option<u8>) -> u8
 fn numbered_place(last: u8, number: u8) -> Place
     ensures { result ≡ numbered_place last number }
 {
-    let ahead = (u16::from(number) + 256 - u16::from(last)) % 256;
-    if 0 < ahead && ahead < 128 {
+    if is_ahead(last, number) {
         Place::Ahead
     } else {
         Place::Back
@@ -91,13 +91,15 @@ impl Sent {
             times: 1,
             segments: 0,
             number: number_in(number),
+            last: now,
+            grant: Grant::at_first(number),
         })
     }
 
     fn is_next(&self, number: u8) -> bool
-        ensures { result ≡ is_next (sent_view self.now) number }
+        ensures { result ≡ following self.now.number number }
     {
-        (u16::from(self.number) + 1) % 256 == u16::from(number)
+        is_following(self.number, number)
     }
 
     /// Where an APDU stands that is not the next segment.
@@ -123,15 +125,36 @@ impl Sent {
         }
     }
 
-    /// Counts an APDU that stands there.
-    pub(crate) fn count(&mut self, place: Place, number: Option<u8>)
-        ensures { sent_view self.new ≡ counted place number (sent_view self.old) }
+    /// Counts an APDU that stands there, which is seen at that moment.
+    pub(crate) fn count(&mut self, now: u64, place: Place, number: Option<u8>)
+        ensures { sent_view self.new ≡ counted now place number (sent_view self.old) }
     {
         match place {
-            Place::Again => self.times = one_more(self.times),
-            Place::Next | Place::Back | Place::Ahead => self.segments = one_more(self.segments),
+            Place::Again => {
+                self.times = one_more(self.times);
+                self.grant = self.grant.begun_again();
+            }
+            Place::Next | Place::Back | Place::Ahead => {
+                self.segments = one_more(self.segments);
+                self.grant = self.grant.sent(number);
+            }
             Place::Other => return,
         }
+        self.last = now;
         self.number = number_in(number);
+    }
+
+    /// A SegmentACK for its segments is seen.
+    pub(crate) fn take(&mut self, taken: Taken)
+        ensures { sent_view self.new ≡ with_taken taken (sent_view self.old) }
+    {
+        self.grant = self.grant.moved(taken);
+    }
+
+    /// What it answers is asked again.
+    pub(crate) fn ask_again(&mut self)
+        ensures { sent_view self.new ≡ with_asked_again (sent_view self.old) }
+    {
+        self.grant = self.grant.asked_again();
     }
 }

@@ -1,19 +1,19 @@
 //! One transaction, as it was seen.
 ghost use Rattle.std.specs.Prelude.{◌≡◌, ◌-◌, IfOk, OnErr, nat_le};
 ghost use Rattle.std.specs.Option.{option_map};
-ghost use Rattle.bac_explain.specs.Transactions.{acknowledged, answered, first_request, given_up, is_live, other_answer, place_finding, requested};
+ghost use Rattle.bac_explain.specs.Transactions.{acknowledged, again_finding, answer_finding, answered, first_finding, first_request, given_up, is_live, is_old, nak_counted};
+ghost use Rattle.bac_explain.specs.Transactions.{other_answer, request_finding, requested, segment_finding, segments_taken};
 ghost use Rattle.bac_explain.specs.Views.{transaction_view};
 ghost use Rattle.bac_explain.specs.SentViews.{sent_view};
 
 use crate::appends::is_performed_twice;
 use crate::finding::Finding;
-use crate::sent::{Place, Sent, one_more};
-use bac_protocol::times::KEEP;
+use crate::grant::Grant;
+use crate::numbers::{MOST_SENDS, one_more};
+use crate::part::Taken;
+use crate::sent::{Place, Sent};
+use bac_protocol::times::{KEEP, LIFE};
 use std::alloc::{AllocError, Global};
-
-/// How often a request is sent at most: once, and then as often as the standard repeats it (Number_Of_APDU_Retries, clause
-/// 12.11.28, whose default is 3).
-pub(crate) const MOST_SENDS: u64 = 4;
 
 /// A transaction, as it was seen.
 #[derive(Debug, Drop)]
@@ -28,14 +28,64 @@ pub struct Transaction {
     pub gave_up: bool,
 }
 
-/// What is wrong with an APDU that stands there.
-fn place_finding(place: Place) -> Option<Finding>
-    ensures { result ≡ place_finding place }
+/// What is wrong with the first APDU that is seen of a request or an answer.
+pub(crate) fn first_finding(number: Option<u8>) -> Option<Finding>
+    ensures { result ≡ first_finding number }
+{
+    match number {
+        None | Some(0) => None,
+        Some(_) => Some(Finding::SegmentMissing),
+    }
+}
+
+/// What is wrong with a segment of that number that stands there after what was sent before.
+fn segment_finding(sent: &Sent, place: Place, number: Option<u8>) -> Option<Finding>
+    ensures { result ≡ segment_finding place number (sent_view sent.now) }
+{
+    if sent.grant.is_beyond(number) {
+        return Some(Finding::BeyondWindow);
+    }
+    if place == Place::Ahead {
+        return Some(Finding::SegmentMissing);
+    }
+    if sent.grant.is_spent(number) {
+        return Some(Finding::SegmentSentTooOften);
+    }
+    None
+}
+
+/// What is wrong with a request, or its first segment, that comes again.
+fn again_finding(request: &Sent, number: Option<u8>) -> Option<Finding>
+    ensures { result ≡ again_finding number (sent_view request.now) }
+{
+    if request.times < MOST_SENDS {
+        return None;
+    }
+    match (number, request.grant) {
+        (None, _) => Some(Finding::SentTooOften),
+        (Some(_), Grant::First) => Some(Finding::SegmentSentTooOften),
+        (Some(_), Grant::Unknown | Grant::Window(_)) => None,
+    }
+}
+
+/// What is wrong with a request that stands there after what was asked before.
+fn request_finding(request: &Sent, place: Place, number: Option<u8>) -> Option<Finding>
+    ensures { result ≡ request_finding place number (sent_view request.now) }
 {
     match place {
-        Place::Ahead => Some(Finding::SegmentMissing),
-        _ => None,
+        Place::Again => again_finding(request, number),
+        Place::Other => None,
+        Place::Next | Place::Back | Place::Ahead => segment_finding(request, place, number),
     }
+}
+
+/// Whether an answer that comes again at that moment was on its way for more than 5,000 ms, or the request before it.
+fn is_old(now: u64, number: Option<u8>, request: &Sent, answer: &Sent) -> bool
+    ensures { result ≡ is_old now number (sent_view request.now) (sent_view answer.now) }
+{
+    number.is_none()
+        && now.saturating_sub(answer.moment) > LIFE
+        && now.saturating_sub(request.last) > LIFE + LIFE
 }
 
 /// What is wrong with an answer that differs from the first.
@@ -46,6 +96,25 @@ fn other_answer(request: &[u8], first: &[u8], other: &[u8]) -> Finding
         Finding::PerformedTwice
     } else {
         Finding::AnotherAnswer
+    }
+}
+
+/// What is wrong with an answer that stands there after the first one.
+fn answer_finding(
+    request: &Sent,
+    now: u64,
+    place: Place,
+    number: Option<u8>,
+    first: &Sent,
+    octets: &[u8],
+) -> Option<Finding>
+    ensures { result ≡ answer_finding now place number (sent_view request.now) (sent_view first.now) octets.now }
+{
+    match place {
+        Place::Again if is_old(now, number, request, first) => Some(Finding::OldCopy),
+        Place::Again => None,
+        Place::Next | Place::Back | Place::Ahead => segment_finding(first, place, number),
+        Place::Other => Some(other_answer(&request.octets, &first.octets, octets)),
     }
 }
 
@@ -75,15 +144,21 @@ impl Transaction {
     }
 
     /// Its request is seen again, or a segment of it.
-    pub(crate) fn requested(&mut self, place: Place, number: Option<u8>) -> Option<Finding>
-        ensures seen { transaction_view self.new ≡ (requested place number (transaction_view self.old)).0 }
-        ensures finding { result ≡ (requested place number (transaction_view self.old)).1 }
+    pub(crate) fn requested(
+        &mut self,
+        now: u64,
+        place: Place,
+        number: Option<u8>,
+    ) -> Option<Finding>
+        ensures seen { transaction_view self.new ≡ (requested now place number (transaction_view self.old)).0 }
+        ensures finding { result ≡ (requested now place number (transaction_view self.old)).1 }
     {
-        self.request.count(place, number);
-        if place == Place::Again && self.request.times > MOST_SENDS {
-            return Some(Finding::SentTooOften);
+        let finding = request_finding(&self.request, place, number);
+        self.request.count(now, place, number);
+        if let Some(answer) = &mut self.answer {
+            answer.ask_again();
         }
-        place_finding(place)
+        finding
     }
 
     /// An answer is seen, or a segment of one. Nothing changes where the memory for it is refused.
@@ -100,22 +175,32 @@ impl Transaction {
     {
         let Some(answer) = &mut self.answer else {
             self.answer = Some(Sent::first(alloc, now, number, octets)?);
-            return Ok(None);
+            return Ok(first_finding(number));
         };
         let place = answer.place(number, octets);
-        if place == Place::Other {
-            return Ok(Some(other_answer(&self.request.octets, &answer.octets, octets)));
+        let finding = answer_finding(&self.request, now, place, number, answer, octets);
+        answer.count(now, place, number);
+        Ok(finding)
+    }
+
+    /// Segments of its request or its answer are acknowledged.
+    fn take(&mut self, taken: Taken)
+        ensures { transaction_view self.new ≡ segments_taken taken (transaction_view self.old) }
+    {
+        if taken.of_request {
+            self.request.take(taken);
+        } else if let Some(answer) = &mut self.answer {
+            answer.take(taken);
         }
-        answer.count(place, number);
-        Ok(place_finding(place))
     }
 
     /// A SegmentACK is seen.
-    pub(crate) fn acknowledged(&mut self, nak: bool) -> Option<Finding>
-        ensures seen { transaction_view self.new ≡ (acknowledged nak (transaction_view self.old)).0 }
-        ensures finding { result ≡ (acknowledged nak (transaction_view self.old)).1 }
+    pub(crate) fn acknowledged(&mut self, taken: Taken) -> Option<Finding>
+        ensures seen { transaction_view self.new ≡ (acknowledged taken (transaction_view self.old)).0 }
+        ensures finding { result ≡ (acknowledged taken (transaction_view self.old)).1 }
     {
-        if !nak {
+        self.take(taken);
+        if !taken.nak {
             return None;
         }
         self.naks = one_more(self.naks);

@@ -16,6 +16,7 @@ mod endings;
 mod failing;
 mod faults;
 mod files;
+mod following;
 mod generated;
 mod journal;
 mod lives;

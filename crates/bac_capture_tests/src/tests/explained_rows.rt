@@ -350,4 +350,24 @@ transactions=1 answered=0 rejected=0 aborted=0 unanswered=1 slowest=- findings=2
 ",
         1,
     ),
+    (
+        "windows and copies",
+        &[
+            (0, true, "810A000D01040C050200020FA0", ""),
+            (1, true, "810A000D010408050201020FA1", ""),
+            (2, false, "810A000A010041020002", ""),
+            (3, false, "810A0009010020020F", ""),
+            (9_000, true, "810A000D01040C050200020FA0", ""),
+            (19_001, false, "810A0009010020020F", ""),
+        ],
+        "\
+frame 2: a segment beyond the window, 10.0.0.5:47808 > 10.0.0.9:47808 id 2
+frame 6: a copy older than 5 s, 10.0.0.5:47808 > 10.0.0.9:47808 id 2
+transaction 10.0.0.5:47808 > 10.0.0.9:47808 id 2
+  asked at=0 times=2 more-segments=1 service 15 in segments
+  answered after=3 times=2 acknowledged
+transactions=1 answered=1 rejected=0 aborted=0 unanswered=0 slowest=3 findings=2 frames=6 unread=0
+",
+        1,
+    ),
 ];

@@ -1,5 +1,5 @@
 //! What is wrong with datagrams of transactions.
-use super::transaction_rows::{ANSWERS, REQUESTS, Row, Seen};
+use super::transaction_rows::{ANSWERS, COPIES, REQUESTS, Row, SEGMENTS, Seen};
 use bac_explain::{Explainer, Finding, read_sighting};
 use bac_rows::{holds, octets_of};
 use std::alloc::{AllocError, Global};
@@ -71,4 +71,14 @@ fn answers(rt: HostRuntime) -> Result<(), Fail> {
 #[test]
 fn requests(rt: HostRuntime) -> Result<(), Fail> {
     rows_hold(rt.alloc(), REQUESTS)
+}
+
+#[test]
+fn segments(rt: HostRuntime) -> Result<(), Fail> {
+    rows_hold(rt.alloc(), SEGMENTS)
+}
+
+#[test]
+fn copies(rt: HostRuntime) -> Result<(), Fail> {
+    rows_hold(rt.alloc(), COPIES)
 }

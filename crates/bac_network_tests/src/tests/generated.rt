@@ -1,13 +1,12 @@
 //! Worlds whose nodes change their stores and restart again and again, by schedules that are made up from a number. Each log is followed on stores of the
-//! test's own.
+//! test's own, as it grows.
 use super::chance::Chance;
+use super::following::{Counts, Followed};
 use super::scene::{limits_of, request_of};
 use super::*;
-use bac_network::{Event, Fact, World, WorldFault};
+use bac_network::{Event, World, WorldFault};
 use bac_rows::octets_of;
-use bac_service::{OwnedReply, OwnedRequest};
-use bac_store::{Change, Store, house};
-use bac_ticket::Ending;
+use bac_store::{Change, house};
 use bac_value::ObjectIdentifier;
 
 /// What nodes ask, in words.
@@ -34,114 +33,6 @@ const SEEDS: u64 = 40;
 
 /// Of how many events each is.
 const EVENTS: usize = 400;
-
-/// What a log says so far: the stores that it leads to, and of each ask its server, whether it was performed, and whether it has ended.
-#[derive(Drop)]
-struct Followed {
-    stores: Vec<Store>,
-    servers: Vec<usize>,
-    performed: Vec<bool>,
-    ended: Vec<bool>,
-}
-
-/// The first time that a thing happens to that ask.
-fn first(done: &mut [bool], number: usize) -> Result<(), Wrong> {
-    match done.get_mut(number) {
-        Some(done) if !*done => {
-            *done = true;
-            Ok(())
-        }
-        _ => Err(Wrong::Line),
-    }
-}
-
-impl Followed {
-    fn new(alloc: Global, nodes: usize) -> Result<Followed, Wrong> {
-        let mut stores = Vec::new(alloc);
-        for _ in 0..nodes {
-            stores.push(house(alloc)?)?;
-        }
-        Ok(Followed {
-            stores,
-            servers: Vec::new(alloc),
-            performed: Vec::new(alloc),
-            ended: Vec::new(alloc),
-        })
-    }
-
-    fn asked(&mut self, number: usize, server: usize) -> Result<(), Wrong> {
-        if number != self.servers.len() {
-            return Err(Wrong::Line);
-        }
-        self.servers.push(server)?;
-        self.performed.push(false)?;
-        self.ended.push(false)?;
-        Ok(())
-    }
-
-    fn performs(
-        &mut self,
-        alloc: Global,
-        number: usize,
-        request: &OwnedRequest,
-        reply: &OwnedReply,
-    ) -> Result<(), Wrong> {
-        first(&mut self.performed, number)?;
-        let server = self.servers.get(number).copied().unwrap_or(usize::MAX);
-        let Some(store) = self.stores.get_mut(server) else {
-            return Err(Wrong::Line);
-        };
-        let given = store.perform(alloc, &request.as_request())?;
-        if bac_comparing::same_reply(reply, &given) {
-            Ok(())
-        } else {
-            Err(Wrong::Line)
-        }
-    }
-
-    fn ends(&mut self, number: usize, how: &Ending) -> Result<(), Wrong> {
-        first(&mut self.ended, number)?;
-        let is_performed = self.performed.get(number).copied().unwrap_or(false);
-        match how {
-            Ending::Answered(_) if !is_performed => Err(Wrong::Line),
-            _ => Ok(()),
-        }
-    }
-
-    fn restarts(&mut self, alloc: Global, node: usize, with: &Option<Store>) -> Result<(), Wrong> {
-        if let Some(with) = with {
-            let Some(store) = self.stores.get_mut(node) else {
-                return Err(Wrong::Line);
-            };
-            *store = with.copy(alloc)?;
-        }
-        Ok(())
-    }
-
-    fn changes(&mut self, alloc: Global, node: usize, change: &Change) -> Result<(), Wrong> {
-        let Some(store) = self.stores.get_mut(node) else {
-            return Err(Wrong::Line);
-        };
-        match store.change(alloc, change) {
-            Ok(()) => Ok(()),
-            Err(_) => Err(Wrong::Line),
-        }
-    }
-
-    fn note(&mut self, alloc: Global, fact: &Fact) -> Result<(), Wrong> {
-        match fact {
-            Fact::Asked { number, server, .. } => self.asked(*number, *server),
-            Fact::Performed {
-                number,
-                request,
-                reply,
-            } => self.performs(alloc, *number, request, reply),
-            Fact::Ended { number, how } => self.ends(*number, how),
-            Fact::Changed { node, change } => self.changes(alloc, *node, change),
-            Fact::Restarted { node, store } => self.restarts(alloc, *node, store),
-        }
-    }
-}
 
 /// One of the last copies comes.
 fn delivery(world: &World, chance: &mut Chance) -> Event {
@@ -235,90 +126,50 @@ fn next_event(alloc: Global, world: &World, chance: &mut Chance) -> Result<Event
     }
 }
 
-/// How often a thing happened.
-#[derive(Clone, Copy)]
-struct Counts {
-    restarts: usize,
-    changes: usize,
-    refused: usize,
-    performed: usize,
-}
-
-const NONE: Counts = Counts {
-    restarts: 0,
-    changes: 0,
-    refused: 0,
-    performed: 0,
-};
-
-impl Counts {
-    fn with(&self, other: &Counts) -> Counts {
-        Counts {
-            restarts: self.restarts.saturating_add(other.restarts),
-            changes: self.changes.saturating_add(other.changes),
-            refused: self.refused.saturating_add(other.refused),
-            performed: self.performed.saturating_add(other.performed),
-        }
+/// An event happens, if there is such a copy; whether a change was refused.
+fn happens(world: &mut World, event: &Event) -> Result<bool, Wrong> {
+    match world.step(event) {
+        Ok(_) | Err(WorldFault::NoSuchDatagram) => Ok(false),
+        Err(WorldFault::BadChange(_)) => Ok(true),
+        Err(WorldFault::NoMemory) => Err(Wrong::NoMemory),
+        Err(_) => Err(Wrong::Line),
     }
 }
 
-/// A world goes by a schedule; what its log has, and how many changes it refused. It is wrong where a log is.
+/// A world goes by a schedule, and its log is followed after each tenth event; what happened in it.
 fn goes(alloc: Global, seed: u64) -> Result<Counts, Wrong> {
     let mut world = SMALL_ONES.world(alloc)?;
+    let mut followed = Followed::from_opening(alloc, &world)?;
     let mut chance = Chance::of(seed);
     let mut refused = 0usize;
-    for _ in 0..EVENTS {
+    for number in 1..=EVENTS {
         let event = next_event(alloc, &world, &mut chance)?;
-        match world.step(&event) {
-            Ok(_) | Err(WorldFault::NoSuchDatagram) => {}
-            Err(WorldFault::BadChange(_)) => refused = refused.saturating_add(1),
-            Err(WorldFault::NoMemory) => return Err(Wrong::NoMemory),
-            Err(_) => return Err(Wrong::Line),
+        refused = refused.saturating_add(usize::from(happens(&mut world, &event)?));
+        if number % 10 == 0 {
+            followed.follow(alloc, &world)?;
         }
     }
-    let counts = log_followed(alloc, &world)?;
+    let counts = followed.counts();
     Ok(Counts { refused, ..counts })
 }
 
-/// The log is right with the stores.
-fn log_followed(alloc: Global, world: &World) -> Result<Counts, Wrong> {
-    let mut followed = Followed::new(alloc, world.nodes().len())?;
-    for fact in world.log() {
-        followed.note(alloc, fact)?;
-    }
-    for (node, store) in followed.stores.iter().enumerate() {
-        match world.store(node) {
-            Some(there) if there.same(store) => {}
-            _ => return Err(Wrong::Line),
-        }
-    }
-    let log = world.log().iter();
-    let restarts = log
-        .filter(|fact| matches!(fact, Fact::Restarted { .. }))
-        .count();
-    let log = world.log().iter();
-    let changes = log
-        .filter(|fact| matches!(fact, Fact::Changed { .. }))
-        .count();
-    Ok(Counts {
-        restarts,
-        changes,
-        refused: 0,
-        performed: followed.performed.iter().filter(|done| **done).count(),
-    })
+/// Whether enough happened in all worlds.
+fn is_enough(counts: &Counts) -> bool {
+    let happened = counts.restarts.min(counts.changes).min(counts.refused);
+    let went_on = counts.performed_anew.min(counts.asked_anew);
+    happened.min(counts.performed) >= 100 && went_on.min(counts.answered) >= 50
 }
 
 #[test]
 fn generated_worlds_with_changes_and_restarts(rt: HostRuntime) -> Result<(), Fail> {
-    let mut all = NONE;
+    let mut counts = Counts::none();
     for seed in 0..SEEDS {
         match goes(rt.alloc(), seed) {
-            Ok(counts) => all = all.with(&counts),
+            Ok(more) => counts = counts.plus(more),
             Err(wrong) => return Err(wrong.about("a generated world")),
         }
     }
-    let least = all.restarts.min(all.changes).min(all.refused);
-    if least < 100 || all.performed < 100 {
+    if !is_enough(&counts) {
         return Err(Fail::from("too little happened"));
     }
     Ok(())

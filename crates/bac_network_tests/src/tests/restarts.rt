@@ -147,7 +147,7 @@ restart 3
   line 1: fault 1
 ";
 
-/// The same of a client: its second restart counts, and loses the wait of the first.
+/// A client restarts twice: it asks nothing for 75,000 ms from the second time on.
 const CLIENT_TWICE: &str = "
 restart 0
   restarted 0

@@ -10,12 +10,12 @@ use Rattle.bac_explain.proofs.explainer.Explainer.hear_acknowledgement.Goals as 
 
 pub returns-in_default : goal.returns-in_default
 returns-in_default c =
-    none_heard (acknowledgement_heard (key_view c.args.key.now) c.args.nak) c.args.now c.args.key.now c.self.inside.table.0 _ c.args.self.now _
+    none_heard (acknowledgement_heard (key_view c.args.key.now) c.args.taken) c.args.now c.args.key.now c.self.inside.table.0 _ c.args.self.now _
     c.self.view_is c.in_default.ensures.value c.get_mut.follows.holds-at-none.0 refl
 
 pub returns : goal.returns
 returns c =
-    goes_heard (acknowledgement_heard (key_view c.args.key.now) c.args.nak) c.args.now c.args.key.now c.self.inside.table.0 _ c.args.self.now
+    goes_heard (acknowledgement_heard (key_view c.args.key.now) c.args.taken) c.args.now c.args.key.now c.self.inside.table.0 _ c.args.self.now
     c.in-Some.transaction.now c.acknowledged.new.self c.acknowledged.result c.self.view_is
     (alive_of c.is_live.result (live c.args.now (key_view c.args.key.now) c.args.self.now) c.if-not-is_live.false c.is_live.ensures)
     c.in-Some.ensures.value (c.get_mut.follows.holds c.acknowledged.new.self).0

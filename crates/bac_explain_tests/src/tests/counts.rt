@@ -1,0 +1,73 @@
+//! How often each thing passed of an ask, by the world's own copies.
+use super::going::{Asked, Sight};
+use bac_explain::{Sent, Transaction};
+use bac_network::{Note, World};
+
+/// So long a transaction is looked at, in milliseconds.
+const KEEP: u64 = 65_000;
+
+/// What passed of an ask: its first APDU, others of the request, answers, and negative SegmentACKs.
+#[derive(Clone, Copy)]
+pub(super) struct Counts {
+    first: u64,
+    segments: u64,
+    answers: u64,
+    naks: u64,
+}
+
+fn one_more(count: &mut u64) {
+    *count = count.saturating_add(1);
+}
+
+impl Counts {
+    /// Counts a datagram by the first octet of its APDU, whose upper half is its kind.
+    fn count(&mut self, first: &[u8], octets: &[u8]) {
+        let head = octets.get(6).copied().unwrap_or(0xFF);
+        match head / 16 {
+            0 if octets == first => one_more(&mut self.first),
+            0 => one_more(&mut self.segments),
+            4 if head % 4 >= 2 => one_more(&mut self.naks),
+            2 | 3 | 5 | 6 => one_more(&mut self.answers),
+            7 if head % 2 == 1 => one_more(&mut self.answers),
+            _ => {}
+        }
+    }
+
+    /// What passed of an ask.
+    pub(super) fn of(world: &World, passed: &[Sight], note: &Note, asked: Asked) -> Counts {
+        let mut counts = Counts {
+            first: 0,
+            segments: 0,
+            answers: 0,
+            naks: 0,
+        };
+        let Some(first) = world.copies().get(asked.copies) else {
+            return counts;
+        };
+        for sight in passed {
+            if let Some(copy) = world.copies().get(sight.copy) {
+                let is_its = copy.transaction == note.transaction && sight.copy >= asked.copies;
+                if is_its && sight.moment.saturating_sub(asked.moment) <= KEEP {
+                    counts.count(&first.octets, &copy.octets);
+                }
+            }
+        }
+        counts
+    }
+
+    /// Whether a transaction was counted so.
+    pub(super) fn are_of(self, it: &Transaction) -> bool {
+        it.request.times == self.first
+            && it.request.segments == self.segments
+            && it.naks == self.naks
+            && answers_in(&it.answer) == self.answers
+    }
+}
+
+/// How many answers were counted.
+fn answers_in(answer: &Option<Sent>) -> u64 {
+    match answer {
+        Some(sent) => sent.times.saturating_add(sent.segments),
+        None => 0,
+    }
+}

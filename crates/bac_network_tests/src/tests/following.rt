@@ -1,0 +1,255 @@
+//! Logs that are followed as they grow, on stores of the test's own.
+use super::*;
+use bac_comparing::{same_reply, same_request};
+use bac_network::{Fact, World};
+use bac_service::{OwnedReply, OwnedRequest};
+use bac_store::{Change, Store};
+use bac_ticket::Ending;
+
+/// What a log says of an ask.
+#[derive(Clone, Copy)]
+struct Deed {
+    client: usize,
+    server: usize,
+    /// How often its client had restarted.
+    life: usize,
+    /// Where in the log it was asked, and where performed.
+    asked: usize,
+    performed: Option<usize>,
+    has_ended: bool,
+}
+
+/// How often something happened in logs.
+#[derive(Clone, Copy)]
+pub(super) struct Counts {
+    pub(super) restarts: usize,
+    pub(super) changes: usize,
+    /// Changes that were refused, of which no log tells.
+    pub(super) refused: usize,
+    pub(super) performed: usize,
+    pub(super) answered: usize,
+    /// Performed by a server that had restarted, and asked by a client that had.
+    pub(super) performed_anew: usize,
+    pub(super) asked_anew: usize,
+}
+
+impl Counts {
+    pub(super) fn none() -> Counts {
+        Counts {
+            restarts: 0,
+            changes: 0,
+            refused: 0,
+            performed: 0,
+            answered: 0,
+            performed_anew: 0,
+            asked_anew: 0,
+        }
+    }
+
+    /// Those of two logs.
+    pub(super) fn plus(self, other: Counts) -> Counts {
+        Counts {
+            restarts: self.restarts.saturating_add(other.restarts),
+            changes: self.changes.saturating_add(other.changes),
+            refused: self.refused.saturating_add(other.refused),
+            performed: self.performed.saturating_add(other.performed),
+            answered: self.answered.saturating_add(other.answered),
+            performed_anew: self.performed_anew.saturating_add(other.performed_anew),
+            asked_anew: self.asked_anew.saturating_add(other.asked_anew),
+        }
+    }
+}
+
+/// One more of them, if that is so.
+fn count(number: &mut usize, is_one: bool) {
+    *number = number.saturating_add(usize::from(is_one));
+}
+
+/// What was asked at that place of a log.
+fn asked_at(log: &[Fact], place: usize) -> Result<&OwnedRequest, Wrong> {
+    match log.get(place) {
+        Some(Fact::Asked { request, .. }) => Ok(request),
+        _ => Err(Wrong::Line),
+    }
+}
+
+/// What was performed there, and the reply.
+fn performed_at(log: &[Fact], place: usize) -> Result<(&OwnedRequest, &OwnedReply), Wrong> {
+    match log.get(place) {
+        Some(Fact::Performed { request, reply, .. }) => Ok((request, reply)),
+        _ => Err(Wrong::Line),
+    }
+}
+
+fn must(is: bool) -> Result<(), Wrong> {
+    if is { Ok(()) } else { Err(Wrong::Line) }
+}
+
+/// What a log says so far: the stores that it leads to, how often each node has restarted, and what became of each ask.
+#[derive(Drop)]
+pub(super) struct Followed {
+    seen: usize,
+    stores: Vec<Store>,
+    lives: Vec<usize>,
+    deeds: Vec<Deed>,
+    counts: Counts,
+}
+
+impl Followed {
+    /// Nothing yet, from the stores that a world began with.
+    pub(super) fn from_opening(alloc: Global, world: &World) -> Result<Followed, Wrong> {
+        let mut stores = Vec::new(alloc);
+        let mut lives = Vec::new(alloc);
+        for store in world.opening() {
+            stores.push(store.copy(alloc)?)?;
+            lives.push(0)?;
+        }
+        Ok(Followed {
+            seen: 0,
+            stores,
+            lives,
+            deeds: Vec::new(alloc),
+            counts: Counts::none(),
+        })
+    }
+
+    pub(super) fn counts(&self) -> Counts {
+        self.counts
+    }
+
+    /// Each fact that is new in the world's log may stand there, and the stores are then those of the world.
+    pub(super) fn follow(&mut self, alloc: Global, world: &World) -> Result<(), Wrong> {
+        let log = world.log();
+        for place in self.seen..log.len() {
+            self.note(alloc, log, place)?;
+        }
+        self.seen = log.len();
+        for (node, store) in self.stores.iter().enumerate() {
+            match world.store(node) {
+                Some(there) => must(there.same(store))?,
+                None => return Err(Wrong::Line),
+            }
+        }
+        Ok(())
+    }
+
+    fn note(&mut self, alloc: Global, log: &[Fact], place: usize) -> Result<(), Wrong> {
+        match log.get(place) {
+            Some(
+                Fact::Asked {
+                    number,
+                    client,
+                    server,
+                    ..
+                },
+            ) => self.asked(place, *number, *client, *server),
+            Some(Fact::Performed { number, .. }) => self.performs(alloc, log, place, *number),
+            Some(Fact::Ended { number, how }) => self.ends(log, *number, how),
+            Some(Fact::Changed { node, change }) => self.changes(alloc, *node, change),
+            Some(Fact::Restarted { node, store }) => self.restarts(alloc, *node, store),
+            None => Err(Wrong::Line),
+        }
+    }
+
+    fn life(&self, node: usize) -> usize {
+        self.lives.get(node).copied().unwrap_or(0)
+    }
+
+    /// An ask has the next number.
+    fn asked(
+        &mut self,
+        place: usize,
+        number: usize,
+        client: usize,
+        server: usize,
+    ) -> Result<(), Wrong> {
+        must(number == self.deeds.len())?;
+        let life = self.life(client);
+        self.deeds.push(Deed {
+            client,
+            server,
+            life,
+            asked: place,
+            performed: None,
+            has_ended: false,
+        })?;
+        count(&mut self.counts.asked_anew, life > 0);
+        Ok(())
+    }
+
+    /// An ask is performed for the first time: what was asked, and with the reply of its server's store.
+    fn performs(
+        &mut self,
+        alloc: Global,
+        log: &[Fact],
+        place: usize,
+        number: usize,
+    ) -> Result<(), Wrong> {
+        let Some(deed) = self.deeds.get_mut(number) else {
+            return Err(Wrong::Line);
+        };
+        must(deed.performed.is_none())?;
+        deed.performed = Some(place);
+        let Deed { server, asked, .. } = *deed;
+        let (request, reply) = performed_at(log, place)?;
+        must(same_request(request, asked_at(log, asked)?))?;
+        let Some(store) = self.stores.get_mut(server) else {
+            return Err(Wrong::Line);
+        };
+        let given = store.perform(alloc, &request.as_request())?;
+        must(same_reply(reply, &given))?;
+        let is_anew = self.life(server) > 0;
+        count(&mut self.counts.performed, true);
+        count(&mut self.counts.performed_anew, is_anew);
+        Ok(())
+    }
+
+    /// An ask ends for the first time, in the life of its client in which it was asked; where it is answered, with the reply with which it was performed.
+    fn ends(&mut self, log: &[Fact], number: usize, how: &Ending) -> Result<(), Wrong> {
+        let Some(deed) = self.deeds.get_mut(number) else {
+            return Err(Wrong::Line);
+        };
+        must(!deed.has_ended)?;
+        deed.has_ended = true;
+        let Deed {
+            client,
+            life,
+            performed,
+            ..
+        } = *deed;
+        must(life == self.life(client))?;
+        let Ending::Answered(answer) = how else {
+            return Ok(());
+        };
+        let Some(place) = performed else {
+            return Err(Wrong::Line);
+        };
+        must(same_reply(answer, performed_at(log, place)?.1))?;
+        count(&mut self.counts.answered, true);
+        Ok(())
+    }
+
+    fn changes(&mut self, alloc: Global, node: usize, change: &Change) -> Result<(), Wrong> {
+        let Some(store) = self.stores.get_mut(node) else {
+            return Err(Wrong::Line);
+        };
+        must(store.change(alloc, change).is_ok())?;
+        count(&mut self.counts.changes, true);
+        Ok(())
+    }
+
+    /// A node restarts, with the store that it has or another one.
+    fn restarts(&mut self, alloc: Global, node: usize, with: &Option<Store>) -> Result<(), Wrong> {
+        let Some(store) = self.stores.get_mut(node) else {
+            return Err(Wrong::Line);
+        };
+        if let Some(with) = with {
+            *store = with.copy(alloc)?;
+        }
+        if let Some(life) = self.lives.get_mut(node) {
+            count(life, true);
+        }
+        count(&mut self.counts.restarts, true);
+        Ok(())
+    }
+}
