@@ -19,18 +19,15 @@ const EVENTS: usize = 400;
 const LIFE: u64 = 5_000;
 
 /// What nodes ask, in words: in one APDU, and in segments.
-const REQUESTS: &[&[&str]] = &[
-    &["append", "10:1", "AB"],
-    &[
-        "append",
-        "10:1",
-        "CDCDCDCDCDCDCDCDCDCDCDCDCDCDCDCDCDCDCDCDCDCDCDCDCDCDCDCDCDCDCDCDCDCDCDCDCDCDCDCDCDCDCDCDCDCDCDCDCDCDCDCDCDCDCDCDCDCDCDCD\
-CDCDCDCDCDCDCDCDCDCDCDCDCDCDCDCDCDCDCDCDCDCDCDCDCDCDCDCDCDCDCDCDCDCDCDCDCDCDCDCDCDCDCDCDCDCDCDCDCDCDCDCDCDCDCDCDCDCDCDCDCD\
-CDCDCDCDCDCDCDCDCDCDCDCDCDCDCDCDCDCDCDCDCDCDCDCDCDCDCDCDCDCDCDCDCDCDCDCDCDCDCDCDCDCDCDCDCDCDCDCDCDCDCDCDCDCDCDCDCDCDCDCDCD",
-    ],
-    &["get", "10:1", "0", "200"],
-    &["read", "2:1", "85"],
-    &["read", "0:9", "85"],
+const REQUESTS: &[&str] = &[
+    "append 10:1 AB",
+    "append 10:1 \
+CDCDCDCDCDCDCDCDCDCDCDCDCDCDCDCDCDCDCDCDCDCDCDCDCDCDCDCDCDCDCDCDCDCDCDCDCDCDCDCDCDCDCDCDCDCDCDCDCDCDCDCDCDCDCDCDCDCDCDCD\
+CDCDCDCDCDCDCDCDCDCDCDCDCDCDCDCDCDCDCDCDCDCDCDCDCDCDCDCDCDCDCDCDCDCDCDCDCDCDCDCDCDCDCDCDCDCDCDCDCDCDCDCDCDCDCDCDCDCDCDCD\
+CDCDCDCDCDCDCDCDCDCDCDCDCDCDCDCDCDCDCDCDCDCDCDCDCDCDCDCDCDCDCDCDCDCDCDCDCDCDCDCDCDCDCDCDCDCDCDCDCDCDCDCDCDCDCDCDCDCDCDCD",
+    "get 10:1 0 200",
+    "read 2:1 85",
+    "read 0:9 85",
 ];
 
 /// When an ask was made, and how many copies there were before it.
@@ -78,9 +75,9 @@ fn nodes(alloc: Global) -> Result<Vec<(Config, Store)>, Wrong> {
     Ok(nodes)
 }
 
-fn request_of(alloc: Global, text: &[&str]) -> Result<OwnedRequest, Wrong> {
+fn request_of(alloc: Global, text: &str) -> Result<OwnedRequest, Wrong> {
     let mut words = Vec::new(alloc);
-    for word in text {
+    for word in text.split(' ') {
         words.push(word.as_bytes())?;
     }
     Ok(read_request_words(alloc, &words)?)
@@ -89,12 +86,12 @@ fn request_of(alloc: Global, text: &[&str]) -> Result<OwnedRequest, Wrong> {
 /// A node asks the one after it.
 fn question(alloc: Global, chance: &mut Chance) -> Result<Event, Wrong> {
     let client = chance.below(NODES);
-    let text = REQUESTS.get(chance.below(REQUESTS.len())).copied();
+    let text = REQUESTS.get(chance.below(REQUESTS.len())).unwrap_or(&"");
     Ok(Event::Ask {
         client,
         server: client.saturating_add(1).checked_rem(NODES).unwrap_or(0),
         limits: limits()?,
-        request: request_of(alloc, text.unwrap_or(&[]))?,
+        request: request_of(alloc, text)?,
     })
 }
 
