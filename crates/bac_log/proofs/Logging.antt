@@ -1,11 +1,11 @@
 -- A log that is whole in the end was whole all the time.
-use Rattle.std.proofs.Common.{◌≡◌, ℕ, Bool, true, List, [], ◌∷◌, Option, refl, sym, subst, ◌∙◌, inl, inr, ◌⊎◌}
+use Rattle.std.proofs.Common.{◌≡◌, ℕ, true, List, [], ◌∷◌, refl, sym, subst, ◌∙◌, inl, inr}
 use Rattle.bac_text.specs.declared.status.Status.{Status}
 use Rattle.bac_text.specs.declared.status.Status.TheVariants as status
 use Rattle.bac_run.specs.Runs.{Run, Timed}
 use Rattle.bac_run.specs.Seen.{Seen, Watches, WatchesTurns, goes_on}
 use Rattle.bac_run.specs.declared.patience.Patience.{Patience}
-use Rattle.bac_commands.specs.Reports.{ServingIsWatched, WatchedServing}
+use Rattle.bac_commands.specs.Reports.{ServingIsWatched}
 use Rattle.bac_log.specs.Logs.{Log, Logs, Tells}
 
 -- what is known of a log that became whole out of another one: it serves from the same moment on, and the lines of these turns were written

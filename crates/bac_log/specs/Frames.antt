@@ -2,7 +2,6 @@
 use Rattle.std.specs.Prelude.{List, ℕ, Option, Some, None, Result, Ok, Err}
 use Rattle.bac_apdu.specs.Apdu.{Apdu}
 use Rattle.bac_apdu.specs.Reading.{apdu_at}
-use Rattle.bac_apdu.specs.declared.fault.ApduFault.{ApduFault}
 use Rattle.bac_npdu.specs.Npdu.{NpduView}
 use Rattle.bac_npdu.specs.Reading.{bvll_at, npdu_at}
 use Rattle.bac_npdu.specs.declared.fault.FrameFault.{FrameFault}
