@@ -2,6 +2,8 @@
 use Rattle.std.proofs.Common.{◌≡◌, ◌≢◌, ◌==◌, ℕ, Bool, true, false, if◌then◌else◌, List, [], ◌∷◌, ◌++◌, length, map, Option, Some, None, MatchOption, Bor}
 use Rattle.std.proofs.Common.{refl, ap, sym, subst, ◌∙◌, arith}
 use Rattle.std.specs.Option.{option_map}
+use Rattle.std.specs.List.{IsLastAndRest}
+use Rattle.std.proofs.lemmas.List.{map-append}
 use Rattle.hex.specs.Hex.{encode_upper}
 use Rattle.bac_command_line.specs.FileWords.{IsBefore, file_of, path_of, with_octets}
 
@@ -36,3 +38,20 @@ is_before front last path words is names =
 pub none_named : (front : List (List ℕ)) (last : List ℕ) (words : List (List ℕ)) → words ≡ front ++ last ∷ [] → path_of last ≡ None
     → file_of words ≡ None
 none_named front last words is names = ap file_of is ∙ last_names front last ∙ names
+
+-- of words in code: the last of them, those before it, and the path that was found in it
+shown_as : (words front : List (Bor (List ℕ))) (last : Bor (List ℕ)) → words ≡ front ++ last ∷ []
+    → map (λ w. w.now) words ≡ map (λ w. w.now) front ++ last.now ∷ []
+shown_as words front last is = ap (map (λ w. w.now)) is ∙ map-append (λ w. w.now) front (last ∷ [])
+
+pub named_in : (words front : List (Bor (List ℕ))) (last path : Bor (List ℕ)) (r : Option (Bor (List ℕ))) → IsLastAndRest words last front
+    → option_map (λ p. p.now) r ≡ path_of last.now → r ≡ Some path → IsBefore (map (λ w. w.now) front) path.now (map (λ w. w.now) words)
+named_in words front last path r parts reads found =
+    is_before (map (λ w. w.now) front) last.now path.now (map (λ w. w.now) words) (shown_as words front last parts.0)
+    (sym reads ∙ ap (option_map (λ p. p.now)) found)
+
+pub none_named_in : (words front : List (Bor (List ℕ))) (last : Bor (List ℕ)) (r : Option (Bor (List ℕ))) → IsLastAndRest words last front
+    → option_map (λ p. p.now) r ≡ path_of last.now → r ≡ None → file_of (map (λ w. w.now) words) ≡ None
+none_named_in words front last r parts reads found =
+    none_named (map (λ w. w.now) front) last.now (map (λ w. w.now) words) (shown_as words front last parts.0)
+    (sym reads ∙ ap (option_map (λ p. p.now)) found)

@@ -5,4 +5,4 @@ use Rattle.bac_command_line.proofs.file_words.path_in.Goals as goal
 
 pub returns : goal.returns
 returns c =
-    path_stripped c.args.word.now c.strip_prefix.result (strip_prefix_char 64 c.args.word.now c.strip_prefix.result c.strip_prefix.ensures (omega arith))
+    path_stripped c.args.word.now c.strip_prefix.result (strip_prefix_char 64 c.args.word.now c.strip_prefix.result c.strip_prefix.ensures.cases (omega arith))
