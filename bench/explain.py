@@ -1,5 +1,5 @@
 #!/usr/bin/env python3
-"""Measures `bac explain` on a capture file, beside `bac check` and tshark: explain.py PROGRAM [DATAGRAMS]; docs/BENCHMARKS.md says more."""
+"""Measures `bac explain` on a capture file, beside `bac check` and tshark: explain.py PROGRAM [DATAGRAMS]."""
 
 import os
 import subprocess
