@@ -20,13 +20,13 @@ abbrev pub again_words : (again : Bool) → List ℕ
 again_words false = []
 again_words true = codes " again"
 
--- its number, what it is, and how it comes
+-- its number, how it comes, and what it is
 abbrev pub coming_words : (again : Bool) → (moment : ℕ) → Arrow → List ℕ
 coming_words again moment a =
-    decimal a.number ++ (codes " " ++ (a.words ++ (again_words again ++ sent_words (nat_eq moment a.sent) a.sent)))
+    decimal a.number ++ (again_words again ++ (sent_words (nat_eq moment a.sent) a.sent ++ (codes " " ++ a.words)))
 
 abbrev pub lost_words : Arrow → List ℕ
-lost_words a = decimal a.number ++ (codes " " ++ (a.words ++ codes " lost"))
+lost_words a = decimal a.number ++ (codes " lost " ++ a.words)
 
 abbrev pub lost_line : Arrow → Line
 lost_line a = record { moment = a.sent; from = a.from; to = a.to; is_lost = true; words = lost_words a }

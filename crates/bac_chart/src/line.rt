@@ -66,11 +66,10 @@ fn coming_words(
     ensures { IfOk result (λ t. t.items ≡ coming_words again moment (arrow_view arrow.now)) }
 {
     let number = arrow.number;
+    let again = again_words(again);
     let sent = sent_words(alloc, moment, arrow.sent)?;
-    let mut words = format!(in alloc; "{number} ")?.into_bytes();
+    let mut words = format!(in alloc; "{number}{again}{sent} ")?.into_bytes();
     words.extend_from_slice(&arrow.words)?;
-    words.extend_from_slice(again_words(again).as_bytes())?;
-    words.extend_from_slice(sent.as_bytes())?;
     Ok(words)
 }
 
@@ -78,9 +77,8 @@ fn lost_words(alloc: Global, arrow: &Arrow) -> Result<Vec<u8>, AllocError>
     ensures { IfOk result (λ t. t.items ≡ lost_words (arrow_view arrow.now)) }
 {
     let number = arrow.number;
-    let mut words = format!(in alloc; "{number} ")?.into_bytes();
+    let mut words = format!(in alloc; "{number} lost ")?.into_bytes();
     words.extend_from_slice(&arrow.words)?;
-    words.extend_from_slice(b" lost")?;
     Ok(words)
 }
 

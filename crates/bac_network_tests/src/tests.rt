@@ -10,6 +10,7 @@ mod asks;
 mod bad_lines;
 mod chance;
 mod changes;
+mod charts;
 mod devices;
 mod endings;
 mod failing;
