@@ -23,7 +23,7 @@ fn word_at(octets: &[u8], place: usize) -> u32
 }
 
 /// The sum of the words of these octets.
-#[tactic(auto, using(crate::proofs::Words::word_more, crate::proofs::Words::no_word_more))]
+#[tactic(auto, using(crate::proofs::Words::word_more))]
 fn sum_of(octets: &[u8]) -> u32
     ensures is { result ≡ sum_from 0 octets.now }
     ensures word { result ≤ 65535 }
