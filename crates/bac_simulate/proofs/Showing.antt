@@ -1,21 +1,28 @@
 -- What a status says of a script whose run is shown.
-use Rattle.std.proofs.Common.{◌≡◌, ℕ, ◌+◌, true, false, Bool, List, map, Option, Some, None, IfOk, IfSome, Result, Ok, Err, inl, inr, refl, sym, subst, ◌∙◌}
+use Rattle.std.proofs.Common.{◌≡◌, ℕ, ◌+◌, true, false, Bool, List, [], map, Option, Some, None, IfOk, IfSome, Result, Ok, Err, inl, inr, refl, sym, ap, subst, ◌∙◌}
 use Rattle.std.specs.Io.KnownBytes.{Appends, Keeps}
+use Rattle.bac_chart.specs.Views.{mark_view}
+use Rattle.bac_chart.specs.declared.mark.Mark as code
 use Rattle.bac_network.specs.Histories.{WorldView}
+use Rattle.bac_script.specs.Lines.{Setting}
+use Rattle.bac_script.specs.Views.{setting_view}
 use Rattle.bac_text.specs.Lines.{lines_of}
 use Rattle.bac_text.specs.Statuses.{IsFailure}
 use Rattle.bac_text.specs.Texts.{AppendsText}
 use Rattle.bac_text.specs.declared.status.Status.{Status}
 use Rattle.bac_text.specs.declared.status.Status.TheVariants as status
-use Rattle.bac_simulate.specs.Drawn.{IsRead, IsShown, Shows, ShowsAs, ShowsScript}
+use Rattle.bac_simulate.specs.Drawn.{in_marks, rest_of, shown_text, IsRead, IsShown, Shows, ShowsAs, ShowsScript}
 use Rattle.bac_simulate.specs.Houses.{world_set}
-use Rattle.bac_simulate.specs.Runs.{IsEnd, IsUnread, status_for, status_of}
-use Rattle.bac_simulate.specs.Scripts.{IsNotRead, Script, ScriptLine, script_of}
+use Rattle.bac_simulate.specs.Runs.{IsEnd, IsUnread, Runs, status_for, status_of}
+use Rattle.bac_simulate.specs.Scripts.{IsNotRead, Script, ScriptLine, limits_in, most_limits, said_from, script_of, with_setting}
+use Rattle.bac_simulate.specs.Traces.{AppendsMarks}
 use Rattle.bac_simulate.specs.Views.{line_view}
 use Rattle.bac_simulate.specs.declared.script.ScriptFault.{ScriptFault}
 use Rattle.bac_simulate.specs.declared.script.ScriptFault.TheVariants as fault
-use Rattle.bac_simulate.specs.declared.view.ReadScript.{ReadScript}
+use Rattle.bac_simulate.specs.declared.script.FirstLine.{FirstLine}
+use Rattle.bac_simulate.specs.declared.read_script.ReadScript.{ReadScript}
 use Rattle.bac_simulate.specs.declared.view.View.{View}
+use Rattle.bac_simulate.proofs.Limits.{events_of_houses}
 use Rattle.bac_simulate.proofs.Reported.{kept, keeps_itself}
 
 -- ---- a script that was read
@@ -84,3 +91,63 @@ taken v notes (Some octets) held text a b end same is shows =
 pub not_taken : (v : View) (notes : Bool) (input a : Option (List ℕ)) (end : Status) → IsUnread end → ShowsAs v notes input a a end
 not_taken v notes None a end unread = tt
 not_taken v notes (Some octets) a end unread = inr (keeps_itself a, unread)
+
+-- ---- what is read behind the first line
+
+pub rest_read : (notes : Bool) (f : FirstLine) (world : WorldView) (r : ReadScript) → world ≡ world_set (setting_view f.setting)
+    → said_from notes (limits_in world.world.nodes) (f.number + 1) (lines_of f.rest.now) ≡ Ok (map line_view r.lines.items)
+    → r.nodes ≡ f.setting.nodes → r.world ≡ world → r.before ≡ f.number → IsRead (rest_of notes f) r
+rest_read notes f world r set said nodes same before =
+    let s : Setting = setting_view f.setting in
+    let n = f.number + 1 in
+    let lines = lines_of f.rest.now in
+    let read : said_from notes (λ node. most_limits) n lines ≡ Ok (map line_view r.lines.items)
+    = sym (events_of_houses notes s.window 0 s.nodes n lines)
+    ∙ (ap (λ (w : WorldView). said_from notes (limits_in w.world.nodes) n lines) (sym set) ∙ said) in
+    record {
+      script = record { setting = s; first = n; lines = map line_view r.lines.items };
+      is = ap (with_setting f.number (Some s)) read;
+      nodes = nodes;
+      world = same ∙ set;
+      first = ap (λ (k : ℕ). k + 1) before;
+      lines = refl;
+    }
+
+-- of a bad line, or where memory ran out
+bad_line : (number first : ℕ) (s : Setting) (read : Result (List ScriptLine) ℕ) → read ≡ Err number → with_setting first (Some s) read ≡ Err number
+bad_line number first s read is = ap (with_setting first (Some s)) is
+
+pub rest_not_read : (notes : Bool) (f : FirstLine) (world : WorldView) (why : ScriptFault) → world ≡ world_set (setting_view f.setting)
+    → IsNotRead why (said_from notes (limits_in world.world.nodes) (f.number + 1) (lines_of f.rest.now)) → IsNotRead why (rest_of notes f)
+rest_not_read notes f world (fault.Line number) set bad =
+    let s : Setting = setting_view f.setting in
+    let n = f.number + 1 in
+    let lines = lines_of f.rest.now in
+    bad_line number f.number s (said_from notes (λ node. most_limits) n lines)
+    (sym (events_of_houses notes s.window 0 s.nodes n lines)
+    ∙ (ap (λ (w : WorldView). said_from notes (limits_in w.world.nodes) n lines) (sym set) ∙ bad))
+rest_not_read notes f world fault.NoMemory set bad = tt
+
+pub same_read : (wanted other : Result Script ℕ) (r : ReadScript) → wanted ≡ other → IsRead other r → IsRead wanted r
+same_read wanted other r is read = subst (λ (w : Result Script ℕ). IsRead w r) (sym is) read
+
+pub same_not_read : (wanted other : Result Script ℕ) (why : ScriptFault) → wanted ≡ other → IsNotRead why other → IsNotRead why wanted
+same_not_read wanted other why is read = subst (IsNotRead why) (sym is) read
+
+-- ---- a run that is shown
+
+pub run_shown : (v : View) (nodes first : ℕ) (lines : List ScriptLine) (all : Bool) (world last : WorldView) (marks : List code.Mark) (a b : Option (List ℕ))
+    → AppendsMarks [] marks (Runs in_marks first lines all world last) → Appends a b (shown_text v nodes (map mark_view marks) last.world)
+    → AppendsText a b (IsShown v nodes first lines all world)
+run_shown v nodes first lines all world last marks a b traced printed = (
+  shown_text v nodes (map mark_view marks) last.world,
+  (
+    record {
+      last = last;
+      marks = map mark_view marks;
+      ran = subst (Runs in_marks first lines all world last) (sym traced.1.1) traced.1.0;
+      is = refl;
+    },
+    printed,
+  ),
+)

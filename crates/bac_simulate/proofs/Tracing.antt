@@ -1,7 +1,8 @@
 -- What there is to draw, one mark after the other.
-use Rattle.std.proofs.Common.{◌≡◌, ℕ, zero, suc, ◌+◌, ◌<◌, ◌≤◌, true, false, Bool, if◌then◌else◌, List, [], ◌∷◌, ◌++◌, length, map, drop, Option, Some, None, inl, inr}
+use Rattle.std.proofs.Common.{◌≡◌, ℕ, zero, suc, ◌+◌, ◌-◌, ◌<◌, ◌≤◌, ◌&&◌, nat_le, true, false, Bool, if◌then◌else◌, List, [], ◌∷◌, ◌++◌, length, map, drop, Option, Some, None, inl, inr}
 use Rattle.std.proofs.Common.{refl, sym, ap, subst, ◌∙◌, slice_get, arith, append-nil}
 use Rattle.std.proofs.lemmas.List.{append_assoc, drop_all, drop-map, length-map, map-append}
+use Rattle.std.proofs.lemmas.Option.{slice_get-map}
 use Rattle.std.specs.Option.{option_map}
 use Rattle.bac_chart.specs.Marks as plain
 use Rattle.bac_chart.specs.Marks.{Mark}
@@ -18,13 +19,14 @@ use Rattle.bac_network.specs.declared.fact.Fact as fact
 use Rattle.bac_protocol.specs.Transaction.{Key}
 use Rattle.bac_requester.specs.declared.ask_fault.AskFault.{AskFault}
 use Rattle.bac_protocol.specs.World.{same_key}
+use Rattle.bac_protocol.specs.declared.times.TheConstants.{LIFE}
 use Rattle.bac_world.specs.Once as once
 use Rattle.bac_world.specs.World as world
-use Rattle.bac_world.specs.World.{count_of, later, WorldStep}
+use Rattle.bac_world.specs.World.{count_of, is_deliverable, later, WorldStep}
 use Rattle.bac_simulate.specs.Drawn.{in_marks}
 use Rattle.bac_simulate.specs.Runs.{Runs, Steps}
 use Rattle.bac_simulate.specs.Scripts.{ScriptLine, Happens}
-use Rattle.bac_simulate.specs.Traces.{arrow_of, event_marks, fact_mark, facts_marks, news_marks, optional_marks, sent_marks, AddsMarks, AppendsMarks}
+use Rattle.bac_simulate.specs.Traces.{arrow_of, coming_mark, delivered_mark, event_marks, fact_mark, facts_marks, news_marks, optional_marks, sent_marks, AddsMarks, AppendsMarks}
 use Rattle.bac_simulate.specs.Views.{line_view}
 use Rattle.bac_simulate.specs.declared.script.ScriptLine as script
 use Rattle.bac_simulate.proofs.Appending.{drop_next, drop_seen}
@@ -47,6 +49,25 @@ pub counted : (key : Key) (copies : List copy.Copy) (i : ℕ) (c : copy.Copy) �
     → count_of key (map copy_view (drop i copies))
     ≡ (if same_key (copy_view c).key key then suc (count_of key (map copy_view (drop (i + 1) copies))) else count_of key (map copy_view (drop (i + 1) copies)))
 counted key copies i c at = ap (λ (l : List copy.Copy). count_of key (map copy_view l)) (drop_next copies i c at)
+
+pub delivered : (overtake o now n number more : ℕ) (w : world.World) (copies after : List copy.Copy) (k : copy.Copy) (comes : Bool) (m : Mark)
+    → map copy_view copies ≡ w.copies → slice_get copies number ≡ Some k → after ≡ drop (number + 1) copies
+    → more ≡ count_of (copy_view k).key (map copy_view after) → o ≡ overtake → now ≡ w.now → n ≡ w.now
+    → comes ≡ (nat_le (now - k.moment) LIFE && nat_le more o) → m ≡ coming_mark comes n number (copy_view k)
+    → Some m ≡ delivered_mark overtake w number (slice_get w.copies number)
+delivered overtake o now n number more w copies after k comes m cs at rest count os now_is n_is comes_is is =
+    let c : world.Copy = copy_view k in
+    let there : slice_get w.copies number ≡ Some c
+    = ap (λ (l : List world.Copy). slice_get l number) (sym cs) ∙ (slice_get-map copy_view copies number ∙ ap (option_map copy_view) at) in
+    let many : more ≡ later c.key number w.copies
+    = count ∙ (ap (λ (l : List copy.Copy). count_of c.key (map copy_view l)) rest ∙ (sym (later_is c.key number copies) ∙ ap (later c.key number) cs)) in
+    let may : comes ≡ is_deliverable overtake w.now number w.copies c
+    = comes_is ∙ (ap (λ (t : ℕ). nat_le (t - k.moment) LIFE && nat_le more o) now_is
+    ∙ (ap (λ (l : ℕ). nat_le (w.now - k.moment) LIFE && nat_le l o) many
+    ∙ ap (λ (v : ℕ). nat_le (w.now - k.moment) LIFE && nat_le (later c.key number w.copies) v) os)) in
+    ap Some (is ∙ (ap (λ (b : Bool). coming_mark b n number c) may
+    ∙ ap (λ (t : ℕ). coming_mark (is_deliverable overtake w.now number w.copies c) t number c) n_is))
+    ∙ sym (ap (delivered_mark overtake w number) there)
 
 -- ---- marks that are added
 
@@ -132,11 +153,11 @@ no_line line lines i all w a = (
 
 -- ---- one event
 
-pub went : (line : ℕ) (e : world.Event) (told : Option AskFault) (old new : WorldView) (a b : List code.Mark) → WorldStep old.overtake old.world e new.world
+pub passed : (line : ℕ) (e : world.Event) (told : Option AskFault) (old new : WorldView) (a b : List code.Mark) → WorldStep old.overtake old.world e new.world
     → Tells told old.world e new.world → new.overtake ≡ old.overtake → AddsMarks a b (event_marks told e old new)
     → AppendsMarks a b (Steps in_marks line true (Happens e) old new)
-went line e told old new a b went tells same added =
-    (event_marks told e old new, (inl (record { told = told; went = went; tells = tells; overtake = same; is = refl }), added))
+passed line e told old new a b step tells same added =
+    (event_marks told e old new, (inl (record { told = told; went = step; tells = tells; overtake = same; is = refl }), added))
 
 pub news_are : (facts copies i k : ℕ) (w : world.World) (coming : Option Mark) (a b : List code.Mark) → i ≡ facts → k ≡ copies
     → AddsMarks a b (optional_marks coming ++ news_marks i k w) → AddsMarks a b (optional_marks coming ++ news_marks facts copies w)

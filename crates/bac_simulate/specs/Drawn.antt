@@ -18,7 +18,7 @@ use Rattle.bac_simulate.specs.Scripts.{Script, ScriptLine, most_limits, said_fro
 use Rattle.bac_simulate.specs.Traces.{change_marks, event_marks}
 use Rattle.bac_simulate.specs.Views.{line_view}
 use Rattle.bac_simulate.specs.declared.script.FirstLine.{FirstLine}
-use Rattle.bac_simulate.specs.declared.view.ReadScript.{ReadScript}
+use Rattle.bac_simulate.specs.declared.read_script.ReadScript.{ReadScript}
 use Rattle.bac_simulate.specs.declared.view.View.{View}
 use Rattle.bac_simulate.specs.declared.view.View.TheVariants as view
 

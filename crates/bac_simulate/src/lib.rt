@@ -3,6 +3,7 @@
 
 mod capture;
 mod marks;
+mod read_script;
 mod script;
 mod simulate;
 mod telling;

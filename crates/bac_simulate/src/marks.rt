@@ -133,7 +133,7 @@ fn performed_mark(
     ask: usize,
     noted: Option<&Note>,
 ) -> Result<Option<Mark>, AllocError>
-    ensures { IfOk result (λ o. option_map mark_view o ≡ performed_mark now ask (option_map (λ n. note_view n.now) noted)) }
+    ensures { IfOk result (λ o. option_map mark_view o ≡ performed_mark now ask (option_map (λ n. note_view n.now) noted.entry)) }
 {
     let Some(noted) = noted else {
         return Ok(None);
@@ -157,7 +157,7 @@ fn ended_mark(
     how: &Ending,
     noted: Option<&Note>,
 ) -> io::Result<Option<Mark>>
-    ensures { IfOk result (λ o. option_map mark_view o ≡ ended_mark now ask (ending_view how.now) (option_map (λ n. note_view n.now) noted)) }
+    ensures { IfOk result (λ o. option_map mark_view o ≡ ended_mark now ask (ending_view how.now) (option_map (λ n. note_view n.now) noted.entry)) }
 {
     let Some(noted) = noted else {
         return Ok(None);
@@ -194,7 +194,7 @@ pub(crate) fn fact_mark(
             return Ok(performed_mark(alloc, now, *number, asks.get(*number))?);
         }
         Fact::Ended { number, how } => {
-            return ended_mark(alloc, now, *number, how, asks.get(*number));
+            return Ok(ended_mark(alloc, now, *number, how, asks.get(*number))?);
         }
         Fact::Changed { node, .. } => plain_mark(alloc, now, *node, b"changed")?,
         Fact::Restarted { node, .. } => plain_mark(alloc, now, *node, b"restarted")?,

@@ -1,5 +1,5 @@
 //! What a script's run is shown as.
-ghost use Rattle.std.specs.Prelude.{◌≡◌, ◌<◌, ◌+◌, ◌^◌, length, map, vec_len, IfOk, MatchResult, OnOk};
+ghost use Rattle.std.specs.Prelude.{◌≡◌, ◌<◌, ◌+◌, ◌^◌, length, map, IfOk, MatchResult, OnOk};
 ghost use Rattle.std.specs.Io.KnownBytes.{Appends};
 ghost use Rattle.bac_chart.specs.Views.{mark_view};
 ghost use Rattle.bac_script.specs.Views.{setting_view};
@@ -10,7 +10,8 @@ ghost use Rattle.bac_text.specs.Lines.{lines_of};
 ghost use Rattle.bac_text.specs.Texts.{AppendsText};
 
 use crate::capture::print_capture;
-use crate::script::{FirstLine, ScriptFault, ScriptLine, lines_in, read_first};
+use crate::read_script::ReadScript;
+use crate::script::{FirstLine, ScriptFault, lines_in, read_first};
 use crate::simulate::{ended, no_script, octets_of, unread};
 use crate::trace::trace_lines;
 use crate::world_of::world_of;
@@ -51,30 +52,22 @@ fn print_view<W: Write>(
     }
 }
 
-/// A script: its network, in which nothing has happened yet, how many lines stand before the events, and what these say.
-#[derive(Drop)]
-struct ReadScript {
-    nodes: u8,
-    world: World,
-    before: u64,
-    lines: Vec<ScriptLine>,
-    ghost few: { before + vec_len lines < 2 ^ 64 },
-}
-
 /// What the lines behind the first one say, in the network that this sets.
 fn read_rest(alloc: Global, notes: bool, first: FirstLine<'_>) -> Result<ReadScript, ScriptFault>
     requires modest { IsModest (setting_view first.setting) }
     requires few { first.number + length first.rest.now < 2 ^ 64 }
-    ensures { MatchResult result (IsRead (rest_of notes first)) (λ f. IsNotRead f (rest_of notes first)) }
+    ensures { MatchResult result (IsRead (rest_of notes first.entry)) (λ f. IsNotRead f (rest_of notes first.entry)) }
 {
     let world = world_of(alloc, &first.setting)?;
-    let lines = lines_in(alloc, &world, notes, first.number, first.rest)?;
-    Ok(ReadScript {
-        nodes: first.setting.nodes,
-        world,
-        before: first.number,
-        lines,
-    })
+    match lines_in(alloc, &world, notes, first.number, first.rest) {
+        Ok(lines) => Ok(ReadScript {
+            nodes: first.setting.nodes,
+            world,
+            before: first.number,
+            lines,
+        }),
+        Err(fault) => Err(fault),
+    }
 }
 
 /// The script that these octets are.
