@@ -1,5 +1,6 @@
 -- What is drawn of what comes of a script's lines.
 use Rattle.std.specs.Prelude.{◌≡◌, ℕ, codes, decimal, ◌+◌, Bool, true, false, List, [], ◌∷◌, ◌++◌, length, map, drop, reverse, Option, Some, None, slice_get}
+use Rattle.std.specs.Option.{option_map}
 use Rattle.bac_chart.specs.Labels.{datagram_words}
 use Rattle.bac_chart.specs.Marks as marks
 use Rattle.bac_chart.specs.Marks.{Mark}
@@ -59,15 +60,18 @@ performed_mark now ask (Some note) = Some (marks.Note now note.key.server (codes
 abbrev pub ended_words : (ask : ℕ) → Ending → List ℕ
 ended_words ask how = (codes "ended " ++ (decimal ask ++ codes " ")) ++ ending_text how
 
-abbrev pub ended_mark : (now ask : ℕ) → Ending → Option Note → Option Mark
+abbrev pub client_in : List Note → (ask : ℕ) → Option ℕ
+client_in notes ask = option_map (λ (n : Note). n.key.client) (slice_get notes ask)
+
+abbrev pub ended_mark : (now ask : ℕ) → Ending → (client : Option ℕ) → Option Mark
 ended_mark now ask how None = None
-ended_mark now ask how (Some note) = Some (marks.Note now note.key.client (ended_words ask how))
+ended_mark now ask how (Some client) = Some (marks.Note now client (ended_words ask how))
 
 -- a fact, where these notes are of the accepted asks, oldest first
 abbrev pub fact_mark : (now : ℕ) → List Note → Fact → Option Mark
 fact_mark now notes (Asked ask client server request) = Some (marks.Note now client (codes "asked " ++ decimal ask))
 fact_mark now notes (Performed ask request reply) = performed_mark now ask (slice_get notes ask)
-fact_mark now notes (Ended ask how) = ended_mark now ask how (slice_get notes ask)
+fact_mark now notes (Ended ask how) = ended_mark now ask how (client_in notes ask)
 fact_mark now notes (Changed node change) = Some (marks.Note now node (codes "changed"))
 fact_mark now notes (Restarted node store) = Some (marks.Note now node (codes "restarted"))
 

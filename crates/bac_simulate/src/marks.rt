@@ -8,7 +8,7 @@ ghost use Rattle.bac_journal.specs.Views.{copy_view, key_view};
 ghost use Rattle.bac_network.specs.Views.{event_view, fact_view};
 ghost use Rattle.bac_protocol.specs.World.{same_key};
 ghost use Rattle.bac_protocol.specs.declared.times.TheConstants.{LIFE};
-ghost use Rattle.bac_simulate.specs.Traces.{arrow_of, coming_in, coming_mark, delivered_mark, ended_mark, ended_words, fact_mark, optional_marks, performed_mark, place_of, refused_mark, AddsMarks};
+ghost use Rattle.bac_simulate.specs.Traces.{arrow_of, client_in, coming_in, coming_mark, delivered_mark, ended_mark, ended_words, fact_mark, optional_marks, performed_mark, place_of, refused_mark, AddsMarks};
 ghost use Rattle.bac_ticket.specs.Views.{ending_view};
 ghost use Rattle.bac_world.specs.World.{count_of};
 
@@ -150,20 +150,30 @@ fn ended_words(alloc: Global, ask: usize, how: &Ending) -> io::Result<Vec<u8>>
     Ok(words)
 }
 
+/// The node that asked, by what is noted of its ask.
+fn client_of(asks: &[Note], ask: usize) -> Option<usize>
+    ensures { result ≡ client_in (map note_view asks.now) ask }
+{
+    match asks.get(ask) {
+        Some(noted) => Some(noted.transaction.client),
+        None => None,
+    }
+}
+
 fn ended_mark(
     alloc: Global,
     now: u64,
+    asks: &[Note],
     ask: usize,
     how: &Ending,
-    noted: Option<&Note>,
 ) -> io::Result<Option<Mark>>
-    ensures { IfOk result (λ o. option_map mark_view o ≡ ended_mark now ask (ending_view how.now) (option_map (λ n. note_view n.now) noted.entry)) }
+    ensures { IfOk result (λ o. option_map mark_view o ≡ ended_mark now ask (ending_view how.now) (client_in (map note_view asks.now) ask)) }
 {
-    let Some(noted) = noted else {
+    let Some(client) = client_of(asks, ask) else {
         return Ok(None);
     };
     let words = ended_words(alloc, ask, how)?;
-    Ok(Some(note(now, noted.transaction.client, words)))
+    Ok(Some(note(now, client, words)))
 }
 
 fn asked_mark(alloc: Global, now: u64, ask: usize, client: usize) -> Result<Mark, AllocError>
@@ -194,7 +204,7 @@ pub(crate) fn fact_mark(
             return Ok(performed_mark(alloc, now, *number, asks.get(*number))?);
         }
         Fact::Ended { number, how } => {
-            return Ok(ended_mark(alloc, now, *number, how, asks.get(*number))?);
+            return Ok(ended_mark(alloc, now, asks, *number, how)?);
         }
         Fact::Changed { node, .. } => plain_mark(alloc, now, *node, b"changed")?,
         Fact::Restarted { node, .. } => plain_mark(alloc, now, *node, b"restarted")?,
