@@ -3,7 +3,9 @@ use Rattle.std.specs.Prelude.{◌≡◌, ℕ, Bool, List, Option, ⊤}
 use Rattle.bac_check.specs.Checked.{IsReportOf}
 use Rattle.bac_explain_text.specs.Explained as explained
 use Rattle.bac_text.specs.declared.status.Status.{Status}
+use Rattle.bac_simulate.specs.Drawn.{ShowsAs}
 use Rattle.bac_simulate.specs.Runs.{SimulatesAs}
+use Rattle.bac_simulate.specs.declared.view.View.{View}
 use Rattle.bac_commands.specs.Statuses.{ByStatus}
 
 -- a file that was opened at a path, by the octets that it gives where those are known
@@ -38,3 +40,8 @@ IsExplainedFile IsAt path also s old new = IsToldFile IsAt path s (λ content. e
 -- the events of the script in the file happened, all of them or up to the first that could not
 abbrev pub IsSimulatedFile : (IsAt : (path : List ℕ) → (content : Option (List ℕ)) → Type 0) → (notes : Bool) → (path : List ℕ) → Status → (old new : Option (List ℕ)) → Type 0
 IsSimulatedFile IsAt notes path s old new = IsToldFile IsAt path s (λ content. SimulatesAs notes content old new s)
+
+-- so they did, and that was shown
+abbrev pub IsShownFile : (IsAt : (path : List ℕ) → (content : Option (List ℕ)) → Type 0) → View → (notes : Bool) → (path : List ℕ) → Status
+    → (old new : Option (List ℕ)) → Type 0
+IsShownFile IsAt view notes path s old new = IsToldFile IsAt path s (λ content. ShowsAs view notes content old new s)

@@ -3,7 +3,7 @@ ghost use Rattle.bac_command_line.specs.Files.{OnFile};
 ghost use Rattle.bac_command_line.specs.Online.{OnClock, OnPort};
 ghost use Rattle.bac_command_line.specs.Tasks.{IsPerformed};
 
-use crate::files::{OpenFiles, check, explain, simulate};
+use crate::files::{OpenFiles, check, explain, show, simulate};
 use crate::grammar::matches;
 use crate::lines::{check_lines, decode};
 use crate::objects::{answer, serve};
@@ -37,6 +37,7 @@ fn perform<F: OpenFiles, M: Machine, O: Write, E: Write>(
         Task::CheckLines(path) => check_lines(alloc, files, path, out, err),
         Task::Explain { path, port } => explain(alloc, files, path, port, out, err),
         Task::Simulate { notes, path } => simulate(alloc, files, notes, path, out, err),
+        Task::Show { view, notes, path } => show(alloc, files, view, notes, path, out, err),
         Task::Serve { serving, objects } => {
             serve(alloc, files, machine, &serving, objects, out, err)
         }

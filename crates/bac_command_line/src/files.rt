@@ -1,11 +1,11 @@
 //! Files that a command line names: what `check`, `explain` and `simulate` do.
 ghost use Rattle.std.specs.Prelude.{◌≡◌, ℕ, List, IfOk, IfErr};
 ghost use Rattle.bac_text.specs.Statuses.{IsStop};
-ghost use Rattle.bac_command_line.specs.Files.{IsCheckedFile, IsExplainedFile, IsSimulatedFile, OnFile};
+ghost use Rattle.bac_command_line.specs.Files.{IsCheckedFile, IsExplainedFile, IsShownFile, IsSimulatedFile, OnFile};
 
 use bac_check::{Ports, check_capture_over};
 use bac_explain_text::explain_over;
-use bac_simulate::simulate_lines_over;
+use bac_simulate::{View, show_over, simulate_lines_over};
 use bac_text::{Status, complain, no_memory};
 use std::alloc::Global;
 use std::io;
@@ -94,6 +94,24 @@ pub(crate) fn simulate<F: OpenFiles, O: Write, E: Write>(
 {
     match opened(files, path, err) {
         Ok(mut file) => simulate_lines_over(alloc, notes, &mut file, out, err),
+        Err(status) => status,
+    }
+}
+
+/// Shows the run of the script in a file, with notes or without. A file that cannot be opened: `cannot read` on `err`.
+pub(crate) fn show<F: OpenFiles, O: Write, E: Write>(
+    alloc: Global,
+    files: &F,
+    view: View,
+    notes: bool,
+    path: &str,
+    out: &mut O,
+    err: &mut E,
+) -> Status
+    ensures { IsShownFile (OnFile F.is_file F.File.remaining) view notes path.now result (O.contents out.old) (O.contents out.new) }
+{
+    match opened(files, path, err) {
+        Ok(mut file) => show_over(alloc, view, notes, &mut file, out, err),
         Err(status) => status,
     }
 }

@@ -131,18 +131,35 @@ Each later line is an event; nodes and datagrams count from 0:
   tick N           node N looks at its timers
   advance MS       so many milliseconds pass";
 
+/// Scripts that may be run.
+const SIMULATE_EXAMPLES: &str = "\
+Example: bac simulate script.txt
+Example: bac simulate --chart script.txt
+Example: bac simulate --pcap script.txt > script.pcap";
+
 /// What `simulate` takes.
 fn simulate_command<'a>(alloc: Global) -> Result<Command<'a>, clap::Error> {
     let simulate = Command::new(alloc, "simulate")
         .about("Runs a script of events in a network of nodes, and prints what comes of each")
         .before_help(LINES_HELP)
-        .after_help("Example: bac simulate script.txt")
+        .after_help(SIMULATE_EXAMPLES)
         .arg(word(
             alloc,
             "FILE",
             "The script: what it sets, and then one event a line",
         ))?
-        .arg(notes(alloc))?;
+        .arg(notes(alloc))?
+        .arg(flag(
+            alloc,
+            "chart",
+            "Draws a sequence chart in place of that: a column for each node, 41 characters wide",
+        ))?
+        .arg(flag(
+            alloc,
+            "mermaid",
+            "Draws it as a `sequenceDiagram` of Mermaid",
+        )
+        .conflicts_with("chart")?)?;
     Ok(simulate)
 }
 

@@ -1,6 +1,7 @@
 //! What a command line asks for.
 use crate::asking::{Asking, asking_of};
 use crate::serving::{Serving, serving_of};
+use bac_simulate::View;
 use clap::ArgMatches;
 
 /// What a command line asks for.
@@ -32,6 +33,12 @@ pub(crate) enum Task<'m, 'a> {
         notes: bool,
         path: &'a str,
     },
+    /// The run of the script in this file, with notes or without, shown as that.
+    Show {
+        view: View,
+        notes: bool,
+        path: &'a str,
+    },
     /// A node that serves so, with the house or the objects in this file.
     Serve {
         serving: Serving,
@@ -44,6 +51,19 @@ pub(crate) enum Task<'m, 'a> {
     },
     /// Two nodes.
     Pair,
+}
+
+/// What the run of a script is to be shown as; None where each event is told.
+fn view_of(given: &ArgMatches<'_>) -> Option<View> {
+    if given.get_flag("chart") {
+        Some(View::Chart)
+    } else if given.get_flag("mermaid") {
+        Some(View::Mermaid)
+    } else if given.get_flag("pcap") {
+        Some(View::Capture)
+    } else {
+        None
+    }
 }
 
 /// None where there is no subcommand, or its word is missing; clap refuses such words itself. Also where an address is none of IPv4.
@@ -75,7 +95,10 @@ pub(crate) fn task_of<'m, 'a>(matches: &'m ArgMatches<'a>) -> Option<Task<'m, 'a
         ("simulate", given) => {
             let path = given.get_str("FILE")?;
             let notes = given.get_flag("notes");
-            Some(Task::Simulate { notes, path })
+            match view_of(given) {
+                Some(view) => Some(Task::Show { view, notes, path }),
+                None => Some(Task::Simulate { notes, path }),
+            }
         }
         ("serve", given) => {
             let serving = serving_of(given)?;

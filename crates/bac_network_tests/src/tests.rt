@@ -11,6 +11,7 @@ mod asks;
 mod bad_lines;
 mod chance;
 mod changes;
+mod charts;
 mod devices;
 mod endings;
 mod failing;

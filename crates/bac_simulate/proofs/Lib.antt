@@ -7,3 +7,5 @@ pub mod Reading
 pub mod Reported
 pub mod Settings
 pub mod Stepping
+pub mod Showing
+pub mod Tracing

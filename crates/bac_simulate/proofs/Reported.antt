@@ -15,13 +15,13 @@ use Rattle.bac_simulate.specs.declared.script.ScriptFault.{ScriptFault}
 use Rattle.bac_simulate.specs.declared.script.ScriptFault.TheVariants as fault
 use Rattle.bac_simulate.proofs.Limits.{events_of_houses}
 
-kept : (a b c : Option (List ℕ)) (text : List ℕ) → Appends a b text → Keeps b c → Appends a c text
+pub kept : (a b c : Option (List ℕ)) (text : List ℕ) → Appends a b text → Keeps b c → Appends a c text
 kept None b c text p q = tt
 kept (Some xs) None c text p q = absurd p
 kept (Some xs) (Some ys) None text p q = absurd q
 kept (Some xs) (Some ys) (Some zs) text p q = q ∙ p
 
-keeps_itself : (a : Option (List ℕ)) → Keeps a a
+pub keeps_itself : (a : Option (List ℕ)) → Keeps a a
 keeps_itself None = tt
 keeps_itself (Some xs) = refl
 

@@ -19,7 +19,7 @@ use Rattle.bac_network.specs.declared.fault.WorldFault.TheVariants as fault
 use Rattle.bac_commands.specs.Facts.{fault_line, refused_line}
 use Rattle.bac_text.specs.Texts.{AppendsText}
 use Rattle.bac_simulate.specs.Told.{lost_line, outcome_text}
-use Rattle.bac_simulate.specs.Runs.{IsStep, IsRun, Passed, change_fault_in}
+use Rattle.bac_simulate.specs.Runs.{IsStep, IsRun, Passed, Runs, Steps, Telling, change_fault_in, in_text}
 use Rattle.bac_simulate.proofs.Appending.{drop_seen, joined, nothing_more}
 
 -- ---- one event
@@ -44,6 +44,22 @@ happened line e told old new facts copies a b fs cs went tells same printed = (
 abbrev pub the_err : WorldFault → Result (Option AskFault) WorldFault
 the_err f = Err f
 
+pub fails : {A : Type 0} (t : Telling A) (line : ℕ) (e : world.Event) (f : WorldFault) (old new : WorldView) → change_fault_in f ≡ None
+    → (IsErrOf (the_err f) fault.NoSuchNode ↔ NamesNoNode old.world e)
+    → (IsErrOf (the_err f) fault.NoSuchDatagram ↔ NamesNoCopy old.world e)
+    → (IsErrOf (the_err f) fault.ClockEnd ↔ PassesClock old.world e)
+    → ((why : ChangeFault) → (IsErrOf (the_err f) (fault.BadChange why) ↔ RefusesChange old.world e why))
+    → (IsErrOf (the_err f) fault.NoMemory → TakesMemory old.overtake old.world e)
+    → new ≡ old → Steps t line false (Happens e) old new (t.ended line (fault_number f))
+fails t line e f old new ends node copy clock change memory same =
+    record {
+      fault = f;
+      ends = ends;
+      why = fault_is f old.overtake old.world e (the_err f) refl node copy clock change memory;
+      same = same;
+      is = refl;
+    }
+
 pub stopped : (line : ℕ) (e : world.Event) (f : WorldFault) (old new : WorldView) (number : ℕ) (a b : Option (List ℕ)) → change_fault_in f ≡ None
     → (IsErrOf (the_err f) fault.NoSuchNode ↔ NamesNoNode old.world e)
     → (IsErrOf (the_err f) fault.NoSuchDatagram ↔ NamesNoCopy old.world e)
@@ -52,17 +68,8 @@ pub stopped : (line : ℕ) (e : world.Event) (f : WorldFault) (old new : WorldVi
     → (IsErrOf (the_err f) fault.NoMemory → TakesMemory old.overtake old.world e)
     → new ≡ old → number ≡ fault_number f → Appends a b (fault_line line number) → AppendsText a b (IsStep line false (Happens e) old new)
 stopped line e f old new number a b ends node copy clock change memory same is printed = (
-  fault_line line number,
-  (
-    record {
-      fault = f;
-      ends = ends;
-      why = fault_is f old.overtake old.world e (the_err f) refl node copy clock change memory;
-      same = same;
-      is = ap (λ (n : ℕ). fault_line line n) is;
-    },
-    printed,
-  ),
+  fault_line line (fault_number f),
+  (fails in_text line e f old new ends node copy clock change memory same, subst (λ (n : ℕ). Appends a b (fault_line line n)) is printed),
 )
 
 bad_change : (f : WorldFault) (why : ChangeFault) → change_fault_in f ≡ Some why → the_err f ≡ the_err (fault.BadChange why)
@@ -72,13 +79,18 @@ bad_change fault.ClockEnd why e = absurd cc
 bad_change (fault.BadChange other) why e = ap (λ (w : ChangeFault). the_err (fault.BadChange w)) (let same : Some other ≡ Some why = e in cc)
 bad_change fault.NoMemory why e = absurd cc
 
+pub refuses : {A : Type 0} (t : Telling A) (line : ℕ) (e : world.Event) (f : WorldFault) (why : ChangeFault) (old new : WorldView)
+    → change_fault_in f ≡ Some why → ((w : ChangeFault) → (IsErrOf (the_err f) (fault.BadChange w) ↔ RefusesChange old.world e w))
+    → new ≡ old → Steps t line true (Happens e) old new (t.refused why e old)
+refuses t line e f why old new bad change same = inr (record { fault = why; why = (change why).0 (bad_change f why bad); same = same; is = refl })
+
 pub turned_down : (line : ℕ) (e : world.Event) (f : WorldFault) (why : ChangeFault) (old new : WorldView) (number : ℕ) (a b : Option (List ℕ))
     → change_fault_in f ≡ Some why
     → ((w : ChangeFault) → (IsErrOf (the_err f) (fault.BadChange w) ↔ RefusesChange old.world e w))
     → new ≡ old → number ≡ change_fault_number why → Appends a b (refused_line number) → AppendsText a b (IsStep line true (Happens e) old new)
 turned_down line e f why old new number a b bad change same is printed = (
-  refused_line number,
-  (inr (record { fault = why; why = (change why).0 (bad_change f why bad); same = same; is = ap refused_line is }), printed),
+  refused_line (change_fault_number why),
+  (refuses in_text line e f why old new bad change same, subst (λ (n : ℕ). Appends a b (refused_line n)) is printed),
 )
 
 -- ---- a copy that counts as lost
@@ -97,18 +109,18 @@ noted line w a = ([], ((refl, refl), nothing_more a))
 
 -- ---- one line more
 
-more_true : (line : ℕ) (e : ScriptLine) (lines : List ScriptLine) (old mid new : WorldView) (first rest : List ℕ) → Passed e old mid first
-    → IsRun (line + 1) lines true mid new rest → IsRun line (e ∷ lines) true old new (first ++ rest)
-more_true line e lines old mid new first rest h r = (mid, first, rest, h, r, refl)
+more_true : {A : Type 0} (t : Telling A) (line : ℕ) (e : ScriptLine) (lines : List ScriptLine) (old mid new : WorldView) (first rest : List A)
+    → Passed t e old mid first → Runs t (line + 1) lines true mid new rest → Runs t line (e ∷ lines) true old new (first ++ rest)
+more_true t line e lines old mid new first rest h r = (mid, first, rest, h, r, refl)
 
-more_false : (line : ℕ) (e : ScriptLine) (lines : List ScriptLine) (old mid new : WorldView) (first rest : List ℕ) → Passed e old mid first
-    → IsRun (line + 1) lines false mid new rest → IsRun line (e ∷ lines) false old new (first ++ rest)
-more_false line e lines old mid new first rest h r = inr (mid, first, rest, h, r, refl)
+more_false : {A : Type 0} (t : Telling A) (line : ℕ) (e : ScriptLine) (lines : List ScriptLine) (old mid new : WorldView) (first rest : List A)
+    → Passed t e old mid first → Runs t (line + 1) lines false mid new rest → Runs t line (e ∷ lines) false old new (first ++ rest)
+more_false t line e lines old mid new first rest h r = inr (mid, first, rest, h, r, refl)
 
-more : (all : Bool) (line : ℕ) (e : ScriptLine) (lines : List ScriptLine) (old mid new : WorldView) (first rest : List ℕ) → Passed e old mid first
-    → IsRun (line + 1) lines all mid new rest → IsRun line (e ∷ lines) all old new (first ++ rest)
-more true line e lines old mid new first rest h r = more_true line e lines old mid new first rest h r
-more false line e lines old mid new first rest h r = more_false line e lines old mid new first rest h r
+pub more : {A : Type 0} (t : Telling A) (all : Bool) (line : ℕ) (e : ScriptLine) (lines : List ScriptLine) (old mid new : WorldView) (first rest : List A)
+    → Passed t e old mid first → Runs t (line + 1) lines all mid new rest → Runs t line (e ∷ lines) all old new (first ++ rest)
+more t true line e lines old mid new first rest h r = more_true t line e lines old mid new first rest h r
+more t false line e lines old mid new first rest h r = more_false t line e lines old mid new first rest h r
 
 pub goes_on : (all : Bool) (line : ℕ) (lines : List code.ScriptLine) (i : ℕ) (e : code.ScriptLine) → slice_get lines i ≡ Some e
     → (old mid new : WorldView) (a b c : Option (List ℕ)) → (went : Bool) → went ≡ true → AppendsText a b (IsStep line went (line_view e) old mid)
@@ -120,7 +132,7 @@ goes_on all line lines i e at old mid new a b c went is stepped next on ran =
       step.0 ++ rest.0,
       (
         subst (λ (l : List ScriptLine). IsRun line l all old new (step.0 ++ rest.0)) (sym (drop_seen line_view lines i e at))
-            (more all line (line_view e) (drop (i + 1) (map line_view lines)) old mid new step.0 rest.0 step.1.0 rest.1.0),
+            (more in_text all line (line_view e) (drop (i + 1) (map line_view lines)) old mid new step.0 rest.0 step.1.0 rest.1.0),
         joined a b c step.0 rest.0 step.1.1 rest.1.1,
       ),
     )

@@ -24,32 +24,40 @@ use Rattle.bac_simulate.specs.declared.script.ScriptFault.TheVariants as fault
 
 -- ---- events
 
+-- what is told of what comes of a line: of an event that happens, of a change that its node's store refuses, of a copy that counts as lost, and of a fault that
+-- ends the script at a line
+pub record Telling (A : Type 0) : Type 0 where
+  pub went : Option AskFault → Event → (old new : WorldView) → List A
+  pub refused : ChangeFault → Event → (old : WorldView) → List A
+  pub lost : (copy : ℕ) → List A
+  pub ended : (line fault : ℕ) → List A
+
 -- an event happened, and this is told of it
-pub record Happened (event : Event) (old new : WorldView) (text : List ℕ) : Type 0 where
+pub record Happened {A : Type 0} (t : Telling A) (event : Event) (old new : WorldView) (said : List A) : Type 0 where
   pub told : Option AskFault
   pub went : WorldStep old.overtake old.world event new.world
   pub tells : Tells told old.world event new.world
   pub overtake : new.overtake ≡ old.overtake
-  pub is : text ≡ outcome_text told (length old.world.log) (length old.world.copies) new.world
+  pub is : said ≡ t.went told event old new
 
--- the event was a change with that fault, by whose number it is told; nothing changed
-pub record TurnedDown (event : Event) (old new : WorldView) (text : List ℕ) : Type 0 where
+-- the event was a change with that fault, which is told; nothing changed
+pub record TurnedDown {A : Type 0} (t : Telling A) (event : Event) (old new : WorldView) (said : List A) : Type 0 where
   pub fault : ChangeFault
   pub why : RefusesChange old.world event fault
   pub same : new ≡ old
-  pub is : text ≡ refused_line (change_fault_number fault)
+  pub is : said ≡ t.refused fault event old
 
 -- a copy that was sent counts as lost: that is told, and nothing changed
-pub record CountedLost (copy : ℕ) (old new : WorldView) (text : List ℕ) : Type 0 where
+pub record CountedLost {A : Type 0} (t : Telling A) (copy : ℕ) (old new : WorldView) (said : List A) : Type 0 where
   pub sent : copy < length old.world.copies
   pub same : new ≡ old
-  pub is : text ≡ lost_line copy
+  pub is : said ≡ t.lost copy
 
 -- the script goes on after the line
-abbrev pub Passed : ScriptLine → (old new : WorldView) → (text : List ℕ) → Type 0
-Passed (Happens event) old new text = Happened event old new text ⊎ TurnedDown event old new text
-Passed (Lost copy) old new text = CountedLost copy old new text
-Passed Note old new text = (new ≡ old) × (text ≡ [])
+abbrev pub Passed : {A : Type 0} → Telling A → ScriptLine → (old new : WorldView) → List A → Type 0
+Passed t (Happens event) old new said = Happened t event old new said ⊎ TurnedDown t event old new said
+Passed t (Lost copy) old new said = CountedLost t copy old new said
+Passed t Note old new said = (new ≡ old) × (said ≡ [])
 
 -- the fault of a change; any other ends a script
 abbrev pub change_fault_in : WorldFault → Option ChangeFault
@@ -60,38 +68,55 @@ change_fault_in (world_fault.BadChange why) = Some why
 change_fault_in world_fault.NoMemory = None
 
 -- the event of that line did not happen, nothing changed, and the number of the fault is told
-pub record Failed (line : ℕ) (event : Event) (old new : WorldView) (text : List ℕ) : Type 0 where
+pub record Failed {A : Type 0} (t : Telling A) (line : ℕ) (event : Event) (old new : WorldView) (said : List A) : Type 0 where
   pub fault : WorldFault
   pub ends : change_fault_in fault ≡ None
   pub why : IsFault fault old.overtake old.world event
   pub same : new ≡ old
-  pub is : text ≡ fault_line line (fault_number fault)
+  pub is : said ≡ t.ended line (fault_number fault)
 
 -- there is no such copy that could count as lost
-pub record NotSent (line copy : ℕ) (old new : WorldView) (text : List ℕ) : Type 0 where
+pub record NotSent {A : Type 0} (t : Telling A) (line copy : ℕ) (old new : WorldView) (said : List A) : Type 0 where
   pub none : length old.world.copies ≤ copy
   pub same : new ≡ old
-  pub is : text ≡ fault_line line (fault_number world_fault.NoSuchDatagram)
+  pub is : said ≡ t.ended line (fault_number world_fault.NoSuchDatagram)
 
 -- the script ends at that line
-abbrev pub Stopped : (line : ℕ) → ScriptLine → (old new : WorldView) → (text : List ℕ) → Type 0
-Stopped line (Happens event) old new text = Failed line event old new text
-Stopped line (Lost copy) old new text = NotSent line copy old new text
-Stopped line Note old new text = ⊥
+abbrev pub Stopped : {A : Type 0} → Telling A → (line : ℕ) → ScriptLine → (old new : WorldView) → List A → Type 0
+Stopped t line (Happens event) old new said = Failed t line event old new said
+Stopped t line (Lost copy) old new said = NotSent t line copy old new said
+Stopped t line Note old new said = ⊥
 
-abbrev pub IsStep : (line : ℕ) → (passed : Bool) → ScriptLine → (old new : WorldView) → (text : List ℕ) → Type 0
-IsStep line true said old new text = Passed said old new text
-IsStep line false said old new text = Stopped line said old new text
+abbrev pub Steps : {A : Type 0} → Telling A → (line : ℕ) → (passed : Bool) → ScriptLine → (old new : WorldView) → List A → Type 0
+Steps t line true said old new told = Passed t said old new told
+Steps t line false said old new told = Stopped t line said old new told
 
 -- what lines say, of which the first has that number, came one after the other, all of it or up to the first that could not; and that was told
+abbrev pub Runs : {A : Type 0} → Telling A → (line : ℕ) → List ScriptLine → (all : Bool) → (old new : WorldView) → List A → Type 0
+Runs t line [] true old new told = (new ≡ old) × (told ≡ [])
+Runs t line [] false old new told = ⊥
+Runs {A} t line (said ∷ lines) true old new told = (mid : WorldView) × (first : List A) × (rest : List A) × Passed t said old mid first
+    × Runs t (line + 1) lines true mid new rest × (told ≡ first ++ rest)
+Runs {A} t line (said ∷ lines) false old new told = Stopped t line said old new told
+    ⊎ ((mid : WorldView) × (first : List A) × (rest : List A) × Passed t said old mid first
+    × Runs t (line + 1) lines false mid new rest × (told ≡ first ++ rest))
+
+-- ---- in lines of text
+
+abbrev pub in_text : Telling ℕ
+in_text =
+    record {
+      went = λ told event old new. outcome_text told (length old.world.log) (length old.world.copies) new.world;
+      refused = λ why event old. refused_line (change_fault_number why);
+      lost = lost_line;
+      ended = fault_line;
+    }
+
+abbrev pub IsStep : (line : ℕ) → (passed : Bool) → ScriptLine → (old new : WorldView) → (text : List ℕ) → Type 0
+IsStep line passed said old new text = Steps in_text line passed said old new text
+
 abbrev pub IsRun : (line : ℕ) → List ScriptLine → (all : Bool) → (old new : WorldView) → (text : List ℕ) → Type 0
-IsRun line [] true old new text = (new ≡ old) × (text ≡ [])
-IsRun line [] false old new text = ⊥
-IsRun line (said ∷ lines) true old new text = (mid : WorldView) × (first : List ℕ) × (rest : List ℕ) × Passed said old mid first
-    × IsRun (line + 1) lines true mid new rest × (text ≡ first ++ rest)
-IsRun line (said ∷ lines) false old new text = Stopped line said old new text
-    ⊎ ((mid : WorldView) × (first : List ℕ) × (rest : List ℕ) × Passed said old mid first
-    × IsRun (line + 1) lines false mid new rest × (text ≡ first ++ rest))
+IsRun line lines all old new text = Runs in_text line lines all old new text
 
 -- ---- scripts
 

@@ -1,9 +1,15 @@
 //! `bac simulate`: a script of events in a network of nodes, and what comes of each; also in a network of the caller's.
 #![tactic(auto)]
 
+mod capture;
+mod marks;
+mod read_script;
 mod script;
 mod simulate;
 mod telling;
+mod trace;
+mod view;
 mod world_of;
 
 pub use simulate::{simulate_in, simulate_lines_over, simulate_over};
+pub use view::{View, show_over};

@@ -22,7 +22,7 @@ use std::io;
 use std::io::{ErrorKind, Read, Write};
 
 /// The fault of a change; any other ends a script.
-fn change_fault_in(fault: WorldFault) -> Option<ChangeFault>
+pub(crate) fn change_fault_in(fault: WorldFault) -> Option<ChangeFault>
     ensures { result ≡ change_fault_in fault }
 {
     match fault {
@@ -125,7 +125,7 @@ fn status_of(all: bool) -> Status
 }
 
 /// How a run ended whose output was flushed then.
-fn ended<E: Write>(ran: io::Result<bool>, flushed: io::Result<()>, err: &mut E) -> Status
+pub(crate) fn ended<E: Write>(ran: io::Result<bool>, flushed: io::Result<()>, err: &mut E) -> Status
     ensures { IsEnd ran flushed result }
 {
     match ran {
@@ -155,7 +155,7 @@ fn run_said<O: Write, E: Write>(
 }
 
 /// Complains of octets that are no script.
-fn no_script<E: Write>(fault: ScriptFault, err: &mut E) -> Status
+pub(crate) fn no_script<E: Write>(fault: ScriptFault, err: &mut E) -> Status
     ensures { result ≡ status_for fault }
 {
     match fault {
@@ -250,7 +250,7 @@ fn simulate<O: Write, E: Write>(
 }
 
 /// All octets of an input.
-fn octets_of<R: Read>(alloc: Global, input: &mut R) -> io::Result<Vec<u8>>
+pub(crate) fn octets_of<R: Read>(alloc: Global, input: &mut R) -> io::Result<Vec<u8>>
     ensures { IfOk result (λ text. IfSome (R.remaining input.old) (λ octets. text.items ≡ octets)) }
 {
     let mut text = Vec::new(alloc);
@@ -259,7 +259,7 @@ fn octets_of<R: Read>(alloc: Global, input: &mut R) -> io::Result<Vec<u8>>
 }
 
 /// Complains of an input that could not be read.
-fn unread<E: Write>(error: &io::Error, err: &mut E) -> Status
+pub(crate) fn unread<E: Write>(error: &io::Error, err: &mut E) -> Status
     ensures { IsUnread result }
 {
     match error.kind() {

@@ -1,0 +1,13 @@
+//! Sequence charts: what nodes send each other and what comes of it, as text for a terminal and as a diagram of Mermaid.
+#![tactic(auto)]
+
+mod drawing;
+mod head;
+mod label;
+mod line;
+mod mark;
+mod row;
+
+pub use drawing::{Form, print_drawing};
+pub use label::datagram_words;
+pub use mark::{Arrow, Mark};

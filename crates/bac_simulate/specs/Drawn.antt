@@ -1,0 +1,76 @@
+-- What a script's run is shown as.
+use Rattle.std.specs.Prelude.{◌≡◌, ℕ, ◌+◌, Bool, true, false, List, [], map, ⊤, ◌⊎◌, Option, Some, None, Result, Ok, Err}
+use Rattle.std.specs.Io.KnownBytes.{Keeps}
+use Rattle.bac_chart.specs.Drawings.{drawing_text}
+use Rattle.bac_chart.specs.Marks.{Mark}
+use Rattle.bac_chart.specs.declared.drawing.Form.TheVariants as form
+use Rattle.bac_network.specs.Histories.{WorldView}
+use Rattle.bac_script.specs.Views.{setting_view}
+use Rattle.bac_text.specs.Lines.{lines_of}
+use Rattle.bac_text.specs.Texts.{AppendsText}
+use Rattle.bac_text.specs.declared.status.Status.{Status}
+use Rattle.bac_text.specs.declared.status.Status.TheVariants as status
+use Rattle.bac_world.specs.World.{World}
+use Rattle.bac_simulate.specs.Captures.{capture_of}
+use Rattle.bac_simulate.specs.Houses.{world_set}
+use Rattle.bac_simulate.specs.Runs.{IsUnread, Runs, Telling}
+use Rattle.bac_simulate.specs.Scripts.{Script, ScriptLine, most_limits, said_from, script_of, with_setting}
+use Rattle.bac_simulate.specs.Traces.{change_marks, event_marks}
+use Rattle.bac_simulate.specs.Views.{line_view}
+use Rattle.bac_simulate.specs.declared.script.FirstLine.{FirstLine}
+use Rattle.bac_simulate.specs.declared.read_script.ReadScript.{ReadScript}
+use Rattle.bac_simulate.specs.declared.view.View.{View}
+use Rattle.bac_simulate.specs.declared.view.View.TheVariants as view
+
+-- a lost copy and a fault are drawn as nothing
+abbrev pub in_marks : Telling Mark
+in_marks = record { went = event_marks; refused = change_marks; lost = λ copy. []; ended = λ line fault. [] }
+
+-- a drawing of what came of the lines in a network of so many nodes, or the copies that there are in the end
+abbrev pub shown_text : View → (nodes : ℕ) → List Mark → (last : World) → List ℕ
+shown_text view.Chart nodes marks last = drawing_text form.Chart nodes marks
+shown_text view.Mermaid nodes marks last = drawing_text form.Mermaid nodes marks
+shown_text view.Capture nodes marks last = capture_of last.copies
+
+-- what lines say came in a network of so many nodes, all of it or up to the first that could not, and that is shown
+pub record IsShown (v : View) (nodes first : ℕ) (lines : List ScriptLine) (all : Bool) (world : WorldView) (text : List ℕ) : Type 0 where
+  pub last : WorldView
+  pub marks : List Mark
+  pub ran : Runs in_marks first lines all world last marks
+  pub is : text ≡ shown_text v nodes marks last.world
+
+abbrev pub ShowsScript : View → Script → (all : Bool) → (text : List ℕ) → Type 0
+ShowsScript v s all text = IsShown v s.setting.nodes s.first s.lines all (world_set s.setting) text
+
+-- what was printed of the script of some octets, by the status: a script with a bad line prints nothing
+abbrev pub Shows : View → Result Script ℕ → (old new : Option (List ℕ)) → Status → Type 0
+Shows v (Ok s) old new status.Done = AppendsText old new (ShowsScript v s true)
+Shows v (Ok s) old new status.Faulty = AppendsText old new (ShowsScript v s false)
+Shows v (Ok s) old new status.CommandLine = ⊥
+Shows v (Ok s) old new status.Output = ⊤
+Shows v (Ok s) old new status.Memory = ⊤
+Shows v (Err bad) old new status.Done = ⊥
+Shows v (Err bad) old new status.Faulty = ⊥
+Shows v (Err bad) old new status.CommandLine = Keeps old new
+Shows v (Err bad) old new status.Output = ⊥
+Shows v (Err bad) old new status.Memory = Keeps old new
+
+-- where the octets of the input are known: what its script shows, or that it could not be read, and nothing was printed
+abbrev pub ShowsAs : View → (notes : Bool) → (input : Option (List ℕ)) → (old new : Option (List ℕ)) → Status → Type 0
+ShowsAs v notes None old new end = ⊤
+ShowsAs v notes (Some text) old new end = Shows v (script_of notes (lines_of text)) old new end ⊎ (Keeps old new × IsUnread end)
+
+-- ---- what is read of a script
+
+-- behind its first line
+abbrev pub rest_of : (notes : Bool) → FirstLine → Result Script ℕ
+rest_of notes f =
+    with_setting f.number (Some (setting_view f.setting)) (said_from notes (λ node. most_limits) (f.number + 1) (lines_of f.rest.now))
+
+pub record IsRead (wanted : Result Script ℕ) (r : ReadScript) : Type 0 where
+  pub script : Script
+  pub is : wanted ≡ Ok script
+  pub nodes : r.nodes ≡ script.setting.nodes
+  pub world : r.world ≡ world_set script.setting
+  pub first : r.before + 1 ≡ script.first
+  pub lines : map line_view r.lines.items ≡ script.lines

@@ -1,0 +1,123 @@
+-- What is drawn of what comes of a script's lines.
+use Rattle.std.specs.Prelude.{◌≡◌, ℕ, codes, decimal, ◌+◌, Bool, true, false, List, [], ◌∷◌, ◌++◌, length, map, drop, reverse, Option, Some, None, slice_get}
+use Rattle.std.specs.Option.{option_map}
+use Rattle.bac_chart.specs.Labels.{datagram_words}
+use Rattle.bac_chart.specs.Marks as marks
+use Rattle.bac_chart.specs.Marks.{Mark}
+use Rattle.bac_chart.specs.Views.{mark_view}
+use Rattle.bac_chart.specs.declared.mark.Mark as code
+use Rattle.bac_commands.specs.Facts.{ending_text}
+use Rattle.bac_ends.specs.Meanings.{Ending}
+use Rattle.bac_network.specs.Histories.{WorldView}
+use Rattle.bac_requester.specs.Faults.{ask_fault_number}
+use Rattle.bac_requester.specs.declared.ask_fault.AskFault.{AskFault}
+use Rattle.bac_store.specs.AtNode.{change_fault_number}
+use Rattle.bac_store.specs.declared.change_fault.ChangeFault.{ChangeFault}
+use Rattle.bac_world.specs.Once.{Fact}
+use Rattle.bac_world.specs.Once.Fact.{Asked, Performed, Ended, Changed, Restarted}
+use Rattle.bac_world.specs.World.{World, Copy, Event, Note, is_deliverable}
+use Rattle.bac_world.specs.World.Event.{Ask, Deliver, Noise, Tick, Advance, Change, Restart}
+
+-- ---- copies
+
+abbrev pub arrow_of : (number : ℕ) → Copy → marks.Arrow
+arrow_of number c = record { number = number; sent = c.moment; from = c.from; to = c.to; words = datagram_words c.octets }
+
+-- copies that were sent, numbered from this number on
+abbrev pub sent_marks : (number : ℕ) → List Copy → List Mark
+sent_marks number [] = []
+sent_marks number (c ∷ copies) = marks.Sent (arrow_of number c) ∷ sent_marks (number + 1) copies
+
+abbrev pub late_words : (number : ℕ) → List ℕ
+late_words number = decimal number ++ codes " comes too late"
+
+-- a copy comes to its node, or is too late for that
+abbrev pub coming_mark : (is_deliverable : Bool) → (now number : ℕ) → Copy → Mark
+coming_mark true now number c = marks.Came now (arrow_of number c)
+coming_mark false now number c = marks.Note now c.to (late_words number)
+
+abbrev pub delivered_mark : (overtake : ℕ) → World → (number : ℕ) → Option Copy → Option Mark
+delivered_mark overtake w number None = None
+delivered_mark overtake w number (Some c) = Some (coming_mark (is_deliverable overtake w.now number w.copies c) w.now number c)
+
+-- what comes to a node in an event
+abbrev pub coming_in : (overtake : ℕ) → World → Event → Option Mark
+coming_in overtake w (Ask client server limits request) = None
+coming_in overtake w (Deliver number) = delivered_mark overtake w number (slice_get w.copies number)
+coming_in overtake w (Noise node from octets) = Some (marks.Note w.now node (codes "noise"))
+coming_in overtake w (Tick node) = None
+coming_in overtake w (Advance by) = None
+coming_in overtake w (Change node change) = None
+coming_in overtake w (Restart node store) = None
+
+-- ---- facts
+
+-- of an ask, by what is noted of it: at its server, and at its client
+abbrev pub performed_mark : (now ask : ℕ) → Option Note → Option Mark
+performed_mark now ask None = None
+performed_mark now ask (Some note) = Some (marks.Note now note.key.server (codes "performed " ++ decimal ask))
+
+abbrev pub ended_words : (ask : ℕ) → Ending → List ℕ
+ended_words ask how = (codes "ended " ++ (decimal ask ++ codes " ")) ++ ending_text how
+
+abbrev pub client_in : List Note → (ask : ℕ) → Option ℕ
+client_in notes ask = option_map (λ (n : Note). n.key.client) (slice_get notes ask)
+
+abbrev pub ended_mark : (now ask : ℕ) → Ending → (client : Option ℕ) → Option Mark
+ended_mark now ask how None = None
+ended_mark now ask how (Some client) = Some (marks.Note now client (ended_words ask how))
+
+-- a fact, where these notes are of the accepted asks, oldest first
+abbrev pub fact_mark : (now : ℕ) → List Note → Fact → Option Mark
+fact_mark now notes (Asked ask client server request) = Some (marks.Note now client (codes "asked " ++ decimal ask))
+fact_mark now notes (Performed ask request reply) = performed_mark now ask (slice_get notes ask)
+fact_mark now notes (Ended ask how) = ended_mark now ask how (client_in notes ask)
+fact_mark now notes (Changed node change) = Some (marks.Note now node (codes "changed"))
+fact_mark now notes (Restarted node store) = Some (marks.Note now node (codes "restarted"))
+
+abbrev pub optional_marks : Option Mark → List Mark
+optional_marks None = []
+optional_marks (Some m) = m ∷ []
+
+abbrev pub facts_marks : (now : ℕ) → List Note → List Fact → List Mark
+facts_marks now notes [] = []
+facts_marks now notes (f ∷ facts) = optional_marks (fact_mark now notes f) ++ facts_marks now notes facts
+
+-- ---- events
+
+-- the facts after so many, oldest first, and then the copies after so many
+abbrev pub news_marks : (facts copies : ℕ) → World → List Mark
+news_marks facts copies w =
+    facts_marks w.now (reverse w.notes) (drop facts (reverse w.log)) ++ sent_marks copies (drop copies w.copies)
+
+-- the node at which an event is refused
+abbrev pub place_of : Event → ℕ
+place_of (Ask client server limits request) = client
+place_of (Deliver number) = 0
+place_of (Noise node from octets) = node
+place_of (Tick node) = node
+place_of (Advance by) = 0
+place_of (Change node change) = node
+place_of (Restart node store) = node
+
+abbrev pub refused_mark : (now : ℕ) → Event → (fault : ℕ) → Mark
+refused_mark now event fault = marks.Note now (place_of event) (codes "refused " ++ decimal fault)
+
+-- what comes to a node, and what is new; or the number of a refused ask's fault
+abbrev pub event_marks : Option AskFault → Event → (old new : WorldView) → List Mark
+event_marks (Some fault) event old new = refused_mark old.world.now event (ask_fault_number fault) ∷ []
+event_marks None event old new =
+    optional_marks (coming_in old.overtake old.world event) ++ news_marks (length old.world.log) (length old.world.copies) new.world
+
+abbrev pub change_marks : ChangeFault → Event → WorldView → List Mark
+change_marks why event old = refused_mark old.world.now event (change_fault_number why) ∷ []
+
+-- ---- lists of marks
+
+-- one of these lists of marks was appended
+abbrev pub AppendsMarks : (old new : List code.Mark) → (AreMarks : List Mark → Type 0) → Type 0
+AppendsMarks old new AreMarks = (told : List Mark) × (AreMarks told × (map mark_view new ≡ map mark_view old ++ told))
+
+-- these marks were
+abbrev pub AddsMarks : (old new : List code.Mark) → List Mark → Type 0
+AddsMarks old new told = map mark_view new ≡ map mark_view old ++ told

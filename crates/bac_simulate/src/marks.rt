@@ -1,0 +1,254 @@
+//! What there is to draw of a world.
+ghost use Rattle.std.specs.Prelude.{◌≡◌, ◌-◌, ◌&&◌, ◌++◌, nat_le, codes, decimal, map, slice_get, IfOk, OnOk};
+ghost use Rattle.std.specs.Option.{option_map};
+ghost use Rattle.bac_chart.specs.Marks as plain;
+ghost use Rattle.bac_chart.specs.Views.{arrow_view, mark_view};
+ghost use Rattle.bac_journal.specs.Notes.{note_view};
+ghost use Rattle.bac_journal.specs.Views.{copy_view, key_view};
+ghost use Rattle.bac_network.specs.Views.{event_view, fact_view};
+ghost use Rattle.bac_protocol.specs.World.{same_key};
+ghost use Rattle.bac_protocol.specs.declared.times.TheConstants.{LIFE};
+ghost use Rattle.bac_simulate.specs.Traces.{arrow_of, client_in, coming_in, coming_mark, delivered_mark, ended_mark, ended_words, fact_mark, optional_marks, performed_mark, place_of, refused_mark, AddsMarks};
+ghost use Rattle.bac_ticket.specs.Views.{ending_view};
+ghost use Rattle.bac_world.specs.World.{count_of};
+
+use bac_chart::{Arrow, Mark, datagram_words};
+use bac_commands::print_ending;
+use bac_journal::{Copy, Note, Transaction};
+use bac_network::{Event, Fact, World};
+use bac_protocol::times::LIFE;
+use bac_ticket::Ending;
+use std::alloc::{AllocError, Global};
+use std::io;
+
+// Copies.
+
+fn is_of(copy: &Copy, transaction: &Transaction) -> bool
+    ensures { result ≡ same_key (copy_view copy.now).key (key_view transaction.now) }
+{
+    let own = &copy.transaction;
+    own.client == transaction.client
+        && own.server == transaction.server
+        && own.invoke_id == transaction.invoke_id
+}
+
+/// How many of these are the transaction's.
+fn count_of(transaction: &Transaction, copies: &[Copy]) -> usize
+    ensures is { result ≡ count_of (key_view transaction.now) (map copy_view copies.now) }
+{
+    let mut count = 0;
+    for copy in copies {
+        if is_of(copy, transaction) {
+            count += 1;
+        }
+    }
+    count
+}
+
+/// Whether a copy may come to its node: it was sent at most 5,000 ms ago, and not too many later ones are of its transaction.
+fn may_come(overtake: u8, now: u64, later: usize, copy: &Copy) -> bool
+    ensures { result ≡ (nat_le (now - copy.now.moment) LIFE && nat_le later overtake) }
+{
+    now.saturating_sub(copy.moment) <= LIFE && later <= usize::from(overtake)
+}
+
+pub(crate) fn arrow_of(alloc: Global, number: usize, copy: &Copy) -> Result<Arrow, AllocError>
+    ensures { IfOk result (λ a. arrow_view a ≡ arrow_of number (copy_view copy.now)) }
+{
+    Ok(Arrow {
+        number: number as u64,
+        sent: copy.moment,
+        from: copy.from as u64,
+        to: copy.to as u64,
+        words: datagram_words(alloc, &copy.octets)?,
+    })
+}
+
+/// That something happens at a node.
+fn note(moment: u64, node: usize, words: Vec<u8>) -> Mark
+    ensures { mark_view result ≡ plain.Note moment node words.items }
+{
+    Mark::Note {
+        moment,
+        node: node as u64,
+        words,
+    }
+}
+
+fn coming_mark(
+    alloc: Global,
+    is_deliverable: bool,
+    now: u64,
+    number: usize,
+    copy: &Copy,
+) -> Result<Mark, AllocError>
+    ensures { IfOk result (λ m. mark_view m ≡ coming_mark is_deliverable now number (copy_view copy.now)) }
+{
+    if is_deliverable {
+        let arrow = arrow_of(alloc, number, copy)?;
+        return Ok(Mark::Came { moment: now, arrow });
+    }
+    let words = format!(in alloc; "{number} comes too late")?;
+    Ok(note(now, copy.to, words.into_bytes()))
+}
+
+fn delivered_mark(alloc: Global, world: &World, number: usize) -> Result<Option<Mark>, AllocError>
+    ensures { IfOk result (λ o. option_map mark_view o
+        ≡ delivered_mark world.now.overtake world.now.world number (slice_get world.now.world.copies number)) }
+{
+    let copies = world.copies();
+    if number >= copies.len() {
+        return Ok(None);
+    }
+    let copy = &copies[number];
+    let later = count_of(&copy.transaction, &copies[number + 1..]);
+    let comes = may_come(world.overtake(), world.now(), later, copy);
+    let mark = coming_mark(alloc, comes, world.now(), number, copy)?;
+    Ok(Some(mark))
+}
+
+/// What comes to a node in an event that is about to happen.
+pub(crate) fn coming_in(
+    alloc: Global,
+    world: &World,
+    event: &Event,
+) -> Result<Option<Mark>, AllocError>
+    ensures { IfOk result (λ o. option_map mark_view o ≡ coming_in world.now.overtake world.now.world (event_view event.now)) }
+{
+    match event {
+        Event::Deliver { number } => delivered_mark(alloc, world, *number),
+        Event::Noise { node, .. } => {
+            let words = Vec::from_slice(alloc, b"noise")?;
+            Ok(Some(note(world.now(), *node, words)))
+        }
+        _ => Ok(None),
+    }
+}
+
+// Facts.
+
+fn performed_mark(
+    alloc: Global,
+    now: u64,
+    ask: usize,
+    noted: Option<&Note>,
+) -> Result<Option<Mark>, AllocError>
+    ensures { IfOk result (λ o. option_map mark_view o ≡ performed_mark now ask (option_map (λ n. note_view n.now) noted.entry)) }
+{
+    let Some(noted) = noted else {
+        return Ok(None);
+    };
+    let words = format!(in alloc; "performed {ask}")?;
+    Ok(Some(note(now, noted.transaction.server, words.into_bytes())))
+}
+
+fn ended_words(alloc: Global, ask: usize, how: &Ending) -> io::Result<Vec<u8>>
+    ensures { IfOk result (λ t. t.items ≡ ended_words ask (ending_view how.now)) }
+{
+    let mut words = format!(in alloc; "ended {ask} ")?.into_bytes();
+    print_ending(alloc, how, &mut words)?;
+    Ok(words)
+}
+
+/// The node that asked, by what is noted of its ask.
+fn client_of(asks: &[Note], ask: usize) -> Option<usize>
+    ensures { result ≡ client_in (map note_view asks.now) ask }
+{
+    match asks.get(ask) {
+        Some(noted) => Some(noted.transaction.client),
+        None => None,
+    }
+}
+
+fn ended_mark(
+    alloc: Global,
+    now: u64,
+    asks: &[Note],
+    ask: usize,
+    how: &Ending,
+) -> io::Result<Option<Mark>>
+    ensures { IfOk result (λ o. option_map mark_view o ≡ ended_mark now ask (ending_view how.now) (client_in (map note_view asks.now) ask)) }
+{
+    let Some(client) = client_of(asks, ask) else {
+        return Ok(None);
+    };
+    let words = ended_words(alloc, ask, how)?;
+    Ok(Some(note(now, client, words)))
+}
+
+fn asked_mark(alloc: Global, now: u64, ask: usize, client: usize) -> Result<Mark, AllocError>
+    ensures { IfOk result (λ m. mark_view m ≡ plain.Note now client (codes "asked " ++ decimal ask)) }
+{
+    let words = format!(in alloc; "asked {ask}")?;
+    Ok(note(now, client, words.into_bytes()))
+}
+
+fn plain_mark(alloc: Global, now: u64, node: usize, words: &[u8]) -> Result<Mark, AllocError>
+    ensures { IfOk result (λ m. mark_view m ≡ plain.Note now node words.now) }
+{
+    Ok(note(now, node, Vec::from_slice(alloc, words)?))
+}
+
+/// What there is to draw of a fact, where these notes are of the accepted asks.
+pub(crate) fn fact_mark(
+    alloc: Global,
+    now: u64,
+    asks: &[Note],
+    fact: &Fact,
+) -> io::Result<Option<Mark>>
+    ensures { IfOk result (λ o. option_map mark_view o ≡ fact_mark now (map note_view asks.now) (fact_view fact.now)) }
+{
+    let mark = match fact {
+        Fact::Asked { number, client, .. } => asked_mark(alloc, now, *number, *client)?,
+        Fact::Performed { number, .. } => {
+            return Ok(performed_mark(alloc, now, *number, asks.get(*number))?);
+        }
+        Fact::Ended { number, how } => {
+            return Ok(ended_mark(alloc, now, asks, *number, how)?);
+        }
+        Fact::Changed { node, .. } => plain_mark(alloc, now, *node, b"changed")?,
+        Fact::Restarted { node, .. } => plain_mark(alloc, now, *node, b"restarted")?,
+    };
+    Ok(Some(mark))
+}
+
+// Refused events.
+
+/// The node at which an event is refused.
+fn place_of(event: &Event) -> usize
+    ensures { result ≡ place_of (event_view event.now) }
+{
+    match event {
+        Event::Ask { client, .. } => *client,
+        Event::Noise { node, .. }
+        | Event::Tick { node }
+        | Event::Change { node, .. }
+        | Event::Restart { node, .. } => *node,
+        Event::Deliver { .. } | Event::Advance { .. } => 0,
+    }
+}
+
+pub(crate) fn refused_mark(
+    alloc: Global,
+    now: u64,
+    event: &Event,
+    fault: u8,
+) -> Result<Mark, AllocError>
+    ensures { IfOk result (λ m. mark_view m ≡ refused_mark now (event_view event.now) fault) }
+{
+    let words = format!(in alloc; "refused {fault}")?;
+    Ok(note(now, place_of(event), words.into_bytes()))
+}
+
+/// A mark more, where there is one.
+pub(crate) fn add(mark: Option<Mark>, marks: &mut Vec<Mark>) -> Result<(), AllocError>
+    ensures { OnOk result (AddsMarks marks.old.items marks.new.items (optional_marks (option_map mark_view mark))) }
+{
+    match mark {
+        Some(mark) => {
+            marks.push(mark)?;
+            Ok(())
+        }
+        None => Ok(()),
+    }
+}

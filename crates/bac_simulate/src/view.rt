@@ -1,0 +1,142 @@
+//! What a script's run is shown as.
+ghost use Rattle.std.specs.Prelude.{◌≡◌, ◌<◌, ◌+◌, ◌^◌, length, map, IfOk, MatchResult, OnOk};
+ghost use Rattle.std.specs.Io.KnownBytes.{Appends};
+ghost use Rattle.bac_chart.specs.Views.{mark_view};
+ghost use Rattle.bac_script.specs.Views.{setting_view};
+ghost use Rattle.bac_simulate.specs.Drawn.{rest_of, shown_text, IsRead, IsShown, Shows, ShowsAs};
+ghost use Rattle.bac_simulate.specs.Scripts.{IsModest, IsNotRead, script_of};
+ghost use Rattle.bac_simulate.specs.Views.{line_view};
+ghost use Rattle.bac_text.specs.Lines.{lines_of};
+ghost use Rattle.bac_text.specs.Texts.{AppendsText};
+
+use crate::capture::print_capture;
+use crate::read_script::ReadScript;
+use crate::script::{FirstLine, ScriptFault, lines_in, read_first};
+use crate::simulate::{ended, no_script, octets_of, unread};
+use crate::trace::trace_lines;
+use crate::world_of::world_of;
+use bac_chart::{Form, Mark, print_drawing};
+use bac_network::World;
+use bac_text::Status;
+use std::alloc::Global;
+use std::io;
+use std::io::{Read, Write};
+
+/// What a script's run is shown as.
+#[derive(Clone, Copy, Debug, PartialEq, Eq)]
+pub enum View {
+    /// A sequence chart in text, for a terminal.
+    Chart,
+    /// A `sequenceDiagram` of Mermaid.
+    Mermaid,
+    /// A file of pcap: each datagram at the moment of its sending.
+    Capture,
+}
+
+/// Prints what a run is shown as, by what came of its lines and the world in which it ended.
+fn print_view<W: Write>(
+    alloc: Global,
+    view: View,
+    nodes: u8,
+    marks: &[Mark],
+    world: &World,
+    out: &mut W,
+) -> io::Result<()>
+    ensures { OnOk result (Appends (W.contents out.old) (W.contents out.new) (shown_text view nodes (map mark_view marks.now) world.now.world)) }
+{
+    let nodes = u64::from(nodes);
+    match view {
+        View::Chart => print_drawing(alloc, Form::Chart, nodes, marks, out),
+        View::Mermaid => print_drawing(alloc, Form::Mermaid, nodes, marks, out),
+        View::Capture => print_capture(alloc, world.copies(), out),
+    }
+}
+
+/// What the lines behind the first one say, in the network that this sets.
+fn read_rest(alloc: Global, notes: bool, first: FirstLine<'_>) -> Result<ReadScript, ScriptFault>
+    requires modest { IsModest (setting_view first.setting) }
+    requires few { first.number + length first.rest.now < 2 ^ 64 }
+    ensures { MatchResult result (IsRead (rest_of notes first.entry)) (λ f. IsNotRead f (rest_of notes first.entry)) }
+{
+    let world = world_of(alloc, &first.setting)?;
+    match lines_in(alloc, &world, notes, first.number, first.rest) {
+        Ok(lines) => Ok(ReadScript {
+            nodes: first.setting.nodes,
+            world,
+            before: first.number,
+            lines,
+        }),
+        Err(fault) => Err(fault),
+    }
+}
+
+/// The script that these octets are.
+fn read_script(alloc: Global, notes: bool, text: &[u8]) -> Result<ReadScript, ScriptFault>
+    ensures { MatchResult result (IsRead (script_of notes (lines_of text.now))) (λ f. IsNotRead f (script_of notes (lines_of text.now))) }
+{
+    let first = read_first(alloc, notes, text)?;
+    read_rest(alloc, notes, first)
+}
+
+/// Runs a script, and then prints what its run is shown as. Answers whether all lines passed; `err` is told which did not.
+fn run_and_show<O: Write, E: Write>(
+    alloc: Global,
+    view: View,
+    script: ReadScript,
+    out: &mut O,
+    err: &mut E,
+) -> io::Result<bool>
+    ensures { IfOk result (λ all. AppendsText (O.contents out.old) (O.contents out.new)
+        (IsShown view script.nodes (script.before + 1) (map line_view script.lines.items) all script.world)) }
+{
+    let ReadScript {
+        nodes,
+        mut world,
+        before,
+        lines,
+        ..
+    } = script;
+    let mut marks = Vec::new(alloc);
+    let all = trace_lines(alloc, &mut world, before, &lines, &mut marks, err)?;
+    print_view(alloc, view, nodes, &marks, &world, out)?;
+    Ok(all)
+}
+
+/// Shows the run of the script that these octets are.
+fn show<O: Write, E: Write>(
+    alloc: Global,
+    view: View,
+    notes: bool,
+    text: &[u8],
+    out: &mut O,
+    err: &mut E,
+) -> Status
+    ensures { Shows view (script_of notes (lines_of text.now)) (O.contents out.old) (O.contents out.new) result }
+{
+    match read_script(alloc, notes, text) {
+        Ok(script) => {
+            let ran = run_and_show(alloc, view, script, out, err);
+            let flushed = out.flush();
+            ended(ran, flushed, err)
+        }
+        Err(fault) => no_script(fault, err),
+    }
+}
+
+/// Runs a script of events in a network of nodes, as [`simulate_lines_over`](crate::simulate_lines_over) does, and prints what its run is shown as in place of
+/// what comes of each event. It answers what that does; what ends the run stands on `err`, behind the events before it in what is shown.
+pub fn show_over<R: Read, O: Write, E: Write>(
+    alloc: Global,
+    view: View,
+    notes: bool,
+    input: &mut R,
+    out: &mut O,
+    err: &mut E,
+) -> Status
+    ensures { ShowsAs view notes (R.remaining input.old) (O.contents out.old) (O.contents out.new) result }
+{
+    match octets_of(alloc, input) {
+        Ok(text) => show(alloc, view, notes, &text, out, err),
+        Err(error) => unread(&error, err),
+    }
+}
