@@ -5,7 +5,7 @@
  *
  * Rules of every call
  * - A bac_node begins as BAC_NODE_EMPTY, is never copied, and its members are never touched. Used before bac_open, opened twice, used after bac_close or closed
- *   twice, it does no harm: the call answers BAC_NOT_OPEN or BAC_ALREADY_OPEN, or 0 where it counts.
+ *   twice, it does no harm: the call answers BAC_NOT_OPEN or BAC_ALREADY_OPEN, or 0 where it counts (bac_next_due: UINT64_MAX).
  * - After a status that is not BAC_OK nothing has changed; after BAC_NO_MEMORY the same call may be made again.
  * - Moments are milliseconds of one clock that never goes back, from any start.
  * - A link is four octets of IPv4 address and two of UDP port, the high one first, as sockaddr_in has them.
@@ -54,8 +54,8 @@ enum {
     BAC_SELF_PEER = 11,       /* the peer is at the node's own link */
     BAC_TOO_LONG = 12,        /* more octets than can be sent, or kept */
     BAC_NEEDS_SEGMENTS = 13,  /* the peer takes no segments, or fewer than are needed */
-    BAC_NO_INVOKE_ID = 14,    /* all 256 invoke IDs are held for that peer, or the node restarted less than 75,001 ms ago */
-    BAC_NO_SLOT = 15,         /* all client slots are held */
+    BAC_NO_INVOKE_ID = 14,    /* all 256 invoke IDs are held for that peer, each as long as its slot, or the node restarted less than 75,001 ms ago */
+    BAC_NO_SLOT = 15,         /* all client slots are held: each until 135,000 ms after its ask was first sent, also once that has ended */
     BAC_NO_SUCH_OBJECT = 16,
     BAC_NO_SUCH_PROPERTY = 17,
     BAC_BAD_VALUE = 18        /* a value that the property cannot have */
@@ -68,13 +68,13 @@ typedef struct bac_settings {
     bool takes_segments;   /* whether it takes replies in segments */
     uint8_t max_segments;  /* how many: 0 to 7 for unspecified, 2, 4, 8, 16, 32, 64 and more */
     uint8_t window;        /* the greatest window that it proposes or grants: 1 to 64 segments */
-    size_t client_slots;   /* how many asks can be open: 1 to 1024 */
-    size_t reply_slots;    /* how many requests it remembers, each for 65,000 ms: 1 to 1024 */
+    size_t client_slots;   /* how many asks it holds, each until 135,000 ms after it was first sent, also once it has ended: 1 to 1024 */
+    size_t reply_slots;    /* how many requests it remembers, reads too, each for 65,000 ms: 1 to 1024; where all are, a new one is answered by Abort 0 */
 } bac_settings;
 
-/* APDUs of 1476 octets, any number of segments, windows of 32, 64 slots at each end, at that link. */
+/* APDUs of 1476 octets, any number of segments, windows of 32, 64 slots at each end (64 asks in 135,000 ms, 64 requests in 65,000), at that link. */
 #define BAC_SETTINGS(a, b, c, d, port_high, port_low) \
-    { { (a), (b), (c), (d), (port_high), (port_low) }, 5, true, 7, 32, 64, 64 }
+    { { (uint8_t)(a), (uint8_t)(b), (uint8_t)(c), (uint8_t)(d), (uint8_t)(port_high), (uint8_t)(port_low) }, 5, true, 7, 32, 64, 64 }
 
 /* Whom a node asks, and what that takes; codes as above. */
 typedef struct bac_target {
@@ -115,16 +115,16 @@ typedef struct bac_ending {
     int64_t position;
 } bac_ending;
 
-/* A request that the node performed. */
+/* A request that the node performed; its priority, if it had one, is not told. */
 typedef struct bac_act {
-    uint8_t link[6];      /* the peer's link */
+    uint8_t link[6];      /* the peer's link, or that of the router it is behind */
     uint8_t service;      /* 6 AtomicReadFile, 7 AtomicWriteFile, 12 ReadProperty, 15 WriteProperty; 0: none was performed */
     bool done;            /* false where it was answered with an Error, and changed nothing */
     uint16_t object_type;
     uint32_t instance;
     uint32_t property;    /* 0 of a file */
     uint32_t index;       /* an element, or BAC_WHOLE; 0 of a file */
-    int64_t position;     /* in the file, -1 its end; 0 of a property */
+    int64_t position;     /* in the file, -1 its end (where done is false it may be the number of a record); 0 of a property */
 } bac_act;
 
 /* ---- opening and closing */
@@ -172,14 +172,14 @@ bac_status bac_on(bac_node *node, uint64_t now, const uint8_t from[6], const uin
 /* Does what is due: repeats, and asks that end. BAC_NOT_OPEN, BAC_NOT_STARTED, BAC_CLOCK_BACK, BAC_NO_MEMORY. */
 bac_status bac_tick(bac_node *node, uint64_t now);
 
-/* The first moment at which bac_tick does anything; UINT64_MAX: none. */
+/* The first moment at which bac_tick does anything; UINT64_MAX: none, or no node that is started. */
 uint64_t bac_next_due(bac_node *node);
 
 /* ---- asks: each puts out a ticket, which bac_end names later
  *
  * BAC_NOT_OPEN; BAC_NOT_STARTED; BAC_BAD_REQUEST exactly where a number is outside its range or the octets to be written are no data. Then the first of
- * BAC_CLOCK_BACK, BAC_SELF_PEER, BAC_TOO_LONG, BAC_NEEDS_SEGMENTS, BAC_NO_INVOKE_ID and BAC_NO_SLOT that holds, or BAC_NO_MEMORY. The ticket is put out with
- * BAC_OK alone. */
+ * BAC_CLOCK_BACK, BAC_SELF_PEER, BAC_TOO_LONG, BAC_NEEDS_SEGMENTS, BAC_NO_INVOKE_ID and BAC_NO_SLOT that holds, or BAC_NO_MEMORY: memory may be refused before
+ * these are looked at. The ticket is put out with BAC_OK alone. */
 
 bac_status bac_ask_read(bac_node *node, uint64_t now, const bac_target *target, const bac_reference *reference, uint64_t *ticket);
 
@@ -187,7 +187,7 @@ bac_status bac_ask_read(bac_node *node, uint64_t now, const bac_target *target, 
 bac_status bac_ask_write(bac_node *node, uint64_t now, const bac_target *target, const bac_reference *reference, const uint8_t *octets, size_t len,
                          uint8_t priority, uint64_t *ticket);
 
-/* file: the instance of a file object. position: where the octets go, -1 at the end (an append). */
+/* file: the instance of a file object. position: where the octets go, -1 at the end (an append). 2^32 octets or more are BAC_BAD_REQUEST. */
 bac_status bac_ask_put(bac_node *node, uint64_t now, const bac_target *target, uint32_t file, int64_t position, const uint8_t *octets, size_t len,
                        uint64_t *ticket);
 
@@ -195,15 +195,16 @@ bac_status bac_ask_get(bac_node *node, uint64_t now, const bac_target *target, u
 
 /* ---- what came of the last call */
 
-/* How many datagrams are to be sent, and each, in order: where it goes, and its octets (at most 1,514). */
+/* How many datagrams are to be sent, and each, in order: where it goes, and its octets (at most 1,514). At an index that is not below bac_sends 0, and nothing
+ * is put out. */
 size_t bac_sends(bac_node *node);
 size_t bac_send(bac_node *node, size_t index, uint8_t to[6], uint8_t *out, size_t room);
 
-/* How many asks have ended, and how each did, with the octets that came. */
+/* How many asks have ended, and how each did, with the octets that came. At an index that is not below bac_ends 0, and nothing is put out. */
 size_t bac_ends(bac_node *node);
 size_t bac_end(bac_node *node, size_t index, bac_ending *ending, uint8_t *out, size_t room);
 
-/* The request that was performed, with the octets that it wrote: where act->service is 7 or 15 and act->done holds, act on it. */
+/* The request that was performed, with the octets that it asks to write: where act->service is 7 or 15 and act->done holds, they were written: act on it. */
 size_t bac_performed(bac_node *node, bac_act *act, uint8_t *out, size_t room);
 
 /* Why the last datagram was dropped: 0 it was not, 1 no BVLL, 2 no NPDU, 3 routed elsewhere, 4 a network message, 5 no APDU, 6 from the node's own link. */
@@ -293,7 +294,8 @@ static inline bool bac_take_number(const uint8_t *octets, size_t len, unsigned k
     return true;
 }
 
-/* A text in UTF-8 of at most 4,000 octets as a CharacterString, for a description: how many octets it has; 0 where it is longer than that or than the room. */
+/* A text in UTF-8 of at most 4,000 octets as a CharacterString, for a description: how many octets it has; 0 where it is longer, or the room is less than
+ * text_len + 5. */
 static inline size_t bac_put_text(uint8_t *out, size_t room, const char *text, size_t text_len)
 {
     size_t contents = 1 + text_len, at = 1;

@@ -51,7 +51,8 @@ static uint8_t to[6], out[1514], many[70000];
 /* nothing is open: no harm, and a status */
 static int closed_rows(bac_node *node)
 {
-    bac_settings s = BAC_SETTINGS(127, 0, 0, 1, 0xBA, 0xC0);
+    unsigned port = 47808; /* known at run time: also in C++ */
+    bac_settings s = BAC_SETTINGS(127, 0, 0, 1, port >> 8, port & 255);
     bac_target t = { { 127, 0, 0, 1, 0xBA, 0xC2 }, 5, true, 7 };
     bac_reference r = { 0, 5, 85, BAC_WHOLE };
     bac_ending e;
