@@ -40,14 +40,19 @@ SAID = [  # a text of a sentence, and a command of which it is a line
 
 def parts_of(text):
     """The paragraphs and the code blocks of a document, in order: whether it is a block, and its lines."""
-    parts = [(False, [])]
+    parts, is_fenced = [(False, [])], False
     for line in text.splitlines():
-        is_block = line.startswith('    ')
-        if not line:
+        if line.startswith('```'):
+            is_fenced = not is_fenced
+            parts.append((is_fenced, []))
+        elif is_fenced:
+            parts[-1][1].append(line)
+        elif not line:
             parts.append((False, []))
-        elif parts[-1][1] and parts[-1][0] == is_block:
-            parts[-1][1].append(line[4:] if is_block else line)
+        elif parts[-1][1] and parts[-1][0] == line.startswith('    '):
+            parts[-1][1].append(line[4:] if parts[-1][0] else line)
         else:
+            is_block = line.startswith('    ')
             parts.append((is_block, [line[4:] if is_block else line]))
     return [part for part in parts if part[1]]
 

@@ -159,7 +159,16 @@ fn simulate_command<'a>(alloc: Global) -> Result<Command<'a>, clap::Error> {
             "mermaid",
             "Draws it as a `sequenceDiagram` of Mermaid",
         )
-        .conflicts_with("chart")?)?;
+        .conflicts_with("chart")?)?
+        .arg(
+            flag(
+                alloc,
+                "pcap",
+                "Writes its datagrams as a capture, each at the moment when it was sent",
+            )
+            .conflicts_with("chart")?
+            .conflicts_with("mermaid")?,
+        )?;
     Ok(simulate)
 }
 

@@ -16,8 +16,7 @@ deliver 2
 deliver 3
 ";
 
-const LOST_CHART: &str = "\
-      ms  node 0                                   node 1
+const LOST_CHART: &str = "      ms  node 0                                   node 1
        0  | asked 0                                |
        0  |--0 append file:1 AABBCC--------------->|
        0  |                                        | performed 0
@@ -58,8 +57,8 @@ deliver 2
 tick 9
 ";
 
-const LATE_CHART: &str = "\
-      ms  node 0                                   node 1                                   node 2
+const LATE_CHART: &str =
+    "      ms  node 0                                   node 1                                   node 2
        0  | asked 0                                |                                        |
        0  | refused 5                              |                                        |
        0  |                                        | noise                                  |
