@@ -1,5 +1,5 @@
 -- What a C program asks for, and what comes of an ask.
-use Rattle.std.specs.Prelude.{◌≡◌, ℕ, ℤ, nat_eq, Bool, true, false, if◌then◌else◌, List, [], Option, Some, None}
+use Rattle.std.specs.Prelude.{◌≡◌, ◌<◌, ℕ, ℤ, nat_eq, Bool, true, false, if◌then◌else◌, List, [], Option, Some, None}
 use Rattle.bac_apdu.specs.Apdu.{Limits}
 use Rattle.bac_npdu.specs.Peers.{PeerView}
 use Rattle.bac_value.specs.Value.{ObjectId}
@@ -72,6 +72,10 @@ pub record IsAsking (now : ℕ) (t : Target) (r : Request) (ticket : ℕ) (old n
   pub performed : o.performed ≡ None
   pub ended : o.ended ≡ []
   pub dropped : o.dropped ≡ None
+
+-- a right request is asked at a moment before the node's latest one
+abbrev pub IsEarly : Bool → (now : ℕ) → Device → Type 0
+IsEarly right now d = Runs (λ n. (right ≡ true) × (now < n.latest)) d
 
 -- why an ask is refused, of a request that is right or wrong; memory may be refused to a right one alone
 abbrev pub AskRefused : Fault → Bool → (now : ℕ) → Target → Request → Device → Type 0

@@ -1,6 +1,6 @@
 -- Changes that a C program makes at its own node.
-use Rattle.std.specs.Prelude.{◌≡◌, ◌≤◌, ℕ, Bool, true, false, List, length, Option, Some, MatchOption}
-use Rattle.bac_store.specs.AtNode.{Change, IsFaultOf, octets_of}
+use Rattle.std.specs.Prelude.{◌≡◌, ◌≤◌, ℕ, Bool, true, false, List, length, Option, Some, None, MatchOption}
+use Rattle.bac_store.specs.AtNode.{Change, IsFaultOf, change_fault, octets_of}
 use Rattle.bac_store.specs.declared.change_fault.ChangeFault.{ChangeFault}
 use Rattle.bac_store.specs.declared.change_fault.ChangeFault.TheVariants as change
 use Rattle.bac_world.specs.Node.{with_change}
@@ -26,9 +26,9 @@ abbrev pub change_for : Setting → Change
 change_for (setting.Value t i n octets) = value_of t i n octets.now
 change_for (setting.File i octets) = contents_of i octets.now
 
--- the change was made at the node, and nothing else
+-- the change may be made, and was made at the node, and nothing else
 abbrev pub Changes : Change → Device → Device → Type 0
-Changes c d e = MatchOption d.node ⊥ (λ m. e ≡ record d { node = Some (with_change c m) })
+Changes c d e = MatchOption d.node ⊥ (λ m. (change_fault m.store c ≡ None) × (e ≡ record d { node = Some (with_change c m) }))
 
 abbrev pub HasChanged : Change → (old new : Option Device) → Type 0
 HasChanged c old new = MatchOption old ⊥ (λ d. MatchOption new ⊥ (λ e. Changes c d e))

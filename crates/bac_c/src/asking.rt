@@ -1,9 +1,9 @@
 //! Asks.
-ghost use Rattle.std.specs.Prelude.{◌≡◌, ◌≢◌, ◌↔◌, false, IfErr, IfOk, IfSome, IsErrOf, None, OnErr};
-ghost use Rattle.bac_c.specs.Asking.{fault_for, get_of, put_of, read_of, request_of as plain_request, write_of, AskRefused, HasAsked, IsAsking, IsRefusedAsk};
+ghost use Rattle.std.specs.Prelude.{◌≡◌, ◌≢◌, ◌↔◌, false, IfErr, IfOk, IfSome, IsErrOf, IsTrue, None, OnErr};
+ghost use Rattle.bac_c.specs.Asking.{fault_for, get_of, put_of, read_of, request_of as plain_request, write_of, AskRefused, HasAsked, IsAsking, IsEarly, IsRefusedAsk};
 ghost use Rattle.bac_c.specs.Devices.{Holds, IsIdle, Ran, Runs};
 ghost use Rattle.bac_c.specs.Ranges.{can_ask, is_instance, is_put, is_question, is_reference, is_written};
-ghost use Rattle.bac_c.specs.Statuses.{BAD_REQUEST, DONE, NOT_OPEN, NOT_STARTED};
+ghost use Rattle.bac_c.specs.Statuses.{is_one_of, status_of, ASKING, BAD_REQUEST, CLOCK_BACK, DONE, NOT_OPEN, NOT_STARTED, NO_MEMORY};
 
 use crate::device::Device;
 use crate::fault::{Fault, status};
@@ -44,6 +44,10 @@ impl Device {
         ensures asked { IfOk result (λ t. Ran (IsAsking now target.now (plain_request question.now) t) self.old self.new) }
         ensures idle { IsErrOf result Fault.NotStarted ↔ IsIdle self.old }
         ensures bad { IsErrOf result Fault.BadRequest ↔ Runs (λ n. can_ask target.now (is_question question.now) ≡ false) self.old }
+        ensures early { (IsErrOf result Fault.NoMemory → ⊥)
+            → (IsErrOf result Fault.ClockBack ↔ IsEarly (can_ask target.now (is_question question.now)) now self.old) }
+        ensures few { IsTrue (is_one_of ASKING (status_of result)) }
+        ensures open { IsErrOf result Fault.NotOpen → ⊥ }
         ensures refused { IfErr result (λ e. AskRefused e (can_ask target.now (is_question question.now)) now target.now (plain_request question.now) self.old) }
         ensures err { OnErr result (self.new ≡ self.old) }
     {
@@ -94,6 +98,8 @@ fn ask_by(
     ensures closed { (result ≡ NOT_OPEN) ↔ (handle.old.parked.device ≡ None) }
     ensures idle { (result ≡ NOT_STARTED) ↔ Holds IsIdle handle.old.parked.device }
     ensures bad { (result ≡ BAD_REQUEST) ↔ Holds (Runs (λ n. can_ask target.now (is_question question.now) ≡ false)) handle.old.parked.device }
+    ensures early { result ≢ NO_MEMORY → ((result ≡ CLOCK_BACK) ↔ Holds (IsEarly (can_ask target.now (is_question question.now)) now) handle.old.parked.device) }
+    ensures few { IsTrue (is_one_of ASKING result) }
     ensures refused { IfSome handle.old.parked.device (IsRefusedAsk result (can_ask target.now (is_question question.now)) now target.now (plain_request question.now)) }
     ensures kept { result ≢ DONE → ticket.new ≡ ticket.old }
     ensures err { result ≢ DONE → handle.new.parked.device ≡ handle.old.parked.device }
@@ -126,6 +132,8 @@ pub extern "C" fn bac_ask_read(
     ensures closed { (result ≡ NOT_OPEN) ↔ (handle.old.parked.device ≡ None) }
     ensures idle { (result ≡ NOT_STARTED) ↔ Holds IsIdle handle.old.parked.device }
     ensures bad { (result ≡ BAD_REQUEST) ↔ Holds (Runs (λ n. can_ask target.now (is_reference reference.now) ≡ false)) handle.old.parked.device }
+    ensures early { result ≢ NO_MEMORY → ((result ≡ CLOCK_BACK) ↔ Holds (IsEarly (can_ask target.now (is_reference reference.now)) now) handle.old.parked.device) }
+    ensures few { IsTrue (is_one_of ASKING result) }
     ensures refused { IfSome handle.old.parked.device (IsRefusedAsk result (can_ask target.now (is_reference reference.now)) now target.now (read_of reference.now)) }
     ensures kept { result ≢ DONE → ticket.new ≡ ticket.old }
     ensures err { result ≢ DONE → handle.new.parked.device ≡ handle.old.parked.device }
@@ -150,6 +158,8 @@ pub extern "C" fn bac_ask_write(
     ensures closed { (result ≡ NOT_OPEN) ↔ (handle.old.parked.device ≡ None) }
     ensures idle { (result ≡ NOT_STARTED) ↔ Holds IsIdle handle.old.parked.device }
     ensures bad { (result ≡ BAD_REQUEST) ↔ Holds (Runs (λ n. can_ask target.now (is_written reference.now octets.now priority) ≡ false)) handle.old.parked.device }
+    ensures early { result ≢ NO_MEMORY → ((result ≡ CLOCK_BACK) ↔ Holds (IsEarly (can_ask target.now (is_written reference.now octets.now priority)) now) handle.old.parked.device) }
+    ensures few { IsTrue (is_one_of ASKING result) }
     ensures refused { IfSome handle.old.parked.device (IsRefusedAsk result (can_ask target.now (is_written reference.now octets.now priority)) now target.now (write_of reference.now octets.now priority)) }
     ensures kept { result ≢ DONE → ticket.new ≡ ticket.old }
     ensures err { result ≢ DONE → handle.new.parked.device ≡ handle.old.parked.device }
@@ -178,6 +188,8 @@ pub extern "C" fn bac_ask_put(
     ensures closed { (result ≡ NOT_OPEN) ↔ (handle.old.parked.device ≡ None) }
     ensures idle { (result ≡ NOT_STARTED) ↔ Holds IsIdle handle.old.parked.device }
     ensures bad { (result ≡ BAD_REQUEST) ↔ Holds (Runs (λ n. can_ask target.now (is_put file octets.now) ≡ false)) handle.old.parked.device }
+    ensures early { result ≢ NO_MEMORY → ((result ≡ CLOCK_BACK) ↔ Holds (IsEarly (can_ask target.now (is_put file octets.now)) now) handle.old.parked.device) }
+    ensures few { IsTrue (is_one_of ASKING result) }
     ensures refused { IfSome handle.old.parked.device (IsRefusedAsk result (can_ask target.now (is_put file octets.now)) now target.now (put_of file position octets.now)) }
     ensures kept { result ≢ DONE → ticket.new ≡ ticket.old }
     ensures err { result ≢ DONE → handle.new.parked.device ≡ handle.old.parked.device }
@@ -206,6 +218,8 @@ pub extern "C" fn bac_ask_get(
     ensures closed { (result ≡ NOT_OPEN) ↔ (handle.old.parked.device ≡ None) }
     ensures idle { (result ≡ NOT_STARTED) ↔ Holds IsIdle handle.old.parked.device }
     ensures bad { (result ≡ BAD_REQUEST) ↔ Holds (Runs (λ n. can_ask target.now (is_instance file) ≡ false)) handle.old.parked.device }
+    ensures early { result ≢ NO_MEMORY → ((result ≡ CLOCK_BACK) ↔ Holds (IsEarly (can_ask target.now (is_instance file)) now) handle.old.parked.device) }
+    ensures few { IsTrue (is_one_of ASKING result) }
     ensures refused { IfSome handle.old.parked.device (IsRefusedAsk result (can_ask target.now (is_instance file)) now target.now (get_of file position count)) }
     ensures kept { result ≢ DONE → ticket.new ≡ ticket.old }
     ensures err { result ≢ DONE → handle.new.parked.device ≡ handle.old.parked.device }

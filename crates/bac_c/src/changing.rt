@@ -1,11 +1,11 @@
 //! Changes of the node's own store.
-ghost use Rattle.std.specs.Prelude.{◌≡◌, ◌≢◌, ◌↔◌, ◌≤◌, false, true, length, IfErr, IfOk, IfSome, IsErrOf, None, OnErr, OnOk};
+ghost use Rattle.std.specs.Prelude.{◌≡◌, ◌≢◌, ◌↔◌, ◌≤◌, false, true, length, IfErr, IfOk, IfSome, IsErrOf, IsTrue, None, OnErr, OnOk};
 ghost use Rattle.bac_store.specs.AtNode.{octets_of};
 ghost use Rattle.bac_store.specs.Views.{change_view};
 ghost use Rattle.bac_c.specs.Changing.{change_for, contents_of, fault_for_change, value_of, ChangeRefused, Changes, HasChanged, IsRefusedChange};
 ghost use Rattle.bac_c.specs.Devices.{Holds, IsIdle, Runs};
 ghost use Rattle.bac_c.specs.Ranges.{is_identifier, is_instance, is_setting, IsUnready};
-ghost use Rattle.bac_c.specs.Statuses.{BAD_REQUEST, DONE, NOT_OPEN, NOT_STARTED};
+ghost use Rattle.bac_c.specs.Statuses.{is_one_of, status_of, BAD_REQUEST, CHANGING, DONE, NOT_OPEN, NOT_STARTED};
 
 use crate::copying::copied_octets;
 use crate::device::Device;
@@ -71,6 +71,8 @@ impl Device {
         ensures made { OnOk result (Changes (change_for setting.now) self.old self.new) }
         ensures idle { IsErrOf result Fault.NotStarted ↔ IsIdle self.old }
         ensures bad { IsErrOf result Fault.BadRequest ↔ Runs (λ n. is_setting setting.now ≡ false) self.old }
+        ensures few { IsTrue (is_one_of CHANGING (status_of result)) }
+        ensures open { IsErrOf result Fault.NotOpen → ⊥ }
         ensures refused { IfErr result (λ e. ChangeRefused e (is_setting setting.now) (change_for setting.now) self.old) }
         ensures err { OnErr result (self.new ≡ self.old) }
     {
@@ -92,6 +94,7 @@ fn change_by(alloc: Global, handle: &mut Handle, setting: &Setting<'_>) -> u32
     ensures closed { (result ≡ NOT_OPEN) ↔ (handle.old.parked.device ≡ None) }
     ensures idle { (result ≡ NOT_STARTED) ↔ Holds IsIdle handle.old.parked.device }
     ensures bad { (result ≡ BAD_REQUEST) ↔ Holds (Runs (λ n. is_setting setting.now ≡ false)) handle.old.parked.device }
+    ensures few { IsTrue (is_one_of CHANGING result) }
     ensures refused { IfSome handle.old.parked.device (IsRefusedChange result (is_setting setting.now) (change_for setting.now)) }
     ensures err { result ≢ DONE → handle.new.parked.device ≡ handle.old.parked.device }
 {
@@ -120,6 +123,7 @@ pub extern "C" fn bac_set_value(
     ensures closed { (result ≡ NOT_OPEN) ↔ (handle.old.parked.device ≡ None) }
     ensures idle { (result ≡ NOT_STARTED) ↔ Holds IsIdle handle.old.parked.device }
     ensures bad { (result ≡ BAD_REQUEST) ↔ Holds (Runs (λ n. is_identifier object_type instance ≡ false)) handle.old.parked.device }
+    ensures few { IsTrue (is_one_of CHANGING result) }
     ensures refused { IfSome handle.old.parked.device (IsRefusedChange result (is_identifier object_type instance) (value_of object_type instance property octets.now)) }
     ensures err { result ≢ DONE → handle.new.parked.device ≡ handle.old.parked.device }
 {
@@ -139,6 +143,7 @@ pub extern "C" fn bac_set_file(alloc: Global, handle: &mut Handle, file: u32, oc
     ensures closed { (result ≡ NOT_OPEN) ↔ (handle.old.parked.device ≡ None) }
     ensures idle { (result ≡ NOT_STARTED) ↔ Holds IsIdle handle.old.parked.device }
     ensures bad { (result ≡ BAD_REQUEST) ↔ Holds (Runs (λ n. is_instance file ≡ false)) handle.old.parked.device }
+    ensures few { IsTrue (is_one_of CHANGING result) }
     ensures refused { IfSome handle.old.parked.device (IsRefusedChange result (is_instance file) (contents_of file octets.now)) }
     ensures err { result ≢ DONE → handle.new.parked.device ≡ handle.old.parked.device }
 {

@@ -67,6 +67,7 @@ impl Device {
         ensures few { IsTrue (is_one_of LISTING (status_of result)) }
         ensures open { IsErrOf result Fault.NotOpen → ⊥ }
         ensures node { self.new.node ≡ self.old.node }
+        ensures outcome { self.new.outcome ≡ self.old.outcome }
         ensures err { OnErr result (listed_in self.new ≡ listed_in self.old) }
     {
         if self.node.is_some() {
@@ -94,6 +95,7 @@ impl Device {
         ensures few { IsTrue (is_one_of LISTING (status_of result)) }
         ensures open { IsErrOf result Fault.NotOpen → ⊥ }
         ensures node { self.new.node ≡ self.old.node }
+        ensures outcome { self.new.outcome ≡ self.old.outcome }
         ensures err { OnErr result (listed_in self.new ≡ listed_in self.old) }
     {
         if self.node.is_some() {
@@ -130,6 +132,7 @@ impl Device {
         ensures few { IsTrue (is_one_of LISTING (status_of result)) }
         ensures open { IsErrOf result Fault.NotOpen → ⊥ }
         ensures node { self.new.node ≡ self.old.node }
+        ensures outcome { self.new.outcome ≡ self.old.outcome }
         ensures err { OnErr result (listed_in self.new ≡ listed_in self.old) }
     {
         if self.node.is_some() {
