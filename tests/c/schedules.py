@@ -1,8 +1,8 @@
 #!/usr/bin/env python3
 """Generated schedules through the calls of bac.h against `bac simulate`, datagram for datagram.
 
-schedules.py BAC REPLAY [NUMBER [SEED]]: asks of each kind in both directions, in one APDU and in segments, copies that are delivered twice, late, or never,
-ticks, and changes of the nodes' own stores.
+schedules.py BAC REPLAY [NUMBER [SEED]], REPLAY a path or a command in words: asks of each kind in both directions, in one APDU and in segments, copies that
+are delivered twice, late, or never, ticks, and changes of the nodes' own stores.
 """
 import random
 import re
@@ -57,7 +57,7 @@ def run(command, script):
 
 
 def main():
-    bac, replay = sys.argv[1:3]
+    bac, replay = sys.argv[1], sys.argv[2].split()
     number = int(sys.argv[3]) if len(sys.argv) > 3 else 1000
     seed = int(sys.argv[4]) if len(sys.argv) > 4 else 1
     sent = performed = ended = 0
@@ -66,12 +66,12 @@ def main():
         script, there = "", 0
         for line in schedule(rng):
             if line == "deliver":
-                there = copies_in(run([replay], script).stdout)
+                there = copies_in(run(replay, script).stdout)
                 if there == 0:
                     continue
                 line = f"deliver {rng.randrange(max(0, there - 4), there) if rng.random() < 0.9 else rng.randrange(there)}"
             script += line + "\n"
-        ours = run([replay], script)
+        ours = run(replay, script)
         with tempfile.NamedTemporaryFile("w", suffix=".txt") as file:
             file.write(script)
             file.flush()
