@@ -14,6 +14,7 @@ mod online;
 mod serving;
 mod system;
 mod task;
+mod words;
 
 pub use command::run;
 pub use files::OpenFiles;
