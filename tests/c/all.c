@@ -168,6 +168,33 @@ static int own_rows(bac_node *node)
     return 0;
 }
 
+/* what no node can have, of names and numbers, at their limits */
+static int edge_rows(bac_node *node)
+{
+    static const uint8_t active[] = { 0x91, 1 }, third[] = { 0x91, 2 };
+    bac_settings s = BAC_SETTINGS(127, 0, 0, 1, 0xBA, 0xC0);
+    for (size_t name_len = 4091; name_len <= 4092; name_len++) {
+        CALL(BAC_OK, bac_open(node));
+        CALL(BAC_OK, bac_add_object(node, 5, 1, many, name_len));
+        CALL(BAC_OK, bac_add_property(node, 85, active, 2, true));
+        CALL(name_len == 4091 ? BAC_OK : BAC_BAD_OBJECT, bac_start(node, &s));
+        if (name_len == 4091) {
+            CALL(BAC_BAD_VALUE, bac_set_value(node, 5, 1, 85, third, 2));
+            CALL(BAC_NO_SUCH_PROPERTY, bac_set_value(node, 5, 1, 79, active, 2));
+            CALL(BAC_OK, bac_set_value(node, 5, 1, 85, active, 2));
+        }
+        bac_close(node);
+    }
+    for (uint32_t number = 511; number <= 512; number++) {
+        CALL(BAC_OK, bac_open(node));
+        CALL(BAC_OK, bac_add_object(node, 8, 1, many, 1));
+        CALL(BAC_OK, bac_add_property(node, number, many, 0, true));
+        CALL(number == 512 ? BAC_OK : BAC_BAD_OBJECT, bac_start(node, &s));
+        bac_close(node);
+    }
+    return 0;
+}
+
 /* values as octets: each is data that the node takes, and is read back */
 static int value_rows(bac_node *node)
 {
@@ -334,7 +361,7 @@ static int ask_rows(bac_node *client, bac_node *server)
 
 static int rows(bac_node *client, bac_node *server)
 {
-    if (value_rows(client) || restarted_rows(client) || limit_rows(client)) { return 1; }
+    if (edge_rows(client) || value_rows(client) || restarted_rows(client) || limit_rows(client)) { return 1; }
     if (closed_rows(client) || house_rows(client) || own_rows(server) || ask_rows(client, server)) { return 1; }
     bac_close(client);
     return closed_rows(client);
