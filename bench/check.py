@@ -56,11 +56,15 @@ def quickest(words):
     return Measure(min(run.seconds for run in runs), min(run.processor_seconds for run in runs), max(run.kibibytes for run in runs), runs[0].output)
 
 
-def checked(program, capture, lines):
+def checked(program, capture, last):
     found = quickest([program, 'check', str(capture)])
-    if found.output.splitlines()[-1:] != [f'lines={lines} good={lines} bad=0']:
+    if found.output.splitlines()[-1:] != [last]:
         raise SystemExit(f'bac check: {found.output[-200:]!r}')
     return found
+
+
+def checked_lines(program, capture, lines):
+    return checked(program, capture, f'lines={lines} good={lines} bad=0')
 
 
 def shown(title, found, lines, octets):
@@ -84,13 +88,16 @@ def main(words):
 
 def compare(program, capture, long_capture, pcap, lines, octets):
     print(f'{lines} lines, {octets / lines:.0f} octets a datagram, load {os.getloadavg()[0]:.1f} on {os.cpu_count()} cores')
-    ours = checked(program, capture, lines)
+    ours = checked_lines(program, capture, lines)
     shown('bac check', ours, lines, octets)
+    packets = checked(program, pcap, f'frames={lines} good={lines} bad=0 other=0')
+    shown('bac check of the file that tshark reads', packets, lines, octets)
     theirs = quickest(['tshark', '-n', '-r', str(pcap), '-Y', '_ws.malformed'])
     shown('tshark', theirs, lines, octets)
-    longer = checked(program, long_capture, lines * TIMES)
+    longer = checked_lines(program, long_capture, lines * TIMES)
     shown(f'bac check, {TIMES} times the lines', longer, lines * TIMES, octets * TIMES)
     print(f'lines a second, bac check over tshark: {theirs.seconds / ours.seconds:.2f}')
+    print(f'datagrams a second, bac check of that file over tshark, over lines: {theirs.seconds / packets.seconds:.2f}, {ours.seconds / packets.seconds:.2f}')
     print(f'processor time, bac check over tshark: {ours.processor_seconds / theirs.processor_seconds:.3f}')
     print(f'peak memory, bac check over tshark: {ours.kibibytes / theirs.kibibytes:.4f}')
     print(f'peak memory, {TIMES} times the lines over the lines: {longer.kibibytes / ours.kibibytes:.3f}')

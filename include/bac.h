@@ -6,7 +6,7 @@
  * Rules of every call
  * - A bac_node begins as BAC_NODE_EMPTY, is never copied, and its members are never touched. Used before bac_open, opened twice, used after bac_close or closed
  *   twice, it does no harm: the call answers BAC_NOT_OPEN or BAC_ALREADY_OPEN, or 0 where it counts (bac_next_due: UINT64_MAX).
- * - After a status that is not BAC_OK nothing has changed; after BAC_NO_MEMORY the same call may be made again.
+ * - After a status that is not BAC_OK the node is as it was, and no ticket or length is put out; after BAC_NO_MEMORY the same call may be made again.
  * - Moments are milliseconds of one clock that never goes back, from any start.
  * - A link is four octets of IPv4 address and two of UDP port, the high one first, as sockaddr_in has them.
  * - Octets are given by address and number, and stay the caller's. A call that copies octets out returns how many there are; where they are more than there is
@@ -52,7 +52,7 @@ enum {
     BAC_DUPLICATE = 9,        /* two objects of one type and instance */
     BAC_BAD_REQUEST = 10,     /* a number outside its range, or octets that are no data */
     BAC_SELF_PEER = 11,       /* the peer is at the node's own link */
-    BAC_TOO_LONG = 12,        /* more octets than can be sent, or kept */
+    BAC_TOO_LONG = 12,        /* more octets than can be sent (65,535 of a request), or kept */
     BAC_NEEDS_SEGMENTS = 13,  /* the peer takes no segments, or fewer than are needed */
     BAC_NO_INVOKE_ID = 14,    /* all 256 invoke IDs are held for that peer, each as long as its slot, or the node restarted less than 75,001 ms ago */
     BAC_NO_SLOT = 15,         /* all client slots are held: each until 135,000 ms after its ask was first sent, also once that has ended */
@@ -142,8 +142,10 @@ void bac_close(bac_node *node);
  * BAC_NOT_OPEN, BAC_ALREADY_STARTED, BAC_NO_MEMORY. */
 bac_status bac_add_object(bac_node *node, uint16_t object_type, uint32_t instance, const uint8_t *name, size_t name_len);
 
-/* Lists a property of the object that was listed last: its values as octets of data (clause 20.2), and whether the network may write them. BAC_BAD_OBJECT
- * exactly where no object is listed, or the octets are no data. Otherwise as bac_add_object. */
+/* Lists a property of the object that was listed last: its values as octets of data (clause 20.2), and whether the network may write them. Number 28 is a
+ * description, a CharacterString; 85 a present-value, a Real of the analog types, Enumerated 0 or 1 of a binary-value, any values of the others; 512 to
+ * 4,194,303 are a vendor's own, with any values. An object's identifier, name and type, and a file's size and access method, come of themselves.
+ * BAC_BAD_OBJECT exactly where no object is listed, or the octets are no data; all else is looked at by bac_start. Otherwise as bac_add_object. */
 bac_status bac_add_property(bac_node *node, uint32_t number, const uint8_t *octets, size_t len, bool writable);
 
 /* Gives the object that was listed last, a file, its octets. BAC_BAD_OBJECT exactly where no object is listed. Otherwise as bac_add_object. */
@@ -151,8 +153,8 @@ bac_status bac_add_file(bac_node *node, const uint8_t *octets, size_t len, bool 
 
 /* Starts the node with the objects that are listed, which stay listed where it is not started. It never ran before: see bac_start_restarted.
  * BAC_NOT_OPEN; BAC_ALREADY_STARTED; BAC_BAD_SETTINGS; BAC_NO_MEMORY; BAC_DUPLICATE; BAC_BAD_OBJECT where an object has a type, instance, property or value
- * that none can have, a property twice, a name or values of more than 4,096 octets, a file of more than 60,000, or is a file without octets or octets without
- * a file. The first that holds comes, and memory may be refused before the objects are looked at. */
+ * that none can have, a property twice, a name of more than 4,091 octets, values of more than 4,096, a file of more than 60,000, or is a file without octets
+ * or octets without a file. The first that holds comes, and memory may be refused before the objects are looked at. */
 bac_status bac_start(bac_node *node, const bac_settings *settings);
 
 /* The same at a moment, for a node that ran before, at this link, and lost what it remembered: its program or its host was started anew. List the objects as
@@ -215,8 +217,8 @@ uint32_t bac_cause(bac_node *node);
  * BAC_NOT_OPEN; BAC_NOT_STARTED; BAC_BAD_REQUEST exactly where a type is above 1,023 or an instance above 4,194,303; then what each call names.
  * BAC_NO_MEMORY only where there are octets to copy. */
 
-/* Sets the values of a listed property, whether or not the network may write it. The first of BAC_NO_SUCH_OBJECT, BAC_NO_SUCH_PROPERTY, BAC_BAD_VALUE (no
- * data, or of another kind than the property has) and BAC_TOO_LONG (more than 4,096 octets). */
+/* Sets the values of a listed property, whether or not the network may write it. The first of BAC_NO_SUCH_OBJECT, BAC_NO_SUCH_PROPERTY (also a computed one),
+ * BAC_BAD_VALUE (no data, of another kind than the property was listed with, or no state of a binary-value) and BAC_TOO_LONG (more than 4,096 octets). */
 bac_status bac_set_value(bac_node *node, uint16_t object_type, uint32_t instance, uint32_t property, const uint8_t *octets, size_t len);
 
 /* Copies the values of a property out, computed ones too, and puts out how many octets they are. BAC_NO_SUCH_OBJECT; BAC_NO_SUCH_PROPERTY, also where an

@@ -1,5 +1,6 @@
-/* The heap that the library asks of the program: three functions over one allocator, aligned to 16. A heap of your own has the same three. The library sees
- * ok = false as a refusal, and answers BAC_NO_MEMORY. With -DHEAP_REFUSES the allocation of number heap_refused (from 1) is refused, for tests. */
+/* The heap that the library asks of the program: three functions over one allocator, aligned to 16. A heap of your own has the same three; where it
+ * refuses to make a block longer, the old block stays. The library sees ok = false as a refusal, and answers BAC_NO_MEMORY. With -DHEAP_REFUSES the
+ * allocation of number heap_refused (from 1) is refused, for tests. */
 #include <stdbool.h>
 #include <stddef.h>
 #include <stdlib.h>
