@@ -262,6 +262,7 @@ Example: bac ask --port 47808 read 0:5 85
 Example: bac ask --port 47808 --text read analog-input:5 present-value
 Example: bac ask --to 192.168.1.20 --route 5:2A --timeout 3 read device:7 object-name
 Example: bac ask --to 192.168.1.20 write analog-value:1 present-value real:72.5 priority 8
+Example: bac ask --to 192.168.1.20 --text --lines requests.txt
 Example: bac ask --port 47808 put file:1 0 @log.bin
 Example: bac ask --port 47808 --raw get file:1 0 1000 > log.bin";
 
@@ -300,9 +301,23 @@ fn reach<'a>(alloc: Global) -> (Arg<'a>, Arg<'a>) {
     (route, timeout.required(false))
 }
 
+/// Requests of a file, in the place of one.
+fn request_lines<'a>(alloc: Global) -> Result<Arg<'a>, clap::Error> {
+    let lines = Arg::new(alloc, "lines")
+        .long("lines")
+        .action(ArgAction::Set)
+        .value_name("FILE")
+        .conflicts_with("WORDS")?
+        .conflicts_with("raw")?
+        .help(
+            "Asks the requests of a file, one a line, in turn by one node, and prints behind each line's number how it ended; `-` for standard input. Blank lines and those that begin with `#` are passed over; words are separated by single spaces, and none is `@FILE`. A bad line is told before anything is asked",
+        );
+    Ok(lines)
+}
+
 fn ask_command<'a>(alloc: Global) -> Result<Command<'a>, clap::Error> {
     let words = Arg::new(alloc, "WORDS")
-        .required(true)
+        .required_unless_present("lines")?
         .num_args(1..)
         .action(ArgAction::Append)
         .allow_negative_numbers(true)
@@ -334,6 +349,7 @@ fn ask_command<'a>(alloc: Global) -> Result<Command<'a>, clap::Error> {
         .arg(text)?
         .arg(fail)?
         .arg(raw.conflicts_with("text")?)?
+        .arg(request_lines(alloc)?)?
         .arg(words)?;
     Ok(ask)
 }
