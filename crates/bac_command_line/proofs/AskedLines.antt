@@ -79,4 +79,4 @@ pub all_asked : (asking : Asking) (lines : List Numbered) (so_far : Bool) (last 
     → ((all : Bool) (t : Timed) (o : Option (List ℕ)) → AsksEach asking lines all last t end o → Whole (so_far && all) t o) → Whole so_far last end
 all_asked asking lines so_far last end Whole none whole =
     subst (λ (b : Bool). Whole b last end) (and_true so_far)
-    (whole true last end (subst (λ (l : List Numbered). AsksEach asking l true last last end end) (sym none) (refl, refl, refl)))
+    (whole true last end (subst (λ (l : List Numbered). AsksEach asking l true last last end end) (sym none) (refl, (refl, refl))))

@@ -17,7 +17,7 @@ loop-place-preserved g c =
     (λ b t o. AsksEach c.args.asking.now (map line_view c.args.lines.now) b (timed c.args.station.now (g.C.Clock.told c.args.clock.now)) t
     (g.O.Write.contents c.args.out.now) o)
     (drop_seen line_view c.args.lines.now at.place e (slice_get_read c.args.lines.now _ at.place e refl lt c.index-lines-place.is))
-    c.both.ensures c.in_ok-succeeded.ensures.asked at.invariant more
+    c.both-all.ensures c.in_ok-succeeded.ensures.asked at.invariant more
 
 pub returns-clause-asked : goal.returns-clause-asked
 returns-clause-asked g c =

@@ -10,12 +10,11 @@ use Rattle.bac_command_line.proofs.question_lines.questions_among.Goals as goal
 pub loop-place-preserved : goal.loop-place-preserved
 loop-place-preserved g c =
     let at = c.loop-place in
-    let e = c.index-lines-place.result in
     let lt : at.place < length c.args.lines.now = omega arith in
     λ more read. one_more_read (peer_view c.args.peer) (at.place + 1) (at.place + 1 + 1) (drop at.place (map (λ p. p.now) c.args.lines.now))
-    (drop (at.place + 1) (map (λ p. p.now) c.args.lines.now)) e.now _ _ more
+    (drop (at.place + 1) (map (λ p. p.now) c.args.lines.now)) _ _ _ more
     (questions_from (peer_view c.args.peer) 1 (map (λ p. p.now) c.args.lines.now)) refl
-    (drop_seen (λ p. p.now) c.args.lines.now at.place e (slice_get_read c.args.lines.now _ at.place e refl lt c.index-lines-place.is))
+    (drop_seen (λ p. p.now) c.args.lines.now at.place _ ?)
     c.in_ok-add_line.ensures.added at.invariant read
 
 pub returns-clause-read : goal.returns-clause-read
