@@ -1,6 +1,6 @@
 use Rattle.std.proofs.Common.{◌≡◌, ◌<◌, ◌+◌, [], length, map, drop, Some, ap, ◌∙◌, refl, append-nil, arith}
 use Rattle.std.proofs.lemmas.List.{drop_all, length-map}
-use Rattle.std.proofs.lemmas.Option.{slice_get_read}
+use Rattle.std.proofs.lemmas.Option.{slice_get-get_or}
 use Rattle.bac_npdu.specs.Views.{peer_view}
 use Rattle.bac_simulate.proofs.Appending.{drop_seen}
 use Rattle.bac_command_line.specs.AskedLines.{line_view, questions_from}
@@ -14,7 +14,7 @@ loop-place-preserved g c =
     λ more read. one_more_read (peer_view c.args.peer) (at.place + 1) (at.place + 1 + 1) (drop at.place (map (λ p. p.now) c.args.lines.now))
     (drop (at.place + 1) (map (λ p. p.now) c.args.lines.now)) _ _ _ more
     (questions_from (peer_view c.args.peer) 1 (map (λ p. p.now) c.args.lines.now)) refl
-    (drop_seen (λ p. p.now) c.args.lines.now at.place _ ?)
+    (drop_seen (λ p. p.now) c.args.lines.now at.place _ (slice_get-get_or c.args.lines.now at.place _ lt))
     c.in_ok-add_line.ensures.added at.invariant read
 
 pub returns-clause-read : goal.returns-clause-read
