@@ -3,6 +3,7 @@
 
 mod address;
 mod asking;
+mod asking_lines;
 mod bad_words;
 mod command;
 mod file_words;
@@ -11,6 +12,8 @@ mod grammar;
 mod lines;
 mod objects;
 mod online;
+mod parts;
+mod question_lines;
 mod serving;
 mod system;
 mod task;

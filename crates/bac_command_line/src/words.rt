@@ -279,6 +279,7 @@ Example: bac ask --port 47808 read 0:5 85
 Example: bac ask --port 47808 --text read analog-input:5 present-value
 Example: bac ask --to 192.168.1.20 --route 5:2A --timeout 3 read device:7 object-name
 Example: bac ask --to 192.168.1.20 write analog-value:1 present-value real:72.5 priority 8
+Example: bac ask --to 192.168.1.20 --text --lines requests.txt
 Example: bac ask --port 47808 put file:1 0 @log.bin
 Example: bac ask --port 47808 --raw get file:1 0 1000 > log.bin";
 
@@ -334,9 +335,16 @@ const ASK: &[Word] = &[
         help: "Of `get`: writes the octets of the file alone; where there are none, the error output tells how it ended, and the status is 1",
     },
     Word {
+        name: "lines",
+        form: Form::Text("FILE"),
+        need: Need::Never,
+        against: &["WORDS", "raw"],
+        help: "Asks the requests of a file, one a line, in turn by one node, and prints behind each line's number how it ended; `-` for standard input. Blank lines and those that begin with `#` are passed over; words are separated by single spaces, and none is `@FILE`. A bad line is told before anything is asked",
+    },
+    Word {
         name: "WORDS",
         form: Form::Several,
-        need: Need::Always,
+        need: Need::Unless("lines"),
         against: &[],
         help: WORDS_HELP,
     },
