@@ -16,7 +16,7 @@ from pathlib import Path
 
 sys.dont_write_bytecode = True  # no __pycache__ beside the sources
 
-KEEP, LIFE, MOST_SENDS = 65_000, 5_000, 4
+KEEP, LIFE, MOST_SENDS, ROUND = 65_000, 5_000, 4, 128
 FIELDS = ['frame.number', 'frame.time_epoch', 'ip.src', 'udp.srcport', 'ip.dst', 'udp.dstport', 'bacapp.type', 'bacapp.invoke_id', 'bacapp.sequence_number',
           'bacapp.NAK', 'bacapp.SRV', 'bacapp.window_size', 'udp.payload']
 CLIENTS, SERVERS, PORT = ['10.0.0.5', '10.0.0.6', '10.0.0.7'], ['10.0.0.9', '10.0.0.10'], 47808
@@ -194,7 +194,7 @@ def place(sent, seen):
         return 'next'
     if seen.apdu == sent.apdu:
         return 'again'
-    if seen.segment in (None, 0):
+    if seen.segment is None or (seen.segment == 0 and sent.more < ROUND):
         return 'other'
     return 'ahead' if 0 < (seen.segment - sent.number) % 256 < 128 else 'back'
 

@@ -1,14 +1,12 @@
 -- What was asked with the octets of a file in the place of the last word.
 use Rattle.std.proofs.Common.{◌≡◌, ℕ, Bool, List, [], ◌∷◌, ◌++◌, Option, Some, None, sym, ap, subst, ◌∙◌}
-use Rattle.std.specs.Prelude.{IfSome}
 use Rattle.std.specs.Io.KnownBytes.{Keeps}
-use Rattle.hex.specs.Hex.{encode_upper}
 use Rattle.bac_text.specs.Statuses.{IsStop}
 use Rattle.bac_text.specs.declared.status.Status.{Status}
 use Rattle.bac_text.specs.declared.status.Status.TheVariants as status
 use Rattle.bac_command_line.specs.Files.{OfFile}
 use Rattle.bac_command_line.specs.FileWords.{AreDigitsOf, IsBefore, file_of, with_octets}
-use Rattle.bac_command_line.specs.Online.{Asks, AsksWith, Clocks, IsAsked, IsAskedFrom, IsAskedOf, Links}
+use Rattle.bac_command_line.specs.Online.{Asks, Clocks, IsAsked, IsAskedFrom, IsAskedOf, Links}
 use Rattle.bac_command_line.specs.declared.asking.Asking.{Asking}
 use Rattle.bac_command_line.proofs.Statuses.{lifted}
 

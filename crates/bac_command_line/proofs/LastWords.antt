@@ -1,6 +1,6 @@
 -- The last of some words, which may name a file.
-use Rattle.std.proofs.Common.{◌≡◌, ◌≢◌, ◌==◌, ℕ, Bool, true, false, if◌then◌else◌, List, [], ◌∷◌, ◌++◌, length, map, Option, Some, None, MatchOption, Bor}
-use Rattle.std.proofs.Common.{refl, ap, sym, subst, ◌∙◌, arith}
+use Rattle.std.proofs.Common.{◌≡◌, ◌≢◌, ℕ, List, [], ◌∷◌, ◌++◌, map, Option, Some, None, MatchOption, Bor}
+use Rattle.std.proofs.Common.{refl, ap, sym, ◌∙◌, arith}
 use Rattle.std.specs.Option.{option_map}
 use Rattle.std.specs.List.{IsLastAndRest}
 use Rattle.std.proofs.lemmas.List.{map-append}

@@ -5,3 +5,6 @@ pub mod Served
 pub mod Asked
 pub mod LastWords
 pub mod AskedOf
+pub mod Separated
+pub mod ReadLines
+pub mod AskedLines

@@ -4,5 +4,6 @@ pub mod Serving
 pub mod Asking
 pub mod FileWords
 pub mod Online
+pub mod AskedLines
 pub mod Stores
 pub mod Tasks

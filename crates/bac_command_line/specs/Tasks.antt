@@ -2,6 +2,7 @@
 use Rattle.std.specs.Prelude.{ℕ, List, Option, map}
 use Rattle.std.specs.Option.{option_map}
 use Rattle.bac_text.specs.declared.status.Status.{Status}
+use Rattle.bac_command_line.specs.AskedLines.{AreAskedFrom}
 use Rattle.bac_command_line.specs.Files.{IsCheckedFile, IsExplainedFile, IsShownFile, IsSimulatedFile}
 use Rattle.bac_command_line.specs.Lines.{AreCheckedLines, IsDecodedFrom}
 use Rattle.bac_command_line.specs.Stores.{IsAnsweredFrom, IsServedFrom}
@@ -23,4 +24,5 @@ IsPerformed IsAt IsOn IsClock (task.Show view notes path) s old new = IsShownFil
 IsPerformed IsAt IsOn IsClock (task.Serve serving objects) s old new =
     IsServedFrom IsAt (option_map (λ p. p.now) objects) IsOn IsClock s serving old new
 IsPerformed IsAt IsOn IsClock (task.Ask asking words) s old new = IsAskedFrom IsAt IsOn IsClock s asking (map (λ w. w.now) words.now) old new
+IsPerformed IsAt IsOn IsClock (task.AskLines asking path) s old new = AreAskedFrom IsAt IsOn IsClock s asking path.now old new
 IsPerformed IsAt IsOn IsClock task.Pair s old new = IsPair IsOn IsClock s old new

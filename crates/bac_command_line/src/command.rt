@@ -3,6 +3,7 @@ ghost use Rattle.bac_command_line.specs.Files.{OnFile};
 ghost use Rattle.bac_command_line.specs.Online.{OnClock, OnPort};
 ghost use Rattle.bac_command_line.specs.Tasks.{IsPerformed};
 
+use crate::asking_lines::ask_lines;
 use crate::files::{OpenFiles, check, explain, show, simulate};
 use crate::grammar::matches;
 use crate::lines::{check_lines, decode};
@@ -43,6 +44,9 @@ fn perform<F: OpenFiles, M: Machine, O: Write, E: Write>(
         }
         Task::Ask { asking, words } => {
             file_words::ask(alloc, files, machine, &asking, words, out, err)
+        }
+        Task::AskLines { asking, path } => {
+            ask_lines(alloc, files, machine, &asking, path, out, err)
         }
         Task::Pair => online::pair(alloc, machine, out, err),
     }

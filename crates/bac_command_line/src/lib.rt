@@ -3,6 +3,7 @@
 
 mod address;
 mod asking;
+mod asking_lines;
 mod bad_words;
 mod command;
 mod file_words;
@@ -11,9 +12,12 @@ mod grammar;
 mod lines;
 mod objects;
 mod online;
+mod parts;
+mod question_lines;
 mod serving;
 mod system;
 mod task;
+mod words;
 
 pub use command::run;
 pub use files::OpenFiles;

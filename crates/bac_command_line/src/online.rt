@@ -114,7 +114,7 @@ fn asked_in(alloc: Global, asking: &Asking, words: &[&str]) -> Result<Question, 
 }
 
 /// A node asks; how that ended is printed as is wanted.
-fn ask_on<L: Link, C: Clock, O: Write, E: Write>(
+pub(crate) fn ask_on<L: Link, C: Clock, O: Write, E: Write>(
     alloc: Global,
     asking: &Asking,
     station: &mut Station<L>,

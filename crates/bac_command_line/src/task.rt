@@ -49,6 +49,11 @@ pub(crate) enum Task<'m, 'a> {
         asking: Asking,
         words: &'m [&'a str],
     },
+    /// The requests of the lines of this file.
+    AskLines {
+        asking: Asking,
+        path: &'a str,
+    },
     /// Two nodes.
     Pair,
 }
@@ -107,6 +112,9 @@ pub(crate) fn task_of<'m, 'a>(matches: &'m ArgMatches<'a>) -> Option<Task<'m, 'a
         }
         ("ask", given) => {
             let asking = asking_of(given)?;
+            if let Some(path) = given.get_str("lines") {
+                return Some(Task::AskLines { asking, path });
+            }
             let words = given.get_strs("WORDS")?;
             Some(Task::Ask { asking, words })
         }

@@ -1,7 +1,8 @@
 -- Requests and answers, as they are seen, and where an APDU stands after them.
-use Rattle.std.specs.Prelude.{ℕ, Bool, true, false, ◌==◌, if◌then◌else◌, List, Option, Some, None}
+use Rattle.std.specs.Prelude.{ℕ, Bool, true, false, nat_lt, ◌==◌, ◌&&◌, if◌then◌else◌, List, Option, Some, None}
 use Rattle.std.specs.Cmp.Lexicographic.{pointwise}
 use Rattle.bac_explain.specs.declared.grant.Grant.{Grant}
+use Rattle.bac_explain.specs.declared.numbers.TheConstants.{ROUND}
 use Rattle.bac_explain.specs.declared.part.Taken.{Taken}
 use Rattle.bac_explain.specs.declared.sent.Place.{Place}
 use Rattle.bac_explain.specs.declared.sent.Place.TheVariants.{Again, Next, Back, Ahead, Other}
@@ -42,10 +43,13 @@ are_same = pointwise (λ a b. a == b)
 abbrev pub numbered_place : ℕ → ℕ → Place
 numbered_place last number = if is_ahead last number then Ahead else Back
 
--- a segment 0 with other octets begins something else
+-- a segment 0 with other octets begins something else, until so many were seen that numbers may have gone round
+abbrev pub begins_anew : SentView → ℕ → Bool
+begins_anew s number = number == 0 && nat_lt s.segments ROUND
+
 abbrev pub other_place : SentView → Option ℕ → Place
 other_place s None = Other
-other_place s (Some number) = if number == 0 then Other else numbered_place s.number number
+other_place s (Some number) = if begins_anew s number then Other else numbered_place s.number number
 
 abbrev pub unlike_next : SentView → Option ℕ → List ℕ → Place
 unlike_next s number octets = if are_same s.octets octets then Again else other_place s number

@@ -6,6 +6,9 @@ ghost use Rattle.bac_explain.specs.Numbers.{ahead, following, is_ahead, is_behin
 /// clause 12.11.28, whose default is 3).
 pub(crate) const MOST_SENDS: u64 = 4;
 
+/// How many segments beside the first were seen where numbers may have gone round: half of all numbers, as some of them may not have been captured (own).
+pub(crate) const ROUND: u64 = 128;
+
 /// A count with one more; it stays at its last value.
 pub(crate) fn one_more(count: u64) -> u64
     ensures { result ≡ one_more count }

@@ -1,11 +1,11 @@
 //! A request or an answer, as it was seen.
 ghost use Rattle.std.specs.Prelude.{◌≡◌, IfOk};
 ghost use Rattle.bac_explain.specs.SentViews.{sent_view};
-ghost use Rattle.bac_explain.specs.Sent.{are_same, counted, first_sent, is_other, number_in, numbered_place, place_of, unlike_next, with_taken, with_asked_again};
+ghost use Rattle.bac_explain.specs.Sent.{are_same, begins_anew, counted, first_sent, is_other, number_in, numbered_place, place_of, unlike_next, with_taken, with_asked_again};
 ghost use Rattle.bac_explain.specs.Numbers.{following};
 
 use crate::grant::Grant;
-use crate::numbers::{is_ahead, is_following, one_more};
+use crate::numbers::{ROUND, is_ahead, is_following, one_more};
 use crate::part::Taken;
 use std::alloc::{AllocError, Global};
 
@@ -102,6 +102,13 @@ impl Sent {
         is_following(self.number, number)
     }
 
+    /// Whether a segment of that number, whose octets are not those of the first, begins something else.
+    fn begins_anew(&self, number: u8) -> bool
+        ensures { result ≡ begins_anew (sent_view self.now) number }
+    {
+        number == 0 && self.segments < ROUND
+    }
+
     /// Where an APDU stands that is not the next segment.
     fn unlike_next(&self, number: Option<u8>, octets: &[u8]) -> Place
         ensures { result ≡ unlike_next (sent_view self.now) number octets.now }
@@ -110,7 +117,8 @@ impl Sent {
             return Place::Again;
         }
         match number {
-            None | Some(0) => Place::Other,
+            None => Place::Other,
+            Some(number) if self.begins_anew(number) => Place::Other,
             Some(number) => numbered_place(self.number, number),
         }
     }

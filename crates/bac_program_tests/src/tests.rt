@@ -7,6 +7,7 @@ use std::alloc::Global;
 use std::test::Fail;
 
 mod answers;
+mod asked_lines;
 mod decoded;
 mod files;
 mod help;

@@ -1,5 +1,5 @@
 -- The reader gives what the file does.
-use Rattle.std.proofs.Common.{◌≡◌, List, ℕ, Option, rules}
+use Rattle.std.proofs.Common.{◌≡◌, List, ℕ, Option}
 use Rattle.std.specs.Io.Buffered.{reader_remaining}
 use Rattle.bac_explain_text.specs.Explained.{IsReportOf}
 use Rattle.bac_command_line.proofs.CheckedFiles.{told_file, prepend_nothing}

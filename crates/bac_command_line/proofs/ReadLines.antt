@@ -1,0 +1,42 @@
+-- The requests of lines, one line after the other.
+use Rattle.std.proofs.Common.{◌≡◌, ℕ, ◌+◌, true, List, [], ◌∷◌, ◌++◌, map, Option, Some, None, sym, ap, ◌∙◌, append_assoc, append-nil}
+use Rattle.std.proofs.lemmas.List.{map-append}
+use Rattle.bac_run.specs.Views.{question_view}
+use Rattle.bac_commands.specs.Questions.{IsQuestion}
+use Rattle.bac_command_line.specs.declared.question_lines.LineQuestion as code
+use Rattle.bac_npdu.specs.Peers.{PeerView}
+use Rattle.bac_text.specs.Notes.{read_of}
+use Rattle.bac_command_line.specs.AskedLines.{AddsLine, Numbered, asked_by, before_others, line_view, numbered, questions_from, words_of}
+
+-- what the lines from here on ask, behind those so far, is what all lines ask
+pub one_more_read : (peer : PeerView) (number next : ℕ) (lines others : List (List ℕ)) (line : List ℕ) (old new more : List Numbered)
+    (all : Option (List Numbered)) → next ≡ number + 1 → lines ≡ line ∷ others → AddsLine peer number line old new
+    → ((rest : List Numbered) → questions_from peer number lines ≡ Some rest → all ≡ Some (old ++ rest))
+    → questions_from peer next others ≡ Some more → all ≡ Some (new ++ more)
+one_more_read peer number next lines others line old new more all on is adds before read =
+    before (adds.found ++ more)
+    (ap (questions_from peer number) is
+    ∙ ap (λ (o : Option (List Numbered)). before_others o (questions_from peer (number + 1) others)) adds.asked
+    ∙ ap (before_others (Some adds.found)) (ap (λ (n : ℕ). questions_from peer n others) (sym on) ∙ read))
+    ∙ ap Some (sym (append_assoc old adds.found more) ∙ ap (λ (l : List Numbered). l ++ more) (sym adds.is))
+
+-- a note adds nothing
+pub note_adds : (peer : PeerView) (number : ℕ) (line : List ℕ) (old new : List code.LineQuestion) → read_of true line ≡ None → new ≡ old
+    → AddsLine peer number line (map line_view old) (map line_view new)
+note_adds peer number line old new none same =
+    record {
+      found = [];
+      asked = ap (asked_by peer number) none;
+      is = ap (map line_view) same ∙ sym (append-nil (map line_view old));
+    }
+
+-- a request adds what it asks
+pub request_adds : (peer : PeerView) (line read : List ℕ) (old new : List code.LineQuestion) (q : code.LineQuestion) → read_of true line ≡ Some read
+    → IsQuestion peer (words_of read) (question_view q.question) → new ≡ old ++ q ∷ []
+    → AddsLine peer q.number line (map line_view old) (map line_view new)
+request_adds peer line read old new q is asks pushed =
+    record {
+      found = line_view q ∷ [];
+      asked = ap (asked_by peer q.number) is ∙ ap (numbered q.number) asks;
+      is = ap (map line_view) pushed ∙ map-append line_view old (q ∷ []);
+    }

@@ -1,0 +1,162 @@
+//! Requests of lines, asked by one node: what `ask --lines` does.
+ghost use Rattle.std.specs.Prelude.{◌≡◌, ◌&&◌, map, IfErr, IfOk};
+ghost use Rattle.bac_npdu.specs.Views.{peer_view};
+ghost use Rattle.bac_run.specs.Runs.{timed};
+ghost use Rattle.bac_text.specs.Statuses.{IsFailure, IsStop};
+ghost use Rattle.bac_command_line.specs.AskedLines.{AreAskedFrom, AreLinesAsked, AreRead, AsksEach, AsksLine, ReportsLines, line_view};
+ghost use Rattle.bac_command_line.specs.Files.{OfFile, OnFile};
+ghost use Rattle.bac_command_line.specs.Online.{OnClock, OnPort};
+
+use crate::asking::Asking;
+use crate::files::{OpenFiles, opened};
+use crate::objects::octets_of;
+use crate::online::{Machine, ask_on};
+use crate::question_lines::{LineQuestion, questions_in};
+use bac_commands::{clock_fault, house_station, link_fault};
+use bac_link::{Clock, Link};
+use bac_run::Station;
+use bac_text::{Status, no_memory, output_failed};
+use std::alloc::Global;
+use std::io::Write;
+
+/// A node asks what a line asks; how that ended is printed behind the line's number. Answers whether it succeeded.
+fn ask_line<L: Link, C: Clock, O: Write, E: Write>(
+    alloc: Global,
+    asking: &Asking,
+    station: &mut Station<L>,
+    clock: &mut C,
+    line: &LineQuestion,
+    out: &mut O,
+    err: &mut E,
+) -> Result<bool, Status>
+    ensures asked { IfOk result (λ succeeded. AsksLine asking.now (line_view line.now) succeeded
+        (timed station.old (C.told clock.old)) (timed station.new (C.told clock.new)) (O.contents out.old) (O.contents out.new)) }
+    ensures failed { IfErr result IsFailure }
+{
+    let number = line.number;
+    if let Err(error) = write!(out, "{number}: ") {
+        return Err(output_failed(err, &error));
+    }
+    let question = &line.question;
+    let patience = asking.patience(clock.now());
+    match ask_on(alloc, asking, station, clock, question, &patience, out, err) {
+        Status::Done => Ok(true),
+        Status::Faulty => Ok(false),
+        Status::CommandLine => Err(Status::CommandLine),
+        Status::Output => Err(Status::Output),
+        Status::Memory => Err(Status::Memory),
+    }
+}
+
+fn both(first: bool, second: bool) -> bool
+    ensures { result ≡ first && second }
+{
+    first && second
+}
+
+/// A node asks what lines ask, one after the other. Answers whether all succeeded.
+fn ask_each<L: Link, C: Clock, O: Write, E: Write>(
+    alloc: Global,
+    asking: &Asking,
+    station: &mut Station<L>,
+    clock: &mut C,
+    lines: &[LineQuestion],
+    out: &mut O,
+    err: &mut E,
+) -> Result<bool, Status>
+    ensures asked { IfOk result (λ all. AsksEach asking.now (map line_view lines.now) all
+        (timed station.old (C.told clock.old)) (timed station.new (C.told clock.new)) (O.contents out.old) (O.contents out.new)) }
+    ensures failed { IfErr result IsFailure }
+{
+    let mut all = true;
+    for (place, line) in lines.iter().enumerate() {
+        let succeeded = ask_line(alloc, asking, station, clock, line, out, err)?;
+        all = both(all, succeeded);
+    }
+    Ok(all)
+}
+
+/// The same, and the status says whether all succeeded, or why asking stopped.
+#[tactic(auto, using(bac_commands::proofs::Statuses::failed))]
+fn ask_lines_on<L: Link, C: Clock, O: Write, E: Write>(
+    alloc: Global,
+    asking: &Asking,
+    station: &mut Station<L>,
+    clock: &mut C,
+    lines: &[LineQuestion],
+    out: &mut O,
+    err: &mut E,
+) -> Status
+    ensures { ReportsLines result asking.now (map line_view lines.now)
+        (timed station.old (C.told clock.old)) (timed station.new (C.told clock.new)) (O.contents out.old) (O.contents out.new) }
+{
+    match ask_each(alloc, asking, station, clock, lines, out, err) {
+        Ok(true) => Status::Done,
+        Ok(false) => Status::Faulty,
+        Err(status) => status,
+    }
+}
+
+/// A node at any free port, whose invoke IDs begin where the machine says, asks what lines ask.
+fn ask_all<M: Machine, O: Write, E: Write>(
+    alloc: Global,
+    machine: &M,
+    asking: &Asking,
+    lines: &[LineQuestion],
+    out: &mut O,
+    err: &mut E,
+) -> Status
+    ensures { AreLinesAsked (OnPort M.is_bound M.Link.failures M.Link.calls) (OnClock M.is_made M.Timer.told) result asking.now (map line_view lines.now)
+        (O.contents out.old) (O.contents out.new) }
+{
+    let Some(bound) = machine.bind(asking.host, 0) else {
+        return link_fault(err);
+    };
+    let Some(mut timer) = machine.timer() else {
+        return clock_fault(err);
+    };
+    let Some(first_id) = machine.first_id() else {
+        return clock_fault(err);
+    };
+    let address = bound.1;
+    let Ok(mut station) = house_station(alloc, bound.0, address, first_id) else {
+        return no_memory(err);
+    };
+    ask_lines_on(alloc, asking, &mut station, &mut timer, lines, out, err)
+}
+
+/// What the lines of a file ask. Where it cannot be read, or a line is bad, `err` and the status tell it.
+fn questions_at<F: OpenFiles, E: Write>(
+    alloc: Global,
+    files: &F,
+    asking: &Asking,
+    path: &str,
+    err: &mut E,
+) -> Result<Vec<LineQuestion>, Status>
+    ensures read { IfOk result (λ lines. OfFile (OnFile F.is_file F.File.remaining) path.now (AreRead (peer_view asking.now.peer) (map line_view lines.items))) }
+    ensures told { IfErr result IsStop }
+{
+    let file = opened(files, path, err)?;
+    let text = octets_of(alloc, file, err)?;
+    questions_in(alloc, asking.peer, &text, err)
+}
+
+/// A node asks what the lines of a file ask, one after the other; how each ended is printed behind the line's number. A file that cannot be opened or read:
+/// `cannot read` on `err`. Where words are no request, `err` tells the line and which is bad, and nothing is asked.
+pub(crate) fn ask_lines<F: OpenFiles, M: Machine, O: Write, E: Write>(
+    alloc: Global,
+    files: &F,
+    machine: &M,
+    asking: &Asking,
+    path: &str,
+    out: &mut O,
+    err: &mut E,
+) -> Status
+    ensures { AreAskedFrom (OnFile F.is_file F.File.remaining) (OnPort M.is_bound M.Link.failures M.Link.calls) (OnClock M.is_made M.Timer.told) result
+        asking.now path.now (O.contents out.old) (O.contents out.new) }
+{
+    match questions_at(alloc, files, asking, path, err) {
+        Ok(lines) => ask_all(alloc, machine, asking, &lines, out, err),
+        Err(status) => status,
+    }
+}
