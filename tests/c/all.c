@@ -45,6 +45,8 @@ static const uint8_t REAL_10[] = { 0x44, 0x41, 0x20, 0, 0 }, REAL_20[] = { 0x44,
 /* the Abort of a request that finds no slot, or a node that restarted */
 static const uint8_t ABORTED[] = { 0x81, 0x0A, 0, 0x09, 1, 0, 0x71, 1, 0 };
 
+enum { SEGMENTED = 6000 }; /* octets of a file: five segments */
+
 static size_t n;
 static uint8_t to[6], out[1514], many[70000];
 
@@ -286,16 +288,46 @@ static int limit_rows(bac_node *node)
     return 0;
 }
 
-/* the datagrams of a call go over, and what they are answered comes back */
+/* the datagrams of a call go over, and what they are answered comes back, turn by turn, until the ask has ended */
 static int carry(bac_node *client, bac_node *server, uint64_t now)
 {
-    n = bac_send(client, 0, to, out, sizeof out);
-    HOLDS(bac_sends(client) == 1 && memcmp(to, THERE, 6) == 0);
-    CALL(BAC_OK, bac_on(server, now, HERE, out, n));
-    n = bac_send(server, 0, to, out, sizeof out);
-    HOLDS(bac_sends(server) == 1 && memcmp(to, HERE, 6) == 0);
-    CALL(BAC_OK, bac_on(client, now, THERE, out, n));
-    HOLDS(bac_ends(client) == 1);
+    bac_node *from = client, *at = server;
+    for (;;) {
+        size_t count = bac_sends(from);
+        HOLDS(count > 0);
+        for (size_t i = 0; i < count; i++) {
+            n = bac_send(from, i, to, out, sizeof out);
+            HOLDS(n <= sizeof out && memcmp(to, at == server ? THERE : HERE, 6) == 0);
+            CALL(BAC_OK, bac_on(at, now, at == server ? HERE : THERE, out, n));
+            HOLDS(i + 1 == count || bac_sends(at) == 0);
+        }
+        if (at == client && bac_ends(client) > 0) {
+            HOLDS(bac_ends(client) == 1);
+            return 0;
+        }
+        bac_node *next = from;
+        from = at;
+        at = next;
+    }
+}
+
+/* a file goes over in segments, and comes back so */
+static int segment_rows(bac_node *client, bac_node *server, const bac_target *t)
+{
+    static uint8_t back[SEGMENTED];
+    bac_ending e;
+    bac_act a;
+    uint64_t ticket;
+    memset(many, 'y', SEGMENTED);
+    CALL(BAC_OK, bac_ask_put(client, 150, t, 1, 0, many, SEGMENTED, &ticket));
+    if (carry(client, server, 151)) { return 1; }
+    HOLDS(bac_end(client, 0, &e, back, sizeof back) == 0 && e.how == BAC_PLACED && e.position == 0);
+    HOLDS(bac_performed(server, &a, back, sizeof back) == SEGMENTED && a.service == 7 && a.done && memcmp(back, many, SEGMENTED) == 0);
+    memset(back, 0, sizeof back);
+    CALL(BAC_OK, bac_ask_get(client, 160, t, 1, 0, SEGMENTED, &ticket));
+    if (carry(client, server, 161)) { return 1; }
+    HOLDS(bac_end(client, 0, &e, back, sizeof back) == SEGMENTED && e.how == BAC_CONTENT && e.code == 1);
+    HOLDS(memcmp(back, many, SEGMENTED) == 0);
     return 0;
 }
 
@@ -347,6 +379,8 @@ static int ask_rows(bac_node *client, bac_node *server)
     if (carry(client, server, 141)) { return 1; }
     HOLDS(bac_end(client, 0, &e, out, sizeof out) == 0 && e.how == BAC_ERROR && e.class_ == 1 && e.code == 31);
     HOLDS(bac_performed(server, &a, out, sizeof out) == 0 && a.service == 12 && !a.done);
+
+    if (segment_rows(client, server, &t)) { return 1; }
 
     /* nobody answers: it is sent four times, and ends */
     CALL(BAC_OK, bac_ask_read(client, 200, &t, &r, &ticket));
