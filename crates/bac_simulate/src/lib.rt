@@ -3,12 +3,15 @@
 
 mod capture;
 mod marks;
+mod nothing;
 mod read_script;
 mod script;
 mod simulate;
 mod telling;
 mod trace;
 mod view;
+mod wording;
+mod words;
 mod world_of;
 
 pub use simulate::{simulate_in, simulate_lines_over, simulate_over};
