@@ -1,6 +1,7 @@
 //! `bac simulate`: a script of events in a network of nodes, and what comes of each; also in a network of the caller's.
 #![tactic(auto)]
 
+mod bad_line;
 mod capture;
 mod marks;
 mod nothing;

@@ -4,11 +4,13 @@ ghost use Rattle.std.specs.Io.KnownBytes.{Appends};
 ghost use Rattle.bac_chart.specs.Views.{mark_view};
 ghost use Rattle.bac_script.specs.Views.{setting_view};
 ghost use Rattle.bac_simulate.specs.Drawn.{rest_of, shown_text, IsDrawn, IsRead, IsShown, IsWorded, Shows, ShowsAs};
+ghost use Rattle.bac_simulate.specs.Runs.{status_for};
 ghost use Rattle.bac_simulate.specs.Scripts.{IsModest, IsNotRead, script_of};
 ghost use Rattle.bac_simulate.specs.Views.{line_view};
 ghost use Rattle.bac_text.specs.Lines.{lines_of};
 ghost use Rattle.bac_text.specs.Texts.{AppendsText};
 
+use crate::bad_line::tell_bad_line;
 use crate::capture::print_capture;
 use crate::read_script::ReadScript;
 use crate::script::{FirstLine, ScriptFault, lines_in, read_first};
@@ -139,6 +141,29 @@ fn run_and_show<O: Write, E: Write>(
     }
 }
 
+/// Complains of octets that are no script; in words also of what is wrong with the bad line.
+fn refuse<E: Write>(
+    alloc: Global,
+    view: View,
+    notes: bool,
+    text: &[u8],
+    fault: ScriptFault,
+    err: &mut E,
+) -> Status
+    ensures { result ≡ status_for fault }
+{
+    let ScriptFault::Line(number) = fault else {
+        return no_script(fault, err);
+    };
+    match view {
+        View::Text => {
+            tell_bad_line(alloc, notes, text, number, err);
+            Status::CommandLine
+        }
+        View::Chart | View::Mermaid | View::Capture => no_script(fault, err),
+    }
+}
+
 /// Shows the run of the script that these octets are.
 fn show<O: Write, E: Write>(
     alloc: Global,
@@ -156,7 +181,7 @@ fn show<O: Write, E: Write>(
             let flushed = out.flush();
             ended(ran, flushed, err)
         }
-        Err(fault) => no_script(fault, err),
+        Err(fault) => refuse(alloc, view, notes, text, fault, err),
     }
 }
 

@@ -144,6 +144,19 @@ const TOLD: &[ToldRow] = &[
     ("nodes 1\ntick 1\n", "line 2: fault 1\n", "", 1),
     ("nodes 1\nlose 0\n", "line 2: fault 2\n", "", 1),
     ("nodes 0\n", "", "line 1: not a script line\n", 2),
+    (
+        "nodes 2\n\nask 0 1 read 0:5 presentvalue\r\n",
+        "",
+        "line 3: not a script line: property \"presentvalue\" is no name and no number\n",
+        2,
+    ),
+    (
+        "nodes 2\nask 0 1 put 10:1 0\n",
+        "",
+        "line 2: not a script line: octets is missing\n",
+        2,
+    ),
+    ("nodes 2\nask 0\n", "", "line 2: not a script line\n", 2),
 ];
 
 fn is_told(alloc: Global, (script, out, err, status): &ToldRow) -> bool {
