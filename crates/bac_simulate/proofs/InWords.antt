@@ -1,5 +1,5 @@
 -- What is told in words, one line after the other.
-use Rattle.std.proofs.Common.{◌≡◌, ◌↔◌, ℕ, ◌+◌, ◌-◌, ◌<◌, ◌≤◌, nat_le, true, false, Bool, List, [], ◌∷◌, ◌++◌, length, map, drop, reverse, Option, Some, None, Result, IsErrOf, inl, inr}
+use Rattle.std.proofs.Common.{◌≡◌, ◌↔◌, ℕ, ◌+◌, ◌-◌, ◌<◌, ◌≤◌, nat_le, true, false, Bool, List, [], ◌++◌, length, map, drop, reverse, Option, Some, None, IsErrOf, inl}
 use Rattle.std.proofs.Common.{refl, sym, ap, subst, ◌∙◌, slice_get, append-nil}
 use Rattle.std.proofs.lemmas.List.{append_assoc, drop_all, length-map, reverse-reverse}
 use Rattle.std.proofs.lemmas.Option.{slice_get-map}

@@ -155,7 +155,8 @@ run_shown v nodes first lines all world last marks a b traced printed = (
 
 -- ---- a run that is told in words
 
-pub run_told : {E : Type 0} (run : Result Bool E) (first : ℕ) (lines : List ScriptLine) (world last : WorldView) (a b : Option (List ℕ))
-    → IfOk run (λ all. AppendsText a b (Runs in_words first lines all world last)) → IfOk run (λ all. AppendsText a b (IsWorded first lines all world))
-run_told (Ok all) first lines world last a b told = (told.0, ((last, told.1.0), told.1.1))
-run_told (Err e) first lines world last a b told = tt
+pub run_told : {E : Type 0} (run : Result Bool E) (first : ℕ) (held lines : List ScriptLine) (world last : WorldView) (a b : Option (List ℕ)) → held ≡ lines
+    → IfOk run (λ all. AppendsText a b (Runs in_words first held all world last)) → IfOk run (λ all. AppendsText a b (IsWorded first lines all world))
+run_told (Ok all) first held lines world last a b same told =
+    (told.0, ((last, subst (λ (l : List ScriptLine). Runs in_words first l all world last told.0) same told.1.0), told.1.1))
+run_told (Err e) first held lines world last a b same told = tt

@@ -19,7 +19,7 @@ use Rattle.bac_network.specs.declared.fault.WorldFault.TheVariants as fault
 use Rattle.bac_commands.specs.Facts.{fault_line, refused_line}
 use Rattle.bac_text.specs.Texts.{AppendsText}
 use Rattle.bac_simulate.specs.Told.{lost_line, outcome_text}
-use Rattle.bac_simulate.specs.Runs.{IsStep, IsRun, Passed, Runs, Steps, Telling, change_fault_in, in_text}
+use Rattle.bac_simulate.specs.Runs.{IsStep, Passed, Runs, Steps, Telling, change_fault_in, in_text}
 use Rattle.bac_simulate.proofs.Appending.{drop_seen, joined, nothing_more}
 
 -- ---- one event

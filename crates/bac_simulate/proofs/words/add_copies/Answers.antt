@@ -9,7 +9,7 @@ loop-number-preserved c =
     let k = c.index-copies-number.result in
     let lt : at.number < length c.args.copies.now = omega arith in
     copy_told c.args.copies.now at.number k (slice_get_read c.args.copies.now _ at.number k refl lt c.index-copies-number.is) _ _ _
-    c.in_ok-words.ensures c.in_ok-add_line.ensures
+    (c.as_slice.ensures.value ∙ c.in_ok-words.ensures) c.in_ok-add_line.ensures
     ∙ at.invariant
 
 pub returns : goal.returns
