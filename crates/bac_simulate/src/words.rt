@@ -1,5 +1,5 @@
 //! An event, and what came of it, in words.
-ghost use Rattle.std.specs.Prelude.{◌≡◌, ◌++◌, ◌∷◌, drop, length, map, IfOk, OnOk};
+ghost use Rattle.std.specs.Prelude.{◌≡◌, ◌++◌, drop, map, IfOk, OnOk};
 ghost use Rattle.bac_journal.specs.Views.{copy_view};
 ghost use Rattle.bac_network.specs.Views.{event_view, fact_view};
 ghost use Rattle.bac_service.specs.Views.{owned_reply_view, owned_request_view};
