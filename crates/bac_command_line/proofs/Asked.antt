@@ -1,12 +1,19 @@
 -- The question that some words are was asked.
-use Rattle.std.proofs.Common.{ℕ, true, false, List, Option}
+use Rattle.std.proofs.Common.{◌≡◌, ℕ, Bool, true, false, List, Option, Result, sym, subst}
+use Rattle.std.specs.Prelude.{IfOk}
 use Rattle.bac_npdu.specs.Views.{peer_view}
 use Rattle.bac_text.specs.declared.status.Status.{Status}
 use Rattle.bac_run.specs.Asking.{Question}
+use Rattle.bac_run.specs.Runs.{Timed}
+use Rattle.bac_run.specs.Views.{question_view}
+use Rattle.bac_run.specs.declared.question.Question as code
 use Rattle.bac_commands.specs.Questions.{IsQuestion}
 use Rattle.bac_commands.specs.Statuses.{ByStatus}
 use Rattle.bac_command_line.specs.Online.{AsksOnce, ByClient, Clocks, IsAsked, Links}
+use Rattle.bac_command_line.specs.Asked.{AsksAll}
 use Rattle.bac_command_line.specs.declared.asking.Asking.{Asking}
+use Rattle.bac_command_line.specs.declared.rounds.Asked.{Asked}
+use Rattle.bac_command_line.specs.declared.rounds.Asked.TheVariants as asked
 use Rattle.bac_command_line.proofs.Statuses.{lifted}
 
 pub asked_so : (IsOn : Links) (IsClock : Clocks) (asking : Asking) (words : List (List ℕ)) (q : Question) (old new : Option (List ℕ)) (s : Status)
@@ -15,3 +22,9 @@ pub asked_so : (IsOn : Links) (IsClock : Clocks) (asking : Asking) (words : List
     → IsAsked IsOn IsClock s asking words old new
 asked_so IsOn IsClock asking words q old new s is reports =
     lifted s (λ a. record { question = q; is = is; asks = a }) (λ a. record { question = q; is = is; asks = a }) (λ (no : ⊥). absurd no) reports
+
+-- what was asked is that one question
+pub asked_one : (asking : Asking) (a : Asked) (q : code.Question) (r : Result Bool Status) (before after : Timed) (old new : Option (List ℕ))
+    → a ≡ asked.One q → IfOk r (λ all. AsksOnce asking (question_view q) all before after old new) → IfOk r (λ all. AsksAll asking a all before after old new)
+asked_one asking a q r before after old new is asks =
+    subst (λ (x : Asked). IfOk r (λ all. AsksAll asking x all before after old new)) (sym is) asks

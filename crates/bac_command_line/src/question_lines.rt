@@ -1,5 +1,5 @@
 //! Requests of lines: those of a text, each by its number.
-ghost use Rattle.std.specs.Prelude.{◌≡◌, map, IfErr, IfOk, IsErrOf, None, Some};
+ghost use Rattle.std.specs.Prelude.{◌≡◌, map, true, IfErr, IfOk, IsErrOf, None, Some};
 ghost use Rattle.bac_npdu.specs.Views.{peer_view};
 ghost use Rattle.bac_run.specs.Views.{question_view};
 ghost use Rattle.bac_commands.specs.Questions.{IsQuestion, question_of};

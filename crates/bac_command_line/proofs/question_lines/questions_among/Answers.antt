@@ -1,5 +1,6 @@
-use Rattle.std.proofs.Common.{◌≡◌, ◌<◌, ◌+◌, [], ◌∷◌, length, map, drop, List, ℕ, Bor, Some, ap, ◌∙◌, refl, append-nil, arith}
+use Rattle.std.proofs.Common.{◌≡◌, ◌<◌, ◌+◌, [], length, map, drop, Some, ap, ◌∙◌, refl, append-nil, arith}
 use Rattle.std.proofs.lemmas.List.{drop_all, length-map}
+use Rattle.std.proofs.lemmas.Result.{err_from_is_err_and}
 use Rattle.std.proofs.lemmas.Option.{slice_get-get_or}
 use Rattle.bac_npdu.specs.Views.{peer_view}
 use Rattle.bac_simulate.proofs.Appending.{drop_seen}
@@ -27,3 +28,14 @@ returns-clause-read g c =
     let same : length (map (λ p. p.now) c.args.lines.now) ≡ length c.args.lines.now = length-map c.args.lines.now (λ p. p.now) in
     at.invariant.good [] (ap (questions_from (peer_view c.args.peer) (at.place + 1)) (drop_all at.place (map (λ p. p.now) c.args.lines.now) (omega (arith, same))))
     ∙ ap Some (append-nil (map line_view at.questions.items))
+
+pub returns-in_err-add_line-clause-refused : goal.returns-in_err-add_line-clause-refused
+returns-in_err-add_line-clause-refused g c =
+    let at = c.loop-place in
+    let lt : at.place < length c.args.lines.now = omega arith in
+    let p = err_from_is_err_and c.from_residual.result c.from_residual.ensures.1 in
+    rw (p.1, p.2)
+    (λ e. bad_line_read (peer_view c.args.peer) (at.place + 1) (drop at.place (map (λ p. p.now) c.args.lines.now))
+    (drop (at.place + 1) (map (λ p. p.now) c.args.lines.now)) _ (questions_from (peer_view c.args.peer) 1 (map (λ p. p.now) c.args.lines.now))
+    (drop_seen (λ p. p.now) c.args.lines.now at.place _ (slice_get-get_or c.args.lines.now at.place _ lt)) (c.in_err-add_line.ensures.refused e)
+    at.invariant.bad)
