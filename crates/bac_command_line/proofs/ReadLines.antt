@@ -20,6 +20,22 @@ one_more_read peer number next lines others line old new more all on is adds bef
     ∙ ap (before_others (Some adds.found)) (ap (λ (n : ℕ). questions_from peer n others) (sym on) ∙ read))
     ∙ ap Some (sym (append_assoc old adds.found more) ∙ ap (λ (l : List Numbered). l ++ more) (sym adds.is))
 
+-- where the next line is bad, or one behind it, they are not all requests
+pub bad_line_read : (peer : PeerView) (number : ℕ) (lines others : List (List ℕ)) (line : List ℕ) (all : Option (List Numbered)) → lines ≡ line ∷ others
+    → asked_by peer number (read_of true line) ≡ None → (questions_from peer number lines ≡ None → all ≡ None) → all ≡ None
+bad_line_read peer number lines others line all is bad whole =
+    whole
+    (ap (questions_from peer number) is ∙ ap (λ (o : Option (List Numbered)). before_others o (questions_from peer (number + 1) others)) bad)
+
+pub none_more_read : (peer : PeerView) (number next : ℕ) (lines others : List (List ℕ)) (line : List ℕ) (old new : List Numbered)
+    (all : Option (List Numbered)) → next ≡ number + 1 → lines ≡ line ∷ others → AddsLine peer number line old new
+    → (questions_from peer number lines ≡ None → all ≡ None) → questions_from peer next others ≡ None → all ≡ None
+none_more_read peer number next lines others line old new all on is adds whole none =
+    whole
+    (ap (questions_from peer number) is
+    ∙ ap (λ (o : Option (List Numbered)). before_others o (questions_from peer (number + 1) others)) adds.asked
+    ∙ ap (before_others (Some adds.found)) (ap (λ (n : ℕ). questions_from peer n others) (sym on) ∙ none))
+
 -- a note adds nothing
 pub note_adds : (peer : PeerView) (number : ℕ) (line : List ℕ) (old new : List code.LineQuestion) → read_of true line ≡ None → new ≡ old
     → AddsLine peer number line (map line_view old) (map line_view new)
