@@ -1,6 +1,8 @@
 -- What `check`, `explain` and `simulate` print of a file, and their statuses.
 use Rattle.std.specs.Prelude.{◌≡◌, ℕ, Bool, List, Option, ⊤}
 use Rattle.bac_check.specs.Checked.{IsReportOf}
+use Rattle.bac_chart.specs.declared.drawing.Form.{Form}
+use Rattle.bac_explain_chart.specs.Charted as charted
 use Rattle.bac_explain_text.specs.Explained as explained
 use Rattle.bac_text.specs.declared.status.Status.{Status}
 use Rattle.bac_simulate.specs.Drawn.{ShowsAs}
@@ -36,6 +38,11 @@ IsCheckedFile IsAt path also s old new = IsToldFile IsAt path s (λ content. IsR
 abbrev pub IsExplainedFile : (IsAt : (path : List ℕ) → (content : Option (List ℕ)) → Type 0) → (path : List ℕ) → (also : Option ℕ) → Status
     → (old new : Option (List ℕ)) → Type 0
 IsExplainedFile IsAt path also s old new = IsToldFile IsAt path s (λ content. explained.IsReportOf also content old new s)
+
+-- the datagrams of the capture in the file were drawn to its end
+abbrev pub IsChartedFile : (IsAt : (path : List ℕ) → (content : Option (List ℕ)) → Type 0) → Form → (path : List ℕ) → (also : Option ℕ) → Status
+    → (old new : Option (List ℕ)) → Type 0
+IsChartedFile IsAt form path also s old new = IsToldFile IsAt path s (λ content. charted.IsReportOf form also content old new s)
 
 -- the events of the script in the file happened, all of them or up to the first that could not
 abbrev pub IsSimulatedFile : (IsAt : (path : List ℕ) → (content : Option (List ℕ)) → Type 0) → (notes : Bool) → (path : List ℕ) → Status → (old new : Option (List ℕ)) → Type 0

@@ -3,7 +3,7 @@ use Rattle.std.specs.Prelude.{ℕ, List, Option, map}
 use Rattle.std.specs.Option.{option_map}
 use Rattle.bac_text.specs.declared.status.Status.{Status}
 use Rattle.bac_command_line.specs.Asked.{AreAskedFrom}
-use Rattle.bac_command_line.specs.Files.{IsCheckedFile, IsExplainedFile, IsShownFile, IsSimulatedFile}
+use Rattle.bac_command_line.specs.Files.{IsChartedFile, IsCheckedFile, IsExplainedFile, IsShownFile, IsSimulatedFile}
 use Rattle.bac_command_line.specs.Lines.{AreCheckedLines, IsDecodedFrom}
 use Rattle.bac_command_line.specs.Stores.{IsAnsweredFrom, IsServedFrom}
 use Rattle.bac_command_line.specs.Online.{Clocks, IsAskedFrom, IsPair, Links}
@@ -19,6 +19,7 @@ IsPerformed IsAt IsOn IsClock (task.Decode in_words datagram) s old new = IsDeco
 IsPerformed IsAt IsOn IsClock (task.Check path port) s old new = IsCheckedFile IsAt path.now port s old new
 IsPerformed IsAt IsOn IsClock (task.CheckLines path) s old new = AreCheckedLines IsAt path.now s old new
 IsPerformed IsAt IsOn IsClock (task.Explain path port) s old new = IsExplainedFile IsAt path.now port s old new
+IsPerformed IsAt IsOn IsClock (task.Chart form path port) s old new = IsChartedFile IsAt form path.now port s old new
 IsPerformed IsAt IsOn IsClock (task.Simulate notes path) s old new = IsSimulatedFile IsAt notes path.now s old new
 IsPerformed IsAt IsOn IsClock (task.Show view notes path) s old new = IsShownFile IsAt view notes path.now s old new
 IsPerformed IsAt IsOn IsClock (task.Serve serving objects) s old new =

@@ -4,7 +4,7 @@ ghost use Rattle.bac_command_line.specs.Online.{OnClock, OnPort};
 ghost use Rattle.bac_command_line.specs.Tasks.{IsPerformed};
 
 use crate::asking_lines::ask_lines;
-use crate::files::{OpenFiles, check, explain, show, simulate};
+use crate::files::{OpenFiles, chart, check, explain, show, simulate};
 use crate::grammar::matches;
 use crate::lines::{check_lines, decode};
 use crate::objects::{answer, serve};
@@ -37,6 +37,7 @@ fn perform<F: OpenFiles, M: Machine, O: Write, E: Write>(
         Task::Check { path, port } => check(alloc, files, path, port, out, err),
         Task::CheckLines(path) => check_lines(alloc, files, path, out, err),
         Task::Explain { path, port } => explain(alloc, files, path, port, out, err),
+        Task::Chart { form, path, port } => chart(alloc, files, form, path, port, out, err),
         Task::Simulate { notes, path } => simulate(alloc, files, notes, path, out, err),
         Task::Show { view, notes, path } => show(alloc, files, view, notes, path, out, err),
         Task::Serve { serving, objects } => {

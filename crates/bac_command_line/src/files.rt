@@ -1,9 +1,10 @@
 //! Files that a command line names: what `check`, `explain` and `simulate` do.
 ghost use Rattle.std.specs.Prelude.{◌≡◌, ℕ, List, IfOk, IfErr};
 ghost use Rattle.bac_text.specs.Statuses.{IsStop};
-ghost use Rattle.bac_command_line.specs.Files.{IsCheckedFile, IsExplainedFile, IsShownFile, IsSimulatedFile, OnFile};
+ghost use Rattle.bac_command_line.specs.Files.{IsChartedFile, IsCheckedFile, IsExplainedFile, IsShownFile, IsSimulatedFile, OnFile};
 
 use bac_check::{Ports, check_capture_over};
+use bac_explain_chart::{Form, chart_over};
 use bac_explain_text::explain_over;
 use bac_simulate::{View, show_over, simulate_lines_over};
 use bac_text::{Status, complain, no_memory};
@@ -77,6 +78,29 @@ pub(crate) fn explain<F: OpenFiles, O: Write, E: Write>(
     };
     match BufReader::new(alloc, file) {
         Ok(mut input) => explain_over(alloc, &mut input, Ports { also: port }, out, err),
+        Err(_) => no_memory(err),
+    }
+}
+
+/// Draws the datagrams of the capture in a file of pcap or pcapng; with a port beside those of BACnet/IP. A file that cannot be opened:
+/// `cannot read` on `err`.
+pub(crate) fn chart<F: OpenFiles, O: Write, E: Write>(
+    alloc: Global,
+    files: &F,
+    form: Form,
+    path: &str,
+    port: Option<u16>,
+    out: &mut O,
+    err: &mut E,
+) -> Status
+    ensures { IsChartedFile (OnFile F.is_file F.File.remaining) form path.now port result (O.contents out.old) (O.contents out.new) }
+{
+    let file = match opened(files, path, err) {
+        Ok(file) => file,
+        Err(status) => return status,
+    };
+    match BufReader::new(alloc, file) {
+        Ok(mut input) => chart_over(alloc, form, &mut input, Ports { also: port }, out, err),
         Err(_) => no_memory(err),
     }
 }

@@ -1,6 +1,7 @@
 //! What a command line asks for.
 use crate::asking::{Asking, asking_of};
 use crate::serving::{Serving, serving_of};
+use bac_explain_chart::Form;
 use bac_simulate::View;
 use clap::ArgMatches;
 
@@ -25,6 +26,12 @@ pub(crate) enum Task<'m, 'a> {
     CheckLines(&'a str),
     /// The transactions of the capture in this file, with such a port.
     Explain {
+        path: &'a str,
+        port: Option<u16>,
+    },
+    /// The datagrams of the capture in this file, with such a port, drawn as that.
+    Chart {
+        form: Form,
         path: &'a str,
         port: Option<u16>,
     },
@@ -73,6 +80,17 @@ fn view_of(given: &ArgMatches<'_>) -> Option<View> {
     }
 }
 
+/// What the datagrams of a capture are to be drawn as; None where its transactions are told.
+fn form_of(given: &ArgMatches<'_>) -> Option<Form> {
+    if given.get_flag("chart") {
+        Some(Form::Chart)
+    } else if given.get_flag("mermaid") {
+        Some(Form::Mermaid)
+    } else {
+        None
+    }
+}
+
 /// None where there is no subcommand, or its word is missing; clap refuses such words itself. Also where an address is none of IPv4.
 pub(crate) fn task_of<'m, 'a>(matches: &'m ArgMatches<'a>) -> Option<Task<'m, 'a>> {
     match matches.subcommand()? {
@@ -97,7 +115,10 @@ pub(crate) fn task_of<'m, 'a>(matches: &'m ArgMatches<'a>) -> Option<Task<'m, 'a
         ("explain", given) => {
             let path = given.get_str("FILE")?;
             let port = given.get_one("port");
-            Some(Task::Explain { path, port })
+            match form_of(given) {
+                Some(form) => Some(Task::Chart { form, path, port }),
+                None => Some(Task::Explain { path, port }),
+            }
         }
         ("simulate", given) => {
             let path = given.get_str("FILE")?;

@@ -119,6 +119,11 @@ const CHECK: &[Word] = &[
     },
 ];
 
+/// Captures that may be explained.
+const EXPLAIN_EXAMPLES: &str = "\
+Example: bac explain capture.pcapng
+Example: bac explain --chart capture.pcapng";
+
 /// What `explain` takes.
 const EXPLAIN: &[Word] = &[
     Word {
@@ -134,6 +139,20 @@ const EXPLAIN: &[Word] = &[
         need: Need::Never,
         against: &[],
         help: "A UDP port that carries BACnet/IP beside 47808 to 47823",
+    },
+    Word {
+        name: "chart",
+        form: Form::Flag,
+        need: Need::Never,
+        against: &[],
+        help: "Draws a sequence chart in place of that: a column for each peer, 41 characters wide, at most 16",
+    },
+    Word {
+        name: "mermaid",
+        form: Form::Flag,
+        need: Need::Never,
+        against: &["chart"],
+        help: "Prints that chart for Mermaid, a `sequenceDiagram`",
     },
 ];
 
@@ -401,7 +420,7 @@ pub(crate) const COMMANDS: &[Grammar] = &[
         name: "explain",
         about: "Prints the transactions of a file of pcap or pcapng, how they ended, and what was wrong with their datagrams",
         before: None,
-        after: "Example: bac explain capture.pcapng",
+        after: EXPLAIN_EXAMPLES,
         words: EXPLAIN,
     },
     Grammar {
