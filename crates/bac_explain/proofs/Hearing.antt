@@ -1,4 +1,4 @@
--- A live transaction goes on in its slot.
+-- A transaction that awaits answers goes on in its slot.
 use Rattle.std.proofs.Common.{◌≡◌, ℕ, Bool, true, false, List, [], ◌∷◌, Option, Some, None, is_some}
 use Rattle.std.proofs.Common.{if◌then◌else◌, refl, sym, ap, subst, ◌∙◌}
 use Rattle.std.specs.Option.{option_map}
@@ -8,47 +8,47 @@ use Rattle.bac_explain.specs.declared.key.TransactionKey.{TransactionKey}
 use Rattle.bac_explain.specs.declared.transaction.Transaction.{Transaction}
 use Rattle.bac_explain.specs.Keys.{same_key}
 use Rattle.bac_explain.specs.KeyViews.{key_view}
-use Rattle.bac_explain.specs.Tables.{Transactions, Heard, live, goes_on}
-use Rattle.bac_explain.specs.Transactions.{TransactionView, is_live}
+use Rattle.bac_explain.specs.Tables.{Transactions, Heard, awaited, goes_on}
+use Rattle.bac_explain.specs.Transactions.{TransactionView, is_awaited}
 use Rattle.bac_explain.specs.Views.{code_same_key, slots_view, transaction_view}
 use Rattle.bac_explain.proofs.Seen.{Item, value_seen, set_back_seen}
 
--- what a live transaction of the key is, by its slot
+-- what the transaction of the key is, by its slot
 some_seen : (key : TransactionKey) (slots : List Item) (t : Transaction) → Some t ≡ value_at code_same_key key slots
     → value_at same_key (key_view key) (slots_view slots) ≡ Some (transaction_view t)
 some_seen key slots t e = sym (value_seen key slots) ∙ ap (option_map transaction_view) (sym e)
 
-live_is : (now : ℕ) (o : Option TransactionView) (t : TransactionView) → o ≡ Some t → true ≡ is_some (keep (is_live now) o) → keep (is_live now) o ≡ Some t
-live_is now o t e alive =
-    ap (keep (is_live now)) e ∙ go (is_live now t) (subst (λ (x : Option TransactionView). true ≡ is_some (keep (is_live now) x)) e alive)
+awaited_is : (now : ℕ) (o : Option TransactionView) (t : TransactionView) → o ≡ Some t → true ≡ is_some (keep (is_awaited now) o) → keep (is_awaited now) o ≡ Some t
+awaited_is now o t e alive =
+    ap (keep (is_awaited now)) e ∙ go (is_awaited now t) (subst (λ (x : Option TransactionView). true ≡ is_some (keep (is_awaited now) x)) e alive)
   where
     go : (b : Bool) → true ≡ is_some (if b then Some t else None) → (if b then Some t else None) ≡ Some t
     go true e = refl
     go false e = absurd cc
 
--- a live transaction goes on
+-- it goes on
 pub goes_heard : (H : Option TransactionView → Transactions → Heard) (now : ℕ) (key : TransactionKey) (slots new : List Item) (old : Transactions)
-    (t w : Transaction) (f : Option Finding) → slots_view slots ≡ old → true ≡ is_some (live now (key_view key) old)
+    (t w : Transaction) (f : Option Finding) → slots_view slots ≡ old → true ≡ is_some (awaited now (key_view key) old)
     → Some t ≡ value_at code_same_key key slots → new ≡ with_value code_same_key key w slots
     → record { slots = with_value same_key (key_view key) (transaction_view w) (slots_view slots); closed = None; finding = f }
     ≡ H (Some (transaction_view t)) (slots_view slots)
-    → record { slots = slots_view new; closed = None; finding = f } ≡ H (live now (key_view key) old) old
+    → record { slots = slots_view new; closed = None; finding = f } ≡ H (awaited now (key_view key) old) old
 goes_heard H now key slots new old t w f view alive at set step =
-    let is = live_is now (value_at same_key (key_view key) (slots_view slots)) (transaction_view t) (some_seen key slots t at)
-    (subst (λ (l : Transactions). true ≡ is_some (live now (key_view key) l)) (sym view) alive) in
+    let is = awaited_is now (value_at same_key (key_view key) (slots_view slots)) (transaction_view t) (some_seen key slots t at)
+    (subst (λ (l : Transactions). true ≡ is_some (awaited now (key_view key) l)) (sym view) alive) in
     ap (λ l. record { slots = l; closed = None; finding = f }) (set_back_seen key w slots new set) ∙ step
-    ∙ ap (λ o. H o (slots_view slots)) (sym is) ∙ ap (λ l. H (live now (key_view key) l) l) view
+    ∙ ap (λ o. H o (slots_view slots)) (sym is) ∙ ap (λ l. H (awaited now (key_view key) l) l) view
 
 -- there is none
 pub none_heard : (H : Option TransactionView → Transactions → Heard) (now : ℕ) (key : TransactionKey) (slots new : List Item) (old : Transactions)
     (f : Option Finding) → slots_view slots ≡ old → None ≡ value_at code_same_key key slots → new ≡ slots
     → record { slots = slots_view slots; closed = None; finding = f } ≡ H None (slots_view slots)
-    → record { slots = slots_view new; closed = None; finding = f } ≡ H (live now (key_view key) old) old
+    → record { slots = slots_view new; closed = None; finding = f } ≡ H (awaited now (key_view key) old) old
 none_heard H now key slots new old f view at same step =
-    let none : live now (key_view key) (slots_view slots) ≡ None =
-    ap (keep (is_live now)) (sym (value_seen key slots) ∙ ap (option_map transaction_view) (sym at)) in
+    let none : awaited now (key_view key) (slots_view slots) ≡ None =
+    ap (keep (is_awaited now)) (sym (value_seen key slots) ∙ ap (option_map transaction_view) (sym at)) in
     ap (λ l. record { slots = slots_view l; closed = None; finding = f }) same ∙ step
-    ∙ ap (λ o. H o (slots_view slots)) (sym none) ∙ ap (λ l. H (live now (key_view key) l) l) view
+    ∙ ap (λ o. H o (slots_view slots)) (sym none) ∙ ap (λ l. H (awaited now (key_view key) l) l) view
 
 -- where the transaction stays, the slots do
 pub same_slots : (key : TransactionKey) (slots new : List Item) (old : Transactions) (t w : Transaction) → slots_view slots ≡ old

@@ -10,7 +10,7 @@ use Rattle.bac_explain.specs.Keys.{Key, same_key}
 use Rattle.bac_explain.specs.KeyViews.{key_view}
 use Rattle.bac_explain.proofs.Rooms.{oldest_is}
 use Rattle.bac_explain.specs.Tables.{closed_at, closed_in, is_oldest_over, oldest_out}
-use Rattle.bac_explain.specs.Transactions.{TransactionView, is_live}
+use Rattle.bac_explain.specs.Transactions.{TransactionView, is_awaited}
 use Rattle.bac_explain.specs.Views.{code_same_key, first_key, slots_view, transaction_view}
 
 abbrev pub Item : Type 0
@@ -99,14 +99,14 @@ set_back_seen key t old now e = ap slots_view e ∙ set_seen key t old
 
 -- ---- the first transaction
 
-pub over_seen : (now : ℕ) (slots : List Item) (s : Item) (b : Bool) → slice_get slots 0 ≡ Some s → b ≡ is_live now (transaction_view s.value)
+pub over_seen : (now : ℕ) (slots : List Item) (s : Item) (b : Bool) → slice_get slots 0 ≡ Some s → b ≡ is_awaited now (transaction_view s.value)
     → not b ≡ is_oldest_over now (slots_view slots)
 over_seen now [] s b e is = absurd cc
 over_seen now (r ∷ slots) s b e is = ap not (is ∙ sym (ap live_in e))
   where
     live_in : Option Item → Bool
     live_in None = false
-    live_in (Some x) = is_live now (transaction_view x.value)
+    live_in (Some x) = is_awaited now (transaction_view x.value)
 
 pub none_over : (now : ℕ) (slots : List Item) → slice_get slots 0 ≡ None → false ≡ is_oldest_over now (slots_view slots)
 none_over now [] e = refl

@@ -5,8 +5,11 @@ pub mod Texts
 pub mod Appends
 pub mod Numbers
 pub mod Grants
+pub mod Wholes
 pub mod Sent
 pub mod SentViews
+pub mod Choices
+pub mod AskedViews
 pub mod Transactions
 pub mod Tables
 pub mod Views

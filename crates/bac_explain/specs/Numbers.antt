@@ -5,6 +5,9 @@ use Rattle.std.specs.Prelude.{ℕ, ◌+◌, ◌-◌, ◌%◌, ◌^◌, Bool, nat
 abbrev pub one_more : ℕ → ℕ
 one_more count = min (count + 1) (2 ^ 64 - 1)
 
+abbrev pub more_by : ℕ → ℕ → ℕ
+more_by more count = min (count + more) (2 ^ 64 - 1)
+
 -- how far a number is ahead of another
 abbrev pub ahead : ℕ → ℕ → ℕ
 ahead last number = (number + 256 - last) % 256

@@ -1,5 +1,5 @@
 -- Requests and answers, as they are seen, and where an APDU stands after them.
-use Rattle.std.specs.Prelude.{ℕ, Bool, true, false, nat_lt, ◌==◌, ◌&&◌, if◌then◌else◌, List, Option, Some, None}
+use Rattle.std.specs.Prelude.{ℕ, ◌+◌, ◌-◌, Bool, true, false, nat_le, nat_lt, ◌==◌, ◌&&◌, ◌||◌, if◌then◌else◌, List, Option, Some, None}
 use Rattle.std.specs.Cmp.Lexicographic.{pointwise}
 use Rattle.bac_explain.specs.declared.grant.Grant.{Grant}
 use Rattle.bac_explain.specs.declared.numbers.TheConstants.{ROUND}
@@ -7,23 +7,30 @@ use Rattle.bac_explain.specs.declared.part.Taken.{Taken}
 use Rattle.bac_explain.specs.declared.sent.Place.{Place}
 use Rattle.bac_explain.specs.declared.sent.Place.TheVariants.{Again, Next, Back, Ahead, Other}
 use Rattle.bac_explain.specs.Grants.{asked_again, at_first, begun_again, moved, sent}
-use Rattle.bac_explain.specs.Numbers.{following, is_ahead, one_more}
+use Rattle.bac_explain.specs.Numbers.{ahead, following, is_ahead, more_by, one_more}
+use Rattle.bac_explain.specs.Wholes.{is_end}
 
 -- when it was first seen, the octets of that APDU, how many times they were seen, how many other segments, the number of the last segment,
--- when the last was seen, and which segments may be sent
+-- how many come before that one, when the last was seen, whether its end was, and which segments may be sent
 pub record SentView : Type 0 where
   pub moment : ℕ
   pub octets : List ℕ
   pub times : ℕ
   pub segments : ℕ
   pub number : ℕ
+  pub index : ℕ
   pub last : ℕ
+  pub whole : Bool
   pub grant : Grant
 
 -- what is whole counts as number 0
 abbrev pub number_in : Option ℕ → ℕ
 number_in None = 0
 number_in (Some number) = number
+
+-- where the first that is seen is a later segment, numbers may have gone round before it
+abbrev pub first_index : ℕ → ℕ
+first_index number = if number == 0 then 0 else 256 + number
 
 abbrev pub first_sent : ℕ → Option ℕ → List ℕ → SentView
 first_sent now number octets = record {
@@ -32,7 +39,9 @@ first_sent now number octets = record {
   times = 1;
   segments = 0;
   number = number_in number;
+  index = first_index (number_in number);
   last = now;
+  whole = is_end octets;
   grant = at_first number;
 }
 
@@ -40,8 +49,12 @@ first_sent now number octets = record {
 abbrev pub are_same : List ℕ → List ℕ → Bool
 are_same = pointwise (λ a b. a == b)
 
-abbrev pub numbered_place : ℕ → ℕ → Place
-numbered_place last number = if is_ahead last number then Ahead else Back
+-- not ahead by less than half of all numbers, and no further behind than the first segment
+abbrev pub is_back : SentView → ℕ → Bool
+is_back s number = nat_le (ahead number s.number) s.index
+
+abbrev pub numbered_place : SentView → ℕ → Place
+numbered_place s number = if is_ahead s.number number then Ahead else (if is_back s number then Back else Ahead)
 
 -- a segment 0 with other octets begins something else, until so many were seen that numbers may have gone round
 abbrev pub begins_anew : SentView → ℕ → Bool
@@ -49,7 +62,7 @@ begins_anew s number = number == 0 && nat_lt s.segments ROUND
 
 abbrev pub other_place : SentView → Option ℕ → Place
 other_place s None = Other
-other_place s (Some number) = if begins_anew s number then Other else numbered_place s.number number
+other_place s (Some number) = if begins_anew s number then Other else numbered_place s number
 
 abbrev pub unlike_next : SentView → Option ℕ → List ℕ → Place
 unlike_next s number octets = if are_same s.octets octets then Again else other_place s number
@@ -66,20 +79,41 @@ is_other Back = false
 is_other Ahead = false
 is_other Other = true
 
+-- how many come before the first again, or before a segment that is behind or ahead
+abbrev pub index_after : Place → ℕ → SentView → ℕ
+index_after Again number s = first_index number
+index_after Next number s = more_by (ahead s.number number) s.index
+index_after Back number s = s.index - ahead number s.number
+index_after Ahead number s = more_by (ahead s.number number) s.index
+index_after Other number s = s.index
+
 -- the first again
 abbrev pub with_first : ℕ → Option ℕ → SentView → SentView
-with_first now number s = record s { times = one_more s.times; number = number_in number; last = now; grant = begun_again s.grant }
+with_first now number s = record s {
+  times = one_more s.times;
+  number = number_in number;
+  index = index_after Again (number_in number) s;
+  last = now;
+  grant = begun_again s.grant;
+}
 
-abbrev pub with_segment : ℕ → Option ℕ → SentView → SentView
-with_segment now number s = record s { segments = one_more s.segments; number = number_in number; last = now; grant = sent number s.grant }
+abbrev pub with_segment : ℕ → Place → Option ℕ → List ℕ → SentView → SentView
+with_segment now place number octets s = record s {
+  segments = one_more s.segments;
+  number = number_in number;
+  index = index_after place (number_in number) s;
+  last = now;
+  whole = s.whole || is_end octets;
+  grant = sent number s.grant;
+}
 
 -- an APDU that stands there is counted
-abbrev pub counted : ℕ → Place → Option ℕ → SentView → SentView
-counted now Again number s = with_first now number s
-counted now Next number s = with_segment now number s
-counted now Back number s = with_segment now number s
-counted now Ahead number s = with_segment now number s
-counted now Other number s = s
+abbrev pub counted : ℕ → Place → Option ℕ → List ℕ → SentView → SentView
+counted now Again number octets s = with_first now number s
+counted now Next number octets s = with_segment now Next number octets s
+counted now Back number octets s = with_segment now Back number octets s
+counted now Ahead number octets s = with_segment now Ahead number octets s
+counted now Other number octets s = s
 
 -- a SegmentACK for its segments is seen
 abbrev pub with_taken : Taken → SentView → SentView

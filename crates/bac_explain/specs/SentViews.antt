@@ -9,6 +9,8 @@ sent_view s = record {
   times = s.times;
   segments = s.segments;
   number = s.number;
+  index = s.index;
   last = s.last;
+  whole = s.whole;
   grant = s.grant;
 }

@@ -1,9 +1,9 @@
 -- The transactions that are open, in the order of their beginning, and what a sighting makes of them.
-use Rattle.std.specs.Prelude.{ℕ, nat_lt, Bool, false, not, if◌then◌else◌, List, [], ◌∷◌, ◌++◌, length, Option, Some, None}
+use Rattle.std.specs.Prelude.{ℕ, nat_lt, Bool, true, false, not, if◌then◌else◌, List, [], ◌∷◌, ◌++◌, length, Option, Some, None}
 use Rattle.bac_slots.specs.declared.slot.Slot.{Slot}
 use Rattle.bac_slots.specs.Slots.{value_at, with_value, without, keep}
 use Rattle.bac_explain.specs.declared.finding.Finding.{Finding}
-use Rattle.bac_explain.specs.declared.finding.Finding.TheVariants.{AnswerToNoRequest, InvokeIdReused}
+use Rattle.bac_explain.specs.declared.finding.Finding.TheVariants.{AnswerToNoRequest}
 use Rattle.bac_explain.specs.declared.part.Role.{Role}
 use Rattle.bac_explain.specs.declared.part.Role.TheVariants.{Request, Answer, Acknowledgement, GivesUp}
 use Rattle.bac_explain.specs.declared.part.Taken.{Taken}
@@ -11,7 +11,8 @@ use Rattle.bac_explain.specs.declared.sent.Place.{Place}
 use Rattle.bac_explain.specs.declared.table.TheConstants.{OPEN_LIMIT}
 use Rattle.bac_explain.specs.Keys.{Key, same_key}
 use Rattle.bac_explain.specs.Sent.{is_other, place_of}
-use Rattle.bac_explain.specs.Transactions.{TransactionView, first_finding, first_request, is_live, requested, answered, acknowledged, given_up}
+use Rattle.bac_explain.specs.Transactions.{TransactionView, first_finding, first_request, is_live, is_awaited, requested, reuse_finding}
+use Rattle.bac_explain.specs.Transactions.{answered, acknowledged, given_up}
 
 abbrev pub Transactions : Type 0
 Transactions = List (Slot Key TransactionView)
@@ -47,9 +48,9 @@ oldest_out (s ∷ slots) = (Some (closed_of s), slots)
 
 abbrev pub is_oldest_over : ℕ → Transactions → Bool
 is_oldest_over now [] = false
-is_oldest_over now (s ∷ slots) = not (is_live now s.value)
+is_oldest_over now (s ∷ slots) = not (is_awaited now s.value)
 
--- where it is not live any more
+-- where nothing more is awaited of it
 abbrev pub over_out : ℕ → Transactions → Option ClosedView × Transactions
 over_out now slots = if is_oldest_over now slots then oldest_out slots else (None, slots)
 
@@ -71,6 +72,10 @@ room_for key slots = room_in (value_at same_key key slots) key slots
 abbrev pub live : ℕ → Key → Transactions → Option TransactionView
 live now key slots = keep (is_live now) (value_at same_key key slots)
 
+-- the one that awaits answers
+abbrev pub awaited : ℕ → Key → Transactions → Option TransactionView
+awaited now key slots = keep (is_awaited now) (value_at same_key key slots)
+
 -- nothing changes
 abbrev pub unheard : Option Finding → Transactions → Heard
 unheard finding slots = record { slots = slots; closed = None; finding = finding }
@@ -84,16 +89,17 @@ abbrev pub begins_in : Key → ℕ → TransactionView → Option Finding → Op
 begins_in key now t finding room =
     record { slots = room.1 ++ record { key = key; begin = now; value = t } ∷ []; closed = room.0; finding = finding }
 
-abbrev pub begins : ℕ → Key → Option ℕ → List ℕ → Option Finding → Transactions → Heard
-begins now key number octets finding slots = begins_in key now (first_request now number octets) finding (room_for key slots)
+abbrev pub begins : ℕ → Key → Option ℕ → List ℕ → (reused : Bool) → Option Finding → Transactions → Heard
+begins now key number octets reused finding slots = begins_in key now (first_request now number octets reused) finding (room_for key slots)
 
 -- a request stands there after that of the live transaction of its key: another one begins a transaction, whose invoke ID is used again
 abbrev pub request_at : Place → ℕ → Key → Option ℕ → List ℕ → TransactionView → Transactions → Heard
 request_at place now key number octets t slots =
-    if is_other place then begins now key number octets (Some InvokeIdReused) slots else goes_on key slots (requested now place number t)
+    if is_other place then begins now key number octets true (Some (reuse_finding octets t)) slots else
+    goes_on key slots (requested now place number octets t)
 
 abbrev pub request_heard : ℕ → Key → Option ℕ → List ℕ → Option TransactionView → Transactions → Heard
-request_heard now key number octets None slots = begins now key number octets (first_finding number) slots
+request_heard now key number octets None slots = begins now key number octets false (first_finding number) slots
 request_heard now key number octets (Some t) slots = request_at (place_of t.request number octets) now key number octets t slots
 
 abbrev pub answer_heard : ℕ → Key → Option ℕ → List ℕ → Option TransactionView → Transactions → Heard
@@ -111,6 +117,6 @@ giving_up_heard key (Some t) slots = goes_on key slots (given_up t, None)
 -- an APDU with that role in the transaction of a key is seen
 abbrev pub heard : ℕ → Key → Role → List ℕ → Transactions → Heard
 heard now key (Request number) octets slots = request_heard now key number octets (live now key slots) slots
-heard now key (Answer number) octets slots = answer_heard now key number octets (live now key slots) slots
-heard now key (Acknowledgement taken) octets slots = acknowledgement_heard key taken (live now key slots) slots
-heard now key GivesUp octets slots = giving_up_heard key (live now key slots) slots
+heard now key (Answer number) octets slots = answer_heard now key number octets (awaited now key slots) slots
+heard now key (Acknowledgement taken) octets slots = acknowledgement_heard key taken (awaited now key slots) slots
+heard now key GivesUp octets slots = giving_up_heard key (awaited now key slots) slots

@@ -1,10 +1,10 @@
 -- One transaction, as it is seen: what each of its APDUs makes of it, and what is wrong with that APDU.
-use Rattle.std.specs.Prelude.{ℕ, ◌+◌, ◌-◌, ◌==◌, ◌&&◌, nat_le, nat_lt, Bool, true, false, if◌then◌else◌, List, Option, Some, None, is_none}
+use Rattle.std.specs.Prelude.{ℕ, ◌+◌, ◌-◌, ◌==◌, ◌&&◌, nat_le, nat_lt, not, Bool, true, false, if◌then◌else◌, List, Option, Some, None, is_none, is_some}
 use Rattle.std.specs.Option.{option_map}
 use Rattle.bac_protocol.specs.declared.times.TheConstants.{KEEP, LIFE}
 use Rattle.bac_explain.specs.declared.finding.Finding.{Finding}
-use Rattle.bac_explain.specs.declared.finding.Finding.TheVariants.{AnotherAnswer, PerformedTwice, SentTooOften, SegmentMissing, BeyondWindow}
-use Rattle.bac_explain.specs.declared.finding.Finding.TheVariants.{SegmentSentTooOften, OldCopy, NegativeAck}
+use Rattle.bac_explain.specs.declared.finding.Finding.TheVariants.{OtherService, AnotherAnswer, PerformedTwice, SentTooOften, SegmentMissing, BeyondWindow}
+use Rattle.bac_explain.specs.declared.finding.Finding.TheVariants.{SegmentSentTooOften, OldCopy, NegativeAck, InvokeIdReused, InvokeIdConfused}
 use Rattle.bac_explain.specs.declared.grant.Grant.{Grant}
 use Rattle.bac_explain.specs.declared.grant.Grant.TheVariants.{First, Unknown, Window}
 use Rattle.bac_explain.specs.declared.numbers.TheConstants.{MOST_SENDS}
@@ -12,23 +12,43 @@ use Rattle.bac_explain.specs.declared.part.Taken.{Taken}
 use Rattle.bac_explain.specs.declared.sent.Place.{Place}
 use Rattle.bac_explain.specs.declared.sent.Place.TheVariants.{Again, Next, Back, Ahead, Other}
 use Rattle.bac_explain.specs.Appends.{is_performed_twice}
+use Rattle.bac_explain.specs.Choices.{asked_by, is_of_service, keeps_answer}
 use Rattle.bac_explain.specs.Grants.{is_beyond, is_spent}
 use Rattle.bac_explain.specs.Numbers.{one_more}
 use Rattle.bac_explain.specs.Sent.{SentView, first_sent, counted, place_of, with_asked_again, with_taken}
+use Rattle.bac_explain.specs.Wholes.{is_server_abort}
 
--- its request, the first of its answers, how many negative SegmentACKs were seen, and whether the client's Abort was
+-- its request, whether that came soon after another with its key, the first of its answers, whether the server's Abort was seen in the midst
+-- of that, how many negative SegmentACKs were seen, and whether the client's Abort was
 pub record TransactionView : Type 0 where
   pub request : SentView
+  pub reused : Bool
   pub answer : Option SentView
+  pub broken_off : Bool
   pub naks : ℕ
   pub gave_up : Bool
 
-abbrev pub first_request : ℕ → Option ℕ → List ℕ → TransactionView
-first_request now number octets = record { request = first_sent now number octets; answer = None; naks = 0; gave_up = false }
+abbrev pub first_request : ℕ → Option ℕ → List ℕ → (reused : Bool) → TransactionView
+first_request now number octets reused = record {
+  request = first_sent now number octets;
+  reused = reused;
+  answer = None;
+  broken_off = false;
+  naks = 0;
+  gave_up = false;
+}
 
 -- its request was first seen at most 65,000 ms before: so long this profile's server remembers it
 abbrev pub is_live : ℕ → TransactionView → Bool
 is_live now t = nat_le (now - t.request.moment) KEEP
+
+-- answers are looked for as long after its request was last seen
+abbrev pub is_awaited : ℕ → TransactionView → Bool
+is_awaited now t = nat_le (now - t.request.last) KEEP
+
+-- another request with its key: a server of this profile would send the kept answer, or Abort 0
+abbrev pub reuse_finding : List ℕ → TransactionView → Finding
+reuse_finding octets t = if keeps_answer (is_some t.answer) (asked_by t.request.octets) (asked_by octets) then InvokeIdConfused else InvokeIdReused
 
 -- segments before the first that is seen were not
 abbrev pub first_finding : Option ℕ → Option Finding
@@ -68,9 +88,9 @@ request_finding Ahead number s = segment_finding Ahead number s
 request_finding Other number s = None
 
 -- its request is seen again, or a segment of it
-abbrev pub requested : ℕ → Place → Option ℕ → TransactionView → TransactionView × Option Finding
-requested now place number t = (
-  record t { request = counted now place number t.request; answer = option_map with_asked_again t.answer },
+abbrev pub requested : ℕ → Place → Option ℕ → List ℕ → TransactionView → TransactionView × Option Finding
+requested now place number octets t = (
+  record t { request = counted now place number octets t.request; answer = option_map with_asked_again t.answer },
   request_finding place number t.request,
 )
 
@@ -79,26 +99,35 @@ requested now place number t = (
 abbrev pub is_old : ℕ → Option ℕ → (request answer : SentView) → Bool
 is_old now number request answer = is_none number && (nat_lt LIFE (now - answer.moment) && nat_lt (LIFE + LIFE) (now - request.last))
 
--- two answers differ
-abbrev pub other_answer : (request first other : List ℕ) → Finding
-other_answer request first other = if is_performed_twice request first other then PerformedTwice else AnotherAnswer
+-- two answers differ; where another request had the key soon before, one of them may answer that
+abbrev pub other_answer : (reused : Bool) → (request first other : List ℕ) → Finding
+other_answer reused request first other = if not reused && is_performed_twice request first other then PerformedTwice else AnotherAnswer
 
-abbrev pub answer_finding : ℕ → Place → Option ℕ → (request first : SentView) → List ℕ → Option Finding
-answer_finding now Again number request first other = if is_old now number request first then Some OldCopy else None
-answer_finding now Next number request first other = segment_finding Next number first
-answer_finding now Back number request first other = segment_finding Back number first
-answer_finding now Ahead number request first other = segment_finding Ahead number first
-answer_finding now Other number request first other = Some (other_answer request.octets first.octets other)
+abbrev pub answer_finding : ℕ → Place → Option ℕ → (reused : Bool) → (request first : SentView) → List ℕ → Option Finding
+answer_finding now Again number reused request first other = if is_old now number request first then Some OldCopy else None
+answer_finding now Next number reused request first other = segment_finding Next number first
+answer_finding now Back number reused request first other = segment_finding Back number first
+answer_finding now Ahead number reused request first other = segment_finding Ahead number first
+answer_finding now Other number reused request first other = Some (other_answer reused request.octets first.octets other)
+
+-- the server's Abort comes in the midst of an answer
+abbrev pub breaks_off : SentView → List ℕ → Bool
+breaks_off first octets = not first.whole && is_server_abort octets
+
+abbrev pub counted_answer : ℕ → Option ℕ → List ℕ → SentView → TransactionView → TransactionView × Option Finding
+counted_answer now number octets first t =
+    let place = place_of first number octets in
+    (record t { answer = Some (counted now place number octets first) }, answer_finding now place number t.reused t.request first octets)
 
 abbrev pub answered_after : ℕ → Option ℕ → List ℕ → Option SentView → TransactionView → TransactionView × Option Finding
 answered_after now number octets None t = (record t { answer = Some (first_sent now number octets) }, first_finding number)
 answered_after now number octets (Some first) t =
-    let place = place_of first number octets in
-    (record t { answer = Some (counted now place number first) }, answer_finding now place number t.request first octets)
+    if breaks_off first octets then (record t { broken_off = true }, None) else counted_answer now number octets first t
 
--- an answer is seen, or a segment of one: the first is kept
+-- an answer is seen, or a segment of one: the first is kept; one of another service than was asked for is none
 abbrev pub answered : ℕ → Option ℕ → List ℕ → TransactionView → TransactionView × Option Finding
-answered now number octets t = answered_after now number octets t.answer t
+answered now number octets t =
+    if is_of_service t.request.octets octets then answered_after now number octets t.answer t else (t, Some OtherService)
 
 -- segments of its request or its answer are acknowledged
 abbrev pub segments_taken : Taken → TransactionView → TransactionView

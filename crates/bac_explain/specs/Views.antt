@@ -13,7 +13,14 @@ use Rattle.bac_explain.specs.Transactions.{TransactionView}
 use Rattle.bac_explain.specs.Tables.{Transactions}
 
 abbrev pub transaction_view : Transaction → TransactionView
-transaction_view t = record { request = sent_view t.request; answer = option_map sent_view t.answer; naks = t.naks; gave_up = t.gave_up }
+transaction_view t = record {
+  request = sent_view t.request;
+  reused = t.reused;
+  answer = option_map sent_view t.answer;
+  broken_off = t.broken_off;
+  naks = t.naks;
+  gave_up = t.gave_up;
+}
 
 abbrev pub slots_view : List (Slot TransactionKey Transaction) → Transactions
 slots_view slots = map (slot_seen key_view transaction_view) slots

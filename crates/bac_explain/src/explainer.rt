@@ -2,10 +2,10 @@
 ghost use Rattle.std.specs.Prelude.{◌≡◌, [], None, Some, IfOk, OnErr, is_some};
 ghost use Rattle.std.specs.Option.{option_map};
 ghost use Rattle.bac_explain.specs.KeyViews.{key_view};
-ghost use Rattle.bac_explain.specs.Tables.{acknowledgement_heard, begins, giving_up_heard, goes_on, heard, live, oldest_out, over_out};
+ghost use Rattle.bac_explain.specs.Tables.{acknowledgement_heard, awaited, begins, giving_up_heard, goes_on, heard, live, oldest_out, over_out};
 ghost use Rattle.bac_slots.specs.Slots.{value_at};
 ghost use Rattle.bac_explain.specs.Keys.{same_key};
-ghost use Rattle.bac_explain.specs.Transactions.{TransactionView, requested};
+ghost use Rattle.bac_explain.specs.Transactions.{TransactionView, requested, reuse_finding};
 ghost use Rattle.bac_explain.specs.Sent.{place_of};
 ghost use Rattle.bac_explain.specs.Closings.{IsHeard, closed_view};
 
@@ -64,7 +64,7 @@ impl Explainer {
         take_oldest(&mut self.table)
     }
 
-    /// Closes the transaction that began first, where its request was first seen more than 65,000 ms before.
+    /// Closes the transaction that began first, where its request was last seen more than 65,000 ms before.
     pub fn pop_over(&mut self, now: u64) -> Option<Closed>
         ensures closed { option_map closed_view result ≡ (over_out now self.old).0 }
         ensures left { self.new ≡ (over_out now self.old).1 }
@@ -72,12 +72,12 @@ impl Explainer {
         take_over(&mut self.table, now)
     }
 
-    /// Whether a transaction of that key is live.
-    fn is_live(&self, now: u64, key: &TransactionKey) -> bool
-        ensures { result ≡ is_some (live now (key_view key.now) self.now) }
+    /// Whether a transaction of that key awaits answers.
+    fn is_awaited(&self, now: u64, key: &TransactionKey) -> bool
+        ensures { result ≡ is_some (awaited now (key_view key.now) self.now) }
     {
         match find(&self.table, key) {
-            Some(transaction) => transaction.is_live(now),
+            Some(transaction) => transaction.is_awaited(now),
             None => false,
         }
     }
@@ -99,6 +99,14 @@ impl Explainer {
         Some(transaction.request.place(number, octets))
     }
 
+    /// What is wrong with another request that has the key of a transaction.
+    fn reuse_finding(&self, key: &TransactionKey, octets: &[u8]) -> Option<Finding>
+        ensures { result ≡ option_map (reuse_finding octets.now) (value_at same_key (key_view key.now) self.now) }
+    {
+        let transaction = find(&self.table, key)?;
+        Some(transaction.reuse_finding(octets))
+    }
+
     /// A transaction begins with a request that is seen.
     fn begin(
         &mut self,
@@ -107,12 +115,13 @@ impl Explainer {
         key: TransactionKey,
         number: Option<u8>,
         octets: &[u8],
+        reused: bool,
         finding: Option<Finding>,
     ) -> Result<Heard, AllocError>
-        ensures ok { IfOk result (IsHeard (begins now (key_view key) number octets.now finding self.old) self.new) }
+        ensures ok { IfOk result (IsHeard (begins now (key_view key) number octets.now reused finding self.old) self.new) }
         ensures err { OnErr result (self.new ≡ self.old) }
     {
-        let transaction = Transaction::begin(alloc, now, number, octets)?;
+        let transaction = Transaction::begin(alloc, now, number, octets, reused)?;
         let closed = enter(&mut self.table, key, now, transaction);
         Ok(Heard { finding, closed })
     }
@@ -124,14 +133,15 @@ impl Explainer {
         key: &TransactionKey,
         place: Place,
         number: Option<u8>,
+        octets: &[u8],
     ) -> Option<Finding>
         ensures { (t : TransactionView) → value_at same_key (key_view key.now) self.old ≡ Some t
-            → record { slots = self.new; closed = None; finding = result } ≡ goes_on (key_view key.now) self.old (requested now place number t) }
+            → record { slots = self.new; closed = None; finding = result } ≡ goes_on (key_view key.now) self.old (requested now place number octets.now t) }
     {
         let Some(transaction) = self.table.get_mut(key) else {
             return None;
         };
-        transaction.requested(now, place, number)
+        transaction.requested(now, place, number, octets)
     }
 
     /// A request is seen, or a segment of one.
@@ -147,14 +157,15 @@ impl Explainer {
         ensures err { OnErr result (self.new ≡ self.old) }
     {
         let Some(place) = self.place(now, &key, number, octets) else {
-            return self.begin(alloc, now, key, number, octets, first_finding(number));
+            let finding = first_finding(number);
+            return self.begin(alloc, now, key, number, octets, false, finding);
         };
         if place.is_other() {
-            let finding = Some(Finding::InvokeIdReused);
-            return self.begin(alloc, now, key, number, octets, finding);
+            let finding = self.reuse_finding(&key, octets);
+            return self.begin(alloc, now, key, number, octets, true, finding);
         }
         Ok(Heard {
-            finding: self.repeat(now, &key, place, number),
+            finding: self.repeat(now, &key, place, number, octets),
             closed: None,
         })
     }
@@ -172,7 +183,7 @@ impl Explainer {
             ≡ heard now (key_view key.now) (Role.Answer number) octets.now self.old) }
         ensures err { OnErr result (self.new ≡ self.old) }
     {
-        if !self.is_live(now, key) {
+        if !self.is_awaited(now, key) {
             return Ok(Some(Finding::AnswerToNoRequest));
         }
         let Some(transaction) = self.table.get_mut(key) else {
@@ -189,9 +200,9 @@ impl Explainer {
         taken: Taken,
     ) -> Option<Finding>
         ensures { record { slots = self.new; closed = None; finding = result }
-            ≡ acknowledgement_heard (key_view key.now) taken (live now (key_view key.now) self.old) self.old }
+            ≡ acknowledgement_heard (key_view key.now) taken (awaited now (key_view key.now) self.old) self.old }
     {
-        if !self.is_live(now, key) {
+        if !self.is_awaited(now, key) {
             return None;
         }
         let Some(transaction) = self.table.get_mut(key) else {
@@ -203,9 +214,9 @@ impl Explainer {
     /// The client's Abort is seen.
     fn hear_giving_up(&mut self, now: u64, key: &TransactionKey)
         ensures { record { slots = self.new; closed = None; finding = None }
-            ≡ giving_up_heard (key_view key.now) (live now (key_view key.now) self.old) self.old }
+            ≡ giving_up_heard (key_view key.now) (awaited now (key_view key.now) self.old) self.old }
     {
-        if !self.is_live(now, key) {
+        if !self.is_awaited(now, key) {
             return;
         }
         let Some(transaction) = self.table.get_mut(key) else {

@@ -9,12 +9,18 @@ use std::fmt;
 pub enum Finding {
     /// It answers no request of the last 65,000 ms.
     AnswerToNoRequest,
+    /// It answers another service than its request asks for, and counts as no answer.
+    OtherService,
     /// Its request was answered otherwise before.
     AnotherAnswer,
-    /// Its request appends to a file, and was answered with another position before: as far as can be seen it was performed twice.
+    /// Its request appends to a file, and was answered with another position before, and no other request had its invoke ID in the
+    /// 65,000 ms before it: as far as can be seen it was performed twice.
     PerformedTwice,
     /// It asks with an invoke ID that had another request at most 65,000 ms before.
     InvokeIdReused,
+    /// The same, and a server of this profile takes it for that one and sends its answer: both are whole, of one service with the same
+    /// data, and differ in what the client takes; or both are in segments, and the earlier one was answered.
+    InvokeIdConfused,
     /// It asks in one APDU for the fifth time, or later: once, and three retries, is the default of the standard (clause 12.11.28).
     SentTooOften,
     /// It is a segment after one or more that were not seen.
@@ -36,11 +42,16 @@ impl fmt::Display for Finding {
     fn fmt<W: fmt::Write>(&self, f: &mut fmt::Formatter<W>) -> fmt::Result {
         match self {
             Finding::AnswerToNoRequest => write!(f, "an answer to no request"),
+            Finding::OtherService => write!(f, "an answer of another service"),
             Finding::AnotherAnswer => write!(f, "another answer than before"),
             Finding::PerformedTwice => write!(f, "an append performed twice"),
             Finding::InvokeIdReused => write!(
                 f,
                 "another request with the invoke ID of an earlier one"
+            ),
+            Finding::InvokeIdConfused => write!(
+                f,
+                "another request with the invoke ID of an earlier one, whose answer this stack's server would send"
             ),
             Finding::SentTooOften => write!(f, "a request sent more than four times"),
             Finding::SegmentMissing => write!(f, "a segment before it is missing"),

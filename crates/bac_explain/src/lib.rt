@@ -2,6 +2,7 @@
 #![tactic(auto)]
 
 mod appends;
+mod choice;
 mod explainer;
 mod finding;
 mod grant;
@@ -12,6 +13,7 @@ mod sent;
 mod sighting;
 mod table;
 mod transaction;
+mod whole;
 
 pub use explainer::{Explainer, Heard};
 pub use finding::Finding;

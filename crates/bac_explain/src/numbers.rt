@@ -1,6 +1,6 @@
 //! Counts, and the numbers of segments.
 ghost use Rattle.std.specs.Prelude.{◌≡◌};
-ghost use Rattle.bac_explain.specs.Numbers.{ahead, following, is_ahead, is_behind, one_more};
+ghost use Rattle.bac_explain.specs.Numbers.{ahead, following, is_ahead, is_behind, more_by, one_more};
 
 /// How often a request or a segment is sent at most: once, and then as often as the standard repeats it (Number_Of_APDU_Retries,
 /// clause 12.11.28, whose default is 3).
@@ -14,6 +14,13 @@ pub(crate) fn one_more(count: u64) -> u64
     ensures { result ≡ one_more count }
 {
     count.saturating_add(1)
+}
+
+/// A count with so many more; it stays at its last value.
+pub(crate) fn more_by(count: u64, more: u16) -> u64
+    ensures { result ≡ more_by more count }
+{
+    count.saturating_add(u64::from(more))
 }
 
 /// How far a number of a segment is ahead of another, modulo 256.

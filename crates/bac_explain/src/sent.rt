@@ -1,12 +1,14 @@
 //! A request or an answer, as it was seen.
 ghost use Rattle.std.specs.Prelude.{◌≡◌, IfOk};
 ghost use Rattle.bac_explain.specs.SentViews.{sent_view};
-ghost use Rattle.bac_explain.specs.Sent.{are_same, begins_anew, counted, first_sent, is_other, number_in, numbered_place, place_of, unlike_next, with_taken, with_asked_again};
+ghost use Rattle.bac_explain.specs.Sent.{are_same, begins_anew, counted, first_index, first_sent, index_after, is_back, is_other, number_in};
+ghost use Rattle.bac_explain.specs.Sent.{numbered_place, place_of, unlike_next, with_taken, with_asked_again};
 ghost use Rattle.bac_explain.specs.Numbers.{following};
 
 use crate::grant::Grant;
-use crate::numbers::{ROUND, is_ahead, is_following, one_more};
+use crate::numbers::{ROUND, ahead, is_ahead, is_following, more_by, one_more};
 use crate::part::Taken;
+use crate::whole::is_end;
 use std::alloc::{AllocError, Global};
 
 /// A request or an answer, as it was seen: by the first of its APDUs, and how many came after it.
@@ -22,8 +24,13 @@ pub struct Sent {
     pub segments: u64,
     /// The number of the last segment that was seen, modulo 256; 0 of what is whole.
     pub number: u8,
+    /// How many segments come before that one, those too that were not seen; where the first that was seen is not segment 0, so many and
+    /// 256 more, as numbers may have gone round. The count stays at its last value.
+    pub index: u64,
     /// When the last of its APDUs was seen, in milliseconds.
     pub last: u64,
+    /// Whether its end was seen: the segment after which no more follow, or it is no segment.
+    pub whole: bool,
     /// Which of its segments may be sent.
     pub grant: Grant,
 }
@@ -35,7 +42,7 @@ pub(crate) enum Place {
     Again,
     /// The segment after the last one.
     Next,
-    /// A segment that was seen before.
+    /// A segment that was sent before, as far as numbers tell.
     Back,
     /// A later segment than the next.
     Ahead,
@@ -57,19 +64,19 @@ fn number_in(number: Option<u8>) -> u8
     number.unwrap_or(0)
 }
 
-/// Where a segment of that number stands after the last one, where it is not the next: numbers are compared modulo 256.
-fn numbered_place(last: u8, number: u8) -> Place
-    ensures { result ≡ numbered_place last number }
+/// How many segments come before the first that is seen.
+fn first_index(number: u8) -> u64
+    ensures { result ≡ first_index number }
 {
-    if is_ahead(last, number) {
-        Place::Ahead
+    if number == 0 {
+        0
     } else {
-        Place::Back
+        256 + u64::from(number)
     }
 }
 
 /// Whether the octets are the same.
-fn are_same(one: &[u8], other: &[u8]) -> bool
+pub(crate) fn are_same(one: &[u8], other: &[u8]) -> bool
     ensures { result ≡ are_same one.now other.now }
 {
     one == other
@@ -91,7 +98,9 @@ impl Sent {
             times: 1,
             segments: 0,
             number: number_in(number),
+            index: first_index(number_in(number)),
             last: now,
+            whole: is_end(octets),
             grant: Grant::at_first(number),
         })
     }
@@ -109,6 +118,27 @@ impl Sent {
         number == 0 && self.segments < ROUND
     }
 
+    /// Whether a segment of that number, which is not ahead, is no further behind than the first.
+    fn is_back(&self, number: u8) -> bool
+        ensures { result ≡ is_back (sent_view self.now) number }
+    {
+        u64::from(ahead(number, self.number)) <= self.index
+    }
+
+    /// Where a segment of that number stands, where it is not the next: numbers are compared modulo 256.
+    fn numbered_place(&self, number: u8) -> Place
+        ensures { result ≡ numbered_place (sent_view self.now) number }
+    {
+        if is_ahead(self.number, number) {
+            return Place::Ahead;
+        }
+        if self.is_back(number) {
+            Place::Back
+        } else {
+            Place::Ahead
+        }
+    }
+
     /// Where an APDU stands that is not the next segment.
     fn unlike_next(&self, number: Option<u8>, octets: &[u8]) -> Place
         ensures { result ≡ unlike_next (sent_view self.now) number octets.now }
@@ -119,7 +149,7 @@ impl Sent {
         match number {
             None => Place::Other,
             Some(number) if self.begins_anew(number) => Place::Other,
-            Some(number) => numbered_place(self.number, number),
+            Some(number) => self.numbered_place(number),
         }
     }
 
@@ -133,10 +163,25 @@ impl Sent {
         }
     }
 
-    /// Counts an APDU that stands there, which is seen at that moment.
-    pub(crate) fn count(&mut self, now: u64, place: Place, number: Option<u8>)
-        ensures { sent_view self.new ≡ counted now place number (sent_view self.old) }
+    /// How many segments come before one of that number that stands there.
+    fn index_after(&self, place: Place, number: u8) -> u64
+        ensures { result ≡ index_after place number (sent_view self.now) }
     {
+        match place {
+            Place::Again => first_index(number),
+            Place::Next | Place::Ahead => more_by(self.index, ahead(self.number, number)),
+            Place::Back => self
+                .index
+                .saturating_sub(u64::from(ahead(number, self.number))),
+            Place::Other => self.index,
+        }
+    }
+
+    /// Counts an APDU that stands there, which is seen at that moment.
+    pub(crate) fn count(&mut self, now: u64, place: Place, number: Option<u8>, octets: &[u8])
+        ensures { sent_view self.new ≡ counted now place number octets.now (sent_view self.old) }
+    {
+        let index = self.index_after(place, number_in(number));
         match place {
             Place::Again => {
                 self.times = one_more(self.times);
@@ -144,12 +189,14 @@ impl Sent {
             }
             Place::Next | Place::Back | Place::Ahead => {
                 self.segments = one_more(self.segments);
+                self.whole = self.whole || is_end(octets);
                 self.grant = self.grant.sent(number);
             }
             Place::Other => return,
         }
         self.last = now;
         self.number = number_in(number);
+        self.index = index;
     }
 
     /// A SegmentACK for its segments is seen.

@@ -74,17 +74,17 @@ pub(crate) fn take_oldest(table: &mut OpenTable) -> Option<Closed>
     }
 }
 
-/// Whether the transaction that began first is not live any more.
+/// Whether the transaction that began first awaits nothing more.
 fn is_oldest_over(table: &OpenTable, now: u64) -> bool
     ensures { result ≡ is_oldest_over now (slots_view table.now.0) }
 {
     match table.by_age(0) {
-        Some((_, _, transaction)) => !transaction.is_live(now),
+        Some((_, _, transaction)) => !transaction.is_awaited(now),
         None => false,
     }
 }
 
-/// Takes out the transaction that began first, where it is not live any more.
+/// Takes out the transaction that began first, where it awaits nothing more.
 pub(crate) fn take_over(table: &mut OpenTable, now: u64) -> Option<Closed>
     ensures closed { option_map closed_view result ≡ (over_out now (slots_view table.old.0)).0 }
     ensures slots { slots_view table.new.0 ≡ (over_out now (slots_view table.old.0)).1 }

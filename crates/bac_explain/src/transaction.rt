@@ -1,17 +1,20 @@
 //! One transaction, as it was seen.
-ghost use Rattle.std.specs.Prelude.{◌≡◌, ◌-◌, IfOk, OnErr, nat_le};
+ghost use Rattle.std.specs.Prelude.{◌≡◌, ◌-◌, IfOk, OnErr, nat_le, Some};
 ghost use Rattle.std.specs.Option.{option_map};
-ghost use Rattle.bac_explain.specs.Transactions.{acknowledged, again_finding, answer_finding, answered, first_finding, first_request, given_up, is_live, is_old, nak_counted};
-ghost use Rattle.bac_explain.specs.Transactions.{other_answer, request_finding, requested, segment_finding, segments_taken};
+ghost use Rattle.bac_explain.specs.Transactions.{acknowledged, again_finding, answer_finding, answered, breaks_off, first_finding, first_request, given_up};
+ghost use Rattle.bac_explain.specs.Transactions.{is_awaited, is_live, is_old, nak_counted, other_answer, request_finding, requested, reuse_finding};
+ghost use Rattle.bac_explain.specs.Transactions.{segment_finding, segments_taken};
 ghost use Rattle.bac_explain.specs.Views.{transaction_view};
 ghost use Rattle.bac_explain.specs.SentViews.{sent_view};
 
 use crate::appends::is_performed_twice;
+use crate::choice::{is_of_service, keeps_answer};
 use crate::finding::Finding;
 use crate::grant::Grant;
 use crate::numbers::{MOST_SENDS, one_more};
 use crate::part::Taken;
 use crate::sent::{Place, Sent};
+use crate::whole::is_server_abort;
 use bac_protocol::times::{KEEP, LIFE};
 use std::alloc::{AllocError, Global};
 
@@ -20,8 +23,12 @@ use std::alloc::{AllocError, Global};
 pub struct Transaction {
     /// Its request.
     pub request: Sent,
+    /// Whether another request had its key at most 65,000 ms before.
+    pub reused: bool,
     /// The first of its answers; None where none was seen.
     pub answer: Option<Sent>,
+    /// Whether the server's Abort was seen after the answer's first segment and before its last one.
+    pub broken_off: bool,
     /// How many negative SegmentACKs were seen; the count stays at its last value.
     pub naks: u64,
     /// Whether the client's Abort was seen.
@@ -89,10 +96,10 @@ fn is_old(now: u64, number: Option<u8>, request: &Sent, answer: &Sent) -> bool
 }
 
 /// What is wrong with an answer that differs from the first.
-fn other_answer(request: &[u8], first: &[u8], other: &[u8]) -> Finding
-    ensures { result ≡ other_answer request.now first.now other.now }
+fn other_answer(reused: bool, request: &[u8], first: &[u8], other: &[u8]) -> Finding
+    ensures { result ≡ other_answer reused request.now first.now other.now }
 {
-    if is_performed_twice(request, first, other) {
+    if !reused && is_performed_twice(request, first, other) {
         Finding::PerformedTwice
     } else {
         Finding::AnotherAnswer
@@ -102,20 +109,28 @@ fn other_answer(request: &[u8], first: &[u8], other: &[u8]) -> Finding
 /// What is wrong with an answer that stands there after the first one.
 fn answer_finding(
     request: &Sent,
+    reused: bool,
     now: u64,
     place: Place,
     number: Option<u8>,
     first: &Sent,
     octets: &[u8],
 ) -> Option<Finding>
-    ensures { result ≡ answer_finding now place number (sent_view request.now) (sent_view first.now) octets.now }
+    ensures { result ≡ answer_finding now place number reused (sent_view request.now) (sent_view first.now) octets.now }
 {
     match place {
         Place::Again if is_old(now, number, request, first) => Some(Finding::OldCopy),
         Place::Again => None,
         Place::Next | Place::Back | Place::Ahead => segment_finding(first, place, number),
-        Place::Other => Some(other_answer(&request.octets, &first.octets, octets)),
+        Place::Other => Some(other_answer(reused, &request.octets, &first.octets, octets)),
     }
+}
+
+/// Whether an answer is the server's Abort in the midst of the first one.
+fn breaks_off(first: &Sent, octets: &[u8]) -> bool
+    ensures { result ≡ breaks_off (sent_view first.now) octets.now }
+{
+    !first.whole && is_server_abort(octets)
 }
 
 impl Transaction {
@@ -125,12 +140,15 @@ impl Transaction {
         now: u64,
         number: Option<u8>,
         octets: &[u8],
+        reused: bool,
     ) -> Result<Transaction, AllocError>
-        ensures { IfOk result (λ t. transaction_view t ≡ first_request now number octets.now) }
+        ensures { IfOk result (λ t. transaction_view t ≡ first_request now number octets.now reused) }
     {
         Ok(Transaction {
             request: Sent::first(alloc, now, number, octets)?,
+            reused,
             answer: None,
+            broken_off: false,
             naks: 0,
             gave_up: false,
         })
@@ -143,18 +161,37 @@ impl Transaction {
         now.saturating_sub(self.request.moment) <= KEEP
     }
 
+    /// Whether answers are looked for at that moment: its request was last seen at most 65,000 ms before.
+    pub(crate) fn is_awaited(&self, now: u64) -> bool
+        ensures { result ≡ is_awaited now (transaction_view self.now) }
+    {
+        now.saturating_sub(self.request.last) <= KEEP
+    }
+
+    /// What is wrong with another request that has its key.
+    pub(crate) fn reuse_finding(&self, octets: &[u8]) -> Finding
+        ensures { result ≡ reuse_finding octets.now (transaction_view self.now) }
+    {
+        if keeps_answer(&self.request.octets, octets, self.answer.is_some()) {
+            Finding::InvokeIdConfused
+        } else {
+            Finding::InvokeIdReused
+        }
+    }
+
     /// Its request is seen again, or a segment of it.
     pub(crate) fn requested(
         &mut self,
         now: u64,
         place: Place,
         number: Option<u8>,
+        octets: &[u8],
     ) -> Option<Finding>
-        ensures seen { transaction_view self.new ≡ (requested now place number (transaction_view self.old)).0 }
-        ensures finding { result ≡ (requested now place number (transaction_view self.old)).1 }
+        ensures seen { transaction_view self.new ≡ (requested now place number octets.now (transaction_view self.old)).0 }
+        ensures finding { result ≡ (requested now place number octets.now (transaction_view self.old)).1 }
     {
         let finding = request_finding(&self.request, place, number);
-        self.request.count(now, place, number);
+        self.request.count(now, place, number, octets);
         if let Some(answer) = &mut self.answer {
             answer.ask_again();
         }
@@ -173,13 +210,28 @@ impl Transaction {
         ensures finding { IfOk result (λ f. f ≡ (answered now number octets.now (transaction_view self.old)).1) }
         ensures err { OnErr result (transaction_view self.new ≡ transaction_view self.old) }
     {
+        if !is_of_service(&self.request.octets, octets) {
+            return Ok(Some(Finding::OtherService));
+        }
         let Some(answer) = &mut self.answer else {
             self.answer = Some(Sent::first(alloc, now, number, octets)?);
             return Ok(first_finding(number));
         };
+        if breaks_off(answer, octets) {
+            self.broken_off = true;
+            return Ok(None);
+        }
         let place = answer.place(number, octets);
-        let finding = answer_finding(&self.request, now, place, number, answer, octets);
-        answer.count(now, place, number);
+        let finding = answer_finding(
+            &self.request,
+            self.reused,
+            now,
+            place,
+            number,
+            answer,
+            octets,
+        );
+        answer.count(now, place, number, octets);
         Ok(finding)
     }
 

@@ -1,5 +1,5 @@
 -- The block of a transaction.
-use Rattle.std.specs.Prelude.{◌≡◌, ℕ, ◌-◌, ◌==◌, Bool, List, [], ◌∷◌, ◌++◌, codes, decimal, Option, Some, None, is_some, if◌then◌else◌}
+use Rattle.std.specs.Prelude.{◌≡◌, ℕ, ◌-◌, ◌==◌, Bool, List, [], ◌∷◌, ◌++◌, codes, decimal, Option, Some, None, if◌then◌else◌}
 use Rattle.bac_explain.specs.Keys.{Key}
 use Rattle.bac_explain.specs.Sent.{SentView}
 use Rattle.bac_explain.specs.Tables.{ClosedView}
@@ -27,9 +27,13 @@ pub record IsAskedLine (s : SentView) (text : List ℕ) : Type 0 where
   pub are : request.AreOctetsWords s.octets words
   pub is : text ≡ (asked_front s ++ words) ++ (10 ∷ [])
 
+-- what answers, or began to
+abbrev pub answer_name : SentView → List ℕ
+answer_name s = if s.whole then ending_name (answer_ending s.octets) else codes "began"
+
 abbrev pub answered_front : (asked : ℕ) → SentView → List ℕ
 answered_front asked s =
-    codes "  " ++ (ending_name (answer_ending s.octets) ++ (codes " after=" ++ (decimal (s.moment - asked) ++ (codes " " ++ (counts_text s ++ codes " ")))))
+    codes "  " ++ (answer_name s ++ (codes " after=" ++ (decimal (s.moment - asked) ++ (codes " " ++ (counts_text s ++ codes " ")))))
 
 -- how it was answered, after how many milliseconds, how often, and with what
 pub record IsAnsweredLine (asked : ℕ) (s : SentView) (text : List ℕ) : Type 0 where
@@ -47,12 +51,20 @@ IsAnswerLine t text = IsAnswerLineIn t.request.moment t.answer text
 abbrev pub naks_text : ℕ → List ℕ
 naks_text naks = if naks == 0 then [] else codes "  negative SegmentACKs=" ++ (decimal naks ++ codes "\n")
 
--- the client gave up, or no answer was seen
-abbrev pub end_text : (gave_up answered : Bool) → List ℕ
-end_text gave_up answered = if gave_up then codes "  given up by the client\n" else (if answered then [] else codes "  unanswered\n")
+-- the end of the answer was not seen, maybe since the server aborted it
+abbrev pub part_text : (broken_off : Bool) → List ℕ
+part_text broken_off = if broken_off then codes "  aborted by the server\n" else codes "  answer began, not whole\n"
+
+abbrev pub rest_text : (broken_off : Bool) → Option SentView → List ℕ
+rest_text broken_off None = codes "  unanswered\n"
+rest_text broken_off (Some s) = if s.whole then [] else part_text broken_off
+
+-- the client gave up, or no answer was seen, or not all of it
+abbrev pub end_text : TransactionView → List ℕ
+end_text t = if t.gave_up then codes "  given up by the client\n" else rest_text t.broken_off t.answer
 
 abbrev pub tail_text : TransactionView → List ℕ
-tail_text t = naks_text t.naks ++ end_text t.gave_up (is_some t.answer)
+tail_text t = naks_text t.naks ++ end_text t
 
 pub record IsBlock (c : ClosedView) (text : List ℕ) : Type 0 where
   pub asked : List ℕ

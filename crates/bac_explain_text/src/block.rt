@@ -1,10 +1,11 @@
 //! A transaction, line by line.
 ghost use Rattle.std.specs.Prelude.{◌≡◌, IfOk, string_bytes};
+ghost use Rattle.std.specs.Option.{option_map};
 ghost use Rattle.bac_explain.specs.Closings.{closed_view};
 ghost use Rattle.bac_explain.specs.KeyViews.{key_view};
 ghost use Rattle.bac_explain.specs.SentViews.{sent_view};
 ghost use Rattle.bac_explain.specs.Views.{transaction_view};
-ghost use Rattle.bac_explain_text.specs.Blocks.{asked_front, answered_front, counts_text, end_text, head_text, naks_text, tail_text};
+ghost use Rattle.bac_explain_text.specs.Blocks.{answer_name, asked_front, answered_front, counts_text, end_text, head_text, naks_text, part_text, rest_text, tail_text};
 ghost use Rattle.bac_explain_text.specs.Blocks.{IsAnsweredLine, IsAnswerLine, IsAskedLine, IsBlock};
 
 use crate::ending::answer_ending;
@@ -47,10 +48,21 @@ fn asked_line(alloc: Global, sent: &Sent) -> Result<Vec<u8>, NoMemory>
     Ok(text)
 }
 
+/// What answers, or that an answer began.
+fn answer_name(sent: &Sent) -> &'static str
+    ensures { result.now ≡ answer_name (sent_view sent.now) }
+{
+    if sent.whole {
+        answer_ending(&sent.octets).name()
+    } else {
+        "began"
+    }
+}
+
 fn answered_front(alloc: Global, asked: u64, sent: &Sent) -> Result<Vec<u8>, AllocError>
     ensures { IfOk result (λ t. t.items ≡ answered_front asked (sent_view sent.now)) }
 {
-    let name = answer_ending(&sent.octets).name();
+    let name = answer_name(sent);
     let counts = counts_text(alloc, sent)?;
     let delay = sent.moment.saturating_sub(asked);
     let text = format!(in alloc; "  {name} after={delay} {counts} ")?;
@@ -88,16 +100,36 @@ fn naks_text(alloc: Global, naks: u64) -> Result<Vec<u8>, AllocError>
     Ok(text.into_bytes())
 }
 
-/// That the client gave up, or that no answer was seen.
-fn end_text(gave_up: bool, answered: bool) -> &'static str
-    ensures { result.now ≡ end_text gave_up answered }
+/// That the end of the answer was not seen.
+fn part_text(broken_off: bool) -> &'static str
+    ensures { result.now ≡ part_text broken_off }
 {
-    if gave_up {
-        "  given up by the client\n"
-    } else if answered {
-        ""
+    if broken_off {
+        "  aborted by the server\n"
     } else {
-        "  unanswered\n"
+        "  answer began, not whole\n"
+    }
+}
+
+/// That no answer was seen, or not all of it.
+fn rest_text(broken_off: bool, answer: &Option<Sent>) -> &'static str
+    ensures { result.now ≡ rest_text broken_off (option_map sent_view answer.now) }
+{
+    match answer {
+        Some(answer) if answer.whole => "",
+        Some(_) => part_text(broken_off),
+        None => "  unanswered\n",
+    }
+}
+
+/// That the client gave up, or that there is no whole answer.
+fn end_text(transaction: &Transaction) -> &'static str
+    ensures { result.now ≡ end_text (transaction_view transaction.now) }
+{
+    if transaction.gave_up {
+        "  given up by the client\n"
+    } else {
+        rest_text(transaction.broken_off, &transaction.answer)
     }
 }
 
@@ -105,7 +137,7 @@ fn tail_text(alloc: Global, transaction: &Transaction) -> Result<Vec<u8>, AllocE
     ensures { IfOk result (λ t. t.items ≡ tail_text (transaction_view transaction.now)) }
 {
     let mut text = naks_text(alloc, transaction.naks)?;
-    let end = end_text(transaction.gave_up, transaction.answer.is_some());
+    let end = end_text(transaction);
     text.extend_from_slice(end.as_bytes())?;
     Ok(text)
 }

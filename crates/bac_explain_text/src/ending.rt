@@ -1,11 +1,12 @@
 //! How a transaction ended, as far as it was seen.
-ghost use Rattle.std.specs.Prelude.{◌≡◌};
+ghost use Rattle.std.specs.Prelude.{◌≡◌, ◌||◌};
 ghost use Rattle.bac_apdu.specs.Views.{apdu_view};
+ghost use Rattle.bac_explain.specs.SentViews.{sent_view};
 ghost use Rattle.bac_explain.specs.Views.{transaction_view};
-ghost use Rattle.bac_explain_text.specs.Endings.{answer_ending, apdu_ending, ending_name, ending_of, no_answer_ending};
+ghost use Rattle.bac_explain_text.specs.Endings.{answer_ending, apdu_ending, ending_name, ending_of, no_answer_ending, seen_ending};
 
 use bac_apdu::{Apdu, read};
-use bac_explain::Transaction;
+use bac_explain::{Sent, Transaction};
 
 /// How a transaction ended.
 #[derive(Clone, Copy, Debug, PartialEq, Eq)]
@@ -16,7 +17,7 @@ pub(crate) enum Ending {
     Rejected,
     /// By an Abort of either end.
     Aborted,
-    /// No answer was seen.
+    /// No answer was seen, or not the end of it.
     Unanswered,
 }
 
@@ -64,12 +65,23 @@ fn no_answer_ending(gave_up: bool) -> Ending
     }
 }
 
-/// How a transaction ended: by its answer, or where there is none by the client's Abort.
+/// How a transaction with the beginning of an answer ended: by that where its end was seen too.
+fn seen_ending(broken_off: bool, gave_up: bool, answer: &Sent) -> Ending
+    ensures { result ≡ seen_ending broken_off gave_up (sent_view answer.now) }
+{
+    if answer.whole {
+        answer_ending(&answer.octets)
+    } else {
+        no_answer_ending(broken_off || gave_up)
+    }
+}
+
+/// How a transaction ended: by its answer, or where there is no whole one by an Abort.
 pub(crate) fn ending_of(transaction: &Transaction) -> Ending
     ensures { result ≡ ending_of (transaction_view transaction.now) }
 {
     match &transaction.answer {
-        Some(answer) => answer_ending(&answer.octets),
+        Some(answer) => seen_ending(transaction.broken_off, transaction.gave_up, answer),
         None => no_answer_ending(transaction.gave_up),
     }
 }

@@ -1,5 +1,5 @@
 //! Capture files of transactions, and what is printed of them.
-use super::explained_rows::{ANSWERED, Row, WRONG};
+use super::explained_rows::{ANSWERED, PARTS, Row, WRONG};
 use super::moment_rows::{MOMENTS, NO_MOMENT, NO_MOMENT_PRINTED, PRINTED};
 use super::transaction_rows::Seen;
 use bac_check::Ports;
@@ -109,6 +109,11 @@ fn answered_transactions(rt: HostRuntime) -> Result<(), Fail> {
 #[test]
 fn wrong_transactions(rt: HostRuntime) -> Result<(), Fail> {
     rows_hold(rt.alloc(), WRONG)
+}
+
+#[test]
+fn parts_of_answers(rt: HostRuntime) -> Result<(), Fail> {
+    rows_hold(rt.alloc(), PARTS)
 }
 
 /// The unit of moments is an option of the interface, wherever it stands among the others.

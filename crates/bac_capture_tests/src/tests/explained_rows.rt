@@ -371,3 +371,113 @@ transactions=1 answered=1 rejected=0 aborted=0 unanswered=0 slowest=3 findings=2
         1,
     ),
 ];
+
+/// Answers of which more or less is seen.
+pub(super) const PARTS: &[Row] = &[
+    (
+        "a whole answer in segments",
+        &[
+            (0, true, "810A001101040005000C0C000000051955", ""),
+            (5, false, "810A000C01003C0000020CA0", ""),
+            (6, true, "810A000A010040000002", ""),
+            (7, false, "810A000C0100380001020CA1", ""),
+        ],
+        "\
+transaction 10.0.0.5:47808 > 10.0.0.9:47808 id 0
+  asked at=0 times=1 read analog-input:5 present-value
+  answered after=5 times=1 more-segments=1 service 12 in segments
+transactions=1 answered=1 rejected=0 aborted=0 unanswered=0 slowest=5 findings=0 frames=4 unread=0
+",
+        0,
+    ),
+    (
+        "an answer whose end is not seen",
+        &[
+            (0, true, "810A001101040005000C0C000000051955", ""),
+            (5, false, "810A000C01003C0000020CA0", ""),
+            (6, true, "810A000A010040000002", ""),
+            (7, false, "810A000C01003C0001020CA1", ""),
+        ],
+        "\
+transaction 10.0.0.5:47808 > 10.0.0.9:47808 id 0
+  asked at=0 times=1 read analog-input:5 present-value
+  began after=5 times=1 more-segments=1 service 12 in segments
+  answer began, not whole
+transactions=1 answered=0 rejected=0 aborted=0 unanswered=1 slowest=5 findings=0 frames=4 unread=0
+",
+        0,
+    ),
+    (
+        "an Abort in the midst of an answer",
+        &[
+            (0, true, "810A001101040005000C0C000000051955", ""),
+            (5, false, "810A000C01003C0000020CA0", ""),
+            (6, true, "810A000A010040000002", ""),
+            (7, false, "810A00090100710004", ""),
+        ],
+        "\
+transaction 10.0.0.5:47808 > 10.0.0.9:47808 id 0
+  asked at=0 times=1 read analog-input:5 present-value
+  began after=5 times=1 service 12 in segments
+  aborted by the server
+transactions=1 answered=0 rejected=0 aborted=1 unanswered=0 slowest=5 findings=0 frames=4 unread=0
+",
+        0,
+    ),
+    (
+        "given up in the midst of an answer",
+        &[
+            (0, true, "810A001101040005000C0C000000051955", ""),
+            (5, false, "810A000C01003C0000020CA0", ""),
+            (6, true, "810A000A010040000002", ""),
+            (7, true, "810A00090100700004", ""),
+        ],
+        "\
+transaction 10.0.0.5:47808 > 10.0.0.9:47808 id 0
+  asked at=0 times=1 read analog-input:5 present-value
+  began after=5 times=1 service 12 in segments
+  given up by the client
+transactions=1 answered=0 rejected=0 aborted=1 unanswered=0 slowest=5 findings=0 frames=4 unread=0
+",
+        0,
+    ),
+    (
+        "an answer of another service",
+        &[
+            (0, true, "810A001101040005000C0C000000051955", ""),
+            (5, false, "810A0009010020000F", ""),
+        ],
+        "\
+frame 2: an answer of another service, 10.0.0.5:47808 > 10.0.0.9:47808 id 0
+transaction 10.0.0.5:47808 > 10.0.0.9:47808 id 0
+  asked at=0 times=1 read analog-input:5 present-value
+  unanswered
+transactions=1 answered=0 rejected=0 aborted=0 unanswered=1 slowest=- findings=1 frames=2 unread=0
+",
+        1,
+    ),
+    (
+        "an answer after 65 s",
+        &[
+            (0, true, "810A001101040005000C0C000000051955", ""),
+            (64999, true, "810A001101040005000C0C000000051955", ""),
+            (
+                65010,
+                false,
+                "810A0017010030000C0C0000000519553E444290999A3F",
+                "",
+            ),
+            (130000, true, "810A001101040005010C0C000000051955", ""),
+        ],
+        "\
+transaction 10.0.0.5:47808 > 10.0.0.9:47808 id 0
+  asked at=0 times=2 read analog-input:5 present-value
+  answered after=65010 times=1 real 72.3
+transaction 10.0.0.5:47808 > 10.0.0.9:47808 id 1
+  asked at=130000 times=1 read analog-input:5 present-value
+  unanswered
+transactions=2 answered=1 rejected=0 aborted=0 unanswered=1 slowest=65010 findings=0 frames=4 unread=0
+",
+        0,
+    ),
+];

@@ -403,3 +403,325 @@ pub(super) const COPIES: &[Row] = &[
         ],
     ),
 ];
+
+pub(super) const SERVICES: &[Row] = &[
+    (
+        "another service",
+        &[
+            (0, true, "810A001101040005000C0C000000051955", "-"),
+            (
+                1,
+                false,
+                "810A0009010020000F",
+                "an answer of another service",
+            ),
+            (
+                2,
+                false,
+                "810A000D010050000F9101911F",
+                "an answer of another service",
+            ),
+            (
+                3,
+                false,
+                "810A00100100300006100E3100614F0F",
+                "an answer of another service",
+            ),
+            (
+                4,
+                false,
+                "810A0017010030000C0C0000000519553E444290999A3F",
+                "-",
+            ),
+            (
+                5,
+                false,
+                "810A0009010020000F",
+                "an answer of another service",
+            ),
+            (
+                6,
+                false,
+                "810A0017010030000C0C0000000519553E444290999A3F",
+                "-",
+            ),
+        ],
+    ),
+    (
+        "a Reject and an Abort tell no service",
+        &[
+            (0, true, "810A001101040005000C0C000000051955", "-"),
+            (1, false, "810A00090100600009", "-"),
+            (2, false, "810A00090100710001", "another answer than before"),
+        ],
+    ),
+];
+
+pub(super) const KEPT: &[Row] = &[
+    (
+        "the same data with other limits",
+        &[
+            (0, true, "810A001101040005000C0C000000051955", "-"),
+            (
+                1,
+                true,
+                "810A001101040004000C0C000000051955",
+                "another request with the invoke ID of an earlier one, whose answer this stack's server would send",
+            ),
+            (
+                2,
+                true,
+                "810A001101040005000C0C00000005191C",
+                "another request with the invoke ID of an earlier one",
+            ),
+        ],
+    ),
+    (
+        "another request in segments, where the first was answered",
+        &[
+            (0, true, "810A000D01040C050200200FAA", "-"),
+            (1, false, "810A000A010041020020", "-"),
+            (2, true, "810A000D010408050201200FBB", "-"),
+            (3, false, "810A000A010041020120", "-"),
+            (4, false, "810A0009010020020F", "-"),
+            (
+                5,
+                true,
+                "810A000D01040C050200200FCC",
+                "another request with the invoke ID of an earlier one, whose answer this stack's server would send",
+            ),
+            (
+                6,
+                true,
+                "810A000B01040005020FAA",
+                "another request with the invoke ID of an earlier one",
+            ),
+        ],
+    ),
+    (
+        "another request in segments, where the first was not answered",
+        &[
+            (0, true, "810A000D01040C050200200FAA", "-"),
+            (
+                1,
+                true,
+                "810A000D01040C050200200FCC",
+                "another request with the invoke ID of an earlier one",
+            ),
+        ],
+    ),
+    (
+        "a late answer of an earlier append",
+        &[
+            (0, true, "810A0015010400050107C4028000010E31FF61AA0F", "-"),
+            (
+                30000,
+                true,
+                "810A0015010400050107C4028000010E31FF61BB0F",
+                "another request with the invoke ID of an earlier one",
+            ),
+            (30001, false, "810A000B01003001070902", "-"),
+            (
+                30002,
+                false,
+                "810A000B01003001070905",
+                "another answer than before",
+            ),
+        ],
+    ),
+    (
+        "an append after another is over",
+        &[
+            (0, true, "810A0015010400050107C4028000010E31FF61AA0F", "-"),
+            (1, false, "810A000B01003001070902", "-"),
+            (
+                65001,
+                true,
+                "810A0015010400050107C4028000010E31FF61BB0F",
+                "-",
+            ),
+            (65002, false, "810A000B01003001070903", "-"),
+            (
+                65003,
+                false,
+                "810A000B01003001070905",
+                "an append performed twice",
+            ),
+        ],
+    ),
+];
+
+pub(super) const POLLS: &[Row] = &[
+    (
+        "a read every 20 s",
+        &[
+            (0, true, "810A001101040005000C0C000000051955", "-"),
+            (
+                1,
+                false,
+                "810A0017010030000C0C0000000519553E444290999A3F",
+                "-",
+            ),
+            (20000, true, "810A001101040005000C0C000000051955", "-"),
+            (
+                20001,
+                false,
+                "810A0017010030000C0C0000000519553E444290999A3F",
+                "-",
+            ),
+            (40000, true, "810A001101040005000C0C000000051955", "-"),
+            (
+                40001,
+                false,
+                "810A0017010030000C0C0000000519553E444290999A3F",
+                "-",
+            ),
+            (60000, true, "810A001101040005000C0C000000051955", "-"),
+            (
+                60001,
+                false,
+                "810A0017010030000C0C0000000519553E444290999A3F",
+                "-",
+            ),
+            (80000, true, "810A001101040005000C0C000000051955", "-"),
+            (
+                80001,
+                false,
+                "810A0017010030000C0C0000000519553E44000000003F",
+                "-",
+            ),
+            (100000, true, "810A001101040005000C0C000000051955", "-"),
+            (
+                100001,
+                false,
+                "810A0017010030000C0C0000000519553E44000000003F",
+                "-",
+            ),
+        ],
+    ),
+    (
+        "a read every 66 s, with other values",
+        &[
+            (0, true, "810A001101040005000C0C000000051955", "-"),
+            (
+                1,
+                false,
+                "810A0017010030000C0C0000000519553E444290999A3F",
+                "-",
+            ),
+            (66000, true, "810A001101040005000C0C000000051955", "-"),
+            (
+                66001,
+                false,
+                "810A0017010030000C0C0000000519553E44000000003F",
+                "-",
+            ),
+            (132000, true, "810A001101040005000C0C000000051955", "-"),
+            (
+                132001,
+                false,
+                "810A0017010030000C0C0000000519553E444290999A3F",
+                "-",
+            ),
+        ],
+    ),
+    (
+        "an answer after 65 s of a repeat before",
+        &[
+            (0, true, "810A001101040005000C0C000000051955", "-"),
+            (
+                1,
+                false,
+                "810A0017010030000C0C0000000519553E444290999A3F",
+                "-",
+            ),
+            (64999, true, "810A001101040005000C0C000000051955", "-"),
+            (
+                65010,
+                false,
+                "810A0017010030000C0C0000000519553E444290999A3F",
+                "-",
+            ),
+            (
+                129999,
+                false,
+                "810A0017010030000C0C0000000519553E444290999A3F",
+                "a copy older than 5 s",
+            ),
+            (
+                130000,
+                false,
+                "810A0017010030000C0C0000000519553E444290999A3F",
+                "an answer to no request",
+            ),
+        ],
+    ),
+];
+
+pub(super) const NUMBERS: &[Row] = &[
+    (
+        "a number that was never sent",
+        &[
+            (0, true, "810A000D01040C050200200FA0", "-"),
+            (1, false, "810A000A010041020020", "-"),
+            (2, true, "810A000D01040C050201200FA1", "-"),
+            (
+                3,
+                true,
+                "810A000D01040C0502C8200FA2",
+                "a segment before it is missing",
+            ),
+        ],
+    ),
+    (
+        "numbers that were sent",
+        &[
+            (0, true, "810A000D01040C050200200FA0", "-"),
+            (1, false, "810A000A010041020020", "-"),
+            (2, true, "810A000D01040C050201200FA1", "-"),
+            (3, true, "810A000D01040C050202200FA2", "-"),
+            (4, true, "810A000D01040C050203200FA3", "-"),
+            (5, true, "810A000D01040C050202200FA2", "-"),
+            (6, true, "810A000D01040C050203200FA3", "-"),
+            (7, true, "810A000D01040C050201200FA1", "-"),
+            (
+                8,
+                true,
+                "810A000D01040C0502FF200FAF",
+                "a segment before it is missing",
+            ),
+        ],
+    ),
+    (
+        "numbers before the first that was seen",
+        &[
+            (
+                0,
+                true,
+                "810A000D01040C050203200FA3",
+                "a segment before it is missing",
+            ),
+            (1, true, "810A000D01040C050201200FA1", "-"),
+            (2, true, "810A000D01040C0502FE200FAE", "-"),
+        ],
+    ),
+    (
+        "an Abort in the midst of an answer",
+        &[
+            (0, true, "810A001101040005000C0C000000051955", "-"),
+            (1, false, "810A000C01003C0000020CA0", "-"),
+            (2, false, "810A00090100710004", "-"),
+            (3, false, "810A00090100710004", "-"),
+        ],
+    ),
+    (
+        "an Abort after the end of an answer",
+        &[
+            (0, true, "810A001101040005000C0C000000051955", "-"),
+            (1, false, "810A000C01003C0000020CA0", "-"),
+            (2, true, "810A000A010040000002", "-"),
+            (3, false, "810A000C0100380001020CA1", "-"),
+            (4, false, "810A00090100710004", "another answer than before"),
+        ],
+    ),
+];

@@ -1,5 +1,7 @@
 //! What is wrong with datagrams of transactions.
-use super::transaction_rows::{ANSWERS, COPIES, REQUESTS, Row, SEGMENTS, Seen};
+use super::transaction_rows::{
+    ANSWERS, COPIES, KEPT, NUMBERS, POLLS, REQUESTS, Row, SEGMENTS, SERVICES, Seen,
+};
 use bac_explain::{Explainer, Finding, read_sighting};
 use bac_rows::{holds, octets_of};
 use std::alloc::{AllocError, Global};
@@ -81,4 +83,24 @@ fn segments(rt: HostRuntime) -> Result<(), Fail> {
 #[test]
 fn copies(rt: HostRuntime) -> Result<(), Fail> {
     rows_hold(rt.alloc(), COPIES)
+}
+
+#[test]
+fn services(rt: HostRuntime) -> Result<(), Fail> {
+    rows_hold(rt.alloc(), SERVICES)
+}
+
+#[test]
+fn kept_answers(rt: HostRuntime) -> Result<(), Fail> {
+    rows_hold(rt.alloc(), KEPT)
+}
+
+#[test]
+fn polls(rt: HostRuntime) -> Result<(), Fail> {
+    rows_hold(rt.alloc(), POLLS)
+}
+
+#[test]
+fn numbers(rt: HostRuntime) -> Result<(), Fail> {
+    rows_hold(rt.alloc(), NUMBERS)
 }

@@ -3,7 +3,7 @@ use super::going::{Asked, Sight};
 use bac_explain::{Sent, Transaction};
 use bac_network::{Note, World};
 
-/// So long a transaction is looked at, in milliseconds.
+/// So long a request is looked at after its ask, and answers after the request, in milliseconds.
 const KEEP: u64 = 65_000;
 
 /// What passed of an ask: its first APDU, others of the request, answers, and negative SegmentACKs.
@@ -13,6 +13,10 @@ pub(super) struct Counts {
     segments: u64,
     answers: u64,
     naks: u64,
+    /// How long after the ask the request passed last.
+    last: u64,
+    /// Whether the invoke ID was used again.
+    is_over: bool,
 }
 
 fn one_more(count: &mut u64) {
@@ -20,9 +24,24 @@ fn one_more(count: &mut u64) {
 }
 
 impl Counts {
+    /// Notes when a request passed: after so long it is another one.
+    fn ask(&mut self, after: u64) {
+        if after > KEEP {
+            self.is_over = true;
+        } else {
+            self.last = after;
+        }
+    }
+
     /// Counts a datagram by the first octet of its APDU, whose upper half is its kind.
-    fn count(&mut self, first: &[u8], octets: &[u8]) {
+    fn count(&mut self, first: &[u8], octets: &[u8], after: u64) {
         let head = octets.get(6).copied().unwrap_or(0xFF);
+        if head / 16 == 0 {
+            self.ask(after);
+        }
+        if self.is_over || after > self.last.saturating_add(KEEP) {
+            return;
+        }
         match head / 16 {
             0 if octets == first => one_more(&mut self.first),
             0 => one_more(&mut self.segments),
@@ -40,15 +59,17 @@ impl Counts {
             segments: 0,
             answers: 0,
             naks: 0,
+            last: 0,
+            is_over: false,
         };
         let Some(first) = world.copies().get(asked.copies) else {
             return counts;
         };
         for sight in passed {
             if let Some(copy) = world.copies().get(sight.copy) {
-                let is_its = copy.transaction == note.transaction && sight.copy >= asked.copies;
-                if is_its && sight.moment.saturating_sub(asked.moment) <= KEEP {
-                    counts.count(&first.octets, &copy.octets);
+                if copy.transaction == note.transaction && sight.copy >= asked.copies {
+                    let after = sight.moment.saturating_sub(asked.moment);
+                    counts.count(&first.octets, &copy.octets, after);
                 }
             }
         }

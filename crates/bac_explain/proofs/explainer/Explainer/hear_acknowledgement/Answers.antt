@@ -4,7 +4,7 @@ use Rattle.bac_slots.specs.Slots.{with_value}
 use Rattle.bac_explain.specs.Keys.{same_key}
 use Rattle.bac_explain.specs.Views.{slots_view}
 use Rattle.bac_explain.specs.KeyViews.{key_view}
-use Rattle.bac_explain.specs.Tables.{acknowledgement_heard, live}
+use Rattle.bac_explain.specs.Tables.{acknowledgement_heard, awaited}
 use Rattle.bac_explain.proofs.Hearing.{alive_of, goes_heard, none_heard}
 use Rattle.bac_explain.proofs.explainer.Explainer.hear_acknowledgement.Goals as goal
 
@@ -17,7 +17,7 @@ pub returns : goal.returns
 returns c =
     goes_heard (acknowledgement_heard (key_view c.args.key.now) c.args.taken) c.args.now c.args.key.now c.self.inside.table.0 _ c.args.self.now
     c.in-Some.transaction.now c.acknowledged.new.self c.acknowledged.result c.self.view_is
-    (alive_of c.is_live.result (live c.args.now (key_view c.args.key.now) c.args.self.now) c.if-not-is_live.false c.is_live.ensures)
+    (alive_of c.is_awaited.result (awaited c.args.now (key_view c.args.key.now) c.args.self.now) c.if-not-is_awaited.false c.is_awaited.ensures)
     c.in-Some.ensures.value (c.get_mut.follows.holds c.acknowledged.new.self).0
     (λ i. record {
       slots = with_value same_key (key_view c.args.key.now) (c.acknowledged.ensures.seen i) (slots_view c.self.inside.table.0);

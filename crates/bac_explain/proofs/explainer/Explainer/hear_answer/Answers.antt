@@ -7,7 +7,7 @@ use Rattle.bac_explain.specs.Keys.{same_key}
 use Rattle.bac_explain.specs.Transactions.{answered}
 use Rattle.bac_explain.specs.Views.{slots_view, transaction_view}
 use Rattle.bac_explain.specs.KeyViews.{key_view}
-use Rattle.bac_explain.specs.Tables.{answer_heard, live}
+use Rattle.bac_explain.specs.Tables.{answer_heard, awaited}
 use Rattle.bac_explain.proofs.Hearing.{alive_of, goes_heard, none_heard, same_slots}
 use Rattle.bac_explain.proofs.explainer.Explainer.hear_answer.Goals as goal
 
@@ -23,12 +23,12 @@ returns-clause-ok c = go c.answered.result c.answered.ensures.seen c.answered.en
         → IfOk r (λ f. transaction_view c.answered.new.self ≡ (answered c.args.now c.args.number c.args.octets.now (transaction_view c.in-Some.transaction.now)).0)
         → IfOk r (λ f. f ≡ (answered c.args.now c.args.number c.args.octets.now (transaction_view c.in-Some.transaction.now)).1)
         → IfOk r (λ f. record { slots = slots_view (c.get_mut.follows.lender c.answered.new.self).0; closed = None; finding = f }
-        ≡ answer_heard c.args.now (key_view c.args.key.now) c.args.number c.args.octets.now (live c.args.now (key_view c.args.key.now) c.args.self.now) c.args.self.now)
+        ≡ answer_heard c.args.now (key_view c.args.key.now) c.args.number c.args.octets.now (awaited c.args.now (key_view c.args.key.now) c.args.self.now) c.args.self.now)
     go (Err e) seen finding = tt
     go (Ok f) seen finding =
         goes_heard (answer_heard c.args.now (key_view c.args.key.now) c.args.number c.args.octets.now) c.args.now c.args.key.now c.self.inside.table.0 _
         c.args.self.now c.in-Some.transaction.now c.answered.new.self f c.self.view_is
-        (alive_of c.is_live.result (live c.args.now (key_view c.args.key.now) c.args.self.now) c.if-not-is_live.false c.is_live.ensures)
+        (alive_of c.is_awaited.result (awaited c.args.now (key_view c.args.key.now) c.args.self.now) c.if-not-is_awaited.false c.is_awaited.ensures)
         c.in-Some.ensures.value (c.get_mut.follows.holds c.answered.new.self).0
         (λ i. record {
           slots = with_value same_key (key_view c.args.key.now) (seen i) (slots_view c.self.inside.table.0);

@@ -9,5 +9,5 @@ returns-in_default c = λ t is. absurd (repeat_none c.args.key.now c.self.inside
 pub returns : goal.returns
 returns c =
     repeat_heard c.args.key.now c.self.inside.table.0 _ c.args.self.now c.in-Some.transaction.now c.requested.new.self c.requested.result
-    (requested c.args.now c.args.place c.args.number) c.self.view_is c.in-Some.ensures.value (c.get_mut.follows.holds c.requested.new.self).0
+    (requested c.args.now c.args.place c.args.number c.args.octets.now) c.self.view_is c.in-Some.ensures.value (c.get_mut.follows.holds c.requested.new.self).0
     c.requested.ensures.seen c.requested.ensures.finding

@@ -1,0 +1,6 @@
+-- The plain value of what a request asks.
+use Rattle.bac_explain.specs.declared.choice.Asked.{Asked}
+use Rattle.bac_explain.specs.Choices.{AskedView}
+
+abbrev pub asked_view : Asked → AskedView
+asked_view a = record { in_segments = a.in_segments; choice = a.choice; service = a.service.now }
