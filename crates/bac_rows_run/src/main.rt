@@ -1,7 +1,7 @@
-//! Plays rows of text from standard input and prints what comes of each: nodes on links in memory, a world beside them, and sockets of this machine.
+//! Plays rows of text from standard input and prints what comes of each: nodes on links in memory, a world beside them, a socket of this machine, and scripts.
 //!
-//! The files stdin and stdout beside src/ are the rows and what has to be printed. A row begins with `#`, what it is played by and its title; each further line
-//! is told again behind `> `, and below it what came of it. A line that says nothing prints `?`, which no row may.
+//! The files stdin and stdout beside src/ are the rows and what has to be printed. A row begins with `=`, what plays it and its title; its lines are told again
+//! behind `> `, and below each, or below them all, what came of it. A line that says nothing prints `?`, which no row may.
 #![tactic(auto)]
 
 mod medium;
@@ -10,6 +10,7 @@ mod nodes;
 mod printing;
 mod rows;
 mod runs;
+mod scripts;
 mod side;
 mod sockets;
 mod turns;
