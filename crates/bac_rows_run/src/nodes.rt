@@ -79,27 +79,80 @@ fn nodes(side: &Side<'_>, out: &mut Vec<u8>) -> Option<()> {
     writeln!(out, "server latest {latest} failures {failures}").ok()
 }
 
-/// A line of a side.
-fn of_side(side: &mut Side<'_>, line: &str, out: &mut Vec<u8>) -> Option<()> {
-    let (verb, words) = first(line);
-    match verb.as_bytes() {
-        b"send" => send(side, words, out),
-        b"recv" => recv(side, words, out),
-        b"buffer" => buffer(side, words, out),
-        b"turn" => turn(side, words, out),
-        b"by" => turn_by(side, words, out),
-        b"begin" => begin(side, words, out),
-        b"serve" => serve(side, words, out),
-        b"ask" => ask(side, words, out),
-        b"pair" => ask_in_pair(side, words, out),
-        b"rounds" => rounds(side, words, out),
-        b"file" => file(side, out),
-        b"nodes" => nodes(side, out),
-        _ => {
-            let mut medium = side.medium.try_borrow_mut().ok()?;
-            of_medium(&mut medium, verb, words, out)
+/// What a line of a side is about.
+#[derive(Clone, Copy)]
+enum Verb {
+    Send,
+    Recv,
+    Buffer,
+    Turn,
+    By,
+    Begin,
+    Serve,
+    Ask,
+    Pair,
+    Rounds,
+    File,
+    Nodes,
+}
+
+const VERBS: &[(&str, Verb)] = &[
+    ("send", Verb::Send),
+    ("recv", Verb::Recv),
+    ("buffer", Verb::Buffer),
+    ("turn", Verb::Turn),
+    ("by", Verb::By),
+    ("begin", Verb::Begin),
+    ("serve", Verb::Serve),
+    ("ask", Verb::Ask),
+    ("pair", Verb::Pair),
+    ("rounds", Verb::Rounds),
+    ("file", Verb::File),
+    ("nodes", Verb::Nodes),
+];
+
+fn verb_of(word: &str) -> Option<Verb> {
+    for (name, verb) in VERBS {
+        if *name == word {
+            return Some(*verb);
         }
     }
+    None
+}
+
+/// What is seen of a side.
+fn tell(side: &Side<'_>, verb: Verb, words: &str, out: &mut Vec<u8>) -> Option<()> {
+    match verb {
+        Verb::Send => send(side, words, out),
+        Verb::Recv => recv(side, words, out),
+        Verb::Buffer => buffer(side, words, out),
+        Verb::File => file(side, out),
+        _ => nodes(side, out),
+    }
+}
+
+/// Turns of a side.
+fn act(side: &mut Side<'_>, verb: Verb, words: &str, out: &mut Vec<u8>) -> Option<()> {
+    match verb {
+        Verb::Turn => turn(side, words, out),
+        Verb::By => turn_by(side, words, out),
+        Verb::Begin => begin(side, words, out),
+        Verb::Serve => serve(side, words, out),
+        Verb::Ask => ask(side, words, out),
+        Verb::Pair => ask_in_pair(side, words, out),
+        Verb::Rounds => rounds(side, words, out),
+        _ => tell(side, verb, words, out),
+    }
+}
+
+/// A line of a side.
+fn of_side(side: &mut Side<'_>, line: &str, out: &mut Vec<u8>) -> Option<()> {
+    let (word, words) = first(line);
+    if let Some(verb) = verb_of(word) {
+        return act(side, verb, words, out);
+    }
+    let mut medium = side.medium.try_borrow_mut().ok()?;
+    of_medium(&mut medium, word, words, out)
 }
 
 /// `same`: whether the nodes of both sides are the same.

@@ -73,7 +73,10 @@ pub(crate) fn print_done(alloc: Global, turn: &Turn, out: &mut Vec<u8>) -> Optio
 
 fn print_received(received: Option<(LinkAddress, usize)>, out: &mut Vec<u8>) -> Option<()> {
     match received {
-        Some((from, len)) => writeln!(out, "received {len} from {}", End::of(from).name()).ok(),
+        Some(datagram) => {
+            let from = datagram.0;
+            writeln!(out, "received {} from {}", datagram.1, End::of(from).name()).ok()
+        }
         None => out.write_all(b"nothing\n").ok(),
     }
 }

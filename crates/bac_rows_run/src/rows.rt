@@ -7,7 +7,38 @@ use std::io;
 use std::io::Write;
 use std::net::Net;
 
-/// A row's title and its lines; the first word says what plays it.
+/// What plays a row.
+#[derive(Clone, Copy)]
+enum Kind {
+    Nodes,
+    World,
+    Socket,
+    /// One script, or one in each line.
+    Script(Way),
+    Scripts(Way),
+}
+
+const KINDS: &[(&str, Kind)] = &[
+    ("nodes", Kind::Nodes),
+    ("world", Kind::World),
+    ("socket", Kind::Socket),
+    ("script", Kind::Script(Way::Plain)),
+    ("scripts", Kind::Scripts(Way::Plain)),
+    ("noted", Kind::Scripts(Way::Noted)),
+    ("chart", Kind::Script(Way::Shown(View::Chart))),
+    ("mermaid", Kind::Script(Way::Shown(View::Mermaid))),
+];
+
+fn kind_of(word: &str) -> Option<Kind> {
+    for (name, kind) in KINDS {
+        if *name == word {
+            return Some(*kind);
+        }
+    }
+    None
+}
+
+/// A row's title and its lines; the title's first word says what plays it.
 fn play<R: Net + std::time::Clock>(
     rt: &R,
     alloc: Global,
@@ -16,17 +47,12 @@ fn play<R: Net + std::time::Clock>(
 ) -> Option<()> {
     let (title, lines) = row.trim_end_matches('\n').split_once('\n')?;
     writeln!(out, "\n={title}").ok()?;
-    let (kind, _) = words::first(title);
-    match kind.as_bytes() {
-        b"script" => scripts::play(alloc, Way::Plain, lines, out),
-        b"scripts" => scripts::play_lines(alloc, Way::Plain, lines, out),
-        b"noted" => scripts::play_lines(alloc, Way::Noted, lines, out),
-        b"chart" => scripts::play(alloc, Way::Shown(View::Chart), lines, out),
-        b"mermaid" => scripts::play(alloc, Way::Shown(View::Mermaid), lines, out),
-        b"nodes" => nodes::play(alloc, lines, out),
-        b"world" => worlds::play(alloc, lines, out),
-        b"socket" => sockets::play(rt, alloc, lines, out),
-        _ => None,
+    match kind_of(words::first(title).0)? {
+        Kind::Nodes => nodes::play(alloc, lines, out),
+        Kind::World => worlds::play(alloc, lines, out),
+        Kind::Socket => sockets::play(rt, alloc, lines, out),
+        Kind::Script(way) => scripts::play(alloc, way, lines, out),
+        Kind::Scripts(way) => scripts::play_lines(alloc, way, lines, out),
     }
 }
 
