@@ -1,5 +1,7 @@
 //! What the tests share.
 
+mod charted;
+mod charted_rows;
 mod explained;
 mod explained_rows;
 mod failing;

@@ -1,5 +1,5 @@
 -- What is printed of marks.
-use Rattle.std.specs.Prelude.{ℕ, zero, suc, ◌+◌, Bool, true, false, nat_eq, if◌then◌else◌, List, [], ◌∷◌, ◌++◌, length, take, drop, slice_get, codes, decimal, Option, Some, None}
+use Rattle.std.specs.Prelude.{ℕ, zero, suc, ◌+◌, Bool, true, false, nat_eq, if◌then◌else◌, List, [], ◌++◌, length, take, drop, slice_get, codes, decimal, Option, Some, None}
 use Rattle.bac_chart.specs.Lines.{Line, line_of}
 use Rattle.bac_chart.specs.Marks.{Mark}
 use Rattle.bac_chart.specs.Rows.{filled, row_text}

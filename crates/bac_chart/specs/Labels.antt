@@ -1,8 +1,8 @@
 -- What a datagram is, in short.
-use Rattle.std.specs.Prelude.{ℕ, zero, suc, ℤ, pos, negsuc, Bool, true, false, if◌then◌else◌, List, ◌++◌, codes, decimal, Option, Some, None, Result, Ok, Err}
+use Rattle.std.specs.Prelude.{ℕ, zero, suc, ℤ, pos, negsuc, Bool, true, false, if◌then◌else◌, List, [], ◌++◌, codes, decimal, Option, Some, None, Result, Ok, Err}
 use Rattle.std.specs.Fmt.{signed_decimal}
 use Rattle.hex.specs.Hex.{encode_upper}
-use Rattle.bac_apdu.specs.Apdu.{Segment, Apdu, ConfirmedRequest, UnconfirmedRequest, SimpleAck, ComplexAck, SegmentAck, Error, Reject, Abort}
+use Rattle.bac_apdu.specs.Apdu.{Apdu, ConfirmedRequest, UnconfirmedRequest, SimpleAck, ComplexAck, SegmentAck, Error, Reject, Abort}
 use Rattle.bac_apdu.specs.Reading.{apdu_at}
 use Rattle.bac_apdu.specs.declared.fault.ApduFault.{ApduFault}
 use Rattle.bac_npdu.specs.Npdu.{NpduView, MessageView}
@@ -18,8 +18,13 @@ use Rattle.bac_value_text.specs.Texts.{object_text, property_text}
 
 -- ---- requests, as `bac ask` takes them, without values
 
+-- an element of an array
+abbrev pub index_words : Option ℕ → List ℕ
+index_words None = []
+index_words (Some index) = codes "[" ++ (decimal index ++ codes "]")
+
 abbrev pub reference_words : Reference → List ℕ
-reference_words r = object_text r.object ++ (codes " " ++ property_text r.property)
+reference_words r = object_text r.object ++ (codes " " ++ (property_text r.property ++ index_words r.index))
 
 abbrev pub append_words : ObjectId → (octets : List ℕ) → List ℕ
 append_words file octets = codes "append " ++ (object_text file ++ (codes " " ++ encode_upper octets))

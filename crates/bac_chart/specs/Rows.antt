@@ -1,5 +1,5 @@
 -- A line of a chart as a row of characters: a cell for each node, which begins with the node's line.
-use Rattle.std.specs.Prelude.{ℕ, zero, suc, ◌+◌, Bool, true, false, ◌&&◌, nat_eq, nat_lt, nat_le, if◌then◌else◌, List, [], ◌∷◌, ◌++◌, length, take, drop, codes, decimal}
+use Rattle.std.specs.Prelude.{ℕ, zero, suc, ◌+◌, Bool, true, false, ◌&&◌, nat_eq, nat_lt, if◌then◌else◌, List, [], ◌++◌, length, take, drop, codes, decimal}
 use Rattle.bac_chart.specs.Lines.{Line}
 
 -- as wide as a cell, 41 characters

@@ -1,5 +1,4 @@
 -- From each type in code to its plain value.
-use Rattle.std.specs.Prelude.{List, map}
 use Rattle.bac_chart.specs.Marks as plain
 use Rattle.bac_chart.specs.declared.mark.Arrow.{Arrow}
 use Rattle.bac_chart.specs.declared.mark.Mark.{Mark}

@@ -46,7 +46,8 @@ fn mermaid_text(alloc: Global, line: &Line) -> Result<Vec<u8>, AllocError>
     Ok(text)
 }
 
-fn line_text(alloc: Global, form: Form, nodes: u64, line: &Line) -> Result<Vec<u8>, AllocError>
+/// The text of a line, where there are so many nodes: a row of a chart, or a statement of Mermaid.
+pub fn line_text(alloc: Global, form: Form, nodes: u64, line: &Line) -> Result<Vec<u8>, AllocError>
     ensures { IfOk result (λ t. t.items ≡ line_text form nodes (line_view line.now)) }
 {
     match form {

@@ -1,8 +1,9 @@
 //! What a datagram is, in short.
 ghost use Rattle.std.specs.Prelude.{◌≡◌, ◌++◌, false, codes, IfOk, string_bytes};
+ghost use Rattle.bac_apdu.specs.Reading.{apdu_at};
 ghost use Rattle.bac_apdu.specs.Spelling.{is_confirmed_request};
 ghost use Rattle.bac_apdu.specs.Views.{apdu_view};
-ghost use Rattle.bac_chart.specs.Labels.{append_words, apdu_words, contents_words, datagram_words, put_words, reference_words, request_words, segment_ack_words, service_words, stream_words};
+ghost use Rattle.bac_chart.specs.Labels.{append_words, apdu_words, contents_words, datagram_words, index_words, put_words, read_words, reference_words, request_words, segment_ack_words, service_words, stream_words};
 ghost use Rattle.bac_npdu.specs.Views.{npdu_view};
 ghost use Rattle.bac_service.specs.Services.{request_at};
 ghost use Rattle.bac_service.specs.Views.{property_reference_view, request_view};
@@ -29,7 +30,17 @@ fn object_words(alloc: Global, word: &[u8], object: ObjectIdentifier) -> Result<
     Ok(words)
 }
 
-/// A word in front of a property of an object.
+/// The index of an element of an array, where there is one.
+fn index_words(alloc: Global, index: Option<u32>) -> Result<String, AllocError>
+    ensures { IfOk result (λ t. string_bytes t ≡ index_words index) }
+{
+    match index {
+        Some(index) => format!(in alloc; "[{index}]"),
+        None => Ok(String::new(alloc)),
+    }
+}
+
+/// A word in front of a property of an object, or of an element of it.
 fn property_words(
     alloc: Global,
     word: &[u8],
@@ -38,9 +49,11 @@ fn property_words(
     ensures { IfOk result (λ t. t.items ≡ word.now ++ reference_words (property_reference_view reference)) }
 {
     let property = property_text(alloc, reference.property)?;
+    let index = index_words(alloc, reference.index)?;
     let mut words = object_words(alloc, word, reference.object)?;
     words.push(b' ')?;
     words.extend_from_slice(property.as_bytes())?;
+    words.extend_from_slice(index.as_bytes())?;
     Ok(words)
 }
 
@@ -179,16 +192,23 @@ fn apdu_words(alloc: Global, apdu: Apdu<'_>) -> Result<Vec<u8>, AllocError>
     }
 }
 
+/// What the octets of an APDU are, in short, as `datagram_words` says it of a datagram's. `octets` where they are none.
+pub fn octets_words(alloc: Global, octets: &[u8]) -> Result<Vec<u8>, AllocError>
+    ensures { IfOk result (λ t. t.items ≡ read_words (apdu_at octets.now)) }
+{
+    match read(octets) {
+        Ok(apdu) => apdu_words(alloc, apdu),
+        Err(_) => Vec::from_slice(alloc, b"octets"),
+    }
+}
+
 fn contents_words(alloc: Global, npdu: Npdu<'_>) -> Result<Vec<u8>, AllocError>
     ensures { IfOk result (λ t. t.items ≡ contents_words (npdu_view npdu.entry).message (npdu_view npdu.entry).contents) }
 {
     if npdu.message.is_some() {
         return Vec::from_slice(alloc, b"network-message");
     }
-    match read(npdu.contents) {
-        Ok(apdu) => apdu_words(alloc, apdu),
-        Err(_) => Vec::from_slice(alloc, b"octets"),
-    }
+    octets_words(alloc, npdu.contents)
 }
 
 /// What a datagram is, in short: what a request asks for, as `bac ask` takes it, without values; the kind of another APDU, or the number of a segment; an

@@ -10,12 +10,16 @@ use std::alloc::{AllocError, Global};
 
 /// A line of a chart: an arrow between two nodes; or at one node, where both are one, what happens there.
 #[derive(Debug, Drop)]
-pub(crate) struct Line {
+pub struct Line {
+    /// The moment, in milliseconds.
     pub moment: u64,
+    /// The node at which an arrow begins.
     pub from: u64,
+    /// The node that it goes to.
     pub to: u64,
     /// Whether the datagram never comes.
     pub is_lost: bool,
+    /// What stands beside it.
     pub words: Vec<u8>,
 }
 
@@ -94,7 +98,13 @@ fn lost_line(alloc: Global, arrow: &Arrow) -> Result<Line, AllocError>
     })
 }
 
-fn coming_line(alloc: Global, again: bool, moment: u64, arrow: &Arrow) -> Result<Line, AllocError>
+/// The line of a datagram that comes at a moment: its number, whether it came before, when it was sent where that is another moment, and its words.
+pub fn coming_line(
+    alloc: Global,
+    again: bool,
+    moment: u64,
+    arrow: &Arrow,
+) -> Result<Line, AllocError>
     ensures { IfOk result (λ l. line_view l ≡ coming_line again moment (arrow_view arrow.now)) }
 {
     Ok(Line {
@@ -106,7 +116,8 @@ fn coming_line(alloc: Global, again: bool, moment: u64, arrow: &Arrow) -> Result
     })
 }
 
-fn note_line(alloc: Global, moment: u64, node: u64, words: &[u8]) -> Result<Line, AllocError>
+/// The line of what happens at a node.
+pub fn note_line(alloc: Global, moment: u64, node: u64, words: &[u8]) -> Result<Line, AllocError>
     ensures { IfOk result (λ l. line_view l ≡ note_line moment node words.now) }
 {
     Ok(Line {

@@ -66,6 +66,8 @@ fn view_of(given: &ArgMatches<'_>) -> Option<View> {
         Some(View::Mermaid)
     } else if given.get_flag("pcap") {
         Some(View::Capture)
+    } else if given.get_flag("text") {
+        Some(View::Text)
     } else {
         None
     }

@@ -192,6 +192,13 @@ const SIMULATE: &[Word] = &[
         against: &["chart", "mermaid"],
         help: "Writes its datagrams as a capture, each at the moment when it was sent",
     },
+    Word {
+        name: "text",
+        form: Form::Flag,
+        need: Need::Never,
+        against: &["chart", "mermaid", "pcap"],
+        help: "Tells in words each event at its moment, what came of it, or why nothing did",
+    },
 ];
 
 /// Nodes that may serve.

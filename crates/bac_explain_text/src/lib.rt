@@ -18,3 +18,5 @@ mod words;
 pub use explain::explain_over;
 pub use peers::{link_text, peer_text};
 pub use request_words::{request_in_words, service_words};
+pub use seeing::seen_of;
+pub use unread::Unread;

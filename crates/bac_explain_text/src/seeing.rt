@@ -68,8 +68,9 @@ fn timed_seen<'a>(
     }
 }
 
-/// The APDU of a transaction that a frame carries, and when it was seen; None where it carries none.
-pub(crate) fn seen_of<'a>(
+/// The APDU of a transaction that a frame carries, and when it was seen, in milliseconds; None where it carries none. An Err where the frame cannot be
+/// looked at, or has such an APDU and no moment.
+pub fn seen_of<'a>(
     frame: Frame<'a>,
     ports: Ports,
 ) -> Result<Option<(u64, Sighting<'a>)>, Unread>

@@ -7,7 +7,7 @@ use std::fmt;
 
 /// Why a frame cannot be looked at.
 #[derive(Clone, Copy, Debug, PartialEq, Eq)]
-pub(crate) enum Unread {
+pub enum Unread {
     /// It is of a link layer that is not read.
     Link,
     /// The packet in it is no whole one.

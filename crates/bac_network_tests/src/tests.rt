@@ -34,6 +34,7 @@ mod scene;
 mod scripts;
 mod sleeping;
 mod straight_runs;
+mod texts;
 mod transfer;
 mod twins;
 mod whole;

@@ -1,4 +1,5 @@
 pub mod Appending
+pub mod InWords
 pub mod Limits
 pub mod Making
 pub mod News

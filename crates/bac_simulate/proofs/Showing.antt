@@ -11,12 +11,13 @@ use Rattle.bac_text.specs.Statuses.{IsFailure}
 use Rattle.bac_text.specs.Texts.{AppendsText}
 use Rattle.bac_text.specs.declared.status.Status.{Status}
 use Rattle.bac_text.specs.declared.status.Status.TheVariants as status
-use Rattle.bac_simulate.specs.Drawn.{in_marks, rest_of, shown_text, IsRead, IsShown, Shows, ShowsAs, ShowsScript}
+use Rattle.bac_simulate.specs.Drawn.{in_marks, rest_of, shown_text, IsDrawn, IsRead, IsShown, IsWorded, Shows, ShowsAs, ShowsScript}
 use Rattle.bac_simulate.specs.Houses.{world_set}
 use Rattle.bac_simulate.specs.Runs.{IsEnd, IsUnread, Runs, status_for, status_of}
 use Rattle.bac_simulate.specs.Scripts.{IsNotRead, Script, ScriptLine, limits_in, most_limits, said_from, script_of, with_setting}
 use Rattle.bac_simulate.specs.Traces.{AppendsMarks}
 use Rattle.bac_simulate.specs.Views.{line_view}
+use Rattle.bac_simulate.specs.Worded.{in_words}
 use Rattle.bac_simulate.specs.declared.script.ScriptFault.{ScriptFault}
 use Rattle.bac_simulate.specs.declared.script.ScriptFault.TheVariants as fault
 use Rattle.bac_simulate.specs.declared.script.FirstLine.{FirstLine}
@@ -138,7 +139,7 @@ same_not_read wanted other why is read = subst (IsNotRead why) (sym is) read
 
 pub run_shown : (v : View) (nodes first : ℕ) (lines : List ScriptLine) (all : Bool) (world last : WorldView) (marks : List code.Mark) (a b : Option (List ℕ))
     → AppendsMarks [] marks (Runs in_marks first lines all world last) → Appends a b (shown_text v nodes (map mark_view marks) last.world)
-    → AppendsText a b (IsShown v nodes first lines all world)
+    → AppendsText a b (IsDrawn v nodes first lines all world)
 run_shown v nodes first lines all world last marks a b traced printed = (
   shown_text v nodes (map mark_view marks) last.world,
   (
@@ -151,3 +152,11 @@ run_shown v nodes first lines all world last marks a b traced printed = (
     printed,
   ),
 )
+
+-- ---- a run that is told in words
+
+pub run_told : {E : Type 0} (run : Result Bool E) (first : ℕ) (held lines : List ScriptLine) (world last : WorldView) (a b : Option (List ℕ)) → held ≡ lines
+    → IfOk run (λ all. AppendsText a b (Runs in_words first held all world last)) → IfOk run (λ all. AppendsText a b (IsWorded first lines all world))
+run_told (Ok all) first held lines world last a b same told =
+    (told.0, ((last, subst (λ (l : List ScriptLine). Runs in_words first l all world last told.0) same told.1.0), told.1.1))
+run_told (Err e) first held lines world last a b same told = tt

@@ -1,5 +1,5 @@
 -- What there is to draw, one mark after the other.
-use Rattle.std.proofs.Common.{◌≡◌, ℕ, zero, suc, ◌+◌, ◌-◌, ◌<◌, ◌≤◌, ◌&&◌, nat_le, true, false, Bool, if◌then◌else◌, List, [], ◌∷◌, ◌++◌, length, map, drop, Option, Some, None, inl, inr}
+use Rattle.std.proofs.Common.{◌≡◌, ℕ, zero, suc, ◌+◌, ◌-◌, ◌≤◌, ◌&&◌, nat_le, true, false, Bool, if◌then◌else◌, List, [], ◌∷◌, ◌++◌, length, map, drop, Option, Some, inl}
 use Rattle.std.proofs.Common.{refl, sym, ap, subst, ◌∙◌, slice_get, arith, append-nil}
 use Rattle.std.proofs.lemmas.List.{append_assoc, drop_all, drop-map, length-map, map-append}
 use Rattle.std.proofs.lemmas.Option.{slice_get-map}

@@ -17,6 +17,7 @@ use Rattle.bac_simulate.specs.Runs.{IsUnread, Runs, Telling}
 use Rattle.bac_simulate.specs.Scripts.{Script, ScriptLine, most_limits, said_from, script_of, with_setting}
 use Rattle.bac_simulate.specs.Traces.{change_marks, event_marks}
 use Rattle.bac_simulate.specs.Views.{line_view}
+use Rattle.bac_simulate.specs.Worded.{in_words}
 use Rattle.bac_simulate.specs.declared.script.FirstLine.{FirstLine}
 use Rattle.bac_simulate.specs.declared.read_script.ReadScript.{ReadScript}
 use Rattle.bac_simulate.specs.declared.view.View.{View}
@@ -24,20 +25,37 @@ use Rattle.bac_simulate.specs.declared.view.View.TheVariants as view
 
 -- a lost copy and a fault are drawn as nothing
 abbrev pub in_marks : Telling Mark
-in_marks = record { went = event_marks; refused = change_marks; lost = λ copy. []; ended = λ line fault. [] }
+in_marks =
+    record {
+      went = λ told event old new marks. marks ≡ event_marks told event old new;
+      refused = λ why event old marks. marks ≡ change_marks why event old;
+      lost = λ old copy marks. marks ≡ [];
+      ended = λ line fault marks. marks ≡ [];
+    }
 
--- a drawing of what came of the lines in a network of so many nodes, or the copies that there are in the end
+-- a drawing of what came of the lines in a network of so many nodes, or the copies that there are in the end; what is told in words is no drawing
 abbrev pub shown_text : View → (nodes : ℕ) → List Mark → (last : World) → List ℕ
+shown_text view.Text nodes marks last = []
 shown_text view.Chart nodes marks last = drawing_text form.Chart nodes marks
 shown_text view.Mermaid nodes marks last = drawing_text form.Mermaid nodes marks
 shown_text view.Capture nodes marks last = capture_of last.copies
 
--- what lines say came in a network of so many nodes, all of it or up to the first that could not, and that is shown
-pub record IsShown (v : View) (nodes first : ℕ) (lines : List ScriptLine) (all : Bool) (world : WorldView) (text : List ℕ) : Type 0 where
+-- what lines say came in a network of so many nodes, all of it or up to the first that could not, and that is drawn
+pub record IsDrawn (v : View) (nodes first : ℕ) (lines : List ScriptLine) (all : Bool) (world : WorldView) (text : List ℕ) : Type 0 where
   pub last : WorldView
   pub marks : List Mark
   pub ran : Runs in_marks first lines all world last marks
   pub is : text ≡ shown_text v nodes marks last.world
+
+-- likewise, and that is told in words
+abbrev pub IsWorded : (first : ℕ) → List ScriptLine → (all : Bool) → (world : WorldView) → (text : List ℕ) → Type 0
+IsWorded first lines all world text = (last : WorldView) × Runs in_words first lines all world last text
+
+abbrev pub IsShown : View → (nodes first : ℕ) → List ScriptLine → (all : Bool) → (world : WorldView) → (text : List ℕ) → Type 0
+IsShown view.Text nodes first lines all world text = IsWorded first lines all world text
+IsShown view.Chart nodes first lines all world text = IsDrawn view.Chart nodes first lines all world text
+IsShown view.Mermaid nodes first lines all world text = IsDrawn view.Mermaid nodes first lines all world text
+IsShown view.Capture nodes first lines all world text = IsDrawn view.Capture nodes first lines all world text
 
 abbrev pub ShowsScript : View → Script → (all : Bool) → (text : List ℕ) → Type 0
 ShowsScript v s all text = IsShown v s.setting.nodes s.first s.lines all (world_set s.setting) text

@@ -4,5 +4,6 @@ pub mod Runs
 pub mod Scripts
 pub mod Told
 pub mod Traces
+pub mod Worded
 pub mod Drawn
 pub mod Views

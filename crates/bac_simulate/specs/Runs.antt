@@ -24,13 +24,13 @@ use Rattle.bac_simulate.specs.declared.script.ScriptFault.TheVariants as fault
 
 -- ---- events
 
--- what is told of what comes of a line: of an event that happens, of a change that its node's store refuses, of a copy that counts as lost, and of a fault that
+-- which lists tell what comes of a line: of an event that happens, of a change that its node's store refuses, of a copy that counts as lost, and of a fault that
 -- ends the script at a line
-pub record Telling (A : Type 0) : Type 0 where
-  pub went : Option AskFault → Event → (old new : WorldView) → List A
-  pub refused : ChangeFault → Event → (old : WorldView) → List A
-  pub lost : (copy : ℕ) → List A
-  pub ended : (line fault : ℕ) → List A
+pub record Telling (A : Type 0) : Type 1 where
+  pub went : Option AskFault → Event → (old new : WorldView) → List A → Type 0
+  pub refused : ChangeFault → Event → (old : WorldView) → List A → Type 0
+  pub lost : (old : WorldView) → (copy : ℕ) → List A → Type 0
+  pub ended : (line fault : ℕ) → List A → Type 0
 
 -- an event happened, and this is told of it
 pub record Happened {A : Type 0} (t : Telling A) (event : Event) (old new : WorldView) (said : List A) : Type 0 where
@@ -38,20 +38,20 @@ pub record Happened {A : Type 0} (t : Telling A) (event : Event) (old new : Worl
   pub went : WorldStep old.overtake old.world event new.world
   pub tells : Tells told old.world event new.world
   pub overtake : new.overtake ≡ old.overtake
-  pub is : said ≡ t.went told event old new
+  pub is : t.went told event old new said
 
 -- the event was a change with that fault, which is told; nothing changed
 pub record TurnedDown {A : Type 0} (t : Telling A) (event : Event) (old new : WorldView) (said : List A) : Type 0 where
   pub fault : ChangeFault
   pub why : RefusesChange old.world event fault
   pub same : new ≡ old
-  pub is : said ≡ t.refused fault event old
+  pub is : t.refused fault event old said
 
 -- a copy that was sent counts as lost: that is told, and nothing changed
 pub record CountedLost {A : Type 0} (t : Telling A) (copy : ℕ) (old new : WorldView) (said : List A) : Type 0 where
   pub sent : copy < length old.world.copies
   pub same : new ≡ old
-  pub is : said ≡ t.lost copy
+  pub is : t.lost old copy said
 
 -- the script goes on after the line
 abbrev pub Passed : {A : Type 0} → Telling A → ScriptLine → (old new : WorldView) → List A → Type 0
@@ -73,13 +73,13 @@ pub record Failed {A : Type 0} (t : Telling A) (line : ℕ) (event : Event) (old
   pub ends : change_fault_in fault ≡ None
   pub why : IsFault fault old.overtake old.world event
   pub same : new ≡ old
-  pub is : said ≡ t.ended line (fault_number fault)
+  pub is : t.ended line (fault_number fault) said
 
 -- there is no such copy that could count as lost
 pub record NotSent {A : Type 0} (t : Telling A) (line copy : ℕ) (old new : WorldView) (said : List A) : Type 0 where
   pub none : length old.world.copies ≤ copy
   pub same : new ≡ old
-  pub is : said ≡ t.ended line (fault_number world_fault.NoSuchDatagram)
+  pub is : t.ended line (fault_number world_fault.NoSuchDatagram) said
 
 -- the script ends at that line
 abbrev pub Stopped : {A : Type 0} → Telling A → (line : ℕ) → ScriptLine → (old new : WorldView) → List A → Type 0
@@ -106,10 +106,10 @@ Runs {A} t line (said ∷ lines) false old new told = Stopped t line said old ne
 abbrev pub in_text : Telling ℕ
 in_text =
     record {
-      went = λ told event old new. outcome_text told (length old.world.log) (length old.world.copies) new.world;
-      refused = λ why event old. refused_line (change_fault_number why);
-      lost = lost_line;
-      ended = fault_line;
+      went = λ told event old new text. text ≡ outcome_text told (length old.world.log) (length old.world.copies) new.world;
+      refused = λ why event old text. text ≡ refused_line (change_fault_number why);
+      lost = λ old copy text. text ≡ lost_line copy;
+      ended = λ line fault text. text ≡ fault_line line fault;
     }
 
 abbrev pub IsStep : (line : ℕ) → (passed : Bool) → ScriptLine → (old new : WorldView) → (text : List ℕ) → Type 0

@@ -1,14 +1,18 @@
 //! `bac simulate`: a script of events in a network of nodes, and what comes of each; also in a network of the caller's.
 #![tactic(auto)]
 
+mod bad_line;
 mod capture;
 mod marks;
+mod nothing;
 mod read_script;
 mod script;
 mod simulate;
 mod telling;
 mod trace;
 mod view;
+mod wording;
+mod words;
 mod world_of;
 
 pub use simulate::{simulate_in, simulate_lines_over, simulate_over};

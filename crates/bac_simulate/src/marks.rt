@@ -33,7 +33,7 @@ fn is_of(copy: &Copy, transaction: &Transaction) -> bool
 }
 
 /// How many of these are the transaction's.
-fn count_of(transaction: &Transaction, copies: &[Copy]) -> usize
+pub(crate) fn count_of(transaction: &Transaction, copies: &[Copy]) -> usize
     ensures is { result ≡ count_of (key_view transaction.now) (map copy_view copies.now) }
 {
     let mut count = 0;

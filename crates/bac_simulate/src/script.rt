@@ -64,7 +64,7 @@ fn end_in(text: &[u8]) -> Option<usize>
 
 /// The first line without its end, and what comes after it; None where nothing is left. A line ends at octet 0A, which the last may lack.
 #[tactic(auto, using(crate::proofs::Parting::no_end, crate::proofs::Parting::at_end))]
-fn next_line(text: &[u8]) -> Option<(&[u8], &[u8])>
+pub(crate) fn next_line(text: &[u8]) -> Option<(&[u8], &[u8])>
     ensures { MatchOption result (lines_of text.now ≡ [])
         (λ r. (length r.1.now < length text.now) × (lines_of text.now ≡ r.0.now ∷ lines_of r.1.now)) }
 {

@@ -117,7 +117,7 @@ pub(crate) fn print_lost<W: Write>(copy: u64, out: &mut W) -> io::Result<()>
     writeln!(out, "lost {copy}")
 }
 
-fn is_as_before(world: &World, before: Seen) -> bool
+pub(crate) fn is_as_before(world: &World, before: Seen) -> bool
     ensures { result ≡ is_as_before before.facts before.copies world.now.world }
 {
     let seen = Seen::of(world);

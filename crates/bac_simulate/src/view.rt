@@ -3,17 +3,20 @@ ghost use Rattle.std.specs.Prelude.{◌≡◌, ◌<◌, ◌+◌, ◌^◌, length
 ghost use Rattle.std.specs.Io.KnownBytes.{Appends};
 ghost use Rattle.bac_chart.specs.Views.{mark_view};
 ghost use Rattle.bac_script.specs.Views.{setting_view};
-ghost use Rattle.bac_simulate.specs.Drawn.{rest_of, shown_text, IsRead, IsShown, Shows, ShowsAs};
+ghost use Rattle.bac_simulate.specs.Drawn.{rest_of, shown_text, IsDrawn, IsRead, IsShown, IsWorded, Shows, ShowsAs};
+ghost use Rattle.bac_simulate.specs.Runs.{status_for};
 ghost use Rattle.bac_simulate.specs.Scripts.{IsModest, IsNotRead, script_of};
 ghost use Rattle.bac_simulate.specs.Views.{line_view};
 ghost use Rattle.bac_text.specs.Lines.{lines_of};
 ghost use Rattle.bac_text.specs.Texts.{AppendsText};
 
+use crate::bad_line::tell_bad_line;
 use crate::capture::print_capture;
 use crate::read_script::ReadScript;
 use crate::script::{FirstLine, ScriptFault, lines_in, read_first};
 use crate::simulate::{ended, no_script, octets_of, unread};
 use crate::trace::trace_lines;
+use crate::wording::tell_lines;
 use crate::world_of::world_of;
 use bac_chart::{Form, Mark, print_drawing};
 use bac_network::World;
@@ -25,6 +28,8 @@ use std::io::{Read, Write};
 /// What a script's run is shown as.
 #[derive(Clone, Copy, Debug, PartialEq, Eq)]
 pub enum View {
+    /// Lines of text: each event at its moment, and below it what came of it, or why nothing did.
+    Text,
     /// A sequence chart in text, for a terminal.
     Chart,
     /// A `sequenceDiagram` of Mermaid.
@@ -33,7 +38,7 @@ pub enum View {
     Capture,
 }
 
-/// Prints what a run is shown as, by what came of its lines and the world in which it ended.
+/// Prints what a run is drawn as, by what came of its lines and the world in which it ended; what is told in words is no drawing.
 fn print_view<W: Write>(
     alloc: Global,
     view: View,
@@ -46,6 +51,7 @@ fn print_view<W: Write>(
 {
     let nodes = u64::from(nodes);
     match view {
+        View::Text => Ok(()),
         View::Chart => print_drawing(alloc, Form::Chart, nodes, marks, out),
         View::Mermaid => print_drawing(alloc, Form::Mermaid, nodes, marks, out),
         View::Capture => print_capture(alloc, world.copies(), out),
@@ -78,8 +84,22 @@ fn read_script(alloc: Global, notes: bool, text: &[u8]) -> Result<ReadScript, Sc
     read_rest(alloc, notes, first)
 }
 
-/// Runs a script, and then prints what its run is shown as. Answers whether all lines passed; `err` is told which did not.
-fn run_and_show<O: Write, E: Write>(
+/// Runs a script, and tells each event in words. Answers whether all lines passed.
+fn run_and_tell<O: Write>(alloc: Global, script: ReadScript, out: &mut O) -> io::Result<bool>
+    ensures { IfOk result (λ all. AppendsText (O.contents out.old) (O.contents out.new)
+        (IsWorded (script.before + 1) (map line_view script.lines.items) all script.world)) }
+{
+    let ReadScript {
+        mut world,
+        before,
+        lines,
+        ..
+    } = script;
+    tell_lines(alloc, &mut world, before, &lines, out)
+}
+
+/// Runs a script, and then prints what its run is drawn as. Answers whether all lines passed; `err` is told which did not.
+fn run_and_draw<O: Write, E: Write>(
     alloc: Global,
     view: View,
     script: ReadScript,
@@ -87,7 +107,7 @@ fn run_and_show<O: Write, E: Write>(
     err: &mut E,
 ) -> io::Result<bool>
     ensures { IfOk result (λ all. AppendsText (O.contents out.old) (O.contents out.new)
-        (IsShown view script.nodes (script.before + 1) (map line_view script.lines.items) all script.world)) }
+        (IsDrawn view script.nodes (script.before + 1) (map line_view script.lines.items) all script.world)) }
 {
     let ReadScript {
         nodes,
@@ -100,6 +120,48 @@ fn run_and_show<O: Write, E: Write>(
     let all = trace_lines(alloc, &mut world, before, &lines, &mut marks, err)?;
     print_view(alloc, view, nodes, &marks, &world, out)?;
     Ok(all)
+}
+
+/// Runs a script, and prints what its run is shown as. Answers whether all lines passed.
+fn run_and_show<O: Write, E: Write>(
+    alloc: Global,
+    view: View,
+    script: ReadScript,
+    out: &mut O,
+    err: &mut E,
+) -> io::Result<bool>
+    ensures { IfOk result (λ all. AppendsText (O.contents out.old) (O.contents out.new)
+        (IsShown view script.nodes (script.before + 1) (map line_view script.lines.items) all script.world)) }
+{
+    match view {
+        View::Text => run_and_tell(alloc, script, out),
+        View::Chart => run_and_draw(alloc, View::Chart, script, out, err),
+        View::Mermaid => run_and_draw(alloc, View::Mermaid, script, out, err),
+        View::Capture => run_and_draw(alloc, View::Capture, script, out, err),
+    }
+}
+
+/// Complains of octets that are no script; in words also of what is wrong with the bad line.
+fn refuse<E: Write>(
+    alloc: Global,
+    view: View,
+    notes: bool,
+    text: &[u8],
+    fault: ScriptFault,
+    err: &mut E,
+) -> Status
+    ensures { result ≡ status_for fault }
+{
+    let ScriptFault::Line(number) = fault else {
+        return no_script(fault, err);
+    };
+    match view {
+        View::Text => {
+            tell_bad_line(alloc, notes, text, number, err);
+            Status::CommandLine
+        }
+        View::Chart | View::Mermaid | View::Capture => no_script(fault, err),
+    }
 }
 
 /// Shows the run of the script that these octets are.
@@ -119,12 +181,13 @@ fn show<O: Write, E: Write>(
             let flushed = out.flush();
             ended(ran, flushed, err)
         }
-        Err(fault) => no_script(fault, err),
+        Err(fault) => refuse(alloc, view, notes, text, fault, err),
     }
 }
 
 /// Runs a script of events in a network of nodes, as [`simulate_lines_over`](crate::simulate_lines_over) does, and prints what its run is shown as in place of
-/// what comes of each event. It answers what that does; what ends the run stands on `err`, behind the events before it in what is shown.
+/// what comes of each event. It answers what that does; what ends the run stands on `err`, behind the events before it in what is shown, and where it is told in
+/// words on `out`.
 pub fn show_over<R: Read, O: Write, E: Write>(
     alloc: Global,
     view: View,

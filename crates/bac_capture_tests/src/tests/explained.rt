@@ -9,7 +9,7 @@ use std::alloc::{AllocError, Global};
 use std::test::Fail;
 
 /// The header of a file of pcap, of packets of IP and nothing else.
-const HEADER: &[u8] = &[
+pub(super) const HEADER: &[u8] = &[
     0xD4, 0xC3, 0xB2, 0xA1, 2, 0, 4, 0, 0, 0, 0, 0, 0, 0, 0, 0, 0, 0, 4, 0, 101, 0, 0, 0,
 ];
 
@@ -19,7 +19,7 @@ const CLIENT: [u8; 6] = [10, 0, 0, 5, 0xBA, 0xC0];
 const SERVER: [u8; 6] = [10, 0, 0, 9, 0xBA, 0xC0];
 
 /// Numbers of four octets, the least significant first.
-fn push_long(file: &mut Vec<u8>, number: u64) -> Result<(), AllocError> {
+pub(super) fn push_long(file: &mut Vec<u8>, number: u64) -> Result<(), AllocError> {
     file.push((number % 0x100) as u8)?;
     file.push((number / 0x100 % 0x100) as u8)?;
     file.push((number / 0x1_0000 % 0x100) as u8)?;
@@ -35,7 +35,7 @@ fn push_word(file: &mut Vec<u8>, number: usize) -> Result<(), AllocError> {
 }
 
 /// A datagram of UDP over IPv4.
-fn push_packet(
+pub(super) fn push_packet(
     file: &mut Vec<u8>,
     from: [u8; 6],
     to: [u8; 6],

@@ -39,6 +39,15 @@ sequenceDiagram
     Note over n0: 3000 ms: ended 0 answered position 2
 ";
 
+/// An element of an array.
+const INDEX_MERMAID: &str = "\
+sequenceDiagram
+    participant n0 as node 0
+    participant n1 as node 1
+    Note over n0: 0 ms: asked 0
+    n0-xn1: 0 ms: 0 lost read device:1 object-list[0]
+";
+
 /// Copies that come later, again and too late, over a node between the two; and what happens at one node.
 const LATE: &str = "\
 nodes 3
@@ -91,6 +100,13 @@ const DRAWN: &[DrawnRow] = &[
         "sequenceDiagram\n    participant n0 as node 0\n",
         "line 2: fault 2\n",
         1,
+    ),
+    (
+        "nodes 2\nask 0 1 read device:1 object-list[0]\n",
+        View::Mermaid,
+        INDEX_MERMAID,
+        "",
+        0,
     ),
     (
         "nodes 0\n",

@@ -1,5 +1,6 @@
 use Rattle.std.proofs.Common.{◌<◌, ◌+◌, false, length, refl, arith}
 use Rattle.std.proofs.lemmas.Option.{slice_get_read}
+use Rattle.bac_simulate.specs.Runs.{in_text}
 use Rattle.bac_simulate.proofs.Stepping.{goes_on, stops}
 use Rattle.bac_simulate.proofs.simulate.run_and_print.Goals as goal
 
@@ -9,7 +10,7 @@ returns-then-not-branch g c =
     let e = c.index-lines-place.result in
     let lt : at.place < length c.args.lines.now = omega arith in
     at.invariant false c.step_and_print.new.world _
-    (stops (c.args.before + 1 + at.place) c.args.lines.now at.place e (slice_get_read c.args.lines.now _ at.place e refl lt c.index-lines-place.is) at.world
+    (stops in_text (c.args.before + 1 + at.place) c.args.lines.now at.place e (slice_get_read c.args.lines.now _ at.place e refl lt c.index-lines-place.is) at.world
     c.step_and_print.new.world _ _ _ c.if-not-branch.true c.in_ok-step_and_print.ensures)
 
 pub loop-place-preserved : goal.loop-place-preserved
@@ -18,5 +19,5 @@ loop-place-preserved g c =
     let e = c.index-lines-place.result in
     let lt : at.place < length c.args.lines.now = omega arith in
     λ all new end h. at.invariant all new end
-    (goes_on all (c.args.before + 1 + at.place) c.args.lines.now at.place e (slice_get_read c.args.lines.now _ at.place e refl lt c.index-lines-place.is) at.world
+    (goes_on in_text all (c.args.before + 1 + at.place) c.args.lines.now at.place e (slice_get_read c.args.lines.now _ at.place e refl lt c.index-lines-place.is) at.world
     c.step_and_print.new.world new _ _ end _ c.if-not-branch.false c.in_ok-step_and_print.ensures (c.args.before + 1 + (at.place + 1)) (omega arith) h)

@@ -1,4 +1,4 @@
-use Rattle.std.proofs.Common.{◌∙◌, Bool, [], map, sym, subst, append-nil}
+use Rattle.std.proofs.Common.{◌∙◌, Bool, [], map, refl, sym, subst, append-nil}
 use Rattle.bac_chart.specs.Views.{mark_view}
 use Rattle.bac_network.specs.Views.{event_view}
 use Rattle.bac_simulate.specs.Drawn.{in_marks}
@@ -14,8 +14,8 @@ returns g c =
       [],
       (
         subst (λ (b : Bool). Steps in_marks c.args.line b (Happens e) c.args.world.now c.step.new.self []) (sym c.stops.ensures)
-            (fails in_marks c.args.line e c.in-Err.fault c.args.world.now c.step.new.self (sym c.change_fault_in.ensures ∙ c.in-None.is) told.node
-            told.datagram told.clock told.change told.memory told.err),
+            (fails in_marks c.args.line e c.in-Err.fault c.args.world.now c.step.new.self [] (sym c.change_fault_in.ensures ∙ c.in-None.is) told.node
+            told.datagram told.clock told.change told.memory told.err refl),
         sym (append-nil (map mark_view c.args.marks.now.items)),
       ),
     )

@@ -1,0 +1,177 @@
+-- What is told in words of what comes of a script's lines.
+use Rattle.std.specs.Prelude.{◌≡◌, ℕ, codes, decimal, ◌+◌, ◌-◌, nat_le, Bool, true, false, List, [], ◌∷◌, ◌++◌, length, drop, reverse, Option, Some, None, slice_get}
+use Rattle.bac_chart.specs.Labels.{datagram_words}
+use Rattle.bac_commands.specs.Facts.{fault_line}
+use Rattle.bac_commands.specs.Words.{AreEndingWords, AreReplyWords}
+use Rattle.bac_ends.specs.Meanings.{Ending}
+use Rattle.bac_explain_text.specs.Requests.{AreRequestWords}
+use Rattle.bac_network.specs.Histories.{WorldView}
+use Rattle.bac_protocol.specs.declared.times.TheConstants.{LIFE}
+use Rattle.bac_requester.specs.Faults.{ask_fault_number}
+use Rattle.bac_requester.specs.declared.ask_fault.AskFault.{AskFault}
+use Rattle.bac_service.specs.Replies.{Reply}
+use Rattle.bac_service.specs.Values.{Request}
+use Rattle.bac_store.specs.AtNode as at_node
+use Rattle.bac_store.specs.AtNode.{change_fault_number}
+use Rattle.bac_store.specs.declared.change_fault.ChangeFault.{ChangeFault}
+use Rattle.bac_text.specs.Texts.{line_end}
+use Rattle.bac_value_text.specs.Texts.{object_text, property_text}
+use Rattle.bac_world.specs.Once.{Fact}
+use Rattle.bac_world.specs.Once.Fact.{Asked, Performed, Ended, Changed, Restarted}
+use Rattle.bac_world.specs.World.{World, Copy, Event, later}
+use Rattle.bac_world.specs.World.Event.{Ask, Deliver, Noise, Tick, Advance, Change, Restart}
+use Rattle.bac_simulate.specs.Runs.{Telling}
+use Rattle.bac_simulate.specs.Told.{is_as_before}
+use Rattle.bac_simulate.specs.declared.nothing.Why.{Why}
+use Rattle.bac_simulate.specs.declared.nothing.Why.TheVariants as why
+
+-- ---- events
+
+-- what is asked stands behind both nodes
+pub record AreAskWords (client server : ℕ) (r : Request) (words : List ℕ) : Type 0 where
+  pub asked : List ℕ
+  pub are : AreRequestWords r asked
+  pub is : words ≡ (codes "ask " ++ (decimal client ++ (codes " " ++ (decimal server ++ codes " ")))) ++ asked
+
+-- a change of a node's own store: its object and property, without values
+abbrev pub change_words : (node : ℕ) → at_node.Change → List ℕ
+change_words node (at_node.Change.Value id property octets) =
+    (codes "set " ++ (decimal node ++ codes " ")) ++ (object_text id ++ (codes " " ++ property_text property))
+change_words node (at_node.Change.File id octets) = (codes "file " ++ (decimal node ++ codes " ")) ++ object_text id
+
+abbrev pub AreEventWords : Event → List ℕ → Type 0
+AreEventWords (Ask client server limits request) words = AreAskWords client server request words
+AreEventWords (Deliver number) words = words ≡ codes "deliver " ++ decimal number
+AreEventWords (Noise node from octets) words = words ≡ codes "noise " ++ decimal node
+AreEventWords (Tick node) words = words ≡ codes "tick " ++ decimal node
+AreEventWords (Advance by) words = words ≡ codes "advance " ++ decimal by
+AreEventWords (Change node change) words = words ≡ change_words node change
+AreEventWords (Restart node store) words = words ≡ codes "restart " ++ decimal node
+
+-- behind the moment
+pub record IsEventLine (now : ℕ) (event : Event) (text : List ℕ) : Type 0 where
+  pub words : List ℕ
+  pub are : AreEventWords event words
+  pub is : text ≡ ((decimal now ++ codes " ") ++ words) ++ line_end
+
+-- ---- what came of them
+
+-- a line below an event's
+abbrev pub news_line : List ℕ → List ℕ
+news_line words = (codes "  " ++ words) ++ line_end
+
+-- a request was performed, with that reply
+pub record ArePerformedWords (ask : ℕ) (r : Reply) (words : List ℕ) : Type 0 where
+  pub answer : List ℕ
+  pub are : AreReplyWords r answer
+  pub is : words ≡ (codes "performed " ++ (decimal ask ++ codes ": ")) ++ answer
+
+-- an ask has ended so
+pub record AreEndedWords (ask : ℕ) (how : Ending) (words : List ℕ) : Type 0 where
+  pub ending : List ℕ
+  pub are : AreEndingWords how ending
+  pub is : words ≡ (codes "ended " ++ (decimal ask ++ codes ": ")) ++ ending
+
+abbrev pub AreFactWords : Fact → List ℕ → Type 0
+AreFactWords (Asked ask client server request) words = words ≡ codes "asked " ++ decimal ask
+AreFactWords (Performed ask request reply) words = ArePerformedWords ask reply words
+AreFactWords (Ended ask how) words = AreEndedWords ask how words
+AreFactWords (Changed node change) words = words ≡ codes "changed " ++ decimal node
+AreFactWords (Restarted node store) words = words ≡ codes "restarted " ++ decimal node
+
+-- one line for each
+abbrev pub AreFactLines : List Fact → List ℕ → Type 0
+AreFactLines [] text = text ≡ []
+AreFactLines (f ∷ facts) text = (words : List ℕ) × (rest : List ℕ) × AreFactWords f words × AreFactLines facts rest × (text ≡ news_line words ++ rest)
+
+abbrev pub sent_words : (number : ℕ) → Copy → List ℕ
+sent_words number c =
+    (codes "sent " ++ (decimal number ++ (codes " " ++ (decimal c.from ++ (codes ">" ++ (decimal c.to ++ codes " ")))))) ++ datagram_words c.octets
+
+-- copies that were sent, numbered from this number on
+abbrev pub sent_lines : (number : ℕ) → List Copy → List ℕ
+sent_lines number [] = []
+sent_lines number (c ∷ copies) = news_line (sent_words number c) ++ sent_lines (number + 1) copies
+
+-- ---- why nothing came
+
+-- of a copy that is young or not, and overtaken by few enough or not
+abbrev pub why_copy : (is_young few : Bool) → Why
+why_copy false few = why.TooOld
+why_copy true false = why.Overtaken
+why_copy true true = why.Heard
+
+abbrev pub why_delivered : (overtake : ℕ) → World → (number : ℕ) → Option Copy → Why
+why_delivered overtake w number None = why.Heard
+why_delivered overtake w number (Some c) = why_copy (nat_le (w.now - c.moment) LIFE) (nat_le (later c.key number w.copies) overtake)
+
+-- of an event in a world, if nothing comes of it
+abbrev pub why_nothing : (overtake : ℕ) → World → Event → Why
+why_nothing overtake w (Ask client server limits request) = why.Heard
+why_nothing overtake w (Deliver number) = why_delivered overtake w number (slice_get w.copies number)
+why_nothing overtake w (Noise node from octets) = why.Dropped
+why_nothing overtake w (Tick node) = why.Idle
+why_nothing overtake w (Advance by) = why.Passed
+why_nothing overtake w (Change node change) = why.Heard
+why_nothing overtake w (Restart node store) = why.Heard
+
+abbrev pub why_words : Why → List ℕ
+why_words why.TooOld = codes "lost: too old"
+why_words why.Overtaken = codes "lost: overtaken"
+why_words why.Heard = codes "heard, nothing sent"
+why_words why.Dropped = codes "ignored"
+why_words why.Idle = codes "idle"
+why_words why.Passed = codes "time passed"
+
+-- ---- all that came of an event
+
+-- by its number
+abbrev pub refused_news : (fault : ℕ) → List ℕ
+refused_news fault = news_line (codes "refused " ++ decimal fault)
+
+-- the facts after so many, oldest first, and then the copies after so many
+pub record AreNews (facts copies : ℕ) (w : World) (text : List ℕ) : Type 0 where
+  pub told : List ℕ
+  pub are : AreFactLines (drop facts (reverse w.log)) told
+  pub is : text ≡ told ++ sent_lines copies (drop copies w.copies)
+
+abbrev pub AreNewsOrWhy : (as_before : Bool) → Why → (facts copies : ℕ) → World → List ℕ → Type 0
+AreNewsOrWhy true reason facts copies w text = text ≡ news_line (why_words reason)
+AreNewsOrWhy false reason facts copies w text = AreNews facts copies w text
+
+-- a refused ask; or what is new in a world that had so many facts and copies, or why nothing is
+abbrev pub IsOutcome : Option AskFault → Why → (facts copies : ℕ) → World → List ℕ → Type 0
+IsOutcome (Some fault) reason facts copies w text = text ≡ refused_news (ask_fault_number fault)
+IsOutcome None reason facts copies w text = AreNewsOrWhy (is_as_before facts copies w) reason facts copies w text
+
+pub record IsEventText (told : Option AskFault) (event : Event) (old new : WorldView) (text : List ℕ) : Type 0 where
+  pub head : List ℕ
+  pub is_head : IsEventLine old.world.now event head
+  pub outcome : List ℕ
+  pub is_outcome : IsOutcome told (why_nothing old.overtake old.world event) (length old.world.log) (length old.world.copies) new.world outcome
+  pub is : text ≡ head ++ outcome
+
+-- a change that its node's store refused
+pub record IsRefusedText (fault : ChangeFault) (event : Event) (old : WorldView) (text : List ℕ) : Type 0 where
+  pub head : List ℕ
+  pub is_head : IsEventLine old.world.now event head
+  pub is : text ≡ head ++ refused_news (change_fault_number fault)
+
+-- a copy that counts as lost
+abbrev pub lose_text : (now copy : ℕ) → List ℕ
+lose_text now copy = decimal now ++ (codes " lose " ++ (decimal copy ++ codes "\n  lost: the script says so\n"))
+
+-- ---- runs
+
+abbrev pub in_words : Telling ℕ
+in_words =
+    record {
+      went = IsEventText;
+      refused = IsRefusedText;
+      lost = λ old copy text. text ≡ lose_text old.world.now copy;
+      ended = λ line fault text. text ≡ fault_line line fault;
+    }
+
+-- these octets were added
+abbrev pub Adds : (old new : List ℕ) → (IsText : List ℕ → Type 0) → Type 0
+Adds old new IsText = (text : List ℕ) × (IsText text × (new ≡ old ++ text))

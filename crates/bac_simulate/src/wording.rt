@@ -1,0 +1,113 @@
+//! The run of a script, told in words.
+ghost use Rattle.std.specs.Prelude.{◌≡◌, ◌+◌, ◌<◌, ◌^◌, length, map, IfOk, OnOk};
+ghost use Rattle.std.specs.Io.KnownBytes.{Appends};
+ghost use Rattle.bac_network.specs.Views.{event_view};
+ghost use Rattle.bac_text.specs.Texts.{AppendsText};
+ghost use Rattle.bac_simulate.specs.Runs.{Runs, Steps};
+ghost use Rattle.bac_simulate.specs.Scripts.{Happens, Lost};
+ghost use Rattle.bac_simulate.specs.Views.{line_view};
+ghost use Rattle.bac_simulate.specs.Worded.{in_words, lose_text};
+
+use crate::nothing::why_nothing;
+use crate::script::ScriptLine;
+use crate::simulate::change_fault_in;
+use crate::telling::Seen;
+use crate::words::{add_outcome, add_refused, event_line};
+use bac_commands::print_fault;
+use bac_network::{Event, World, WorldFault};
+use std::alloc::Global;
+use std::io;
+use std::io::Write;
+
+/// One event. Answers whether the script goes on.
+fn tell_event<W: Write>(
+    alloc: Global,
+    world: &mut World,
+    line: u64,
+    event: &Event,
+    out: &mut W,
+) -> io::Result<bool>
+    ensures { IfOk result (λ passed. AppendsText (W.contents out.old) (W.contents out.new)
+        (Steps in_words line passed (Happens (event_view event.now)) world.old world.new)) }
+{
+    let before = Seen::of(world);
+    let why = why_nothing(world, event);
+    let mut text = event_line(alloc, world.now(), event)?;
+    let fault = match world.step(event) {
+        Ok(refused) => {
+            add_outcome(alloc, world, before, why, refused, &mut text)?;
+            out.write_all(text.as_slice())?;
+            return Ok(true);
+        }
+        Err(fault) => fault,
+    };
+    match change_fault_in(fault) {
+        Some(why) => {
+            add_refused(alloc, why.number(), &mut text)?;
+            out.write_all(text.as_slice())?;
+            Ok(true)
+        }
+        None => {
+            print_fault(line, fault.number(), out)?;
+            Ok(false)
+        }
+    }
+}
+
+fn print_lose<W: Write>(now: u64, copy: u64, out: &mut W) -> io::Result<()>
+    ensures { OnOk result (Appends (W.contents out.old) (W.contents out.new) (lose_text now copy)) }
+{
+    write!(out, "{now} lose {copy}\n  lost: the script says so\n")
+}
+
+/// That a copy counts as lost, or that there is none. Answers whether there is one.
+fn tell_lost<W: Write>(world: &World, line: u64, copy: u64, out: &mut W) -> io::Result<bool>
+    ensures { IfOk result (λ passed. AppendsText (W.contents out.old) (W.contents out.new)
+        (Steps in_words line passed (Lost copy) world.now world.now)) }
+{
+    if copy < world.copies().len() as u64 {
+        print_lose(world.now(), copy, out)?;
+        Ok(true)
+    } else {
+        print_fault(line, WorldFault::NoSuchDatagram.number(), out)?;
+        Ok(false)
+    }
+}
+
+/// What a line says. Answers whether the script goes on.
+fn tell_line<W: Write>(
+    alloc: Global,
+    world: &mut World,
+    line: u64,
+    said: &ScriptLine,
+    out: &mut W,
+) -> io::Result<bool>
+    ensures { IfOk result (λ passed. AppendsText (W.contents out.old) (W.contents out.new)
+        (Steps in_words line passed (line_view said.now) world.old world.new)) }
+{
+    match said {
+        ScriptLine::Happens(event) => tell_event(alloc, world, line, event, out),
+        ScriptLine::Lost(copy) => tell_lost(world, line, *copy, out),
+        ScriptLine::Note => Ok(true),
+    }
+}
+
+/// What all lines say, up to the first that ends the script; so many lines stand before the first. Answers whether none did.
+pub(crate) fn tell_lines<W: Write>(
+    alloc: Global,
+    world: &mut World,
+    before: u64,
+    lines: &[ScriptLine],
+    out: &mut W,
+) -> io::Result<bool>
+    requires { before + length lines.now < 2 ^ 64 }
+    ensures { IfOk result (λ all. AppendsText (W.contents out.old) (W.contents out.new)
+        (Runs in_words (before + 1) (map line_view lines.now) all world.old world.new)) }
+{
+    for (place, said) in lines.iter().enumerate() {
+        if !tell_line(alloc, world, before + 1 + place as u64, said, out)? {
+            return Ok(false);
+        }
+    }
+    Ok(true)
+}

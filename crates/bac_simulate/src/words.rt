@@ -1,0 +1,219 @@
+//! An event, and what came of it, in words.
+ghost use Rattle.std.specs.Prelude.{◌≡◌, ◌++◌, ◌∷◌, drop, length, map, IfOk, OnOk};
+ghost use Rattle.bac_journal.specs.Views.{copy_view};
+ghost use Rattle.bac_network.specs.Views.{event_view, fact_view};
+ghost use Rattle.bac_service.specs.Views.{owned_reply_view, owned_request_view};
+ghost use Rattle.bac_store.specs.Views.{change_view};
+ghost use Rattle.bac_ticket.specs.Views.{ending_view};
+ghost use Rattle.bac_simulate.specs.Worded.{AreAskWords, AreEndedWords, AreEventWords, AreFactLines, AreFactWords, AreNews, ArePerformedWords, IsEventLine, IsOutcome};
+ghost use Rattle.bac_simulate.specs.Worded.{Adds, change_words, news_line, refused_news, sent_lines, sent_words};
+
+use crate::nothing::{Why, why_words};
+use crate::telling::{Seen, is_as_before};
+use bac_chart::datagram_words;
+use bac_commands::{ending_words, reply_words};
+use bac_explain_text::request_in_words;
+use bac_journal::Copy;
+use bac_network::{Event, Fact, World};
+use bac_requester::AskFault;
+use bac_service::{OwnedReply, OwnedRequest};
+use bac_store::Change;
+use bac_ticket::Ending;
+use bac_value_text::{object_text, property_text};
+use std::alloc::{AllocError, Global};
+use std::io;
+use std::io::ErrorKind;
+
+// ---- an event
+
+fn ask_words(
+    alloc: Global,
+    client: usize,
+    server: usize,
+    request: &OwnedRequest,
+) -> io::Result<Vec<u8>>
+    ensures { IfOk result (λ t. AreAskWords client server (owned_request_view request.now) t.items) }
+{
+    let Ok(asked) = request_in_words(alloc, request.as_request()) else {
+        return Err(io::Error::from(ErrorKind::OutOfMemory));
+    };
+    let mut words = format!(in alloc; "ask {client} {server} ")?.into_bytes();
+    words.extend_from_slice(asked.as_slice())?;
+    Ok(words)
+}
+
+fn change_words(alloc: Global, node: usize, change: &Change) -> Result<Vec<u8>, AllocError>
+    ensures { IfOk result (λ t. t.items ≡ change_words node (change_view change.now)) }
+{
+    match change {
+        Change::Value {
+            object,
+            property,
+            ..
+        } => {
+            let object = object_text(alloc, *object)?;
+            let property = property_text(alloc, *property)?;
+            let mut words = format!(in alloc; "set {node} ")?.into_bytes();
+            words.extend_from_slice(object.as_slice())?;
+            words.push(b' ')?;
+            words.extend_from_slice(property.as_bytes())?;
+            Ok(words)
+        }
+        Change::File { object, .. } => {
+            let object = object_text(alloc, *object)?;
+            let mut words = format!(in alloc; "file {node} ")?.into_bytes();
+            words.extend_from_slice(object.as_slice())?;
+            Ok(words)
+        }
+    }
+}
+
+fn event_words(alloc: Global, event: &Event) -> io::Result<Vec<u8>>
+    ensures { IfOk result (λ t. AreEventWords (event_view event.now) t.items) }
+{
+    let words = match event {
+        Event::Ask {
+            client,
+            server,
+            request,
+            ..
+        } => return ask_words(alloc, *client, *server, request),
+        Event::Change { node, change } => return Ok(change_words(alloc, *node, change)?),
+        Event::Deliver { number } => format!(in alloc; "deliver {number}")?,
+        Event::Noise { node, .. } => format!(in alloc; "noise {node}")?,
+        Event::Tick { node } => format!(in alloc; "tick {node}")?,
+        Event::Advance { by } => format!(in alloc; "advance {by}")?,
+        Event::Restart { node, .. } => format!(in alloc; "restart {node}")?,
+    };
+    Ok(words.into_bytes())
+}
+
+/// An event at that moment.
+pub(crate) fn event_line(alloc: Global, now: u64, event: &Event) -> io::Result<Vec<u8>>
+    ensures { IfOk result (λ t. IsEventLine now (event_view event.now) t.items) }
+{
+    let words = event_words(alloc, event)?;
+    let mut text = format!(in alloc; "{now} ")?.into_bytes();
+    text.extend_from_slice(words.as_slice())?;
+    text.push(b'\n')?;
+    Ok(text)
+}
+
+// ---- what came of it
+
+fn performed_words(alloc: Global, ask: usize, reply: &OwnedReply) -> io::Result<Vec<u8>>
+    ensures { IfOk result (λ t. ArePerformedWords ask (owned_reply_view reply.now) t.items) }
+{
+    let answer = reply_words(alloc, reply.as_reply())?;
+    let mut words = format!(in alloc; "performed {ask}: ")?.into_bytes();
+    words.extend_from_slice(answer.as_slice())?;
+    Ok(words)
+}
+
+fn ended_words(alloc: Global, ask: usize, how: &Ending) -> io::Result<Vec<u8>>
+    ensures { IfOk result (λ t. AreEndedWords ask (ending_view how.now) t.items) }
+{
+    let ending = ending_words(alloc, how)?;
+    let mut words = format!(in alloc; "ended {ask}: ")?.into_bytes();
+    words.extend_from_slice(ending.as_slice())?;
+    Ok(words)
+}
+
+fn fact_words(alloc: Global, fact: &Fact) -> io::Result<Vec<u8>>
+    ensures { IfOk result (λ t. AreFactWords (fact_view fact.now) t.items) }
+{
+    let words = match fact {
+        Fact::Performed { number, reply, .. } => return performed_words(alloc, *number, reply),
+        Fact::Ended { number, how } => return ended_words(alloc, *number, how),
+        Fact::Asked { number, .. } => format!(in alloc; "asked {number}")?,
+        Fact::Changed { node, .. } => format!(in alloc; "changed {node}")?,
+        Fact::Restarted { node, .. } => format!(in alloc; "restarted {node}")?,
+    };
+    Ok(words.into_bytes())
+}
+
+fn sent_words(alloc: Global, number: usize, copy: &Copy) -> Result<Vec<u8>, AllocError>
+    ensures { IfOk result (λ t. t.items ≡ sent_words number (copy_view copy.now)) }
+{
+    let from = copy.from;
+    let to = copy.to;
+    let datagram = datagram_words(alloc, &copy.octets)?;
+    let mut words = format!(in alloc; "sent {number} {from}>{to} ")?.into_bytes();
+    words.extend_from_slice(datagram.as_slice())?;
+    Ok(words)
+}
+
+/// Adds a line below an event's.
+fn add_line(words: &[u8], text: &mut Vec<u8>) -> Result<(), AllocError>
+    ensures { OnOk result (text.new.items ≡ text.old.items ++ news_line words.now) }
+{
+    text.extend_from_slice(b"  ")?;
+    text.extend_from_slice(words)?;
+    text.push(b'\n')?;
+    Ok(())
+}
+
+/// Adds the facts after so many.
+fn add_facts(alloc: Global, log: &[Fact], before: usize, text: &mut Vec<u8>) -> io::Result<()>
+    ensures { OnOk result (Adds text.old.items text.new.items (AreFactLines (drop before (map fact_view log.now)))) }
+{
+    for number in before..log.len() {
+        let words = fact_words(alloc, &log[number])?;
+        add_line(words.as_slice(), text)?;
+    }
+    Ok(())
+}
+
+/// Adds the copies after so many.
+fn add_copies(
+    alloc: Global,
+    copies: &[Copy],
+    before: usize,
+    text: &mut Vec<u8>,
+) -> Result<(), AllocError>
+    ensures { OnOk result (text.new.items ≡ text.old.items ++ sent_lines before (drop before (map copy_view copies.now))) }
+{
+    for number in before..copies.len() {
+        let words = sent_words(alloc, number, &copies[number])?;
+        add_line(words.as_slice(), text)?;
+    }
+    Ok(())
+}
+
+fn add_news(alloc: Global, world: &World, before: Seen, text: &mut Vec<u8>) -> io::Result<()>
+    ensures { OnOk result (Adds text.old.items text.new.items (AreNews before.facts before.copies world.now.world)) }
+{
+    add_facts(alloc, world.log(), before.facts, text)?;
+    add_copies(alloc, world.copies(), before.copies, text)?;
+    Ok(())
+}
+
+/// Adds that an event was refused, by the number of the fault.
+pub(crate) fn add_refused(alloc: Global, fault: u8, text: &mut Vec<u8>) -> Result<(), AllocError>
+    ensures { OnOk result (text.new.items ≡ text.old.items ++ refused_news fault) }
+{
+    let words = format!(in alloc; "refused {fault}")?;
+    add_line(words.as_bytes(), text)
+}
+
+/// Adds what came of an event: that the ask was refused, what is new in the world, or why nothing is.
+pub(crate) fn add_outcome(
+    alloc: Global,
+    world: &World,
+    before: Seen,
+    why: Why,
+    refused: Option<AskFault>,
+    text: &mut Vec<u8>,
+) -> io::Result<()>
+    ensures { OnOk result (Adds text.old.items text.new.items (IsOutcome refused why before.facts before.copies world.now.world)) }
+{
+    if let Some(fault) = refused {
+        add_refused(alloc, fault.number(), text)?;
+        return Ok(());
+    }
+    if is_as_before(world, before) {
+        add_line(why_words(why).as_bytes(), text)?;
+        return Ok(());
+    }
+    add_news(alloc, world, before, text)
+}
