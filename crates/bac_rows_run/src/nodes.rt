@@ -19,7 +19,12 @@ const READ_FILE: &[u8] = b"\xC4\x02\x80\x00\x01\x0E\x31\x00\x22\x01\x00\x0F";
 /// `file`: the octets of the server's file.
 fn file(side: &Side<'_>, out: &mut Vec<u8>) -> Option<()> {
     let request = read_request(6, READ_FILE).ok()?;
-    let planned = side.server.node().store().prepare(side.alloc, &request).ok()?;
+    let planned = side
+        .server
+        .node()
+        .store()
+        .prepare(side.alloc, &request)
+        .ok()?;
     match planned.reply() {
         AnyReply::Complex(AnyComplex::FileRead(read)) => {
             print_octets(side.alloc, read.content.octets, out)
@@ -172,15 +177,45 @@ fn happens(one: &mut Side<'_>, twin: &mut Side<'_>, line: &str, out: &mut Vec<u8
     }
 }
 
-/// Plays the lines of a row.
+fn all_happen(
+    one: &mut Side<'_>,
+    twin: &mut Side<'_>,
+    lines: &str,
+    out: &mut Vec<u8>,
+) -> Option<()> {
+    for line in lines.lines() {
+        writeln!(out, "> {line}").ok()?;
+        happens(one, twin, line, out)?;
+    }
+    Some(())
+}
+
+/// Plays the lines of a row beside that side.
+fn play_beside(
+    alloc: Global,
+    medium: &RefCell<Medium>,
+    one: &mut Side<'_>,
+    lines: &str,
+    out: &mut Vec<u8>,
+) -> Option<()> {
+    let mut twin = Side::new(alloc, medium)?;
+    all_happen(one, &mut twin, lines, out)
+}
+
+fn play_on(
+    alloc: Global,
+    medium: &RefCell<Medium>,
+    other: &RefCell<Medium>,
+    lines: &str,
+    out: &mut Vec<u8>,
+) -> Option<()> {
+    let mut one = Side::new(alloc, medium)?;
+    play_beside(alloc, other, &mut one, lines, out)
+}
+
+/// Plays the lines of a row. Few values to drop live in each function here, since the check of one grows with them at each step.
 pub(crate) fn play(alloc: Global, lines: &str, out: &mut Vec<u8>) -> Option<()> {
     let medium = RefCell::new(Medium::new(alloc));
     let other = RefCell::new(Medium::new(alloc));
-    let mut one = Side::new(alloc, &medium)?;
-    let mut twin = Side::new(alloc, &other)?;
-    for line in lines.lines() {
-        writeln!(out, "> {line}").ok()?;
-        happens(&mut one, &mut twin, line, out)?;
-    }
-    Some(())
+    play_on(alloc, &medium, &other, lines, out)
 }

@@ -48,12 +48,7 @@ pub(crate) fn print_performed(
     writeln!(out, "performed {number} {request} {reply}").ok()
 }
 
-fn print_finishes(
-    alloc: Global,
-    word: &str,
-    finishes: &[Finish],
-    out: &mut Vec<u8>,
-) -> Option<()> {
+fn print_finishes(alloc: Global, word: &str, finishes: &[Finish], out: &mut Vec<u8>) -> Option<()> {
     for finish in finishes {
         out.write_all(word.as_bytes()).ok()?;
         print_ended(alloc, finish.ticket, &finish.how, out).ok()?;
@@ -86,9 +81,7 @@ pub(crate) fn print_turn(alloc: Global, turn: &Turn, out: &mut Vec<u8>) -> Optio
     writeln!(
         out,
         "at {} lost {} skipped {}",
-        turn.at,
-        turn.lost,
-        turn.skipped
+        turn.at, turn.lost, turn.skipped
     )
     .ok()?;
     print_received(turn.received, out)?;

@@ -37,11 +37,7 @@ pub(crate) fn house_node(alloc: Global, link: LinkAddress) -> Option<Node> {
 /// A node on a link in memory.
 pub(crate) type MemoryStation<'a> = Station<MemoryLink<'a>>;
 
-fn station<'a>(
-    alloc: Global,
-    medium: &'a RefCell<Medium>,
-    end: End,
-) -> Option<MemoryStation<'a>> {
+fn station<'a>(alloc: Global, medium: &'a RefCell<Medium>, end: End) -> Option<MemoryStation<'a>> {
     let node = house_node(alloc, end.link())?;
     Station::new(alloc, node, MemoryLink::new(medium, end)).ok()
 }

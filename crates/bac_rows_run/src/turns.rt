@@ -46,11 +46,7 @@ pub(crate) fn buffer(side: &Side<'_>, words: &str, out: &mut Vec<u8>) -> Option<
     print_octets(side.alloc, octets, out)
 }
 
-fn print_taken(
-    alloc: Global,
-    taken: Result<Turn, TurnFault>,
-    out: &mut Vec<u8>,
-) -> Option<()> {
+fn print_taken(alloc: Global, taken: Result<Turn, TurnFault>, out: &mut Vec<u8>) -> Option<()> {
     match taken {
         Ok(turn) => print_turn(alloc, &turn, out),
         Err(fault) => print_fault(fault, out),

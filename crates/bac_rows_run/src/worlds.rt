@@ -12,8 +12,12 @@ use std::io::Write;
 /// A world of the two nodes.
 fn world_of_two(alloc: Global) -> Option<World> {
     let mut nodes = Vec::new(alloc);
-    nodes.push((config(End::Client.link()), house(alloc).ok()?)).ok()?;
-    nodes.push((config(End::Server.link()), house(alloc).ok()?)).ok()?;
+    nodes
+        .push((config(End::Client.link()), house(alloc).ok()?))
+        .ok()?;
+    nodes
+        .push((config(End::Server.link()), house(alloc).ok()?))
+        .ok()?;
     World::new(alloc, nodes, 128).ok()
 }
 
