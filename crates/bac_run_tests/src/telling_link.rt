@@ -1,26 +1,24 @@
 //! A link in memory that tells its calls.
-ghost use Rattle.std.specs.Prelude.{◌≡◌, ◌∷◌, ◌++◌, [], map, Some, IfOk, IfSome, length, ◌≤◌};
+ghost use Rattle.std.specs.Prelude.{◌≡◌, ◌∷◌, ◌++◌, [], map, Some, IfOk, IfSome, IsOk, length, ◌≤◌};
 ghost use Rattle.bac_link.specs.Calls.{received};
 ghost use Rattle.bac_run_tests.specs.Calls.{call_view};
 
-use crate::medium::Medium;
-use crate::memory_link::MemoryLink;
 use crate::noted_call::NotedCall;
 use bac_link::{Link, LinkFault};
 use bac_npdu::LinkAddress;
 use std::alloc::Global;
-use std::cell::{Cell, RefCell};
 use std::process::Abort;
 
 /// What receiving gave.
 type Received = Result<Option<(LinkAddress, usize)>, LinkFault>;
 
-/// A link in memory that notes each call. It stops the test where memory fails.
+/// A link to which one datagram comes, and which notes each call. It stops the test where memory fails.
 #[derive(Drop)]
 pub(crate) struct TellingLink<'a, R> {
     runtime: &'a R,
     alloc: Global,
-    link: MemoryLink<'a>,
+    from: LinkAddress,
+    coming: Option<Vec<u8>>,
     noted: Vec<NotedCall>,
 }
 
@@ -28,14 +26,14 @@ impl<'a, R> TellingLink<'a, R> {
     pub(crate) fn new(
         runtime: &'a R,
         alloc: Global,
-        medium: &'a RefCell<Medium>,
-        moment: &'a Cell<u64>,
-        link: LinkAddress,
+        from: LinkAddress,
+        octets: Vec<u8>,
     ) -> TellingLink<'a, R> {
         TellingLink {
             runtime,
             alloc,
-            link: MemoryLink::new(medium, moment, link),
+            from,
+            coming: Some(octets),
             noted: Vec::new(alloc),
         }
     }
@@ -44,6 +42,15 @@ impl<'a, R> TellingLink<'a, R> {
     pub(crate) fn noted(&self) -> &[NotedCall] {
         &self.noted
     }
+}
+
+/// Copies the octets to the front of a buffer, as far as they fit; how many that are.
+fn copy_front(octets: &[u8], buffer: &mut [u8]) -> usize
+    ensures { result ≤ length buffer.new }
+{
+    let len = octets.len().min(buffer.len());
+    buffer[..len].copy_from_slice(&octets[..len]);
+    len
 }
 
 fn copied<R: Abort>(runtime: &R, alloc: Global, octets: &[u8]) -> Vec<u8>
@@ -79,19 +86,30 @@ fn note<R: Abort>(runtime: &R, noted: &mut Vec<NotedCall>, call: NotedCall)
     noted.push(call).expect(runtime, "memory");
 }
 
+/// The datagram comes to the front of the buffer, if it has not come yet.
+fn take(from: LinkAddress, coming: &mut Option<Vec<u8>>, buffer: &mut [u8]) -> Received
+    ensures ok { IsOk result }
+    ensures within { IfOk result (λ r. IfSome r (λ d. d.1 ≤ length buffer.new)) }
+{
+    match coming.take() {
+        Some(octets) => Ok(Some((from, copy_front(&octets, buffer)))),
+        None => Ok(None),
+    }
+}
+
 impl<R: Abort> Link for TellingLink<'_, R> {
-    ghost failures = { λ l. l.link.failures };
+    ghost failures = { λ _. 0 };
 
     ghost calls = { λ l. Some (map call_view l.noted.items) };
 
     fn failures(&self) -> u64 {
-        self.link.failures()
+        0
     }
 
     fn send(&mut self, to: LinkAddress, octets: &[u8]) -> Result<(), LinkFault> {
         let copy = copied(self.runtime, self.alloc, octets);
         note(self.runtime, &mut self.noted, NotedCall::Sent(to, copy));
-        self.link.send(to, octets)
+        Ok(())
     }
 
     fn recv(
@@ -99,7 +117,7 @@ impl<R: Abort> Link for TellingLink<'_, R> {
         buffer: &mut [u8],
         wait: u64,
     ) -> Result<Option<(LinkAddress, usize)>, LinkFault> {
-        let gave = self.link.recv(buffer, wait);
+        let gave = take(self.from, &mut self.coming, buffer);
         let call = noted_of(self.runtime, self.alloc, wait, buffer, gave);
         note(self.runtime, &mut self.noted, call);
         gave

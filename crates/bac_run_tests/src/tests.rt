@@ -1,94 +1,78 @@
-//! Turns and runs over links in memory. Here is what the tests share.
-use crate::journal::Journal;
-use crate::medium::{Failing, Medium};
-use crate::memory_link::{MemoryClock, MemoryLink};
-use crate::station::{LIMITS, MemoryStation, config, file_of, house_node, station};
-use bac_commands::print_ending;
+//! A node takes turns on a link that tells its calls, at the moments of a clock that tells its own.
+use crate::listed_clock::ListedClock;
+use crate::noted_call::NotedCall;
+use crate::telling_link::TellingLink;
+use bac_apdu::Limits;
 use bac_link::Link;
-use bac_node::Node;
-use bac_npdu::{LinkAddress, Peer};
-use bac_run::{AskEnd, Patience, Question, Station, TurnFault, pair};
-use bac_service::{OwnedRequest, read_request};
-use bac_ticket::Ending;
+use bac_node::{Config, Node};
+use bac_npdu::LinkAddress;
+use bac_run::{Patience, Station};
+use bac_store::house;
 use std::alloc::Global;
-use std::cell::{Cell, RefCell};
 use std::process::Abort;
-use std::test::Fail;
 
-mod clocks;
-mod failing;
-mod faults;
-mod logs;
-mod pairs;
-mod serving;
-mod sockets;
-mod telling;
-mod turns;
-
-/// The node that asks, and the one that is asked.
 const CLIENT: LinkAddress = [127, 0, 0, 1, 0xBA, 0xC0];
 
 const SERVER: LinkAddress = [127, 0, 0, 1, 0xBA, 0xC1];
 
 /// A read of the present-value of analog-input 5, and its answer.
-const READ: &str = "810A001101040005010C0C000000051955";
+const READ: &[u8] = b"\x81\x0A\x00\x11\x01\x04\x00\x05\x01\x0C\x0C\x00\x00\x00\x05\x19\x55";
 
-const VALUE: &str = "810A0017010030010C0C0000000519553E444290999A3F";
+const VALUE: &[u8] =
+    b"\x81\x0A\x00\x17\x01\x00\x30\x01\x0C\x0C\x00\x00\x00\x05\x19\x55\x3E\x44\x42\x90\x99\x9A\x3F";
 
-/// How the append and the read of the tests are answered.
-const APPENDED: &str = "answered position 2";
+/// Two moments for each of two turns.
+const MOMENTS: &[u64] = &[0, 5, 5, 5];
 
-const WAS_READ: &str = "answered read 444290999A";
-
-fn request(alloc: Global, choice: u8, service: &str) -> Result<OwnedRequest, Fail> {
-    let service = hex::decode(alloc, service)?;
-    Ok(read_request(choice, &service)?.to_owned(alloc)?)
-}
-
-/// The append of AABBCC to file 1.
-fn append_request(alloc: Global) -> Result<OwnedRequest, Fail> {
-    request(alloc, 7, "C4028000010E31FF63AABBCC0F")
-}
-
-/// The read of the present-value of analog-input 5.
-fn read_request_of_input(alloc: Global) -> Result<OwnedRequest, Fail> {
-    request(alloc, 12, "0C000000051955")
-}
-
-/// The client and the server on one medium.
-fn two_stations<'a>(
-    alloc: Global,
-    medium: &'a RefCell<Medium>,
-    moment: &'a Cell<u64>,
-) -> Result<(MemoryStation<'a>, MemoryStation<'a>), Fail> {
-    let client = station(alloc, medium, moment, CLIENT)?;
-    let server = station(alloc, medium, moment, SERVER)?;
-    Ok((client, server))
-}
-
-/// A question for the server.
-fn question(request: OwnedRequest) -> Question {
-    Question {
-        peer: Peer {
-            link: SERVER,
-            route: None,
+fn server(alloc: Global) -> Option<Node> {
+    let config = Config {
+        link: SERVER,
+        limits: Limits {
+            max_apdu: 5,
+            takes_segments: true,
+            max_segments: 7,
         },
-        limits: LIMITS,
-        request,
+        window: 32,
+        client_slots: 64,
+        reply_slots: 64,
+    };
+    Node::new(alloc, config, house(alloc).ok()?).ok()
+}
+
+fn is_sent(call: &NotedCall) -> bool {
+    match call {
+        NotedCall::Sent(to, octets) => *to == CLIENT && octets.as_slice() == VALUE,
+        _ => false,
     }
 }
 
-fn append(alloc: Global) -> Result<Question, Fail> {
-    Ok(question(append_request(alloc)?))
+fn is_received(call: &NotedCall) -> bool {
+    match call {
+        NotedCall::Received(wait, from, octets) => {
+            *wait == 100 && *from == CLIENT && octets.as_slice() == READ
+        }
+        _ => false,
+    }
 }
 
-fn read(alloc: Global) -> Result<Question, Fail> {
-    Ok(question(read_request_of_input(alloc)?))
+/// Whether the request came and was answered, and then nothing came.
+fn are_told(noted: &[NotedCall]) -> bool {
+    match noted {
+        [first, second, NotedCall::Nothing(100)] => is_received(first) && is_sent(second),
+        _ => false,
+    }
 }
 
-/// What is told of an ending.
-fn told(alloc: Global, ending: &Ending) -> Result<String, Fail> {
-    let mut out = Vec::new(alloc);
-    print_ending(alloc, ending, &mut out)?;
-    Ok(String::from_str(alloc, std::str::from_utf8(&out)?)?)
+/// A request comes to a node, and it takes two turns; whether the link's calls are those of the request and its answer.
+fn serves<R: Abort>(rt: &R, alloc: Global) -> Option<bool> {
+    let coming = TellingLink::new(rt, alloc, CLIENT, READ.to_vec(alloc).ok()?);
+    let mut clock = ListedClock::new(rt, MOMENTS);
+    let mut station = Station::new(alloc, server(alloc)?, coming).ok()?;
+    let served = station.serve(&mut clock, &Patience::BRIEF, 2);
+    Some(served == Ok(1) && clock.told() == 4 && are_told(station.link().noted()))
+}
+
+#[test]
+fn calls_of_turns_are_told(rt: HostRuntime) {
+    assert!(&rt; serves(&rt, rt.alloc()) == Some(true));
 }

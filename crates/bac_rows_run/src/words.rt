@@ -1,0 +1,23 @@
+//! The words of a line.
+use bac_script::read_request_words;
+use bac_service::OwnedRequest;
+use std::alloc::Global;
+
+/// The first word of a text, and what stands behind it.
+pub(crate) fn first(text: &str) -> (&str, &str) {
+    text.split_once(' ').unwrap_or((text, ""))
+}
+
+/// A decimal number.
+pub(crate) fn number(text: &str) -> Option<u64> {
+    text.parse::<u64>().ok()
+}
+
+/// The request of some words.
+pub(crate) fn request_of(alloc: Global, text: &str) -> Option<OwnedRequest> {
+    let mut words = Vec::new(alloc);
+    for word in text.split(' ') {
+        words.push(word.as_bytes()).ok()?;
+    }
+    read_request_words(alloc, &words).ok()
+}
