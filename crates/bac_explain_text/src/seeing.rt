@@ -70,10 +70,7 @@ fn timed_seen<'a>(
 
 /// The APDU of a transaction that a frame carries, and when it was seen, in milliseconds; None where it carries none. An Err where the frame cannot be
 /// looked at, or has such an APDU and no moment.
-pub fn seen_of<'a>(
-    frame: Frame<'a>,
-    ports: Ports,
-) -> Result<Option<(u64, Sighting<'a>)>, Unread>
+pub fn seen_of<'a>(frame: Frame<'a>, ports: Ports) -> Result<Option<(u64, Sighting<'a>)>, Unread>
     ensures { ReadsAll (option_map (λ s. (s.0, sighting_view s.1))) result (seen_of ports.also (frame_view frame.entry)) }
 {
     match datagram_in(frame, ports)? {

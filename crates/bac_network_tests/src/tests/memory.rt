@@ -1,8 +1,8 @@
 //! Run with each allocation refused in turn, too: `sh tests/memory/refused.sh`. An event that is refused its memory is the world's fault 4 and leaves the world
 //! as the events before it make it; when it comes again, the world and what is printed are those of ample memory (`playing`).
-use super::scripts::run_script;
 use super::worlds::Printed;
 use super::*;
+use bac_simulate::simulate_over;
 
 mod writers;
 
@@ -211,6 +211,15 @@ performed 0
 sent 1 1>0 810A0017010030000C0C0000000519553E444290999A3F
 ended 0 answered read 444290999A
 ";
+
+/// What a script prints.
+fn run_script(alloc: Global, script: &str) -> Printed {
+    let mut input = script.as_bytes();
+    let mut out = Vec::new(alloc);
+    let mut err = Vec::new(alloc);
+    let status = simulate_over(alloc, &mut input, &mut out, &mut err).code();
+    Printed { out, err, status }
+}
 
 /// What is printed where memory is refused in an event: what came of those before it, and the event's line.
 const STOPPED: &[&str] = &[
