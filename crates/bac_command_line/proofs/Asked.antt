@@ -1,25 +1,30 @@
--- What a node that was made as is said asked and printed.
-use Rattle.std.proofs.Common.{◌≡◌, ℕ, List, Option, subst}
+-- The question that some words are was asked.
+use Rattle.std.proofs.Common.{◌≡◌, ℕ, Bool, true, false, List, Option, Result, sym, subst}
+use Rattle.std.specs.Prelude.{IfOk}
 use Rattle.bac_npdu.specs.Views.{peer_view}
 use Rattle.bac_text.specs.declared.status.Status.{Status}
 use Rattle.bac_run.specs.Asking.{Question}
 use Rattle.bac_run.specs.Runs.{Timed}
-use Rattle.bac_run.specs.declared.patience.Patience.{Patience}
+use Rattle.bac_run.specs.Views.{question_view}
+use Rattle.bac_run.specs.declared.question.Question as code
 use Rattle.bac_commands.specs.Questions.{IsQuestion}
-use Rattle.bac_command_line.specs.Asking.{patience_for}
-use Rattle.bac_command_line.specs.Online.{Clocks, HasTold, IsAsked, IsHouseAt, Links, ReportsAs}
+use Rattle.bac_commands.specs.Statuses.{ByStatus}
+use Rattle.bac_command_line.specs.Online.{AsksOnce, ByClient, Clocks, IsAsked, Links}
+use Rattle.bac_command_line.specs.Asked.{AsksAll}
 use Rattle.bac_command_line.specs.declared.asking.Asking.{Asking}
+use Rattle.bac_command_line.specs.declared.rounds.Asked.{Asked}
+use Rattle.bac_command_line.specs.declared.rounds.Asked.TheVariants as asked
 use Rattle.bac_command_line.proofs.Statuses.{lifted}
 
-pub asked_so : (IsOn : Links) (IsClock : Clocks) (asking : Asking) (words : List (List ℕ)) (start first_id : ℕ) (p : Patience) (q : Question)
-    (before after : Timed) (old new : Option (List ℕ)) (s : Status) → p ≡ patience_for asking.timeout start → IsQuestion (peer_view asking.peer) words q
-    → IsHouseAt IsOn asking.host first_id before.station → HasTold IsClock start before.told
-    → ReportsAs s asking.style asking.strict q p before after old new → IsAsked IsOn IsClock s asking words old new
-asked_so IsOn IsClock asking words start first_id p q before after old new s waits is house clock reports =
-    lifted s
-    (λ printed.
-    record { question = q; is = is; start = start; before = before; after = after; first_id = first_id; house = house; clock = clock; printed = printed })
-    (λ printed.
-    record { question = q; is = is; start = start; before = before; after = after; first_id = first_id; house = house; clock = clock; printed = printed })
-    (λ (no : ⊥). absurd no)
-    (subst (λ (w : Patience). ReportsAs s asking.style asking.strict q w before after old new) waits reports)
+pub asked_so : (IsOn : Links) (IsClock : Clocks) (asking : Asking) (words : List (List ℕ)) (q : Question) (old new : Option (List ℕ)) (s : Status)
+    → IsQuestion (peer_view asking.peer) words q
+    → ByStatus s (ByClient IsOn IsClock asking (AsksOnce asking q) true old new) (ByClient IsOn IsClock asking (AsksOnce asking q) false old new) ⊥
+    → IsAsked IsOn IsClock s asking words old new
+asked_so IsOn IsClock asking words q old new s is reports =
+    lifted s (λ a. record { question = q; is = is; asks = a }) (λ a. record { question = q; is = is; asks = a }) (λ (no : ⊥). absurd no) reports
+
+-- what was asked is that one question
+pub asked_one : (asking : Asking) (a : Asked) (q : code.Question) (r : Result Bool Status) (before after : Timed) (old new : Option (List ℕ))
+    → a ≡ asked.One q → IfOk r (λ all. AsksOnce asking (question_view q) all before after old new) → IfOk r (λ all. AsksAll asking a all before after old new)
+asked_one asking a q r before after old new is asks =
+    subst (λ (x : Asked). IfOk r (λ all. AsksAll asking x all before after old new)) (sym is) asks

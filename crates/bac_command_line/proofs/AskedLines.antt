@@ -1,24 +1,20 @@
 -- Lines that are asked one after the other.
 use Rattle.std.proofs.Common.{◌≡◌, ℕ, ◌&&◌, Bool, true, false, List, [], ◌∷◌, Option, refl, sym, ap, subst, ◌∙◌}
-use Rattle.std.specs.Io.KnownBytes.{Appends, Keeps}
-use Rattle.bac_link.specs.Moments.{Told, with_moment}
+use Rattle.std.specs.Io.KnownBytes.{Keeps}
 use Rattle.bac_npdu.specs.Views.{peer_view}
 use Rattle.bac_text.specs.Statuses.{IsStop}
 use Rattle.bac_text.specs.declared.status.Status.{Status}
 use Rattle.bac_text.specs.declared.status.Status.TheVariants as status
-use Rattle.bac_run.specs.Runs.{Timed, timed}
-use Rattle.bac_run.specs.declared.patience.Patience.{Patience}
-use Rattle.bac_command_line.specs.Asking.{patience_for}
-use Rattle.bac_command_line.specs.AskedLines.{AreAskedFrom, AreLinesAsked, AreRead, AsksEach, AsksLine, AsksLines, Numbered, number_text}
+use Rattle.bac_commands.specs.Statuses.{ByStatus}
+use Rattle.bac_run.specs.Runs.{Timed}
+use Rattle.bac_command_line.specs.Asked.{AreAskedFrom}
+use Rattle.bac_command_line.specs.AskedLines.{AreRead, AsksEach, AsksLine, Numbered}
 use Rattle.bac_command_line.specs.Files.{OfFile}
-use Rattle.bac_command_line.specs.Online.{AskedAs, Clocks, Links}
+use Rattle.bac_command_line.specs.Online.{ByClient, Clocks, Links}
 use Rattle.bac_command_line.specs.declared.asking.Asking.{Asking}
 use Rattle.bac_command_line.proofs.AskedOf.{Files}
+use Rattle.bac_command_line.proofs.InRounds.{and_true, both_and}
 use Rattle.bac_command_line.proofs.Statuses.{lifted}
-
-both_and : (a b c : Bool) → a && (b && c) ≡ (a && b) && c
-both_and true b c = refl
-both_and false b c = refl
 
 -- what is asked from here on completes what all ask
 pub one_more_asked : (asking : Asking) (lines others : List Numbered) (line : Numbered) (so_far succeeded now rest : Bool) (before middle after : Timed)
@@ -35,13 +31,14 @@ one_more_asked asking lines others line so_far succeeded now rest before middle 
 -- the lines that were read of a file were asked
 pub asked_from : (IsFile : Files) (IsOn : Links) (IsClock : Clocks) (s : Status) (asking : Asking) (path : List ℕ) (lines asked : List Numbered)
     (old new : Option (List ℕ)) → OfFile IsFile path (AreRead (peer_view asking.peer) lines) → asked ≡ lines
-    → AreLinesAsked IsOn IsClock s asking asked old new → AreAskedFrom IsFile IsOn IsClock s asking path old new
+    → ByStatus s (ByClient IsOn IsClock asking (AsksEach asking asked) true old new) (ByClient IsOn IsClock asking (AsksEach asking asked) false old new) ⊥
+    → AreAskedFrom IsFile IsOn IsClock s asking path old new
 asked_from IsFile IsOn IsClock s asking path lines asked old new file same reports =
     lifted s (λ a. record { content = file.content; at = file.at; says = record { lines = lines; read = file.says; asks = put a } })
     (λ a. record { content = file.content; at = file.at; says = record { lines = lines; read = file.says; asks = put a } })
     (λ (no : ⊥). absurd no) reports where
-      put : {all : Bool} → AsksLines IsOn IsClock asking asked all old new → AsksLines IsOn IsClock asking lines all old new
-      put {all} a = subst (λ (l : List Numbered). AsksLines IsOn IsClock asking l all old new) same a
+      put : {all : Bool} → ByClient IsOn IsClock asking (AsksEach asking asked) all old new → ByClient IsOn IsClock asking (AsksEach asking lines) all old new
+      put {all} a = subst (λ (l : List Numbered). ByClient IsOn IsClock asking (AsksEach asking l) all old new) same a
 
 -- nothing was asked or printed
 pub none_asked : (IsFile : Files) (IsOn : Links) (IsClock : Clocks) (s : Status) (asking : Asking) (path : List ℕ) (old new : Option (List ℕ))
@@ -51,27 +48,6 @@ none_asked IsFile IsOn IsClock status.Faulty asking path old new stop keeps = ab
 none_asked IsFile IsOn IsClock status.CommandLine asking path old new stop keeps = keeps
 none_asked IsFile IsOn IsClock status.Output asking path old new stop keeps = tt
 none_asked IsFile IsOn IsClock status.Memory asking path old new stop keeps = tt
-
--- what a line asks was asked from the moment that the clock told
-pub line_asked : (asking : Asking) (line : Numbered) (succeeded : Bool) (start : ℕ) (p : Patience) (before after : Timed) (told : Told)
-    (old between new : Option (List ℕ)) → Appends old between (number_text line.number) → told ≡ with_moment before.told start
-    → p ≡ patience_for asking.timeout start
-    → AskedAs asking.style asking.strict succeeded line.question p (timed before.station told) after between new
-    → AsksLine asking line succeeded before after old new
-line_asked asking line succeeded start p before after told old between new number tells waits asked =
-    record {
-      start = start;
-      between = between;
-      number = number;
-      asked =
-          subst (λ (t : Told). AskedAs asking.style asking.strict succeeded line.question (patience_for asking.timeout start) (timed before.station t) after between new)
-          tells
-          (subst (λ (q : Patience). AskedAs asking.style asking.strict succeeded line.question q (timed before.station told) after between new) waits asked);
-    }
-
-and_true : (b : Bool) → b && true ≡ b
-and_true true = refl
-and_true false = refl
 
 -- where no line is left, all were asked
 pub all_asked : (asking : Asking) (lines : List Numbered) (so_far : Bool) (last : Timed) (end : Option (List ℕ))

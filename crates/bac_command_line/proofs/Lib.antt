@@ -2,6 +2,7 @@ pub mod CheckedFiles
 pub mod Statuses
 pub mod StoresOfFiles
 pub mod Served
+pub mod InRounds
 pub mod Asked
 pub mod LastWords
 pub mod AskedOf

@@ -3,7 +3,9 @@ pub mod Lines
 pub mod Serving
 pub mod Asking
 pub mod FileWords
+pub mod Rounds
 pub mod Online
 pub mod AskedLines
+pub mod Asked
 pub mod Stores
 pub mod Tasks

@@ -17,14 +17,14 @@ use Rattle.bac_store.specs.Stores.{Store}
 use Rattle.bac_text.specs.declared.status.Status.{Status}
 use Rattle.bac_run.specs.Asking.{Question}
 use Rattle.bac_run.specs.Pairs.{Pair}
-use Rattle.bac_run.specs.Runs.{Timed}
+use Rattle.bac_run.specs.Runs.{Timed, timed}
 use Rattle.bac_run.specs.Stations.{Station}
 use Rattle.bac_run.specs.Views.{question_view}
 use Rattle.bac_run.specs.declared.patience.Patience.{Patience}
 use Rattle.bac_run.specs.declared.question.Question as code
 use Rattle.bac_world.specs.Node.{Node}
 use Rattle.bac_commands.specs.FileOctets.{AskedOctets, reads_file}
-use Rattle.bac_commands.specs.Houses.{house_node, server_node}
+use Rattle.bac_commands.specs.Houses.{client_node, house_node, server_node}
 use Rattle.bac_commands.specs.Pairs.{TwoTexts}
 use Rattle.bac_commands.specs.Questions.{IsQuestion}
 use Rattle.bac_commands.specs.Reports.{AskedText, ServedText}
@@ -33,6 +33,7 @@ use Rattle.bac_commands.specs.Words.{AskedWords}
 use Rattle.bac_command_line.specs.Asking.{patience_for}
 use Rattle.bac_command_line.specs.Files.{OfFile}
 use Rattle.bac_command_line.specs.FileWords.{file_of, with_octets}
+use Rattle.bac_command_line.specs.Rounds.{AreRounds, Doing}
 use Rattle.bac_command_line.specs.Serving.{patience_of, restart_of, turns_of}
 use Rattle.bac_command_line.specs.declared.asking.Asking.{Asking}
 use Rattle.bac_command_line.specs.declared.asking.Style.{Style}
@@ -75,6 +76,10 @@ pub record IsAt (IsOn : Links) (host : Octets) (port : ℕ) (node_at : (address 
 -- one with the house store, to which nothing has happened, at any free port; its invoke IDs begin at that one
 abbrev pub IsHouseAt : Links → (host : Octets) → (first_id : ℕ) → Station → Type 0
 IsHouseAt IsOn host first_id station = IsAt IsOn host FREE (house_node first_id) station
+
+-- one with a slot for each invoke ID of a peer
+abbrev pub IsClientAt : Links → (host : Octets) → (first_id : ℕ) → Station → Type 0
+IsClientAt IsOn host first_id station = IsAt IsOn host FREE (client_node first_id) station
 
 -- ---- serving
 
@@ -130,17 +135,26 @@ ReadsAsked style peer words (Ok q) = IsQuestion peer words (question_view q)
 ReadsAsked style peer words (Err NoForm) = is_request_for style (request_of words) ≡ false
 ReadsAsked style peer words (Err NoMemory) = ⊤
 
--- a house at any free port, whose invoke IDs began anywhere, asked a node from a moment on, and how that ended was printed
-pub record Asks (IsOn : Links) (IsClock : Clocks) (asking : Asking) (succeeded : Bool) (words : List (List ℕ)) (old new : Option (List ℕ)) : Type 0 where
-  pub question : Question
-  pub is : IsQuestion (peer_view asking.peer) words question
+-- a question was asked from a moment on that the clock told, and how that ended was printed
+pub record AsksOnce (asking : Asking) (q : Question) (succeeded : Bool) (before after : Timed) (old new : Option (List ℕ)) : Type 0 where
   pub start : ℕ
+  pub asked :
+      AskedAs asking.style asking.strict succeeded q (patience_for asking.timeout start) (timed before.station (with_moment before.told start)) after old new
+
+-- a client at any free port, whose invoke IDs began anywhere, did that, in rounds where they are wanted
+pub record ByClient (IsOn : Links) (IsClock : Clocks) (asking : Asking) (Round : Doing) (all : Bool) (old new : Option (List ℕ)) : Type 0 where
   pub before : Timed
   pub after : Timed
   pub first_id : ℕ
-  pub house : IsHouseAt IsOn asking.host first_id before.station
-  pub clock : HasTold IsClock start before.told
-  pub printed : AskedAs asking.style asking.strict succeeded question (patience_for asking.timeout start) before after old new
+  pub client : IsClientAt IsOn asking.host first_id before.station
+  pub clock : IsClock before.told
+  pub rounds : AreRounds asking.rounds Round all before after old new
+
+-- the question that some words are was asked
+pub record Asks (IsOn : Links) (IsClock : Clocks) (asking : Asking) (succeeded : Bool) (words : List (List ℕ)) (old new : Option (List ℕ)) : Type 0 where
+  pub question : Question
+  pub is : IsQuestion (peer_view asking.peer) words question
+  pub asks : ByClient IsOn IsClock asking (AsksOnce asking question) succeeded old new
 
 -- the words are no request that can be told so, and nothing was printed
 pub record IsNoRequest (asking : Asking) (words : List (List ℕ)) (old new : Option (List ℕ)) : Type 0 where

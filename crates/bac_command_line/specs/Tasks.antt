@@ -2,7 +2,7 @@
 use Rattle.std.specs.Prelude.{ℕ, List, Option, map}
 use Rattle.std.specs.Option.{option_map}
 use Rattle.bac_text.specs.declared.status.Status.{Status}
-use Rattle.bac_command_line.specs.AskedLines.{AreAskedFrom}
+use Rattle.bac_command_line.specs.Asked.{AreAskedFrom}
 use Rattle.bac_command_line.specs.Files.{IsChartedFile, IsCheckedFile, IsExplainedFile, IsShownFile, IsSimulatedFile}
 use Rattle.bac_command_line.specs.Lines.{AreCheckedLines, IsDecodedFrom}
 use Rattle.bac_command_line.specs.Stores.{IsAnsweredFrom, IsServedFrom}

@@ -1,6 +1,8 @@
-//! Whom a node is to ask, how long it waits, and how that is told.
+//! Whom a node is to ask, how long it waits, how that is told, and how often.
 ghost use Rattle.std.specs.Prelude.{◌≡◌};
 ghost use Rattle.bac_command_line.specs.Asking.{patience_for};
+ghost use Rattle.bac_command_line.specs.Rounds.{next_from};
+ghost use Rattle.bac_command_line.specs.Serving.{turns_of};
 
 use crate::address::{LOCAL_HOST, host_towards, link_at, read_link, read_route};
 use bac_npdu::{LinkAddress, Peer, Route};
@@ -18,6 +20,34 @@ pub(crate) enum Style {
     Octets,
 }
 
+/// How often it asks the same.
+#[derive(Clone, Copy, Debug, PartialEq, Eq)]
+pub(crate) struct Rounds {
+    /// A round begins so many seconds after the one before it began.
+    pub every: u64,
+    /// How many rounds there are; None for any number.
+    pub times: Option<u64>,
+}
+
+impl Rounds {
+    /// How many rounds there are at most.
+    pub(crate) fn most(&self) -> u64
+        ensures { result ≡ turns_of self.now.times }
+    {
+        match self.times {
+            Some(times) => times,
+            None => u64::MAX,
+        }
+    }
+
+    /// When the next round may begin, where one began at that moment.
+    pub(crate) fn next_from(&self, began: u64) -> u64
+        ensures { result ≡ next_from self.now.every began }
+    {
+        began.saturating_add(self.every.saturating_mul(1_000))
+    }
+}
+
 /// Whom a node is to ask, how long it waits, and how that is told.
 #[derive(Clone, Copy, Debug)]
 pub(crate) struct Asking {
@@ -31,6 +61,8 @@ pub(crate) struct Asking {
     pub style: Style,
     /// Whether an Error is no success.
     pub strict: bool,
+    /// How often it asks the same; None where it asks once.
+    pub rounds: Option<Rounds>,
 }
 
 impl Asking {
@@ -75,6 +107,14 @@ fn style_of(given: &ArgMatches<'_>) -> Style {
     }
 }
 
+/// None where no rounds are given.
+fn rounds_of(given: &ArgMatches<'_>) -> Option<Rounds> {
+    Some(Rounds {
+        every: given.get_one("every")?,
+        times: given.get_one("times"),
+    })
+}
+
 /// None where there is no address, or what is given is none.
 pub(crate) fn asking_of(given: &ArgMatches<'_>) -> Option<Asking> {
     let link = link_of(given)?;
@@ -85,5 +125,6 @@ pub(crate) fn asking_of(given: &ArgMatches<'_>) -> Option<Asking> {
         timeout: given.get_one("timeout"),
         style: style_of(given),
         strict: given.get_flag("fail"),
+        rounds: rounds_of(given),
     })
 }

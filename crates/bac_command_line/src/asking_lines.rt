@@ -3,19 +3,20 @@ ghost use Rattle.std.specs.Prelude.{◌≡◌, ◌&&◌, map, IfErr, IfOk};
 ghost use Rattle.bac_npdu.specs.Views.{peer_view};
 ghost use Rattle.bac_run.specs.Runs.{timed};
 ghost use Rattle.bac_text.specs.Statuses.{IsFailure, IsStop};
-ghost use Rattle.bac_command_line.specs.AskedLines.{AreAskedFrom, AreLinesAsked, AreRead, AsksEach, AsksLine, ReportsLines, line_view};
+ghost use Rattle.bac_command_line.specs.Asked.{AreAskedFrom};
+ghost use Rattle.bac_command_line.specs.AskedLines.{AreRead, AsksEach, AsksLine, line_view};
 ghost use Rattle.bac_command_line.specs.Files.{OfFile, OnFile};
 ghost use Rattle.bac_command_line.specs.Online.{OnClock, OnPort};
 
 use crate::asking::Asking;
 use crate::files::{OpenFiles, opened};
 use crate::objects::octets_of;
-use crate::online::{Machine, ask_on};
+use crate::online::{Machine, ask_once};
 use crate::question_lines::{LineQuestion, questions_in};
-use bac_commands::{clock_fault, house_station, link_fault};
+use crate::rounds::{Asked, ask_by_client};
 use bac_link::{Clock, Link};
 use bac_run::Station;
-use bac_text::{Status, no_memory, output_failed};
+use bac_text::{Status, output_failed};
 use std::alloc::Global;
 use std::io::Write;
 
@@ -37,25 +38,17 @@ fn ask_line<L: Link, C: Clock, O: Write, E: Write>(
     if let Err(error) = write!(out, "{number}: ") {
         return Err(output_failed(err, &error));
     }
-    let question = &line.question;
-    let patience = asking.patience(clock.now());
-    match ask_on(alloc, asking, station, clock, question, &patience, out, err) {
-        Status::Done => Ok(true),
-        Status::Faulty => Ok(false),
-        Status::CommandLine => Err(Status::CommandLine),
-        Status::Output => Err(Status::Output),
-        Status::Memory => Err(Status::Memory),
-    }
+    ask_once(alloc, asking, station, clock, &line.question, out, err)
 }
 
-fn both(first: bool, second: bool) -> bool
+pub(crate) fn both(first: bool, second: bool) -> bool
     ensures { result ≡ first && second }
 {
     first && second
 }
 
 /// A node asks what lines ask, one after the other. Answers whether all succeeded.
-fn ask_each<L: Link, C: Clock, O: Write, E: Write>(
+pub(crate) fn ask_each<L: Link, C: Clock, O: Write, E: Write>(
     alloc: Global,
     asking: &Asking,
     station: &mut Station<L>,
@@ -76,55 +69,6 @@ fn ask_each<L: Link, C: Clock, O: Write, E: Write>(
     Ok(all)
 }
 
-/// The same, and the status says whether all succeeded, or why asking stopped.
-#[tactic(auto, using(bac_commands::proofs::Statuses::failed))]
-fn ask_lines_on<L: Link, C: Clock, O: Write, E: Write>(
-    alloc: Global,
-    asking: &Asking,
-    station: &mut Station<L>,
-    clock: &mut C,
-    lines: &[LineQuestion],
-    out: &mut O,
-    err: &mut E,
-) -> Status
-    ensures { ReportsLines result asking.now (map line_view lines.now)
-        (timed station.old (C.told clock.old)) (timed station.new (C.told clock.new)) (O.contents out.old) (O.contents out.new) }
-{
-    match ask_each(alloc, asking, station, clock, lines, out, err) {
-        Ok(true) => Status::Done,
-        Ok(false) => Status::Faulty,
-        Err(status) => status,
-    }
-}
-
-/// A node at any free port, whose invoke IDs begin where the machine says, asks what lines ask.
-fn ask_all<M: Machine, O: Write, E: Write>(
-    alloc: Global,
-    machine: &M,
-    asking: &Asking,
-    lines: &[LineQuestion],
-    out: &mut O,
-    err: &mut E,
-) -> Status
-    ensures { AreLinesAsked (OnPort M.is_bound M.Link.failures M.Link.calls) (OnClock M.is_made M.Timer.told) result asking.now (map line_view lines.now)
-        (O.contents out.old) (O.contents out.new) }
-{
-    let Some(bound) = machine.bind(asking.host, 0) else {
-        return link_fault(err);
-    };
-    let Some(mut timer) = machine.timer() else {
-        return clock_fault(err);
-    };
-    let Some(first_id) = machine.first_id() else {
-        return clock_fault(err);
-    };
-    let address = bound.1;
-    let Ok(mut station) = house_station(alloc, bound.0, address, first_id) else {
-        return no_memory(err);
-    };
-    ask_lines_on(alloc, asking, &mut station, &mut timer, lines, out, err)
-}
-
 /// What the lines of a file ask. Where it cannot be read, or a line is bad, `err` and the status tell it.
 fn questions_at<F: OpenFiles, E: Write>(
     alloc: Global,
@@ -141,8 +85,8 @@ fn questions_at<F: OpenFiles, E: Write>(
     questions_in(alloc, asking.peer, &text, err)
 }
 
-/// A node asks what the lines of a file ask, one after the other; how each ended is printed behind the line's number. A file that cannot be opened or read:
-/// `cannot read` on `err`. Where words are no request, `err` tells the line and which is bad, and nothing is asked.
+/// A client asks what the lines of a file ask, one after the other, in rounds where they are wanted; how each ask ended is printed behind the line's number.
+/// A file that cannot be opened or read: `cannot read` on `err`. Where words are no request, `err` tells the line and which is bad, and nothing is asked.
 pub(crate) fn ask_lines<F: OpenFiles, M: Machine, O: Write, E: Write>(
     alloc: Global,
     files: &F,
@@ -156,7 +100,10 @@ pub(crate) fn ask_lines<F: OpenFiles, M: Machine, O: Write, E: Write>(
         asking.now path.now (O.contents out.old) (O.contents out.new) }
 {
     match questions_at(alloc, files, asking, path, err) {
-        Ok(lines) => ask_all(alloc, machine, asking, &lines, out, err),
+        Ok(lines) => {
+            let asked = Asked::Lines(lines);
+            ask_by_client(alloc, machine, asking, &asked, out, err)
+        }
         Err(status) => status,
     }
 }

@@ -32,6 +32,7 @@ fn needed<'a>(arg: Arg<'a>, need: Need) -> Result<Arg<'a>, clap::Error> {
         Need::Always => Ok(arg.required(true)),
         Need::Unless(other) => Ok(arg.required_unless_present(other)?),
         Need::Never => Ok(arg),
+        Need::Beside(other) => Ok(arg.requires_arg(other)?),
     }
 }
 

@@ -14,6 +14,7 @@ mod objects;
 mod online;
 mod parts;
 mod question_lines;
+mod rounds;
 mod serving;
 mod system;
 mod task;

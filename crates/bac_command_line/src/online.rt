@@ -1,15 +1,17 @@
 //! Nodes on links of the machine: what `serve`, `ask` and `pair` do.
-ghost use Rattle.std.specs.Prelude.{◌≡◌, ℕ, map, IfSome};
+ghost use Rattle.std.specs.Prelude.{◌≡◌, ℕ, map, IfErr, IfOk, IfSome};
 ghost use Rattle.bac_npdu.specs.Views.{peer_view};
 ghost use Rattle.bac_protocol.specs.Service.{Octets};
 ghost use Rattle.bac_commands.specs.Questions.{ReadsQuestion};
-ghost use Rattle.bac_command_line.specs.Online.{IsAsked, IsPair, IsServedBy, OnClock, OnPort, ReadsAsked, ReportsAs, is_told_by};
+ghost use Rattle.bac_text.specs.Statuses.{IsFailure};
+ghost use Rattle.bac_command_line.specs.Online.{AsksOnce, IsAsked, IsPair, IsServedBy, OnClock, OnPort, ReadsAsked, ReportsAs, is_told_by};
 ghost use Rattle.bac_run.specs.Runs.{timed};
 ghost use Rattle.bac_run.specs.Views.{question_view};
 
 use crate::address::LOCAL_HOST;
 use crate::asking::{Asking, Style};
 use crate::bad_words::tell_bad_words;
+use crate::rounds::{Asked, ask_by_client};
 use crate::serving::{Serving, serve_from, tell_listening};
 use bac_commands::{
     asks_for_file, clock_fault, house_station, link_fault, read_question, server_station,
@@ -114,7 +116,7 @@ fn asked_in(alloc: Global, asking: &Asking, words: &[&str]) -> Result<Question, 
 }
 
 /// A node asks; how that ended is printed as is wanted.
-pub(crate) fn ask_on<L: Link, C: Clock, O: Write, E: Write>(
+fn ask_on<L: Link, C: Clock, O: Write, E: Write>(
     alloc: Global,
     asking: &Asking,
     station: &mut Station<L>,
@@ -141,7 +143,32 @@ pub(crate) fn ask_on<L: Link, C: Clock, O: Write, E: Write>(
     }
 }
 
-/// A node at any free port, whose invoke IDs begin where the machine says, asks a node; how that ended is printed as is wanted. Words that are no request: `bad words` on `err`, and in words which is bad.
+/// A node asks from the moment on that the clock tells; how that ended is printed as is wanted. Answers whether it succeeded.
+pub(crate) fn ask_once<L: Link, C: Clock, O: Write, E: Write>(
+    alloc: Global,
+    asking: &Asking,
+    station: &mut Station<L>,
+    clock: &mut C,
+    question: &Question,
+    out: &mut O,
+    err: &mut E,
+) -> Result<bool, Status>
+    ensures asked { IfOk result (λ succeeded. AsksOnce asking.now (question_view question.now) succeeded
+        (timed station.old (C.told clock.old)) (timed station.new (C.told clock.new)) (O.contents out.old) (O.contents out.new)) }
+    ensures failed { IfErr result IsFailure }
+{
+    let patience = asking.patience(clock.now());
+    match ask_on(alloc, asking, station, clock, question, &patience, out, err) {
+        Status::Done => Ok(true),
+        Status::Faulty => Ok(false),
+        Status::CommandLine => Err(Status::CommandLine),
+        Status::Output => Err(Status::Output),
+        Status::Memory => Err(Status::Memory),
+    }
+}
+
+/// A client asks a node, in rounds where they are wanted; how each ask ended is printed as is wanted. Words that are no request: `bad words` on `err`, and in
+/// words which is bad.
 pub(crate) fn ask<M: Machine, O: Write, E: Write>(
     alloc: Global,
     machine: &M,
@@ -164,30 +191,8 @@ pub(crate) fn ask<M: Machine, O: Write, E: Write>(
         }
         Err(FormFault::NoMemory) => return no_memory(err),
     };
-    let Some(bound) = machine.bind(asking.host, 0) else {
-        return link_fault(err);
-    };
-    let Some(mut timer) = machine.timer() else {
-        return clock_fault(err);
-    };
-    let Some(first_id) = machine.first_id() else {
-        return clock_fault(err);
-    };
-    let address = bound.1;
-    let Ok(mut station) = house_station(alloc, bound.0, address, first_id) else {
-        return no_memory(err);
-    };
-    let patience = asking.patience(timer.now());
-    ask_on(
-        alloc,
-        asking,
-        &mut station,
-        &mut timer,
-        &question,
-        &patience,
-        out,
-        err,
-    )
+    let asked = Asked::One(question);
+    ask_by_client(alloc, machine, asking, &asked, out, err)
 }
 
 /// Two nodes at free ports, both new: one asks the other.

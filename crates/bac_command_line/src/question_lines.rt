@@ -1,10 +1,12 @@
 //! Requests of lines: those of a text, each by its number.
-ghost use Rattle.std.specs.Prelude.{◌≡◌, map, IfErr, IfOk, Some};
+ghost use Rattle.std.specs.Prelude.{◌≡◌, map, true, IfErr, IfOk, IsErrOf, None, Some};
 ghost use Rattle.bac_npdu.specs.Views.{peer_view};
 ghost use Rattle.bac_run.specs.Views.{question_view};
-ghost use Rattle.bac_commands.specs.Questions.{IsQuestion};
+ghost use Rattle.bac_commands.specs.Questions.{IsQuestion, question_of};
+ghost use Rattle.bac_script.specs.Requests.{request_of};
 ghost use Rattle.bac_text.specs.Statuses.{IsStop};
-ghost use Rattle.bac_command_line.specs.AskedLines.{AddsLine, line_view, questions_from, questions_of, words_of};
+ghost use Rattle.bac_text.specs.Notes.{read_of as read_in};
+ghost use Rattle.bac_command_line.specs.AskedLines.{AddsLine, asked_by, line_view, questions_from, questions_of, words_of};
 
 use crate::bad_words::tell_bad_line;
 use crate::parts::parts_of;
@@ -33,6 +35,7 @@ fn question_in<E: Write>(
     err: &mut E,
 ) -> Result<Question, Status>
     ensures question { IfOk result (λ q. IsQuestion (peer_view peer) (words_of line.now) (question_view q)) }
+    ensures refused { IsErrOf result Status.CommandLine → question_of (peer_view peer) (request_of (words_of line.now)) ≡ None }
     ensures told { IfErr result IsStop }
 {
     let Ok(words) = parts_of(alloc, b' ', line) else {
@@ -55,6 +58,7 @@ fn add_line<E: Write>(
     err: &mut E,
 ) -> Result<(), Status>
     ensures added { IfOk result (λ _. AddsLine (peer_view peer) number line.now (map line_view questions.old.items) (map line_view questions.new.items)) }
+    ensures refused { IsErrOf result Status.CommandLine → asked_by (peer_view peer) number (read_in true line.now) ≡ None }
     ensures told { IfErr result IsStop }
 {
     let Some(read) = read_of(true, line) else {
@@ -75,6 +79,7 @@ fn questions_among<E: Write>(
     err: &mut E,
 ) -> Result<Vec<LineQuestion>, Status>
     ensures read { IfOk result (λ v. questions_from (peer_view peer) 1 (map (λ l. l.now) lines.now) ≡ Some (map line_view v.items)) }
+    ensures refused { IsErrOf result Status.CommandLine → questions_from (peer_view peer) 1 (map (λ l. l.now) lines.now) ≡ None }
     ensures told { IfErr result IsStop }
 {
     let mut questions = Vec::new(alloc);
@@ -93,6 +98,7 @@ pub(crate) fn questions_in<E: Write>(
     err: &mut E,
 ) -> Result<Vec<LineQuestion>, Status>
     ensures read { IfOk result (λ v. questions_of (peer_view peer) text.now ≡ Some (map line_view v.items)) }
+    ensures refused { IsErrOf result Status.CommandLine → questions_of (peer_view peer) text.now ≡ None }
     ensures told { IfErr result IsStop }
 {
     let Ok(lines) = parts_of(alloc, b'\n', text) else {

@@ -22,6 +22,8 @@ pub(crate) enum Need {
     /// Where that word is not.
     Unless(&'static str),
     Never,
+    /// Never, and it stands beside that word alone.
+    Beside(&'static str),
 }
 
 /// A word of a command.
@@ -306,6 +308,7 @@ Example: bac ask --port 47808 --text read analog-input:5 present-value
 Example: bac ask --to 192.168.1.20 --route 5:2A --timeout 3 read device:7 object-name
 Example: bac ask --to 192.168.1.20 write analog-value:1 present-value real:72.5 priority 8
 Example: bac ask --to 192.168.1.20 --text --lines requests.txt
+Example: bac ask --to 192.168.1.20 --text --every 60 read analog-input:5 present-value
 Example: bac ask --port 47808 put file:1 0 @log.bin
 Example: bac ask --port 47808 --raw get file:1 0 1000 > log.bin";
 
@@ -366,6 +369,20 @@ const ASK: &[Word] = &[
         need: Need::Never,
         against: &["WORDS", "raw"],
         help: "Asks the requests of a file, one a line, in turn by one node, and prints behind each line's number how it ended; `-` for standard input. Blank lines and those that begin with `#` are passed over; words are separated by single spaces, and none is `@FILE`. A bad line is told before anything is asked",
+    },
+    Word {
+        name: "every",
+        form: Form::Number("S", 1_000_000_000),
+        need: Need::Never,
+        against: &[],
+        help: "Asks the same again by the same node, in rounds: one begins S seconds after the one before began, or at once where that took longer, 1 to 1000000000. A node asks another at most 256 times in 135 seconds",
+    },
+    Word {
+        name: "times",
+        form: Form::Number("N", 1_000_000_000),
+        need: Need::Beside("every"),
+        against: &[],
+        help: "How many rounds there are, 1 to 1000000000; without it, it asks until it is ended",
     },
     Word {
         name: "WORDS",

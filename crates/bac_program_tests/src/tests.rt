@@ -8,6 +8,7 @@ use std::test::Fail;
 
 mod answers;
 mod asked_lines;
+mod asked_rounds;
 mod decoded;
 mod files;
 mod help;
@@ -47,6 +48,27 @@ const NO_LINKS: Bench = Bench {
 const STANDING: BenchClock = BenchClock {
     moment: 0,
     pace: Pace::On(0),
+};
+
+/// A clock that goes on by 100 milliseconds.
+const STEADY: BenchClock = BenchClock {
+    moment: 0,
+    pace: Pace::On(100),
+};
+
+const HOUSES: Bench = Bench {
+    behind: Behind::Houses,
+    clock: Some(STEADY),
+};
+
+const NOBODY: Bench = Bench {
+    behind: Behind::Nobody,
+    clock: Some(STEADY),
+};
+
+const DEAF: Bench = Bench {
+    behind: Behind::Deaf,
+    clock: Some(STEADY),
 };
 
 /// A folder whose `capture` is empty.

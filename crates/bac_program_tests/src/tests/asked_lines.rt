@@ -4,26 +4,6 @@ use super::*;
 /// The text of a file, a bench, a command line, and its ending.
 type LinesRow = (&'static str, Bench, &'static str, Ending);
 
-const STEADY: BenchClock = BenchClock {
-    moment: 0,
-    pace: Pace::On(100),
-};
-
-const HOUSES: Bench = Bench {
-    behind: Behind::Houses,
-    clock: Some(STEADY),
-};
-
-const NOBODY: Bench = Bench {
-    behind: Behind::Nobody,
-    clock: Some(STEADY),
-};
-
-const DEAF: Bench = Bench {
-    behind: Behind::Deaf,
-    clock: Some(STEADY),
-};
-
 /// Requests of each form, a note, a blank line and a line that ends in CRLF.
 const REQUESTS: &str = "\
 # what a house has

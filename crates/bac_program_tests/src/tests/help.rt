@@ -46,6 +46,17 @@ const WORDS: &[(&str, &str)] = &[
     ),
     ("ask --port 47899 --raw --text get 10:1 0 5", "--raw"),
     (
+        "ask --port 47899 --every 0 read 0:5 85",
+        "0 is not in 1..=1000000000",
+    ),
+    ("ask --port 47899 --every soon read 0:5 85", "soon"),
+    (
+        "ask --port 47899 --every 1 --times 0 read 0:5 85",
+        "0 is not in 1..=1000000000",
+    ),
+    ("ask --port 47899 --times 2 read 0:5 85", "--every <S>"),
+    ("ask --help", "--times <N>"),
+    (
         "serve --help",
         "Example: bac serve --port 47808 --turns 600",
     ),

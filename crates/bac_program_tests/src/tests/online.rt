@@ -15,22 +15,6 @@ fn all_end_so(alloc: Global, rows: &[BenchRow]) -> Result<(), Fail> {
     Ok(())
 }
 
-/// A clock that goes on by 100 milliseconds.
-const STEADY: BenchClock = BenchClock {
-    moment: 0,
-    pace: Pace::On(100),
-};
-
-const HOUSES: Bench = Bench {
-    behind: Behind::Houses,
-    clock: Some(STEADY),
-};
-
-const NOBODY: Bench = Bench {
-    behind: Behind::Nobody,
-    clock: Some(STEADY),
-};
-
 /// Asks that houses answer, in each form that a house has.
 const ANSWERED: &[BenchRow] = &[
     (
@@ -669,11 +653,6 @@ const CLOCKS: &[BenchRow] = &[
 fn tells_that_the_clock_failed(rt: HostRuntime) -> Result<(), Fail> {
     all_end_so(rt.alloc(), CLOCKS)
 }
-
-const DEAF: Bench = Bench {
-    behind: Behind::Deaf,
-    clock: Some(STANDING),
-};
 
 /// Links that can't be bound, with the least and the greatest numbers too, and links that do not receive, so that a million turns end in the first.
 const LINKS: &[BenchRow] = &[

@@ -41,15 +41,6 @@ impl Write for Weak {
     }
 }
 
-/// Houses at every link, and a clock that goes on.
-const HOUSES: Bench = Bench {
-    behind: Behind::Houses,
-    clock: Some(BenchClock {
-        moment: 0,
-        pace: Pace::On(100),
-    }),
-};
-
 /// The text of the file, a command line, the fewest writes that it can make, and its status where all are taken.
 type OutputRow = (&'static str, &'static str, u32, u8);
 
@@ -140,6 +131,29 @@ fn is_flush_told(alloc: Global, row: &OutputRow) -> Result<bool, Fail> {
         ends_so(alloc, row, &mut full, 3, "")?
             && ends_so(alloc, row, &mut starved, 4, "no memory\n")?,
     )
+}
+
+/// Asks that go on until the output fails.
+const ENDLESS: &[OutputRow] = &[
+    ("", "ask --port 47808 --every 1 read 0:5 85", 1, 0),
+    (
+        "read 0:5 85\nread 0:9 85\n",
+        "ask --port 47808 --every 2 --lines capture",
+        1,
+        0,
+    ),
+];
+
+/// They end where the output fails, at each of its first thirty writes.
+#[test]
+fn ends_where_output_fails(rt: HostRuntime) -> Result<(), Fail> {
+    for row in ENDLESS {
+        for writes in 0..30u32 {
+            holds(is_told(rt.alloc(), row, writes)?, row.1)?;
+        }
+        holds(is_flush_told(rt.alloc(), row)?, row.1)?;
+    }
+    Ok(())
 }
 
 /// The output fails at each write, where it has no room or memory is refused, and where it is flushed.

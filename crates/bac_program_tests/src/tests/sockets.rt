@@ -21,6 +21,11 @@ const ROWS: &[(&str, Ending)] = &[
         ("answered position 2\nanswered read 444290999A\n", "", 0),
     ),
     ("serve --port 47897 --turns 1", ("", "link fault\n", 3)),
+    // nobody answers, for a second each time
+    (
+        "ask --to 127.0.0.9:47896 --timeout 1 --every 1 --times 2 read 0:5 85",
+        ("no ending\nno ending\n", "", 1),
+    ),
     ("check no/such/capture", ("", "cannot read\n", 2)),
     ("simulate no/such/script", ("", "cannot read\n", 2)),
 ];

@@ -1,12 +1,12 @@
 -- The station is on a link that was bound, and the clock was made.
 use Rattle.std.proofs.Common.{refl}
-use Rattle.bac_command_line.specs.Online.{IsHouseAt, OnClock, OnPort}
+use Rattle.bac_command_line.specs.Online.{IsClientAt, OnClock, OnPort}
 use Rattle.bac_command_line.proofs.Statuses.{lifted}
-use Rattle.bac_command_line.proofs.asking_lines.ask_all.Goals as goal
+use Rattle.bac_command_line.proofs.rounds.ask_by_client.Goals as goal
 
 pub returns : goal.returns
 returns g c =
-    let house : IsHouseAt (OnPort g.M.Machine.is_bound g.M.Link.Link.failures g.M.Link.Link.calls) c.args.asking.now.host c.in-Some-first_id.first_id
+    let client : IsClientAt (OnPort g.M.Machine.is_bound g.M.Link.Link.failures g.M.Link.Link.calls) c.args.asking.now.host c.in-Some-first_id.first_id
     c.in-Ok.station = record {
       address = c.in-Some.bound.1;
       node = c.in-Ok.ensures.node;
@@ -14,6 +14,6 @@ returns g c =
     } in
     let clock : OnClock g.M.Machine.is_made g.M.Timer.Clock.told (g.M.Timer.Clock.told c.in-Some-timer.timer) =
     record { timer = c.in-Some-timer.timer; made = c.in-Some-timer.ensures; is = refl } in
-    lifted c.ask_lines_on.result (λ a. record { before = _; after = _; first_id = c.in-Some-first_id.first_id; house = house; clock = clock; asks = a })
-    (λ a. record { before = _; after = _; first_id = c.in-Some-first_id.first_id; house = house; clock = clock; asks = a }) (λ n. n)
-    c.ask_lines_on.ensures
+    lifted c.ask_and_report.result (λ a. record { before = _; after = _; first_id = c.in-Some-first_id.first_id; client = client; clock = clock; rounds = a })
+    (λ a. record { before = _; after = _; first_id = c.in-Some-first_id.first_id; client = client; clock = clock; rounds = a }) (λ n. n)
+    c.ask_and_report.ensures

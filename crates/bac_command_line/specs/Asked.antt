@@ -1,0 +1,41 @@
+-- What a client asks: the one question of some words, or those of lines.
+use Rattle.std.specs.Prelude.{ℕ, Bool, true, false, List, map, Option}
+use Rattle.std.specs.Io.KnownBytes.{Keeps}
+use Rattle.bac_npdu.specs.Views.{peer_view}
+use Rattle.bac_text.specs.declared.status.Status.{Status}
+use Rattle.bac_run.specs.Runs.{Timed}
+use Rattle.bac_run.specs.Views.{question_view}
+use Rattle.bac_commands.specs.Statuses.{ByStatus}
+use Rattle.bac_command_line.specs.AskedLines.{AreRead, AsksEach, Numbered, line_view}
+use Rattle.bac_command_line.specs.Files.{OfFile}
+use Rattle.bac_command_line.specs.Online.{AsksOnce, ByClient, Clocks, Links}
+use Rattle.bac_command_line.specs.Rounds.{Doing}
+use Rattle.bac_command_line.specs.declared.asking.Asking.{Asking}
+use Rattle.bac_command_line.specs.declared.rounds.Asked.{Asked}
+use Rattle.bac_command_line.specs.declared.rounds.Asked.TheVariants as asked
+
+-- it was asked once
+abbrev pub AsksAll : Asking → Asked → Doing
+AsksAll asking (asked.One q) = AsksOnce asking (question_view q)
+AsksAll asking (asked.Lines lines) = AsksEach asking (map line_view lines.items)
+
+-- that was done; whether all succeeded is told by the status
+abbrev pub ReportsDoing : Status → Doing → (before after : Timed) → (old new : Option (List ℕ)) → Type 0
+ReportsDoing s Does before after old new = ByStatus s (Does true before after old new) (Does false before after old new) ⊥
+
+abbrev pub ReportsClient : Links → Clocks → Status → Asking → Asked → (old new : Option (List ℕ)) → Type 0
+ReportsClient IsOn IsClock s asking asked old new =
+    ByStatus s (ByClient IsOn IsClock asking (AsksAll asking asked) true old new) (ByClient IsOn IsClock asking (AsksAll asking asked) false old new) ⊥
+
+-- the lines that were read were asked
+pub record AsksRead (IsOn : Links) (IsClock : Clocks) (asking : Asking) (all : Bool) (old new : Option (List ℕ)) (content : Option (List ℕ)) : Type 0 where
+  pub lines : List Numbered
+  pub read : AreRead (peer_view asking.peer) lines content
+  pub asks : ByClient IsOn IsClock asking (AsksEach asking lines) all old new
+
+-- where a line is bad, or the file cannot be read, nothing was asked or printed
+abbrev pub AreAskedFrom : (IsFile : (path : List ℕ) → (content : Option (List ℕ)) → Type 0) → Links → Clocks → Status → Asking → (path : List ℕ)
+    → (old new : Option (List ℕ)) → Type 0
+AreAskedFrom IsFile IsOn IsClock s asking path old new =
+    ByStatus s (OfFile IsFile path (AsksRead IsOn IsClock asking true old new)) (OfFile IsFile path (AsksRead IsOn IsClock asking false old new))
+    (Keeps old new)

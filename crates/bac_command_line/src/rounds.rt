@@ -1,0 +1,193 @@
+//! What a client asks, once or in rounds.
+ghost use Rattle.std.specs.Prelude.{◌≡◌, IfErr, IfOk};
+ghost use Rattle.bac_run.specs.Runs.{timed};
+ghost use Rattle.bac_text.specs.Statuses.{IsFailure};
+ghost use Rattle.bac_command_line.specs.Asked.{AsksAll, ReportsClient, ReportsDoing};
+ghost use Rattle.bac_command_line.specs.Online.{OnClock, OnPort};
+ghost use Rattle.bac_command_line.specs.Rounds.{AreRounds, AreRoundsFrom, BeginsRound, Rests};
+ghost use Rattle.bac_command_line.specs.Serving.{turns_of};
+
+use crate::asking::{Asking, Rounds};
+use crate::asking_lines::{ask_each, both};
+use crate::online::{Machine, ask_once};
+use crate::question_lines::LineQuestion;
+use bac_commands::{Trouble, client_station, clock_fault, link_fault};
+use bac_link::{Clock, Link};
+use bac_run::{Patience, Question, Station};
+use bac_text::{Status, no_memory};
+use std::alloc::Global;
+use std::io::Write;
+
+/// What a client asks.
+#[derive(Drop)]
+pub(crate) enum Asked {
+    /// The request of some words.
+    One(Question),
+    /// Those of lines.
+    Lines(Vec<LineQuestion>),
+}
+
+/// A node asks all that, once. Answers whether all succeeded.
+fn ask_all<L: Link, C: Clock, O: Write, E: Write>(
+    alloc: Global,
+    asking: &Asking,
+    station: &mut Station<L>,
+    clock: &mut C,
+    asked: &Asked,
+    out: &mut O,
+    err: &mut E,
+) -> Result<bool, Status>
+    ensures asked { IfOk result (λ all. AsksAll asking.now asked.now all
+        (timed station.old (C.told clock.old)) (timed station.new (C.told clock.new)) (O.contents out.old) (O.contents out.new)) }
+    ensures failed { IfErr result IsFailure }
+{
+    match asked {
+        Asked::One(question) => ask_once(alloc, asking, station, clock, question, out, err),
+        Asked::Lines(lines) => ask_each(alloc, asking, station, clock, lines, out, err),
+    }
+}
+
+/// Until a moment a node hears what comes late, and does what is due.
+fn rest<L: Link, C: Clock, E: Write>(
+    station: &mut Station<L>,
+    clock: &mut C,
+    moment: u64,
+    err: &mut E,
+) -> Result<(), Status>
+    ensures rested { IfOk result (λ _. Rests moment (timed station.old (C.told clock.old)) (timed station.new (C.told clock.new))) }
+    ensures failed { IfErr result IsFailure }
+{
+    let patience = Patience {
+        wait: u64::MAX,
+        until: Some(moment),
+    };
+    match station.serve(clock, &patience, u64::MAX) {
+        Ok(_) => Ok(()),
+        Err(fault) => Err(Trouble::from(fault).tell(err)),
+    }
+}
+
+/// What came of a round.
+#[derive(Clone, Copy, Debug, PartialEq, Eq)]
+struct RoundEnd {
+    /// When it began.
+    began: u64,
+    /// Whether all asks succeeded.
+    succeeded: bool,
+}
+
+/// Once a moment has come, a round begins, in which a node asks all that.
+fn ask_round<L: Link, C: Clock, O: Write, E: Write>(
+    alloc: Global,
+    asking: &Asking,
+    station: &mut Station<L>,
+    clock: &mut C,
+    asked: &Asked,
+    from: u64,
+    out: &mut O,
+    err: &mut E,
+) -> Result<RoundEnd, Status>
+    ensures asked { IfOk result (λ r. BeginsRound (AsksAll asking.now asked.now) from r.began r.succeeded
+        (timed station.old (C.told clock.old)) (timed station.new (C.told clock.new)) (O.contents out.old) (O.contents out.new)) }
+    ensures failed { IfErr result IsFailure }
+{
+    rest(station, clock, from, err)?;
+    let began = clock.now();
+    let succeeded = ask_all(alloc, asking, station, clock, asked, out, err)?;
+    Ok(RoundEnd { began, succeeded })
+}
+
+/// A node asks all that in so many rounds. Answers whether all asks succeeded.
+fn ask_rounds<L: Link, C: Clock, O: Write, E: Write>(
+    alloc: Global,
+    asking: &Asking,
+    station: &mut Station<L>,
+    clock: &mut C,
+    asked: &Asked,
+    rounds: Rounds,
+    out: &mut O,
+    err: &mut E,
+) -> Result<bool, Status>
+    ensures asked { IfOk result (λ all. AreRoundsFrom (AsksAll asking.now asked.now) rounds.every (turns_of rounds.times) 0 all
+        (timed station.old (C.told clock.old)) (timed station.new (C.told clock.new)) (O.contents out.old) (O.contents out.new)) }
+    ensures failed { IfErr result IsFailure }
+{
+    let times = rounds.most();
+    let mut all = true;
+    let mut from = 0;
+    for _ in 0..times {
+        let round = ask_round(alloc, asking, station, clock, asked, from, out, err)?;
+        all = both(all, round.succeeded);
+        from = rounds.next_from(round.began);
+    }
+    Ok(all)
+}
+
+/// A node asks all that: once, or in the rounds that are wanted. Answers whether all asks succeeded.
+fn ask_so<L: Link, C: Clock, O: Write, E: Write>(
+    alloc: Global,
+    asking: &Asking,
+    station: &mut Station<L>,
+    clock: &mut C,
+    asked: &Asked,
+    out: &mut O,
+    err: &mut E,
+) -> Result<bool, Status>
+    ensures asked { IfOk result (λ all. AreRounds asking.now.rounds (AsksAll asking.now asked.now) all
+        (timed station.old (C.told clock.old)) (timed station.new (C.told clock.new)) (O.contents out.old) (O.contents out.new)) }
+    ensures failed { IfErr result IsFailure }
+{
+    match asking.rounds {
+        Some(rounds) => ask_rounds(alloc, asking, station, clock, asked, rounds, out, err),
+        None => ask_all(alloc, asking, station, clock, asked, out, err),
+    }
+}
+
+/// The same, and the status says whether all asks succeeded, or why asking stopped.
+#[tactic(auto, using(bac_commands::proofs::Statuses::failed))]
+fn ask_and_report<L: Link, C: Clock, O: Write, E: Write>(
+    alloc: Global,
+    asking: &Asking,
+    station: &mut Station<L>,
+    clock: &mut C,
+    asked: &Asked,
+    out: &mut O,
+    err: &mut E,
+) -> Status
+    ensures { ReportsDoing result (AreRounds asking.now.rounds (AsksAll asking.now asked.now))
+        (timed station.old (C.told clock.old)) (timed station.new (C.told clock.new)) (O.contents out.old) (O.contents out.new) }
+{
+    match ask_so(alloc, asking, station, clock, asked, out, err) {
+        Ok(true) => Status::Done,
+        Ok(false) => Status::Faulty,
+        Err(status) => status,
+    }
+}
+
+/// A client at any free port, whose invoke IDs begin where the machine says, asks all that, in rounds where they are wanted.
+pub(crate) fn ask_by_client<M: Machine, O: Write, E: Write>(
+    alloc: Global,
+    machine: &M,
+    asking: &Asking,
+    asked: &Asked,
+    out: &mut O,
+    err: &mut E,
+) -> Status
+    ensures { ReportsClient (OnPort M.is_bound M.Link.failures M.Link.calls) (OnClock M.is_made M.Timer.told) result asking.now asked.now
+        (O.contents out.old) (O.contents out.new) }
+{
+    let Some(bound) = machine.bind(asking.host, 0) else {
+        return link_fault(err);
+    };
+    let Some(mut timer) = machine.timer() else {
+        return clock_fault(err);
+    };
+    let Some(first_id) = machine.first_id() else {
+        return clock_fault(err);
+    };
+    let address = bound.1;
+    let Ok(mut station) = client_station(alloc, bound.0, address, first_id) else {
+        return no_memory(err);
+    };
+    ask_and_report(alloc, asking, &mut station, &mut timer, asked, out, err)
+}
