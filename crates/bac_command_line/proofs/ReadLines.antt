@@ -1,5 +1,5 @@
 -- The requests of lines, one line after the other.
-use Rattle.std.proofs.Common.{◌≡◌, ℕ, ◌+◌, true, List, [], ◌∷◌, ◌++◌, map, Option, Some, None, sym, ap, ◌∙◌, append_assoc, append-nil}
+use Rattle.std.proofs.Common.{◌≡◌, ℕ, ◌+◌, true, List, [], ◌∷◌, ◌++◌, map, Option, Some, None, Result, Ok, Err, sym, ap, ◌∙◌, append_assoc, append-nil}
 use Rattle.std.proofs.lemmas.List.{map-append}
 use Rattle.bac_run.specs.Views.{question_view}
 use Rattle.bac_commands.specs.Questions.{IsQuestion}
@@ -56,3 +56,14 @@ request_adds peer line read old new q is asks pushed =
       asked = ap (asked_by peer q.number) is ∙ ap (numbered q.number) asks;
       is = ap (map line_view) pushed ∙ map-append line_view old (q ∷ []);
     }
+
+abbrev fault_or : {A E : Type 0} → (other : E) → Result A E → E
+fault_or other (Ok x) = other
+fault_or other (Err e) = e
+
+abbrev pub err_in : (A : Type 0) {E : Type 0} → E → Result A E
+err_in A e = Err e
+
+-- the same fault, whatever else might have come
+pub same_fault : {A B E : Type 0} (e f : E) → err_in A e ≡ err_in A f → err_in B e ≡ err_in B f
+same_fault {A} {B} {E} e f same = ap (λ (r : Result A E). err_in B (fault_or e r)) same

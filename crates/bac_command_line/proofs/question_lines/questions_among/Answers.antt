@@ -5,7 +5,7 @@ use Rattle.std.proofs.lemmas.Option.{slice_get-get_or}
 use Rattle.bac_npdu.specs.Views.{peer_view}
 use Rattle.bac_simulate.proofs.Appending.{drop_seen}
 use Rattle.bac_command_line.specs.AskedLines.{line_view, questions_from}
-use Rattle.bac_command_line.proofs.ReadLines.{bad_line_read, none_more_read, one_more_read}
+use Rattle.bac_command_line.proofs.ReadLines.{bad_line_read, none_more_read, one_more_read, same_fault}
 use Rattle.bac_command_line.proofs.question_lines.questions_among.Goals as goal
 
 pub loop-place-preserved : goal.loop-place-preserved
@@ -37,5 +37,5 @@ returns-in_err-add_line-clause-refused g c =
     rw (p.1, p.2)
     (λ e. bad_line_read (peer_view c.args.peer) (at.place + 1) (drop at.place (map (λ p. p.now) c.args.lines.now))
     (drop (at.place + 1) (map (λ p. p.now) c.args.lines.now)) _ (questions_from (peer_view c.args.peer) 1 (map (λ p. p.now) c.args.lines.now))
-    (drop_seen (λ p. p.now) c.args.lines.now at.place _ (slice_get-get_or c.args.lines.now at.place _ lt)) (c.in_err-add_line.ensures.refused e)
+    (drop_seen (λ p. p.now) c.args.lines.now at.place _ (slice_get-get_or c.args.lines.now at.place _ lt)) (c.in_err-add_line.ensures.refused (same_fault _ _ e))
     at.invariant.bad)
