@@ -1,0 +1,60 @@
+#!/usr/bin/env python3
+"""Measures the memory of idle nodes and of simulated networks: memory.py PROGRAM; docs/BENCHMARKS.md says more."""
+
+import subprocess
+import sys
+sys.dont_write_bytecode = True  # no __pycache__ beside the sources
+
+import tempfile
+import time
+from pathlib import Path
+
+PORT = 47_998
+
+
+def private(process):
+    """Kibibytes of memory that a process alone has."""
+    sizes = Path(f'/proc/{process}/smaps_rollup').read_text().splitlines()
+    return sum(int(line.split()[1]) for line in sizes if line.startswith(('Private_Clean:', 'Private_Dirty:')))
+
+
+def of_server(bac, slots):
+    with subprocess.Popen([bac, 'serve', '--port', str(PORT), '--slots', str(slots)], stderr=subprocess.DEVNULL) as child:
+        time.sleep(0.5)
+        found = private(child.pid)
+        child.terminate()
+    return found
+
+
+def of_network(bac, folder, nodes, rounds):
+    """The peak of a simulation of so many nodes, of which each asks the next one, so many times in all."""
+    script = Path(folder, 'script')
+    lines = [f'nodes {nodes}'] + [f'ask {n % nodes} {(n + 1) % nodes} read 0:5 85' for n in range(rounds)]
+    script.write_text('\n'.join(lines) + '\n')
+    with subprocess.Popen([sys.executable, '-c', PEAK, bac, 'simulate', str(script)], stdout=subprocess.PIPE, text=True) as child:
+        return int(child.stdout.read().split()[-1])
+
+
+# runs a command, and prints the peak of its resident memory in kibibytes
+PEAK = '''
+import resource, subprocess, sys
+subprocess.run(sys.argv[1:], stdout=subprocess.DEVNULL, check=True)
+print(resource.getrusage(resource.RUSAGE_CHILDREN).ru_maxrss)
+'''
+
+
+def main(words):
+    if len(words) != 1:
+        print('usage: memory.py PROGRAM', file=sys.stderr)
+        return 2
+    bac = str(Path(words[0]).resolve())
+    for slots in (1, 64, 256, 1_024):
+        print(f'bac serve, {slots} slots at each end: {of_server(bac, slots)} KiB of its own')
+    with tempfile.TemporaryDirectory() as folder:
+        for nodes in (1, 2, 4, 8, 16):
+            print(f'bac simulate, {nodes} nodes: peak {of_network(bac, folder, nodes, 0)} KiB; with 32 asks {of_network(bac, folder, nodes, 32)}')
+    return 0
+
+
+if __name__ == '__main__':
+    sys.exit(main(sys.argv[1:]))
