@@ -196,6 +196,18 @@ transactions=0 answered=0 rejected=0 aborted=0 unanswered=0 slowest=- findings=0
     ),
     ("x\n", "explain capture", ("", "no capture file\n", 2)),
     ("", "explain capture", ("", "no capture file\n", 2)),
+    (NO_FRAME, "explain --chart capture", ("      ms\n", "", 0)),
+    (
+        "\n\r\r\n\0\0",
+        "explain capture --mermaid --port 47824",
+        ("sequenceDiagram\n    %% frame 1: file ends early\n", "", 1),
+    ),
+    (
+        "x\n",
+        "explain --mermaid capture",
+        ("", "no capture file\n", 2),
+    ),
+    ("", "explain --chart missing", ("", "cannot read\n", 2)),
     ("", "explain missing", ("", "cannot read\n", 2)),
     ("", "explain starved", ("", "no memory\n", 4)),
     (NO_FRAME, "explain broken", ("", "cannot read\n", 2)),

@@ -17,6 +17,8 @@ const WORDS: &[(&str, &str)] = &[
     ("explain --help", "Usage: bac explain [OPTIONS] <FILE>"),
     ("explain --help", "Example: bac explain capture.pcapng"),
     ("explain --help", "--port <P>"),
+    ("explain --help", "--mermaid"),
+    ("explain x --chart --mermaid", "--mermaid"),
     ("explain x --port 65536", "65536"),
     ("check x --port 0", "0 is not in 1..=65535"),
     ("serve", "--port <P>"),
