@@ -31,16 +31,9 @@ def of_network(bac, folder, nodes, rounds):
     script = Path(folder, 'script')
     lines = [f'nodes {nodes}'] + [f'ask {n % nodes} {(n + 1) % nodes} read 0:5 85' for n in range(rounds)]
     script.write_text('\n'.join(lines) + '\n')
-    with subprocess.Popen([sys.executable, '-c', PEAK, bac, 'simulate', str(script)], stdout=subprocess.PIPE, text=True) as child:
-        return int(child.stdout.read().split()[-1])
-
-
-# runs a command, and prints the peak of its resident memory in kibibytes
-PEAK = '''
-import resource, subprocess, sys
-subprocess.run(sys.argv[1:], stdout=subprocess.DEVNULL, check=True)
-print(resource.getrusage(resource.RUSAGE_CHILDREN).ru_maxrss)
-'''
+    # GNU time is small itself: the kernel's peak of a child begins with what its parent had when it forked
+    timed = subprocess.run(['/usr/bin/time', '-f', '%M', bac, 'simulate', str(script)], stdout=subprocess.DEVNULL, stderr=subprocess.PIPE, text=True, check=True)
+    return int(timed.stderr.split()[-1])
 
 
 def main(words):

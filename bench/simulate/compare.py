@@ -20,7 +20,7 @@ def write_script(path):
     with open(path, 'w') as file:
         file.write('nodes 2\n')
         for number in range(0, 2 * ROUNDS, 2):
-            file.write(f'ask 0 1 read 0:5 85\ndeliver {number}\ndeliver {number + 1}\nadvance 1100\n')
+            file.write(f'ask 0 1 read 0:5 85\ndeliver {number}\ndeliver {number + 1}\nadvance 2200\n')
 
 
 def simulated(bac, script):
