@@ -16,11 +16,15 @@ none_left (suc count) order options short = go (nat_lt (length options) 5) refl 
     go true e other = refl
     go false e other = absurd (grind (arith, nat_tests, e, short))
 
--- what is told where one is left, and so many after it are looked at
-abbrev pub told : ℕ → Order → List ℕ → ℕ
-told count order options =
+-- what is told where one is left that does not end them, and so many after it are looked at
+abbrev pub told_on : ℕ → Order → List ℕ → ℕ
+told_on count order options =
     if number_of order 2 options == 9 then slice_index options 4 else
     resolution_in count order (drop (option_len (number_of order 2 (drop 2 options))) options)
+
+-- what is told where one is left
+abbrev pub told : ℕ → Order → List ℕ → ℕ
+told count order options = if number_of order 2 options == 0 then 6 else told_on count order options
 
 pub one_left : (count less : ℕ) (order : Order) (options : List ℕ) → count ≡ less + 1 → 5 ≤ length options
     → resolution_in count order options ≡ told less order options
@@ -34,19 +38,21 @@ one_left (suc count) less order options some long =
     go true e other = absurd (grind (arith, nat_tests, e, long))
     go false e other = refl
 
-pub is_resolution : (order : Order) (options : List ℕ) (other : ℕ) → number_of order 2 options ≡ 9
-    → (if number_of order 2 options == 9 then slice_index options 4 else other) ≡ slice_index options 4
-is_resolution order options other is = go (number_of order 2 options == 9) refl
+-- the option in front has that code
+pub is_code : (order : Order) (options : List ℕ) (code one other : ℕ) → number_of order 2 options ≡ code
+    → (if number_of order 2 options == code then one else other) ≡ one
+is_code order options code one other is = go (number_of order 2 options == code) refl
   where
-    go : (b : Bool) → (number_of order 2 options == 9) ≡ b → (if b then slice_index options 4 else other) ≡ slice_index options 4
+    go : (b : Bool) → (number_of order 2 options == code) ≡ b → (if b then one else other) ≡ one
     go true e = refl
     go false e = absurd (grind (arith, nat_tests, e, is))
 
-pub no_resolution : (order : Order) (options : List ℕ) (other : ℕ) → (number_of order 2 options ≡ 9 → ⊥)
-    → (if number_of order 2 options == 9 then slice_index options 4 else other) ≡ other
-no_resolution order options other is = go (number_of order 2 options == 9) refl
+-- it has another
+pub no_code : (order : Order) (options : List ℕ) (code one other : ℕ) → (number_of order 2 options ≡ code → ⊥)
+    → (if number_of order 2 options == code then one else other) ≡ other
+no_code order options code one other is = go (number_of order 2 options == code) refl
   where
-    go : (b : Bool) → (number_of order 2 options == 9) ≡ b → (if b then slice_index options 4 else other) ≡ other
+    go : (b : Bool) → (number_of order 2 options == code) ≡ b → (if b then one else other) ≡ other
     go true e = absurd (is (grind (arith, nat_tests, e)))
     go false e = refl
 

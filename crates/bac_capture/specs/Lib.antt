@@ -12,6 +12,7 @@ pub mod Runs
 pub mod Orders
 pub mod Forms
 pub mod Moments
+pub mod Options
 pub mod Files
 pub mod Blocks
 pub mod BlockViews

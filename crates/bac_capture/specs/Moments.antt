@@ -32,10 +32,12 @@ resolution_of exponent =
 abbrev pub option_len : ℕ → ℕ
 option_len size = 4 + (size + 3) / 4 * 4
 
--- the exponent that the options of an interface tell, by the one of code 9; 6 where there is none among so many
+-- the exponent that the options of an interface tell, by the one of code 9; 6 where there is none among so many, up to the one of
+-- code 0, which ends them
 unfoldable pub resolution_in : (count : ℕ) → Order → List ℕ → ℕ
 resolution_in zero order options = 6
 resolution_in (suc count) order options =
     if nat_lt (length options) 5 then 6 else
+    (if number_of order 2 options == 0 then 6 else
     (if number_of order 2 options == 9 then slice_index options 4 else
-    resolution_in count order (drop (option_len (number_of order 2 (drop 2 options))) options))
+    resolution_in count order (drop (option_len (number_of order 2 (drop 2 options))) options)))

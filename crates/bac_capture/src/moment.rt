@@ -5,6 +5,9 @@ ghost use Rattle.bac_capture.specs.Moments.{block_moment, option_len, record_mom
 
 use crate::order::Order;
 
+/// The code of the option that ends them.
+const END: u16 = 0;
+
 /// The code of an option that tells the unit of moments.
 const RESOLUTION: u16 = 9;
 
@@ -92,7 +95,11 @@ pub(crate) fn resolution_in(limit: usize, order: Order, options: &[u8]) -> u8
         if left.len() < 5 {
             return MICROSECONDS;
         }
-        if order.word(left) == RESOLUTION {
+        let code = order.word(left);
+        if code == END {
+            return MICROSECONDS;
+        }
+        if code == RESOLUTION {
             return left[4];
         }
         left = after_option(order, left);

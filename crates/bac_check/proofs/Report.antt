@@ -1,9 +1,9 @@
 -- Captures whose first octets were read apart.
-use Rattle.std.proofs.Common.{◌≡◌, ◌≤◌, ℕ, Bool, List, [], ◌++◌, length, take, drop, Option, Some, None, refl, sym, ap, subst, ◌∙◌, arith, length-take, take-append-drop}
+use Rattle.std.proofs.Common.{◌≡◌, ℕ, Bool, List, ◌++◌, take, drop, Option, Some, None, ap, subst, ◌∙◌, arith, length-take, take-append-drop}
 use Rattle.bac_capture.specs.declared.form.Form.{Form}
 use Rattle.bac_capture.specs.declared.order.Order.{Order}
 use Rattle.bac_capture.specs.Forms.{form_of}
-use Rattle.bac_capture.specs.Runs.{RUN_LIMIT, kept, IsRun}
+use Rattle.bac_capture.specs.Runs.{RUN_LIMIT, IsRun}
 use Rattle.bac_capture.proofs.Runs.{take_all}
 use Rattle.bac_text.specs.Statuses.{IsStop}
 use Rattle.bac_text.specs.declared.status.Status.{Status}

@@ -1,5 +1,5 @@
 -- Records and blocks that were taken, one after the other: what was told of each stands in front of what is told of the rest.
-use Rattle.std.proofs.Common.{◌≡◌, ◌+◌, ℕ, zero, suc, List, [], ◌++◌, Option, Some, None, Result, Ok, Err, refl, sym, ap, subst, ◌∙◌, append_assoc, append-nil}
+use Rattle.std.proofs.Common.{◌≡◌, ℕ, zero, suc, List, [], ◌++◌, Option, Some, None, Result, Ok, Err, refl, sym, subst, ◌∙◌, append_assoc, append-nil}
 use Rattle.std.specs.Io.KnownBytes.{Appends, Keeps}
 use Rattle.std.proofs.KnownBytes.{Appends-nil, Appends-trans, Appends-kept}
 use Rattle.bac_capture.specs.declared.fault.FileFault.{FileFault}
@@ -7,9 +7,9 @@ use Rattle.bac_capture.specs.Blocks.{LayoutView, FrameView, BlockView, FrameBloc
 use Rattle.bac_capture.specs.Files.{Record, Ended, Broken, Whole, record_at}
 use Rattle.bac_check.specs.declared.walk.Step.{Step}
 use Rattle.bac_check.specs.declared.walk.Step.TheVariants as step
-use Rattle.bac_check.specs.Walks.{Tells, Rest, IsFrame, IsBlock, IsWhole, IsNext, AreRead}
-use Rattle.bac_check.specs.Reports.{IsTold, IsPassed, IsBlockTaken, IsTaken, IsBroken, IsGoodTaken, IsWholeTaken, IsEnd}
-use Rattle.bac_check.specs.Reports.{IsRecordTaken, IsStep, IsWalkOf, AreWalked}
+use Rattle.bac_check.specs.Walks.{Tells, Rest, IsBlock, IsWhole, IsNext, AreRead}
+use Rattle.bac_check.specs.Reports.{IsPassed, IsTaken, IsWholeTaken}
+use Rattle.bac_check.specs.Reports.{IsRecordTaken, IsStep, AreWalked}
 
 kept_text : (old new : Option (List ℕ)) → Keeps old new → Appends old new []
 kept_text None new k = tt

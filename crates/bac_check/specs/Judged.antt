@@ -9,7 +9,6 @@ use Rattle.bac_capture.specs.Frames.{datagram_at}
 use Rattle.bac_capture.specs.Links.{link_kind_of}
 use Rattle.bac_capture.specs.Packets.{DatagramView}
 use Rattle.bac_text.specs.Layers.{IsFine, IsAtFault}
-use Rattle.bac_check.specs.declared.fault.CapturedFault.{CapturedFault}
 use Rattle.bac_check.specs.declared.fault.CapturedFault.TheVariants.{Link, Packet, Datagram, File}
 use Rattle.bac_check.specs.declared.fault.Verdict.{Verdict}
 use Rattle.bac_check.specs.declared.fault.Verdict.TheVariants.{Nothing, Good, Other, Bad}

@@ -1,6 +1,6 @@
 -- A capture file, record by record and block by block, and what is told of it by whoever watches: of a frame, and where the file cannot be read on. What is
 -- told is a text, and the watcher's state goes on with it.
-use Rattle.std.specs.Prelude.{◌≡◌, ℕ, zero, suc, ◌++◌, List, [], Result, Ok, Err, Option}
+use Rattle.std.specs.Prelude.{◌≡◌, ℕ, zero, suc, ◌++◌, List, [], Result, Ok, Err}
 use Rattle.bac_capture.specs.declared.fault.FileFault.{FileFault}
 use Rattle.bac_capture.specs.Blocks.{LayoutView, FrameView, BlockView, FrameBlock, SectionBlock, InterfaceBlock, OtherBlock, block_at, after}
 use Rattle.bac_capture.specs.Files.{Record, Ended, Broken, Whole, record_at}

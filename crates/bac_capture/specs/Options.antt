@@ -1,0 +1,13 @@
+-- Options of an interface, in the byte order with the highest octet first.
+use Rattle.std.specs.Prelude.{ℕ, List, [], ◌∷◌}
+
+-- an empty comment
+abbrev pub comment : List ℕ
+comment = 0 ∷ 1 ∷ 0 ∷ 0 ∷ []
+
+-- moments are in nanoseconds: the ninth power of a tenth of a second
+abbrev pub nanoseconds : List ℕ
+nanoseconds = 0 ∷ 9 ∷ 0 ∷ 1 ∷ 9 ∷ 0 ∷ 0 ∷ 0 ∷ []
+
+abbrev pub end_of_options : List ℕ
+end_of_options = 0 ∷ 0 ∷ 0 ∷ 0 ∷ []
