@@ -55,7 +55,14 @@ pub(crate) fn check<F: OpenFiles, O: Write, E: Write>(
         Err(status) => return status,
     };
     match BufReader::new(alloc, file) {
-        Ok(mut input) => check_capture_over(alloc, &mut input, Ports { also: port }, out, err),
+        Ok(mut input) => check_capture_over(
+            alloc,
+            &mut input,
+            Ports { also: port },
+            false,
+            out,
+            err,
+        ),
         Err(_) => no_memory(err),
     }
 }
