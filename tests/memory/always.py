@@ -2,7 +2,7 @@
 """Gives one function after the other a body that always answers that memory was refused, and sees that tests fail:
     python3 tests/memory/always.py [WORD..]
 takes the rows of always.tsv that have one of the words, or all: the crate, the file, the function, the error, and the crate whose tests are run, unproved, by
-`rt try`. Where a file has several functions of one name, a row has Type::name. A function that tests its arguments first is named by the one that it calls
+`rt try`; of a program with a file stdin each row there is a test. Where a file has several functions of one name, a row has Type::name. A function that tests its arguments first is named by the one that it calls
 after these tests, which only answers for memory, or as `name before TEXT`: the refusal stands before the line that begins so. It prints the tests that fail,
 and ends with a status other than 0 where none does."""
 
@@ -45,12 +45,26 @@ def refusing(text, function, error):
     return '\n'.join(lines)
 
 
+def rows_that_differ(folder):
+    """The titles of the rows of a program that print something else than its file stdout has."""
+    with open(folder / 'stdin') as rows:
+        ran = subprocess.run(['rt', 'try'], cwd=folder, stdin=rows, capture_output=True, text=True)
+    if 'ended status=0' not in ran.stderr:
+        raise SystemExit(f'{folder}: the rows did not run\n{ran.stderr}')
+    wanted, printed = ((text.split('\n=')) for text in ((folder / 'stdout').read_text(), ran.stdout))
+    return [row.split('\n')[0].replace(' ', '_') for row in wanted if row not in printed]
+
+
 def failing(row, folder):
     """The tests that fail in a copy of the repository with that body."""
     crate, file, function, error, tests = row
     path = folder / 'crates' / crate / file
     kept = path.read_text()
     path.write_text(refusing(kept, function, error))
+    if (folder / 'crates' / tests / 'stdin').exists():
+        differ = rows_that_differ(folder / 'crates' / tests)
+        path.write_text(kept)
+        return differ
     ran = subprocess.run(['rt', 'try', '--test'], cwd=folder / 'crates' / tests, capture_output=True, text=True)
     path.write_text(kept)
     said = ran.stdout + ran.stderr

@@ -6,7 +6,7 @@
 # no such test: one of a module memory, or with a name that ends in was_refused.
 set -eu
 top=$(cd "$(dirname "$0")/../.." && pwd)
-crates=${*:-bac_codec_tests bac_store_tests bac_node_tests bac_network_tests}
+crates=${*:-bac_codec_tests bac_node_tests bac_network_tests}
 for crate in $crates; do
     cd "$top/crates/$crate"
     mkdir -p out

@@ -62,6 +62,16 @@ impl Eq for CountedKey<'_> {
     ghost laws = { Prim.search (nat_cmp_total, comparing, rules) };
 }
 
+/// The calls that find a key.
+#[derive(Clone, Copy)]
+enum Call {
+    Rank,
+    Get,
+    GetMut,
+    Set,
+    Remove,
+}
+
 type Counted<'a> = IndexSlots<CountedKey<'a>, u8>;
 
 // All keys below a number, put in a scattered order.
@@ -133,7 +143,6 @@ fn compared<'a>(
         Call::GetMut => table.get_mut(&key).is_some(),
         Call::Set => table.set(&key, 1).is_some(),
         Call::Remove => table.remove(&key).is_some(),
-        _ => false,
     };
     if is_found {
         Some(comparisons.get())

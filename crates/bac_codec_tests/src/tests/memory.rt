@@ -1,0 +1,5 @@
+//! Run with each allocation refused in turn, too: `sh tests/memory/refused.sh`.
+use super::holds;
+
+mod codecs;
+mod stores;
