@@ -2,10 +2,11 @@
 """Gives one function after the other a body that always answers that memory was refused, and sees that tests fail:
     python3 tests/memory/always.py [WORD..]
 takes the rows of always.tsv that have one of the words, or all: the crate, the file, the function, the error, and the crate whose tests are run, unproved, by
-`rt try`. Where a file has several functions of one name, a row has Type::name. A function that tests its arguments first is named by the one that it calls
+`rt try`; of a program with a file stdin the rows of text. Where a file has several functions of one name, a row has Type::name. A function that tests its arguments first is named by the one that it calls
 after these tests, which only answers for memory, or as `name before TEXT`: the refusal stands before the line that begins so. It prints the tests that fail,
 and ends with a status other than 0 where none does."""
 
+import itertools
 import re
 import shutil
 import subprocess
@@ -45,13 +46,27 @@ def refusing(text, function, error):
     return '\n'.join(lines)
 
 
+def rows_otherwise(told, wanted):
+    """The places of the rows of which something else is told than has to be."""
+    if not told:
+        raise SystemExit('the rows did not run')
+    pairs = itertools.zip_longest(told.split('\n=')[1:], wanted.split('\n=')[1:])
+    return [f'row {place}' for place, (one, other) in enumerate(pairs, 1) if one != other]
+
+
 def failing(row, folder):
     """The tests that fail in a copy of the repository with that body."""
     crate, file, function, error, tests = row
     path = folder / 'crates' / crate / file
     kept = path.read_text()
     path.write_text(refusing(kept, function, error))
-    ran = subprocess.run(['rt', 'try', '--test'], cwd=folder / 'crates' / tests, capture_output=True, text=True)
+    runs = folder / 'crates' / tests
+    if (runs / 'stdin').exists():
+        with (runs / 'stdin').open() as rows:
+            ran = subprocess.run(['rt', 'try', '--seconds', '900'], cwd=runs, stdin=rows, capture_output=True, text=True)
+        path.write_text(kept)
+        return rows_otherwise(ran.stdout, (runs / 'stdout').read_text())
+    ran = subprocess.run(['rt', 'try', '--test'], cwd=runs, capture_output=True, text=True)
     path.write_text(kept)
     said = ran.stdout + ran.stderr
     if 'test result:' not in said:
