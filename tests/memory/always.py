@@ -6,6 +6,7 @@ takes the rows of always.tsv that have one of the words, or all: the crate, the 
 after these tests, which only answers for memory, or as `name before TEXT`: the refusal stands before the line that begins so. It prints the tests that fail,
 and ends with a status other than 0 where none does."""
 
+import itertools
 import re
 import shutil
 import subprocess
@@ -48,8 +49,8 @@ def refusing(text, function, error):
 def rows_that_differ(folder):
     """The titles of the rows of a program that print something else than its file stdout has."""
     with open(folder / 'stdin') as rows:
-        ran = subprocess.run(['rt', 'try'], cwd=folder, stdin=rows, capture_output=True, text=True)
-    if 'ended status=0' not in ran.stderr:
+        ran = subprocess.run(['rt', 'try', '--seconds', '900'], cwd=folder, stdin=rows, capture_output=True, text=True)
+    if not ran.stdout:
         raise SystemExit(f'{folder}: the rows did not run\n{ran.stderr}')
     wanted, printed = ((text.split('\n=')) for text in ((folder / 'stdout').read_text(), ran.stdout))
     return [row.split('\n')[0].replace(' ', '_') for row in wanted if row not in printed]

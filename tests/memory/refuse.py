@@ -1,6 +1,9 @@
 # For gdb's Python: runs a program of tests once, and then once for each allocation that it asked for, with that one refused.
 #     gdb -batch -nx -x tests/memory/refuse.py --args PROGRAM TEST
+# Where TEST is a file N.in, the program reads that, and has to print N.out; or nothing, where it ends with a status that says that its own memory was refused.
 # An allocation is a call of malloc or realloc after main began. It ends with a status other than 0 where a run does not pass.
+from pathlib import Path
+
 import gdb
 
 asked = []
@@ -34,7 +37,10 @@ def refuse():
 
 def begin():
     gdb.execute("tbreak main", to_string=True)
-    gdb.execute("run %s > /dev/null" % arguments, to_string=True)
+    if is_row:
+        gdb.execute("run < %s > %s" % (arguments, told), to_string=True)
+    else:
+        gdb.execute("run %s > /dev/null" % arguments, to_string=True)
 
 
 def end():
@@ -42,7 +48,13 @@ def end():
     crashed = gdb.selected_inferior().pid != 0
     if crashed:
         gdb.execute("kill")
-    return 255 if crashed else int(gdb.parse_and_eval("$_exitcode"))
+    status = 255 if crashed else int(gdb.parse_and_eval("$_exitcode"))
+    if not is_row or crashed:
+        return status
+    printed = told.read_text()
+    if status != 0:
+        return 254 if printed else 0
+    return 0 if printed == Path(arguments).with_suffix(".out").read_text() else 253
 
 
 def note_all():
@@ -71,6 +83,8 @@ def run(number):
 
 
 arguments = gdb.execute("show args", to_string=True).split('"')[1]
+is_row = arguments.endswith(".in")
+told = Path(arguments).with_suffix(".told")
 gdb.execute("set pagination off")
 gdb.execute("set confirm off")
 gdb.execute("set print inferior-events off")

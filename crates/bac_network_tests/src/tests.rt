@@ -1,47 +1,31 @@
-//! Worlds and scripts, in rows of text (`script` says how they are written). Here is what the tests share.
-use bac_node::Config;
+//! What no row of text says of nodes, worlds and scripts (all else is in the rows of bac_rows_run): worlds that are made up from numbers, long transfers and
+//! noise, refused memory and failing files, laws, and what is made of wrong settings. Here is what the tests share.
+use bac_network::World;
 use bac_npdu::LinkAddress;
 use bac_rows::holds;
+use bac_simulate::simulate_in;
 use bac_value::NoMemory;
 use std::alloc::Global;
 use std::test::Fail;
 
-mod anew;
-mod asks;
+mod alone;
 mod chance;
-mod changes;
-mod devices;
-mod endings;
 mod failing;
 mod faults;
-mod files;
 mod following;
 mod generated;
 mod journal;
-mod lives;
+mod laws;
+mod limits;
 mod long;
 mod memory;
-mod node;
-mod noise;
-mod playing;
-mod replies;
-mod requests;
-mod restarts;
 mod scene;
 mod sleeping;
 mod straight_runs;
-mod texts;
 mod transfer;
 mod twins;
-mod whole;
-mod worlds;
-mod wrong;
-mod wrong_rows;
 
-use bac_rows::script::Names;
-use scene::{Member, Scene, Table};
-use worlds::{all_play, is_wrong, played};
-use wrong::Wrong;
+use scene::{Member, Scene};
 
 /// Takes APDUs of 1,476 octets and any number of segments, with a window of 32, 64 slots at each end and the house store.
 const LARGE: Member = Member {
@@ -73,4 +57,22 @@ const SMALL_ONES: Scene = Scene {
 /// The link of the node with that number.
 fn link(number: u8) -> LinkAddress {
     [10, 0, 0, number, 0xBA, 0xC0]
+}
+
+/// What a script printed, what it complained of, and its exit status.
+#[derive(Drop)]
+struct Printed {
+    out: Vec<u8>,
+    err: Vec<u8>,
+    status: u8,
+}
+
+/// What lines print in a world; None where one of them has a fault.
+fn told(alloc: Global, world: &mut World, lines: &str) -> Option<Vec<u8>> {
+    let mut out = Vec::new(alloc);
+    let mut err = Vec::new(alloc);
+    match simulate_in(alloc, world, lines.as_bytes(), &mut out, &mut err).code() {
+        0 => Some(out),
+        _ => None,
+    }
 }

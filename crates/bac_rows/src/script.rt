@@ -2,15 +2,12 @@
 //!
 //! After a line that says what happens, each line that is printed stands behind two spaces. Lines that begin with `--` are comments.
 //! `FIRST,NEXT..LAST: ` before a line stands for that line once for each of these numbers.
-//! In a line `<name>` stands for a text that has this name, `{41*00}` for 41 times the digits, `{41/}` for 41 octets of which the one of number i is
+//! In a line `<name>` stands for the text that a line `name: text` of the names has, `{41*00}` for 41 times the digits, `{41/}` for 41 octets of which the one of number i is
 //! i / 256, `#` for the number in decimal, `{+6}` for a number that is greater by 6, `@` for the number modulo 256 in hexadecimal, `|` for the end of a
 //! line, and `_` for nothing.
 use crate::RowFault;
 use std::alloc::Global;
 use std::fmt::Write;
-
-/// Names, and the texts that they stand for.
-pub type Names = &'static [(&'static str, &'static str)];
 
 /// For which numbers a line stands: so many from the first on, each so much more than the one before it.
 #[derive(Clone, Copy)]
@@ -88,17 +85,19 @@ pub fn ranged(line: &str) -> Result<(Numbers, &str), RowFault> {
 }
 
 /// The text that a name stands for.
-fn text_of(names: Names, wanted: &str) -> Result<&'static str, RowFault> {
-    for (name, text) in names {
-        if *name == wanted {
-            return Ok(*text);
+fn text_of<'a>(names: &'a str, wanted: &str) -> Result<&'a str, RowFault> {
+    for line in names.lines() {
+        if let Some((name, text)) = line.split_once(": ") {
+            if name == wanted {
+                return Ok(text);
+            }
         }
     }
     Err(RowFault::NoLine)
 }
 
 /// A line with the texts in the place of their names.
-fn named(alloc: Global, names: Names, line: &str) -> Result<String, RowFault> {
+fn named(alloc: Global, names: &str, line: &str) -> Result<String, RowFault> {
     let mut out = String::with_capacity(alloc, 256)?;
     for (place, part) in line.split('<').enumerate() {
         if place == 0 {
@@ -171,7 +170,7 @@ fn numbered(alloc: Global, line: &str, number: u64) -> Result<String, RowFault> 
 }
 
 /// A line with its number, as it is typed or printed.
-pub fn spelled(alloc: Global, names: Names, line: &str, number: u64) -> Result<String, RowFault> {
+pub fn spelled(alloc: Global, names: &str, line: &str, number: u64) -> Result<String, RowFault> {
     let line = named(alloc, names, line)?;
     let line = filled(alloc, &line, number)?;
     numbered(alloc, &line, number)
@@ -179,13 +178,13 @@ pub fn spelled(alloc: Global, names: Names, line: &str, number: u64) -> Result<S
 
 /// A text without names or numbers, as it is typed.
 pub fn plain(alloc: Global, text: &str) -> Result<String, RowFault> {
-    spelled(alloc, &[], text, 0)
+    spelled(alloc, "", text, 0)
 }
 
 /// A line, once for each of its numbers, each with its end.
 pub fn add_lines(
     alloc: Global,
-    names: Names,
+    names: &str,
     line: &str,
     out: &mut Vec<u8>,
 ) -> Result<(), RowFault> {

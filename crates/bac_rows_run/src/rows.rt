@@ -1,6 +1,8 @@
 //! Rows one after the other.
+use crate::node_rows::play_node;
 use crate::scripts::Way;
-use crate::{nodes, scripts, sockets, words, worlds};
+use crate::worlds::play_world;
+use crate::{nodes, scripts, sockets, words};
 use bac_simulate::View;
 use std::alloc::Global;
 use std::io;
@@ -10,8 +12,11 @@ use std::net::Net;
 /// What plays a row.
 #[derive(Clone, Copy)]
 enum Kind {
-    Nodes,
+    /// What rows of nodes and of worlds behind it are played on.
+    Scene,
+    Node,
     World,
+    Nodes,
     Socket,
     /// One script, or one in each line.
     Script(Way),
@@ -19,14 +24,18 @@ enum Kind {
 }
 
 const KINDS: &[(&str, Kind)] = &[
-    ("nodes", Kind::Nodes),
+    ("scene", Kind::Scene),
+    ("node", Kind::Node),
     ("world", Kind::World),
+    ("nodes", Kind::Nodes),
     ("socket", Kind::Socket),
     ("script", Kind::Script(Way::Plain)),
     ("scripts", Kind::Scripts(Way::Plain)),
     ("noted", Kind::Scripts(Way::Noted)),
     ("chart", Kind::Script(Way::Shown(View::Chart))),
     ("mermaid", Kind::Script(Way::Shown(View::Mermaid))),
+    ("text", Kind::Script(Way::Shown(View::Text))),
+    ("texts", Kind::Scripts(Way::Shown(View::Text))),
 ];
 
 fn kind_of(word: &str) -> Option<Kind> {
@@ -38,34 +47,72 @@ fn kind_of(word: &str) -> Option<Kind> {
     None
 }
 
-/// A row's title and its lines; the title's first word says what plays it.
-fn play<R: Net + std::time::Clock>(
+/// Plays the lines of a row.
+fn play_lines<R: Net + std::time::Clock>(
     rt: &R,
     alloc: Global,
-    row: &str,
+    kind: Kind,
+    scene: &str,
+    lines: &str,
     out: &mut Vec<u8>,
 ) -> Option<()> {
-    let (title, lines) = row.trim_end_matches('\n').split_once('\n')?;
-    writeln!(out, "\n={title}").ok()?;
-    match kind_of(words::first(title).0)? {
+    match kind {
+        Kind::Scene => Some(()),
+        Kind::Node => play_node(alloc, scene, lines, out),
+        Kind::World => play_world(alloc, scene, lines, out),
         Kind::Nodes => nodes::play(alloc, lines, out),
-        Kind::World => worlds::play(alloc, lines, out),
         Kind::Socket => sockets::play(rt, alloc, lines, out),
         Kind::Script(way) => scripts::play(alloc, way, lines, out),
         Kind::Scripts(way) => scripts::play_lines(alloc, way, lines, out),
     }
 }
 
-/// Each row of a text, behind a `=`.
+/// Plays a row, once more where it can't be: memory may have been refused to it.
+fn play<R: Net + std::time::Clock>(
+    rt: &R,
+    alloc: Global,
+    kind: Kind,
+    scene: &str,
+    lines: &str,
+    out: &mut Vec<u8>,
+) -> io::Result<()> {
+    let begin = out.len();
+    if play_lines(rt, alloc, kind, scene, lines, out).is_some() {
+        return Ok(());
+    }
+    out.truncate(begin);
+    if play_lines(rt, alloc, kind, scene, lines, out).is_some() {
+        return Ok(());
+    }
+    out.truncate(begin);
+    out.write_all(b"?\n")
+}
+
+/// The title of a row, what plays it, and its lines.
+fn parted(row: &str) -> (&str, Option<Kind>, &str) {
+    let (title, lines) = row.split_once('\n').unwrap_or((row, ""));
+    (
+        title,
+        kind_of(words::first(title).0),
+        lines.trim_end_matches('\n'),
+    )
+}
+
+/// Each row of a text, behind a `=`. A scene is that of the rows behind it.
 pub(crate) fn play_all<R: Net + std::time::Clock>(
     rt: &R,
     alloc: Global,
     text: &str,
     out: &mut Vec<u8>,
 ) -> io::Result<()> {
+    let mut scene = "";
     for row in text.split('=').skip(1) {
-        if play(rt, alloc, row, out).is_none() {
-            out.write_all(b"?\n")?;
+        let (title, kind, lines) = parted(row);
+        writeln!(out, "\n={title}")?;
+        match kind {
+            Some(Kind::Scene) => scene = lines,
+            Some(kind) => play(rt, alloc, kind, scene, lines, out)?,
+            None => out.write_all(b"?\n")?,
         }
     }
     Ok(())

@@ -1,25 +1,19 @@
-//! Rows of a simulated world of the same two nodes: lines of scripts, and `log`.
-use crate::medium::End;
+//! Rows of a simulated world and its twin, which goes an event behind it: both are the same after each line.
+//!
+//! Lines are those of scripts, and a few more: `anew NODE WORDS` (the node restarts with the house store as it is after a request), `octets NODE LINK HEX` (a
+//! millisecond later they come from a link of that number; whether the node looks at them), `flow COUNT` (the first copies come in their order, each once),
+//! `stores` (of each node whether its store was the house's and is) and `log`. Where memory is refused to an event the world is as its twin, and the event is
+//! told again.
+use crate::playing::{Stage, play};
 use crate::printing::{print_asked, print_performed};
-use crate::side::config;
+use crate::scene::{house_after, link, nodes_of, overtake_of};
+use crate::words::first;
 use bac_commands::print_ended;
-use bac_network::{Fact, World};
+use bac_network::{Event, Fact, World, WorldFault};
 use bac_simulate::simulate_in;
 use bac_store::house;
 use std::alloc::Global;
 use std::io::Write;
-
-/// A world of the two nodes.
-fn world_of_two(alloc: Global) -> Option<World> {
-    let mut nodes = Vec::new(alloc);
-    nodes
-        .push((config(End::Client.link()), house(alloc).ok()?))
-        .ok()?;
-    nodes
-        .push((config(End::Server.link()), house(alloc).ok()?))
-        .ok()?;
-    World::new(alloc, nodes, 128).ok()
-}
 
 fn print_fact(alloc: Global, fact: &Fact, out: &mut Vec<u8>) -> Option<()> {
     match fact {
@@ -39,7 +33,7 @@ fn print_fact(alloc: Global, fact: &Fact, out: &mut Vec<u8>) -> Option<()> {
     }
 }
 
-/// `log`: what the world's log has.
+/// What a world's log has.
 fn print_log(alloc: Global, world: &World, out: &mut Vec<u8>) -> Option<()> {
     for fact in world.log() {
         print_fact(alloc, fact, out)?;
@@ -47,21 +41,142 @@ fn print_log(alloc: Global, world: &World, out: &mut Vec<u8>) -> Option<()> {
     Some(())
 }
 
-fn happens(alloc: Global, world: &mut World, line: &str, out: &mut Vec<u8>) -> Option<()> {
-    if line == "log" {
-        return print_log(alloc, world, out);
-    }
-    let mut err = Vec::new(alloc);
-    let status = simulate_in(alloc, world, line.as_bytes(), out, &mut err).code();
-    if status == 0 { Some(()) } else { None }
-}
-
-/// Plays the lines of a row.
-pub(crate) fn play(alloc: Global, lines: &str, out: &mut Vec<u8>) -> Option<()> {
-    let mut world = world_of_two(alloc)?;
-    for line in lines.lines() {
-        writeln!(out, "> {line}").ok()?;
-        happens(alloc, &mut world, line, out)?;
+/// Of each node whether its store was the house's, and is.
+fn print_stores(alloc: Global, world: &World, out: &mut Vec<u8>) -> Option<()> {
+    let fresh = house(alloc).ok()?;
+    for (node, store) in world.opening().iter().enumerate() {
+        let was_fresh = store.same(&fresh);
+        let is_fresh = world.store(node)?.same(&fresh);
+        writeln!(out, "{node} house {was_fresh} now {is_fresh}").ok()?;
     }
     Some(())
+}
+
+/// What a step that is in no script is told as; where memory was refused, as scripts tell it.
+fn print_step(world: &mut World, event: &Event, text: &str, out: &mut Vec<u8>) -> Option<()> {
+    match world.step(event) {
+        Ok(None) => writeln!(out, "{text}").ok(),
+        Err(WorldFault::NoMemory) => out.write_all(NO_MEMORY).ok(),
+        _ => None,
+    }
+}
+
+fn restart_anew(alloc: Global, world: &mut World, words: &str, out: &mut Vec<u8>) -> Option<()> {
+    let (node, words) = first(words);
+    let event = Event::Restart {
+        node: node.parse::<usize>().ok()?,
+        store: Some(house_after(alloc, words)?),
+    };
+    print_step(world, &event, "restarted anew", out)
+}
+
+/// Octets come a millisecond later. A node that looks at them knows the moment; nothing else comes of them.
+fn octets_come(alloc: Global, world: &mut World, words: &str, out: &mut Vec<u8>) -> Option<()> {
+    let (node, words) = first(words);
+    let (from, digits) = first(words);
+    let node = node.parse::<usize>().ok()?;
+    let event = Event::Noise {
+        node,
+        from: link(from.parse::<u8>().ok()?),
+        octets: hex::decode(alloc, digits).ok()?,
+    };
+    let _ = world.step(&Event::Advance { by: 1 }).ok()?;
+    let _ = world.step(&event).ok()?;
+    let is_heard = world.nodes().get(node)?.latest() == world.now();
+    let (copies, facts) = (world.copies().len(), world.log().len());
+    writeln!(out, "heard {is_heard} copies {copies} facts {facts}").ok()
+}
+
+/// So many copies come, each once and in the order of sending.
+fn flow(world: &mut World, words: &str, out: &mut Vec<u8>) -> Option<()> {
+    for number in 0..words.parse::<usize>().ok()? {
+        let _ = world.step(&Event::Deliver { number }).ok()?;
+    }
+    let (copies, facts) = (world.copies().len(), world.log().len());
+    writeln!(out, "copies {copies} facts {facts}").ok()
+}
+
+/// What is told of an event that its memory was refused to.
+const NO_MEMORY: &[u8] = b"line 1: fault 4\n";
+
+/// Tells what comes of a script's line; None where that is complained of.
+fn simulates(alloc: Global, world: &mut World, line: &str, out: &mut Vec<u8>) -> Option<()> {
+    let mut err = Vec::new(alloc);
+    let status = simulate_in(alloc, world, line.as_bytes(), out, &mut err).code();
+    let is_fault = out.starts_with(b"line 1: fault ");
+    if err.is_empty() && status == u8::from(is_fault) {
+        Some(())
+    } else {
+        None
+    }
+}
+
+/// Tells what comes of a line, into a text that is empty.
+fn happens(alloc: Global, world: &mut World, line: &str, out: &mut Vec<u8>) -> Option<()> {
+    let (verb, words) = first(line);
+    match verb.as_bytes() {
+        b"anew" => restart_anew(alloc, world, words, out),
+        b"octets" => octets_come(alloc, world, words, out),
+        b"flow" => flow(world, words, out),
+        b"stores" => print_stores(alloc, world, out),
+        b"log" => print_log(alloc, world, out),
+        _ => simulates(alloc, world, line, out),
+    }
+}
+
+/// Two worlds of a scene.
+#[derive(Drop)]
+struct Twins {
+    world: World,
+    twin: World,
+}
+
+impl Twins {
+    /// What comes of a line in the world; where memory is refused, the second time.
+    fn world_meets(&mut self, alloc: Global, line: &str) -> Option<Vec<u8>> {
+        let mut told = Vec::new(alloc);
+        happens(alloc, &mut self.world, line, &mut told)?;
+        if told.as_slice() == NO_MEMORY {
+            told.clear();
+            if !self.world.same(&self.twin) {
+                told.write_all(b"changed without memory\n").ok()?;
+            }
+            happens(alloc, &mut self.world, line, &mut told)?;
+        }
+        Some(told)
+    }
+}
+
+impl Stage for Twins {
+    fn meets(&mut self, alloc: Global, line: &str, out: &mut Vec<u8>) -> Option<()> {
+        let told = self.world_meets(alloc, line)?;
+        let mut other = Vec::new(alloc);
+        happens(alloc, &mut self.twin, line, &mut other)?;
+        if other.as_slice() == NO_MEMORY {
+            return None;
+        }
+        out.write_all(&told).ok()?;
+        if other != told {
+            out.write_all(b"otherwise at the twin\n").ok()?;
+        }
+        Some(())
+    }
+
+    fn is_sound(&self) -> bool {
+        self.world.same(&self.twin)
+    }
+}
+
+/// A world of a scene.
+fn world_of(alloc: Global, scene: &str) -> Option<World> {
+    World::new(alloc, nodes_of(alloc, scene, 0)?, overtake_of(scene)?).ok()
+}
+
+/// Plays the lines of a row in a world of a scene.
+pub(crate) fn play_world(alloc: Global, scene: &str, lines: &str, out: &mut Vec<u8>) -> Option<()> {
+    let twins = Twins {
+        world: world_of(alloc, scene)?,
+        twin: world_of(alloc, scene)?,
+    };
+    play(alloc, twins, scene, lines, out)
 }

@@ -66,23 +66,23 @@ fn count(number: &mut usize, is_one: bool) {
 }
 
 /// What was asked at that place of a log.
-fn asked_at(log: &[Fact], place: usize) -> Result<&OwnedRequest, Wrong> {
+fn asked_at(log: &[Fact], place: usize) -> Option<&OwnedRequest> {
     match log.get(place) {
-        Some(Fact::Asked { request, .. }) => Ok(request),
-        _ => Err(Wrong::Line),
+        Some(Fact::Asked { request, .. }) => Some(request),
+        _ => None,
     }
 }
 
 /// What was performed there, and the reply.
-fn performed_at(log: &[Fact], place: usize) -> Result<(&OwnedRequest, &OwnedReply), Wrong> {
+fn performed_at(log: &[Fact], place: usize) -> Option<(&OwnedRequest, &OwnedReply)> {
     match log.get(place) {
-        Some(Fact::Performed { request, reply, .. }) => Ok((request, reply)),
-        _ => Err(Wrong::Line),
+        Some(Fact::Performed { request, reply, .. }) => Some((request, reply)),
+        _ => None,
     }
 }
 
-fn must(is: bool) -> Result<(), Wrong> {
-    if is { Ok(()) } else { Err(Wrong::Line) }
+fn must(is: bool) -> Option<()> {
+    if is { Some(()) } else { None }
 }
 
 /// What a log says so far: the stores that it leads to, how often each node has restarted, and what became of each ask.
@@ -97,14 +97,14 @@ pub(super) struct Followed {
 
 impl Followed {
     /// Nothing yet, from the stores that a world began with.
-    pub(super) fn from_opening(alloc: Global, world: &World) -> Result<Followed, Wrong> {
+    pub(super) fn from_opening(alloc: Global, world: &World) -> Option<Followed> {
         let mut stores = Vec::new(alloc);
         let mut lives = Vec::new(alloc);
         for store in world.opening() {
-            stores.push(store.copy(alloc)?)?;
-            lives.push(0)?;
+            stores.push(store.copy(alloc).ok()?).ok()?;
+            lives.push(0).ok()?;
         }
-        Ok(Followed {
+        Some(Followed {
             seen: 0,
             stores,
             lives,
@@ -118,7 +118,7 @@ impl Followed {
     }
 
     /// Each fact that is new in the world's log may stand there, and the stores are then those of the world.
-    pub(super) fn follow(&mut self, alloc: Global, world: &World) -> Result<(), Wrong> {
+    pub(super) fn follow(&mut self, alloc: Global, world: &World) -> Option<()> {
         let log = world.log();
         for place in self.seen..log.len() {
             self.note(alloc, log, place)?;
@@ -127,13 +127,13 @@ impl Followed {
         for (node, store) in self.stores.iter().enumerate() {
             match world.store(node) {
                 Some(there) => must(there.same(store))?,
-                None => return Err(Wrong::Line),
+                None => return None,
             }
         }
-        Ok(())
+        Some(())
     }
 
-    fn note(&mut self, alloc: Global, log: &[Fact], place: usize) -> Result<(), Wrong> {
+    fn note(&mut self, alloc: Global, log: &[Fact], place: usize) -> Option<()> {
         match log.get(place) {
             Some(
                 Fact::Asked {
@@ -147,7 +147,7 @@ impl Followed {
             Some(Fact::Ended { number, how }) => self.ends(log, *number, how),
             Some(Fact::Changed { node, change }) => self.changes(alloc, *node, change),
             Some(Fact::Restarted { node, store }) => self.restarts(alloc, *node, store),
-            None => Err(Wrong::Line),
+            None => None,
         }
     }
 
@@ -156,37 +156,27 @@ impl Followed {
     }
 
     /// An ask has the next number.
-    fn asked(
-        &mut self,
-        place: usize,
-        number: usize,
-        client: usize,
-        server: usize,
-    ) -> Result<(), Wrong> {
+    fn asked(&mut self, place: usize, number: usize, client: usize, server: usize) -> Option<()> {
         must(number == self.deeds.len())?;
         let life = self.life(client);
-        self.deeds.push(Deed {
-            client,
-            server,
-            life,
-            asked: place,
-            performed: None,
-            has_ended: false,
-        })?;
+        self.deeds
+            .push(Deed {
+                client,
+                server,
+                life,
+                asked: place,
+                performed: None,
+                has_ended: false,
+            })
+            .ok()?;
         count(&mut self.counts.asked_anew, life > 0);
-        Ok(())
+        Some(())
     }
 
     /// An ask is performed for the first time: what was asked, and with the reply of its server's store.
-    fn performs(
-        &mut self,
-        alloc: Global,
-        log: &[Fact],
-        place: usize,
-        number: usize,
-    ) -> Result<(), Wrong> {
+    fn performs(&mut self, alloc: Global, log: &[Fact], place: usize, number: usize) -> Option<()> {
         let Some(deed) = self.deeds.get_mut(number) else {
-            return Err(Wrong::Line);
+            return None;
         };
         must(deed.performed.is_none())?;
         deed.performed = Some(place);
@@ -194,20 +184,20 @@ impl Followed {
         let (request, reply) = performed_at(log, place)?;
         must(same_request(request, asked_at(log, asked)?))?;
         let Some(store) = self.stores.get_mut(server) else {
-            return Err(Wrong::Line);
+            return None;
         };
-        let given = store.perform(alloc, &request.as_request())?;
+        let given = store.perform(alloc, &request.as_request()).ok()?;
         must(same_reply(reply, &given))?;
         let is_anew = self.life(server) > 0;
         count(&mut self.counts.performed, true);
         count(&mut self.counts.performed_anew, is_anew);
-        Ok(())
+        Some(())
     }
 
     /// An ask ends for the first time, in the life of its client in which it was asked; where it is answered, with the reply with which it was performed.
-    fn ends(&mut self, log: &[Fact], number: usize, how: &Ending) -> Result<(), Wrong> {
+    fn ends(&mut self, log: &[Fact], number: usize, how: &Ending) -> Option<()> {
         let Some(deed) = self.deeds.get_mut(number) else {
-            return Err(Wrong::Line);
+            return None;
         };
         must(!deed.has_ended)?;
         deed.has_ended = true;
@@ -219,37 +209,37 @@ impl Followed {
         } = *deed;
         must(life == self.life(client))?;
         let Ending::Answered(answer) = how else {
-            return Ok(());
+            return Some(());
         };
         let Some(place) = performed else {
-            return Err(Wrong::Line);
+            return None;
         };
         must(same_reply(answer, performed_at(log, place)?.1))?;
         count(&mut self.counts.answered, true);
-        Ok(())
+        Some(())
     }
 
-    fn changes(&mut self, alloc: Global, node: usize, change: &Change) -> Result<(), Wrong> {
+    fn changes(&mut self, alloc: Global, node: usize, change: &Change) -> Option<()> {
         let Some(store) = self.stores.get_mut(node) else {
-            return Err(Wrong::Line);
+            return None;
         };
         must(store.change(alloc, change).is_ok())?;
         count(&mut self.counts.changes, true);
-        Ok(())
+        Some(())
     }
 
     /// A node restarts, with the store that it has or another one.
-    fn restarts(&mut self, alloc: Global, node: usize, with: &Option<Store>) -> Result<(), Wrong> {
+    fn restarts(&mut self, alloc: Global, node: usize, with: &Option<Store>) -> Option<()> {
         let Some(store) = self.stores.get_mut(node) else {
-            return Err(Wrong::Line);
+            return None;
         };
         if let Some(with) = with {
-            *store = with.copy(alloc)?;
+            *store = with.copy(alloc).ok()?;
         }
         if let Some(life) = self.lives.get_mut(node) {
             count(life, true);
         }
         count(&mut self.counts.restarts, true);
-        Ok(())
+        Some(())
     }
 }

@@ -56,28 +56,23 @@ fn pause(chance: &mut Chance) -> Event {
 }
 
 /// Some octets behind those.
-fn octets_after(
-    alloc: Global,
-    begin: &str,
-    count: usize,
-    chance: &mut Chance,
-) -> Result<Vec<u8>, Wrong> {
-    let mut octets = octets_of(alloc, begin)?;
+fn octets_after(alloc: Global, begin: &str, count: usize, chance: &mut Chance) -> Option<Vec<u8>> {
+    let mut octets = octets_of(alloc, begin).ok()?;
     for _ in 0..count {
-        octets.push((chance.below(4) % 256) as u8)?;
+        octets.push((chance.below(4) % 256) as u8).ok()?;
     }
-    Ok(octets)
+    Some(octets)
 }
 
 /// A node changes a property or a file of its own.
-pub(super) fn change(alloc: Global, chance: &mut Chance) -> Result<Event, Wrong> {
+pub(super) fn change(alloc: Global, chance: &mut Chance) -> Option<Event> {
     let node = chance.below(3);
     let Some((kind, instance, property, begin, count)) = CHANGES.get(chance.below(CHANGES.len()))
     else {
-        return Err(Wrong::Line);
+        return None;
     };
     let Some(object) = ObjectIdentifier::new(*kind, *instance) else {
-        return Err(Wrong::Line);
+        return None;
     };
     let octets = octets_after(alloc, begin, *count, chance)?;
     let change = match property {
@@ -88,24 +83,24 @@ pub(super) fn change(alloc: Global, chance: &mut Chance) -> Result<Event, Wrong>
         },
         None => Change::File { object, octets },
     };
-    Ok(Event::Change { node, change })
+    Some(Event::Change { node, change })
 }
 
 /// A node restarts, seldom with the house store in place of its own.
-pub(super) fn restart(alloc: Global, chance: &mut Chance) -> Result<Event, Wrong> {
+pub(super) fn restart(alloc: Global, chance: &mut Chance) -> Option<Event> {
     let node = chance.below(3);
     let store = match chance.below(3) {
-        0 => Some(house(alloc)?),
+        0 => Some(house(alloc).ok()?),
         _ => None,
     };
-    Ok(Event::Restart { node, store })
+    Some(Event::Restart { node, store })
 }
 
 /// A node asks the one after it.
-fn question(alloc: Global, chance: &mut Chance) -> Result<Event, Wrong> {
+fn question(alloc: Global, chance: &mut Chance) -> Option<Event> {
     let client = chance.below(3);
     let words = REQUESTS.get(chance.below(REQUESTS.len())).unwrap_or(&"");
-    Ok(Event::Ask {
+    Some(Event::Ask {
         client,
         server: client.saturating_add(1).checked_rem(3).unwrap_or(0),
         limits: limits_of(alloc, "0270")?,
@@ -113,31 +108,30 @@ fn question(alloc: Global, chance: &mut Chance) -> Result<Event, Wrong> {
     })
 }
 
-fn next_event(alloc: Global, world: &World, chance: &mut Chance) -> Result<Event, Wrong> {
+fn next_event(alloc: Global, world: &World, chance: &mut Chance) -> Option<Event> {
     match chance.below(22) {
         0..=2 => question(alloc, chance),
         3 => restart(alloc, chance),
         20 | 21 => change(alloc, chance),
-        4 | 5 => Ok(pause(chance)),
-        6..=8 => Ok(Event::Tick {
+        4 | 5 => Some(pause(chance)),
+        6..=8 => Some(Event::Tick {
             node: chance.below(3),
         }),
-        _ => Ok(delivery(world, chance)),
+        _ => Some(delivery(world, chance)),
     }
 }
 
 /// An event happens, if there is such a copy; whether a change was refused.
-fn happens(world: &mut World, event: &Event) -> Result<bool, Wrong> {
+fn happens(world: &mut World, event: &Event) -> Option<bool> {
     match world.step(event) {
-        Ok(_) | Err(WorldFault::NoSuchDatagram) => Ok(false),
-        Err(WorldFault::BadChange(_)) => Ok(true),
-        Err(WorldFault::NoMemory) => Err(Wrong::NoMemory),
-        Err(_) => Err(Wrong::Line),
+        Ok(_) | Err(WorldFault::NoSuchDatagram) => Some(false),
+        Err(WorldFault::BadChange(_)) => Some(true),
+        Err(_) => None,
     }
 }
 
 /// A world goes by a schedule, and its log is followed after each tenth event; what happened in it.
-fn goes(alloc: Global, seed: u64) -> Result<Counts, Wrong> {
+fn goes(alloc: Global, seed: u64) -> Option<Counts> {
     let mut world = SMALL_ONES.world(alloc)?;
     let mut followed = Followed::from_opening(alloc, &world)?;
     let mut chance = Chance::of(seed);
@@ -150,7 +144,7 @@ fn goes(alloc: Global, seed: u64) -> Result<Counts, Wrong> {
         }
     }
     let counts = followed.counts();
-    Ok(Counts { refused, ..counts })
+    Some(Counts { refused, ..counts })
 }
 
 /// Whether enough happened in all worlds.
@@ -165,8 +159,8 @@ fn generated_worlds_with_changes_and_restarts(rt: HostRuntime) -> Result<(), Fai
     let mut counts = Counts::none();
     for seed in 0..SEEDS {
         match goes(rt.alloc(), seed) {
-            Ok(more) => counts = counts.plus(more),
-            Err(wrong) => return Err(wrong.about("a generated world")),
+            Some(more) => counts = counts.plus(more),
+            None => return Err(Fail::from("a generated world")),
         }
     }
     if !is_enough(&counts) {

@@ -1,72 +1,65 @@
 //! A small journal.
+use super::*;
 use bac_journal::{Journal, Note, Transaction};
-use bac_npdu::LinkAddress;
-use bac_value::NoMemory;
-use std::alloc::Global;
-use std::test::Fail;
 
-const FIRST: LinkAddress = [127, 0, 0, 1, 0xBA, 0xC0];
-
-const SECOND: LinkAddress = [127, 0, 0, 1, 0xBA, 0xC1];
-
-fn links(alloc: Global) -> Result<Vec<LinkAddress>, NoMemory> {
+fn journal(alloc: Global) -> Result<Journal, NoMemory> {
     let mut links = Vec::new(alloc);
-    links.push(FIRST)?;
-    links.push(SECOND)?;
-    Ok(links)
+    links.push(link(0))?;
+    links.push(link(1))?;
+    Journal::new(alloc, links)
+}
+
+fn is_empty(journal: &Journal) -> bool {
+    journal.copies().is_empty() && journal.notes().is_empty()
 }
 
 #[test]
 fn a_journal_is_made_and_its_clock_goes_on(rt: HostRuntime) -> Result<(), Fail> {
-    let alloc = rt.alloc();
-    let mut journal = Journal::new(alloc, links(alloc)?)?;
+    let mut journal = journal(rt.alloc())?;
     journal.reserve(33)?;
-    assert_eq!(&rt; journal.advance(5), Some(()));
-    assert_eq!(&rt; journal.advance(u64::MAX), None);
-    assert_eq!(&rt; journal.now(), 5);
-    assert_eq!(&rt; journal.copies().len(), 0);
-    assert_eq!(&rt; journal.notes().len(), 0);
-    assert_eq!(&rt; journal.is_deliverable(32, 0), None);
+    let went = journal.advance(5);
+    let has_room = journal.advance(u64::MAX);
+    assert!(rt; went == Some(()) && has_room == None && journal.now() == 5);
+    assert!(rt; is_empty(&journal) && journal.is_deliverable(32, 0) == None);
     Ok(())
+}
+
+fn finds(journal: &Journal) -> bool {
+    let are_links = journal.link_of(0) == Some(link(0)) && journal.link_of(2) == None;
+    let are_nodes = journal.node_of(link(1)) == Some(1) && journal.node_of(link(2)) == None;
+    are_links && are_nodes && !journal.is_noise(link(0), &[]) && journal.is_noise(link(2), &[])
 }
 
 #[test]
 fn nodes_are_found_by_their_links(rt: HostRuntime) -> Result<(), Fail> {
-    let alloc = rt.alloc();
-    let journal = Journal::new(alloc, links(alloc)?)?;
-    assert_eq!(&rt; journal.node_of(SECOND), Some(1));
-    assert_eq!(&rt; journal.node_of([127, 0, 0, 1, 0xBA, 0xC2]), None);
-    assert_eq!(&rt; journal.link_of(0), Some(FIRST));
-    assert_eq!(&rt; journal.link_of(2), None);
-    assert_eq!(&rt; journal.is_noise(FIRST, &[]), false);
-    assert_eq!(&rt; journal.is_noise([127, 0, 0, 1, 0xBA, 0xC2], &[]), true);
+    let journal = journal(rt.alloc())?;
+    assert!(rt; finds(&journal));
     Ok(())
+}
+
+const ASKED: Transaction = Transaction {
+    client: 0,
+    server: 1,
+    invoke_id: 3,
+};
+
+/// Whether the first ticket alone is noted.
+fn is_noted(journal: &Journal) -> bool {
+    let is_found = journal.ask_of(0, 0) == Some(0);
+    let is_alone = journal.ask_of(1, 0) == None && journal.ask_of(0, 1) == None;
+    journal.newest(&ASKED) == Some(0) && is_found && is_alone
 }
 
 #[test]
 fn a_noted_ask_is_found(rt: HostRuntime) -> Result<(), Fail> {
-    let alloc = rt.alloc();
-    let fresh = Journal::new(alloc, links(alloc)?)?;
-    let mut made = Vec::new(alloc);
-    made.push(FIRST)?;
-    made.push(SECOND)?;
-    let mut journal = Journal::new(alloc, made)?;
-    let asked = Transaction {
-        client: 0,
-        server: 1,
-        invoke_id: 3,
-    };
+    let fresh = journal(rt.alloc())?;
+    let mut journal = journal(rt.alloc())?;
     journal.reserve_note(0)?;
     journal.note(Note {
-        transaction: asked,
+        transaction: ASKED,
         ticket: 0,
     });
-    assert_eq!(&rt; journal.same(&fresh), false);
-    assert_eq!(&rt; fresh.same(&fresh), true);
-    assert_eq!(&rt; journal.newest(&asked), Some(0));
-    assert_eq!(&rt; fresh.newest(&asked), None);
-    assert_eq!(&rt; journal.ask_of(0, 0), Some(0));
-    assert_eq!(&rt; journal.ask_of(1, 0), None);
-    assert_eq!(&rt; journal.ask_of(0, 1), None);
+    assert!(rt; is_noted(&journal) && fresh.newest(&ASKED) == None);
+    assert!(rt; !journal.same(&fresh) && fresh.same(&fresh));
     Ok(())
 }

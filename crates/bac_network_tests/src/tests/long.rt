@@ -175,8 +175,8 @@ const DESCRIPTION: Transfer = Transfer {
 fn all_go(alloc: Global, rows: &[Transfer]) -> Result<(), Fail> {
     for row in rows {
         match row.goes(alloc) {
-            Ok(is) => holds(is, row.ask)?,
-            Err(wrong) => return Err(wrong.about(row.ask)),
+            Some(is) => holds(is, row.ask)?,
+            None => return Err(Fail::from(row.ask)),
         }
     }
     Ok(())

@@ -43,11 +43,10 @@ enum Driver {
     Ticks,
 }
 
-fn happens(world: &mut World, event: &Event) -> Result<(), Wrong> {
+fn happens(world: &mut World, event: &Event) -> Option<()> {
     match world.step(event) {
-        Ok(_) | Err(WorldFault::BadChange(_)) => Ok(()),
-        Err(WorldFault::NoMemory) => Err(Wrong::NoMemory),
-        Err(_) => Err(Wrong::Line),
+        Ok(_) | Err(WorldFault::BadChange(_)) => Some(()),
+        Err(_) => None,
     }
 }
 
@@ -70,40 +69,40 @@ fn next_due(world: &World) -> u64 {
 }
 
 /// Nodes do what is due.
-fn settle(world: &mut World, driver: Driver) -> Result<(), Wrong> {
+fn settle(world: &mut World, driver: Driver) -> Option<()> {
     for node in 0..world.nodes().len() {
         if matches!(driver, Driver::Ticks) || is_due(world, node) {
             happens(world, &Event::Tick { node })?;
         }
     }
-    Ok(())
+    Some(())
 }
 
 /// An event happens, and then nodes do what is due.
-fn goes_on(world: &mut World, driver: Driver, event: &Event) -> Result<(), Wrong> {
+fn goes_on(world: &mut World, driver: Driver, event: &Event) -> Option<()> {
     happens(world, event)?;
     settle(world, driver)
 }
 
 /// So many milliseconds pass, one after the other.
-fn tick(world: &mut World, milliseconds: u64) -> Result<(), Wrong> {
+fn tick(world: &mut World, milliseconds: u64) -> Option<()> {
     for _ in 0..milliseconds {
         goes_on(world, Driver::Ticks, &Event::Advance { by: 1 })?;
     }
-    Ok(())
+    Some(())
 }
 
 /// The same, in one sleep after the other: each ends where something is due, and the last one where all have passed.
-fn sleep(world: &mut World, milliseconds: u64) -> Result<(), Wrong> {
+fn sleep(world: &mut World, milliseconds: u64) -> Option<()> {
     let end = world.now().saturating_add(milliseconds);
     for _ in 0..milliseconds {
         let by = next_due(world).min(end).saturating_sub(world.now());
         goes_on(world, Driver::Sleeps, &Event::Advance { by })?;
         if world.now() == end {
-            return Ok(());
+            return Some(());
         }
     }
-    Err(Wrong::Line)
+    None
 }
 
 /// A world, once for each driver.
@@ -114,25 +113,25 @@ struct Drivers {
 }
 
 impl Drivers {
-    fn new(alloc: Global) -> Result<Drivers, Wrong> {
-        Ok(Drivers {
+    fn new(alloc: Global) -> Option<Drivers> {
+        Some(Drivers {
             sleeps: SMALL_ONES.world(alloc)?,
             ticks: SMALL_ONES.world(alloc)?,
         })
     }
 
-    fn go_on(&mut self, event: &Event) -> Result<(), Wrong> {
+    fn go_on(&mut self, event: &Event) -> Option<()> {
         goes_on(&mut self.sleeps, Driver::Sleeps, event)?;
         goes_on(&mut self.ticks, Driver::Ticks, event)
     }
 
-    fn pass(&mut self, milliseconds: u64) -> Result<(), Wrong> {
+    fn pass(&mut self, milliseconds: u64) -> Option<()> {
         sleep(&mut self.sleeps, milliseconds)?;
         tick(&mut self.ticks, milliseconds)
     }
 
     /// One node asks another one, or itself, which is refused.
-    fn ask(&mut self, alloc: Global, chance: &mut Chance) -> Result<(), Wrong> {
+    fn ask(&mut self, alloc: Global, chance: &mut Chance) -> Option<()> {
         let words = REQUESTS.get(chance.below(REQUESTS.len())).unwrap_or(&"");
         let event = Event::Ask {
             client: chance.below(3),
@@ -144,16 +143,16 @@ impl Drivers {
     }
 
     /// One of the last copies comes.
-    fn deliver(&mut self, chance: &mut Chance) -> Result<(), Wrong> {
+    fn deliver(&mut self, chance: &mut Chance) -> Option<()> {
         let copies = self.sleeps.copies().len();
         match copies.checked_sub(chance.below(6).saturating_add(1)) {
             Some(number) => self.go_on(&Event::Deliver { number }),
-            None => Ok(()),
+            None => Some(()),
         }
     }
 
     /// Some time passes: mostly little, and at most 3,100 milliseconds.
-    fn wait(&mut self, chance: &mut Chance) -> Result<(), Wrong> {
+    fn wait(&mut self, chance: &mut Chance) -> Option<()> {
         let most = match chance.below(4) {
             0 | 1 => 10,
             2 => 2_100,
@@ -164,23 +163,23 @@ impl Drivers {
     }
 
     /// Something comes from a link of no node.
-    fn hear(&mut self, alloc: Global, chance: &mut Chance) -> Result<(), Wrong> {
+    fn hear(&mut self, alloc: Global, chance: &mut Chance) -> Option<()> {
         let node = chance.below(3);
         let digits = NOISE.get(chance.below(NOISE.len())).unwrap_or(&"");
-        let octets = octets_of(alloc, digits)?;
+        let octets = octets_of(alloc, digits).ok()?;
         let from = link(9);
         self.go_on(&Event::Noise { node, from, octets })
     }
 
     /// Both stand still.
-    fn pause(&mut self, chance: &mut Chance) -> Result<(), Wrong> {
+    fn pause(&mut self, chance: &mut Chance) -> Option<()> {
         let least = PAUSES.get(chance.below(PAUSES.len())).copied().unwrap_or(0);
         let more = chance.below(900) as u64;
         let by = least.saturating_add(more);
         self.go_on(&Event::Advance { by })
     }
 
-    fn follow(&mut self, alloc: Global, chance: &mut Chance) -> Result<(), Wrong> {
+    fn follow(&mut self, alloc: Global, chance: &mut Chance) -> Option<()> {
         match chance.below(64) {
             0..=11 => self.ask(alloc, chance),
             12..=16 => self.wait(chance),
@@ -199,10 +198,10 @@ impl Drivers {
     }
 
     /// The same, and nothing differs once all nodes know the same latest moment.
-    fn are_same(&mut self) -> Result<bool, Wrong> {
+    fn are_same(&mut self) -> Option<bool> {
         let are_alike = self.are_alike();
         settle(&mut self.sleeps, Driver::Ticks)?;
-        Ok(are_alike && self.sleeps.same(&self.ticks))
+        Some(are_alike && self.sleeps.same(&self.ticks))
     }
 }
 
@@ -223,18 +222,22 @@ fn counted(world: &World) -> (usize, usize) {
 }
 
 /// Both drivers go by a schedule, and then all is sent again until it is given up; what is counted then, None where they differ.
-fn gone_by_both(alloc: Global, seed: u64) -> Result<Option<(usize, usize)>, Wrong> {
+fn gone_by_both(alloc: Global, seed: u64) -> Option<(usize, usize)> {
     let mut drivers = Drivers::new(alloc)?;
     let mut chance = Chance::of(seed);
     for _ in 0..150u8 {
         drivers.follow(alloc, &mut chance)?;
         if !drivers.are_alike() {
-            return Ok(None);
+            return None;
         }
     }
     drivers.pass(12_500)?;
     let is_same = drivers.are_same()?;
-    Ok(is_same.then_some(counted(&drivers.ticks)))
+    if is_same {
+        Some(counted(&drivers.ticks))
+    } else {
+        None
+    }
 }
 
 #[test]
@@ -243,7 +246,7 @@ fn sleeping_and_ticking_send_the_same(rt: HostRuntime) -> Result<(), Fail> {
     let mut expired = 0usize;
     for seed in 0..SEEDS {
         match gone_by_both(rt.alloc(), seed) {
-            Ok(Some(counts)) => {
+            Some(counts) => {
                 sent = sent.saturating_add(counts.0);
                 expired = expired.saturating_add(counts.1);
             }

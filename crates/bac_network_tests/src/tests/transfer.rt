@@ -1,7 +1,6 @@
 //! What is printed of a transfer in segments of which each copy comes once, in the order of sending.
 use super::scene::Scene;
-use super::worlds::run;
-use super::wrong::Wrong;
+use super::told;
 use bac_rows::script::{plain, spelled};
 use std::alloc::Global;
 use std::fmt::Write;
@@ -51,19 +50,19 @@ struct Lines {
 
 impl Lines {
     /// A copy with these octets after its BVLL.
-    fn send(&mut self, ends: &str, frame: &str) -> Result<(), Wrong> {
+    fn send(&mut self, ends: &str, frame: &str) -> Option<()> {
         let len = (frame.len() / 2).saturating_add(4);
         let copy = self.copies;
-        writeln!(self.text, "sent {copy} {ends} 810A{len:04X}{frame}")?;
+        writeln!(self.text, "sent {copy} {ends} 810A{len:04X}{frame}").ok()?;
         self.copies = copy.saturating_add(1);
-        Ok(())
+        Some(())
     }
 
-    fn nothing(&mut self, count: usize) -> Result<(), Wrong> {
+    fn nothing(&mut self, count: usize) -> Option<()> {
         for _ in 0..count {
-            self.text.push_str("nothing\n")?;
+            self.text.push_str("nothing\n").ok()?;
         }
-        Ok(())
+        Some(())
     }
 }
 
@@ -79,18 +78,12 @@ fn piece_of(service: &str, size: usize, number: usize) -> (&str, bool) {
 
 impl Way {
     /// A segment.
-    fn segment(
-        &self,
-        alloc: Global,
-        service: &str,
-        number: usize,
-        out: &mut Lines,
-    ) -> Result<(), Wrong> {
+    fn segment(&self, alloc: Global, service: &str, number: usize, out: &mut Lines) -> Option<()> {
         let (octets, is_last) = piece_of(service, self.piece, number);
         let front = if is_last { self.last } else { self.more };
         let choice = self.choice;
         let number = number % 256;
-        let frame = format!(in alloc; "{front}{number:02X}{choice}{octets}")?;
+        let frame = format!(in alloc; "{front}{number:02X}{choice}{octets}").ok()?;
         out.send(self.to, &frame)
     }
 
@@ -102,7 +95,7 @@ impl Way {
         from: usize,
         to: usize,
         out: &mut Lines,
-    ) -> Result<(), Wrong> {
+    ) -> Option<()> {
         for number in from..to {
             self.segment(alloc, service, number, out)?;
         }
@@ -110,21 +103,15 @@ impl Way {
     }
 
     /// The SegmentACK of the segments before that number.
-    fn ack(&self, alloc: Global, to: usize, out: &mut Lines) -> Result<(), Wrong> {
+    fn ack(&self, alloc: Global, to: usize, out: &mut Lines) -> Option<()> {
         let (front, granted) = (self.ack, self.granted);
         let number = to.saturating_sub(1) % 256;
-        let frame = format!(in alloc; "{front}{number:02X}{granted}")?;
+        let frame = format!(in alloc; "{front}{number:02X}{granted}").ok()?;
         out.send(self.back, &frame)
     }
 
     /// All windows.
-    fn windows(
-        &self,
-        alloc: Global,
-        service: &str,
-        done: &str,
-        out: &mut Lines,
-    ) -> Result<(), Wrong> {
+    fn windows(&self, alloc: Global, service: &str, done: &str, out: &mut Lines) -> Option<()> {
         let octets = service.len() / 2;
         let count = octets.div_ceil(self.piece.max(1));
         let mut from = 0usize;
@@ -138,45 +125,46 @@ impl Way {
             }
             self.window(alloc, service, from, to, out)?;
             if to == count {
-                out.text.push_str(done)?;
+                out.text.push_str(done).ok()?;
             }
             self.ack(alloc, to, out)?;
             from = to;
         }
-        Ok(())
+        Some(())
     }
 }
 
 impl Transfer {
     /// What should be printed.
-    fn wanted(&self, alloc: Global) -> Result<String, Wrong> {
+    fn wanted(&self, alloc: Global) -> Option<String> {
         let mut lines = Lines {
-            text: plain(alloc, self.before)?,
+            text: plain(alloc, self.before).ok()?,
             copies: self.sent_before,
         };
-        let service = plain(alloc, self.service)?;
-        let done = plain(alloc, self.done)?;
+        let service = plain(alloc, self.service).ok()?;
+        let done = plain(alloc, self.done).ok()?;
         self.way.windows(alloc, &service, &done, &mut lines)?;
         let Lines { mut text, copies } = lines;
-        text.push_str(&spelled(alloc, &[], self.after, copies as u64)?)?;
-        Ok(text)
+        text.push_str(&spelled(alloc, "", self.after, copies as u64).ok()?)
+            .ok()?;
+        Some(text)
     }
 
     /// The ask, and each copy once.
-    fn script(&self, alloc: Global) -> Result<String, Wrong> {
-        let mut script = plain(alloc, self.ask)?;
-        script.push('\n')?;
+    fn script(&self, alloc: Global) -> Option<String> {
+        let mut script = plain(alloc, self.ask).ok()?;
+        script.push('\n').ok()?;
         for number in 0..self.copies {
-            writeln!(script, "deliver {number}")?;
+            writeln!(script, "deliver {number}").ok()?;
         }
-        Ok(script)
+        Some(script)
     }
 
     /// Whether it is printed so.
-    pub(super) fn goes(&self, alloc: Global) -> Result<bool, Wrong> {
+    pub(super) fn goes(&self, alloc: Global) -> Option<bool> {
         let mut world = self.scene.world(alloc)?;
         let script = self.script(alloc)?;
-        let out = run(alloc, &mut world, &script)?.told()?;
-        Ok(out.as_slice() == self.wanted(alloc)?.as_bytes())
+        let out = told(alloc, &mut world, &script)?;
+        Some(out.as_slice() == self.wanted(alloc)?.as_bytes())
     }
 }

@@ -1,5 +1,4 @@
 //! Fronts of datagrams that come between the datagrams themselves: log, copies, stores and nodes are the same with noise and without.
-use super::worlds::run;
 use super::*;
 use bac_network::{Event, World};
 use bac_rows::script::{ranged, spelled};
@@ -43,71 +42,71 @@ fn shorten(noise: &mut Event) {
 }
 
 /// Each proper front of these octets comes to a node from a link of no node, the longest first.
-fn fronts(alloc: Global, world: &mut World, node: usize, whole: &[u8]) -> Result<(), Wrong> {
+fn fronts(alloc: Global, world: &mut World, node: usize, whole: &[u8]) -> Option<()> {
     let mut noise = Event::Noise {
         node,
         from: link(9),
-        octets: Vec::from_slice(alloc, whole)?,
+        octets: Vec::from_slice(alloc, whole).ok()?,
     };
     for _ in 0..whole.len() {
         shorten(&mut noise);
         if !matches!(world.step(&noise), Ok(None)) {
-            return Err(Wrong::Line);
+            return None;
         }
     }
-    Ok(())
+    Some(())
 }
 
 /// Each proper front of these octets comes to each node.
-fn fronts_for_all(alloc: Global, world: &mut World, whole: &[u8]) -> Result<(), Wrong> {
+fn fronts_for_all(alloc: Global, world: &mut World, whole: &[u8]) -> Option<()> {
     for node in 0..world.nodes().len() {
         fronts(alloc, world, node, whole)?;
     }
-    Ok(())
+    Some(())
 }
 
 /// The octets of a copy.
-fn octets_of(alloc: Global, world: &World, number: usize) -> Result<Vec<u8>, Wrong> {
+fn octets_of(alloc: Global, world: &World, number: usize) -> Option<Vec<u8>> {
     match world.copies().get(number) {
-        Some(copy) => Ok(Vec::from_slice(alloc, &copy.octets)?),
-        None => Err(Wrong::Line),
+        Some(copy) => Vec::from_slice(alloc, &copy.octets).ok(),
+        None => None,
     }
 }
 
 /// Each proper front of each datagram that was sent comes to each node.
-fn noise(alloc: Global, world: &mut World) -> Result<(), Wrong> {
+fn noise(alloc: Global, world: &mut World) -> Option<()> {
     for number in 0..world.copies().len() {
         let whole = octets_of(alloc, world, number)?;
         fronts_for_all(alloc, world, &whole)?;
     }
-    Ok(())
+    Some(())
 }
 
 /// A line happens, for each of its numbers, with noise before each copy that comes where that is so; nothing is refused.
-fn happens(alloc: Global, world: &mut World, line: &str, is_noisy: bool) -> Result<(), Wrong> {
-    let (numbers, line) = ranged(line)?;
+fn happens(alloc: Global, world: &mut World, line: &str, is_noisy: bool) -> Option<()> {
+    let (numbers, line) = ranged(line).ok()?;
     let is_noisy = is_noisy && line.starts_with("deliver");
     for place in 0..numbers.count {
         if is_noisy {
             noise(alloc, world)?;
         }
-        let line = spelled(alloc, &[], line, numbers.at(place))?;
-        let out = run(alloc, world, &line)?.told()?;
+        let line = spelled(alloc, "", line, numbers.at(place)).ok()?;
+        let out = told(alloc, world, &line)?;
         if out.starts_with(b"refused") || out.starts_with(b"line") {
-            return Err(Wrong::Line);
+            return None;
         }
     }
-    Ok(())
+    Some(())
 }
 
 /// The world after all lines. At last each node hears noise, so that all know the same latest moment.
-fn after(alloc: Global, scene: &Scene, lines: &str, is_noisy: bool) -> Result<World, Wrong> {
+fn after(alloc: Global, scene: &Scene, lines: &str, is_noisy: bool) -> Option<World> {
     let mut world = scene.world(alloc)?;
     for line in lines.lines() {
         happens(alloc, &mut world, line, is_noisy)?;
     }
     fronts_for_all(alloc, &mut world, &[0])?;
-    Ok(world)
+    Some(world)
 }
 
 /// Whether the worlds with noise and without are the same, with so many facts and copies.
@@ -117,12 +116,32 @@ fn are_same(
     lines: &str,
     facts: usize,
     copies: usize,
-) -> Result<bool, Wrong> {
+) -> Option<bool> {
     let quiet = after(alloc, scene, lines, false)?;
     let noisy = after(alloc, scene, lines, true)?;
     let is_counted = quiet.log().len() == facts && quiet.copies().len() == copies;
-    Ok(is_counted && quiet.same(&noisy))
+    Some(is_counted && quiet.same(&noisy))
 }
+
+/// A small client, a large server whose description has 4,000 octets, a client that takes no segments, and one that takes two.
+const FOUR_READERS: Scene = Scene {
+    members: &[
+        SMALL,
+        Member {
+            after: "write 2:1 28 75FE0FA0{4000*00}",
+            ..LARGE
+        },
+        Member {
+            takes: "0005",
+            ..LARGE
+        },
+        Member {
+            takes: "0215",
+            ..LARGE
+        },
+    ],
+    overtake: 128,
+};
 
 /// A client and a server that take APDUs of 50 octets.
 const TWO: Scene = Scene {
@@ -132,11 +151,11 @@ const TWO: Scene = Scene {
 
 #[test]
 fn noise_around_a_write(rt: HostRuntime) {
-    assert!(rt; matches!(are_same(rt.alloc(), &TWO, WRITE, 3, 9), Ok(true)));
+    assert!(rt; matches!(are_same(rt.alloc(), &TWO, WRITE, 3, 9), Some(true)));
 }
 
 #[test]
 fn noise_around_reads(rt: HostRuntime) {
-    let scene = replies::FOUR_READERS;
-    assert!(rt; matches!(are_same(rt.alloc(), &scene, READS, 6, 234), Ok(true)));
+    let scene = FOUR_READERS;
+    assert!(rt; matches!(are_same(rt.alloc(), &scene, READS, 6, 234), Some(true)));
 }

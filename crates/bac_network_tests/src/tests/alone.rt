@@ -1,7 +1,6 @@
 //! One end, one ticket and one entry by itself, where a node can't say it: moments that go back, and when a tick finds something to do.
-use super::wrong::Wrong;
 use super::*;
-use bac_apdu::{Window, read};
+use bac_apdu::{Limits, Window, read};
 use bac_ends::{Context, PeerKey, Settings};
 use bac_entry::{Entry, IdleReaction, Reaction, idle_gets};
 use bac_npdu::Peer;
@@ -9,13 +8,27 @@ use bac_requester::{AskFault, Client, Requester};
 use bac_responder::Responder;
 use bac_script::read_request_words;
 use bac_slots::{IndexSlots, Same};
+use bac_store::house;
 use bac_ticket::{OutgoingRequest, RequestWay, Ticket};
+
+/// Takes APDUs of 1,476 octets and any number of segments, and the same of 50.
+const LIMITS: Limits = Limits {
+    max_apdu: 5,
+    takes_segments: true,
+    max_segments: 7,
+};
+
+const SMALL_APDUS: Limits = Limits {
+    max_apdu: 0,
+    takes_segments: true,
+    max_segments: 7,
+};
 
 /// A read of the present-value of analog-input 5, with invoke ID 0.
 const READ: &[u8] = b"\x00\x05\x00\x0C\x0C\x00\x00\x00\x05\x19\x55";
 
 const SETTINGS: Settings = Settings {
-    limits: LARGE,
+    limits: LIMITS,
     window: Window { size: 32 },
 };
 
@@ -39,24 +52,26 @@ const READS: &[Read] = &[
 ];
 
 /// Whether each read is performed as its row says.
-fn are_performed(alloc: Global, rows: &[Read]) -> Result<bool, Wrong> {
-    let mut end: Responder<IndexSlots<PeerKey, Entry>> = Responder::new(alloc, 2, None)?;
-    let mut store = house(alloc)?;
+fn are_performed(alloc: Global, rows: &[Read]) -> Option<bool> {
+    let mut end: Responder<IndexSlots<PeerKey, Entry>> = Responder::new(alloc, 2, None).ok()?;
+    let mut store = house(alloc).ok()?;
     let Ok(apdu) = read(READ) else {
-        return Err(Wrong::Line);
+        return None;
     };
     for row in rows {
-        let served = end.on(alloc, &SETTINGS, row.0, &peer(row.1), &apdu, &mut store)?;
+        let served = end
+            .on(alloc, &SETTINGS, row.0, &peer(row.1), &apdu, &mut store)
+            .ok()?;
         if served.act.is_some() != row.2 || served.sends.len() != 1 {
-            return Ok(false);
+            return Some(false);
         }
     }
-    Ok(true)
+    Some(true)
 }
 
 #[test]
 fn entries_out_of_order(rt: HostRuntime) {
-    assert!(rt; are_performed(rt.alloc(), READS) == Ok(true));
+    assert!(rt; are_performed(rt.alloc(), READS) == Some(true));
 }
 
 /// A moment, a peer that is asked, and the ticket and its invoke ID, or the fault.
@@ -73,34 +88,42 @@ const AFTER: &[Asking] = &[
 type Indexed = Requester<IndexSlots<PeerKey, Client>>;
 
 /// Whether each ask is accepted or refused as its row says.
-fn are_accepted(alloc: Global, end: &mut Indexed, rows: &[Asking]) -> Result<bool, Wrong> {
+fn are_accepted(alloc: Global, end: &mut Indexed, rows: &[Asking]) -> Option<bool> {
     let Ok(request) = read_request_words(alloc, &[b"read", b"0:5", b"85"]) else {
-        return Err(Wrong::Line);
+        return None;
     };
     for row in rows {
-        let asked = end.ask(alloc, &SETTINGS, row.0, &peer(row.1), &SMALL, &request);
+        let asked = end.ask(
+            alloc,
+            &SETTINGS,
+            row.0,
+            &peer(row.1),
+            &SMALL_APDUS,
+            &request,
+        );
         if asked.map(|asked| (asked.ticket, asked.invoke_id)) != row.2 {
-            return Ok(false);
+            return Some(false);
         }
     }
-    Ok(true)
+    Some(true)
 }
 
 /// Whether a Reject of peer 2 at 3,000 ends a ticket.
-fn is_rejected(alloc: Global, end: &mut Indexed) -> Result<bool, Wrong> {
+fn is_rejected(alloc: Global, end: &mut Indexed) -> Option<bool> {
     let Ok(apdu) = read(b"\x60\x00\x09") else {
-        return Err(Wrong::Line);
+        return None;
     };
-    Ok(
-        end.on(alloc, &SETTINGS, 3_000, &peer(2), &apdu)?
+    Some(
+        end.on(alloc, &SETTINGS, 3_000, &peer(2), &apdu)
+            .ok()?
             .ended
             .is_some(),
     )
 }
 
-fn make_room(alloc: Global) -> Result<bool, Wrong> {
-    let mut end: Indexed = Requester::new(alloc, 2, None)?;
-    Ok(
+fn make_room(alloc: Global) -> Option<bool> {
+    let mut end: Indexed = Requester::new(alloc, 2, None).ok()?;
+    Some(
         are_accepted(alloc, &mut end, BEFORE)?
             && is_rejected(alloc, &mut end)?
             && are_accepted(alloc, &mut end, AFTER)?,
@@ -109,7 +132,7 @@ fn make_room(alloc: Global) -> Result<bool, Wrong> {
 
 #[test]
 fn slots_out_of_order(rt: HostRuntime) {
-    assert!(rt; make_room(rt.alloc()) == Ok(true));
+    assert!(rt; make_room(rt.alloc()) == Some(true));
 }
 
 /// Invoke ID 0 of peer 2.
@@ -126,14 +149,14 @@ fn context(moment: u64) -> Context {
 }
 
 /// What a read begins at moment 5.
-fn begun(alloc: Global) -> Result<Reaction, Wrong> {
-    let mut store = house(alloc)?;
+fn begun(alloc: Global) -> Option<Reaction> {
+    let mut store = house(alloc).ok()?;
     let Ok(apdu) = read(READ) else {
-        return Err(Wrong::Line);
+        return None;
     };
-    match idle_gets(alloc, &context(5), true, &apdu, &mut store)? {
-        IdleReaction::Begins(reaction) => Ok(reaction),
-        IdleReaction::Stays(_) => Err(Wrong::Line),
+    match idle_gets(alloc, &context(5), true, &apdu, &mut store).ok()? {
+        IdleReaction::Begins(reaction) => Some(reaction),
+        IdleReaction::Stays(_) => None,
     }
 }
 
@@ -145,7 +168,7 @@ fn is_entry(entry: &Entry) -> bool {
 
 #[test]
 fn an_entry(rt: HostRuntime) -> Result<(), Fail> {
-    let Ok(reaction) = begun(rt.alloc()) else {
+    let Some(reaction) = begun(rt.alloc()) else {
         return Err(Fail::from("no entry"));
     };
     assert!(rt; is_entry(&reaction.entry));
@@ -153,13 +176,13 @@ fn an_entry(rt: HostRuntime) -> Result<(), Fail> {
 }
 
 /// A ticket of an ask at moment 1,000, of service choice 7, though its service data are those of a read.
-fn ticket(alloc: Global) -> Result<Ticket, Wrong> {
-    let service = Vec::from_slice(alloc, b"\x0C\x00\x00\x00\x05\x19\x55")?;
-    let Ok(way) = RequestWay::of(&SETTINGS, &SMALL, service.len()) else {
-        return Err(Wrong::Line);
+fn ticket(alloc: Global) -> Option<Ticket> {
+    let service = Vec::from_slice(alloc, b"\x0C\x00\x00\x00\x05\x19\x55").ok()?;
+    let Ok(way) = RequestWay::of(&SETTINGS, &SMALL_APDUS, service.len()) else {
+        return None;
     };
     let request = OutgoingRequest::new(7, way, service);
-    Ok(Ticket::begin(alloc, &context(1_000), request)?.ticket)
+    Some(Ticket::begin(alloc, &context(1_000), request).ok()?.ticket)
 }
 
 /// Whether its timer is set, and it expires after 60,000 ms.
@@ -172,19 +195,19 @@ fn is_timed(ticket: &Ticket) -> bool {
 }
 
 /// Whether that holds, and a request is none of its answers.
-fn ignores_a_request(alloc: Global) -> Result<bool, Wrong> {
+fn ignores_a_request(alloc: Global) -> Option<bool> {
     let ticket = ticket(alloc)?;
     let is_timed = is_timed(&ticket);
     let Ok(apdu) = read(READ) else {
-        return Err(Wrong::Line);
+        return None;
     };
     match ticket.gets(alloc, &context(2_000), &apdu) {
-        Ok(reaction) => Ok(is_timed && reaction.sends.is_empty() && reaction.ended.is_none()),
-        Err(_) => Err(Wrong::NoMemory),
+        Ok(reaction) => Some(is_timed && reaction.sends.is_empty() && reaction.ended.is_none()),
+        Err(_) => None,
     }
 }
 
 #[test]
 fn a_ticket(rt: HostRuntime) {
-    assert!(rt; ignores_a_request(rt.alloc()) == Ok(true));
+    assert!(rt; ignores_a_request(rt.alloc()) == Some(true));
 }

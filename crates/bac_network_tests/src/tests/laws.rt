@@ -18,6 +18,7 @@ ghost use Rattle.bac_world.specs.Node.{Node as PlainNode, NodeAsks, NodeOn, Node
 ghost use Rattle.bac_world.specs.Ticks.{IsDue, IsRepeated};
 
 use super::*;
+use bac_node::Node;
 use bac_world::node::{repeats_fall, retries_fall, tick_repeats_what_is_due};
 
 /// After an ask each open ticket was open before it, as it is, or is that of the ask, with all its repeats and retries.
@@ -51,7 +52,7 @@ fn tickets_in_a_tick(node: &Node)
 }
 
 fn are_lawful(alloc: Global) -> Result<(), Fail> {
-    let node = house_node(alloc, OWN)?;
+    let node = limits::house_node(alloc, 1)?;
     tickets_after_an_ask(&node);
     replies_after_a_datagram(&node);
     tickets_in_a_tick(&node);

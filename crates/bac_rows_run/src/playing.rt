@@ -1,0 +1,102 @@
+//! Scripts are gone by, line by line.
+//!
+//! After a line that says what happens, each line that is told stands behind two spaces; lines that begin with `--` are comments, and `bac_rows` says how lines
+//! are shortened. Of a script is printed how many events it has; and where something else is told of a line than stands there, `! `, the line and what is.
+use bac_rows::script::{add_lines, ranged, spelled};
+use std::alloc::Global;
+use std::io::Write;
+
+/// What goes by a script, twice: once beside it.
+pub(crate) trait Stage: Drop {
+    /// Tells what comes of an event at both; None where the line says nothing, or the row's own memory is refused.
+    fn meets(&mut self, alloc: Global, line: &str, out: &mut Vec<u8>) -> Option<()>;
+
+    /// Whether both are the same.
+    fn is_sound(&self) -> bool;
+}
+
+/// A stage on which a script is played, in the texts of a scene.
+#[derive(Drop)]
+struct Player<'a, S: Stage> {
+    alloc: Global,
+    stage: S,
+    scene: &'a str,
+    /// The last event's line, what was told of it, and what should have been.
+    line: &'a str,
+    told: Vec<u8>,
+    wanted: Vec<u8>,
+    events: u64,
+}
+
+impl<'a, S: Stage> Player<'a, S> {
+    /// An event's line, for each of its numbers.
+    fn meets(&mut self, line: &'a str) -> Option<()> {
+        self.line = line;
+        let (numbers, line) = ranged(line).ok()?;
+        for place in 0..numbers.count {
+            let line = spelled(self.alloc, self.scene, line, numbers.at(place)).ok()?;
+            self.stage.meets(self.alloc, &line, &mut self.told)?;
+            self.events = self.events.saturating_add(1);
+        }
+        if !self.stage.is_sound() {
+            self.told.write_all(b"not the same\n").ok()?;
+        }
+        Some(())
+    }
+
+    /// Tells what came of the last event, if it is not what should have.
+    fn compare(&mut self, out: &mut Vec<u8>) -> Option<()> {
+        if self.told != self.wanted {
+            writeln!(out, "! {}", self.line).ok()?;
+            out.write_all(&self.told).ok()?;
+        }
+        self.told.clear();
+        self.wanted.clear();
+        Some(())
+    }
+
+    /// A line of a script.
+    fn goes(&mut self, line: &'a str, out: &mut Vec<u8>) -> Option<()> {
+        if line.is_empty() || line.starts_with("--") {
+            return Some(());
+        }
+        match line.strip_prefix("  ") {
+            Some(line) => add_lines(self.alloc, self.scene, line, &mut self.wanted).ok(),
+            None => {
+                self.compare(out)?;
+                self.meets(line)
+            }
+        }
+    }
+
+    fn goes_by(&mut self, lines: &'a str, out: &mut Vec<u8>) -> Option<()> {
+        for line in lines.lines() {
+            self.goes(line, out)?;
+        }
+        self.compare(out)
+    }
+}
+
+/// A stage goes by what scripts begin with in a scene, and by a script.
+pub(crate) fn play<S: Stage>(
+    alloc: Global,
+    stage: S,
+    scene: &str,
+    script: &str,
+    out: &mut Vec<u8>,
+) -> Option<()> {
+    let mut player = Player {
+        alloc,
+        stage,
+        scene,
+        line: "",
+        told: Vec::new(alloc),
+        wanted: Vec::new(alloc),
+        events: 0,
+    };
+    if let Some((_, first)) = scene.split_once("\nfirst\n") {
+        player.goes_by(first, out)?;
+    }
+    player.goes_by(script, out)?;
+    writeln!(out, "{} events", player.events).ok()
+}

@@ -1,0 +1,77 @@
+//! What rows of nodes and of worlds are played on: the lines of the last row of kind `scene`.
+//!
+//! `node TAKES WINDOW SLOTS SLOTS` is a node: what it takes, as the first two octets of its requests say it, its window, and its slots for asks and for replies.
+//! It has the house store, behind them the words of a request as it is after that. `overtake LIMIT` is the world's, 128 where there is none. `NAME: TEXT` is
+//! a text that lines may name. Behind a line `first` stands what each script begins with.
+use crate::words::{first, number, request_of};
+use bac_apdu::{Apdu, Limits, read};
+use bac_node::Config;
+use bac_npdu::LinkAddress;
+use bac_rows::script::plain;
+use bac_store::{Store, house};
+use std::alloc::Global;
+
+/// The link of the node with that number.
+pub(crate) fn link(number: u8) -> LinkAddress {
+    [10, 0, 0, number, 0xBA, 0xC0]
+}
+
+/// What a node takes, as the first two octets of its requests say it.
+pub(crate) fn limits_of(alloc: Global, digits: &str) -> Option<Limits> {
+    let mut octets = hex::decode(alloc, digits).ok()?;
+    octets.extend_from_slice(&[0, 12]).ok()?;
+    match read(&octets) {
+        Ok(Apdu::ConfirmedRequest { limits, .. }) => Some(limits),
+        _ => None,
+    }
+}
+
+/// The house store, after a request where there is one.
+pub(crate) fn house_after(alloc: Global, words: &str) -> Option<Store> {
+    let mut store = house(alloc).ok()?;
+    if !words.is_empty() {
+        let words = plain(alloc, words).ok()?;
+        let request = request_of(alloc, &words)?;
+        let _ = store.perform(alloc, &request.as_request()).ok()?;
+    }
+    Some(store)
+}
+
+/// What a node of that number is made of.
+fn made_of(alloc: Global, number: u8, line: &str) -> Option<(Config, Store)> {
+    let (takes, rest) = first(line);
+    let (window, rest) = first(rest);
+    let (client_slots, rest) = first(rest);
+    let (reply_slots, after) = first(rest);
+    let config = Config {
+        link: link(number),
+        limits: limits_of(alloc, takes)?,
+        window: window.parse::<u8>().ok()?,
+        client_slots: client_slots.parse::<usize>().ok()?,
+        reply_slots: reply_slots.parse::<usize>().ok()?,
+    };
+    Some((config, house_after(alloc, after)?))
+}
+
+/// What the nodes of a scene are made of, by numbers from that one on.
+pub(crate) fn nodes_of(alloc: Global, scene: &str, from: u8) -> Option<Vec<(Config, Store)>> {
+    let mut nodes = Vec::new(alloc);
+    let mut number = from;
+    for line in scene.lines() {
+        if let Some(line) = line.strip_prefix("node ") {
+            nodes.push(made_of(alloc, number, line)?).ok()?;
+            number = number.wrapping_add(1);
+        }
+    }
+    Some(nodes)
+}
+
+/// How many later copies may overtake one in the world of a scene.
+pub(crate) fn overtake_of(scene: &str) -> Option<u64> {
+    for line in scene.lines() {
+        if let Some(limit) = line.strip_prefix("overtake ") {
+            return number(limit);
+        }
+    }
+    Some(128)
+}

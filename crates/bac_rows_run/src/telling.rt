@@ -1,0 +1,88 @@
+//! What came of an event at a node: what was dropped, performed and sent, and how tickets ended.
+use crate::printing::spelled;
+use crate::scene::link;
+use bac_commands::{print_ended, print_ending_line};
+use bac_ends::Datagram;
+use bac_entry::Effect;
+use bac_node::Outcome;
+use bac_responder::Act;
+use bac_service::{AnyRequest, OwnedRequest};
+use bac_ticket::Ending;
+use std::alloc::Global;
+use std::io::Write;
+
+/// The plain frame of an APDU. Of a Confirmed-Request a reply is expected.
+pub(crate) fn framed(alloc: Global, apdu: &[u8]) -> Option<Vec<u8>> {
+    let len = u16::try_from(apdu.len().saturating_add(6)).ok()?;
+    let is_request = matches!(apdu.first(), Some(first) if *first < 0x10);
+    let control = if is_request { 4 } else { 0 };
+    let mut octets = Vec::new(alloc);
+    octets.extend_from_slice(&[0x81, 0x0A]).ok()?;
+    octets.extend_from_slice(&len.to_be_bytes()).ok()?;
+    octets.extend_from_slice(&[1, control]).ok()?;
+    octets.extend_from_slice(apdu).ok()?;
+    Some(octets)
+}
+
+/// One that is sent: the last octet of the link's address, and the APDU; or the datagram, where it is not the plain frame.
+fn print_sent(alloc: Global, datagram: &Datagram, out: &mut Vec<u8>) -> Option<()> {
+    let octets = datagram.octets();
+    let apdu = octets.get(6..).unwrap_or(&[]);
+    let peer = datagram.to()[3];
+    if framed(alloc, apdu)?.as_slice() == octets && datagram.to() == link(peer) {
+        let apdu = hex::encode_upper(alloc, apdu).ok()?;
+        return writeln!(out, "sent {peer} {apdu}").ok();
+    }
+    let to = hex::encode_upper(alloc, datagram.to().as_slice()).ok()?;
+    let octets = hex::encode_upper(alloc, octets).ok()?;
+    writeln!(out, "sent {to} {octets}").ok()
+}
+
+pub(crate) fn print_sends(alloc: Global, sends: &[Datagram], out: &mut Vec<u8>) -> Option<()> {
+    for datagram in sends {
+        print_sent(alloc, datagram, out)?;
+    }
+    Some(())
+}
+
+/// The word for a request.
+fn verb(request: &OwnedRequest) -> &'static str {
+    match request {
+        AnyRequest::ReadProperty(_) => "read",
+        AnyRequest::WriteProperty(_) => "write",
+        AnyRequest::ReadFile(_) => "get",
+        AnyRequest::WriteFile(_) => "put",
+    }
+}
+
+/// A request that was performed: its client and invoke ID, its word and service data, and how it is answered.
+fn print_performed(alloc: Global, act: Act, out: &mut Vec<u8>) -> Option<()> {
+    let Act { key, effect } = act;
+    let Effect { request, reply } = effect;
+    let verb = verb(&request);
+    let service = spelled(alloc, &request)?;
+    let peer = key.peer.link[3];
+    write!(out, "performed {peer}:{} {verb} {service} ", key.invoke_id).ok()?;
+    print_ending_line(alloc, &Ending::Answered(reply), out).ok()
+}
+
+/// What came of a call; whether a datagram was dropped.
+pub(crate) fn print_outcome(alloc: Global, outcome: Outcome, out: &mut Vec<u8>) -> Option<bool> {
+    let Outcome {
+        sends,
+        effect,
+        ended,
+        dropped,
+    } = outcome;
+    if let Some(cause) = &dropped {
+        writeln!(out, "dropped {}", cause.number()).ok()?;
+    }
+    if let Some(act) = effect {
+        print_performed(alloc, act, out)?;
+    }
+    for finish in &ended {
+        print_ended(alloc, finish.ticket, &finish.how, out).ok()?;
+    }
+    print_sends(alloc, &sends, out)?;
+    Some(dropped.is_some())
+}
