@@ -1,5 +1,5 @@
 -- What is known of the ages of slots stays so, whatever comes, goes on or is due; so those that are not alive are not young.
-use Rattle.std.proofs.Common.{◌≡◌, ℕ, ◌<◌, ◌≤◌, Bool, true, false, ◌&&◌, nat_le, nat_lt, min, if◌then◌else◌, List, [], ◌∷◌, ◌++◌, map, filter}
+use Rattle.std.proofs.Common.{◌≡◌, ℕ, ◌<◌, ◌≤◌, Bool, true, false, ◌&&◌, nat_eq, nat_le, nat_lt, min, if◌then◌else◌, List, [], ◌∷◌, ◌++◌, map, filter}
 use Rattle.std.proofs.Common.{Option, Some, None, MatchOption, refl, ap, sym, subst, ◌∙◌, arith}
 use Rattle.std.proofs.lemmas.Bool.Decides.{nat_tests}
 use Rattle.bac_slots.specs.declared.slot.Slot.{Slot}
@@ -11,6 +11,10 @@ use Rattle.bac_aged.specs.declared.ages.Ages.{Ages}
 -- a moment between two
 pub between : (from due now : ℕ) → nat_le from now && nat_lt now due ≡ true → (from ≤ now) × (now < due)
 between from due now h = (grind (arith, nat_tests), grind (arith, nat_tests))
+
+-- from a moment on, up to the last one of all
+pub from_then_on : (from due now : ℕ) → nat_le from now && nat_eq due 18446744073709551615 ≡ true → (from ≤ now) × (due ≡ 18446744073709551615)
+from_then_on from due now h = (grind (arith, nat_tests), grind (arith, nat_tests))
 
 -- the latest moment stays known when a value comes
 pub stays_known : (now : ℕ) (old new : Option ℕ) → MatchOption old (new ≡ None) (λ l. l ≤ now → new ≡ Some now) → IsKnownBy now old → IsKnownBy now new

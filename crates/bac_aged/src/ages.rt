@@ -1,5 +1,5 @@
 //! What is known of the ages of a table's slots.
-ghost use Rattle.std.specs.Prelude.{◌≡◌, ◌&&◌, ◌≤◌, min, nat_le, nat_lt, Some, MatchOption, None};
+ghost use Rattle.std.specs.Prelude.{◌≡◌, ◌&&◌, ◌≤◌, min, nat_eq, nat_le, nat_lt, Some, MatchOption, None};
 ghost use Rattle.bac_aged.specs.Ages.{later_of};
 
 /// What is known of the ages of a table's slots; it stands beside the table.
@@ -19,6 +19,13 @@ impl Ages {
         ensures { result ≡ (nat_le self.now.from now && nat_lt now self.now.due) }
     {
         self.from <= now && now < self.due
+    }
+
+    /// Whether no tick from that moment on finds anything to do, but one at the last moment of all.
+    pub fn is_quiet_from(&self, now: u64) -> bool
+        ensures { result ≡ (nat_le self.now.from now && nat_eq self.now.due 18446744073709551615) }
+    {
+        self.from <= now && self.due == u64::MAX
     }
 
     /// A value is due at that moment, and not before.

@@ -3,7 +3,7 @@ use Rattle.std.proofs.Common.{◌≡◌, ℕ, ◌<◌, Bool, true, false, not, L
 use Rattle.std.proofs.Common.{refl, ap, sym, ◌∙◌, arith}
 use Rattle.std.proofs.lemmas.Bool.Decides.{nat_tests}
 use Rattle.bac_slots.specs.declared.slot.Slot.{Slot}
-use Rattle.bac_slots.specs.Slots.{value_at, with_value, keep}
+use Rattle.bac_slots.specs.Slots.{with_value, keep}
 use Rattle.bac_protocol.specs.Server.{Entry, is_live, is_none_live}
 use Rattle.bac_ends.specs.Ends.{is_free, is_slot_live, set_or_put}
 use Rattle.bac_ends.specs.Views.{peer_key_view, slots_view, code_same_key}

@@ -1,11 +1,11 @@
 -- When a tick of the server's end does nothing, and when it does something.
-use Rattle.std.proofs.Common.{◌≡◌, ℕ, ◌-◌, ◌<◌, ◌≤◌, Bool, true, false, ◌&&◌, max, nat_le, if◌then◌else◌, List, [], ◌∷◌, Option, Some, None, refl, ap, sym, ◌∙◌, arith}
+use Rattle.std.proofs.Common.{◌≡◌, ℕ, ◌-◌, ◌<◌, ◌≤◌, Bool, true, false, ◌&&◌, max, nat_le, if◌then◌else◌, List, [], ◌∷◌, None, refl, ap, ◌∙◌, arith}
 use Rattle.std.proofs.lemmas.Bool.Decides.{nat_tests}
 use Rattle.bac_slots.specs.Slots.{EachSlot}
 use Rattle.bac_slots.proofs.Ages.{each_more}
 use Rattle.bac_protocol.specs.declared.times.TheConstants.{KEEP}
 use Rattle.bac_protocol.specs.Context.{Settings}
-use Rattle.bac_protocol.specs.Server.{Entry, is_live, server_ticks}
+use Rattle.bac_protocol.specs.Server.{Entry, is_live}
 use Rattle.bac_ends.specs.Ends.{ServerEnd, ServerSlot, ServerTurn, context_of, entry_or, server_tick_sends, server_ticked, servers_tick}
 use Rattle.bac_ends.specs.Sends.{Send, to_all}
 use Rattle.bac_aged.specs.Ages.{first_due}

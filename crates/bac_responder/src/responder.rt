@@ -72,12 +72,15 @@ impl<S: SlotTable<PeerKey, Entry> + Drop> Responder<S> {
 
     /// The first moment, in milliseconds, at which the timer of an entry is due (clause 5.4.5), looked at from a moment on; the last moment of all where no
     /// entry has a timer that is due while it lives. A tick before it does nothing; at it, or at the moment looked from if that is later, one does
-    /// something. It looks at each slot.
+    /// something. Where a timer may run it looks at each slot, otherwise at none.
     pub fn next_due(&self, from: u64) -> u64
         ensures rests { (settings : Set) (moment : ℕ) → from ≤ moment → moment < result
             → servers_tick settings moment self.now ≡ record { end = self.now; sends = []; act = None } }
         ensures moves { (settings : Set) → result < LAST_MOMENT → (servers_tick settings (max from result) self.now).end ≢ self.now }
     {
+        if self.aged.ages.is_quiet_from(from) {
+            return u64::MAX;
+        }
         first_due(&self.aged.table, from)
     }
 

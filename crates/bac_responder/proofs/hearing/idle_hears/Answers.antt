@@ -1,5 +1,5 @@
 -- No entry is live.
-use Rattle.std.proofs.Common.{◌≡◌, ◌∙◌, sym, subst, ap, ℕ, List, Option, Bool, true}
+use Rattle.std.proofs.Common.{◌≡◌, ◌∙◌, sym, ap, ℕ, List, Option, Bool, true}
 use Rattle.bac_apdu.specs.Views.{apdu_view}
 use Rattle.bac_slots.specs.declared.slot.Slot.{Slot}
 use Rattle.bac_slots.specs.Slots.{value_at}

@@ -1,11 +1,23 @@
 -- What is due first in the table is due first at the end.
-use Rattle.std.proofs.Common.{◌∙◌, sym}
+use Rattle.std.proofs.Common.{◌<◌, ◌≤◌, ◌∙◌, sym, subst, arith}
 use Rattle.bac_protocol.specs.Server.{Entry}
+use Rattle.bac_aged.proofs.Aging.{from_then_on}
 use Rattle.bac_aged.proofs.Viewed.{due_viewed, each_viewed}
 use Rattle.bac_entry.specs.Timers.{IsQuiet, due_of}
 use Rattle.bac_responder.specs.Views.{end_of}
 use Rattle.bac_responder.proofs.Waiting.{servers_move, servers_rest}
 use Rattle.bac_responder.proofs.responder.Responder.next_due.Goals as goal
+
+pub returns-then-is_quiet_from-clause-rests : goal.returns-then-is_quiet_from-clause-rests
+returns-then-is_quiet_from-clause-rests g c =
+    let slots = g.S.SlotTable.slots c.self.inside.aged.table in
+    let end = end_of slots (g.S.SlotTable.capacity c.self.inside.aged.table) c.self.inside.restart in
+    let ages = c.self.inside.aged.ages in
+    let quiet = from_then_on ages.from ages.due c.args.from (sym c.is_quiet_from.ensures ∙ c.if-is_quiet_from.true) in
+    rw (← c.self.view_is) (λ settings moment started before.
+    let begun : ages.from ≤ moment = omega (arith, quiet.0, started) in
+    servers_rest settings moment ages.from ages.due begun (subst (λ due. moment < due) (sym quiet.1) before) end
+    (each_viewed Entry (IsQuiet ages.from ages.due) slots c.self.invariant.quiet))
 
 pub returns-clause-rests : goal.returns-clause-rests
 returns-clause-rests g c =
