@@ -307,7 +307,7 @@ Example: bac ask --port 47808 read 0:5 85
 Example: bac ask --port 47808 --text read analog-input:5 present-value
 Example: bac ask --to 192.168.1.20 --route 5:2A --timeout 3 read device:7 object-name
 Example: bac ask --to 192.168.1.20 write analog-value:1 present-value real:72.5 priority 8
-Example: bac ask --to 192.168.1.20 --text --lines requests.txt
+Example: bac ask --to 192.168.1.20 --text --lines requests.txt --window 8
 Example: bac ask --to 192.168.1.20 --text --every 60 read analog-input:5 present-value
 Example: bac ask --port 47808 put file:1 0 @log.bin
 Example: bac ask --port 47808 --raw get file:1 0 1000 > log.bin";
@@ -369,6 +369,13 @@ const ASK: &[Word] = &[
         need: Need::Never,
         against: &["WORDS", "raw"],
         help: "Asks the requests of a file, one a line, in turn by one node, and prints behind each line's number how it ended; `-` for standard input. Blank lines and those that begin with `#` are passed over; words are separated by single spaces, and none is `@FILE`. A bad line is told before anything is asked",
+    },
+    Word {
+        name: "window",
+        form: Form::Number("N", 256),
+        need: Need::Beside("lines"),
+        against: &["WORDS"],
+        help: "Asks up to N of the requests at once, 1 to 256; what is printed stays in the order of the lines. Without it, each is asked once the one before has ended",
     },
     Word {
         name: "every",
