@@ -1,5 +1,5 @@
 -- Records and blocks that were read: a head, and then a body.
-use Rattle.std.proofs.Common.{◌≡◌, ◌≢◌, ◌<◌, ◌≤◌, ◌+◌, ◌-◌, min, nat_lt, nat_le, true, false, Bool, ℕ, zero, suc, List, [], ◌∷◌, ◌++◌, length, take, drop, if◌then◌else◌}
+use Rattle.std.proofs.Common.{◌≡◌, ◌≢◌, ◌<◌, ◌≤◌, min, nat_lt, true, false, Bool, ℕ, List, [], ◌∷◌, length, take, drop}
 use Rattle.std.proofs.Common.{Option, Some, None, Result, Ok, Err, IfOk, refl, sym, ap, subst, ◌∙◌, arith, length-take}
 use Rattle.std.proofs.lemmas.Bool.Decides.{nat_tests}
 use Rattle.bac_capture.specs.declared.fault.FileFault.{FileFault}
@@ -7,7 +7,7 @@ use Rattle.bac_capture.specs.declared.fault.FileFault.TheVariants.{Cut}
 use Rattle.bac_capture.specs.declared.form.Form.{Form}
 use Rattle.bac_capture.specs.declared.form.Form.TheVariants.{Records, Blocks}
 use Rattle.bac_capture.specs.declared.order.Order.{Order}
-use Rattle.bac_capture.specs.Files.{head_len_of, body_len_of, record_at, head_at, body_at, seen, Record, Broken, IsRecord, IsBody, IsBodyOf}
+use Rattle.bac_capture.specs.Files.{head_len_of, body_len_of, body_at, IsRecord, IsBody, IsBodyOf}
 use Rattle.bac_capture.specs.declared.file.Layout.{Layout}
 use Rattle.bac_capture.specs.Begins.{header_layout, IsBegun}
 use Rattle.bac_capture.specs.Blocks.{LayoutView}

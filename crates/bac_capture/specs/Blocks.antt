@@ -3,7 +3,7 @@ use Rattle.std.specs.Prelude.{ℕ, ◌+◌, List, [], ◌∷◌, ◌++◌, lengt
 use Rattle.std.specs.Prelude.{nat_lt, nat_le, ◌==◌, if◌then◌else◌, Option, Some, None}
 use Rattle.bac_value.specs.Steps.{◌>>=◌}
 use Rattle.bac_capture.specs.declared.fault.FileFault.{FileFault}
-use Rattle.bac_capture.specs.declared.fault.FileFault.TheVariants.{Cut, ByteOrder, BlockLength, NoInterface, TooManyInterfaces}
+use Rattle.bac_capture.specs.declared.fault.FileFault.TheVariants.{ByteOrder, BlockLength, NoInterface, TooManyInterfaces}
 use Rattle.bac_capture.specs.declared.form.Form.{Form}
 use Rattle.bac_capture.specs.declared.form.Form.TheVariants.{Records, Blocks}
 use Rattle.bac_capture.specs.declared.file.Interface.{Interface}

@@ -1,9 +1,8 @@
 -- Capture files as lists of octets: records of pcap and blocks of pcapng.
-use Rattle.std.specs.Prelude.{◌≡◌, ℕ, ◌+◌, ◌-◌, ◌<◌, ◌%◌, Bool, true, false, List, [], ◌∷◌, ◌++◌, length, take, drop, min, Result, Ok, Err}
-use Rattle.std.specs.Prelude.{nat_lt, ◌==◌, ◌&&◌, ◌||◌, if◌then◌else◌, Option, Some, None, ⊤}
-use Rattle.bac_value.specs.Steps.{◌>>=◌}
+use Rattle.std.specs.Prelude.{◌≡◌, ℕ, ◌-◌, ◌%◌, Bool, true, false, List, [], ◌∷◌, length, take, drop, Result, Ok, Err}
+use Rattle.std.specs.Prelude.{nat_lt, ◌==◌, ◌||◌, if◌then◌else◌, Option, Some, None, ⊤}
 use Rattle.bac_capture.specs.declared.fault.FileFault.{FileFault}
-use Rattle.bac_capture.specs.declared.fault.FileFault.TheVariants.{Cut, ByteOrder, BlockLength, NoInterface, TooManyInterfaces}
+use Rattle.bac_capture.specs.declared.fault.FileFault.TheVariants.{Cut, ByteOrder, BlockLength}
 use Rattle.bac_capture.specs.declared.form.Form.{Form}
 use Rattle.bac_capture.specs.declared.form.Form.TheVariants.{Records, Blocks}
 use Rattle.bac_capture.specs.declared.order.Order.{Order}

@@ -1,6 +1,6 @@
 //! The functions of a BVLL (Annex J).
 ghost use Rattle.std.specs.Prelude.{◌≡◌};
-ghost use Rattle.bac_capture.specs.Bvlc.{function_of, function_name, is_framed, is_other};
+ghost use Rattle.bac_capture.specs.Bvlc.{function_of, function_number, function_name, is_framed, other_function_of, other_bvll_of};
 
 use byteorder::{BigEndian, ByteOrder};
 
@@ -45,6 +45,13 @@ impl BvlcFunction {
         }
     }
 
+    /// Its number.
+    pub fn number(self) -> u8
+        ensures { result ≡ function_number self }
+    {
+        self as u8
+    }
+
     /// The name that the standard has for it.
     pub fn name(self) -> &'static str
         ensures { result.now ≡ function_name self }
@@ -76,17 +83,40 @@ fn is_framed(datagram: &[u8]) -> bool
     datagram.len() >= 4 && usize::from(BigEndian::read_u16(&datagram[2..])) == datagram.len()
 }
 
-/// Whether a datagram is a BVLL of another function than Original-Unicast-NPDU: of one over IPv4 (81), a function that Annex J
-/// has; or any over IPv6 (82, Annex U).
-pub fn is_other(datagram: &[u8]) -> bool
-    ensures { result ≡ is_other datagram.now }
+/// A BVLL that is no Original-Unicast-NPDU over IPv4.
+#[derive(Clone, Copy, Debug, PartialEq, Eq)]
+pub enum OtherBvll {
+    /// Over IPv4 (81, Annex J), of that function.
+    Ipv4(BvlcFunction),
+    /// Over IPv6 (82, Annex U), of any function.
+    Ipv6,
+}
+
+/// Another function than Original-Unicast-NPDU, by its number.
+fn other_function(number: u8) -> Option<OtherBvll>
+    ensures { result ≡ other_function_of number }
 {
-    if !is_framed(datagram) {
-        return false;
+    if number == 0x0A {
+        return None;
     }
-    match datagram[0] {
-        0x81 => datagram[1] <= 0x0C && datagram[1] != 0x0A,
-        0x82 => true,
-        _ => false,
+    match BvlcFunction::of(number) {
+        Some(function) => Some(OtherBvll::Ipv4(function)),
+        None => None,
+    }
+}
+
+impl OtherBvll {
+    /// What a datagram is where it is such a BVLL, of the length that it tells: over IPv4 of a function that Annex J has.
+    pub fn of(datagram: &[u8]) -> Option<OtherBvll>
+        ensures { result ≡ other_bvll_of datagram.now }
+    {
+        if !is_framed(datagram) {
+            return None;
+        }
+        match datagram[0] {
+            0x81 => other_function(datagram[1]),
+            0x82 => Some(OtherBvll::Ipv6),
+            _ => None,
+        }
     }
 }

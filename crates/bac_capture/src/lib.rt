@@ -21,7 +21,7 @@ mod run;
 mod udp;
 
 pub use block::{Block, Frame};
-pub use bvlc::{BvlcFunction, is_other};
+pub use bvlc::{BvlcFunction, OtherBvll};
 pub use fault::{FileFault, PacketFault};
 pub use file::{Interface, Layout};
 pub use form::{Form, form_of};

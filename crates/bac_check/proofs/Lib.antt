@@ -1,2 +1,4 @@
 pub mod Steps
 pub mod Report
+pub mod Few
+pub mod Telling

@@ -1,9 +1,10 @@
 -- What a frame is.
-use Rattle.std.specs.Prelude.{◌≡◌, ℕ, List, Result, Ok, Err, Option, Some, None, Bool, true, false}
+use Rattle.std.specs.Prelude.{◌≡◌, ℕ, List, Result, Ok, Err, Option, Some, None}
 use Rattle.bac_capture.specs.declared.fault.PacketFault.{PacketFault}
 use Rattle.bac_capture.specs.declared.link.LinkKind.{LinkKind}
 use Rattle.bac_capture.specs.Blocks.{FrameView}
-use Rattle.bac_capture.specs.Bvlc.{is_other}
+use Rattle.bac_capture.specs.Bvlc.{other_bvll_of}
+use Rattle.bac_capture.specs.declared.bvlc.OtherBvll.{OtherBvll}
 use Rattle.bac_capture.specs.Frames.{datagram_at}
 use Rattle.bac_capture.specs.Links.{link_kind_of}
 use Rattle.bac_capture.specs.Packets.{DatagramView}
@@ -17,18 +18,18 @@ use Rattle.bac_check.specs.declared.fault.Verdict.TheVariants.{Nothing, Good, Ot
 abbrev pub IsReadVerdict : List ℕ → Verdict → Type 0
 IsReadVerdict datagram Nothing = ⊥
 IsReadVerdict datagram Good = IsFine datagram
-IsReadVerdict datagram Other = ⊥
+IsReadVerdict datagram (Other other) = ⊥
 IsReadVerdict datagram (Bad Link) = ⊥
 IsReadVerdict datagram (Bad (Packet fault)) = ⊥
 IsReadVerdict datagram (Bad (Datagram fault)) = IsAtFault datagram fault
 IsReadVerdict datagram (Bad (File fault)) = ⊥
 
-abbrev pub IsVerdictIn : (other : Bool) → List ℕ → Verdict → Type 0
-IsVerdictIn true datagram verdict = verdict ≡ Other
-IsVerdictIn false datagram verdict = IsReadVerdict datagram verdict
+abbrev pub IsVerdictIn : (other : Option OtherBvll) → List ℕ → Verdict → Type 0
+IsVerdictIn (Some other) datagram verdict = verdict ≡ Other other
+IsVerdictIn None datagram verdict = IsReadVerdict datagram verdict
 
 abbrev pub IsDatagramVerdict : List ℕ → Verdict → Type 0
-IsDatagramVerdict datagram verdict = IsVerdictIn (is_other datagram) datagram verdict
+IsDatagramVerdict datagram verdict = IsVerdictIn (other_bvll_of datagram) datagram verdict
 
 -- of what a frame carries
 abbrev pub IsFoundVerdict : Result (Option DatagramView) PacketFault → Verdict → Type 0

@@ -10,6 +10,7 @@ use crate::broken::Broken;
 use crate::error::{CheckError, stopped};
 use crate::fault::{CapturedFault, Verdict};
 use crate::judging::judge;
+use crate::others::print_named;
 use crate::tally::Tally;
 use crate::walk::{Watch, walk_file};
 use bac_capture::{FileFault, Form, Frame, Order, Ports, form_of, read_run};
@@ -65,9 +66,11 @@ impl<W: Write> Watch<W> for Tally {
     }
 }
 
-fn print_tally<W: Write>(tally: Tally, out: &mut W) -> io::Result<()>
-    ensures { OnOk result (Appends (W.contents out.old) (W.contents out.new) (tally_text (counts_of tally))) }
+/// Prints the counts, of other functions by name too where that is asked for.
+fn print_tally<W: Write>(named: bool, tally: Tally, out: &mut W) -> io::Result<()>
+    ensures { OnOk result (Appends (W.contents out.old) (W.contents out.new) (tally_text named (counts_of tally))) }
 {
+    print_named(named, tally.others, out)?;
     let frames = tally.frames;
     let good = tally.good;
     let bad = tally.bad;
@@ -82,13 +85,14 @@ fn check_all<R: BufRead, W: Write>(
     order: Order,
     input: &mut R,
     ports: Ports,
+    named: bool,
     out: &mut W,
 ) -> Result<Status, CheckError>
-    ensures { IfOk result (IsFileReport ports.also form order (R.remaining input.old) (W.contents out.old) (W.contents out.new)) }
+    ensures { IfOk result (IsFileReport ports.also named form order (R.remaining input.old) (W.contents out.old) (W.contents out.new)) }
 {
     let mut tally = Tally::NONE;
     walk_file(alloc, form, order, input, ports, &mut tally, out)?;
-    match print_tally(tally, out) {
+    match print_tally(named, tally, out) {
         Ok(()) => Ok(tally.status()),
         Err(error) => Err(CheckError::Output(error)),
     }
@@ -101,12 +105,13 @@ fn check_file<R: BufRead, O: Write, E: Write>(
     order: Order,
     input: &mut R,
     ports: Ports,
+    named: bool,
     out: &mut O,
     err: &mut E,
 ) -> Status
-    ensures { IsFileReport ports.also form order (R.remaining input.old) (O.contents out.old) (O.contents out.new) result }
+    ensures { IsFileReport ports.also named form order (R.remaining input.old) (O.contents out.old) (O.contents out.new) result }
 {
-    match check_all(alloc, form, order, input, ports, out) {
+    match check_all(alloc, form, order, input, ports, named, out) {
         Ok(status) => status,
         Err(error) => stopped(error, out, err),
     }
@@ -118,14 +123,15 @@ fn check_after<R: BufRead, O: Write, E: Write>(
     front: &[u8],
     input: &mut R,
     ports: Ports,
+    named: bool,
     out: &mut O,
     err: &mut E,
 ) -> Status
-    ensures { IsFrontReport ports.also front.now (R.remaining input.old) (O.contents out.old) (O.contents out.new) result }
+    ensures { IsFrontReport ports.also named front.now (R.remaining input.old) (O.contents out.old) (O.contents out.new) result }
 {
     let mut whole = front.chain(input);
     match form_of(front) {
-        Some((form, order)) => check_file(alloc, form, order, &mut whole, ports, out, err),
+        Some((form, order)) => check_file(alloc, form, order, &mut whole, ports, named, out, err),
         None => check_over(alloc, &mut whole, out, err),
     }
 }
@@ -152,7 +158,9 @@ fn failed_early<O: Write, E: Write>(
 ///
 /// Of a file each bad frame is told, by its number from 1, and at the end how many frames there are, and how many of them carry a
 /// good datagram, a bad one, and a BVLL of another function than Original-Unicast-NPDU; the others carry no datagram of
-/// BACnet/IP. A frame is bad where its link layer is not read, its packet is a fragment or no whole one, its datagram has a
+/// BACnet/IP. Those of another function are also told one by one before that, in order of their numbers, where they are to be
+/// `named`, by the standard's names: `other BVLC-Result=3`; those over IPv6 last and together, as `other BACnet/IPv6=2`. That changes
+/// nothing for lines. A frame is bad where its link layer is not read, its packet is a fragment or no whole one, its datagram has a
 /// fault, or the file cannot be read on from there. Ends with `Faulty` where a frame is bad. An input that cannot be read, or of
 /// 2^64 frames: `cannot read` on `err`. Out of memory: `no memory` on `err`. `Output` where `out` cannot be written, then too
 /// where the input fails. Memory does not grow with the input.
@@ -160,14 +168,15 @@ pub fn check_capture_over<R: BufRead, O: Write, E: Write>(
     alloc: Global,
     input: &mut R,
     ports: Ports,
+    named: bool,
     out: &mut O,
     err: &mut E,
 ) -> Status
-    ensures { IsReportOf ports.also (R.remaining input.old) (O.contents out.old) (O.contents out.new) result }
+    ensures { IsReportOf ports.also named (R.remaining input.old) (O.contents out.old) (O.contents out.new) result }
 {
     let mut front = Vec::new(alloc);
     match read_run(input, 4, &mut front) {
-        Ok(_) => check_after(alloc, &front, input, ports, out, err),
+        Ok(_) => check_after(alloc, &front, input, ports, named, out, err),
         Err(error) => failed_early(alloc, &front, error.kind(), out, err),
     }
 }

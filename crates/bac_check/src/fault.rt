@@ -2,7 +2,7 @@
 ghost use Rattle.std.specs.Prelude.{Some};
 ghost use Rattle.bac_check.specs.Texts.{frame_fault_text};
 
-use bac_capture::{FileFault, PacketFault};
+use bac_capture::{FileFault, OtherBvll, PacketFault};
 use bac_text::LayerFault;
 use std::fmt;
 
@@ -40,6 +40,6 @@ pub(crate) enum Verdict {
     /// Its datagram has no fault.
     Good,
     /// Its datagram is a BVLL of another function, which is not looked at.
-    Other,
+    Other(OtherBvll),
     Bad(CapturedFault),
 }

@@ -3,14 +3,14 @@ ghost use Rattle.bac_capture.specs.BlockViews.{frame_view};
 ghost use Rattle.bac_check.specs.Judged.{IsDatagramVerdict, IsVerdict};
 
 use crate::fault::{CapturedFault, Verdict};
-use bac_capture::{Frame, LinkKind, Ports, is_other, read_frame};
+use bac_capture::{Frame, LinkKind, OtherBvll, Ports, read_frame};
 use bac_text::check_datagram;
 
 fn judge_datagram(datagram: &[u8]) -> Verdict
     ensures { IsDatagramVerdict datagram.now result }
 {
-    if is_other(datagram) {
-        return Verdict::Other;
+    if let Some(other) = OtherBvll::of(datagram) {
+        return Verdict::Other(other);
     }
     match check_datagram(datagram) {
         Ok(()) => Verdict::Good,

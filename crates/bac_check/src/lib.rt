@@ -6,6 +6,7 @@ mod check;
 mod error;
 mod fault;
 mod judging;
+mod others;
 mod tally;
 mod walk;
 

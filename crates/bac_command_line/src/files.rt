@@ -72,7 +72,7 @@ pub(crate) fn check<F: OpenFiles, O: Write, E: Write>(
     ensures { IsCheckedFile (OnFile F.is_file F.File.remaining) path.now port result (O.contents out.old) (O.contents out.new) }
 {
     match reader_of(alloc, files, path, err) {
-        Ok(mut input) => check_capture_over(alloc, &mut input, Ports { also: port }, out, err),
+        Ok(mut input) => check_capture_over(alloc, &mut input, Ports { also: port }, false, out, err),
         Err(status) => status,
     }
 }

@@ -65,7 +65,7 @@ fn ends_so(alloc: Global, file: &[u8], row: &Row) -> Result<bool, Fail> {
     let mut input = BufReader::new(alloc, Broken { left, fault })?;
     let mut out = Vec::new(alloc);
     let mut err = Vec::new(alloc);
-    let status = check_capture_over(alloc, &mut input, PORTS, &mut out, &mut err);
+    let status = check_capture_over(alloc, &mut input, PORTS, false, &mut out, &mut err);
     Ok(
         status.code() == code
             && out.as_slice() == lines.as_bytes()
@@ -88,7 +88,7 @@ fn fails_to_print(alloc: Global, file: &[u8]) -> bool {
     let mut room = [0u8; 40];
     let mut out = room.as_mut_slice();
     let mut err = Vec::new(alloc);
-    check_capture_over(alloc, &mut input, PORTS, &mut out, &mut err).code() == 3 && err.is_empty()
+    check_capture_over(alloc, &mut input, PORTS, false, &mut out, &mut err).code() == 3 && err.is_empty()
 }
 
 /// The output has room for a bad frame's line, and not for the counts.

@@ -1,5 +1,5 @@
 //! Capture files, and what is printed of them.
-use super::file_rows::{FILES_1, FILES_2, FILES_3, FILES_4, Row};
+use super::file_rows::{FILES_1, FILES_2, FILES_3, FILES_4, NAMED, Row};
 use bac_check::{Ports, check_capture_over};
 use bac_rows::{holds, octets_of};
 use std::alloc::{AllocError, Global};
@@ -7,51 +7,62 @@ use std::io;
 use std::io::BufReader;
 use std::test::Fail;
 
-/// What is printed of a file, whose reader has that many octets at hand at a time, and the status.
-fn printed_of(alloc: Global, file: &[u8], at_hand: usize) -> io::Result<(Vec<u8>, u8)> {
+/// What is printed of a file, with other functions by name or without, whose reader has that many octets at hand at a time; and
+/// the status.
+fn printed_of(
+    alloc: Global,
+    file: &[u8],
+    named: bool,
+    at_hand: usize,
+) -> io::Result<(Vec<u8>, u8)> {
     let mut out = Vec::new(alloc);
     let mut err = Vec::new(alloc);
     let mut input = BufReader::with_capacity(alloc, at_hand, file)?;
     let ports = Ports { also: None };
-    let status = check_capture_over(alloc, &mut input, ports, &mut out, &mut err);
+    let status = check_capture_over(alloc, &mut input, ports, named, &mut out, &mut err);
     Ok((out, status.code()))
 }
 
-fn row_holds(alloc: Global, row: &Row, at_hand: usize) -> Result<(), Fail> {
+fn row_holds(alloc: Global, row: &Row, named: bool, at_hand: usize) -> Result<(), Fail> {
     let (name, file, text, status) = *row;
     let octets = octets_of(alloc, file)?;
-    let (printed, ended) = printed_of(alloc, &octets, at_hand)?;
+    let (printed, ended) = printed_of(alloc, &octets, named, at_hand)?;
     holds(
         printed.as_slice() == text.as_bytes() && ended == status,
         name,
     )
 }
 
-fn rows_hold(alloc: Global, rows: &'static [Row]) -> Result<(), Fail> {
+fn rows_hold(alloc: Global, rows: &'static [Row], named: bool) -> Result<(), Fail> {
     for row in rows {
-        row_holds(alloc, row, 8_192)?;
-        row_holds(alloc, row, 1)?;
-        row_holds(alloc, row, 7)?;
+        row_holds(alloc, row, named, 8_192)?;
+        row_holds(alloc, row, named, 1)?;
+        row_holds(alloc, row, named, 7)?;
     }
     Ok(())
 }
 
 #[test]
 fn first_files(rt: HostRuntime) -> Result<(), Fail> {
-    rows_hold(rt.alloc(), FILES_1)
+    rows_hold(rt.alloc(), FILES_1, false)
 }
 
 #[test]
 fn second_files(rt: HostRuntime) -> Result<(), Fail> {
-    rows_hold(rt.alloc(), FILES_2)
+    rows_hold(rt.alloc(), FILES_2, false)
 }
 
 #[test]
 fn third_files(rt: HostRuntime) -> Result<(), Fail> {
-    rows_hold(rt.alloc(), FILES_3)
+    rows_hold(rt.alloc(), FILES_3, false)
 }
 
 #[test]
 fn fourth_files(rt: HostRuntime) -> Result<(), Fail> {
-    rows_hold(rt.alloc(), FILES_4)
+    rows_hold(rt.alloc(), FILES_4, false)
+}
+
+#[test]
+fn named_files(rt: HostRuntime) -> Result<(), Fail> {
+    rows_hold(rt.alloc(), NAMED, true)
 }

@@ -1,4 +1,4 @@
-use Rattle.std.proofs.Common.{arith, ◌∙◌, sym}
+use Rattle.std.proofs.Common.{arith}
 use Rattle.bac_capture.proofs.Records.{head_empty, head_cut, if_read}
 use Rattle.bac_capture.proofs.file.Layout.read.Goals as goal
 
