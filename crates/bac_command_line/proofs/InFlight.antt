@@ -62,6 +62,17 @@ none_more_begun asking window waiting here full = record { begun = []; are = ref
 
 -- ---- the first ends
 
+-- what a turn was, where it was taken, and where it was not
+pub went_on : (p : Patience) (went : Bool) (old new : Aloft) → went ≡ true → GoesOn p went old new → TakesTurn p old new
+went_on p went old new is goes = subst (λ (b : Bool). GoesOn p b old new) is goes
+
+pub went_not : (p : Patience) (went : Bool) (old new : Aloft) → went ≡ false → GoesOn p went old new → GoesOn p false old new
+went_not p went old new is goes = subst (λ (b : Bool). GoesOn p b old new) is goes
+
+pub is_none : {A : Type 0} (told is : Option A) → told ≡ is → ((a : A) → told ≡ Some a → ⊥) → is ≡ None
+is_none None is same never = sym same
+is_none (Some a) is same never = absurd (never a refl)
+
 pub none_waited : (here : Aloft) → Waits 0 here here
 none_waited here = record { waited = []; all = refl; run = refl }
 

@@ -106,7 +106,8 @@ fn end_first<L: Link, C: Clock, E: Write>(
         let Some(patience) = flights.first_patience() else {
             return Ok(flights.take_first());
         };
-        if !go_on(station, clock, &patience, flights, err)? {
+        let went = go_on(station, clock, &patience, flights, err)?;
+        if !went {
             return Ok(flights.take_first());
         }
     }

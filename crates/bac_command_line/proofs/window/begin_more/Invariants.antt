@@ -5,8 +5,8 @@ use Rattle.bac_command_line.specs.AskedLines.{Numbered, line_view}
 use Rattle.bac_command_line.specs.InFlight.{Aloft, BeginsMore, aloft}
 use Rattle.bac_command_line.proofs.window.begin_more.Given as goal
 
-abbrev pub invariant-loop-flights : goal.invariant-loop-flights
-invariant-loop-flights g l =
+abbrev pub invariant-loop-rest : goal.invariant-loop-rest
+invariant-loop-rest g l =
     record {
       kept : length l.flights.asks.items + length l.rest ≡ length l.fn.flights.asks.items + length l.waiting;
       whole : (r : List Numbered) (n : Aloft)
@@ -14,5 +14,5 @@ invariant-loop-flights g l =
           → BeginsMore l.asking l.window (map line_view l.waiting) (aloft (timed l.fn.station (g.C.Clock.told l.fn.clock)) l.fn.flights.asks.items) r n;
     }
 
-abbrev pub decreases-loop-flights : goal.decreases-loop-flights
-decreases-loop-flights g l = length l.rest
+abbrev pub decreases-loop-rest : goal.decreases-loop-rest
+decreases-loop-rest g l = length l.rest
