@@ -60,19 +60,24 @@ pub(crate) fn reader_of<F: OpenFiles, E: Write>(
     }
 }
 
-/// Checks the capture in a file: one of pcap or pcapng, or of lines; with a port beside those of BACnet/IP. A file that cannot be opened: `cannot read` on `err`.
+/// Checks the capture in a file: one of pcap or pcapng, or of lines; with a port beside those of BACnet/IP, and with counts of other functions by name or not.
+/// A file that cannot be opened: `cannot read` on `err`.
 pub(crate) fn check<F: OpenFiles, O: Write, E: Write>(
     alloc: Global,
     files: &F,
+    named: bool,
     path: &str,
     port: Option<u16>,
     out: &mut O,
     err: &mut E,
 ) -> Status
-    ensures { IsCheckedFile (OnFile F.is_file F.File.remaining) path.now port result (O.contents out.old) (O.contents out.new) }
+    ensures { IsCheckedFile (OnFile F.is_file F.File.remaining) named path.now port result (O.contents out.old) (O.contents out.new) }
 {
     match reader_of(alloc, files, path, err) {
-        Ok(mut input) => check_capture_over(alloc, &mut input, Ports { also: port }, false, out, err),
+        Ok(mut input) => {
+            let ports = Ports { also: port };
+            check_capture_over(alloc, &mut input, ports, named, out, err)
+        }
         Err(status) => status,
     }
 }

@@ -117,6 +117,13 @@ const CHECK: &[Word] = &[
         against: &["port"],
         help: "Takes lines that end in CRLF, and passes over blank lines and those that begin with `#`",
     },
+    Word {
+        name: "text",
+        form: Form::Flag,
+        need: Need::Never,
+        against: &["notes"],
+        help: "Of pcap or pcapng: tells how many frames carry each other function of BVLC, by name",
+    },
 ];
 
 /// Captures that may be explained.
