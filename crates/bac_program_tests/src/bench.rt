@@ -72,7 +72,9 @@ impl BenchLink {
     /// What answers a datagram to that address, if something does.
     fn answer_from(&self, to: [u8; 6], octets: &[u8]) -> Option<Vec<u8>> {
         match self.behind {
-            Behind::Houses | Behind::Backwards if HOUSES.contains(&to) => house_answer(self.alloc, octets),
+            Behind::Houses | Behind::Backwards if HOUSES.contains(&to) => house_answer(
+                self.alloc, octets,
+            ),
             Behind::Answer(answer) => answer.to_vec(self.alloc).ok(),
             _ => None,
         }

@@ -21,6 +21,7 @@ const WORDS: &[(&str, &str)] = &[
     ("explain x --chart --mermaid", "--mermaid"),
     ("explain x --port 65536", "65536"),
     ("check x --port 0", "0 is not in 1..=65535"),
+    ("check x --text --notes", "--notes"),
     ("serve", "--port <P>"),
     ("serve --turns 2", "--port <P>"),
     ("serve --port 47899 --slots 0", "0 is not in 1..=1024"),
