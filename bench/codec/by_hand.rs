@@ -5,7 +5,7 @@ mod reading;
 mod writing;
 
 use reading::*;
-use writing::{put_apdu, put_told};
+use writing::{put_apdu, put_told, told_len};
 
 // What is measured
 
@@ -106,12 +106,15 @@ fn read_all(apdus: &[&[u8]]) -> (u64, u64) {
     (count, sum)
 }
 
-/// How many octets are written, and a sum of them.
-fn write_all(messages: &[Message], out: &mut Vec<u8>) -> (u64, u64) {
+/// How many octets are written, and a sum of them. Where that is wanted, it goes over each message for its length first, so that a vector grows once for it.
+fn write_all<const AT_ONCE: bool>(messages: &[Message], out: &mut Vec<u8>) -> (u64, u64) {
     let (mut count, mut sum) = (0, 0u64);
     for message in messages {
         out.clear();
         put_apdu(&message.head, out);
+        if AT_ONCE {
+            out.reserve(told_len(&message.told));
+        }
         put_told(&message.told, out);
         count += out.len() as u64;
         sum = sum.wrapping_mul(31).wrapping_add(octets_sum(out));
@@ -125,8 +128,9 @@ fn are_rewritten(apdus: &[&[u8]], out: &mut Vec<u8>) -> bool {
         Ok(message) => {
             out.clear();
             put_apdu(&message.head, out);
+            let len = out.len() + told_len(&message.told);
             put_told(&message.told, out);
-            out == octets
+            out == octets && out.len() == len
         }
         Err(_) => true,
     })
@@ -168,17 +172,22 @@ fn main() {
     let messages: Vec<Message> = apdus.iter().filter_map(|octets| read_message(octets).ok()).collect();
     let mut out = Vec::with_capacity(65_536);
     let rewritten = are_rewritten(&apdus, &mut out);
-    let (mut read_least, mut write_least) = (u64::MAX, u64::MAX);
-    let (mut read, mut written) = ((0, 0), (0, 0));
+    let (mut read_least, mut write_least, mut at_once_least) = (u64::MAX, u64::MAX, u64::MAX);
+    let (mut read, mut written, mut at_once) = ((0, 0), (0, 0), (0, 0));
     for _ in 0..MEASUREMENTS {
         let start = now();
         read = read_all(&apdus);
         let middle = now();
-        written = write_all(&messages, &mut out);
-        write_least = write_least.min(now() - middle);
+        written = write_all::<false>(&messages, &mut out);
+        let third = now();
+        at_once = write_all::<true>(&messages, &mut out);
+        at_once_least = at_once_least.min(now() - third);
+        write_least = write_least.min(third - middle);
         read_least = read_least.min(middle - start);
     }
+    assert_eq!(written, at_once);
     println!("{} APDUs, {} read with sum {}, {} octets written with sum {}, rewritten {rewritten}", apdus.len(), read.0, read.1, written.0, written.1);
     println!("reading {read_least}");
     println!("writing {write_least}");
+    println!("at_once {at_once_least}");
 }

@@ -89,10 +89,12 @@ def compare(runs, octets):
         if other != told:
             raise SystemExit(f'they differ: {other}')
     print(f'{octets / COUNT:.0f} octets an APDU, load {os.getloadavg()[0]:.1f} on {os.cpu_count()} cores')
-    for name, count in counts(told).items():
-        ours, theirs = ([times[name] for _, times in one] for one in zip(*runs))
+    read, written = counts(told).values()
+    # the third row's by_hand goes over each message for its length first, as the crates do
+    for name, count, other in (('reading', read, 'reading'), ('writing', written, 'writing'), ('writing', written, 'at_once')):
+        ours, theirs = ([times[which] for _, times in one] for which, one in zip((name, other), zip(*runs)))
         ratio, median = min(ours) / min(theirs), statistics.median(our / their for our, their in zip(ours, theirs))
-        print(f'{name}, of {count} APDUs: {min(ours) / count:.1f} ns an APDU, by hand {min(theirs) / count:.1f}, ratio {ratio:.2f}, median of {len(runs)} {median:.2f}')
+        print(f'{name}, of {count} APDUs: {min(ours) / count:.1f} ns an APDU, by hand ({other}) {min(theirs) / count:.1f}, ratio {ratio:.2f}, median of {len(runs)} {median:.2f}')
 
 
 if __name__ == '__main__':

@@ -99,6 +99,44 @@ pub fn put_told(told: &Told, out: &mut Vec<u8>) {
     }
 }
 
+fn contents_len(len: usize) -> usize {
+    len + if len < 5 { 1 } else if len < 254 { 2 } else if len < 65_536 { 4 } else { 6 }
+}
+
+fn unsigned_len(value: u64) -> usize {
+    contents_len((8 - value.leading_zeros() as usize / 8).max(1))
+}
+
+fn signed_len(value: i64) -> usize {
+    let distance = if value < 0 { !value } else { value };
+    contents_len(8 - (distance.leading_zeros() as usize - 1) / 8)
+}
+
+fn reference_len(reference: Reference) -> usize {
+    5 + unsigned_len(reference.property as u64) + reference.index.map_or(0, |index| unsigned_len(index as u64))
+}
+
+fn content_len(start: i64, content: &[u8]) -> usize {
+    2 + signed_len(start) + contents_len(content.len())
+}
+
+/// How many octets it is written in.
+pub fn told_len(told: &Told) -> usize {
+    match *told {
+        Told::Raw => 0,
+        Told::ReadFile { start, count, .. } => 5 + 2 + signed_len(start) + unsigned_len(count),
+        Told::WriteStream { start, content, .. } => 5 + content_len(start, content),
+        Told::WriteRecords { start, count, run, .. } => 5 + 2 + signed_len(start) + unsigned_len(count) + run.len(),
+        Told::ReadProperty(reference) => reference_len(reference),
+        Told::WriteProperty { reference, values, priority } => {
+            reference_len(reference) + 2 + values.len() + priority.map_or(0, |priority| unsigned_len(priority as u64))
+        }
+        Told::FileRead { start, content, .. } => 1 + content_len(start, content),
+        Told::FileWritten { start, .. } => signed_len(start),
+        Told::PropertyRead { reference, values } => reference_len(reference) + 2 + values.len(),
+    }
+}
+
 fn segment_bits(segment: Option<Segment>) -> u8 {
     match segment {
         None => 0,

@@ -88,7 +88,8 @@ fn fails_to_print(alloc: Global, file: &[u8]) -> bool {
     let mut room = [0u8; 40];
     let mut out = room.as_mut_slice();
     let mut err = Vec::new(alloc);
-    check_capture_over(alloc, &mut input, PORTS, false, &mut out, &mut err).code() == 3 && err.is_empty()
+    check_capture_over(alloc, &mut input, PORTS, false, &mut out, &mut err).code() == 3
+        && err.is_empty()
 }
 
 /// The output has room for a bad frame's line, and not for the counts.
