@@ -10,6 +10,7 @@ use Rattle.bac_run.specs.Runs.{Timed}
 use Rattle.bac_command_line.specs.Asked.{AreAskedFrom}
 use Rattle.bac_command_line.specs.AskedLines.{AreRead, AsksEach, AsksLine, Numbered}
 use Rattle.bac_command_line.specs.Files.{OfFile}
+use Rattle.bac_command_line.specs.InFlight.{AsksLines}
 use Rattle.bac_command_line.specs.Online.{ByClient, Clocks, Links}
 use Rattle.bac_command_line.specs.declared.asking.Asking.{Asking}
 use Rattle.bac_command_line.proofs.AskedOf.{Files}
@@ -31,14 +32,14 @@ one_more_asked asking lines others line so_far succeeded now rest before middle 
 -- the lines that were read of a file were asked
 pub asked_from : (IsFile : Files) (IsOn : Links) (IsClock : Clocks) (s : Status) (asking : Asking) (path : List ℕ) (lines asked : List Numbered)
     (old new : Option (List ℕ)) → OfFile IsFile path (AreRead (peer_view asking.peer) lines) → asked ≡ lines
-    → ByStatus s (ByClient IsOn IsClock asking (AsksEach asking asked) true old new) (ByClient IsOn IsClock asking (AsksEach asking asked) false old new) ⊥
+    → ByStatus s (ByClient IsOn IsClock asking (AsksLines asking asked) true old new) (ByClient IsOn IsClock asking (AsksLines asking asked) false old new) ⊥
     → AreAskedFrom IsFile IsOn IsClock s asking path old new
 asked_from IsFile IsOn IsClock s asking path lines asked old new file same reports =
     lifted s (λ a. record { content = file.content; at = file.at; says = record { lines = lines; read = file.says; asks = put a } })
     (λ a. record { content = file.content; at = file.at; says = record { lines = lines; read = file.says; asks = put a } })
     (λ (no : ⊥). absurd no) reports where
-      put : {all : Bool} → ByClient IsOn IsClock asking (AsksEach asking asked) all old new → ByClient IsOn IsClock asking (AsksEach asking lines) all old new
-      put {all} a = subst (λ (l : List Numbered). ByClient IsOn IsClock asking (AsksEach asking l) all old new) same a
+      put : {all : Bool} → ByClient IsOn IsClock asking (AsksLines asking asked) all old new → ByClient IsOn IsClock asking (AsksLines asking lines) all old new
+      put {all} a = subst (λ (l : List Numbered). ByClient IsOn IsClock asking (AsksLines asking l) all old new) same a
 
 -- nothing was asked or printed
 pub none_asked : (IsFile : Files) (IsOn : Links) (IsClock : Clocks) (s : Status) (asking : Asking) (path : List ℕ) (old new : Option (List ℕ))

@@ -9,3 +9,4 @@ pub mod AskedOf
 pub mod Separated
 pub mod ReadLines
 pub mod AskedLines
+pub mod InFlight

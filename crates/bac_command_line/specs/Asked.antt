@@ -6,8 +6,9 @@ use Rattle.bac_text.specs.declared.status.Status.{Status}
 use Rattle.bac_run.specs.Runs.{Timed}
 use Rattle.bac_run.specs.Views.{question_view}
 use Rattle.bac_commands.specs.Statuses.{ByStatus}
-use Rattle.bac_command_line.specs.AskedLines.{AreRead, AsksEach, Numbered, line_view}
+use Rattle.bac_command_line.specs.AskedLines.{AreRead, Numbered, line_view}
 use Rattle.bac_command_line.specs.Files.{OfFile}
+use Rattle.bac_command_line.specs.InFlight.{AsksLines}
 use Rattle.bac_command_line.specs.Online.{AsksOnce, ByClient, Clocks, Links}
 use Rattle.bac_command_line.specs.Rounds.{Doing}
 use Rattle.bac_command_line.specs.declared.asking.Asking.{Asking}
@@ -17,7 +18,7 @@ use Rattle.bac_command_line.specs.declared.rounds.Asked.TheVariants as asked
 -- it was asked once
 abbrev pub AsksAll : Asking → Asked → Doing
 AsksAll asking (asked.One q) = AsksOnce asking (question_view q)
-AsksAll asking (asked.Lines lines) = AsksEach asking (map line_view lines.items)
+AsksAll asking (asked.Lines lines) = AsksLines asking (map line_view lines.items)
 
 -- that was done; whether all succeeded is told by the status
 abbrev pub ReportsDoing : Status → Doing → (before after : Timed) → (old new : Option (List ℕ)) → Type 0
@@ -31,7 +32,7 @@ ReportsClient IsOn IsClock s asking asked old new =
 pub record AsksRead (IsOn : Links) (IsClock : Clocks) (asking : Asking) (all : Bool) (old new : Option (List ℕ)) (content : Option (List ℕ)) : Type 0 where
   pub lines : List Numbered
   pub read : AreRead (peer_view asking.peer) lines content
-  pub asks : ByClient IsOn IsClock asking (AsksEach asking lines) all old new
+  pub asks : ByClient IsOn IsClock asking (AsksLines asking lines) all old new
 
 -- where a line is bad, or the file cannot be read, nothing was asked or printed
 abbrev pub AreAskedFrom : (IsFile : (path : List ℕ) → (content : Option (List ℕ)) → Type 0) → Links → Clocks → Status → Asking → (path : List ℕ)

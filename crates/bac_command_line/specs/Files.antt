@@ -1,5 +1,5 @@
 -- What `check`, `explain` and `simulate` print of a file, and their statuses.
-use Rattle.std.specs.Prelude.{◌≡◌, ℕ, Bool, false, List, Option, ⊤}
+use Rattle.std.specs.Prelude.{◌≡◌, ℕ, Bool, List, Option, ⊤}
 use Rattle.bac_check.specs.Checked.{IsReportOf}
 use Rattle.bac_chart.specs.declared.drawing.Form.{Form}
 use Rattle.bac_explain_chart.specs.Charted as charted
@@ -29,10 +29,10 @@ pub record OfFile (IsAt : (path : List ℕ) → (content : Option (List ℕ)) �
 abbrev pub IsToldFile : (IsAt : (path : List ℕ) → (content : Option (List ℕ)) → Type 0) → (path : List ℕ) → Status → (Says : Option (List ℕ) → Type 0) → Type 0
 IsToldFile IsAt path s Says = ByStatus s (OfFile IsAt path Says) (OfFile IsAt path Says) ⊤
 
--- the capture in the file was checked to its end; there is a port beside those of BACnet/IP, or none
-abbrev pub IsCheckedFile : (IsAt : (path : List ℕ) → (content : Option (List ℕ)) → Type 0) → (path : List ℕ) → (also : Option ℕ) → Status
+-- the capture in the file was checked to its end; there is a port beside those of BACnet/IP, or none, and other functions are counted by name or not
+abbrev pub IsCheckedFile : (IsAt : (path : List ℕ) → (content : Option (List ℕ)) → Type 0) → (named : Bool) → (path : List ℕ) → (also : Option ℕ) → Status
     → (old new : Option (List ℕ)) → Type 0
-IsCheckedFile IsAt path also s old new = IsToldFile IsAt path s (λ content. IsReportOf also false content old new s)
+IsCheckedFile IsAt named path also s old new = IsToldFile IsAt path s (λ content. IsReportOf also named content old new s)
 
 -- the capture in the file was explained to its end
 abbrev pub IsExplainedFile : (IsAt : (path : List ℕ) → (content : Option (List ℕ)) → Type 0) → (path : List ℕ) → (also : Option ℕ) → Status

@@ -6,6 +6,7 @@ pub mod FileWords
 pub mod Rounds
 pub mod Online
 pub mod AskedLines
+pub mod InFlight
 pub mod Asked
 pub mod Stores
 pub mod Tasks

@@ -16,7 +16,7 @@ abbrev pub IsPerformed : (IsAt : (path : List ℕ) → (content : Option (List �
 IsPerformed IsAt IsOn IsClock (task.Answer datagram objects) s old new =
     IsAnsweredFrom IsAt (option_map (λ p. p.now) objects) datagram.now s old new
 IsPerformed IsAt IsOn IsClock (task.Decode in_words datagram) s old new = IsDecodedFrom IsAt in_words datagram.now s old new
-IsPerformed IsAt IsOn IsClock (task.Check path port) s old new = IsCheckedFile IsAt path.now port s old new
+IsPerformed IsAt IsOn IsClock (task.Check named path port) s old new = IsCheckedFile IsAt named path.now port s old new
 IsPerformed IsAt IsOn IsClock (task.CheckLines path) s old new = AreCheckedLines IsAt path.now s old new
 IsPerformed IsAt IsOn IsClock (task.Explain path port) s old new = IsExplainedFile IsAt path.now port s old new
 IsPerformed IsAt IsOn IsClock (task.Chart form path port) s old new = IsChartedFile IsAt form path.now port s old new

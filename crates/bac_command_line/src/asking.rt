@@ -63,6 +63,8 @@ pub(crate) struct Asking {
     pub strict: bool,
     /// How often it asks the same; None where it asks once.
     pub rounds: Option<Rounds>,
+    /// How many asks of lines are in flight at once; None where each is asked once the one before has ended.
+    pub window: Option<u64>,
 }
 
 impl Asking {
@@ -126,5 +128,6 @@ pub(crate) fn asking_of(given: &ArgMatches<'_>) -> Option<Asking> {
         style: style_of(given),
         strict: given.get_flag("fail"),
         rounds: rounds_of(given),
+        window: given.get_one("window"),
     })
 }

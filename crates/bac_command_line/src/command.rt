@@ -34,7 +34,7 @@ fn perform<F: OpenFiles, M: Machine, O: Write, E: Write>(
         Task::Decode { in_words, datagram } => {
             decode(alloc, files, in_words, datagram, out, err)
         }
-        Task::Check { path, port } => check(alloc, files, path, port, out, err),
+        Task::Check { named, path, port } => { check(alloc, files, named, path, port, out, err) }
         Task::CheckLines(path) => check_lines(alloc, files, path, out, err),
         Task::Explain { path, port } => explain(alloc, files, path, port, out, err),
         Task::Chart { form, path, port } => chart(alloc, files, form, path, port, out, err),

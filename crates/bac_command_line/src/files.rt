@@ -1,5 +1,6 @@
 //! Files that a command line names: what `check`, `explain` and `simulate` do.
 ghost use Rattle.std.specs.Prelude.{◌≡◌, ℕ, List, IfOk, IfErr};
+ghost use Rattle.std.specs.Io.Buffered.{reader_remaining};
 ghost use Rattle.bac_text.specs.Statuses.{IsStop};
 ghost use Rattle.bac_command_line.specs.Files.{IsChartedFile, IsCheckedFile, IsExplainedFile, IsShownFile, IsSimulatedFile, OnFile};
 
@@ -11,6 +12,9 @@ use bac_text::{Status, complain, no_memory};
 use std::alloc::Global;
 use std::io;
 use std::io::{BufReader, Read, Write};
+
+/// How many octets of a file are read at once.
+const READ_AT_ONCE: usize = 65_536;
 
 /// The files that a command line can name.
 pub trait OpenFiles {
@@ -39,31 +43,42 @@ pub(crate) fn opened<F: OpenFiles, E: Write>(
     }
 }
 
-/// Checks the capture in a file: one of pcap or pcapng, or of lines; with a port beside those of BACnet/IP. A file that cannot be opened: `cannot read` on `err`.
+/// A file, opened for reading, with a buffer. Where it cannot be opened, or memory is refused, `err` and the status tell it.
+pub(crate) fn reader_of<F: OpenFiles, E: Write>(
+    alloc: Global,
+    files: &F,
+    path: &str,
+    err: &mut E,
+) -> Result<BufReader<F::File>, Status>
+    ensures at { IfOk result (λ r. OnFile F.is_file F.File.remaining path.now (reader_remaining F.File.remaining r)) }
+    ensures told { IfErr result IsStop }
+{
+    let file = opened(files, path, err)?;
+    match BufReader::with_capacity(alloc, READ_AT_ONCE, file) {
+        Ok(reader) => Ok(reader),
+        Err(_) => Err(no_memory(err)),
+    }
+}
+
+/// Checks the capture in a file: one of pcap or pcapng, or of lines; with a port beside those of BACnet/IP, and with counts of other functions by name or not.
+/// A file that cannot be opened: `cannot read` on `err`.
 pub(crate) fn check<F: OpenFiles, O: Write, E: Write>(
     alloc: Global,
     files: &F,
+    named: bool,
     path: &str,
     port: Option<u16>,
     out: &mut O,
     err: &mut E,
 ) -> Status
-    ensures { IsCheckedFile (OnFile F.is_file F.File.remaining) path.now port result (O.contents out.old) (O.contents out.new) }
+    ensures { IsCheckedFile (OnFile F.is_file F.File.remaining) named path.now port result (O.contents out.old) (O.contents out.new) }
 {
-    let file = match opened(files, path, err) {
-        Ok(file) => file,
-        Err(status) => return status,
-    };
-    match BufReader::new(alloc, file) {
-        Ok(mut input) => check_capture_over(
-            alloc,
-            &mut input,
-            Ports { also: port },
-            false,
-            out,
-            err,
-        ),
-        Err(_) => no_memory(err),
+    match reader_of(alloc, files, path, err) {
+        Ok(mut input) => {
+            let ports = Ports { also: port };
+            check_capture_over(alloc, &mut input, ports, named, out, err)
+        }
+        Err(status) => status,
     }
 }
 
@@ -79,13 +94,9 @@ pub(crate) fn explain<F: OpenFiles, O: Write, E: Write>(
 ) -> Status
     ensures { IsExplainedFile (OnFile F.is_file F.File.remaining) path.now port result (O.contents out.old) (O.contents out.new) }
 {
-    let file = match opened(files, path, err) {
-        Ok(file) => file,
-        Err(status) => return status,
-    };
-    match BufReader::new(alloc, file) {
+    match reader_of(alloc, files, path, err) {
         Ok(mut input) => explain_over(alloc, &mut input, Ports { also: port }, out, err),
-        Err(_) => no_memory(err),
+        Err(status) => status,
     }
 }
 
@@ -102,13 +113,9 @@ pub(crate) fn chart<F: OpenFiles, O: Write, E: Write>(
 ) -> Status
     ensures { IsChartedFile (OnFile F.is_file F.File.remaining) form path.now port result (O.contents out.old) (O.contents out.new) }
 {
-    let file = match opened(files, path, err) {
-        Ok(file) => file,
-        Err(status) => return status,
-    };
-    match BufReader::new(alloc, file) {
+    match reader_of(alloc, files, path, err) {
         Ok(mut input) => chart_over(alloc, form, &mut input, Ports { also: port }, out, err),
-        Err(_) => no_memory(err),
+        Err(status) => status,
     }
 }
 

@@ -1,5 +1,5 @@
 //! Command lines, read by the table of commands.
-use crate::words::{COMMANDS, Form, Grammar, Need, Word};
+use crate::words::{Form, Grammar, Need, OFFLINE, ONLINE, Word};
 use clap::builder::ValueParser;
 use clap::{Arg, ArgAction, ArgMatches, Command};
 use std::alloc::Global;
@@ -60,15 +60,30 @@ fn command_of<'a>(alloc: Global, grammar: &Grammar) -> Result<Command<'a>, clap:
     Ok(command)
 }
 
-/// All commands.
-fn commands<'a>(alloc: Global) -> Result<Command<'a>, clap::Error> {
-    let mut bac = Command::new(alloc, "bac")
+/// A program with more commands.
+fn with_commands<'a>(
+    alloc: Global,
+    program: Command<'a>,
+    grammars: &[Grammar],
+) -> Result<Command<'a>, clap::Error> {
+    let mut program = program;
+    for grammar in grammars {
+        program = program.subcommand(command_of(alloc, grammar)?)?;
+    }
+    Ok(program)
+}
+
+/// The program with those of its commands that need no link.
+fn offline<'a>(alloc: Global) -> Result<Command<'a>, clap::Error> {
+    let bac = Command::new(alloc, "bac")
         .about("BACnet confirmed services, proved")
         .subcommand_required(true);
-    for grammar in COMMANDS {
-        bac = bac.subcommand(command_of(alloc, grammar)?)?;
-    }
-    Ok(bac)
+    with_commands(alloc, bac, OFFLINE)
+}
+
+/// The program with all of its commands: a table a function, since the prover writes out what a function names.
+fn commands<'a>(alloc: Global) -> Result<Command<'a>, clap::Error> {
+    with_commands(alloc, offline(alloc)?, ONLINE)
 }
 
 /// What the words of a command line give. An Err is out of memory, or has the text for who wrote them.

@@ -6,8 +6,10 @@ mod asking;
 mod asking_lines;
 mod bad_words;
 mod command;
+mod ends;
 mod file_words;
 mod files;
+mod flights;
 mod grammar;
 mod lines;
 mod objects;
@@ -18,6 +20,7 @@ mod rounds;
 mod serving;
 mod system;
 mod task;
+mod window;
 mod words;
 
 pub use command::run;

@@ -3,10 +3,10 @@ ghost use Rattle.std.specs.Str.{bytes_eq};
 ghost use Rattle.bac_command_line.specs.Files.{OnFile};
 ghost use Rattle.bac_command_line.specs.Lines.{AreCheckedLines, AreDecodedLines, IsDecodedFrom};
 
-use crate::files::{OpenFiles, opened};
-use bac_text::{Status, check_lines_over, decode_lines_over, decode_text_over, no_memory};
+use crate::files::{OpenFiles, reader_of};
+use bac_text::{Status, check_lines_over, decode_lines_over, decode_text_over};
 use std::alloc::Global;
-use std::io::{BufReader, Write};
+use std::io::Write;
 
 /// What stands for standard input in the place of a datagram.
 const STANDARD_INPUT: &str = "-";
@@ -22,13 +22,9 @@ fn decode_lines<F: OpenFiles, O: Write, E: Write>(
 ) -> Status
     ensures { AreDecodedLines (OnFile F.is_file F.File.remaining) in_words path.now result (O.contents out.old) (O.contents out.new) }
 {
-    let file = match opened(files, path, err) {
-        Ok(file) => file,
-        Err(status) => return status,
-    };
-    match BufReader::new(alloc, file) {
+    match reader_of(alloc, files, path, err) {
         Ok(mut input) => decode_lines_over(alloc, in_words, &mut input, out, err),
-        Err(_) => no_memory(err),
+        Err(status) => status,
     }
 }
 
@@ -60,12 +56,8 @@ pub(crate) fn check_lines<F: OpenFiles, O: Write, E: Write>(
 ) -> Status
     ensures { AreCheckedLines (OnFile F.is_file F.File.remaining) path.now result (O.contents out.old) (O.contents out.new) }
 {
-    let file = match opened(files, path, err) {
-        Ok(file) => file,
-        Err(status) => return status,
-    };
-    match BufReader::new(alloc, file) {
+    match reader_of(alloc, files, path, err) {
         Ok(mut input) => check_lines_over(alloc, true, &mut input, out, err),
-        Err(_) => no_memory(err),
+        Err(status) => status,
     }
 }

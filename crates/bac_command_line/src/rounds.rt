@@ -1,8 +1,10 @@
 //! What a client asks, once or in rounds.
-ghost use Rattle.std.specs.Prelude.{◌≡◌, IfErr, IfOk};
+ghost use Rattle.std.specs.Prelude.{◌≡◌, map, IfErr, IfOk};
 ghost use Rattle.bac_run.specs.Runs.{timed};
 ghost use Rattle.bac_text.specs.Statuses.{IsFailure};
 ghost use Rattle.bac_command_line.specs.Asked.{AsksAll, ReportsClient, ReportsDoing};
+ghost use Rattle.bac_command_line.specs.AskedLines.{line_view};
+ghost use Rattle.bac_command_line.specs.InFlight.{AsksLines};
 ghost use Rattle.bac_command_line.specs.Online.{OnClock, OnPort};
 ghost use Rattle.bac_command_line.specs.Rounds.{AreRounds, AreRoundsFrom, BeginsRound, Rests};
 ghost use Rattle.bac_command_line.specs.Serving.{turns_of};
@@ -11,6 +13,7 @@ use crate::asking::{Asking, Rounds};
 use crate::asking_lines::{ask_each, both};
 use crate::online::{Machine, ask_once};
 use crate::question_lines::LineQuestion;
+use crate::window::ask_ahead;
 use bac_commands::{Trouble, client_station, clock_fault, link_fault};
 use bac_link::{Clock, Link};
 use bac_run::{Patience, Question, Station};
@@ -25,6 +28,26 @@ pub(crate) enum Asked {
     One(Question),
     /// Those of lines.
     Lines(Vec<LineQuestion>),
+}
+
+/// A node asks what lines ask, so many at once as is wanted. Answers whether all succeeded.
+fn ask_lines<L: Link, C: Clock, O: Write, E: Write>(
+    alloc: Global,
+    asking: &Asking,
+    station: &mut Station<L>,
+    clock: &mut C,
+    lines: &[LineQuestion],
+    out: &mut O,
+    err: &mut E,
+) -> Result<bool, Status>
+    ensures asked { IfOk result (λ all. AsksLines asking.now (map line_view lines.now) all
+        (timed station.old (C.told clock.old)) (timed station.new (C.told clock.new)) (O.contents out.old) (O.contents out.new)) }
+    ensures failed { IfErr result IsFailure }
+{
+    match asking.window {
+        Some(window) => ask_ahead(alloc, asking, window, station, clock, lines, out, err),
+        None => ask_each(alloc, asking, station, clock, lines, out, err),
+    }
 }
 
 /// A node asks all that, once. Answers whether all succeeded.
@@ -43,7 +66,7 @@ fn ask_all<L: Link, C: Clock, O: Write, E: Write>(
 {
     match asked {
         Asked::One(question) => ask_once(alloc, asking, station, clock, question, out, err),
-        Asked::Lines(lines) => ask_each(alloc, asking, station, clock, lines, out, err),
+        Asked::Lines(lines) => ask_lines(alloc, asking, station, clock, lines, out, err),
     }
 }
 

@@ -17,8 +17,9 @@ pub(crate) enum Task<'m, 'a> {
         in_words: bool,
         datagram: &'a str,
     },
-    /// What is bad of the capture in this file, with a port beside those of BACnet/IP.
+    /// What is bad of the capture in this file, with a port beside those of BACnet/IP; other functions are counted by name or not.
     Check {
+        named: bool,
         path: &'a str,
         port: Option<u16>,
     },
@@ -110,7 +111,8 @@ pub(crate) fn task_of<'m, 'a>(matches: &'m ArgMatches<'a>) -> Option<Task<'m, 'a
         ("check", given) => {
             let path = given.get_str("FILE")?;
             let port = given.get_one("port");
-            Some(Task::Check { path, port })
+            let named = given.get_flag("text");
+            Some(Task::Check { named, path, port })
         }
         ("explain", given) => {
             let path = given.get_str("FILE")?;

@@ -117,6 +117,13 @@ const CHECK: &[Word] = &[
         against: &["port"],
         help: "Takes lines that end in CRLF, and passes over blank lines and those that begin with `#`",
     },
+    Word {
+        name: "text",
+        form: Form::Flag,
+        need: Need::Never,
+        against: &["notes"],
+        help: "Of pcap or pcapng: tells how many frames carry each other function of BVLC, by name",
+    },
 ];
 
 /// Captures that may be explained.
@@ -307,7 +314,7 @@ Example: bac ask --port 47808 read 0:5 85
 Example: bac ask --port 47808 --text read analog-input:5 present-value
 Example: bac ask --to 192.168.1.20 --route 5:2A --timeout 3 read device:7 object-name
 Example: bac ask --to 192.168.1.20 write analog-value:1 present-value real:72.5 priority 8
-Example: bac ask --to 192.168.1.20 --text --lines requests.txt
+Example: bac ask --to 192.168.1.20 --text --lines requests.txt --window 8
 Example: bac ask --to 192.168.1.20 --text --every 60 read analog-input:5 present-value
 Example: bac ask --port 47808 put file:1 0 @log.bin
 Example: bac ask --port 47808 --raw get file:1 0 1000 > log.bin";
@@ -371,6 +378,13 @@ const ASK: &[Word] = &[
         help: "Asks the requests of a file, one a line, in turn by one node, and prints behind each line's number how it ended; `-` for standard input. Blank lines and those that begin with `#` are passed over; words are separated by single spaces, and none is `@FILE`. A bad line is told before anything is asked",
     },
     Word {
+        name: "window",
+        form: Form::Number("N", 256),
+        need: Need::Beside("lines"),
+        against: &["WORDS"],
+        help: "Asks up to N of the requests at once, 1 to 256; what is printed stays in the order of the lines. Without it, each is asked once the one before has ended",
+    },
+    Word {
         name: "every",
         form: Form::Number("S", 1_000_000_000),
         need: Need::Never,
@@ -393,8 +407,8 @@ const ASK: &[Word] = &[
     },
 ];
 
-/// The commands, in the order of help.
-pub(crate) const COMMANDS: &[Grammar] = &[
+/// The commands that need no link, in the order of help.
+pub(crate) const OFFLINE: &[Grammar] = &[
     Grammar {
         name: "answer",
         about: "Prints the datagrams that answer a datagram, one a line, or `none`",
@@ -430,6 +444,10 @@ pub(crate) const COMMANDS: &[Grammar] = &[
         after: SIMULATE_EXAMPLES,
         words: SIMULATE,
     },
+];
+
+/// The others, which stand behind them in help.
+pub(crate) const ONLINE: &[Grammar] = &[
     Grammar {
         name: "serve",
         about: "Serves a house over UDP on 127.0.0.1, and prints how many requests it performed",

@@ -1,5 +1,5 @@
 //! Machines in memory: links behind which a house answers, or others do, and clocks that go on, stand or go back.
-ghost use Rattle.std.specs.Prelude.{◌≡◌, ◌≤◌, length, None, ⊤};
+ghost use Rattle.std.specs.Prelude.{◌≡◌, ◌≤◌, length, is_ok, if◌then◌else◌, None, ⊤};
 ghost use Rattle.bac_link.specs.Calls.{one_more};
 
 use crate::text_file::copy_front;
@@ -16,6 +16,8 @@ pub(crate) enum Behind {
     Nothing,
     /// Houses: at port 47,808, and at the second free port. Nobody is at the others.
     Houses,
+    /// The same; of answers that wait the one that was sent last comes first.
+    Backwards,
     /// Nobody.
     Nobody,
     /// Who is asked answers with this datagram.
@@ -55,8 +57,8 @@ pub(crate) struct BenchLink {
     requests: u8,
     /// How many datagrams came.
     came: usize,
-    /// The answer to what was sent last.
-    answer: Option<Waiting>,
+    /// The answers that wait: where the houses answer backwards all of them, otherwise the one to what was sent last.
+    answers: Vec<Waiting>,
     failures: u64,
 }
 
@@ -70,7 +72,9 @@ impl BenchLink {
     /// What answers a datagram to that address, if something does.
     fn answer_from(&self, to: [u8; 6], octets: &[u8]) -> Option<Vec<u8>> {
         match self.behind {
-            Behind::Houses if HOUSES.contains(&to) => house_answer(self.alloc, octets),
+            Behind::Houses | Behind::Backwards if HOUSES.contains(&to) => house_answer(
+                self.alloc, octets,
+            ),
             Behind::Answer(answer) => answer.to_vec(self.alloc).ok(),
             _ => None,
         }
@@ -87,6 +91,19 @@ impl BenchLink {
         self.came = self.came.saturating_add(1);
         let octets = hex::decode(self.alloc, octets).ok()?;
         Some(([127, 0, 0, 1, 0xBA, *port], octets))
+    }
+
+    /// An answer waits. Out of memory is a failure.
+    fn keep(&mut self, from: [u8; 6], answer: Vec<u8>) -> Result<(), LinkFault>
+        ensures { self.new.failures ≡ (if is_ok result then self.old.failures else one_more self.old.failures) }
+    {
+        if !matches!(self.behind, Behind::Backwards) {
+            self.answers.clear();
+        }
+        match self.answers.push((from, answer)) {
+            Ok(()) => Ok(()),
+            Err(_) => Err(self.failed()),
+        }
     }
 
     fn failed(&mut self) -> LinkFault
@@ -117,10 +134,10 @@ impl Link for BenchLink {
         if matches!(self.behind, Behind::Unsent(_)) {
             return Err(self.failed());
         }
-        if let Some(answer) = self.answer_from(to, octets) {
-            self.answer = Some((to, answer));
-        }
-        Ok(())
+        let Some(answer) = self.answer_from(to, octets) else {
+            return Ok(());
+        };
+        self.keep(to, answer)
     }
 
     fn recv(
@@ -136,7 +153,7 @@ impl Link for BenchLink {
         if let Some(datagram) = self.next_datagram() {
             return Ok(Some(hand_over(datagram, buffer)));
         }
-        match self.answer.take() {
+        match self.answers.pop() {
             Some(waiting) => Ok(Some(hand_over(waiting, buffer))),
             None if matches!(self.behind, Behind::Deaf) => Err(self.failed()),
             None => Ok(None),
@@ -216,7 +233,7 @@ impl BenchMachine {
             behind: self.bench.behind,
             requests,
             came: 0,
-            answer: None,
+            answers: Vec::new(self.alloc),
             failures: 0,
         }
     }

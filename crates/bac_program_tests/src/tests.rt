@@ -9,6 +9,7 @@ use std::test::Fail;
 mod answers;
 mod asked_lines;
 mod asked_rounds;
+mod asked_window;
 mod decoded;
 mod files;
 mod help;

@@ -194,6 +194,11 @@ transactions=0 answered=0 rejected=0 aborted=0 unanswered=0 slowest=- findings=0
         "check capture --port 47824",
         ("frames=0 good=0 bad=0 other=0\n", "", 0),
     ),
+    (
+        NO_FRAME,
+        "check --text capture",
+        ("frames=0 good=0 bad=0 other=0\n", "", 0),
+    ),
     ("x\n", "explain capture", ("", "no capture file\n", 2)),
     ("", "explain capture", ("", "no capture file\n", 2)),
     (NO_FRAME, "explain --chart capture", ("      ms\n", "", 0)),

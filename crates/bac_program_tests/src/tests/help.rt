@@ -21,6 +21,7 @@ const WORDS: &[(&str, &str)] = &[
     ("explain x --chart --mermaid", "--mermaid"),
     ("explain x --port 65536", "65536"),
     ("check x --port 0", "0 is not in 1..=65535"),
+    ("check x --text --notes", "--notes"),
     ("serve", "--port <P>"),
     ("serve --turns 2", "--port <P>"),
     ("serve --port 47899 --slots 0", "0 is not in 1..=1024"),
@@ -58,6 +59,15 @@ const WORDS: &[(&str, &str)] = &[
     ),
     ("ask --port 47899 --times 2 read 0:5 85", "--every <S>"),
     ("ask --help", "--times <N>"),
+    ("ask --help", "--window <N>"),
+    (
+        "ask --port 47899 --window 0 --lines x",
+        "0 is not in 1..=256",
+    ),
+    ("ask --port 47899 --window 257 --lines x", "257"),
+    ("ask --port 47899 --window wide --lines x", "wide"),
+    ("ask --port 47899 --window 2 read 0:5 85", "--window <N>"),
+    ("ask --port 47899 --window 2", "--lines <FILE>"),
     (
         "serve --help",
         "Example: bac serve --port 47808 --turns 600",

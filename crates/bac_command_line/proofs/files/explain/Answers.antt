@@ -1,14 +1,11 @@
--- The reader gives what the file does.
-use Rattle.std.proofs.Common.{◌≡◌, List, ℕ, Option}
-use Rattle.std.specs.Io.Buffered.{reader_remaining}
+-- What was told of the reader was told of the file.
+use Rattle.std.proofs.Common.{List, ℕ, Option}
 use Rattle.bac_explain_text.specs.Explained.{IsReportOf}
-use Rattle.bac_command_line.proofs.CheckedFiles.{told_file, prepend_nothing}
+use Rattle.bac_command_line.proofs.CheckedFiles.{told_file}
 use Rattle.bac_command_line.proofs.files.explain.Goals as goal
 
-pub returns-in-Ok-new : goal.returns-in-Ok-new
-returns-in-Ok-new g c =
-    let same : reader_remaining g.F.File.Read.remaining c.in-Ok-new.input ≡ g.F.File.Read.remaining c.in-Ok.file =
-    rw (c.in-Ok-new.ensures.capacity, c.in-Ok-new.ensures.empty, c.in-Ok-new.ensures.inner) (prepend_nothing _) in
-    told_file g.F.OpenFiles.is_file g.F.File.Read.remaining c.args.path.now c.in-Ok.file _
+pub returns-in-Ok : goal.returns-in-Ok
+returns-in-Ok g c =
+    told_file _ c.args.path.now _
     (λ (content : Option (List ℕ)). IsReportOf c.args.port content (g.O.Write.contents c.args.out.now) (g.O.Write.contents c.explain_over.new.out) c.explain_over.result)
-    c.explain_over.result c.in-Ok.ensures.opened same c.explain_over.ensures
+    c.explain_over.result c.in-Ok.ensures.at c.explain_over.ensures

@@ -1,0 +1,216 @@
+-- What `ask --lines --window` asks and prints: one node asks the requests of some lines, several at once.
+use Rattle.std.specs.Prelude.{◌≡◌, ◌⊎◌, ℕ, ◌==◌, ◌<◌, ◌≤◌, ◌++◌, max, Bool, true, false, ◌&&◌, List, [], ◌∷◌, length, Option, Some, None, position, slice_set}
+use Rattle.std.specs.Io.KnownBytes.{Appends}
+use Rattle.bac_link.specs.Moments.{with_moment}
+use Rattle.bac_requester.specs.declared.turn.Finish.{Finish}
+use Rattle.bac_text.specs.Texts.{line_end}
+use Rattle.bac_run.specs.Asking as run
+use Rattle.bac_run.specs.Asking.{Question}
+use Rattle.bac_run.specs.Runs.{Run, Timed, timed}
+use Rattle.bac_run.specs.Serving.{IsOver, TakesEarlyTurn}
+use Rattle.bac_run.specs.Views.{turn_view}
+use Rattle.bac_run.specs.declared.patience.Patience.{Patience}
+use Rattle.bac_run.specs.declared.question.AskEnd.{AskEnd}
+use Rattle.bac_run.specs.declared.question.AskEnd.TheVariants as end
+use Rattle.bac_run.specs.declared.turn.Turn.{Turn}
+use Rattle.bac_commands.specs.Reports.{end_line, is_success}
+use Rattle.bac_commands.specs.Words.{AreEndWords}
+use Rattle.bac_command_line.specs.AskedLines.{AsksEach, Numbered, number_text}
+use Rattle.bac_command_line.specs.Asking.{patience_for}
+use Rattle.bac_command_line.specs.Rounds.{DoesNothing, Doing}
+use Rattle.bac_command_line.specs.declared.asking.Asking.{Asking}
+use Rattle.bac_command_line.specs.declared.asking.Style.{Style}
+use Rattle.bac_command_line.specs.declared.asking.Style.TheVariants as style
+use Rattle.bac_command_line.specs.declared.flights.Flight.{Flight}
+use Rattle.bac_command_line.specs.declared.flights.Flight.TheVariants as flight
+
+-- ---- one ask
+
+-- the node refused it
+abbrev pub IsRefused : Question → AskEnd → (old new : Timed) → Type 0
+IsRefused q (end.Ended how) old new = ⊥
+IsRefused q (end.Refused why) old new = run.IsRefused q why old new
+IsRefused q end.NoEnding old new = ⊥
+
+-- it was accepted, and is waited for as from that moment on; or refused, and is over
+abbrev pub IsBegun : (timeout : Option ℕ) → (start : ℕ) → Question → Flight → (old new : Timed) → Type 0
+IsBegun timeout start q (flight.Open ticket patience) old new = (patience ≡ patience_for timeout start) × run.Asks q old ticket new
+IsBegun timeout start q (flight.Over end) old new = IsRefused q end old new
+
+-- an ask began, once the clock had told that moment
+pub record BeginsAsk (asking : Asking) (q : Question) (f : Flight) (before after : Timed) : Type 0 where
+  pub start : ℕ
+  pub begun : IsBegun asking.timeout start q f (timed before.station (with_moment before.told start)) after
+
+abbrev pub has_ticket : (ticket : ℕ) → Flight → Bool
+has_ticket wanted (flight.Open ticket patience) = ticket == wanted
+has_ticket wanted (flight.Over end) = false
+
+-- how long it is waited for, where it is not over
+abbrev pub patience_of : Flight → Option Patience
+patience_of (flight.Open ticket patience) = Some patience
+patience_of (flight.Over end) = None
+
+-- how it ended; one that is open is waited for no longer
+abbrev pub end_of : Flight → AskEnd
+end_of (flight.Open ticket patience) = end.NoEnding
+end_of (flight.Over end) = end
+
+-- ---- those in flight, in the order of their lines
+
+-- what the node has become, what the clock has told, and the asks that have begun and are not yet told
+pub record Aloft : Type 0 where
+  pub at : Timed
+  pub flights : List Flight
+
+abbrev pub aloft : Timed → List Flight → Aloft
+aloft at flights = record { at = at; flights = flights }
+
+abbrev pub noted_at : Option ℕ → Finish → List Flight → List Flight
+noted_at None f fs = fs
+noted_at (Some place) f fs = slice_set fs place (flight.Over (end.Ended f.how))
+
+-- the ask whose ticket has ended is over
+abbrev pub noted : Finish → List Flight → List Flight
+noted f fs = noted_at (position (has_ticket f.ticket) fs) f fs
+
+abbrev pub all_noted : List Finish → List Flight → List Flight
+all_noted [] fs = fs
+all_noted (f ∷ more) fs = all_noted more (noted f fs)
+
+abbrev pub first_patience : List Flight → Option Patience
+first_patience [] = None
+first_patience (f ∷ fs) = patience_of f
+
+-- the first was taken off
+pub record TakesFirst (end : AskEnd) (old new : List Flight) : Type 0 where
+  pub first : Flight
+  pub is : old ≡ first ∷ new
+  pub end_is : end ≡ end_of first
+
+-- ---- asks begin
+
+-- the request of a line was asked, where fewer than so many were in flight, and then the others
+pub record BeginsFirst (asking : Asking) (window : ℕ) (line : Numbered) (Others : Aloft → Aloft → Type 0) (old new : Aloft) : Type 0 where
+  pub room : length old.flights < max window 1
+  pub flight : Flight
+  pub middle : Aloft
+  pub begins : BeginsAsk asking line.question flight old.at middle.at
+  pub is : middle.flights ≡ old.flights ++ flight ∷ []
+  pub others : Others middle new
+
+abbrev pub BeginsEach : Asking → (window : ℕ) → List Numbered → (old new : Aloft) → Type 0
+BeginsEach asking window [] old new = new ≡ old
+BeginsEach asking window (line ∷ lines) old new = BeginsFirst asking window line (BeginsEach asking window lines) old new
+
+-- lines that wait were asked, in order, until none was left or so many were in flight
+pub record BeginsMore (asking : Asking) (window : ℕ) (waiting : List Numbered) (old : Aloft) (rest : List Numbered) (new : Aloft) : Type 0 where
+  pub begun : List Numbered
+  pub are : waiting ≡ begun ++ rest
+  pub begins : BeginsEach asking window begun old new
+  pub full : (rest ≡ []) ⊎ (max window 1 ≤ length new.flights)
+
+-- ---- the first ends
+
+-- a turn with that patience, and how tickets ended in it
+pub record TakesTurn (p : Patience) (old new : Aloft) : Type 0 where
+  pub turn : Turn
+  pub takes : TakesEarlyTurn p old.at (turn_view turn) new.at
+  pub noted : new.flights ≡ all_noted turn.tick_ended.items (all_noted turn.ended.items old.flights)
+
+-- or no time was left for one
+abbrev pub GoesOn : Patience → (went : Bool) → (old new : Aloft) → Type 0
+GoesOn p true old new = TakesTurn p old new
+GoesOn p false old new = IsOver p old.at new.at × (new.flights ≡ old.flights)
+
+-- a turn as long as the first is waited for
+abbrev pub WaitsOnce : (old : Aloft) → Patience → (new : Aloft) → Type 0
+WaitsOnce old p new = (first_patience old.flights ≡ Some p) × TakesTurn p old new
+
+pub record Waits (turns : ℕ) (old new : Aloft) : Type 0 where
+  pub waited : List Patience
+  pub all : length waited ≡ turns
+  pub run : Run WaitsOnce waited old new
+
+-- no more time was left for the first
+pub record RunsOut (old new : Aloft) : Type 0 where
+  pub patience : Patience
+  pub waiting : first_patience old.flights ≡ Some patience
+  pub over : GoesOn patience false old new
+
+-- the first was over, or as many turns were taken as may be
+abbrev pub IsDone : (turns : ℕ) → (old new : Aloft) → Type 0
+IsDone turns old new = ((first_patience old.flights ≡ None) ⊎ (turns ≡ 100000)) × (new ≡ old)
+
+-- turns were taken until the first was over, or no more time was left for it, and it was taken off
+pub record EndsFirst (end : AskEnd) (old new : Aloft) : Type 0 where
+  pub turns : ℕ
+  pub most : turns ≤ 100000
+  pub waited : Aloft
+  pub waits : Waits turns old waited
+  pub stopped : Aloft
+  pub stops : IsDone turns waited stopped ⊎ RunsOut waited stopped
+  pub takes : TakesFirst end stopped.flights new.flights
+  pub same : new.at ≡ stopped.at
+
+-- ---- how it is told
+
+pub record PrintsWords (end : AskEnd) (old new : Option (List ℕ)) : Type 0 where
+  pub words : List ℕ
+  pub are : AreEndWords end words
+  pub printed : Appends old new (words ++ line_end)
+
+abbrev pub PrintsEnd : Style → AskEnd → (old new : Option (List ℕ)) → Type 0
+PrintsEnd style.Numbers end old new = Appends old new (end_line end)
+PrintsEnd style.Words end old new = PrintsWords end old new
+PrintsEnd style.Octets end old new = Appends old new (end_line end)
+
+pub record PrintsLine (style : Style) (number : ℕ) (end : AskEnd) (old new : Option (List ℕ)) : Type 0 where
+  pub between : Option (List ℕ)
+  pub numbered : Appends old between (number_text number)
+  pub ends : PrintsEnd style end between new
+
+-- how the ask of a line ended was printed behind the line's number; whether it succeeded
+pub record TellsEnd (asking : Asking) (number : ℕ) (end : AskEnd) (succeeded : Bool) (old new : Option (List ℕ)) : Type 0 where
+  pub prints : PrintsLine asking.style number end old new
+  pub is : is_success asking.strict end ≡ succeeded
+
+-- ---- all lines
+
+-- what is left to be asked and told: by the lines that wait to be asked
+abbrev pub Telling : Type 1
+Telling = (waiting : List Numbered) → (all : Bool) → (before : Aloft) → (after : Timed) → (old new : Option (List ℕ)) → Type 0
+
+-- as many asks as may began; the first in flight, which is that of this line, ended and was told; and then the others
+pub record TellsNext (asking : Asking) (window : ℕ) (line : Numbered) (Others : Telling) (waiting : List Numbered) (all : Bool) (before : Aloft)
+    (after : Timed) (old new : Option (List ℕ)) : Type 0 where
+  pub rest : List Numbered
+  pub begun : Aloft
+  pub begins : BeginsMore asking window waiting before rest begun
+  pub end : AskEnd
+  pub ended : Aloft
+  pub ends : EndsFirst end begun ended
+  pub succeeded : Bool
+  pub between : Option (List ℕ)
+  pub tells : TellsEnd asking line.number end succeeded old between
+  pub more : Bool
+  pub others : Others rest more ended after between new
+  pub is : all ≡ succeeded && more
+
+-- by the lines that are still to be told
+abbrev pub TellsEach : Asking → (window : ℕ) → (untold : List Numbered) → Telling
+TellsEach asking window [] waiting all before after old new = DoesNothing all before.at after old new
+TellsEach asking window (line ∷ untold) waiting all before after old new =
+    TellsNext asking window line (TellsEach asking window untold) waiting all before after old new
+
+-- the requests of lines were asked by one node, so many at once, and told in order
+abbrev pub AsksAhead : Asking → (window : ℕ) → List Numbered → Doing
+AsksAhead asking window lines all before after old new = TellsEach asking window lines lines all (aloft before []) after old new
+
+-- so many at once as is wanted; without it one after the other
+abbrev pub AsksLinesBy : (window : Option ℕ) → Asking → List Numbered → Doing
+AsksLinesBy None asking lines all before after old new = AsksEach asking lines all before after old new
+AsksLinesBy (Some window) asking lines all before after old new = AsksAhead asking window lines all before after old new
+
+abbrev pub AsksLines : Asking → List Numbered → Doing
+AsksLines asking lines all before after old new = AsksLinesBy asking.window asking lines all before after old new
