@@ -147,3 +147,14 @@ def pcapng(link, frames, order='<', digits=9):
     parts = [section(order), interface(order, link, digits)]
     parts += [enhanced(order, 0, digits, moment, octets) for moment, octets in frames]
     return b''.join(parts)
+
+
+def read_pcap(octets):
+    """The frames of a file of pcap of microseconds, as they are given to pcap()."""
+    order = '<' if octets[:4] == struct.pack('<I', 0xA1B2C3D4) else '>'
+    frames, rest = [], octets[24:]
+    while rest:
+        seconds, part, length, _ = struct.unpack(f'{order}IIII', rest[:16])
+        frames.append((seconds * 1_000_000_000 + part * 1000, rest[16:16 + length]))
+        rest = rest[16 + length:]
+    return frames
