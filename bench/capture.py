@@ -165,3 +165,37 @@ def write_captures(count, times, capture, long_capture, hexadecimal):
         for turn in range(times):
             long.writelines(f'{turn * count + moment} {ends} {octets}\n' for moment, (ends, octets) in enumerate(lines))
     return sum(len(octets) // 2 for _, octets in lines)
+
+
+def packet(source, to, octets):
+    """UDP over IPv4 between two addresses of four octets, ports 47808."""
+    head = bytes([0x45, 0]) + (len(octets) + 28).to_bytes(2, 'big') + bytes([0, 0, 0, 0, 64, 17, 0, 0]) + source + to
+    return head + b'\xBA\xC0\xBA\xC0' + (len(octets) + 8).to_bytes(2, 'big') + b'\0\0' + octets
+
+
+def words(*numbers):
+    return b''.join(number.to_bytes(4, 'little') for number in numbers)
+
+
+def pcap_head(link):
+    return bytes.fromhex('D4C3B2A1 0200 0400 00000000 00000000 00000400') + words(link)
+
+
+def pcap_record(moment, whole):
+    """A moment in milliseconds, and the octets of a frame."""
+    return words(moment // 1000, moment % 1000 * 1000, len(whole), len(whole)) + whole
+
+
+def block(number, body):
+    body += bytes(-len(body) % 4)
+    return words(number, len(body) + 12) + body + words(len(body) + 12)
+
+
+def pcapng_head(link):
+    """A section and an interface, whose moments count microseconds."""
+    return block(0x0A0D0D0A, bytes.fromhex('4D3C2B1A 0100 0000 FFFFFFFFFFFFFFFF')) + block(1, words(link, 0x40000))
+
+
+def pcapng_record(moment, whole):
+    units = moment * 1000
+    return block(6, words(0, units >> 32, units & 0xFFFFFFFF, len(whole), len(whole)) + whole)

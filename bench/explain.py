@@ -9,12 +9,15 @@ sys.dont_write_bytecode = True  # no __pycache__ beside the sources
 import tempfile
 from pathlib import Path
 
-from capture import SEED, Exchanges
+from capture import SEED, Exchanges, packet, pcap_head, pcap_record
 from check import quickest
 
 DATAGRAMS = 1_000_000
 TIMES = 10
 CLIENTS = 64
+SERVER = bytes([10, 0, 0, 9])
+RAW = 101  # packets of IP
+BEGIN = 1_700_000_000_000
 APART = 4  # milliseconds: in 65,000 so few transactions begin that no invoke ID comes again
 
 
@@ -30,25 +33,16 @@ class Clients(Exchanges):
         return self.random.choice(self.kinds)()
 
 
-def packet(client, from_client, octets):
-    """UDP over IPv4 from one of the clients to the server, or the other way."""
-    ends = [bytes([10, 0, 1, client]), bytes([10, 0, 0, 9])]
-    source, to = ends if from_client else reversed(ends)
-    head = bytes([0x45, 0]) + (len(octets) + 28).to_bytes(2, 'big') + bytes([0, 0, 0, 0, 64, 17, 0, 0]) + source + to
-    return head + b'\xBA\xC0\xBA\xC0' + (len(octets) + 8).to_bytes(2, 'big') + b'\0\0' + octets
-
-
 def write_capture(path, count):
     """Writes so many datagrams as a pcap file of packets of IP (link layer 101)."""
     exchanges, made = Clients(SEED), 0
     with open(path, 'wb') as file:
-        file.write(bytes.fromhex('D4C3B2A1 0200 0400 00000000 00000000 00000400 65000000'))
+        file.write(pcap_head(RAW))
         while made < count:
             for from_client, octets in exchanges.draw()[:count - made]:
-                moment, whole = made * APART, packet(exchanges.client, from_client, octets)
+                ends = [bytes([10, 0, 1, exchanges.client]), SERVER]
+                file.write(pcap_record(BEGIN + made * APART, packet(*(ends if from_client else reversed(ends)), octets)))
                 made += 1
-                words = [1_700_000_000 + moment // 1000, moment % 1000 * 1000, len(whole), len(whole)]
-                file.write(b''.join(word.to_bytes(4, 'little') for word in words) + whole)
 
 
 def shown(title, found, count):

@@ -4,10 +4,13 @@ there too, and no other row may. Prints what differs and is not known to, and a 
 import ipaddress
 import os
 import re
-import struct
 import subprocess
 import sys
+sys.dont_write_bytecode = True  # no __pycache__ beside the sources
+
 import tempfile
+
+import captures
 
 ROWS = os.path.join(os.path.dirname(__file__), "../../crates/bac_capture_tests/src/tests/rows.rt")
 ROW = re.compile(r'\(\s*"([^"]*)",\s*(\d+),\s*"([0-9A-F]*)",\s*"([^"]*)",?\s*\)')
@@ -21,11 +24,6 @@ KNOWN = {
     "length within UDP", "length beyond the packet", "length within the packet", "no octets", "first fragment",
 }
 LINUX_FAMILY = {"0A000000", "0000000A"}
-
-
-def capture(link, frames):
-    head = struct.pack("<IHHiIII", 0xA1B2C3D4, 2, 4, 0, 0, 262144, link)
-    return head + b"".join(struct.pack("<IIII", 1, 0, len(f), len(f)) + f for f in frames)
 
 
 def shown(path):
@@ -44,12 +42,13 @@ def text_of(line):
 
 
 def main():
+    captures.need("tshark")
     rows = [(name, int(link), octets, text) for name, link, octets, text in ROW.findall(open(ROWS).read())]
     wrong = 0
     for link in sorted({row[1] for row in rows}):
         some = [row for row in rows if row[1] == link]
         with tempfile.NamedTemporaryFile(suffix=".pcap") as file:
-            file.write(capture(link, [bytes.fromhex(row[2]) for row in some]))
+            file.write(captures.pcap(link, [(1_000_000_000, bytes.fromhex(row[2])) for row in some]))
             file.flush()
             lines = shown(file.name)
         for (name, _, octets, text), line in zip(some, lines, strict=True):

@@ -1,0 +1,253 @@
+"""What frames make of transactions by the rules of docs/PROTOCOL.md (Capture files), told again: the model that explain.py holds `bac explain` against."""
+
+from dataclasses import dataclass, field
+
+from sightings import ABORT, COMPLEX_ACK, REJECT
+
+KEEP, LIFE, MOST_SENDS, ROUND, OPEN_LIMIT = 65_000, 5_000, 4, 128, 16_384
+APPEND, WRITE_FILE = bytes.fromhex('07C4028000010E31FF61AA0F'), 7
+REUSED = 'another request with the invoke ID of an earlier one'
+CONFUSED = f"{REUSED}, whose answer this stack's server would send"
+
+
+def ahead(last, number):
+    """How far a segment's number is ahead of another."""
+    return (number - last) % 256
+
+
+@dataclass
+class Sent:
+    """A request or an answer, as far as it was seen. `index` is how many segments come before the last one; which segments may be sent after it (`grant`) is a
+    word, or what the last SegmentACK took, its window, and how often the next one was sent."""
+
+    moment: int
+    apdu: object
+    number: int
+    index: int
+    last: int
+    whole: bool
+    grant: str | tuple
+    times: int = 1
+    more: int = 0
+
+    def place(self, apdu):
+        """Where an APDU stands after what was seen."""
+        if apdu.segment is not None and apdu.segment == (self.number + 1) % 256:
+            return 'next'
+        if apdu.octets == self.apdu.octets:
+            return 'again'
+        if apdu.segment is None or (apdu.segment == 0 and self.more < ROUND):
+            return 'other'
+        return 'ahead' if 0 < ahead(self.number, apdu.segment) < 128 or ahead(apdu.segment, self.number) > self.index else 'back'
+
+    def count(self, now, where, apdu):
+        number = apdu.segment or 0
+        if where == 'again':
+            self.times += 1
+            self.grant = 'first' if self.grant == 'first' else 'unknown'
+            self.index = first_index(number)
+        else:
+            self.more += 1
+            self.whole = self.whole or not apdu.more
+            self.index += -ahead(number, self.number) if where == 'back' else ahead(self.number, number)
+            if isinstance(self.grant, tuple) and number == (self.grant[0] + 1) % 256:
+                self.grant = (*self.grant[:2], self.grant[2] + 1)
+        self.number, self.last = number, now
+
+    def take(self, apdu):
+        """A SegmentACK: one behind the last was sent before."""
+        if isinstance(self.grant, str) or ahead(self.grant[0], apdu.segment) < 128:
+            self.grant = (apdu.segment, apdu.window, 0)
+
+    def segment_finding(self, where, number):
+        """What is wrong with a segment after what was sent before."""
+        taken = isinstance(self.grant, tuple)
+        beyond = ahead(self.grant[0], number) if taken else 0
+        if (self.grant == 'first' and number) or (taken and self.grant[1] < beyond < 128):
+            return 'a segment beyond the window'
+        if where == 'ahead':
+            return 'a segment before it is missing'
+        return 'a segment sent more than four times' if taken and beyond == 1 and self.grant[2] >= MOST_SENDS else None
+
+    def again_finding(self, apdu):
+        """What is wrong with a request, or its first segment, that comes again."""
+        if self.times < MOST_SENDS:
+            return None
+        if apdu.segment is None:
+            return 'a request sent more than four times'
+        return 'a segment sent more than four times' if self.grant == 'first' else None
+
+
+def first_index(number):
+    """Numbers may have gone round before a first segment that is a later one."""
+    return number + 256 if number else 0
+
+
+def begun(now, apdu):
+    number = apdu.segment or 0
+    return Sent(now, apdu, number, first_index(number), now, not apdu.more, 'unknown' if number else 'first')
+
+
+def missing(apdu):
+    return 'a segment before it is missing' if apdu.segment else None
+
+
+@dataclass
+class Transaction:
+    request: Sent
+    reused: bool
+    answer: Sent | None = None
+    broken_off: bool = False
+    naks: int = 0
+    gave_up: bool = False
+
+    def ending(self):
+        """How it counts, whatever was seen of an answer whose end was not."""
+        if self.answer and self.answer.whole:
+            return {REJECT: 'rejected', ABORT: 'aborted'}.get(self.answer.apdu.kind, 'answered')
+        return 'aborted' if self.gave_up or (self.answer and self.broken_off) else 'unanswered'
+
+    def last_line(self):
+        if self.gave_up:
+            return ['  given up by the client']
+        if self.answer is None:
+            return ['  unanswered']
+        if self.answer.whole:
+            return []
+        return ['  aborted by the server' if self.broken_off else '  answer began, not whole']
+
+    def lines(self):
+        asked = [f'  asked at={self.request.moment} {counts(self.request)}']
+        if self.answer:
+            name = self.ending() if self.answer.whole else 'began'
+            asked.append(f'  {name} after={self.delay()} {counts(self.answer)}')
+        return asked + ([f'  negative SegmentACKs={self.naks}'] if self.naks else []) + self.last_line()
+
+    def delay(self):
+        return max(self.answer.moment - self.request.moment, 0)
+
+    def would_answer(self, apdu):
+        """Whether this stack's server takes another request for this one."""
+        first = self.request.apdu
+        if first.is_segment():
+            return apdu.is_segment() and self.answer is not None
+        return not apdu.is_segment() and first.octets[3:] == apdu.octets[3:]
+
+    def is_performed_twice(self, apdu):
+        written = all(it.kind == COMPLEX_ACK and it.choice == WRITE_FILE and not it.is_segment() for it in (self.answer.apdu, apdu))
+        return written and not self.reused and self.request.apdu.octets[3:] == APPEND
+
+    def answered(self, now, apdu):
+        """An answer is seen; what is wrong with it."""
+        if apdu.choice is not None and apdu.choice != self.request.apdu.choice:
+            return 'an answer of another service'
+        if self.answer is None:
+            self.answer = begun(now, apdu)
+            return missing(apdu)
+        if apdu.kind == ABORT and not self.answer.whole:
+            self.broken_off = True
+            return None
+        where = self.answer.place(apdu)
+        if where == 'other':
+            return 'an append performed twice' if self.is_performed_twice(apdu) else 'another answer than before'
+        old = apdu.segment is None and now - self.answer.moment > LIFE and now - self.request.last > 2 * LIFE
+        finding = ('a copy older than 5 s' if old else None) if where == 'again' else self.answer.segment_finding(where, apdu.segment)
+        self.answer.count(now, where, apdu)
+        return finding
+
+    def requested(self, now, where, apdu):
+        finding = self.request.again_finding(apdu) if where == 'again' else self.request.segment_finding(where, apdu.segment)
+        self.request.count(now, where, apdu)
+        if self.answer and isinstance(self.answer.grant, tuple):
+            self.answer.grant = (*self.answer.grant[:2], 0)
+        return finding
+
+
+def counts(sent):
+    return f'times={sent.times}' + (f' more-segments={sent.more}' if sent.more else '')
+
+
+@dataclass
+class Watch:
+    """The open transactions, in the order of their beginning, and what is to be printed."""
+
+    open: dict = field(default_factory=dict)
+    lines: list = field(default_factory=list)
+    ends: dict = field(default_factory=lambda: {'answered': 0, 'rejected': 0, 'aborted': 0, 'unanswered': 0})
+    findings: int = 0
+    frames: int = 0
+    unread: int = 0
+    slowest: int | None = None
+
+    def close(self, key):
+        it = self.open.pop(key)
+        self.lines += [f'transaction {key[0]} > {key[1]} id {key[2]}', *it.lines()]
+        if it.answer:
+            self.slowest = max(self.slowest or 0, it.delay())
+        self.ends[it.ending()] += 1
+
+    def awaited(self, seen):
+        """The transaction for which answers are looked for: so long after the last copy of its request."""
+        it = self.open.get(seen.key)
+        return it if it and seen.moment - it.request.last <= KEEP else None
+
+    def asks(self, seen):
+        it = self.open.get(seen.key)
+        it = it if it and seen.moment - it.request.moment <= KEEP else None
+        where = it.request.place(seen.apdu) if it else 'other'
+        if where != 'other':
+            return it.requested(seen.moment, where, seen.apdu)
+        finding = (CONFUSED if it.would_answer(seen.apdu) else REUSED) if it else missing(seen.apdu)
+        if seen.key in self.open:
+            self.close(seen.key)
+        elif len(self.open) >= OPEN_LIMIT:
+            self.close(next(iter(self.open)))
+        self.open[seen.key] = Transaction(begun(seen.moment, seen.apdu), it is not None)
+        return finding
+
+    def answers(self, seen):
+        it = self.awaited(seen)
+        return it.answered(seen.moment, seen.apdu) if it else 'an answer to no request'
+
+    def takes(self, seen):
+        it, role = self.awaited(seen), seen.apdu.role()
+        if not it:
+            return None
+        sent = it.request if role.endswith('request') else it.answer
+        if sent:
+            sent.take(seen.apdu)
+        if role.startswith('refuses'):
+            it.naks += 1
+            return 'a negative SegmentACK'
+        return None
+
+    def gives_up(self, seen):
+        it = self.awaited(seen)
+        if it:
+            it.gave_up = True
+
+    def see(self, seen):
+        """One frame; None where it has no part in a transaction."""
+        self.frames += 1
+        if seen is None:
+            return
+        first = next(iter(self.open), None)
+        if first and seen.moment - self.open[first].request.last > KEEP:
+            self.close(first)
+        finding = {'asks': self.asks, 'answers': self.answers, 'gives up': self.gives_up}.get(seen.apdu.role(), self.takes)(seen)
+        if finding:
+            self.findings += 1
+            self.lines.append(f'frame {seen.number}: {finding}, {seen.key[0]} > {seen.key[1]} id {seen.key[2]}')
+
+    def see_unread(self, number, why):
+        """One frame that cannot be looked at."""
+        self.frames += 1
+        self.unread += 1
+        self.lines.append(f'frame {number}: {why}')
+
+    def end(self):
+        for key in list(self.open):
+            self.close(key)
+        ends = ' '.join(f'{name}={number}' for name, number in self.ends.items())
+        slowest = '-' if self.slowest is None else self.slowest
+        self.lines.append(f'transactions={sum(self.ends.values())} {ends} slowest={slowest} findings={self.findings} frames={self.frames} unread={self.unread}')
