@@ -1,5 +1,4 @@
 -- The scene is a text, whichever row it comes from.
-use Rattle.std.proofs.Common.{◌×◌}
 use denote.Text.{Utf8}
 use denote.Shadow.{shadow}
 use Rattle.bac_rows_run.proofs.rows.play_all.Given as goal
