@@ -1,6 +1,6 @@
 //! Capture files of transactions, and what is printed of them.
 use super::explained_rows::{ANSWERED, PARTS, Row, WRONG};
-use super::moment_rows::{MOMENTS, NO_MOMENT, NO_MOMENT_PRINTED, PRINTED};
+use super::moment_rows::{MOMENTS, PRINTED, UNREAD};
 use super::transaction_rows::Seen;
 use bac_check::Ports;
 use bac_explain_text::explain_over;
@@ -123,6 +123,15 @@ fn moments_of_blocks(rt: HostRuntime) -> Result<(), Fail> {
         let file = octets_of(rt.alloc(), file)?;
         holds(prints(rt.alloc(), &file, PRINTED, 0), name)?;
     }
-    let file = octets_of(rt.alloc(), NO_MOMENT)?;
-    holds(prints(rt.alloc(), &file, NO_MOMENT_PRINTED, 1), "no moment")
+    Ok(())
+}
+
+/// Frames that cannot be looked at are counted, and those of other datagrams passed over.
+#[test]
+fn frames_not_looked_at(rt: HostRuntime) -> Result<(), Fail> {
+    for (name, file, printed) in UNREAD {
+        let file = octets_of(rt.alloc(), file)?;
+        holds(prints(rt.alloc(), &file, printed, 1), name)?;
+    }
+    Ok(())
 }

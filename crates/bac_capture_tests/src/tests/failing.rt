@@ -83,18 +83,21 @@ fn tells_that_the_input_failed(rt: HostRuntime) -> Result<(), Fail> {
     Ok(())
 }
 
-fn fails_to_print(alloc: Global, file: &[u8]) -> bool {
+fn fails_to_print(alloc: Global, file: &[u8], named: bool) -> bool {
     let mut input = file;
     let mut room = [0u8; 40];
     let mut out = room.as_mut_slice();
     let mut err = Vec::new(alloc);
-    check_capture_over(alloc, &mut input, PORTS, false, &mut out, &mut err).code() == 3
+    check_capture_over(alloc, &mut input, PORTS, named, &mut out, &mut err).code() == 3
         && err.is_empty()
 }
 
-/// The output has room for a bad frame's line, and not for the counts.
+/// The output has room for a bad frame's line, and not for what is told of all, by name or without.
 #[test]
 fn tells_that_the_output_failed(rt: HostRuntime) -> Result<(), Fail> {
     let file = first_file(rt.alloc())?;
-    holds(fails_to_print(rt.alloc(), &file), "an output of 40 octets")
+    holds(
+        fails_to_print(rt.alloc(), &file, false) && fails_to_print(rt.alloc(), &file, true),
+        "an output of 40 octets",
+    )
 }

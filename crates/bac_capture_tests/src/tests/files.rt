@@ -1,5 +1,5 @@
 //! Capture files, and what is printed of them.
-use super::file_rows::{FILES_1, FILES_2, FILES_3, FILES_4, NAMED, Row};
+use super::file_rows::{FILES_1, FILES_2, FILES_3, FILES_4, LONG, LongFile, NAMED, Row};
 use bac_check::{Ports, check_capture_over};
 use bac_rows::{holds, octets_of};
 use std::alloc::{AllocError, Global};
@@ -65,4 +65,28 @@ fn fourth_files(rt: HostRuntime) -> Result<(), Fail> {
 #[test]
 fn named_files(rt: HostRuntime) -> Result<(), Fail> {
     rows_hold(rt.alloc(), NAMED, true)
+}
+
+fn long_octets(alloc: Global, file: &LongFile) -> Result<Vec<u8>, Fail> {
+    let mut octets = octets_of(alloc, file.front)?;
+    let repeated = octets_of(alloc, file.repeated)?;
+    for _ in 0..file.times {
+        octets.extend_from_slice(&repeated)?;
+    }
+    let end = octets_of(alloc, file.end)?;
+    octets.extend_from_slice(&end)?;
+    Ok(octets)
+}
+
+#[test]
+fn long_files(rt: HostRuntime) -> Result<(), Fail> {
+    for file in LONG {
+        let octets = long_octets(rt.alloc(), file)?;
+        let (printed, ended) = printed_of(rt.alloc(), &octets, false, 8_192)?;
+        holds(
+            printed.as_slice() == file.text.as_bytes() && ended == file.status,
+            file.name,
+        )?;
+    }
+    Ok(())
 }
