@@ -1,8 +1,12 @@
 //! A small journal.
+ghost use Rattle.std.specs.Prelude.{◌≡◌, length, IfOk};
+
 use super::*;
 use bac_journal::{Journal, Note, Transaction};
 
-fn journal(alloc: Global) -> Result<Journal, NoMemory> {
+fn journal(alloc: Global) -> Result<Journal, NoMemory>
+    ensures { IfOk result (λ j. length j.links ≡ 2) }
+{
     let mut links = Vec::new(alloc);
     links.push(link(0))?;
     links.push(link(1))?;
