@@ -153,7 +153,9 @@ def shown(path):
     rows = []
     for line in subprocess.run(words, capture_output=True, text=True, check=True).stdout.splitlines():
         moment, source, target, port, other, status, octets, malformed = line.split('|')
-        is_well = (port, other, malformed) == ('47808', '47808', '') and status in ('1', 'Good')
+        first = int(octets[12:14], 16)
+        is_segment = first >> 4 in (0, 3) and first & 8  # tshark joins segments of equal invoke IDs, and marks what comes out
+        is_well = (port, other) == ('47808', '47808') and (is_segment or not malformed) and status in ('1', 'Good')
         rows.append(f'{float(moment):.3f}|{source}|{target}|{octets.upper()}' + ('' if is_well else f' {line}'))
     return rows
 
