@@ -44,12 +44,9 @@ fn argument<'a>(alloc: Global, word: &Word) -> Result<Arg<'a>, clap::Error> {
 
 /// A command without its words.
 fn titled<'a>(alloc: Global, grammar: &Grammar) -> Command<'a> {
-    let command = Command::new(alloc, grammar.name);
-    let command = command.about(grammar.about).after_help(grammar.after);
-    match grammar.before {
-        Some(text) => command.before_help(text),
-        None => command,
-    }
+    Command::new(alloc, grammar.name)
+        .about(grammar.about)
+        .after_help(grammar.after)
 }
 
 fn command_of<'a>(alloc: Global, grammar: &Grammar) -> Result<Command<'a>, clap::Error> {

@@ -12,7 +12,7 @@ use crate::address::LOCAL_HOST;
 use crate::asking::{Asking, Style};
 use crate::bad_words::tell_bad_words;
 use crate::rounds::{Asked, ask_by_client};
-use crate::serving::{Serving, serve_from, tell_listening};
+use crate::serving::{Serving, serve_from, tell_listening, tell_not_bound};
 use bac_commands::{
     asks_for_file, clock_fault, house_station, link_fault, read_question, server_station,
 };
@@ -24,6 +24,7 @@ use bac_script::FormFault;
 use bac_store::Store;
 use bac_text::{Status, complain, no_memory};
 use std::alloc::Global;
+use std::io;
 use std::io::Write;
 
 /// The links and the clock of a machine.
@@ -36,10 +37,10 @@ pub trait Machine {
 
     ghost is_made: { Self.Timer → Type 0 };
 
-    /// A link at that port of an IPv4 address of this machine, and its own address: 0.0.0.0 is each of them, port 0 any free one. None where the system
+    /// A link at that port of an IPv4 address of this machine, and its own address: 0.0.0.0 is each of them, port 0 any free one. An Err where the system
     /// refuses it.
-    fn bind(&self, host: [u8; 4], port: u16) -> Option<(Self::Link, LinkAddress)>
-        ensures { IfSome result (λ b. Self.is_bound host port b.0 b.1) };
+    fn bind(&self, host: [u8; 4], port: u16) -> io::Result<(Self::Link, LinkAddress)>
+        ensures { IfOk result (λ b. Self.is_bound host port b.0 b.1) };
 
     /// A clock; None where it can't be read.
     fn timer(&self) -> Option<Self::Timer>
@@ -61,21 +62,23 @@ pub(crate) fn serve<M: Machine, O: Write, E: Write>(
     ensures { IsServedBy store (OnPort M.is_bound M.Link.failures M.Link.calls) (OnClock M.is_made M.Timer.told) result serving.now
         (O.contents out.old) (O.contents out.new) }
 {
-    let Some(bound) = machine.bind(serving.host, serving.port) else {
-        return link_fault(err);
+    let bound = match machine.bind(serving.host, serving.port) {
+        Ok(bound) => bound,
+        Err(error) => return tell_not_bound(serving, &error, err),
     };
     let Some(mut timer) = machine.timer() else {
         return clock_fault(err);
     };
     let address = bound.1;
     let start = timer.now();
+    let objects = store.object_count();
     let restart = serving.restart(start);
     let mut station = match server_station(alloc, bound.0, address, store, serving.slots, restart) {
         Ok(station) => station,
         Err(NewNodeFault::BadSlots) => return complain(err, "bad slots", Status::CommandLine),
         Err(_) => return no_memory(err),
     };
-    tell_listening(serving, address, start, err);
+    tell_listening(serving, address, objects, start, err);
     serve_from(alloc, serving, start, &mut station, &mut timer, out, err)
 }
 
@@ -205,10 +208,10 @@ pub(crate) fn pair<M: Machine, O: Write, E: Write>(
     ensures { IsPair (OnPort M.is_bound M.Link.failures M.Link.calls) (OnClock M.is_made M.Timer.told) result
         (O.contents out.old) (O.contents out.new) }
 {
-    let Some(bound) = machine.bind(LOCAL_HOST, 0) else {
+    let Ok(bound) = machine.bind(LOCAL_HOST, 0) else {
         return link_fault(err);
     };
-    let Some(other_bound) = machine.bind(LOCAL_HOST, 0) else {
+    let Ok(other_bound) = machine.bind(LOCAL_HOST, 0) else {
         return link_fault(err);
     };
     let Some(mut timer) = machine.timer() else {

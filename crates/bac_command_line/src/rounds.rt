@@ -199,7 +199,7 @@ pub(crate) fn ask_by_client<M: Machine, O: Write, E: Write>(
     ensures { ReportsClient (OnPort M.is_bound M.Link.failures M.Link.calls) (OnClock M.is_made M.Timer.told) result asking.now asked.now
         (O.contents out.old) (O.contents out.new) }
 {
-    let Some(bound) = machine.bind(asking.host, 0) else {
+    let Ok(bound) = machine.bind(asking.host, 0) else {
         return link_fault(err);
     };
     let Some(mut timer) = machine.timer() else {

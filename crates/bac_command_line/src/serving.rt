@@ -2,15 +2,18 @@
 ghost use Rattle.std.specs.Prelude.{◌≡◌};
 ghost use Rattle.bac_run.specs.Runs.{timed};
 ghost use Rattle.bac_commands.specs.Reports.{ReportsServing};
+ghost use Rattle.bac_text.specs.declared.status.Status.TheVariants as status;
 ghost use Rattle.bac_command_line.specs.Serving.{patience_of, restart_of, turns_of};
 
 use crate::address::{LOCAL_HOST, read_host};
+use bac_commands::link_fault;
 use bac_link::{Clock, Link};
 use bac_npdu::LinkAddress;
 use bac_run::{Patience, Station, Unwatched};
 use bac_text::Status;
 use clap::ArgMatches;
 use std::alloc::Global;
+use std::io;
 use std::io::Write;
 
 /// How many milliseconds after its restart a server serves again.
@@ -78,10 +81,25 @@ impl Serving {
     }
 }
 
-/// Tells on `err` where a node listens that begins at that moment, and how many slots it has; and from when on it serves, where it restarted.
+/// Complains that the system refuses a server its link; where it was to run until it is ended, which link, and the system's reason.
+pub(crate) fn tell_not_bound<E: Write>(serving: &Serving, error: &io::Error, err: &mut E) -> Status
+    ensures { result ≡ status.Output }
+{
+    if serving.turns.is_some() {
+        return link_fault(err);
+    }
+    let [a, b, c, d] = serving.host;
+    let port = serving.port;
+    // where even that fails, the status alone tells
+    let _ = writeln!(err, "link fault {a}.{b}.{c}.{d}:{port}: {error}");
+    Status::Output
+}
+
+/// Tells on `err` where a node listens that begins at that moment, and how many objects and slots it has; and from when on it serves, where it restarted.
 pub(crate) fn tell_listening<E: Write>(
     serving: &Serving,
     link: LinkAddress,
+    objects: usize,
     start: u64,
     err: &mut E,
 ) {
@@ -90,7 +108,10 @@ pub(crate) fn tell_listening<E: Write>(
     let slots = serving.slots;
     // where even that fails, nothing tells it
     if serving.turns.is_none() {
-        let _ = writeln!(err, "listening {a}.{b}.{c}.{d}:{port}, {slots} slots");
+        let _ = writeln!(
+            err,
+            "listening {a}.{b}.{c}.{d}:{port}, {objects} objects, {slots} slots"
+        );
     }
     if serving.restarted {
         let from = serving.serves_from(start);

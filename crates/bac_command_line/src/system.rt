@@ -48,10 +48,10 @@ impl<'a, R: Net + std::time::Clock> Machine for System<'a, R> {
 
     ghost is_made = { λ c. latest_told c ≡ 0 };
 
-    fn bind(&self, host: [u8; 4], port: u16) -> Option<(UdpLink, LinkAddress)> {
-        let link = UdpLink::bind_at(self.runtime, host, port).ok()?;
+    fn bind(&self, host: [u8; 4], port: u16) -> io::Result<(UdpLink, LinkAddress)> {
+        let link = UdpLink::bind_at(self.runtime, host, port)?;
         let address = link.address();
-        Some((link, address))
+        Ok((link, address))
     }
 
     fn timer(&self) -> Option<MonotonicClock<'a, R>> {

@@ -40,8 +40,6 @@ pub(crate) struct Word {
 pub(crate) struct Grammar {
     pub(crate) name: &'static str,
     pub(crate) about: &'static str,
-    /// What help says before its words.
-    pub(crate) before: Option<&'static str>,
     /// What help says behind them.
     pub(crate) after: &'static str,
     pub(crate) words: &'static [Word],
@@ -163,8 +161,8 @@ const EXPLAIN: &[Word] = &[
     },
 ];
 
-/// What the lines of a script are.
-const LINES_HELP: &str = "\
+/// What its file says, and scripts that may be run.
+const SIMULATE_EXAMPLES: &str = "\
 The first line of a script sets the network: `nodes N`, or `nodes N window W overtake V`
   N  how many nodes there are, 1 to 16, each with a house of its own
   W  the greatest window in segments, 1 to 64; 32 where it is not given
@@ -175,10 +173,8 @@ Each later line is an event; nodes and datagrams count from 0:
   lose K           the datagram of that number counts as lost
   noise N HEX      octets that no node sent come to node N
   tick N           node N looks at its timers
-  advance MS       so many milliseconds pass";
+  advance MS       so many milliseconds pass
 
-/// Scripts that may be run.
-const SIMULATE_EXAMPLES: &str = "\
 Example: bac simulate script.txt
 Example: bac simulate --chart script.txt
 Example: bac simulate --pcap script.txt > script.pcap";
@@ -300,16 +296,14 @@ const SERVE: &[Word] = &[
 const WORDS_HELP: &str =
     "The request: `read T:I P`, `write T:I P VALUE..`, `append T:I HEX`, `put T:I POS HEX` or `get T:I POS COUNT`";
 
-/// What stands for what in them.
-const FORMS_HELP: &str = "\
+/// What stands for what in them, and asks that may be made.
+const ASK_EXAMPLES: &str = "\
 T:I is an object by its type and instance, P a property, both by number or name, HEX octets
 VALUE is a value by its kind, as real:72.5, null, boolean:true, enumerated:1 or text:Room, or the spelling of data in HEX
 Behind the last VALUE `priority N` may stand, 1 to 16
 POS is the position in a file from which on octets are put or got, COUNT how many are got
-In the place of a last HEX `@FILE` may stand, for the octets of that file";
+In the place of a last HEX `@FILE` may stand, for the octets of that file
 
-/// Asks that may be made.
-const ASK_EXAMPLES: &str = "\
 Example: bac ask --port 47808 read 0:5 85
 Example: bac ask --port 47808 --text read analog-input:5 present-value
 Example: bac ask --to 192.168.1.20 --route 5:2A --timeout 3 read device:7 object-name
@@ -412,35 +406,30 @@ pub(crate) const OFFLINE: &[Grammar] = &[
     Grammar {
         name: "answer",
         about: "Prints the datagrams that answer a datagram, one a line, or `none`",
-        before: None,
         after: "Example: bac answer 810A001101040005010C0C000000051955",
         words: ANSWER,
     },
     Grammar {
         name: "decode",
         about: "Prints the layers of a datagram, one a line, up to the first that has a fault",
-        before: None,
         after: DECODE_EXAMPLES,
         words: DECODE,
     },
     Grammar {
         name: "check",
         about: "Prints the bad frames of a file of pcap or pcapng, or the bad lines of a capture, and how many are good",
-        before: None,
         after: CHECK_EXAMPLES,
         words: CHECK,
     },
     Grammar {
         name: "explain",
         about: "Prints the transactions of a file of pcap or pcapng, how they ended, and what was wrong with their datagrams",
-        before: None,
         after: EXPLAIN_EXAMPLES,
         words: EXPLAIN,
     },
     Grammar {
         name: "simulate",
         about: "Runs a script of events in a network of nodes, and prints what comes of each",
-        before: Some(LINES_HELP),
         after: SIMULATE_EXAMPLES,
         words: SIMULATE,
     },
@@ -451,21 +440,18 @@ pub(crate) const ONLINE: &[Grammar] = &[
     Grammar {
         name: "serve",
         about: "Serves a house over UDP on 127.0.0.1, and prints how many requests it performed",
-        before: None,
         after: SERVE_EXAMPLES,
         words: SERVE,
     },
     Grammar {
         name: "ask",
         about: "Asks a node, and prints how that ended",
-        before: Some(FORMS_HELP),
         after: ASK_EXAMPLES,
         words: ASK,
     },
     Grammar {
         name: "pair",
         about: "Runs two nodes on free UDP ports: one appends AABBCC to a file of the other, and then reads a value",
-        before: None,
         after: "Example: bac pair",
         words: &[],
     },

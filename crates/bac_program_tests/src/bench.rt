@@ -248,13 +248,13 @@ impl Machine for BenchMachine {
 
     ghost is_made = { λ _. ⊤ };
 
-    fn bind(&self, host: [u8; 4], port: u16) -> Option<(BenchLink, [u8; 6])> {
+    fn bind(&self, host: [u8; 4], port: u16) -> io::Result<(BenchLink, [u8; 6])> {
         if matches!(self.bench.behind, Behind::Nothing) {
-            return None;
+            return Err(io::Error::from(io::ErrorKind::AddrInUse));
         }
         let [high, low] = self.port(port).to_be_bytes();
         let [a, b, c, d] = host;
-        Some((self.link(), [a, b, c, d, high, low]))
+        Ok((self.link(), [a, b, c, d, high, low]))
     }
 
     fn timer(&self) -> Option<BenchClock> {

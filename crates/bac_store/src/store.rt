@@ -232,6 +232,13 @@ impl Store {
         }
     }
 
+    /// How many objects it has.
+    pub fn object_count(&self) -> usize
+        ensures { result ≡ length self.now }
+    {
+        self.objects.len()
+    }
+
     /// An equal store. An Err where memory ran out, which it cannot for a store without objects; this store is as before.
     pub fn copy(&self, alloc: Global) -> Result<Store, NoMemory>
         ensures same { IfOk result (λ s. s ≡ self.now) }

@@ -67,6 +67,6 @@ pub fn output_failed<E: Write>(err: &mut E, error: &io::Error) -> Status
     if error.kind() == ErrorKind::OutOfMemory {
         no_memory(err)
     } else {
-        Status::Output
+        complain(err, "cannot write", Status::Output)
     }
 }

@@ -89,7 +89,7 @@ fn fails_to_print(alloc: Global, file: &[u8], named: bool) -> bool {
     let mut out = room.as_mut_slice();
     let mut err = Vec::new(alloc);
     check_capture_over(alloc, &mut input, PORTS, named, &mut out, &mut err).code() == 3
-        && err.is_empty()
+        && err.as_slice() == b"cannot write\n".as_slice()
 }
 
 /// The output has room for a bad frame's line, and not for what is told of all, by name or without.

@@ -85,7 +85,9 @@ fn writes_of(alloc: Global, fault: ErrorKind, status: u8) -> Option<usize> {
 /// Whether the script prints all of it where only flushing fails, and ends with status 3.
 fn tells_of_flush(alloc: Global) -> bool {
     let ended = ends(alloc, 1_000, false, ErrorKind::PermissionDenied);
-    ended.status == 3 && ended.err.is_empty() && ended.out.as_slice() == LINES.as_bytes()
+    ended.status == 3
+        && ended.err.as_slice() == b"cannot write\n".as_slice()
+        && ended.out.as_slice() == LINES.as_bytes()
 }
 
 /// Whether an output without memory for the first write is complained of.

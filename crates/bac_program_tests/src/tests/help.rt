@@ -88,6 +88,14 @@ const WORDS: &[(&str, &str)] = &[
     ("decode --help", "Example: bac decode 810A000801001013"),
     ("check --help", "Example: bac check capture.txt"),
     ("simulate", "<FILE>"),
+    (
+        "simulate --help",
+        "Runs a script of events in a network of nodes, and prints what comes of each\n\nUsage",
+    ),
+    (
+        "ask --help",
+        "Asks a node, and prints how that ended\n\nUsage",
+    ),
     ("simulate --help", "Usage: bac simulate [OPTIONS] <FILE>"),
     ("simulate --help", "Example: bac simulate script.txt"),
     ("simulate --help", "deliver K"),

@@ -573,12 +573,20 @@ const SERVED: &[BenchRow] = &[
     (
         MANY_REQUESTS,
         "serve --port 47808 --seconds 1",
-        ("served 5\n", "listening 127.0.0.1:47808, 1024 slots\n", 0),
+        (
+            "served 5\n",
+            "listening 127.0.0.1:47808, 5 objects, 1024 slots\n",
+            0,
+        ),
     ),
     (
         MANY_REQUESTS,
         "serve --port 47808 --seconds 2 --slots 7 --at 192.168.1.20",
-        ("served 7\n", "listening 192.168.1.20:47808, 7 slots\n", 0),
+        (
+            "served 7\n",
+            "listening 192.168.1.20:47808, 5 objects, 7 slots\n",
+            0,
+        ),
     ),
     (
         MANY_REQUESTS,
@@ -670,6 +678,16 @@ const LINKS: &[BenchRow] = &[
         NO_LINKS,
         "serve --port 65535 --turns 1000000",
         ("", "link fault\n", 3),
+    ),
+    (
+        NO_LINKS,
+        "serve --port 47899",
+        ("", "link fault 127.0.0.1:47899: address in use\n", 3),
+    ),
+    (
+        NO_LINKS,
+        "serve --port 47899 --at 192.168.1.20 --seconds 5",
+        ("", "link fault 192.168.1.20:47899: address in use\n", 3),
     ),
     (
         NO_LINKS,

@@ -97,7 +97,7 @@ fn is_told(alloc: Global, row: &OutputRow, writes: u32) -> Result<bool, Fail> {
     let mut full = Weak::new(writes, ErrorKind::PermissionDenied);
     let mut starved = Weak::new(writes, ErrorKind::OutOfMemory);
     Ok(
-        ends_so(alloc, row, &mut full, 3, "")?
+        ends_so(alloc, row, &mut full, 3, "cannot write\n")?
             && ends_so(alloc, row, &mut starved, 4, "no memory\n")?,
     )
 }
@@ -128,7 +128,7 @@ fn is_flush_told(alloc: Global, row: &OutputRow) -> Result<bool, Fail> {
     let mut starved = Weak::new(100, ErrorKind::OutOfMemory);
     starved.can_flush = false;
     Ok(
-        ends_so(alloc, row, &mut full, 3, "")?
+        ends_so(alloc, row, &mut full, 3, "cannot write\n")?
             && ends_so(alloc, row, &mut starved, 4, "no memory\n")?,
     )
 }

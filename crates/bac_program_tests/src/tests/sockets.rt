@@ -15,7 +15,10 @@ const ROWS: &[(&str, Ending)] = &[
         ("served 0\n", "", 0),
     ),
     // an address of another machine
-    ("serve --port 47899 --at 192.0.2.1", ("", "link fault\n", 3)),
+    (
+        "serve --port 47899 --at 192.0.2.1",
+        ("", "link fault 192.0.2.1:47899: address not available\n", 3),
+    ),
     (
         "pair",
         ("answered position 2\nanswered read 444290999A\n", "", 0),
@@ -45,7 +48,7 @@ fn runs_on_this_machine(rt: HostRuntime) -> Result<(), Fail> {
 }
 
 /// What a server says, before the moment from which it takes new requests.
-const RESTARTED: &str = "listening 127.0.0.1:47898, 1024 slots\nserving from ";
+const RESTARTED: &str = "listening 127.0.0.1:47898, 5 objects, 1024 slots\nserving from ";
 
 /// The moment that a server that restarted says, and nothing else; None where it is something else.
 fn moment_of(err: &[u8]) -> Option<u64> {
