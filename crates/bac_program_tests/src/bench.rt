@@ -8,6 +8,7 @@ use bac_commands::answer_datagram;
 use bac_link::{Clock, Link, LinkFault};
 use std::alloc::Global;
 use std::cell::Cell;
+use std::io;
 
 /// What is behind the links of a machine.
 #[derive(Clone, Copy)]

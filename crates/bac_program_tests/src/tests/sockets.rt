@@ -17,7 +17,7 @@ const ROWS: &[(&str, Ending)] = &[
     // an address of another machine
     (
         "serve --port 47899 --at 192.0.2.1",
-        ("", "link fault 192.0.2.1:47899: address not available\n", 3),
+        ("", "link fault 192.0.2.1:47899: Cannot assign requested address (os error 99)\n", 3),
     ),
     (
         "pair",
