@@ -51,6 +51,8 @@ pub struct Node {
     clients: Requester<IndexSlots<PeerKey, Client>>,
     servers: Responder<IndexSlots<PeerKey, Entry>>,
     store: Store,
+    /// Room for the next ticket that a datagram ends, so that one which ends none takes no memory for it.
+    room: Vec<Finish>,
 }
 
 impl Model for Node {
@@ -61,6 +63,10 @@ impl Model for Node {
     ghost use Rattle.bac_ends.specs.Views.{settings_view};
 
     ghost view = { λ n. record { link = n.link; settings = settings_view n.settings; latest = n.latest; clients = n.clients; servers = n.servers; store = n.store } };
+
+    ghost use Rattle.std.specs.Prelude.{◌≡◌, []};
+
+    ghost invariant = { λ n. n.room.items ≡ [] };
 }
 
 /// Whether a table may have so many slots.
@@ -97,16 +103,18 @@ fn dropped(alloc: Global, cause: Cause) -> Outcome
     }
 }
 
-/// The ticket that has ended, if one has, in a vector with room for it.
-fn with_ended(room: Vec<Finish>, finish: Option<Finish>) -> Vec<Finish>
-    requires empty { room.items ≡ [] }
-    requires room { 1 ≤ vec_capacity room }
-    ensures { map finish_view result.items ≡ finishes_of finish }
+/// The ticket that has ended, if one has, in the room for it, which is then gone.
+fn with_ended(alloc: Global, room: &mut Vec<Finish>, finish: Option<Finish>) -> Vec<Finish>
+    requires empty { room.old.items ≡ [] }
+    requires room { 1 ≤ vec_capacity room.old }
+    ensures ended { map finish_view result.items ≡ finishes_of finish }
+    ensures empty { room.new.items ≡ [] }
 {
-    let mut ended = room;
-    if let Some(finish) = finish {
-        ended.push_reserved(finish);
-    }
+    let Some(finish) = finish else {
+        return Vec::new(alloc);
+    };
+    let mut ended = std::mem::replace(room, Vec::new(alloc));
+    ended.push_reserved(finish);
     ended
 }
 
@@ -169,6 +177,7 @@ impl Node {
             clients,
             servers,
             store,
+            room: Vec::new(alloc),
         })
     }
 
@@ -330,7 +339,7 @@ impl Node {
         ensures heard { IfOk result (λ o. IsHeardBy false (peer_view peer.now) (apdu_view apdu.now) now self.old self.new (outcome_view o)) }
         ensures err { OnErr result (self.new ≡ self.old) }
     {
-        let room = Vec::with_capacity(self.alloc, 1)?;
+        self.room.reserve_exact(1)?;
         let Turn { sends, ended } = self
             .clients
             .on(self.alloc, &self.settings, now, peer, apdu)?;
@@ -338,7 +347,7 @@ impl Node {
         Ok(Outcome {
             sends,
             effect: None,
-            ended: with_ended(room, ended),
+            ended: with_ended(self.alloc, &mut self.room, ended),
             dropped: None,
         })
     }

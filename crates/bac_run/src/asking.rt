@@ -11,6 +11,7 @@ use crate::patience::Patience;
 use crate::question::{AskEnd, Question};
 use crate::station::Station;
 use crate::turn::Turn;
+use crate::watch::{Unwatched, Watch};
 use bac_link::{Clock, Link};
 use bac_requester::AskFault;
 use bac_ticket::Ending;
@@ -51,13 +52,16 @@ impl<L: Link> Station<L> {
         Ok(Some(turn))
     }
 
-    /// Takes turns until the ticket has ended, but no more than so many, and none that would begin at the last moment of its patience or later.
-    fn wait<C: Clock>(
+    /// Takes turns until the ticket has ended, but no more than so many, and none that would begin at the last moment of its patience or later. The watcher
+    /// sees each.
+    fn wait<C: Clock, W, V: Watch<W>>(
         &mut self,
         clock: &mut C,
         ticket: u64,
         patience: &Patience,
         turns: u64,
+        watch: &mut V,
+        out: &mut W,
     ) -> Result<Option<Ending>, TurnFault>
         ensures waited { IfOk result (WaitsSo patience.now turns ticket (timed self.old (C.told clock.old)) (timed self.new (C.told clock.new))) }
         ensures failed { IfErr result (λ e. WaitingFails e patience.now turns ticket (timed self.old (C.told clock.old)) (timed self.new (C.told clock.new))) }
@@ -66,6 +70,7 @@ impl<L: Link> Station<L> {
             let Some(turn) = self.turn_before(clock, patience)? else {
                 return Ok(None);
             };
+            watch.see(self.node(), self.buffer(), &turn, out);
             if let Some(ending) = ending_in(turn, ticket) {
                 return Ok(Some(ending));
             }
@@ -76,7 +81,34 @@ impl<L: Link> Station<L> {
     /// The node asks, and takes turns, at the moments that a clock tells, until its ticket has ended, but no more than so many, and none that would begin at the
     /// last moment of its patience or later; a turn waits no longer than its patience says.
     ///
-    /// `Link` where the link could not receive, `ClockBack` where the clock went back; the turns before it stand.
+    /// `Link` where the link could not receive, `ClockBack` where the clock went back; the turns before it stand. The watcher sees each turn, and may tell of
+    /// it.
+    pub fn ask_watched<C: Clock, W, V: Watch<W>>(
+        &mut self,
+        clock: &mut C,
+        question: &Question,
+        patience: &Patience,
+        turns: u64,
+        watch: &mut V,
+        out: &mut W,
+    ) -> Result<AskEnd, TurnFault>
+        ensures ended { IfOk result (λ end. AskingEnds (question_view question.now) end patience.now turns
+            (timed self.old (C.told clock.old)) (timed self.new (C.told clock.new))) }
+        ensures failed { IfErr result (λ e. AskingFails (question_view question.now) e patience.now turns
+            (timed self.old (C.told clock.old)) (timed self.new (C.told clock.new))) }
+    {
+        let ticket = match self.begin_by(clock, question) {
+            Ok(ticket) => ticket,
+            Err(AskFault::ClockBack) => return Err(TurnFault::ClockBack),
+            Err(fault) => return Ok(AskEnd::Refused(fault)),
+        };
+        match self.wait(clock, ticket, patience, turns, watch, out)? {
+            Some(ending) => Ok(AskEnd::Ended(ending)),
+            None => Ok(AskEnd::NoEnding),
+        }
+    }
+
+    /// The same, watched by nobody.
     pub fn ask<C: Clock>(
         &mut self,
         clock: &mut C,
@@ -89,14 +121,6 @@ impl<L: Link> Station<L> {
         ensures failed { IfErr result (λ e. AskingFails (question_view question.now) e patience.now turns
             (timed self.old (C.told clock.old)) (timed self.new (C.told clock.new))) }
     {
-        let ticket = match self.begin_by(clock, question) {
-            Ok(ticket) => ticket,
-            Err(AskFault::ClockBack) => return Err(TurnFault::ClockBack),
-            Err(fault) => return Ok(AskEnd::Refused(fault)),
-        };
-        match self.wait(clock, ticket, patience, turns)? {
-            Some(ending) => Ok(AskEnd::Ended(ending)),
-            None => Ok(AskEnd::NoEnding),
-        }
+        self.ask_watched(clock, question, patience, turns, &mut Unwatched, &mut ())
     }
 }
