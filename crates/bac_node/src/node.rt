@@ -64,7 +64,7 @@ impl Model for Node {
 
     ghost view = { λ n. record { link = n.link; settings = settings_view n.settings; latest = n.latest; clients = n.clients; servers = n.servers; store = n.store } };
 
-    ghost use Rattle.std.specs.Prelude.{[]};
+    ghost use Rattle.std.specs.Prelude.{◌≡◌, []};
 
     ghost invariant = { λ n. n.room.items ≡ [] };
 }
