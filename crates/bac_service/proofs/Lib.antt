@@ -8,6 +8,7 @@ pub mod MemberLengths
 pub mod Strings
 pub mod Runs
 pub mod Counting
+pub mod Written
 pub mod References
 pub mod Files
 pub mod AtomicReadFileLaws

@@ -5,6 +5,7 @@ pub mod Refusals
 pub mod Stops
 pub mod Reading
 pub mod Lengths
+pub mod Writing
 pub mod Sights
 pub mod Runs
 pub mod References

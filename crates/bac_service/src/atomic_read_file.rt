@@ -1,6 +1,5 @@
 //! AtomicReadFile (clause 14.1).
 ghost use Rattle.std.specs.Prelude.{◌≡◌, ◌+◌, ◌++◌, ◌<◌, ◌≤◌, ◌^◌, OnOk, OnErr, length, vec_len, vec_capacity};
-ghost use Rattle.bac_value.specs.Appending.{Appends, Lengthens, NeedsRoom};
 ghost use Rattle.bac_value.specs.Steps.{Reads};
 ghost use Rattle.bac_value.specs.Views.{object_identifier_view};
 ghost use Rattle.bac_service.specs.AtomicReadFile.{IsFileRead, IsReadFile, file_read_at, file_read_length, file_read_spelling};
@@ -8,6 +7,7 @@ ghost use Rattle.bac_service.specs.AtomicReadFile.{file_read_view, read_access_v
 ghost use Rattle.bac_service.specs.AtomicReadFile.{read_file_view};
 ghost use Rattle.bac_service.specs.Files.{extent_spelling};
 ghost use Rattle.bac_service.specs.Members.{enclosed_spelling};
+ghost use Rattle.bac_service.specs.Writing.{Writes};
 
 use crate::file::{
     Content, content_len, extent_len, put_content, put_extent, take_content, take_extent,
@@ -92,10 +92,7 @@ fn put_enclosed_extent(
     out: &mut Vec<u8>,
 ) -> Result<(), NoMemory>
     requires { number < 255 }
-    ensures ok { Appends result out.old out.new (enclosed_spelling number (extent_spelling start count)) }
-    ensures len { Lengthens result out.old out.new (enclosed_spelling number (extent_spelling start count)) }
-    ensures full { NeedsRoom result out.old (enclosed_spelling number (extent_spelling start count)) }
-    ensures grows { vec_capacity out.old ≤ vec_capacity out.new }
+    ensures { Writes result out.old out.new (enclosed_spelling number (extent_spelling start count)) }
 {
     put_opening(number, out)?;
     put_extent(start, count, out)?;
@@ -104,10 +101,7 @@ fn put_enclosed_extent(
 
 /// Appends the members of a request.
 pub(crate) fn put_read_file(read: ReadFile, out: &mut Vec<u8>) -> Result<(), NoMemory>
-    ensures ok { Appends result out.old out.new (read_file_spelling (object_identifier_view read.file) (read_access_view read.access)) }
-    ensures len { Lengthens result out.old out.new (read_file_spelling (object_identifier_view read.file) (read_access_view read.access)) }
-    ensures full { NeedsRoom result out.old (read_file_spelling (object_identifier_view read.file) (read_access_view read.access)) }
-    ensures grows { vec_capacity out.old ≤ vec_capacity out.new }
+    ensures { Writes result out.old out.new (read_file_spelling (object_identifier_view read.file) (read_access_view read.access)) }
 {
     write_object_identifier(Class::Application, kinds::OBJECT_IDENTIFIER, read.file, out)?;
     match read.access {
@@ -118,10 +112,7 @@ pub(crate) fn put_read_file(read: ReadFile, out: &mut Vec<u8>) -> Result<(), NoM
 
 /// Appends the members of the service data.
 pub(crate) fn put_file_read(read: FileRead<Content<'_>>, out: &mut Vec<u8>) -> Result<(), NoMemory>
-    ensures ok { Appends result out.old out.new (file_read_spelling read.entry.end_of_file read.entry.start read.entry.content.octets.now) }
-    ensures len { Lengthens result out.old out.new (file_read_spelling read.entry.end_of_file read.entry.start read.entry.content.octets.now) }
-    ensures full { NeedsRoom result out.old (file_read_spelling read.entry.end_of_file read.entry.start read.entry.content.octets.now) }
-    ensures grows { vec_capacity out.old ≤ vec_capacity out.new }
+    ensures { Writes result out.old out.new (file_read_spelling read.entry.end_of_file read.entry.start read.entry.content.octets.now) }
 {
     write_boolean(read.end_of_file, out)?;
     put_content(read.start, read.content, out)

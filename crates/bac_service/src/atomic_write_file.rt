@@ -1,6 +1,5 @@
 //! AtomicWriteFile (clause 14.2).
 ghost use Rattle.std.specs.Prelude.{◌≡◌, ◌+◌, ◌++◌, ◌<◌, ◌≤◌, ◌^◌, IfOk, OnOk, OnErr, length, vec_len, vec_capacity};
-ghost use Rattle.bac_value.specs.Appending.{Appends, Lengthens, NeedsRoom};
 ghost use Rattle.bac_value.specs.Steps.{Reads};
 ghost use Rattle.bac_value.specs.Views.{object_identifier_view};
 ghost use Rattle.bac_service.specs.AtomicWriteFile.{IsWriteFile, IsWritten, counted_at, file_written_at, file_written_view, records_spelling};
@@ -12,6 +11,7 @@ ghost use Rattle.bac_service.specs.Runs.{AreStrings};
 ghost use Rattle.bac_service.specs.Sights.{left, lent, owned};
 ghost use Rattle.bac_service.specs.Values.{for_file};
 ghost use Rattle.bac_service.specs.Values.WriteAccess.{WriteRecords as PlainWriteRecords};
+ghost use Rattle.bac_service.specs.Writing.{Writes};
 
 use crate::file::{
     Content, content_len, extent_len, put_content, put_extent, string_copy, take_content,
@@ -125,13 +125,7 @@ pub(crate) fn take_file_written<O: Octets>(octets: O) -> Result<(FileWritten, O)
 
 /// Appends where records are written, their count, and the octet strings that they are, between tags of number 1.
 fn put_records(write: WriteRecords<Records<'_>>, out: &mut Vec<u8>) -> Result<(), NoMemory>
-    ensures ok { Appends result out.old out.new
-        (records_spelling write.entry.start write.entry.records.count write.entry.records.run.now) }
-    ensures len { Lengthens result out.old out.new
-        (records_spelling write.entry.start write.entry.records.count write.entry.records.run.now) }
-    ensures full { NeedsRoom result out.old
-        (records_spelling write.entry.start write.entry.records.count write.entry.records.run.now) }
-    ensures grows { vec_capacity out.old ≤ vec_capacity out.new }
+    ensures { Writes result out.old out.new (records_spelling write.entry.start write.entry.records.count write.entry.records.run.now) }
 {
     put_opening(1, out)?;
     put_extent(write.start, write.records.count, out)?;
@@ -144,13 +138,7 @@ pub(crate) fn put_write_file(
     write: WriteFile<Content<'_>, Records<'_>>,
     out: &mut Vec<u8>,
 ) -> Result<(), NoMemory>
-    ensures ok { Appends result out.old out.new
-        (write_file_spelling (object_identifier_view write.entry.file) (write_access_view lent write.entry.access)) }
-    ensures len { Lengthens result out.old out.new
-        (write_file_spelling (object_identifier_view write.entry.file) (write_access_view lent write.entry.access)) }
-    ensures full { NeedsRoom result out.old
-        (write_file_spelling (object_identifier_view write.entry.file) (write_access_view lent write.entry.access)) }
-    ensures grows { vec_capacity out.old ≤ vec_capacity out.new }
+    ensures { Writes result out.old out.new (write_file_spelling (object_identifier_view write.entry.file) (write_access_view lent write.entry.access)) }
 {
     write_object_identifier(
         Class::Application,

@@ -1,10 +1,10 @@
 //! What both services of files say: an extent of a file, and octets at a position.
 ghost use Rattle.std.specs.Prelude.{◌≡◌, ◌+◌, ◌++◌, ◌<◌, ◌≤◌, ◌^◌, ◌↔◌, IsSome, IfOk, IfSome, OnOk, OnErr, length, vec_len, vec_capacity};
-ghost use Rattle.bac_value.specs.Appending.{Appends, Lengthens, NeedsRoom};
 ghost use Rattle.bac_value.specs.Number.{distance};
 ghost use Rattle.bac_value.specs.Steps.{Reads};
 ghost use Rattle.bac_service.specs.Files.{IsExtent, content_at, content_length, content_spelling, extent_at, extent_length, extent_spelling};
 ghost use Rattle.bac_service.specs.Reading.{enclosed_at};
+ghost use Rattle.bac_service.specs.Writing.{Writes};
 
 use crate::member_len::{PAIR_LEN, member_len, signed_member_len, unsigned_member_len};
 use crate::member_reading::{signed, string, unsigned};
@@ -67,10 +67,7 @@ pub(crate) fn take_content<O: Octets>(octets: O) -> Result<((i64, O), O), Stop>
 
 /// Appends a Signed and an Unsigned with application tags.
 pub(crate) fn put_extent(start: i64, count: u64, out: &mut Vec<u8>) -> Result<(), NoMemory>
-    ensures ok { Appends result out.old out.new (extent_spelling start count) }
-    ensures len { Lengthens result out.old out.new (extent_spelling start count) }
-    ensures full { NeedsRoom result out.old (extent_spelling start count) }
-    ensures grows { vec_capacity out.old ≤ vec_capacity out.new }
+    ensures { Writes result out.old out.new (extent_spelling start count) }
 {
     write_signed(Class::Application, kinds::SIGNED, start, out)?;
     write_unsigned(Class::Application, kinds::UNSIGNED, count, out)
@@ -83,10 +80,7 @@ pub(crate) fn put_content(
     content: Content<'_>,
     out: &mut Vec<u8>,
 ) -> Result<(), NoMemory>
-    ensures ok { Appends result out.old out.new (content_spelling start content.entry.octets.now) }
-    ensures len { Lengthens result out.old out.new (content_spelling start content.entry.octets.now) }
-    ensures full { NeedsRoom result out.old (content_spelling start content.entry.octets.now) }
-    ensures grows { vec_capacity out.old ≤ vec_capacity out.new }
+    ensures { Writes result out.old out.new (content_spelling start content.entry.octets.now) }
 {
     put_opening(0, out)?;
     write_signed(Class::Application, kinds::SIGNED, start, out)?;

@@ -1,18 +1,15 @@
 //! Writing members that several services have.
 ghost use Rattle.std.specs.Prelude.{◌≡◌, ◌+◌, ◌++◌, ◌<◌, ◌≤◌, OnOk, OnErr, length, vec_len, vec_capacity};
-ghost use Rattle.bac_value.specs.Appending.{Appends, Lengthens, NeedsRoom};
 ghost use Rattle.bac_value.specs.Data.{opening, closing};
 ghost use Rattle.bac_service.specs.Members.{enclosed_spelling, optional_spelling};
+ghost use Rattle.bac_service.specs.Writing.{Writes};
 
 use bac_value::{Class, Form, NoMemory, Tag, write_tag, write_unsigned};
 
 /// Appends the opening tag of a number.
 pub(crate) fn put_opening(number: u8, out: &mut Vec<u8>) -> Result<(), NoMemory>
     requires { number < 255 }
-    ensures ok { Appends result out.old out.new (opening number) }
-    ensures len { Lengthens result out.old out.new (opening number) }
-    ensures full { NeedsRoom result out.old (opening number) }
-    ensures grows { vec_capacity out.old ≤ vec_capacity out.new }
+    ensures { Writes result out.old out.new (opening number) }
 {
     let tag = Tag {
         number,
@@ -25,10 +22,7 @@ pub(crate) fn put_opening(number: u8, out: &mut Vec<u8>) -> Result<(), NoMemory>
 /// Appends the closing tag of a number.
 pub(crate) fn put_closing(number: u8, out: &mut Vec<u8>) -> Result<(), NoMemory>
     requires { number < 255 }
-    ensures ok { Appends result out.old out.new (closing number) }
-    ensures len { Lengthens result out.old out.new (closing number) }
-    ensures full { NeedsRoom result out.old (closing number) }
-    ensures grows { vec_capacity out.old ≤ vec_capacity out.new }
+    ensures { Writes result out.old out.new (closing number) }
 {
     let tag = Tag {
         number,
@@ -41,10 +35,7 @@ pub(crate) fn put_closing(number: u8, out: &mut Vec<u8>) -> Result<(), NoMemory>
 /// Appends a number after a context tag, where there is one.
 pub(crate) fn put_optional(tag: u8, number: Option<u32>, out: &mut Vec<u8>) -> Result<(), NoMemory>
     requires { tag < 255 }
-    ensures ok { Appends result out.old out.new (optional_spelling tag number) }
-    ensures len { Lengthens result out.old out.new (optional_spelling tag number) }
-    ensures full { NeedsRoom result out.old (optional_spelling tag number) }
-    ensures grows { vec_capacity out.old ≤ vec_capacity out.new }
+    ensures { Writes result out.old out.new (optional_spelling tag number) }
 {
     match number {
         Some(number) => write_unsigned(Class::Context, tag, u64::from(number), out),
@@ -54,10 +45,7 @@ pub(crate) fn put_optional(tag: u8, number: Option<u32>, out: &mut Vec<u8>) -> R
 
 /// Appends data between a pair of tags of number 3.
 pub(crate) fn put_values(values: &[u8], out: &mut Vec<u8>) -> Result<(), NoMemory>
-    ensures ok { Appends result out.old out.new (enclosed_spelling 3 values.now) }
-    ensures len { Lengthens result out.old out.new (enclosed_spelling 3 values.now) }
-    ensures full { NeedsRoom result out.old (enclosed_spelling 3 values.now) }
-    ensures grows { vec_capacity out.old ≤ vec_capacity out.new }
+    ensures { Writes result out.old out.new (enclosed_spelling 3 values.now) }
 {
     put_opening(3, out)?;
     out.extend_from_slice(values)?;

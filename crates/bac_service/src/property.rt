@@ -1,8 +1,8 @@
 //! What names a property.
 ghost use Rattle.std.specs.Prelude.{◌≡◌, ◌+◌, ◌++◌, ◌<◌, ◌≤◌, OnOk, OnErr, length, vec_len, vec_capacity};
-ghost use Rattle.bac_value.specs.Appending.{Appends, Lengthens, NeedsRoom};
 ghost use Rattle.bac_value.specs.Steps.{Reads};
 ghost use Rattle.bac_service.specs.References.{IsReference, property_reference_view, reference_at, reference_length, reference_spelling};
+ghost use Rattle.bac_service.specs.Writing.{Writes};
 
 use crate::member_len::{OBJECT_LEN, optional_len, unsigned_member_len};
 use crate::member_reading::{object, short};
@@ -52,10 +52,7 @@ pub(crate) fn property_reference<O: Octets>(octets: O) -> Result<(PropertyRefere
 /// Appends what names a property.
 #[inline(always)]
 pub(crate) fn put_reference(to: PropertyReference, out: &mut Vec<u8>) -> Result<(), NoMemory>
-    ensures ok { Appends result out.old out.new (reference_spelling (property_reference_view to)) }
-    ensures len { Lengthens result out.old out.new (reference_spelling (property_reference_view to)) }
-    ensures full { NeedsRoom result out.old (reference_spelling (property_reference_view to)) }
-    ensures grows { vec_capacity out.old ≤ vec_capacity out.new }
+    ensures { Writes result out.old out.new (reference_spelling (property_reference_view to)) }
 {
     write_object_identifier(Class::Context, 0, to.object, out)?;
     write_unsigned(Class::Context, 1, u64::from(to.property), out)?;

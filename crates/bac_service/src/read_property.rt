@@ -1,9 +1,9 @@
 //! ReadProperty (clause 15.5). A request is a reference alone.
 ghost use Rattle.std.specs.Prelude.{◌≡◌, ◌+◌, ◌++◌, ◌<◌, ◌≤◌, OnOk, OnErr, length, vec_len, vec_capacity};
-ghost use Rattle.bac_value.specs.Appending.{Appends, Lengthens, NeedsRoom};
 ghost use Rattle.bac_value.specs.Steps.{Reads};
 ghost use Rattle.bac_service.specs.ReadProperty.{IsPropertyRead, property_read_at, property_read_length, property_read_spelling, property_read_view};
 ghost use Rattle.bac_service.specs.References.{property_reference_view};
+ghost use Rattle.bac_service.specs.Writing.{Writes};
 
 use crate::member_len::PAIR_LEN;
 use crate::member_reading::enclosed_values;
@@ -36,10 +36,7 @@ pub(crate) fn put_property_read(
     read: PropertyRead<Data<'_>>,
     out: &mut Vec<u8>,
 ) -> Result<(), NoMemory>
-    ensures ok { Appends result out.old out.new (property_read_spelling (property_reference_view read.entry.reference) read.entry.values.octets.now) }
-    ensures len { Lengthens result out.old out.new (property_read_spelling (property_reference_view read.entry.reference) read.entry.values.octets.now) }
-    ensures full { NeedsRoom result out.old (property_read_spelling (property_reference_view read.entry.reference) read.entry.values.octets.now) }
-    ensures grows { vec_capacity out.old ≤ vec_capacity out.new }
+    ensures { Writes result out.old out.new (property_read_spelling (property_reference_view read.entry.reference) read.entry.values.octets.now) }
 {
     put_reference(read.reference, out)?;
     put_values(read.values.octets, out)

@@ -1,6 +1,6 @@
 //! Replies of the four services, over whatever holds their octets.
 ghost use Rattle.std.specs.Prelude.{◌≡◌, ◌+◌, ◌++◌, ◌<◌, ◌≤◌, ◌↔◌, true, IfOk, IfErr, OnOk, OnErr, length, vec_len, vec_capacity};
-ghost use Rattle.bac_value.specs.Appending.{Appends, Keeps, Lengthens, NeedsRoom};
+ghost use Rattle.bac_value.specs.Appending.{Appends, Keeps, NeedsRoom};
 ghost use Rattle.bac_value.specs.Steps.{Reads};
 ghost use Rattle.bac_value.specs.Views.{parts_view};
 ghost use Rattle.bac_service.specs.Choices.{service_at};
@@ -9,6 +9,7 @@ ghost use Rattle.bac_service.specs.Replies.{IsComplex, IsMadeOf, IsNoComplex, Is
 ghost use Rattle.bac_service.specs.Replies.{complex_length, complex_members, complex_over_view, complex_spelling, complex_view, held_by};
 ghost use Rattle.bac_service.specs.Replies.{owned_complex_view, owned_reply_view, reads_reply, reply_view};
 ghost use Rattle.bac_service.specs.Values.{complex_choice_of, held_in};
+ghost use Rattle.bac_service.specs.Writing.{Writes};
 
 use crate::atomic_read_file::{FileRead, file_read_len, put_file_read, take_file_read};
 use crate::atomic_write_file::{FileWritten, take_file_written};
@@ -226,10 +227,7 @@ pub fn reads_reply_parts(choice: u8, parts: Parts<'_>) -> bool
 }
 
 fn put_complex(reply: Complex<'_>, out: &mut Vec<u8>) -> Result<(), NoMemory>
-    ensures ok { Appends result out.old out.new (complex_spelling (complex_view reply.entry)) }
-    ensures len { Lengthens result out.old out.new (complex_spelling (complex_view reply.entry)) }
-    ensures full { NeedsRoom result out.old (complex_spelling (complex_view reply.entry)) }
-    ensures grows { vec_capacity out.old ≤ vec_capacity out.new }
+    ensures { Writes result out.old out.new (complex_spelling (complex_view reply.entry)) }
 {
     match reply {
         AnyComplex::FileRead(read) => put_file_read(read, out),

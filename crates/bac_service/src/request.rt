@@ -1,6 +1,6 @@
 //! Requests of the four services, over whatever holds their octets.
 ghost use Rattle.std.specs.Prelude.{◌≡◌, ◌+◌, ◌++◌, ◌<◌, ◌≤◌, ◌↔◌, IfOk, IfErr, IsErrOf, OnOk, OnErr, length, vec_len, vec_capacity};
-ghost use Rattle.bac_value.specs.Appending.{Appends, Keeps, Lengthens, NeedsRoom};
+ghost use Rattle.bac_value.specs.Appending.{Appends, Keeps, NeedsRoom};
 ghost use Rattle.bac_value.specs.Steps.{Reads};
 ghost use Rattle.bac_value.specs.Views.{parts_view};
 ghost use Rattle.bac_service.specs.Refusals.{Gives, GivesInMemory, IfNoMemory, IfRefused, reason_number};
@@ -8,6 +8,7 @@ ghost use Rattle.bac_service.specs.Requests.{IsMade, IsNoRequest, IsRequest, IsU
 ghost use Rattle.bac_service.specs.Requests.{request_at, request_length, request_members, request_over_view, request_spelling, request_view};
 ghost use Rattle.bac_service.specs.Sights.{left};
 ghost use Rattle.bac_service.specs.Values.{choice_of, held};
+ghost use Rattle.bac_service.specs.Writing.{Writes};
 
 use crate::atomic_read_file::{ReadFile, put_read_file, read_file_len, take_read_file};
 use crate::atomic_write_file::{
@@ -207,10 +208,7 @@ pub fn read_request_parts(
 }
 
 fn put_request(request: Request<'_>, out: &mut Vec<u8>) -> Result<(), NoMemory>
-    ensures ok { Appends result out.old out.new (request_spelling (request_view request.entry)) }
-    ensures len { Lengthens result out.old out.new (request_spelling (request_view request.entry)) }
-    ensures full { NeedsRoom result out.old (request_spelling (request_view request.entry)) }
-    ensures grows { vec_capacity out.old ≤ vec_capacity out.new }
+    ensures { Writes result out.old out.new (request_spelling (request_view request.entry)) }
 {
     match request {
         AnyRequest::ReadFile(read) => put_read_file(read, out),

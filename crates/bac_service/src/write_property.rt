@@ -1,12 +1,12 @@
 //! WriteProperty (clause 15.9).
 ghost use Rattle.std.specs.Prelude.{◌≡◌, ◌+◌, ◌++◌, ◌<◌, ◌≤◌, OnOk, OnErr, length, vec_len, vec_capacity};
-ghost use Rattle.bac_value.specs.Appending.{Appends, Lengthens, NeedsRoom};
 ghost use Rattle.bac_value.specs.Steps.{Reads};
 ghost use Rattle.bac_service.specs.Reading.{optional_at};
 ghost use Rattle.bac_service.specs.References.{property_reference_view};
 ghost use Rattle.bac_service.specs.Priorities.{priority_at};
 ghost use Rattle.bac_service.specs.WriteProperty.{IsWriteProperty, priority_view, write_property_at, write_property_length};
 ghost use Rattle.bac_service.specs.WriteProperty.{write_property_spelling, write_property_view};
+ghost use Rattle.bac_service.specs.Writing.{Writes};
 
 use crate::member_len::{PAIR_LEN, optional_len};
 use crate::member_reading::enclosed_values;
@@ -70,13 +70,7 @@ pub(crate) fn put_write_property(
     write: WriteProperty<Data<'_>>,
     out: &mut Vec<u8>,
 ) -> Result<(), NoMemory>
-    ensures ok { Appends result out.old out.new
-        (write_property_spelling (property_reference_view write.entry.reference) write.entry.values.octets.now (priority_view write.entry.priority)) }
-    ensures len { Lengthens result out.old out.new
-        (write_property_spelling (property_reference_view write.entry.reference) write.entry.values.octets.now (priority_view write.entry.priority)) }
-    ensures full { NeedsRoom result out.old
-        (write_property_spelling (property_reference_view write.entry.reference) write.entry.values.octets.now (priority_view write.entry.priority)) }
-    ensures grows { vec_capacity out.old ≤ vec_capacity out.new }
+    ensures { Writes result out.old out.new (write_property_spelling (property_reference_view write.entry.reference) write.entry.values.octets.now (priority_view write.entry.priority)) }
 {
     put_reference(write.reference, out)?;
     put_values(write.values.octets, out)?;
