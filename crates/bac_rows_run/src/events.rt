@@ -5,7 +5,7 @@
 //! how many slots are held and entries live, and by `compare` whether the node and its store are those of a new one.
 use crate::scene::{limits_of, link, nodes_of};
 use crate::telling::{framed, print_outcome, print_sends};
-use crate::words::{first, request_of};
+use crate::words::{first, octets_of, request_of};
 use bac_apdu::read;
 use bac_commands::{print_asked, print_refused};
 use bac_node::{Node, NodeFault, Outcome};
@@ -52,7 +52,7 @@ fn told(alloc: Global, came: Result<Outcome, NodeFault>, out: &mut Vec<u8>) -> O
 
 /// The datagram of a line. What is no APDU comes in no frame.
 fn datagram_of(alloc: Global, verb: &str, digits: &str) -> Option<Vec<u8>> {
-    let octets = hex::decode(alloc, digits).ok()?;
+    let octets = octets_of(alloc, digits)?;
     if verb == "hear" {
         return Some(octets);
     }

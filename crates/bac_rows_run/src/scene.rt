@@ -3,7 +3,7 @@
 //! `node TAKES WINDOW SLOTS SLOTS` is a node: what it takes, as the first two octets of its requests say it, its window, and its slots for asks and for replies.
 //! It has the house store, behind them the words of a request as it is after that. `overtake LIMIT` is the world's, 128 where there is none. `NAME: TEXT` is
 //! a text that lines may name. Behind a line `first` stands what each script begins with.
-use crate::words::{first, number, request_of};
+use crate::words::{first, number, octets_of, request_of};
 use bac_apdu::{Apdu, Limits, read};
 use bac_node::Config;
 use bac_npdu::LinkAddress;
@@ -18,7 +18,7 @@ pub(crate) fn link(number: u8) -> LinkAddress {
 
 /// What a node takes, as the first two octets of its requests say it.
 pub(crate) fn limits_of(alloc: Global, digits: &str) -> Option<Limits> {
-    let mut octets = hex::decode(alloc, digits).ok()?;
+    let mut octets = octets_of(alloc, digits)?;
     octets.extend_from_slice(&[0, 12]).ok()?;
     match read(&octets) {
         Ok(Apdu::ConfirmedRequest { limits, .. }) => Some(limits),

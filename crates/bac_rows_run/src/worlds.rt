@@ -7,7 +7,7 @@
 use crate::playing::{Stage, play};
 use crate::printing::{print_asked, print_performed};
 use crate::scene::{house_after, link, nodes_of, overtake_of};
-use crate::words::first;
+use crate::words::{first, octets_of};
 use bac_commands::print_ended;
 use bac_network::{Event, Fact, World, WorldFault};
 use bac_simulate::simulate_in;
@@ -63,37 +63,60 @@ fn print_step(world: &mut World, event: &Event, text: &str, out: &mut Vec<u8>) -
 
 fn restart_anew(alloc: Global, world: &mut World, words: &str, out: &mut Vec<u8>) -> Option<()> {
     let (node, words) = first(words);
-    let event = Event::Restart {
-        node: node.parse::<usize>().ok()?,
-        store: Some(house_after(alloc, words)?),
-    };
-    print_step(world, &event, "restarted anew", out)
+    let node = node.parse::<usize>().ok()?;
+    let store = Some(house_after(alloc, words)?);
+    print_step(
+        world,
+        &Event::Restart { node, store },
+        "restarted anew",
+        out,
+    )
+}
+
+/// The octets of words that come to a node from a link.
+fn noise_of(alloc: Global, node: usize, words: &str) -> Option<Event> {
+    let (from, digits) = first(words);
+    let from = link(from.parse::<u8>().ok()?);
+    let octets = octets_of(alloc, digits)?;
+    Some(Event::Noise { node, from, octets })
+}
+
+/// An event happens, of which nothing is told.
+fn steps(world: &mut World, event: &Event) -> Option<()> {
+    match world.step(event) {
+        Ok(_) => Some(()),
+        Err(_) => None,
+    }
+}
+
+/// Prints how many copies and facts there are.
+fn print_counts(world: &World, out: &mut Vec<u8>) -> Option<()> {
+    writeln!(
+        out,
+        "copies {} facts {}",
+        world.copies().len(),
+        world.log().len()
+    )
+    .ok()
 }
 
 /// Octets come a millisecond later. A node that looks at them knows the moment; nothing else comes of them.
 fn octets_come(alloc: Global, world: &mut World, words: &str, out: &mut Vec<u8>) -> Option<()> {
     let (node, words) = first(words);
-    let (from, digits) = first(words);
     let node = node.parse::<usize>().ok()?;
-    let event = Event::Noise {
-        node,
-        from: link(from.parse::<u8>().ok()?),
-        octets: hex::decode(alloc, digits).ok()?,
-    };
-    let _ = world.step(&Event::Advance { by: 1 }).ok()?;
-    let _ = world.step(&event).ok()?;
+    steps(world, &Event::Advance { by: 1 })?;
+    steps(world, &noise_of(alloc, node, words)?)?;
     let is_heard = world.nodes().get(node)?.latest() == world.now();
-    let (copies, facts) = (world.copies().len(), world.log().len());
-    writeln!(out, "heard {is_heard} copies {copies} facts {facts}").ok()
+    write!(out, "heard {is_heard} ").ok()?;
+    print_counts(world, out)
 }
 
 /// So many copies come, each once and in the order of sending.
 fn flow(world: &mut World, words: &str, out: &mut Vec<u8>) -> Option<()> {
     for number in 0..words.parse::<usize>().ok()? {
-        let _ = world.step(&Event::Deliver { number }).ok()?;
+        steps(world, &Event::Deliver { number })?;
     }
-    let (copies, facts) = (world.copies().len(), world.log().len());
-    writeln!(out, "copies {copies} facts {facts}").ok()
+    print_counts(world, out)
 }
 
 /// What is told of an event that its memory was refused to.
