@@ -126,7 +126,9 @@ impl Test<Number> for AtLeast {
 
 // A table with these keys and ten times as much as values; None where one could not be put.
 fn with_keys(alloc: Global, room: usize, keys: &[u32]) -> Option<IndexSlots<Number, Number>> {
-    let mut table = IndexSlots::<Number, Number>::new(alloc, room).ok()?;
+    let Ok(mut table) = IndexSlots::<Number, Number>::new(alloc, room) else {
+        return None;
+    };
     for key in keys {
         let value = Number(key.wrapping_mul(10));
         if !is_put(&mut table, Number(*key), value) {
