@@ -1,6 +1,7 @@
 //! What a sweep leaves, and how far it looks.
 ghost use Rattle.std.specs.Prelude.{◌≡◌, ◌∷◌, [], ◌||◌, IfSome, nat_le, nat_lt, ℕ};
 
+use super::counted_key::{CountedKey, counted};
 use super::*;
 use bac_slots::{Same, Test, count_passing, has_room_once_swept, same_tables, sweep, sweep_oldest};
 use std::cell::Cell;
@@ -19,6 +20,15 @@ impl Test<u64> for Outside<'_> {
     fn passes(&self, value: &u64) -> bool {
         self.looks.set(self.looks.get().saturating_add(1));
         *value < self.first || self.last < *value
+    }
+}
+
+// All values below a number pass.
+fn from(first: u64, looks: &Cell<u64>) -> Outside<'_> {
+    Outside {
+        first,
+        last: u64::MAX,
+        looks,
     }
 }
 
@@ -99,8 +109,8 @@ fn neither_looks_further_than_it_has_to(rt: HostRuntime) -> Result<(), Fail> {
     )
 }
 
-// A key or a value of a table that is compared with another.
-#[derive(Clone, Copy, PartialEq, Eq, PartialOrd, Ord)]
+// A value of a table that is compared with another.
+#[derive(Clone, Copy)]
 struct Number(u32);
 
 impl Same for Number {
@@ -124,14 +134,21 @@ impl Test<Number> for AtLeast {
     }
 }
 
+type Counted<'a> = IndexSlots<CountedKey<'a>, Number>;
+
 // A table with these keys and ten times as much as values; None where one could not be put.
-fn with_keys(alloc: Global, room: usize, keys: &[u32]) -> Option<IndexSlots<Number, Number>> {
-    let Ok(mut table) = IndexSlots::<Number, Number>::new(alloc, room) else {
+fn with_keys<'a>(
+    alloc: Global,
+    room: usize,
+    keys: &[u32],
+    comparisons: &'a Cell<u64>,
+) -> Option<Counted<'a>> {
+    let Ok(mut table) = IndexSlots::<CountedKey<'a>, Number>::new(alloc, room) else {
         return None;
     };
     for key in keys {
         let value = Number(key.wrapping_mul(10));
-        if !is_put(&mut table, Number(*key), value) {
+        if !is_put(&mut table, counted(*key, comparisons), value) {
             return None;
         }
     }
@@ -140,38 +157,50 @@ fn with_keys(alloc: Global, room: usize, keys: &[u32]) -> Option<IndexSlots<Numb
 
 // Whether tables are the same where they have the same slots and room, and one is as the other once it is swept.
 fn is_swept_to_the_same(alloc: Global) -> Option<bool> {
-    let empty = with_keys(alloc, 8, &[])?;
-    let wider = with_keys(alloc, 9, &[])?;
-    let mut one = with_keys(alloc, 8, &[4, 2, 9, 1])?;
-    let other = with_keys(alloc, 8, &[4, 9])?;
-    let is_right = same_tables(&empty, &with_keys(alloc, 8, &[])?)
-        && !same_tables(&empty, &wider)
-        && !same_tables(&one, &other)
-        && count_passing(&one, &AtLeast(30)) == 2;
+    let comparisons = Cell::new(0);
+    let mut one = with_keys(alloc, 8, &[4, 2, 9, 1], &comparisons)?;
+    let other = with_keys(alloc, 8, &[4, 9], &comparisons)?;
+    let is_right = !same_tables(&one, &other) && count_passing(&one, &AtLeast(30)) == 2;
     sweep(&mut one, &AtLeast(30));
     Some(is_right && same_tables(&one, &other))
 }
 
+// Whether empty tables are the same where they have the same room.
+fn are_empty_ones_the_same(alloc: Global) -> Option<bool> {
+    let comparisons = Cell::new(0);
+    let empty = with_keys(alloc, 8, &[], &comparisons)?;
+    let is_right = same_tables(&empty, &with_keys(alloc, 8, &[], &comparisons)?);
+    Some(is_right && !same_tables(&empty, &with_keys(alloc, 9, &[], &comparisons)?))
+}
+
 #[test]
 fn swept_and_compared(rt: HostRuntime) -> Result<(), Fail> {
-    holds(is_swept_to_the_same(rt.alloc()) == Some(true), "swept")
+    holds(
+        matches!(are_empty_ones_the_same(rt.alloc()), Some(true)),
+        "empty",
+    )?;
+    holds(
+        matches!(is_swept_to_the_same(rt.alloc()), Some(true)),
+        "swept",
+    )
 }
 
 // Whether a table that is full with one slot has room once it is swept, up to the moment at which the slot began, and the slot goes.
 fn is_swept_at_its_begin(alloc: Global) -> bool {
-    let Ok(mut table) = IndexSlots::<Number, Number>::new(alloc, 1) else {
+    let Ok(mut table) = IndexSlots::<u32, u64>::new(alloc, 1) else {
         return false;
     };
-    if table.put(Number(1), 5, Number(10)).is_err() {
+    if table.put(1, 5, 10).is_err() {
         return false;
     }
-    if has_room_once_swept(&table, &AtLeast(10), 5) {
+    let looks = Cell::new(0);
+    if has_room_once_swept(&table, &from(11, &looks), 5) {
         return false;
     }
-    if !has_room_once_swept(&table, &AtLeast(11), 5) {
+    if !has_room_once_swept(&table, &from(10, &looks), 5) {
         return false;
     }
-    sweep_oldest(&mut table, &AtLeast(11), 5);
+    sweep_oldest(&mut table, &from(10, &looks), 5);
     table.len() == 0
 }
 
