@@ -26,15 +26,26 @@ pub(crate) fn limits_of(alloc: Global, digits: &str) -> Option<Limits> {
     }
 }
 
+/// A store performs the request of some words.
+fn performs(alloc: Global, store: &mut Store, words: &str) -> Option<()> {
+    let words = plain(alloc, words).ok()?;
+    let request = request_of(alloc, &words)?;
+    match store.perform(alloc, &request.as_request()) {
+        Ok(_) => Some(()),
+        Err(_) => None,
+    }
+}
+
 /// The house store, after a request where there is one.
 pub(crate) fn house_after(alloc: Global, words: &str) -> Option<Store> {
-    let mut store = house(alloc).ok()?;
-    if !words.is_empty() {
-        let words = plain(alloc, words).ok()?;
-        let request = request_of(alloc, &words)?;
-        let _ = store.perform(alloc, &request.as_request()).ok()?;
+    let Ok(mut store) = house(alloc) else {
+        return None;
+    };
+    if words.is_empty() || performs(alloc, &mut store, words).is_some() {
+        Some(store)
+    } else {
+        None
     }
-    Some(store)
 }
 
 /// What a node of that number is made of.

@@ -165,13 +165,15 @@ fn context(moment: u64) -> Context {
 
 /// What a read begins at moment 5.
 fn begun(alloc: Global) -> Option<Reaction> {
-    let mut store = house(alloc).ok()?;
     let Ok(apdu) = read(READ) else {
         return None;
     };
-    match idle_gets(alloc, &context(5), true, &apdu, &mut store).ok()? {
-        IdleReaction::Begins(reaction) => Some(reaction),
-        IdleReaction::Stays(_) => None,
+    let Ok(mut store) = house(alloc) else {
+        return None;
+    };
+    match idle_gets(alloc, &context(5), true, &apdu, &mut store) {
+        Ok(IdleReaction::Begins(reaction)) => Some(reaction),
+        _ => None,
     }
 }
 
@@ -197,7 +199,10 @@ fn ticket(alloc: Global) -> Option<Ticket> {
         return None;
     };
     let request = OutgoingRequest::new(7, way, service);
-    Some(Ticket::begin(alloc, &context(1_000), request).ok()?.ticket)
+    match Ticket::begin(alloc, &context(1_000), request) {
+        Ok(begun) => Some(begun.ticket),
+        Err(_) => None,
+    }
 }
 
 /// Whether its timer is set, and it expires after 60,000 ms.

@@ -89,11 +89,16 @@ pub(super) fn change(alloc: Global, chance: &mut Chance) -> Option<Event> {
 /// A node restarts, seldom with the house store in place of its own.
 pub(super) fn restart(alloc: Global, chance: &mut Chance) -> Option<Event> {
     let node = chance.below(3);
-    let store = match chance.below(3) {
-        0 => Some(house(alloc).ok()?),
-        _ => None,
-    };
-    Some(Event::Restart { node, store })
+    if chance.below(3) > 0 {
+        return Some(Event::Restart { node, store: None });
+    }
+    match house(alloc) {
+        Ok(store) => Some(Event::Restart {
+            node,
+            store: Some(store),
+        }),
+        Err(_) => None,
+    }
 }
 
 /// A node asks the one after it.
