@@ -1,6 +1,6 @@
 #!/usr/bin/env python3
-"""Holds the frames of crates/bac_capture_tests/src/tests/rows.rt against tshark: each row that carries a datagram must carry it
-there too, and no other row may. Prints what differs and is not known to, and a count. Needs tshark; needs no build."""
+"""Holds the frames of crates/bac_rows_capture/stdin against tshark: each that carries a datagram, by the file stdout beside it, must
+carry it there too, and no other may. Prints what differs and is not known to, and a count. Needs tshark; needs no build."""
 import ipaddress
 import os
 import re
@@ -12,8 +12,10 @@ import tempfile
 
 import captures
 
-ROWS = os.path.join(os.path.dirname(__file__), "../../crates/bac_capture_tests/src/tests/rows.rt")
-ROW = re.compile(r'\(\s*"([^"]*)",\s*(\d+),\s*"([0-9A-F]*)",\s*"([^"]*)",?\s*\)')
+ROWS = os.path.join(os.path.dirname(__file__), "../../crates/bac_rows_capture")
+FRAME = re.compile(r"^(.*); (\d+) ([0-9A-F]*)$", re.M)
+CARRIED = re.compile(r"^(.*); (.*)$", re.M)
+OTHER = "another link layer"
 FIELDS = ["ip.src", "ipv6.src", "ip.dst", "ipv6.dst", "udp.srcport", "udp.dstport", "udp.payload"]
 PORTS = [*range(47808, 47824), 40001]
 # What tshark shows of a row where it goes another way: it shows the octets that are there of a datagram that is cut, or as many
@@ -41,9 +43,15 @@ def text_of(line):
     return f"{host(from4 or from6)}:{source} {host(to4 or to6)}:{target} {octets.upper()}"
 
 
+def rows_of(frames, carried):
+    both = zip(FRAME.findall(frames), CARRIED.findall(carried), strict=True)
+    named = [(*frame, text) for frame, (name, text) in both if frame[0] == name]
+    return [(name, int(link), octets, text) for name, link, octets, text in named if text != OTHER]
+
+
 def main():
     captures.need("tshark")
-    rows = [(name, int(link), octets, text) for name, link, octets, text in ROW.findall(open(ROWS).read())]
+    rows = rows_of(open(f"{ROWS}/stdin").read(), open(f"{ROWS}/stdout").read())
     wrong = 0
     for link in sorted({row[1] for row in rows}):
         some = [row for row in rows if row[1] == link]

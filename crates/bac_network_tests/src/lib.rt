@@ -3,5 +3,6 @@
 //! They stand in a crate of their own, so that no crate is proved a second time for its tests.
 #![tactic(auto)]
 
+pub mod noted_call;
 #[cfg(test)]
 mod tests;

@@ -1,5 +1,5 @@
-//! What no row of text says of nodes, worlds and scripts (all else is in the rows of bac_rows_run): worlds that are made up from numbers, long transfers and
-//! noise, refused memory and failing files, laws, and what is made of wrong settings. Here is what the tests share.
+//! What no row of text says of nodes, worlds and scripts (all else is in the rows of bac_rows_run): worlds that are made up from numbers,
+//! noise, a link that tells its calls, refused memory and failing files, laws, and what is made of wrong settings. Here is what the tests share.
 use bac_network::World;
 use bac_npdu::LinkAddress;
 use bac_rows::holds;
@@ -17,12 +17,11 @@ mod generated;
 mod journal;
 mod laws;
 mod limits;
-mod long;
 mod memory;
 mod scene;
 mod sleeping;
 mod straight_runs;
-mod transfer;
+mod turns;
 mod twins;
 
 use scene::{Member, Scene};

@@ -3,7 +3,7 @@
 //! `datagram PEER HEX` is the datagram of an APDU; `abort REASON` that of an Abort, also as that of its APDU, and `ack SIDE NUMBER TAKEN STEP` what a segment
 //! is answered by; `size CODE` and `segments CODE COUNT` what fits; `keys PEER ID PEER ID` and `settings WINDOW WINDOW` compare; `id HEX` is an APDU's invoke ID.
 use crate::frames::peer_of;
-use crate::words::{first, number, octets_of, print_octets, small};
+use crate::words::{first, number, octets_of, print_digits, print_octets, small};
 use bac_apdu::{Apdu, Limits, Window, apdu_len, read};
 use bac_ends::{
     Context, Datagram, PeerKey, Settings, allows_segments, apdu_size, datagram_of, invoke_id_of,
@@ -12,6 +12,7 @@ use bac_ends::{
 use bac_npdu::LinkAddress;
 use bac_segment::Step;
 use bac_slots::Same;
+use bac_value::NoMemory;
 use std::alloc::Global;
 use std::io::Write;
 
@@ -40,16 +41,17 @@ fn context(alloc: Global) -> Context {
 }
 
 /// Prints to which link a datagram goes, and its octets.
-fn print_datagram(alloc: Global, datagram: &Datagram, out: &mut Vec<u8>) -> Option<()> {
-    let link = hex::encode_upper(alloc, datagram.to()).ok()?;
-    write!(out, "to {link} ").ok()?;
+fn print_datagram(datagram: &Datagram, out: &mut Vec<u8>) -> Option<()> {
+    out.write_all(b"to ").ok()?;
+    print_digits(&datagram.to(), out)?;
+    out.write_all(b" ").ok()?;
     print_octets(datagram.octets(), out)
 }
 
-fn print_all(alloc: Global, sends: &[Datagram], out: &mut Vec<u8>) -> Option<()> {
+fn print_all(sends: &[Datagram], out: &mut Vec<u8>) -> Option<()> {
     writeln!(out, "sends {}", sends.len()).ok()?;
     for datagram in sends {
-        print_datagram(alloc, datagram, out)?;
+        print_datagram(datagram, out)?;
     }
     Some(())
 }
@@ -61,25 +63,30 @@ fn datagram(alloc: Global, words: &str, out: &mut Vec<u8>) -> Option<()> {
     if apdu_len(&apdu) > 1_476 {
         return None;
     }
-    let datagram = datagram_of(alloc, &peer_of(alloc, LINK, peer), &apdu).ok()?;
-    print_datagram(alloc, &datagram, out)?;
+    let Ok(datagram) = datagram_of(alloc, &peer_of(alloc, LINK, peer), &apdu) else {
+        return None;
+    };
+    print_datagram(&datagram, out)?;
     print_octets(&datagram.into_octets(), out)
+}
+
+fn print_sends(sends: Result<Vec<Datagram>, NoMemory>, out: &mut Vec<u8>) -> Option<()> {
+    match sends {
+        Ok(sends) => print_all(&sends, out),
+        Err(_) => None,
+    }
 }
 
 #[tactic(auto, using(bac_ends::proofs::Short::short_abort))]
 fn abort(alloc: Global, reason: u8, out: &mut Vec<u8>) -> Option<()> {
     let context = context(alloc);
-    print_all(
-        alloc,
-        &only_abort(alloc, &context, false, reason).ok()?,
-        out,
-    )?;
+    print_sends(only_abort(alloc, &context, false, reason), out)?;
     let apdu = Apdu::Abort {
         server: false,
         invoke_id: 7,
         reason,
     };
-    print_all(alloc, &only_apdu(alloc, &context, &apdu).ok()?, out)
+    print_sends(only_apdu(alloc, &context, &apdu), out)
 }
 
 fn step_of(word: &str) -> Option<Step> {
@@ -108,9 +115,8 @@ fn ack(alloc: Global, words: &str, out: &mut Vec<u8>) -> Option<()> {
         WINDOW,
         taken,
         step,
-    )
-    .ok()?;
-    print_all(alloc, &sends, out)
+    );
+    print_sends(sends, out)
 }
 
 fn size(words: &str, out: &mut Vec<u8>) -> Option<()> {

@@ -3,7 +3,7 @@
 //! `apdu` reads an APDU, and writes it again; `bvll`, `npdu` and `datagram` read a frame, or a part of one, and `fronts` each front of a datagram with its own
 //! length; `frame PEER EXPECTING HEX` writes one behind an octet, `head` what stands in front of the APDU; `order` tells how peers compare. A peer is `near`
 //! or `NETWORK:HEX`.
-use crate::words::{first, number, octets_of, print_again, print_octets};
+use crate::words::{first, number, octets_of, print_again, print_digits, print_octets};
 use bac_apdu::{Apdu, apdu_len, read, write};
 use bac_npdu::{
     LinkAddress, Peer, Route, read_bvll, read_datagram, read_npdu, write_datagram, write_frame_head,
@@ -45,20 +45,20 @@ fn npdu(octets: &[u8], out: &mut Vec<u8>) -> Option<()> {
     }
 }
 
-fn print_peer(alloc: Global, peer: &Peer, out: &mut Vec<u8>) -> Option<()> {
-    let link = hex::encode_upper(alloc, peer.link).ok()?;
-    write!(out, "from {link}").ok()?;
+fn print_peer(peer: &Peer, out: &mut Vec<u8>) -> Option<()> {
+    out.write_all(b"from ").ok()?;
+    print_digits(&peer.link, out)?;
     if let Some(route) = &peer.route {
-        let address = hex::encode_upper(alloc, route.address.octets()).ok()?;
-        write!(out, " {}:{address}", route.network).ok()?;
+        write!(out, " {}:", route.network).ok()?;
+        print_digits(route.address.octets(), out)?;
     }
     Some(())
 }
 
-fn datagram(alloc: Global, octets: &[u8], out: &mut Vec<u8>) -> Option<()> {
+fn datagram(octets: &[u8], out: &mut Vec<u8>) -> Option<()> {
     match read_datagram(LINK, octets) {
         Ok((peer, apdu)) => {
-            print_peer(alloc, &peer, out)?;
+            print_peer(&peer, out)?;
             out.write_all(b" apdu ").ok()?;
             print_octets(apdu, out)
         }
@@ -67,15 +67,15 @@ fn datagram(alloc: Global, octets: &[u8], out: &mut Vec<u8>) -> Option<()> {
 }
 
 /// A front of a datagram, with its own length in the BVLL.
-fn front(alloc: Global, octets: &mut [u8], len: u8, out: &mut Vec<u8>) -> Option<()> {
+fn front(octets: &mut [u8], len: u8, out: &mut Vec<u8>) -> Option<()> {
     *octets.get_mut(3)? = len;
     write!(out, "{len}: ").ok()?;
-    datagram(alloc, octets.get(..usize::from(len))?, out)
+    datagram(octets.get(..usize::from(len))?, out)
 }
 
-fn fronts(alloc: Global, octets: &mut [u8], out: &mut Vec<u8>) -> Option<()> {
+fn fronts(octets: &mut [u8], out: &mut Vec<u8>) -> Option<()> {
     for len in 0..octets.len() {
-        front(alloc, octets, u8::try_from(len).ok()?, out)?;
+        front(octets, u8::try_from(len).ok()?, out)?;
     }
     Some(())
 }
@@ -168,14 +168,14 @@ fn order(alloc: Global, words: &str, out: &mut Vec<u8>) -> Option<()> {
     Some(())
 }
 
-fn show_octets(alloc: Global, verb: &str, digits: &str, out: &mut Vec<u8>) -> Option<()> {
-    let mut octets = octets_of(alloc, digits)?;
+/// Shows octets, which are lent, so that nothing is to be dropped at the end of each arm.
+fn show_octets(alloc: Global, verb: &str, octets: &mut [u8], out: &mut Vec<u8>) -> Option<()> {
     match verb.as_bytes() {
-        b"apdu" => apdu(alloc, &octets, out),
-        b"bvll" => bvll(&octets, out),
-        b"npdu" => npdu(&octets, out),
-        b"datagram" => datagram(alloc, &octets, out),
-        b"fronts" => fronts(alloc, &mut octets, out),
+        b"apdu" => apdu(alloc, octets, out),
+        b"bvll" => bvll(octets, out),
+        b"npdu" => npdu(octets, out),
+        b"datagram" => datagram(octets, out),
+        b"fronts" => fronts(octets, out),
         _ => None,
     }
 }
@@ -186,6 +186,6 @@ pub(crate) fn show(alloc: Global, verb: &str, text: &str, out: &mut Vec<u8>) -> 
         b"frame" => frame(alloc, text, out),
         b"head" => head(alloc, text, out),
         b"order" => order(alloc, text, out),
-        _ => show_octets(alloc, verb, text, out),
+        _ => show_octets(alloc, verb, &mut octets_of(alloc, text)?, out),
     }
 }

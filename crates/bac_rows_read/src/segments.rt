@@ -252,6 +252,14 @@ impl Both {
             _ => self.receive(verb, words, out),
         }
     }
+
+    fn play(&mut self, lines: &str, out: &mut Vec<u8>) -> Option<()> {
+        for line in lines.lines() {
+            writeln!(out, "> {line}").ok()?;
+            self.hear(&spelled(self.alloc, line)?, out)?;
+        }
+        Some(())
+    }
 }
 
 /// Plays the lines of a row.
@@ -261,9 +269,5 @@ pub(crate) fn play(alloc: Global, lines: &str, out: &mut Vec<u8>) -> Option<()> 
         sender: Outgoing::new(Vec::new(alloc), 1),
         receiver: Incoming::new(alloc, THIRTY_TWO, THIRTY_TWO),
     };
-    for line in lines.lines() {
-        writeln!(out, "> {line}").ok()?;
-        transfer.hear(&spelled(alloc, line)?, out)?;
-    }
-    Some(())
+    transfer.play(lines, out)
 }

@@ -138,10 +138,13 @@ fn call_by_chance(state: u64) -> Call {
 
 impl Tables {
     fn new(alloc: Global, room: usize) -> Option<Tables> {
-        Some(Tables {
-            plain: PlainSlots::new(alloc, room).ok()?,
-            index: IndexSlots::new(alloc, room).ok()?,
-        })
+        let Ok(plain) = PlainSlots::new(alloc, room) else {
+            return None;
+        };
+        let Ok(index) = IndexSlots::new(alloc, room) else {
+            return None;
+        };
+        Some(Tables { plain, index })
     }
 
     /// Calls both; what they answer, alike.
@@ -201,17 +204,20 @@ impl Tables {
             _ => self.answer(call_of(verb)?, words, out),
         }
     }
+
+    fn play(&mut self, alloc: Global, lines: &str, out: &mut Vec<u8>) -> Option<()> {
+        for line in lines.lines() {
+            writeln!(out, "> {line}").ok()?;
+            let line = spelled(alloc, line)?;
+            let (verb, words) = first(&line);
+            self.hear(verb, words, out)?;
+        }
+        Some(())
+    }
 }
 
 /// Plays the lines of a row; the first one says the room of the tables.
 pub(crate) fn play(alloc: Global, lines: &str, out: &mut Vec<u8>) -> Option<()> {
     let (room, _) = lines.strip_prefix("room ")?.split_once('\n')?;
-    let mut tables = Tables::new(alloc, number(room)? as usize)?;
-    for line in lines.lines() {
-        writeln!(out, "> {line}").ok()?;
-        let line = spelled(alloc, line)?;
-        let (verb, words) = first(&line);
-        tables.hear(verb, words, out)?;
-    }
-    Some(())
+    Tables::new(alloc, number(room)? as usize)?.play(alloc, lines, out)
 }

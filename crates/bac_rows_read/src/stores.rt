@@ -67,30 +67,49 @@ impl Playing {
         }
     }
 
+    fn is_house(&self) -> Option<bool> {
+        match house(self.alloc) {
+            Ok(house) => Some(self.store.same(&house)),
+            Err(_) => None,
+        }
+    }
+
+    /// Whether it is the store of a document.
+    fn is_of(&self, text: &str) -> Option<bool> {
+        match read_objects(self.alloc, text.as_bytes()) {
+            Ok(other) => Some(self.store.same(&other)),
+            Err(_) => None,
+        }
+    }
+
     fn compare(&self, text: &str, out: &mut Vec<u8>) -> Option<()> {
-        let other = if text.is_empty() {
-            house(self.alloc).ok()?
+        let same = if text.is_empty() {
+            self.is_house()?
         } else {
-            read_objects(self.alloc, text.as_bytes()).ok()?
+            self.is_of(text)?
         };
-        writeln!(out, "same {}", self.store.same(&other)).ok()
+        writeln!(out, "same {same}").ok()
     }
 
     /// Goes on with a copy.
     fn copy(&mut self, out: &mut Vec<u8>) -> Option<()> {
-        let copy = self.store.copy(self.alloc).ok()?;
-        writeln!(out, "same {}", self.store.same(&copy)).ok()?;
+        let Ok(copy) = self.store.copy(self.alloc) else {
+            return None;
+        };
+        let same = self.store.same(&copy);
         self.store = copy;
-        Some(())
+        writeln!(out, "same {same}").ok()
     }
 
     /// Performs a request by a plan.
     fn perform(&mut self, choice: u8, octets: &[u8], out: &mut Vec<u8>) -> Option<()> {
         let request = read_request(choice, octets).ok()?;
-        let plan = self.store.prepare(self.alloc, &request).ok()?;
-        print_reply(self.alloc, plan.reply(), out)?;
+        let Ok(plan) = self.store.prepare(self.alloc, &request) else {
+            return None;
+        };
+        let told = print_reply(self.alloc, plan.reply(), out);
         self.store.commit(plan);
-        Some(())
+        told
     }
 
     fn ask(&mut self, words: &str, out: &mut Vec<u8>) -> Option<()> {
@@ -101,17 +120,14 @@ impl Playing {
 
     /// Makes a change, or tells why not, and whether the store is as it was.
     fn make_change(&mut self, change: &Change, out: &mut Vec<u8>) -> Option<()> {
-        let before = self.store.copy(self.alloc).ok()?;
-        match self.store.change(self.alloc, change) {
-            Ok(()) => writeln!(out, "changed").ok(),
-            Err(fault) => writeln!(
-                out,
-                "{}: {fault}, same {}",
-                fault.number(),
-                self.store.same(&before)
-            )
-            .ok(),
-        }
+        let Ok(before) = self.store.copy(self.alloc) else {
+            return None;
+        };
+        let Err(fault) = self.store.change(self.alloc, change) else {
+            return out.write_all(b"changed\n").ok();
+        };
+        let same = self.store.same(&before);
+        writeln!(out, "{}: {fault}, same {same}", fault.number()).ok()
     }
 
     fn change(&mut self, words: &str, out: &mut Vec<u8>) -> Option<()> {
@@ -134,19 +150,32 @@ impl Playing {
         self.make_change(&change, out)
     }
 
-    /// Whether a read of the object-identifier of an analog-input gets it.
-    fn finds(&self, instance: u32) -> Option<bool> {
-        let [_, high, middle, low] = instance.to_be_bytes();
-        let octets = [0x0C, 0, high, middle, low, 0x19, 75];
-        let request = read_request(12, octets.as_slice()).ok()?;
-        let plan = self.store.prepare(self.alloc, &request).ok()?;
-        let AnyReply::Complex(complex) = plan.reply() else {
+    /// Whether a reply has service data that end so.
+    fn ends_with(&self, reply: Reply<'_>, end: &[u8]) -> Option<bool> {
+        let AnyReply::Complex(complex) = reply else {
             return Some(false);
         };
         let mut data = Vec::new(self.alloc);
         write_reply(complex, &mut data).ok()?;
-        let end = [0xC4, 0, high, middle, low, 0x3F];
-        Some(data.ends_with(end.as_slice()))
+        Some(data.ends_with(end))
+    }
+
+    /// Whether a read is answered by service data that end so.
+    fn answers(&self, octets: &[u8], end: &[u8]) -> Option<bool> {
+        let request = read_request(12, octets).ok()?;
+        match self.store.prepare(self.alloc, &request) {
+            Ok(plan) => self.ends_with(plan.reply(), end),
+            Err(_) => None,
+        }
+    }
+
+    /// Whether a read of the object-identifier of an analog-input gets it.
+    fn finds(&self, instance: u32) -> Option<bool> {
+        let [_, high, middle, low] = instance.to_be_bytes();
+        self.answers(
+            &[0x0C, 0, high, middle, low, 0x19, 75],
+            &[0xC4, 0, high, middle, low, 0x3F],
+        )
     }
 
     /// How many of so many instances there are, and whether the last one is.
@@ -160,19 +189,32 @@ impl Playing {
         writeln!(out, "found {found}, the last {is_last}").ok()
     }
 
+    /// Goes on with the house.
+    fn make_house(&mut self) -> Option<()> {
+        let Ok(store) = house(self.alloc) else {
+            return None;
+        };
+        self.store = store;
+        Some(())
+    }
+
+    fn make_objects(&mut self, words: &str, out: &mut Vec<u8>) -> Option<()> {
+        let objects = objects_of(self.alloc, words)?;
+        self.make(objects, out)
+    }
+
+    fn make_many(&mut self, count: u32, out: &mut Vec<u8>) -> Option<()> {
+        let objects = descending(self.alloc, count)?;
+        self.make(objects, out)
+    }
+
     fn make_other(&mut self, verb: &str, words: &str, out: &mut Vec<u8>) -> Option<()> {
         match verb.as_bytes() {
-            b"house" => {
-                self.store = house(self.alloc).ok()?;
-                Some(())
-            }
+            b"house" => self.make_house(),
             b"document" => self.read_document(words, out),
-            b"objects" => self.make(objects_of(self.alloc, words)?, out),
-            b"many" => self.make(
-                descending(self.alloc, u32::try_from(number(words)?).ok()?)?,
-                out,
-            ),
-            b"find" => self.find(u32::try_from(number(words)?).ok()?, out),
+            b"objects" => self.make_objects(words, out),
+            b"many" => self.make_many(words.parse::<u32>().ok()?, out),
+            b"find" => self.find(words.parse::<u32>().ok()?, out),
             b"faults" => print_faults(out),
             _ => None,
         }
@@ -187,6 +229,16 @@ impl Playing {
             b"copy" => self.copy(out),
             _ => self.make_other(verb, words, out),
         }
+    }
+
+    fn play(&mut self, lines: &str, out: &mut Vec<u8>) -> Option<()> {
+        for line in lines.lines() {
+            writeln!(out, "> {line}").ok()?;
+            let line = spelled(self.alloc, line)?;
+            let (verb, words) = first(&line);
+            self.hear(verb, words, out)?;
+        }
+        Some(())
     }
 }
 
@@ -207,13 +259,8 @@ fn print_faults(out: &mut Vec<u8>) -> Option<()> {
 
 /// Plays the lines of a row.
 pub(crate) fn play(alloc: Global, lines: &str, out: &mut Vec<u8>) -> Option<()> {
-    let store = house(alloc).ok()?;
-    let mut playing = Playing { alloc, store };
-    for line in lines.lines() {
-        writeln!(out, "> {line}").ok()?;
-        let line = spelled(alloc, line)?;
-        let (verb, words) = first(&line);
-        playing.hear(verb, words, out)?;
-    }
-    Some(())
+    let Ok(store) = house(alloc) else {
+        return None;
+    };
+    Playing { alloc, store }.play(lines, out)
 }

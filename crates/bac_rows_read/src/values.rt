@@ -133,13 +133,12 @@ fn print(alloc: Global, octets: &[u8], out: &mut Vec<u8>) -> Option<()> {
     print_and_read(alloc, Separator::Colon, &value, out)
 }
 
-fn show_octets(alloc: Global, verb: &str, digits: &str, out: &mut Vec<u8>) -> Option<()> {
-    let octets = octets_of(alloc, digits)?;
+fn show_octets(alloc: Global, verb: &str, octets: &[u8], out: &mut Vec<u8>) -> Option<()> {
     match verb.as_bytes() {
-        b"tag" => tag(&octets, out),
-        b"element" => element(alloc, &octets, out),
-        b"data" => data(alloc, &octets, out),
-        b"print" => print(alloc, &octets, out),
+        b"tag" => tag(octets, out),
+        b"element" => element(alloc, octets, out),
+        b"data" => data(alloc, octets, out),
+        b"print" => print(alloc, octets, out),
         _ => None,
     }
 }
@@ -149,6 +148,6 @@ pub(crate) fn show(alloc: Global, verb: &str, text: &str, out: &mut Vec<u8>) -> 
     match verb.as_bytes() {
         b"piece" => piece(alloc, text, out),
         b"value" => read_text(alloc, Separator::Colon, text.as_bytes(), out),
-        _ => show_octets(alloc, verb, text, out),
+        _ => show_octets(alloc, verb, &octets_of(alloc, text)?, out),
     }
 }

@@ -33,14 +33,21 @@ fn put_counting(count: u64, out: &mut String) -> Option<()> {
     Some(())
 }
 
+/// What a character stands for.
+fn meant(character: char) -> Option<char> {
+    match character {
+        '|' => Some('\n'),
+        '~' => Some('\r'),
+        '^' => Some('\t'),
+        '_' => None,
+        other => Some(other),
+    }
+}
+
 fn put_plain(text: &str, out: &mut String) -> Option<()> {
     for character in text.chars() {
-        match character {
-            '|' => out.push('\n').ok()?,
-            '~' => out.push('\r').ok()?,
-            '^' => out.push('\t').ok()?,
-            '_' => {}
-            other => out.push(other).ok()?,
+        if let Some(character) = meant(character) {
+            out.push(character).ok()?;
         }
     }
     Some(())
@@ -115,6 +122,14 @@ fn print_runs(octets: &[u8], look: Look, out: &mut Vec<u8>) -> Option<()> {
     }
     print_run(last, count, look, out)?;
     out.write_all(b"\n").ok()
+}
+
+/// Prints octets in hexadecimal, each by two digits.
+pub(crate) fn print_digits(octets: &[u8], out: &mut Vec<u8>) -> Option<()> {
+    for octet in octets {
+        print_octet(*octet, Look::Hexadecimal, out)?;
+    }
+    Some(())
 }
 
 /// Prints octets in hexadecimal.

@@ -5,12 +5,12 @@
 //! how many slots are held and entries live, and by `compare` whether the node and its store are those of a new one.
 use crate::scene::{limits_of, link, nodes_of};
 use crate::telling::{framed, print_outcome, print_sends};
-use crate::words::{first, request_of};
+use crate::words::{first, octets_of, request_of};
 use bac_apdu::read;
 use bac_commands::{print_asked, print_refused};
 use bac_node::{Node, NodeFault, Outcome};
 use bac_npdu::Peer;
-use bac_requester::AskFault;
+use bac_requester::{AskFault, Asked};
 use bac_script::{SetFile, SetProperty, Step, read_step};
 use bac_store::{Change, ChangeFault};
 use std::alloc::Global;
@@ -32,16 +32,22 @@ pub(crate) enum Came {
 /// A node of a scene, to which nothing has happened.
 pub(crate) fn node_of(alloc: Global, scene: &str) -> Option<Node> {
     let (config, store) = nodes_of(alloc, scene, 1)?.pop()?;
-    Node::new(alloc, config, store).ok()
+    match Node::new(alloc, config, store) {
+        Ok(node) => Some(node),
+        Err(_) => None,
+    }
 }
 
 /// What a call told.
 fn told(alloc: Global, came: Result<Outcome, NodeFault>, out: &mut Vec<u8>) -> Option<Came> {
     match came {
-        Ok(outcome) => match print_outcome(alloc, outcome, out)? {
-            true => Some(Came::Dropped),
-            false => Some(Came::Heard),
-        },
+        Ok(mut outcome) => {
+            print_outcome(alloc, &mut outcome, out)?;
+            match outcome.dropped {
+                Some(_) => Some(Came::Dropped),
+                None => Some(Came::Heard),
+            }
+        }
         Err(NodeFault::NoMemory) => Some(Came::NoMemory),
         Err(fault) => {
             writeln!(out, "fault {}", fault.number()).ok()?;
@@ -52,7 +58,7 @@ fn told(alloc: Global, came: Result<Outcome, NodeFault>, out: &mut Vec<u8>) -> O
 
 /// The datagram of a line. What is no APDU comes in no frame.
 fn datagram_of(alloc: Global, verb: &str, digits: &str) -> Option<Vec<u8>> {
-    let octets = hex::decode(alloc, digits).ok()?;
+    let octets = octets_of(alloc, digits)?;
     if verb == "hear" {
         return Some(octets);
     }
@@ -69,8 +75,8 @@ fn hears(
     out: &mut Vec<u8>,
 ) -> Option<Came> {
     let (peer, digits) = words.split_once(' ')?;
-    let octets = datagram_of(alloc, verb, digits)?;
     let from = link(peer.parse::<u8>().ok()?);
+    let octets = datagram_of(alloc, verb, digits)?;
     told(alloc, node.on(now, from, &octets), out)
 }
 
@@ -78,6 +84,22 @@ fn prepares(alloc: Global, node: &Node, now: u64, out: &mut Vec<u8>) -> Option<C
     match told(alloc, node.prepare_tick(now), out)? {
         Came::Heard => Some(Came::Timeless),
         came => Some(came),
+    }
+}
+
+/// What an ask told.
+fn told_of_ask(alloc: Global, came: Result<Asked, AskFault>, out: &mut Vec<u8>) -> Option<Came> {
+    match came {
+        Ok(asked) => {
+            print_asked(asked.ticket, asked.invoke_id, out).ok()?;
+            print_sends(alloc, &asked.sends, out)?;
+            Some(Came::Heard)
+        }
+        Err(AskFault::NoMemory) => Some(Came::NoMemory),
+        Err(fault) => {
+            print_refused(fault.number(), out).ok()?;
+            Some(Came::Refused)
+        }
     }
 }
 
@@ -90,18 +112,7 @@ fn asks(alloc: Global, node: &mut Node, now: u64, words: &str, out: &mut Vec<u8>
     };
     let limits = limits_of(alloc, limits)?;
     let request = request_of(alloc, words)?;
-    match node.ask(now, &peer, &limits, &request) {
-        Ok(asked) => {
-            print_asked(asked.ticket, asked.invoke_id, out).ok()?;
-            print_sends(alloc, &asked.sends, out)?;
-            Some(Came::Heard)
-        }
-        Err(AskFault::NoMemory) => Some(Came::NoMemory),
-        Err(fault) => {
-            print_refused(fault.number(), out).ok()?;
-            Some(Came::Refused)
-        }
-    }
+    told_of_ask(alloc, node.ask(now, &peer, &limits, &request), out)
 }
 
 /// The change of a line, which is spelled as in a script of a network.

@@ -29,41 +29,47 @@ impl Twins<'_> {
         happens(alloc, &mut self.node, self.scene, line, out)
     }
 
-    /// What the twin tells of an event: of a dropped datagram, which is a tick to it, and of what was refused, nothing.
-    fn twin_tells(&mut self, alloc: Global, line: &str, came: Came) -> Option<Vec<u8>> {
+    /// What the twin tells of an event.
+    fn twin_meets(&mut self, alloc: Global, line: &str) -> Option<Vec<u8>> {
         let mut told = Vec::new(alloc);
-        let other = match came {
+        match happens(alloc, &mut self.twin, self.scene, line, &mut told)? {
+            Came::NoMemory => None,
+            _ => Some(told),
+        }
+    }
+
+    /// Whether the twin tells the same of an event; of a dropped datagram, which is a tick to it, and of what was refused, nothing.
+    fn twin_agrees(&mut self, alloc: Global, line: &str, came: Came, told: &[u8]) -> Option<bool> {
+        match came {
             Came::Heard | Came::Timeless => {
-                happens(alloc, &mut self.twin, self.scene, line, &mut told)?
+                Some(self.twin_meets(alloc, line)?.as_slice() == told)
             }
             Came::Dropped => {
                 let tick = format!(in alloc; "{} tick", first(line).0).ok()?;
-                happens(alloc, &mut self.twin, self.scene, &tick, &mut told)?
+                Some(self.twin_meets(alloc, &tick)?.is_empty())
             }
-            Came::Refused | Came::NoMemory => came,
-        };
-        if other == Came::NoMemory {
-            None
-        } else {
-            Some(told)
+            Came::Refused => Some(true),
+            Came::NoMemory => None,
         }
+    }
+}
+
+/// The latest moment that a node knows after an event.
+fn latest_after(came: Came, line: &str, before: u64) -> Option<u64> {
+    match came {
+        Came::Heard | Came::Dropped => number(first(line).0),
+        _ => Some(before),
     }
 }
 
 impl Stage for Twins<'_> {
     fn meets(&mut self, alloc: Global, line: &str, out: &mut Vec<u8>) -> Option<()> {
-        let mut latest = self.node.latest();
+        let before = self.node.latest();
         let mut told = Vec::new(alloc);
         let came = self.node_meets(alloc, line, &mut told)?;
-        let other = self.twin_tells(alloc, line, came)?;
         out.write_all(&told).ok()?;
-        if matches!(came, Came::Heard | Came::Dropped) {
-            latest = number(first(line).0)?;
-        }
-        if matches!(came, Came::Dropped | Came::Refused) {
-            told.clear();
-        }
-        if other != told || self.node.latest() != latest {
+        let is_alike = self.twin_agrees(alloc, line, came, &told)?;
+        if !is_alike || self.node.latest() != latest_after(came, line, before)? {
             out.write_all(b"otherwise at the twin\n").ok()?;
         }
         Some(())

@@ -75,6 +75,15 @@ impl<'a, S: Stage> Player<'a, S> {
         }
         self.compare(out)
     }
+
+    /// What scripts begin with in the scene, and a script; how many events that were is printed.
+    fn goes_by_both(&mut self, script: &'a str, out: &mut Vec<u8>) -> Option<()> {
+        if let Some((_, first)) = self.scene.split_once("\nfirst\n") {
+            self.goes_by(first, out)?;
+        }
+        self.goes_by(script, out)?;
+        writeln!(out, "{} events", self.events).ok()
+    }
 }
 
 /// A stage goes by what scripts begin with in a scene, and by a script.
@@ -94,9 +103,5 @@ pub(crate) fn play<S: Stage>(
         wanted: Vec::new(alloc),
         events: 0,
     };
-    if let Some((_, first)) = scene.split_once("\nfirst\n") {
-        player.goes_by(first, out)?;
-    }
-    player.goes_by(script, out)?;
-    writeln!(out, "{} events", player.events).ok()
+    player.goes_by_both(script, out)
 }

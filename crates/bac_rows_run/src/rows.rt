@@ -8,6 +8,7 @@ use std::alloc::Global;
 use std::io;
 use std::io::Write;
 use std::net::Net;
+use std::time::Clock;
 
 /// What plays a row.
 #[derive(Clone, Copy)]
@@ -47,73 +48,72 @@ fn kind_of(word: &str) -> Option<Kind> {
     None
 }
 
-/// Plays the lines of a row.
-fn play_lines<R: Net + std::time::Clock>(
-    rt: &R,
+/// Rows that are played one after the other, on the scene of the last one of that kind.
+#[derive(Drop)]
+struct Rows<'a, R> {
+    rt: &'a R,
     alloc: Global,
-    kind: Kind,
-    scene: &str,
-    lines: &str,
-    out: &mut Vec<u8>,
-) -> Option<()> {
-    match kind {
-        Kind::Scene => Some(()),
-        Kind::Node => play_node(alloc, scene, lines, out),
-        Kind::World => play_world(alloc, scene, lines, out),
-        Kind::Nodes => nodes::play(alloc, lines, out),
-        Kind::Socket => sockets::play(rt, alloc, lines, out),
-        Kind::Script(way) => scripts::play(alloc, way, lines, out),
-        Kind::Scripts(way) => scripts::play_lines(alloc, way, lines, out),
+    scene: &'a str,
+}
+
+impl<'a, R: Net + Clock> Rows<'a, R> {
+    /// Plays the lines of a row.
+    fn play_lines(&self, kind: Kind, lines: &str, out: &mut Vec<u8>) -> Option<()> {
+        match kind {
+            Kind::Scene => Some(()),
+            Kind::Node => play_node(self.alloc, self.scene, lines, out),
+            Kind::World => play_world(self.alloc, self.scene, lines, out),
+            Kind::Nodes => nodes::play(self.alloc, lines, out),
+            Kind::Socket => sockets::play(self.rt, self.alloc, lines, out),
+            Kind::Script(way) => scripts::play(self.alloc, way, lines, out),
+            Kind::Scripts(way) => scripts::play_lines(self.alloc, way, lines, out),
+        }
+    }
+
+    /// Plays a row, once more where it can't be: memory may have been refused to it.
+    fn play(&self, kind: Kind, lines: &str, out: &mut Vec<u8>) -> io::Result<()> {
+        let begin = out.len();
+        if self.play_lines(kind, lines, out).is_some() {
+            return Ok(());
+        }
+        out.truncate(begin);
+        if self.play_lines(kind, lines, out).is_some() {
+            return Ok(());
+        }
+        out.truncate(begin);
+        out.write_all(b"?\n")
+    }
+
+    /// Plays a row of whatever kind.
+    fn go_on(&mut self, row: &'a str, out: &mut Vec<u8>) -> io::Result<()> {
+        let (title, lines) = row.split_once('\n').unwrap_or((row, ""));
+        let lines = lines.trim_end_matches('\n');
+        writeln!(out, "\n={title}")?;
+        match kind_of(words::first(title).0) {
+            Some(Kind::Scene) => {
+                self.scene = lines;
+                Ok(())
+            }
+            Some(kind) => self.play(kind, lines, out),
+            None => out.write_all(b"?\n"),
+        }
     }
 }
 
-/// Plays a row, once more where it can't be: memory may have been refused to it.
-fn play<R: Net + std::time::Clock>(
-    rt: &R,
-    alloc: Global,
-    kind: Kind,
-    scene: &str,
-    lines: &str,
-    out: &mut Vec<u8>,
-) -> io::Result<()> {
-    let begin = out.len();
-    if play_lines(rt, alloc, kind, scene, lines, out).is_some() {
-        return Ok(());
-    }
-    out.truncate(begin);
-    if play_lines(rt, alloc, kind, scene, lines, out).is_some() {
-        return Ok(());
-    }
-    out.truncate(begin);
-    out.write_all(b"?\n")
-}
-
-/// The title of a row, what plays it, and its lines.
-fn parted(row: &str) -> (&str, Option<Kind>, &str) {
-    let (title, lines) = row.split_once('\n').unwrap_or((row, ""));
-    (
-        title,
-        kind_of(words::first(title).0),
-        lines.trim_end_matches('\n'),
-    )
-}
-
-/// Each row of a text, behind a `=`. A scene is that of the rows behind it.
-pub(crate) fn play_all<R: Net + std::time::Clock>(
+/// Each row of a text, behind a `=`.
+pub(crate) fn play_all<R: Net + Clock>(
     rt: &R,
     alloc: Global,
     text: &str,
     out: &mut Vec<u8>,
 ) -> io::Result<()> {
-    let mut scene = "";
+    let mut rows = Rows {
+        rt,
+        alloc,
+        scene: "",
+    };
     for row in text.split('=').skip(1) {
-        let (title, kind, lines) = parted(row);
-        writeln!(out, "\n={title}")?;
-        match kind {
-            Some(Kind::Scene) => scene = lines,
-            Some(kind) => play(rt, alloc, kind, scene, lines, out)?,
-            None => out.write_all(b"?\n")?,
-        }
+        rows.go_on(row, out)?;
     }
     Ok(())
 }

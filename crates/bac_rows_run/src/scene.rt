@@ -3,7 +3,7 @@
 //! `node TAKES WINDOW SLOTS SLOTS` is a node: what it takes, as the first two octets of its requests say it, its window, and its slots for asks and for replies.
 //! It has the house store, behind them the words of a request as it is after that. `overtake LIMIT` is the world's, 128 where there is none. `NAME: TEXT` is
 //! a text that lines may name. Behind a line `first` stands what each script begins with.
-use crate::words::{first, number, request_of};
+use crate::words::{first, number, octets_of, request_of};
 use bac_apdu::{Apdu, Limits, read};
 use bac_node::Config;
 use bac_npdu::LinkAddress;
@@ -18,7 +18,7 @@ pub(crate) fn link(number: u8) -> LinkAddress {
 
 /// What a node takes, as the first two octets of its requests say it.
 pub(crate) fn limits_of(alloc: Global, digits: &str) -> Option<Limits> {
-    let mut octets = hex::decode(alloc, digits).ok()?;
+    let mut octets = octets_of(alloc, digits)?;
     octets.extend_from_slice(&[0, 12]).ok()?;
     match read(&octets) {
         Ok(Apdu::ConfirmedRequest { limits, .. }) => Some(limits),
@@ -26,15 +26,26 @@ pub(crate) fn limits_of(alloc: Global, digits: &str) -> Option<Limits> {
     }
 }
 
+/// A store performs the request of some words.
+fn performs(alloc: Global, store: &mut Store, words: &str) -> Option<()> {
+    let words = plain(alloc, words).ok()?;
+    let request = request_of(alloc, &words)?;
+    match store.perform(alloc, &request.as_request()) {
+        Ok(_) => Some(()),
+        Err(_) => None,
+    }
+}
+
 /// The house store, after a request where there is one.
 pub(crate) fn house_after(alloc: Global, words: &str) -> Option<Store> {
-    let mut store = house(alloc).ok()?;
-    if !words.is_empty() {
-        let words = plain(alloc, words).ok()?;
-        let request = request_of(alloc, &words)?;
-        let _ = store.perform(alloc, &request.as_request()).ok()?;
+    let Ok(mut store) = house(alloc) else {
+        return None;
+    };
+    if words.is_empty() || performs(alloc, &mut store, words).is_some() {
+        Some(store)
+    } else {
+        None
     }
-    Some(store)
 }
 
 /// What a node of that number is made of.

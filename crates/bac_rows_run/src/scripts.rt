@@ -37,17 +37,29 @@ fn run(alloc: Global, way: Way, script: &str, out: &mut Vec<u8>) -> Option<()> {
     Some(())
 }
 
-/// A line as the script that it stands for.
-fn script_of(alloc: Global, line: &str) -> Option<String> {
-    let mut script = String::new(alloc);
+/// What a character stands for.
+fn meant(character: char) -> Option<char> {
+    match character {
+        '|' => Some('\n'),
+        '~' => Some('\r'),
+        '_' => None,
+        other => Some(other),
+    }
+}
+
+/// Puts the script that a line stands for.
+fn put_script(line: &str, script: &mut String) -> Option<()> {
     for character in line.chars() {
-        match character {
-            '|' => script.push('\n').ok()?,
-            '~' => script.push('\r').ok()?,
-            '_' => {}
-            other => script.push(other).ok()?,
+        if let Some(character) = meant(character) {
+            script.push(character).ok()?;
         }
     }
+    Some(())
+}
+
+fn script_of(alloc: Global, line: &str) -> Option<String> {
+    let mut script = String::new(alloc);
+    put_script(line, &mut script)?;
     Some(script)
 }
 

@@ -30,8 +30,13 @@ pub(crate) fn config(link: LinkAddress) -> Config {
 
 /// A node of that link with the house store.
 pub(crate) fn house_node(alloc: Global, link: LinkAddress) -> Option<Node> {
-    let store = house(alloc).ok()?;
-    Node::new(alloc, config(link), store).ok()
+    let Ok(store) = house(alloc) else {
+        return None;
+    };
+    match Node::new(alloc, config(link), store) {
+        Ok(node) => Some(node),
+        Err(_) => None,
+    }
 }
 
 /// A node on a link in memory.
@@ -39,7 +44,10 @@ pub(crate) type MemoryStation<'a> = Station<MemoryLink<'a>>;
 
 fn station<'a>(alloc: Global, medium: &'a RefCell<Medium>, end: End) -> Option<MemoryStation<'a>> {
     let node = house_node(alloc, end.link())?;
-    Station::new(alloc, node, MemoryLink::new(medium, end)).ok()
+    match Station::new(alloc, node, MemoryLink::new(medium, end)) {
+        Ok(station) => Some(station),
+        Err(_) => None,
+    }
 }
 
 /// A client and a server on one medium.

@@ -1,35 +1,63 @@
 //! The row of a node on a UDP socket of this machine.
 use crate::side::house_node;
-use crate::turns::print_octets;
+use crate::turns::receive;
+use crate::words::octets_of;
 use bac_link::{Link, MonotonicClock, UdpLink};
 use bac_run::{Patience, Station};
 use std::alloc::Global;
 use std::io::Write;
 use std::net::Net;
+use std::time::Clock;
 
-/// Prints what a link has received next.
-fn receive(alloc: Global, link: &mut UdpLink, out: &mut Vec<u8>) -> Option<()> {
-    let mut buffer = Vec::new(alloc);
-    buffer.resize(64, 0u8).ok()?;
-    let received = link.recv(&mut buffer, 1_000).ok()??;
-    print_octets(alloc, &buffer[..received.1], out)
+/// A socket at a free port.
+fn bound<R: Net>(rt: &R) -> Option<UdpLink> {
+    match UdpLink::bind(rt, 0) {
+        Ok(link) => Some(link),
+        Err(_) => None,
+    }
+}
+
+/// A node with the house store on a link.
+fn station_on(alloc: Global, link: UdpLink) -> Option<Station<UdpLink>> {
+    let node = house_node(alloc, link.address())?;
+    match Station::new(alloc, node, link) {
+        Ok(station) => Some(station),
+        Err(_) => None,
+    }
+}
+
+/// A node takes one turn on its own.
+fn serve<R: Clock>(rt: &R, station: &mut Station<UdpLink>, out: &mut Vec<u8>) -> Option<()> {
+    let Ok(mut clock) = MonotonicClock::new(rt) else {
+        return None;
+    };
+    match station.serve(&mut clock, &Patience::UNTIL_DUE, 1) {
+        Ok(served) => writeln!(out, "served {served}").ok(),
+        Err(_) => None,
+    }
+}
+
+/// A client sends octets to a node, which takes a turn, and receives the answer.
+fn exchange<R: Net + Clock>(
+    rt: &R,
+    alloc: Global,
+    client: &mut UdpLink,
+    octets: &[u8],
+    out: &mut Vec<u8>,
+) -> Option<()> {
+    let link = bound(rt)?;
+    client.send(link.address(), octets).ok()?;
+    serve(rt, &mut station_on(alloc, link)?, out)?;
+    receive(alloc, client, 1_000, out)
 }
 
 /// A socket sends the octets of a line, a node takes one turn on its own, and the first socket receives the answer.
-pub(crate) fn play<R: Net + std::time::Clock>(
+pub(crate) fn play<R: Net + Clock>(
     rt: &R,
     alloc: Global,
     digits: &str,
     out: &mut Vec<u8>,
 ) -> Option<()> {
-    let octets = hex::decode(alloc, digits).ok()?;
-    let mut client = UdpLink::bind(rt, 0).ok()?;
-    let link = UdpLink::bind(rt, 0).ok()?;
-    let mut clock = MonotonicClock::new(rt).ok()?;
-    let address = link.address();
-    let mut station = Station::new(alloc, house_node(alloc, address)?, link).ok()?;
-    client.send(address, &octets).ok()?;
-    let served = station.serve(&mut clock, &Patience::UNTIL_DUE, 1).ok()?;
-    writeln!(out, "served {served}").ok()?;
-    receive(alloc, &mut client, out)
+    let octets = octets_of(alloc, digits)?;
+    exchange(rt, alloc, &mut bound(rt)?, &octets, out)
 }

@@ -2,8 +2,7 @@
 use crate::printing::spelled;
 use crate::scene::link;
 use bac_commands::{print_ended, print_ending_line};
-use bac_ends::Datagram;
-use bac_entry::Effect;
+use bac_ends::{Datagram, PeerKey};
 use bac_node::Outcome;
 use bac_responder::Act;
 use bac_service::{AnyRequest, OwnedRequest};
@@ -55,34 +54,34 @@ fn verb(request: &OwnedRequest) -> &'static str {
     }
 }
 
-/// A request that was performed: its client and invoke ID, its word and service data, and how it is answered.
-fn print_performed(alloc: Global, act: Act, out: &mut Vec<u8>) -> Option<()> {
-    let Act { key, effect } = act;
-    let Effect { request, reply } = effect;
-    let verb = verb(&request);
-    let service = spelled(alloc, &request)?;
-    let peer = key.peer.link[3];
-    write!(out, "performed {peer}:{} {verb} {service} ", key.invoke_id).ok()?;
-    print_ending_line(alloc, &Ending::Answered(reply), out).ok()
+/// The client and the invoke ID of a request, its word and its service data.
+fn print_request(
+    alloc: Global,
+    key: &PeerKey,
+    request: &OwnedRequest,
+    out: &mut Vec<u8>,
+) -> Option<()> {
+    let (peer, invoke_id, verb) = (key.peer.link[3], key.invoke_id, verb(request));
+    let service = spelled(alloc, request)?;
+    write!(out, "performed {peer}:{invoke_id} {verb} {service} ").ok()
 }
 
-/// What came of a call; whether a datagram was dropped.
-pub(crate) fn print_outcome(alloc: Global, outcome: Outcome, out: &mut Vec<u8>) -> Option<bool> {
-    let Outcome {
-        sends,
-        effect,
-        ended,
-        dropped,
-    } = outcome;
-    if let Some(cause) = &dropped {
+/// A request that was performed, and how it is answered.
+fn print_performed(alloc: Global, act: Act, out: &mut Vec<u8>) -> Option<()> {
+    print_request(alloc, &act.key, &act.effect.request, out)?;
+    print_ending_line(alloc, &Ending::Answered(act.effect.reply), out).ok()
+}
+
+/// What came of a call. What was performed is taken out.
+pub(crate) fn print_outcome(alloc: Global, outcome: &mut Outcome, out: &mut Vec<u8>) -> Option<()> {
+    if let Some(cause) = &outcome.dropped {
         writeln!(out, "dropped {}", cause.number()).ok()?;
     }
-    if let Some(act) = effect {
+    if let Some(act) = outcome.effect.take() {
         print_performed(alloc, act, out)?;
     }
-    for finish in &ended {
+    for finish in &outcome.ended {
         print_ended(alloc, finish.ticket, &finish.how, out).ok()?;
     }
-    print_sends(alloc, &sends, out)?;
-    Some(dropped.is_some())
+    print_sends(alloc, &outcome.sends, out)
 }

@@ -3,7 +3,7 @@ use crate::medium::End;
 use crate::memory_link::MemoryLink;
 use crate::printing::{print_asked, print_fault, print_turn};
 use crate::side::{Side, question};
-use crate::words::{first, number};
+use crate::words::{first, number, octets_of};
 use bac_link::Link;
 use bac_run::{Patience, Turn, TurnFault};
 use std::alloc::Global;
@@ -11,11 +11,27 @@ use std::io::Write;
 
 /// `send HEX`: the client's link is handed a datagram for the server.
 pub(crate) fn send(side: &Side<'_>, digits: &str, out: &mut Vec<u8>) -> Option<()> {
-    let octets = hex::decode(side.alloc, digits).ok()?;
+    let octets = octets_of(side.alloc, digits)?;
     let mut link = MemoryLink::new(side.medium, End::Client);
     match link.send(End::Server.link(), &octets) {
         Ok(()) => Some(()),
         Err(fault) => writeln!(out, "{fault}").ok(),
+    }
+}
+
+/// Prints what comes next to a link, within so many milliseconds.
+pub(crate) fn receive<L: Link>(
+    alloc: Global,
+    link: &mut L,
+    wait: u64,
+    out: &mut Vec<u8>,
+) -> Option<()> {
+    let mut buffer = Vec::new(alloc);
+    buffer.resize(64, 0u8).ok()?;
+    match link.recv(&mut buffer, wait) {
+        Ok(Some(received)) => print_octets(alloc, buffer.get(..received.1)?, out),
+        Ok(None) => out.write_all(b"nothing\n").ok(),
+        Err(_) => out.write_all(b"failed\n").ok(),
     }
 }
 
@@ -25,13 +41,7 @@ pub(crate) fn recv(side: &Side<'_>, name: &str, out: &mut Vec<u8>) -> Option<()>
         b"client" => End::Client,
         _ => End::Server,
     };
-    let mut buffer = Vec::new(side.alloc);
-    buffer.resize(64, 0u8).ok()?;
-    match MemoryLink::new(side.medium, end).recv(&mut buffer, 100) {
-        Ok(Some(received)) => print_octets(side.alloc, &buffer[..received.1], out),
-        Ok(None) => out.write_all(b"nothing\n").ok(),
-        Err(_) => out.write_all(b"failed\n").ok(),
-    }
+    receive(side.alloc, &mut MemoryLink::new(side.medium, end), 100, out)
 }
 
 pub(crate) fn print_octets(alloc: Global, octets: &[u8], out: &mut Vec<u8>) -> Option<()> {

@@ -13,6 +13,14 @@ pub(crate) fn number(text: &str) -> Option<u64> {
     text.parse::<u64>().ok()
 }
 
+/// The octets of hexadecimal digits.
+pub(crate) fn octets_of(alloc: Global, digits: &str) -> Option<Vec<u8>> {
+    match hex::decode(alloc, digits) {
+        Ok(octets) => Some(octets),
+        Err(_) => None,
+    }
+}
+
 /// The request of some words.
 pub(crate) fn request_of(alloc: Global, text: &str) -> Option<OwnedRequest> {
     let mut words = Vec::new(alloc);

@@ -7,11 +7,11 @@
 use crate::playing::{Stage, play};
 use crate::printing::{print_asked, print_performed};
 use crate::scene::{house_after, link, nodes_of, overtake_of};
-use crate::words::first;
+use crate::words::{first, octets_of};
 use bac_commands::print_ended;
 use bac_network::{Event, Fact, World, WorldFault};
 use bac_simulate::simulate_in;
-use bac_store::house;
+use bac_store::{Store, house};
 use std::alloc::Global;
 use std::io::Write;
 
@@ -41,15 +41,22 @@ fn print_log(alloc: Global, world: &World, out: &mut Vec<u8>) -> Option<()> {
     Some(())
 }
 
-/// Of each node whether its store was the house's, and is.
-fn print_stores(alloc: Global, world: &World, out: &mut Vec<u8>) -> Option<()> {
-    let fresh = house(alloc).ok()?;
+/// Of each node whether its store was that one, and is.
+fn compare_stores(world: &World, fresh: &Store, out: &mut Vec<u8>) -> Option<()> {
     for (node, store) in world.opening().iter().enumerate() {
-        let was_fresh = store.same(&fresh);
-        let is_fresh = world.store(node)?.same(&fresh);
+        let was_fresh = store.same(fresh);
+        let is_fresh = world.store(node)?.same(fresh);
         writeln!(out, "{node} house {was_fresh} now {is_fresh}").ok()?;
     }
     Some(())
+}
+
+/// Of each node whether its store was the house's, and is.
+fn print_stores(alloc: Global, world: &World, out: &mut Vec<u8>) -> Option<()> {
+    match house(alloc) {
+        Ok(fresh) => compare_stores(world, &fresh, out),
+        Err(_) => None,
+    }
 }
 
 /// What a step that is in no script is told as; where memory was refused, as scripts tell it.
@@ -63,37 +70,60 @@ fn print_step(world: &mut World, event: &Event, text: &str, out: &mut Vec<u8>) -
 
 fn restart_anew(alloc: Global, world: &mut World, words: &str, out: &mut Vec<u8>) -> Option<()> {
     let (node, words) = first(words);
-    let event = Event::Restart {
-        node: node.parse::<usize>().ok()?,
-        store: Some(house_after(alloc, words)?),
-    };
-    print_step(world, &event, "restarted anew", out)
+    let node = node.parse::<usize>().ok()?;
+    let store = Some(house_after(alloc, words)?);
+    print_step(
+        world,
+        &Event::Restart { node, store },
+        "restarted anew",
+        out,
+    )
+}
+
+/// The octets of words that come to a node from a link.
+fn noise_of(alloc: Global, node: usize, words: &str) -> Option<Event> {
+    let (from, digits) = first(words);
+    let from = link(from.parse::<u8>().ok()?);
+    let octets = octets_of(alloc, digits)?;
+    Some(Event::Noise { node, from, octets })
+}
+
+/// An event happens, of which nothing is told.
+fn steps(world: &mut World, event: &Event) -> Option<()> {
+    match world.step(event) {
+        Ok(_) => Some(()),
+        Err(_) => None,
+    }
+}
+
+/// Prints how many copies and facts there are.
+fn print_counts(world: &World, out: &mut Vec<u8>) -> Option<()> {
+    writeln!(
+        out,
+        "copies {} facts {}",
+        world.copies().len(),
+        world.log().len()
+    )
+    .ok()
 }
 
 /// Octets come a millisecond later. A node that looks at them knows the moment; nothing else comes of them.
 fn octets_come(alloc: Global, world: &mut World, words: &str, out: &mut Vec<u8>) -> Option<()> {
     let (node, words) = first(words);
-    let (from, digits) = first(words);
     let node = node.parse::<usize>().ok()?;
-    let event = Event::Noise {
-        node,
-        from: link(from.parse::<u8>().ok()?),
-        octets: hex::decode(alloc, digits).ok()?,
-    };
-    let _ = world.step(&Event::Advance { by: 1 }).ok()?;
-    let _ = world.step(&event).ok()?;
+    steps(world, &Event::Advance { by: 1 })?;
+    steps(world, &noise_of(alloc, node, words)?)?;
     let is_heard = world.nodes().get(node)?.latest() == world.now();
-    let (copies, facts) = (world.copies().len(), world.log().len());
-    writeln!(out, "heard {is_heard} copies {copies} facts {facts}").ok()
+    write!(out, "heard {is_heard} ").ok()?;
+    print_counts(world, out)
 }
 
 /// So many copies come, each once and in the order of sending.
 fn flow(world: &mut World, words: &str, out: &mut Vec<u8>) -> Option<()> {
     for number in 0..words.parse::<usize>().ok()? {
-        let _ = world.step(&Event::Deliver { number }).ok()?;
+        steps(world, &Event::Deliver { number })?;
     }
-    let (copies, facts) = (world.copies().len(), world.log().len());
-    writeln!(out, "copies {copies} facts {facts}").ok()
+    print_counts(world, out)
 }
 
 /// What is told of an event that its memory was refused to.
@@ -132,31 +162,37 @@ struct Twins {
 }
 
 impl Twins {
-    /// What comes of a line in the world; where memory is refused, the second time.
-    fn world_meets(&mut self, alloc: Global, line: &str) -> Option<Vec<u8>> {
-        let mut told = Vec::new(alloc);
-        happens(alloc, &mut self.world, line, &mut told)?;
-        if told.as_slice() == NO_MEMORY {
-            told.clear();
-            if !self.world.same(&self.twin) {
-                told.write_all(b"changed without memory\n").ok()?;
-            }
-            happens(alloc, &mut self.world, line, &mut told)?;
+    /// What comes of a line in the world, into a text that is empty; where memory is refused, the second time.
+    fn world_meets(&mut self, alloc: Global, line: &str, told: &mut Vec<u8>) -> Option<()> {
+        happens(alloc, &mut self.world, line, told)?;
+        if told.as_slice() != NO_MEMORY {
+            return Some(());
         }
-        Some(told)
+        told.clear();
+        if !self.world.same(&self.twin) {
+            told.write_all(b"changed without memory\n").ok()?;
+        }
+        happens(alloc, &mut self.world, line, told)
+    }
+
+    /// Whether a line comes to the same at the twin; None where memory is refused to it.
+    fn twin_agrees(&mut self, alloc: Global, line: &str, told: &[u8]) -> Option<bool> {
+        let mut other = Vec::new(alloc);
+        happens(alloc, &mut self.twin, line, &mut other)?;
+        if other.as_slice() == NO_MEMORY {
+            None
+        } else {
+            Some(other.as_slice() == told)
+        }
     }
 }
 
 impl Stage for Twins {
     fn meets(&mut self, alloc: Global, line: &str, out: &mut Vec<u8>) -> Option<()> {
-        let told = self.world_meets(alloc, line)?;
-        let mut other = Vec::new(alloc);
-        happens(alloc, &mut self.twin, line, &mut other)?;
-        if other.as_slice() == NO_MEMORY {
-            return None;
-        }
+        let mut told = Vec::new(alloc);
+        self.world_meets(alloc, line, &mut told)?;
         out.write_all(&told).ok()?;
-        if other != told {
+        if !self.twin_agrees(alloc, line, &told)? {
             out.write_all(b"otherwise at the twin\n").ok()?;
         }
         Some(())
@@ -169,7 +205,11 @@ impl Stage for Twins {
 
 /// A world of a scene.
 fn world_of(alloc: Global, scene: &str) -> Option<World> {
-    World::new(alloc, nodes_of(alloc, scene, 0)?, overtake_of(scene)?).ok()
+    let overtake = overtake_of(scene)?;
+    match World::new(alloc, nodes_of(alloc, scene, 0)?, overtake) {
+        Ok(world) => Some(world),
+        Err(_) => None,
+    }
 }
 
 /// Plays the lines of a row in a world of a scene.

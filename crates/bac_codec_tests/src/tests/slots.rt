@@ -4,6 +4,7 @@ use bac_slots::{Count, IndexSlots, PlainSlots, SlotTable};
 use std::alloc::Global;
 use std::test::Fail;
 
+mod counted_key;
 mod searching;
 mod sweeping;
 

@@ -1,4 +1,5 @@
 //! One end, one ticket and one entry by itself, where a node can't say it: moments that go back, and when a tick finds something to do.
+use super::scene::request_of;
 use super::*;
 use bac_apdu::{Limits, Window, read};
 use bac_ends::{Context, PeerKey, Settings};
@@ -6,9 +7,9 @@ use bac_entry::{Entry, IdleReaction, Reaction, idle_gets};
 use bac_npdu::Peer;
 use bac_requester::{AskFault, Client, Requester};
 use bac_responder::Responder;
-use bac_script::read_request_words;
+use bac_service::OwnedRequest;
 use bac_slots::{IndexSlots, Same};
-use bac_store::house;
+use bac_store::{Store, house};
 use bac_ticket::{OutgoingRequest, RequestWay, Ticket};
 
 /// Takes APDUs of 1,476 octets and any number of segments, and the same of 50.
@@ -51,27 +52,41 @@ const READS: &[Read] = &[
     Read(70_000, 2, false),
 ];
 
-/// Whether each read is performed as its row says.
-fn are_performed(alloc: Global, rows: &[Read]) -> Option<bool> {
-    let mut end: Responder<IndexSlots<PeerKey, Entry>> = Responder::new(alloc, 2, None).ok()?;
-    let mut store = house(alloc).ok()?;
-    let Ok(apdu) = read(READ) else {
-        return None;
-    };
-    for row in rows {
-        let served = end
-            .on(alloc, &SETTINGS, row.0, &peer(row.1), &apdu, &mut store)
-            .ok()?;
-        if served.act.is_some() != row.2 || served.sends.len() != 1 {
-            return Some(false);
+/// A server's end, and its store.
+#[derive(Drop)]
+struct Server {
+    end: Responder<IndexSlots<PeerKey, Entry>>,
+    store: Store,
+}
+
+impl Server {
+    /// Two slots, and the house store.
+    fn new(alloc: Global) -> Result<Server, NoMemory> {
+        let end = Responder::new(alloc, 2, None)?;
+        let store = house(alloc)?;
+        Ok(Server { end, store })
+    }
+
+    /// Whether a read is performed as its row says, and one datagram answers it.
+    fn performs(&mut self, alloc: Global, row: &Read) -> bool {
+        let Ok(apdu) = read(READ) else {
+            return false;
+        };
+        let (from, store) = (peer(row.1), &mut self.store);
+        match self.end.on(alloc, &SETTINGS, row.0, &from, &apdu, store) {
+            Ok(served) => served.act.is_some() == row.2 && served.sends.len() == 1,
+            Err(_) => false,
         }
     }
-    Some(true)
 }
 
 #[test]
-fn entries_out_of_order(rt: HostRuntime) {
-    assert!(rt; are_performed(rt.alloc(), READS) == Some(true));
+fn entries_out_of_order(rt: HostRuntime) -> Result<(), Fail> {
+    let mut server = Server::new(rt.alloc())?;
+    for row in READS {
+        holds(server.performs(rt.alloc(), row), "a read")?;
+    }
+    Ok(())
 }
 
 /// A moment, a peer that is asked, and the ticket and its invoke ID, or the fault.
@@ -87,21 +102,20 @@ const AFTER: &[Asking] = &[
 
 type Indexed = Requester<IndexSlots<PeerKey, Client>>;
 
-/// Whether each ask is accepted or refused as its row says.
+/// Whether an ask is accepted or refused as its row says.
+fn is_accepted(alloc: Global, end: &mut Indexed, request: &OwnedRequest, row: &Asking) -> bool {
+    let to = peer(row.1);
+    match end.ask(alloc, &SETTINGS, row.0, &to, &SMALL_APDUS, request) {
+        Ok(asked) => row.2 == Ok((asked.ticket, asked.invoke_id)),
+        Err(fault) => row.2 == Err(fault),
+    }
+}
+
+/// Whether that is so of each ask.
 fn are_accepted(alloc: Global, end: &mut Indexed, rows: &[Asking]) -> Option<bool> {
-    let Ok(request) = read_request_words(alloc, &[b"read", b"0:5", b"85"]) else {
-        return None;
-    };
+    let request = request_of(alloc, "read 0:5 85")?;
     for row in rows {
-        let asked = end.ask(
-            alloc,
-            &SETTINGS,
-            row.0,
-            &peer(row.1),
-            &SMALL_APDUS,
-            &request,
-        );
-        if asked.map(|asked| (asked.ticket, asked.invoke_id)) != row.2 {
+        if !is_accepted(alloc, end, &request, row) {
             return Some(false);
         }
     }
@@ -109,30 +123,31 @@ fn are_accepted(alloc: Global, end: &mut Indexed, rows: &[Asking]) -> Option<boo
 }
 
 /// Whether a Reject of peer 2 at 3,000 ends a ticket.
-fn is_rejected(alloc: Global, end: &mut Indexed) -> Option<bool> {
+fn is_rejected(alloc: Global, end: &mut Indexed) -> bool {
     let Ok(apdu) = read(b"\x60\x00\x09") else {
-        return None;
+        return false;
     };
-    Some(
-        end.on(alloc, &SETTINGS, 3_000, &peer(2), &apdu)
-            .ok()?
-            .ended
-            .is_some(),
-    )
+    match end.on(alloc, &SETTINGS, 3_000, &peer(2), &apdu) {
+        Ok(heard) => heard.ended.is_some(),
+        Err(_) => false,
+    }
 }
 
-fn make_room(alloc: Global) -> Option<bool> {
-    let mut end: Indexed = Requester::new(alloc, 2, None).ok()?;
+fn makes_room(alloc: Global, end: &mut Indexed) -> Option<bool> {
     Some(
-        are_accepted(alloc, &mut end, BEFORE)?
-            && is_rejected(alloc, &mut end)?
-            && are_accepted(alloc, &mut end, AFTER)?,
+        are_accepted(alloc, end, BEFORE)?
+            && is_rejected(alloc, end)
+            && are_accepted(alloc, end, AFTER)?,
     )
 }
 
 #[test]
-fn slots_out_of_order(rt: HostRuntime) {
-    assert!(rt; make_room(rt.alloc()) == Some(true));
+fn slots_out_of_order(rt: HostRuntime) -> Result<(), Fail> {
+    let mut end: Indexed = Requester::new(rt.alloc(), 2, None)?;
+    holds(
+        makes_room(rt.alloc(), &mut end) == Some(true),
+        "asks of two slots",
+    )
 }
 
 /// Invoke ID 0 of peer 2.
@@ -150,13 +165,15 @@ fn context(moment: u64) -> Context {
 
 /// What a read begins at moment 5.
 fn begun(alloc: Global) -> Option<Reaction> {
-    let mut store = house(alloc).ok()?;
     let Ok(apdu) = read(READ) else {
         return None;
     };
-    match idle_gets(alloc, &context(5), true, &apdu, &mut store).ok()? {
-        IdleReaction::Begins(reaction) => Some(reaction),
-        IdleReaction::Stays(_) => None,
+    let Ok(mut store) = house(alloc) else {
+        return None;
+    };
+    match idle_gets(alloc, &context(5), true, &apdu, &mut store) {
+        Ok(IdleReaction::Begins(reaction)) => Some(reaction),
+        _ => None,
     }
 }
 
@@ -182,7 +199,10 @@ fn ticket(alloc: Global) -> Option<Ticket> {
         return None;
     };
     let request = OutgoingRequest::new(7, way, service);
-    Some(Ticket::begin(alloc, &context(1_000), request).ok()?.ticket)
+    match Ticket::begin(alloc, &context(1_000), request) {
+        Ok(begun) => Some(begun.ticket),
+        Err(_) => None,
+    }
 }
 
 /// Whether its timer is set, and it expires after 60,000 ms.

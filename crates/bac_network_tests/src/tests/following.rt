@@ -81,6 +81,46 @@ fn performed_at(log: &[Fact], place: usize) -> Option<(&OwnedRequest, &OwnedRepl
     }
 }
 
+fn put_copy(alloc: Global, store: &Store, stores: &mut Vec<Store>) -> Option<()> {
+    let Ok(copy) = store.copy(alloc) else {
+        return None;
+    };
+    match stores.push(copy) {
+        Ok(()) => Some(()),
+        Err(_) => None,
+    }
+}
+
+fn copies_of(alloc: Global, stores: &[Store]) -> Option<Vec<Store>> {
+    let mut copies = Vec::new(alloc);
+    for store in stores {
+        put_copy(alloc, store, &mut copies)?;
+    }
+    Some(copies)
+}
+
+/// Makes a store a copy of another one.
+fn replace(alloc: Global, store: &mut Store, with: &Store) -> Option<()> {
+    let Ok(copy) = with.copy(alloc) else {
+        return None;
+    };
+    *store = copy;
+    Some(())
+}
+
+/// A store performs a request with that reply.
+fn performs(
+    alloc: Global,
+    store: &mut Store,
+    request: &OwnedRequest,
+    reply: &OwnedReply,
+) -> Option<()> {
+    match store.perform(alloc, &request.as_request()) {
+        Ok(given) => must(same_reply(reply, &given)),
+        Err(_) => None,
+    }
+}
+
 fn must(is: bool) -> Option<()> {
     if is { Some(()) } else { None }
 }
@@ -98,12 +138,9 @@ pub(super) struct Followed {
 impl Followed {
     /// Nothing yet, from the stores that a world began with.
     pub(super) fn from_opening(alloc: Global, world: &World) -> Option<Followed> {
-        let mut stores = Vec::new(alloc);
+        let stores = copies_of(alloc, world.opening())?;
         let mut lives = Vec::new(alloc);
-        for store in world.opening() {
-            stores.push(store.copy(alloc).ok()?).ok()?;
-            lives.push(0).ok()?;
-        }
+        lives.resize(stores.len(), 0usize).ok()?;
         Some(Followed {
             seen: 0,
             stores,
@@ -186,8 +223,7 @@ impl Followed {
         let Some(store) = self.stores.get_mut(server) else {
             return None;
         };
-        let given = store.perform(alloc, &request.as_request()).ok()?;
-        must(same_reply(reply, &given))?;
+        performs(alloc, store, request, reply)?;
         let is_anew = self.life(server) > 0;
         count(&mut self.counts.performed, true);
         count(&mut self.counts.performed_anew, is_anew);
@@ -234,7 +270,7 @@ impl Followed {
             return None;
         };
         if let Some(with) = with {
-            *store = with.copy(alloc).ok()?;
+            replace(alloc, store, with)?;
         }
         if let Some(life) = self.lives.get_mut(node) {
             count(life, true);

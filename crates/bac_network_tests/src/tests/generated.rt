@@ -89,11 +89,16 @@ pub(super) fn change(alloc: Global, chance: &mut Chance) -> Option<Event> {
 /// A node restarts, seldom with the house store in place of its own.
 pub(super) fn restart(alloc: Global, chance: &mut Chance) -> Option<Event> {
     let node = chance.below(3);
-    let store = match chance.below(3) {
-        0 => Some(house(alloc).ok()?),
-        _ => None,
-    };
-    Some(Event::Restart { node, store })
+    if chance.below(3) > 0 {
+        return Some(Event::Restart { node, store: None });
+    }
+    match house(alloc) {
+        Ok(store) => Some(Event::Restart {
+            node,
+            store: Some(store),
+        }),
+        Err(_) => None,
+    }
 }
 
 /// A node asks the one after it.
@@ -130,21 +135,59 @@ fn happens(world: &mut World, event: &Event) -> Option<bool> {
     }
 }
 
-/// A world goes by a schedule, and its log is followed after each tenth event; what happened in it.
-fn goes(alloc: Global, seed: u64) -> Option<Counts> {
-    let mut world = SMALL_ONES.world(alloc)?;
-    let mut followed = Followed::from_opening(alloc, &world)?;
-    let mut chance = Chance::of(seed);
-    let mut refused = 0usize;
-    for number in 1..=EVENTS {
-        let event = next_event(alloc, &world, &mut chance)?;
-        refused = refused.saturating_add(usize::from(happens(&mut world, &event)?));
-        if number % 10 == 0 {
-            followed.follow(alloc, &world)?;
+/// A world that goes by a schedule, what its log says so far, and how many changes were refused.
+#[derive(Drop)]
+struct Going {
+    world: World,
+    followed: Followed,
+    chance: Chance,
+    refused: usize,
+}
+
+impl Going {
+    /// By the schedule of a number.
+    fn by(alloc: Global, seed: u64) -> Option<Going> {
+        let world = SMALL_ONES.world(alloc)?;
+        let followed = Followed::from_opening(alloc, &world)?;
+        Some(Going {
+            world,
+            followed,
+            chance: Chance::of(seed),
+            refused: 0,
+        })
+    }
+
+    fn step(&mut self, alloc: Global) -> Option<()> {
+        let event = next_event(alloc, &self.world, &mut self.chance)?;
+        let is_refused = happens(&mut self.world, &event)?;
+        self.refused = self.refused.saturating_add(usize::from(is_refused));
+        Some(())
+    }
+
+    /// Ten events happen, and the log is followed.
+    fn go_on(&mut self, alloc: Global) -> Option<()> {
+        for _ in 0..10u8 {
+            self.step(alloc)?;
+        }
+        self.followed.follow(alloc, &self.world)
+    }
+
+    /// What happened.
+    fn counts(&self) -> Counts {
+        Counts {
+            refused: self.refused,
+            ..self.followed.counts()
         }
     }
-    let counts = followed.counts();
-    Some(Counts { refused, ..counts })
+}
+
+/// A world goes by a schedule, and its log is followed after each tenth event; what happened in it.
+fn goes(alloc: Global, seed: u64) -> Option<Counts> {
+    let mut going = Going::by(alloc, seed)?;
+    for _ in 0..EVENTS / 10 {
+        going.go_on(alloc)?;
+    }
+    Some(going.counts())
 }
 
 /// Whether enough happened in all worlds.

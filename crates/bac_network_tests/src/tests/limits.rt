@@ -90,12 +90,25 @@ fn is_set(node: &Node) -> bool {
         && settings.limits == TAKES
 }
 
+/// Whether another node is not the same, though its store is.
+fn is_apart(node: &Node, other: &Node) -> bool {
+    !node.same(other) && node.store().same(other.store())
+}
+
+/// Whether a node is apart from one of another link.
+fn is_apart_by_link(alloc: Global, node: &Node) -> bool {
+    match house_node(alloc, 2) {
+        Ok(other) => is_apart(node, &other),
+        Err(_) => false,
+    }
+}
+
 /// A node is set as it was made, and is as another one of its link alone, though the stores of both are the same.
 #[test]
 fn what_a_node_is_set_to(rt: HostRuntime) -> Result<(), Fail> {
     let node = house_node(rt.alloc(), 1)?;
-    let other = house_node(rt.alloc(), 2)?;
-    assert!(rt; is_set(&node));
-    assert!(rt; !node.same(&other) && node.store().same(other.store()));
-    Ok(())
+    holds(
+        is_set(&node) && is_apart_by_link(rt.alloc(), &node),
+        "a node of link 1",
+    )
 }

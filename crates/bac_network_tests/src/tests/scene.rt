@@ -49,14 +49,25 @@ pub(super) fn request_of(alloc: Global, text: &str) -> Option<OwnedRequest> {
     read_request_words(alloc, &words).ok()
 }
 
+/// A store performs the request of some words.
+fn performs(alloc: Global, store: &mut Store, words: &str) -> Option<()> {
+    let request = request_of(alloc, words)?;
+    match store.perform(alloc, &request.as_request()) {
+        Ok(_) => Some(()),
+        Err(_) => None,
+    }
+}
+
 /// The house store, after a request where there is one.
 fn house_after(alloc: Global, after: &str) -> Option<Store> {
-    let mut store = house(alloc).ok()?;
-    if !after.is_empty() {
-        let request = request_of(alloc, after)?;
-        let _ = store.perform(alloc, &request.as_request()).ok()?;
+    let Ok(mut store) = house(alloc) else {
+        return None;
+    };
+    if after.is_empty() || performs(alloc, &mut store, after).is_some() {
+        Some(store)
+    } else {
+        None
     }
-    Some(store)
 }
 
 impl Member {
@@ -80,6 +91,9 @@ impl Scene {
         for (number, member) in self.members.iter().enumerate() {
             nodes.push(member.made(alloc, (number % 256) as u8)?).ok()?;
         }
-        World::new(alloc, nodes, self.overtake).ok()
+        match World::new(alloc, nodes, self.overtake) {
+            Ok(world) => Some(world),
+            Err(_) => None,
+        }
     }
 }

@@ -203,6 +203,18 @@ impl Drivers {
         settle(&mut self.sleeps, Driver::Ticks)?;
         Some(are_alike && self.sleeps.same(&self.ticks))
     }
+
+    /// Both go by a schedule, and then all is sent again until it is given up; whether nothing differs.
+    fn go(&mut self, alloc: Global, chance: &mut Chance) -> Option<bool> {
+        for _ in 0..150u8 {
+            self.follow(alloc, chance)?;
+            if !self.are_alike() {
+                return None;
+            }
+        }
+        self.pass(12_500)?;
+        self.are_same()
+    }
 }
 
 /// How many datagrams a world sent, and how many asks expired in it.
@@ -221,22 +233,12 @@ fn counted(world: &World) -> (usize, usize) {
     (world.copies().len(), expired)
 }
 
-/// Both drivers go by a schedule, and then all is sent again until it is given up; what is counted then, None where they differ.
+/// Both drivers go by a schedule; what is counted then, None where they differ.
 fn gone_by_both(alloc: Global, seed: u64) -> Option<(usize, usize)> {
     let mut drivers = Drivers::new(alloc)?;
-    let mut chance = Chance::of(seed);
-    for _ in 0..150u8 {
-        drivers.follow(alloc, &mut chance)?;
-        if !drivers.are_alike() {
-            return None;
-        }
-    }
-    drivers.pass(12_500)?;
-    let is_same = drivers.are_same()?;
-    if is_same {
-        Some(counted(&drivers.ticks))
-    } else {
-        None
+    match drivers.go(alloc, &mut Chance::of(seed)) {
+        Some(true) => Some(counted(&drivers.ticks)),
+        _ => None,
     }
 }
 

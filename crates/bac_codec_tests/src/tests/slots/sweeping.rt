@@ -1,6 +1,7 @@
 //! What a sweep leaves, and how far it looks.
-ghost use Rattle.std.specs.Prelude.{◌≡◌, ◌∷◌, [], ◌||◌, IfSome, nat_le, nat_lt, ℕ};
+ghost use Rattle.std.specs.Prelude.{◌≡◌, ◌∷◌, [], ◌||◌, IfSome, IsTrue, nat_le, nat_lt, ℕ};
 
+use super::counted_key::{CountedKey, counted};
 use super::*;
 use bac_slots::{Same, Test, count_passing, has_room_once_swept, same_tables, sweep, sweep_oldest};
 use std::cell::Cell;
@@ -22,7 +23,25 @@ impl Test<u64> for Outside<'_> {
     }
 }
 
-// A table of three slots that began at the moments 0 to 2, which are their values.
+// All values below a number pass.
+fn from(first: u64, looks: &Cell<u64>) -> Outside<'_> {
+    Outside {
+        first,
+        last: u64::MAX,
+        looks,
+    }
+}
+
+// Puts three slots that begin at the moments 0 to 2, which are their values, into an empty table.
+fn put_three(table: &mut IndexSlots<u32, u64>) -> bool
+    requires { table.old.0 ≡ [] }
+    ensures { IsTrue result → table.new.0 ≡ record { key = 8; begin = 0; value = 0 } ∷ record { key = 9; begin = 1; value = 1 }
+        ∷ record { key = 7; begin = 2; value = 2 } ∷ [] }
+{
+    table.put(8, 0, 0).is_ok() && table.put(9, 1, 1).is_ok() && table.put(7, 2, 2).is_ok()
+}
+
+// A table of those three.
 fn three(alloc: Global, room: usize) -> Option<IndexSlots<u32, u64>>
     ensures { IfSome result (λ t. t.0 ≡ record { key = 8; begin = 0; value = 0 } ∷ record { key = 9; begin = 1; value = 1 }
         ∷ record { key = 7; begin = 2; value = 2 } ∷ []) }
@@ -30,16 +49,11 @@ fn three(alloc: Global, room: usize) -> Option<IndexSlots<u32, u64>>
     let Ok(mut table) = IndexSlots::<u32, u64>::new(alloc, room) else {
         return None;
     };
-    if table.put(8, 0, 0).is_err() {
-        return None;
+    if put_three(&mut table) {
+        Some(table)
+    } else {
+        None
     }
-    if table.put(9, 1, 1).is_err() {
-        return None;
-    }
-    if table.put(7, 2, 2).is_err() {
-        return None;
-    }
-    Some(table)
 }
 
 // How many values are looked at for whether a slot would be free, and whether one would be.
@@ -99,8 +113,8 @@ fn neither_looks_further_than_it_has_to(rt: HostRuntime) -> Result<(), Fail> {
     )
 }
 
-// A key or a value of a table that is compared with another.
-#[derive(Clone, Copy, PartialEq, Eq, PartialOrd, Ord)]
+// A value of a table that is compared with another.
+#[derive(Clone, Copy)]
 struct Number(u32);
 
 impl Same for Number {
@@ -124,12 +138,21 @@ impl Test<Number> for AtLeast {
     }
 }
 
+type Counted<'a> = IndexSlots<CountedKey<'a>, Number>;
+
 // A table with these keys and ten times as much as values; None where one could not be put.
-fn with_keys(alloc: Global, room: usize, keys: &[u32]) -> Option<IndexSlots<Number, Number>> {
-    let mut table = IndexSlots::<Number, Number>::new(alloc, room).ok()?;
+fn with_keys<'a>(
+    alloc: Global,
+    room: usize,
+    keys: &[u32],
+    comparisons: &'a Cell<u64>,
+) -> Option<Counted<'a>> {
+    let Ok(mut table) = IndexSlots::<CountedKey<'a>, Number>::new(alloc, room) else {
+        return None;
+    };
     for key in keys {
         let value = Number(key.wrapping_mul(10));
-        if !is_put(&mut table, Number(*key), value) {
+        if !is_put(&mut table, counted(*key, comparisons), value) {
             return None;
         }
     }
@@ -138,39 +161,50 @@ fn with_keys(alloc: Global, room: usize, keys: &[u32]) -> Option<IndexSlots<Numb
 
 // Whether tables are the same where they have the same slots and room, and one is as the other once it is swept.
 fn is_swept_to_the_same(alloc: Global) -> Option<bool> {
-    let empty = with_keys(alloc, 8, &[])?;
-    let wider = with_keys(alloc, 9, &[])?;
-    let mut one = with_keys(alloc, 8, &[4, 2, 9, 1])?;
-    let other = with_keys(alloc, 8, &[4, 9])?;
-    let is_right = same_tables(&empty, &with_keys(alloc, 8, &[])?)
-        && !same_tables(&empty, &wider)
-        && !same_tables(&one, &other)
-        && count_passing(&one, &AtLeast(30)) == 2;
+    let comparisons = Cell::new(0);
+    let mut one = with_keys(alloc, 8, &[4, 2, 9, 1], &comparisons)?;
+    let other = with_keys(alloc, 8, &[4, 9], &comparisons)?;
+    let is_right = !same_tables(&one, &other) && count_passing(&one, &AtLeast(30)) == 2;
     sweep(&mut one, &AtLeast(30));
     Some(is_right && same_tables(&one, &other))
 }
 
+// Whether empty tables are the same where they have the same room.
+fn are_empty_ones_the_same(alloc: Global) -> Option<bool> {
+    let comparisons = Cell::new(0);
+    let empty = with_keys(alloc, 8, &[], &comparisons)?;
+    let is_right = same_tables(&empty, &with_keys(alloc, 8, &[], &comparisons)?);
+    Some(is_right && !same_tables(&empty, &with_keys(alloc, 9, &[], &comparisons)?))
+}
+
 #[test]
 fn swept_and_compared(rt: HostRuntime) -> Result<(), Fail> {
-    holds(is_swept_to_the_same(rt.alloc()) == Some(true), "swept")
+    holds(
+        matches!(are_empty_ones_the_same(rt.alloc()), Some(true)),
+        "empty",
+    )?;
+    holds(
+        matches!(is_swept_to_the_same(rt.alloc()), Some(true)),
+        "swept",
+    )
 }
 
 // Whether a table that is full with one slot has room once it is swept, up to the moment at which the slot began, and the slot goes.
+fn is_full_until_swept(table: &mut IndexSlots<u32, u64>) -> bool
+    requires { table.old.0 ≡ record { key = 1; begin = 5; value = 10 } ∷ [] }
+{
+    let looks = Cell::new(0);
+    let has_room = has_room_once_swept(table, &from(11, &looks), 5);
+    let has_room_then = has_room_once_swept(table, &from(10, &looks), 5);
+    sweep_oldest(table, &from(10, &looks), 5);
+    !has_room && has_room_then && table.len() == 0
+}
+
 fn is_swept_at_its_begin(alloc: Global) -> bool {
-    let Ok(mut table) = IndexSlots::<Number, Number>::new(alloc, 1) else {
+    let Ok(mut table) = IndexSlots::<u32, u64>::new(alloc, 1) else {
         return false;
     };
-    if table.put(Number(1), 5, Number(10)).is_err() {
-        return false;
-    }
-    if has_room_once_swept(&table, &AtLeast(10), 5) {
-        return false;
-    }
-    if !has_room_once_swept(&table, &AtLeast(11), 5) {
-        return false;
-    }
-    sweep_oldest(&mut table, &AtLeast(11), 5);
-    table.len() == 0
+    table.put(1, 5, 10).is_ok() && is_full_until_swept(&mut table)
 }
 
 #[test]
