@@ -5,20 +5,10 @@ ghost use Rattle.bac_command_line.specs.Rounds.{next_from};
 ghost use Rattle.bac_command_line.specs.Serving.{turns_of};
 
 use crate::address::{LOCAL_HOST, host_towards, link_at, read_link, read_route};
+use bac_commands::{Manner, Style};
 use bac_npdu::{LinkAddress, Peer, Route};
 use bac_run::Patience;
 use clap::ArgMatches;
-
-/// How the end of an ask is told.
-#[derive(Clone, Copy, Debug, PartialEq, Eq)]
-pub(crate) enum Style {
-    /// With numbers and octets, as in a script.
-    Numbers,
-    /// In words.
-    Words,
-    /// By the octets of a file alone, where it was answered with them.
-    Octets,
-}
 
 /// How often it asks the same.
 #[derive(Clone, Copy, Debug, PartialEq, Eq)]
@@ -57,13 +47,11 @@ pub(crate) struct Asking {
     pub host: [u8; 4],
     /// After so many seconds it waits no longer; None where it waits until the ask has ended.
     pub timeout: Option<u64>,
-    /// How it is told.
-    pub style: Style,
-    /// Whether an Error is no success.
-    pub strict: bool,
+    /// How it is told, and whether that is strict.
+    pub manner: Manner,
     /// How often it asks the same; None where it asks once.
     pub rounds: Option<Rounds>,
-    /// How many asks of lines are in flight at once; None where each is asked once the one before has ended.
+    /// So many asks of lines at most have begun and are not yet told; None where each is asked once the one before is told.
     pub window: Option<u64>,
 }
 
@@ -109,6 +97,13 @@ fn style_of(given: &ArgMatches<'_>) -> Style {
     }
 }
 
+fn manner_of(given: &ArgMatches<'_>) -> Manner {
+    Manner {
+        style: style_of(given),
+        strict: given.get_flag("fail"),
+    }
+}
+
 /// None where no rounds are given.
 fn rounds_of(given: &ArgMatches<'_>) -> Option<Rounds> {
     Some(Rounds {
@@ -125,8 +120,7 @@ pub(crate) fn asking_of(given: &ArgMatches<'_>) -> Option<Asking> {
         peer: Peer { link, route },
         host: host_towards(link),
         timeout: given.get_one("timeout"),
-        style: style_of(given),
-        strict: given.get_flag("fail"),
+        manner: manner_of(given),
         rounds: rounds_of(given),
         window: given.get_one("window"),
     })
