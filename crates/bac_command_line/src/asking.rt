@@ -1,6 +1,7 @@
 //! Whom a node is to ask, how long it waits, how that is told, and how often.
-ghost use Rattle.std.specs.Prelude.{◌≡◌};
+ghost use Rattle.std.specs.Prelude.{◌≡◌, IfSome};
 ghost use Rattle.bac_command_line.specs.Asking.{patience_for};
+ghost use Rattle.bac_command_line.specs.Given.{AreRoundsOf, IsFlag, IsGiven, IsManner, IsNumber, rounds_by, style_by};
 ghost use Rattle.bac_command_line.specs.Rounds.{next_from};
 ghost use Rattle.bac_command_line.specs.Serving.{turns_of};
 
@@ -87,41 +88,73 @@ fn route_of(given: &ArgMatches<'_>) -> Option<Option<Route>> {
     }
 }
 
-fn style_of(given: &ArgMatches<'_>) -> Style {
-    if given.get_flag("raw") {
+/// Whether a flag is given.
+fn flag_of(given: &ArgMatches<'_>, name: &str) -> bool
+    ensures { IsFlag given.now name.now result }
+{
+    given.get_flag(name)
+}
+
+/// The number behind a word, where it is given.
+fn number_of(given: &ArgMatches<'_>, name: &str) -> Option<u64>
+    ensures { IsNumber given.now name.now result }
+{
+    given.get_one(name)
+}
+
+fn style_by(raw: bool, text: bool) -> Style
+    ensures { result ≡ style_by raw text }
+{
+    if raw {
         Style::Octets
-    } else if given.get_flag("text") {
+    } else if text {
         Style::Words
     } else {
         Style::Numbers
     }
 }
 
-fn manner_of(given: &ArgMatches<'_>) -> Manner {
+fn manner_of(given: &ArgMatches<'_>) -> Manner
+    ensures { IsManner given.now result }
+{
+    let raw = flag_of(given, "raw");
+    let text = flag_of(given, "text");
     Manner {
-        style: style_of(given),
-        strict: given.get_flag("fail"),
+        style: style_by(raw, text),
+        strict: flag_of(given, "fail"),
     }
 }
 
-/// None where no rounds are given.
-fn rounds_of(given: &ArgMatches<'_>) -> Option<Rounds> {
+fn rounds_by(every: Option<u64>, times: Option<u64>) -> Option<Rounds>
+    ensures { result ≡ rounds_by every times }
+{
     Some(Rounds {
-        every: given.get_one("every")?,
-        times: given.get_one("times"),
+        every: every?,
+        times,
     })
 }
 
+/// None where no rounds are given.
+fn rounds_of(given: &ArgMatches<'_>) -> Option<Rounds>
+    ensures { AreRoundsOf given.now result }
+{
+    let every = number_of(given, "every");
+    let times = number_of(given, "times");
+    rounds_by(every, times)
+}
+
 /// None where there is no address, or what is given is none.
-pub(crate) fn asking_of(given: &ArgMatches<'_>) -> Option<Asking> {
+pub(crate) fn asking_of(given: &ArgMatches<'_>) -> Option<Asking>
+    ensures { IfSome result (IsGiven given.now) }
+{
     let link = link_of(given)?;
     let route = route_of(given)?;
     Some(Asking {
         peer: Peer { link, route },
         host: host_towards(link),
-        timeout: given.get_one("timeout"),
+        timeout: number_of(given, "timeout"),
         manner: manner_of(given),
         rounds: rounds_of(given),
-        window: given.get_one("window"),
+        window: number_of(given, "window"),
     })
 }
