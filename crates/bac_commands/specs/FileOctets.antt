@@ -20,12 +20,15 @@ octets_of_complex (StreamWritten start) = None
 octets_of_complex (RecordsWritten start) = None
 octets_of_complex (PropertyRead reference values) = None
 
+abbrev pub octets_of_reply : plain.Reply → Option (List ℕ)
+octets_of_reply plain.Reply.Simple = None
+octets_of_reply (plain.Reply.Complex c) = octets_of_complex c
+octets_of_reply (plain.Reply.Error class code) = None
+octets_of_reply (plain.Reply.Reject reason) = None
+
 abbrev pub octets_of : Option plain.Reply → Option (List ℕ)
 octets_of None = None
-octets_of (Some plain.Reply.Simple) = None
-octets_of (Some (plain.Reply.Complex c)) = octets_of_complex c
-octets_of (Some (plain.Reply.Error class code)) = None
-octets_of (Some (plain.Reply.Reject reason)) = None
+octets_of (Some reply) = octets_of_reply reply
 
 -- they alone were written, where there are any, and then the ask succeeded
 abbrev pub AreWritten : Option (List ℕ) → (succeeded : Bool) → (old new : Option (List ℕ)) → Type 0

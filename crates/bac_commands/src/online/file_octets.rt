@@ -3,7 +3,7 @@ ghost use Rattle.std.specs.Prelude.{◌≡◌, IfOk};
 ghost use Rattle.std.specs.Option.{option_map};
 ghost use Rattle.bac_service.specs.Views.{owned_complex_view, owned_reply_view};
 ghost use Rattle.bac_run.specs.Views.{question_view};
-ghost use Rattle.bac_commands.specs.FileOctets.{AreWritten, octets_of, octets_of_complex, reads_file};
+ghost use Rattle.bac_commands.specs.FileOctets.{AreWritten, octets_of, octets_of_complex, octets_of_reply, reads_file};
 ghost use Rattle.bac_commands.specs.Reports.{reply_of};
 
 use super::success::reply_of;
@@ -37,15 +37,24 @@ fn octets_of_complex(complex: &OwnedComplex) -> Option<&[u8]>
     }
 }
 
-/// The octets of a file that came with a reply.
-fn octets_of(reply: Option<&OwnedReply>) -> Option<&[u8]>
-    ensures { option_map (λ o. o.now) result ≡ octets_of (option_map (λ r. owned_reply_view r.now) reply.entry) }
+fn octets_of_reply(reply: &OwnedReply) -> Option<&[u8]>
+    ensures { option_map (λ o. o.now) result ≡ octets_of_reply (owned_reply_view reply.now) }
 {
-    match reply? {
+    match reply {
         AnyReply::Simple => None,
         AnyReply::Complex(complex) => octets_of_complex(complex),
         AnyReply::Error { .. } => None,
         AnyReply::Reject(_) => None,
+    }
+}
+
+/// The octets of a file with which an ask was answered.
+fn octets_of(end: &AskEnd) -> Option<&[u8]>
+    ensures { option_map (λ o. o.now) result ≡ octets_of (reply_of end.now) }
+{
+    match reply_of(end) {
+        Some(reply) => octets_of_reply(reply),
+        None => None,
     }
 }
 
@@ -58,7 +67,7 @@ pub(crate) fn tell_octets<O: Write, E: Write>(
 ) -> io::Result<bool>
     ensures { IfOk result (λ succeeded. AreWritten (octets_of (reply_of end.now)) succeeded (O.contents out.old) (O.contents out.new)) }
 {
-    let Some(octets) = octets_of(reply_of(end)) else {
+    let Some(octets) = octets_of(end) else {
         // where even that fails, the status alone tells
         let _ = print_end(alloc, end, err);
         return Ok(false);
