@@ -1,5 +1,5 @@
 -- Lines that are asked one after the other.
-use Rattle.std.proofs.Common.{◌≡◌, ℕ, ◌&&◌, Bool, true, false, List, [], ◌∷◌, Option, refl, sym, ap, subst, ◌∙◌}
+use Rattle.std.proofs.Common.{◌≡◌, ℕ, ◌&&◌, Bool, true, false, List, [], ◌∷◌, Option, Some, refl, sym, ap, subst, ◌∙◌}
 use Rattle.std.specs.Io.KnownBytes.{Keeps}
 use Rattle.bac_npdu.specs.Views.{peer_view}
 use Rattle.bac_text.specs.Statuses.{IsStop}
@@ -31,7 +31,7 @@ one_more_asked asking lines others line so_far succeeded now rest before middle 
 
 -- the lines that were read of a file were asked
 pub asked_from : (IsFile : Files) (IsOn : Links) (IsClock : Clocks) (s : Status) (asking : Asking) (path : List ℕ) (lines asked : List Numbered)
-    (old new : Option (List ℕ)) → OfFile IsFile path (AreRead (peer_view asking.peer) lines) → asked ≡ lines
+    (old new : Option (List ℕ)) → OfFile IsFile path (AreRead (peer_view asking.peer) (Some lines)) → asked ≡ lines
     → ByStatus s (ByClient IsOn IsClock asking (AsksLines asking asked) true old new) (ByClient IsOn IsClock asking (AsksLines asking asked) false old new) ⊥
     → AreAskedFrom IsFile IsOn IsClock s asking path old new
 asked_from IsFile IsOn IsClock s asking path lines asked old new file same reports =

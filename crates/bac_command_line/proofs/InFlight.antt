@@ -1,4 +1,4 @@
--- Asks of lines that are in flight at once.
+-- Asks of lines that have begun and are not yet told.
 use Rattle.std.proofs.Common.{◌≡◌, ◌⊎◌, ℕ, suc, ◌+◌, ◌<◌, ◌≤◌, max, ◌&&◌, Bool, true, false, List, [], ◌∷◌, ◌++◌, length, map, Option, Some, None}
 use Rattle.std.proofs.Common.{refl, ap, sym, subst, ◌∙◌, arith, add-one, inl, inr, slice_set}
 use Rattle.std.proofs.lemmas.List.{length-map, length-set}
@@ -8,7 +8,7 @@ use Rattle.bac_run.specs.Runs.{Timed}
 use Rattle.bac_run.specs.declared.patience.Patience.{Patience}
 use Rattle.bac_run.specs.declared.question.AskEnd.{AskEnd}
 use Rattle.bac_command_line.specs.AskedLines.{Numbered, line_view}
-use Rattle.bac_command_line.specs.InFlight.{Aloft, BeginsAsk, BeginsMore, EndsFirst, GoesOn, TakesFirst, TakesTurn, TellsEach, TellsEnd, Waits}
+use Rattle.bac_command_line.specs.InFlight.{Aloft, BeginsAsk, BeginsMore, EndsFirst, GoesOn, TakesFirst, TakesTurn, TellsEach, TellsLine, Waits}
 use Rattle.bac_command_line.specs.InFlight.{all_noted, aloft, first_patience, has_ticket, noted, noted_at}
 use Rattle.bac_command_line.specs.declared.asking.Asking.{Asking}
 use Rattle.bac_command_line.specs.declared.flights.Flight.{Flight}
@@ -35,7 +35,7 @@ length_turned p old new takes =
 pub length_taken : (end : AskEnd) (old new : List Flight) → TakesFirst end old new → length new + 1 ≡ length old
 length_taken end old new takes = let e : length old ≡ suc (length new) = ap length takes.is in omega (arith, e)
 
--- where lines are left, one is in flight
+-- where lines are left, one has begun and is not yet told
 pub some_begun : (window count : ℕ) (rest : List LineQuestion) → (map line_view rest ≡ []) ⊎ (max window 1 ≤ count) → 0 < count + length rest → 0 < count
 some_begun window count rest (inl none) some =
     let e : length rest ≡ 0 = sym (length-map rest line_view) ∙ ap length none in omega (arith, e)
@@ -114,7 +114,7 @@ ran_out turns p end old waited stopped left most waits waiting over takes =
 pub one_more_told : (asking : Asking) (window : ℕ) (untold others waiting rest : List Numbered) (line : Numbered) (so_far succeeded now more : Bool)
     (before begun ended : Aloft) (end : AskEnd) (after : Timed) (old between new : Option (List ℕ)) (Whole : Bool → Timed → Option (List ℕ) → Type 0)
     → untold ≡ line ∷ others → now ≡ so_far && succeeded → BeginsMore asking window waiting before rest begun → EndsFirst end begun ended
-    → TellsEnd asking line.number end succeeded old between
+    → TellsLine asking.manner line end succeeded old between
     → ((all : Bool) (last : Timed) (text : Option (List ℕ)) → TellsEach asking window untold waiting all before last old text → Whole (so_far && all) last text)
     → TellsEach asking window others rest more ended after between new → Whole (now && more) after new
 one_more_told asking window untold others waiting rest line so_far succeeded now more before begun ended end after old between new Whole is both begins ends

@@ -10,3 +10,4 @@ pub mod Separated
 pub mod ReadLines
 pub mod AskedLines
 pub mod InFlight
+pub mod Numbers

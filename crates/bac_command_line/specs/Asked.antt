@@ -1,5 +1,5 @@
 -- What a client asks: the one question of some words, or those of lines.
-use Rattle.std.specs.Prelude.{ℕ, Bool, true, false, List, map, Option}
+use Rattle.std.specs.Prelude.{ℕ, Bool, true, false, List, map, Option, Some}
 use Rattle.std.specs.Io.KnownBytes.{Keeps}
 use Rattle.bac_npdu.specs.Views.{peer_view}
 use Rattle.bac_text.specs.declared.status.Status.{Status}
@@ -11,7 +11,10 @@ use Rattle.bac_command_line.specs.Files.{OfFile}
 use Rattle.bac_command_line.specs.InFlight.{AsksLines}
 use Rattle.bac_command_line.specs.Online.{AsksOnce, ByClient, Clocks, Links}
 use Rattle.bac_command_line.specs.Rounds.{Doing}
+use Rattle.bac_text.specs.declared.status.Status.TheVariants as status
 use Rattle.bac_command_line.specs.declared.asking.Asking.{Asking}
+use Rattle.bac_command_line.specs.declared.asking_lines.Unasked.{Unasked}
+use Rattle.bac_command_line.specs.declared.asking_lines.Unasked.TheVariants as unasked
 use Rattle.bac_command_line.specs.declared.rounds.Asked.{Asked}
 use Rattle.bac_command_line.specs.declared.rounds.Asked.TheVariants as asked
 
@@ -31,8 +34,13 @@ ReportsClient IsOn IsClock s asking asked old new =
 -- the lines that were read were asked
 pub record AsksRead (IsOn : Links) (IsClock : Clocks) (asking : Asking) (all : Bool) (old new : Option (List ℕ)) (content : Option (List ℕ)) : Type 0 where
   pub lines : List Numbered
-  pub read : AreRead (peer_view asking.peer) lines content
+  pub read : AreRead (peer_view asking.peer) (Some lines) content
   pub asks : ByClient IsOn IsClock asking (AsksLines asking lines) all old new
+
+-- the status that tells why nothing is asked
+abbrev pub status_of : Unasked → Status
+status_of (unasked.Unread s) = s
+status_of unasked.BadLine = status.CommandLine
 
 -- where a line is bad, or the file cannot be read, nothing was asked or printed
 abbrev pub AreAskedFrom : (IsFile : (path : List ℕ) → (content : Option (List ℕ)) → Type 0) → Links → Clocks → Status → Asking → (path : List ℕ)

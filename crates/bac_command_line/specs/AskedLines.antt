@@ -77,8 +77,12 @@ abbrev pub AsksEach : Asking → List Numbered → Doing
 AsksEach asking [] all before after old new = DoesNothing all before after old new
 AsksEach asking (line ∷ lines) all before after old new = IsNext (AsksLine asking line) (AsksEach asking lines) all before after old new
 
--- lines were read of a text: that of a file, where it is known
-pub record AreRead (peer : PeerView) (lines : List Numbered) (content : Option (List ℕ)) : Type 0 where
+-- a text is that of a file, where this is known
+abbrev pub IsTextOf : (text : List ℕ) → (content : Option (List ℕ)) → Type 0
+IsTextOf text content = IfSome content (λ file. text ≡ file)
+
+-- what the lines of a file ask, by the text that was read of it; None where one is bad
+pub record AreRead (peer : PeerView) (lines : Option (List Numbered)) (content : Option (List ℕ)) : Type 0 where
   pub text : List ℕ
-  pub known : IfSome content (λ file. text ≡ file)
-  pub read : questions_of peer text ≡ Some lines
+  pub known : IsTextOf text content
+  pub read : questions_of peer text ≡ lines

@@ -3,7 +3,6 @@ use Rattle.std.specs.Prelude.{◌≡◌, ◌⊎◌, ℕ, ◌==◌, ◌<◌, ◌�
 use Rattle.std.specs.Io.KnownBytes.{Appends}
 use Rattle.bac_link.specs.Moments.{with_moment}
 use Rattle.bac_requester.specs.declared.turn.Finish.{Finish}
-use Rattle.bac_text.specs.Texts.{line_end}
 use Rattle.bac_run.specs.Asking as run
 use Rattle.bac_run.specs.Asking.{Question}
 use Rattle.bac_run.specs.Runs.{Run, Timed, timed}
@@ -13,14 +12,12 @@ use Rattle.bac_run.specs.declared.patience.Patience.{Patience}
 use Rattle.bac_run.specs.declared.question.AskEnd.{AskEnd}
 use Rattle.bac_run.specs.declared.question.AskEnd.TheVariants as end
 use Rattle.bac_run.specs.declared.turn.Turn.{Turn}
-use Rattle.bac_commands.specs.Reports.{end_line, is_success}
-use Rattle.bac_commands.specs.Words.{AreEndWords}
+use Rattle.bac_commands.specs.Told.{TellsEnd}
+use Rattle.bac_commands.specs.declared.online.manner.Manner.{Manner}
 use Rattle.bac_command_line.specs.AskedLines.{AsksEach, Numbered, number_text}
 use Rattle.bac_command_line.specs.Asking.{patience_for}
 use Rattle.bac_command_line.specs.Rounds.{DoesNothing, Doing}
 use Rattle.bac_command_line.specs.declared.asking.Asking.{Asking}
-use Rattle.bac_command_line.specs.declared.asking.Style.{Style}
-use Rattle.bac_command_line.specs.declared.asking.Style.TheVariants as style
 use Rattle.bac_command_line.specs.declared.flights.Flight.{Flight}
 use Rattle.bac_command_line.specs.declared.flights.Flight.TheVariants as flight
 
@@ -56,7 +53,7 @@ abbrev pub end_of : Flight → AskEnd
 end_of (flight.Open ticket patience) = end.NoEnding
 end_of (flight.Over end) = end
 
--- ---- those in flight, in the order of their lines
+-- ---- those that have begun and are not yet told, in the order of their lines
 
 -- what the node has become, what the clock has told, and the asks that have begun and are not yet told
 pub record Aloft : Type 0 where
@@ -90,7 +87,7 @@ pub record TakesFirst (end : AskEnd) (old new : List Flight) : Type 0 where
 
 -- ---- asks begin
 
--- the request of a line was asked, where fewer than so many were in flight, and then the others
+-- the ask of a line began, where fewer than so many had begun and were not yet told, and then the others
 pub record BeginsFirst (asking : Asking) (window : ℕ) (line : Numbered) (Others : Aloft → Aloft → Type 0) (old new : Aloft) : Type 0 where
   pub room : length old.flights < max window 1
   pub flight : Flight
@@ -103,7 +100,7 @@ abbrev pub BeginsEach : Asking → (window : ℕ) → List Numbered → (old new
 BeginsEach asking window [] old new = new ≡ old
 BeginsEach asking window (line ∷ lines) old new = BeginsFirst asking window line (BeginsEach asking window lines) old new
 
--- lines that wait were asked, in order, until none was left or so many were in flight
+-- asks of lines that wait began, in order, until none was left or so many had begun and were not yet told
 pub record BeginsMore (asking : Asking) (window : ℕ) (waiting : List Numbered) (old : Aloft) (rest : List Numbered) (new : Aloft) : Type 0 where
   pub begun : List Numbered
   pub are : waiting ≡ begun ++ rest
@@ -155,25 +152,11 @@ pub record EndsFirst (end : AskEnd) (old new : Aloft) : Type 0 where
 
 -- ---- how it is told
 
-pub record PrintsWords (end : AskEnd) (old new : Option (List ℕ)) : Type 0 where
-  pub words : List ℕ
-  pub are : AreEndWords end words
-  pub printed : Appends old new (words ++ line_end)
-
-abbrev pub PrintsEnd : Style → AskEnd → (old new : Option (List ℕ)) → Type 0
-PrintsEnd style.Numbers end old new = Appends old new (end_line end)
-PrintsEnd style.Words end old new = PrintsWords end old new
-PrintsEnd style.Octets end old new = Appends old new (end_line end)
-
-pub record PrintsLine (style : Style) (number : ℕ) (end : AskEnd) (old new : Option (List ℕ)) : Type 0 where
+-- how the ask of a line ended was told behind the line's number; whether it succeeded
+pub record TellsLine (manner : Manner) (line : Numbered) (end : AskEnd) (succeeded : Bool) (old new : Option (List ℕ)) : Type 0 where
   pub between : Option (List ℕ)
-  pub numbered : Appends old between (number_text number)
-  pub ends : PrintsEnd style end between new
-
--- how the ask of a line ended was printed behind the line's number; whether it succeeded
-pub record TellsEnd (asking : Asking) (number : ℕ) (end : AskEnd) (succeeded : Bool) (old new : Option (List ℕ)) : Type 0 where
-  pub prints : PrintsLine asking.style number end old new
-  pub is : is_success asking.strict end ≡ succeeded
+  pub numbered : Appends old between (number_text line.number)
+  pub told : TellsEnd manner line.question.request end succeeded between new
 
 -- ---- all lines
 
@@ -181,7 +164,7 @@ pub record TellsEnd (asking : Asking) (number : ℕ) (end : AskEnd) (succeeded :
 abbrev pub Telling : Type 1
 Telling = (waiting : List Numbered) → (all : Bool) → (before : Aloft) → (after : Timed) → (old new : Option (List ℕ)) → Type 0
 
--- as many asks as may began; the first in flight, which is that of this line, ended and was told; and then the others
+-- as many asks as may began; the first that was not yet told, which is that of this line, ended and was told; and then the others
 pub record TellsNext (asking : Asking) (window : ℕ) (line : Numbered) (Others : Telling) (waiting : List Numbered) (all : Bool) (before : Aloft)
     (after : Timed) (old new : Option (List ℕ)) : Type 0 where
   pub rest : List Numbered
@@ -192,7 +175,7 @@ pub record TellsNext (asking : Asking) (window : ℕ) (line : Numbered) (Others 
   pub ends : EndsFirst end begun ended
   pub succeeded : Bool
   pub between : Option (List ℕ)
-  pub tells : TellsEnd asking line.number end succeeded old between
+  pub tells : TellsLine asking.manner line end succeeded old between
   pub more : Bool
   pub others : Others rest more ended after between new
   pub is : all ≡ succeeded && more

@@ -2,6 +2,7 @@ pub mod Files
 pub mod Lines
 pub mod Serving
 pub mod Asking
+pub mod Given
 pub mod FileWords
 pub mod Rounds
 pub mod Online

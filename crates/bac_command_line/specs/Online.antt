@@ -23,21 +23,21 @@ use Rattle.bac_run.specs.Views.{question_view}
 use Rattle.bac_run.specs.declared.patience.Patience.{Patience}
 use Rattle.bac_run.specs.declared.question.Question as code
 use Rattle.bac_world.specs.Node.{Node}
-use Rattle.bac_commands.specs.FileOctets.{AskedOctets, reads_file}
+use Rattle.bac_commands.specs.FileOctets.{reads_file}
 use Rattle.bac_commands.specs.Houses.{client_node, house_node, server_node}
 use Rattle.bac_commands.specs.Pairs.{TwoTexts}
 use Rattle.bac_commands.specs.Questions.{IsQuestion}
-use Rattle.bac_commands.specs.Reports.{AskedText, ServedText}
+use Rattle.bac_commands.specs.Reports.{ServedText}
 use Rattle.bac_commands.specs.Statuses.{ByStatus}
-use Rattle.bac_commands.specs.Words.{AskedWords}
+use Rattle.bac_commands.specs.Told.{Asked}
+use Rattle.bac_commands.specs.declared.online.manner.Style.{Style}
+use Rattle.bac_commands.specs.declared.online.manner.Style.TheVariants as style
 use Rattle.bac_command_line.specs.Asking.{patience_for}
 use Rattle.bac_command_line.specs.Files.{OfFile}
 use Rattle.bac_command_line.specs.FileWords.{file_of, with_octets}
 use Rattle.bac_command_line.specs.Rounds.{AreRounds, Doing}
 use Rattle.bac_command_line.specs.Serving.{patience_of, restart_of, turns_of}
 use Rattle.bac_command_line.specs.declared.asking.Asking.{Asking}
-use Rattle.bac_command_line.specs.declared.asking.Style.{Style}
-use Rattle.bac_command_line.specs.declared.asking.Style.TheVariants as style
 use Rattle.bac_command_line.specs.declared.serving.Serving.{Serving}
 
 -- ---- links and clocks
@@ -109,16 +109,6 @@ IsServedBy store IsOn IsClock s serving old new = ByStatus s (Serves store IsOn 
 
 -- ---- asking
 
--- how it ended was printed: in words, or in octets
-abbrev pub AskedAs : Style → (strict succeeded : Bool) → Question → Patience → (before after : Timed) → (old new : Option (List ℕ)) → Type 0
-AskedAs style.Numbers strict succeeded q p before after old new = AskedText strict succeeded q p before after old new
-AskedAs style.Words strict succeeded q p before after old new = AskedWords strict succeeded q p before after old new
-AskedAs style.Octets strict succeeded q p before after old new = AskedOctets succeeded q p before after old new
-
-abbrev pub ReportsAs : Status → Style → (strict : Bool) → Question → Patience → (before after : Timed) → (old new : Option (List ℕ)) → Type 0
-ReportsAs s style strict q p before after old new =
-    ByStatus s (AskedAs style strict true q p before after old new) (AskedAs style strict false q p before after old new) ⊥
-
 -- octets of a file are there only for a request that reads one
 abbrev pub is_told_by : Style → Request → Bool
 is_told_by style.Numbers r = true
@@ -135,11 +125,11 @@ ReadsAsked style peer words (Ok q) = IsQuestion peer words (question_view q)
 ReadsAsked style peer words (Err NoForm) = is_request_for style (request_of words) ≡ false
 ReadsAsked style peer words (Err NoMemory) = ⊤
 
--- a question was asked from a moment on that the clock told, and how that ended was printed
+-- a question was asked from a moment on that the clock told, and how that ended was told
 pub record AsksOnce (asking : Asking) (q : Question) (succeeded : Bool) (before after : Timed) (old new : Option (List ℕ)) : Type 0 where
   pub start : ℕ
   pub asked :
-      AskedAs asking.style asking.strict succeeded q (patience_for asking.timeout start) (timed before.station (with_moment before.told start)) after old new
+      Asked asking.manner succeeded q (patience_for asking.timeout start) (timed before.station (with_moment before.told start)) after old new
 
 -- a client at any free port, whose invoke IDs began anywhere, did that, in rounds where they are wanted
 pub record ByClient (IsOn : Links) (IsClock : Clocks) (asking : Asking) (Round : Doing) (all : Bool) (old new : Option (List ℕ)) : Type 0 where
@@ -158,7 +148,7 @@ pub record Asks (IsOn : Links) (IsClock : Clocks) (asking : Asking) (succeeded :
 
 -- the words are no request that can be told so, and nothing was printed
 pub record IsNoRequest (asking : Asking) (words : List (List ℕ)) (old new : Option (List ℕ)) : Type 0 where
-  pub none : is_request_for asking.style (request_of words) ≡ false
+  pub none : is_request_for asking.manner.style (request_of words) ≡ false
   pub keeps : Keeps old new
 
 abbrev pub IsAsked : Links → Clocks → Status → Asking → (words : List (List ℕ)) → (old new : Option (List ℕ)) → Type 0

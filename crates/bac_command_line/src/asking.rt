@@ -1,24 +1,15 @@
 //! Whom a node is to ask, how long it waits, how that is told, and how often.
-ghost use Rattle.std.specs.Prelude.{◌≡◌};
+ghost use Rattle.std.specs.Prelude.{◌≡◌, IfSome};
 ghost use Rattle.bac_command_line.specs.Asking.{patience_for};
+ghost use Rattle.bac_command_line.specs.Given.{AreRoundsOf, IsFlag, IsGiven, IsManner, IsNumber, rounds_by, style_by};
 ghost use Rattle.bac_command_line.specs.Rounds.{next_from};
 ghost use Rattle.bac_command_line.specs.Serving.{turns_of};
 
 use crate::address::{LOCAL_HOST, host_towards, link_at, read_link, read_route};
+use bac_commands::{Manner, Style};
 use bac_npdu::{LinkAddress, Peer, Route};
 use bac_run::Patience;
 use clap::ArgMatches;
-
-/// How the end of an ask is told.
-#[derive(Clone, Copy, Debug, PartialEq, Eq)]
-pub(crate) enum Style {
-    /// With numbers and octets, as in a script.
-    Numbers,
-    /// In words.
-    Words,
-    /// By the octets of a file alone, where it was answered with them.
-    Octets,
-}
 
 /// How often it asks the same.
 #[derive(Clone, Copy, Debug, PartialEq, Eq)]
@@ -57,13 +48,11 @@ pub(crate) struct Asking {
     pub host: [u8; 4],
     /// After so many seconds it waits no longer; None where it waits until the ask has ended.
     pub timeout: Option<u64>,
-    /// How it is told.
-    pub style: Style,
-    /// Whether an Error is no success.
-    pub strict: bool,
+    /// How it is told, and whether that is strict.
+    pub manner: Manner,
     /// How often it asks the same; None where it asks once.
     pub rounds: Option<Rounds>,
-    /// How many asks of lines are in flight at once; None where each is asked once the one before has ended.
+    /// So many asks of lines at most have begun and are not yet told; None where each is asked once the one before is told.
     pub window: Option<u64>,
 }
 
@@ -99,35 +88,73 @@ fn route_of(given: &ArgMatches<'_>) -> Option<Option<Route>> {
     }
 }
 
-fn style_of(given: &ArgMatches<'_>) -> Style {
-    if given.get_flag("raw") {
+/// Whether a flag is given.
+fn flag_of(given: &ArgMatches<'_>, name: &str) -> bool
+    ensures { IsFlag given.now name.now result }
+{
+    given.get_flag(name)
+}
+
+/// The number behind a word, where it is given.
+fn number_of(given: &ArgMatches<'_>, name: &str) -> Option<u64>
+    ensures { IsNumber given.now name.now result }
+{
+    given.get_one(name)
+}
+
+fn style_by(raw: bool, text: bool) -> Style
+    ensures { result ≡ style_by raw text }
+{
+    if raw {
         Style::Octets
-    } else if given.get_flag("text") {
+    } else if text {
         Style::Words
     } else {
         Style::Numbers
     }
 }
 
-/// None where no rounds are given.
-fn rounds_of(given: &ArgMatches<'_>) -> Option<Rounds> {
+fn manner_of(given: &ArgMatches<'_>) -> Manner
+    ensures { IsManner given.now result }
+{
+    let raw = flag_of(given, "raw");
+    let text = flag_of(given, "text");
+    Manner {
+        style: style_by(raw, text),
+        strict: flag_of(given, "fail"),
+    }
+}
+
+fn rounds_by(every: Option<u64>, times: Option<u64>) -> Option<Rounds>
+    ensures { result ≡ rounds_by every times }
+{
     Some(Rounds {
-        every: given.get_one("every")?,
-        times: given.get_one("times"),
+        every: every?,
+        times,
     })
 }
 
+/// None where no rounds are given.
+fn rounds_of(given: &ArgMatches<'_>) -> Option<Rounds>
+    ensures { AreRoundsOf given.now result }
+{
+    let every = number_of(given, "every");
+    let times = number_of(given, "times");
+    rounds_by(every, times)
+}
+
 /// None where there is no address, or what is given is none.
-pub(crate) fn asking_of(given: &ArgMatches<'_>) -> Option<Asking> {
+pub(crate) fn asking_of(given: &ArgMatches<'_>) -> Option<Asking>
+    ensures { IfSome result (IsGiven given.now) }
+{
     let link = link_of(given)?;
     let route = route_of(given)?;
     Some(Asking {
         peer: Peer { link, route },
         host: host_towards(link),
-        timeout: given.get_one("timeout"),
-        style: style_of(given),
-        strict: given.get_flag("fail"),
+        timeout: number_of(given, "timeout"),
+        manner: manner_of(given),
         rounds: rounds_of(given),
-        window: given.get_one("window"),
+        window: number_of(given, "window"),
     })
 }

@@ -1,10 +1,10 @@
 //! Requests of lines, asked by one node: what `ask --lines` does.
-ghost use Rattle.std.specs.Prelude.{◌≡◌, ◌&&◌, map, IfErr, IfOk};
+ghost use Rattle.std.specs.Prelude.{◌≡◌, ◌&&◌, map, None, Some, IfErr, IfOk, IsErrOf};
 ghost use Rattle.bac_npdu.specs.Views.{peer_view};
 ghost use Rattle.bac_run.specs.Runs.{timed};
 ghost use Rattle.bac_text.specs.Statuses.{IsFailure, IsStop};
-ghost use Rattle.bac_command_line.specs.Asked.{AreAskedFrom};
-ghost use Rattle.bac_command_line.specs.AskedLines.{AreRead, AsksEach, AsksLine, line_view};
+ghost use Rattle.bac_command_line.specs.Asked.{AreAskedFrom, status_of};
+ghost use Rattle.bac_command_line.specs.AskedLines.{AreRead, AsksEach, AsksLine, IsTextOf, line_view};
 ghost use Rattle.bac_command_line.specs.Files.{OfFile, OnFile};
 ghost use Rattle.bac_command_line.specs.Online.{OnClock, OnPort};
 
@@ -69,20 +69,61 @@ pub(crate) fn ask_each<L: Link, C: Clock, O: Write, E: Write>(
     Ok(all)
 }
 
-/// What the lines of a file ask. Where it cannot be read, or a line is bad, `err` and the status tell it.
+/// Why nothing is asked of the lines of a file.
+#[derive(Clone, Copy, Debug, PartialEq, Eq)]
+enum Unasked {
+    /// The file cannot be opened or read, or memory is refused, as the status tells.
+    Unread(Status),
+    /// The words of a line are no request.
+    BadLine,
+}
+
+impl Unasked {
+    fn status(self) -> Status
+        ensures { result ≡ status_of self }
+    {
+        match self {
+            Unasked::Unread(status) => status,
+            Unasked::BadLine => Status::CommandLine,
+        }
+    }
+}
+
+/// What is in a file. Where it cannot be opened or read, `err` and the status tell it.
+fn text_at<F: OpenFiles, E: Write>(
+    alloc: Global,
+    files: &F,
+    path: &str,
+    err: &mut E,
+) -> Result<Vec<u8>, Status>
+    ensures read { IfOk result (λ text. OfFile (OnFile F.is_file F.File.remaining) path.now (IsTextOf text.items)) }
+    ensures told { IfErr result IsStop }
+{
+    let file = opened(files, path, err)?;
+    octets_of(alloc, file, err)
+}
+
+/// What the lines of a file ask. Where it cannot be read, or a line is bad, `err` tells it.
 fn questions_at<F: OpenFiles, E: Write>(
     alloc: Global,
     files: &F,
     asking: &Asking,
     path: &str,
     err: &mut E,
-) -> Result<Vec<LineQuestion>, Status>
-    ensures read { IfOk result (λ lines. OfFile (OnFile F.is_file F.File.remaining) path.now (AreRead (peer_view asking.now.peer) (map line_view lines.items))) }
-    ensures told { IfErr result IsStop }
+) -> Result<Vec<LineQuestion>, Unasked>
+    ensures read { IfOk result (λ lines. OfFile (OnFile F.is_file F.File.remaining) path.now (AreRead (peer_view asking.now.peer) (Some (map line_view lines.items)))) }
+    ensures bad { IsErrOf result Unasked.BadLine → OfFile (OnFile F.is_file F.File.remaining) path.now (AreRead (peer_view asking.now.peer) None) }
+    ensures told { IfErr result (λ why. IsStop (status_of why)) }
 {
-    let file = opened(files, path, err)?;
-    let text = octets_of(alloc, file, err)?;
-    questions_in(alloc, asking.peer, &text, err)
+    let text = match text_at(alloc, files, path, err) {
+        Ok(text) => text,
+        Err(status) => return Err(Unasked::Unread(status)),
+    };
+    match questions_in(alloc, asking.peer, &text, err) {
+        Ok(lines) => Ok(lines),
+        Err(Status::CommandLine) => Err(Unasked::BadLine),
+        Err(status) => Err(Unasked::Unread(status)),
+    }
 }
 
 /// A client asks what the lines of a file ask, one after the other, in rounds where they are wanted; how each ask ended is printed behind the line's number.
@@ -104,6 +145,6 @@ pub(crate) fn ask_lines<F: OpenFiles, M: Machine, O: Write, E: Write>(
             let asked = Asked::Lines(lines);
             ask_by_client(alloc, machine, asking, &asked, out, err)
         }
-        Err(status) => status,
+        Err(why) => why.status(),
     }
 }

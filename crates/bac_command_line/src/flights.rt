@@ -1,4 +1,4 @@
-//! The asks of a node that are in flight, or wait for their turn to be told.
+//! The asks of a node that have begun and are not yet told.
 ghost use Rattle.std.specs.Prelude.{◌≡◌, ◌<◌, ◌+◌, ◌↔◌, ◌++◌, ◌∷◌, [], length, max, IfErr, IfOk, IsTrue};
 ghost use Rattle.std.specs.List.{position};
 ghost use Rattle.bac_text.specs.Statuses.{IsFailure};

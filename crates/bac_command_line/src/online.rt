@@ -4,22 +4,22 @@ ghost use Rattle.bac_npdu.specs.Views.{peer_view};
 ghost use Rattle.bac_protocol.specs.Service.{Octets};
 ghost use Rattle.bac_commands.specs.Questions.{ReadsQuestion};
 ghost use Rattle.bac_text.specs.Statuses.{IsFailure};
-ghost use Rattle.bac_command_line.specs.Online.{AsksOnce, IsAsked, IsPair, IsServedBy, OnClock, OnPort, ReadsAsked, ReportsAs, is_told_by};
+ghost use Rattle.bac_command_line.specs.Online.{AsksOnce, IsAsked, IsPair, IsServedBy, OnClock, OnPort, ReadsAsked, is_told_by};
 ghost use Rattle.bac_run.specs.Runs.{timed};
 ghost use Rattle.bac_run.specs.Views.{question_view};
 
 use crate::address::LOCAL_HOST;
-use crate::asking::{Asking, Style};
+use crate::asking::Asking;
 use crate::bad_words::tell_bad_words;
 use crate::rounds::{Asked, ask_by_client};
 use crate::serving::{Serving, serve_from, tell_listening, tell_not_bound};
 use bac_commands::{
-    asks_for_file, clock_fault, house_station, link_fault, read_question, server_station,
+    Style, asks_for_file, clock_fault, house_station, link_fault, read_question, server_station,
 };
 use bac_link::{Clock, Link};
 use bac_node::NewNodeFault;
 use bac_npdu::{LinkAddress, Peer};
-use bac_run::{Patience, Question, Station};
+use bac_run::{Question, Station};
 use bac_script::FormFault;
 use bac_store::Store;
 use bac_text::{Status, complain, no_memory};
@@ -108,45 +108,17 @@ fn is_told_by(style: Style, question: &Question) -> bool
 
 /// The same where it can be told so; `NoForm` also where it can't.
 fn asked_in(alloc: Global, asking: &Asking, words: &[&str]) -> Result<Question, FormFault>
-    ensures { ReadsAsked asking.now.style (peer_view asking.now.peer) (map (λ w. w.now) words.now) result }
+    ensures { ReadsAsked asking.now.manner.style (peer_view asking.now.peer) (map (λ w. w.now) words.now) result }
 {
     let question = question_in(alloc, asking.peer, words)?;
-    if is_told_by(asking.style, &question) {
+    if is_told_by(asking.manner.style, &question) {
         Ok(question)
     } else {
         Err(FormFault::NoForm)
     }
 }
 
-/// A node asks; how that ended is printed as is wanted.
-fn ask_on<L: Link, C: Clock, O: Write, E: Write>(
-    alloc: Global,
-    asking: &Asking,
-    station: &mut Station<L>,
-    clock: &mut C,
-    question: &Question,
-    patience: &Patience,
-    out: &mut O,
-    err: &mut E,
-) -> Status
-    ensures { ReportsAs result asking.now.style asking.now.strict (question_view question.now) patience.now
-        (timed station.old (C.told clock.old)) (timed station.new (C.told clock.new)) (O.contents out.old) (O.contents out.new) }
-{
-    let strict = asking.strict;
-    match asking.style {
-        Style::Numbers => {
-            bac_commands::ask(alloc, station, clock, strict, question, patience, out, err)
-        }
-        Style::Words => {
-            bac_commands::ask_in_words(alloc, station, clock, strict, question, patience, out, err)
-        }
-        Style::Octets => {
-            bac_commands::ask_for_octets(alloc, station, clock, question, patience, out, err)
-        }
-    }
-}
-
-/// A node asks from the moment on that the clock tells; how that ended is printed as is wanted. Answers whether it succeeded.
+/// A node asks from the moment on that the clock tells; how that ended is told as is wanted. Answers whether it succeeded.
 pub(crate) fn ask_once<L: Link, C: Clock, O: Write, E: Write>(
     alloc: Global,
     asking: &Asking,
@@ -161,7 +133,16 @@ pub(crate) fn ask_once<L: Link, C: Clock, O: Write, E: Write>(
     ensures failed { IfErr result IsFailure }
 {
     let patience = asking.patience(clock.now());
-    match ask_on(alloc, asking, station, clock, question, &patience, out, err) {
+    match bac_commands::ask(
+        alloc,
+        station,
+        clock,
+        asking.manner,
+        question,
+        &patience,
+        out,
+        err,
+    ) {
         Status::Done => Ok(true),
         Status::Faulty => Ok(false),
         Status::CommandLine => Err(Status::CommandLine),
@@ -170,7 +151,7 @@ pub(crate) fn ask_once<L: Link, C: Clock, O: Write, E: Write>(
     }
 }
 
-/// A client asks a node, in rounds where they are wanted; how each ask ended is printed as is wanted. Words that are no request: `bad words` on `err`, and in
+/// A client asks a node, in rounds where they are wanted; how each ask ended is told as is wanted. Words that are no request: `bad words` on `err`, and in
 /// words which is bad.
 pub(crate) fn ask<M: Machine, O: Write, E: Write>(
     alloc: Global,
@@ -183,7 +164,7 @@ pub(crate) fn ask<M: Machine, O: Write, E: Write>(
     ensures { IsAsked (OnPort M.is_bound M.Link.failures M.Link.calls) (OnClock M.is_made M.Timer.told) result asking.now (map (λ w. w.now) words.now)
         (O.contents out.old) (O.contents out.new) }
 {
-    let in_words = asking.style == Style::Words;
+    let in_words = asking.manner.style == Style::Words;
     let question = match asked_in(alloc, asking, words) {
         Ok(question) => question,
         Err(FormFault::NoForm) => {

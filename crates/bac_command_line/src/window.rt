@@ -8,7 +8,7 @@ ghost use Rattle.bac_command_line.specs.InFlight.{AsksAhead, BeginsAsk, BeginsMo
 
 use crate::asking::Asking;
 use crate::asking_lines::both;
-use crate::ends::tell_end;
+use crate::ends::tell_line;
 use crate::flights::{Flight, Flights};
 use crate::question_lines::LineQuestion;
 use bac_commands::{TURNS, Trouble, clock_fault};
@@ -135,7 +135,7 @@ pub(crate) fn ask_ahead<L: Link, C: Clock, O: Write, E: Write>(
     for (place, line) in lines.iter().enumerate() {
         waiting = begin_more(asking, window, station, clock, waiting, &mut flights, err)?;
         let end = end_first(station, clock, &mut flights, err)?;
-        let succeeded = tell_end(alloc, asking, line.number, &end, out, err)?;
+        let succeeded = tell_line(alloc, asking.manner, line, &end, out, err)?;
         all = both(all, succeeded);
     }
     Ok(all)

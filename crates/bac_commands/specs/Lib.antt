@@ -5,8 +5,10 @@ pub mod Answers
 pub mod AnswerTexts
 pub mod Facts
 pub mod Questions
+pub mod Others
 pub mod Reports
 pub mod Pairs
 pub mod Troubles
 pub mod Words
 pub mod FileOctets
+pub mod Told

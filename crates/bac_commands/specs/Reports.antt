@@ -1,22 +1,22 @@
 -- What commands print of nodes on links, and their statuses.
-use Rattle.std.specs.Prelude.{◌≡◌, ℕ, Bool, true, false, List, ◌++◌, ◌&&◌, not, codes, decimal, Option}
+use Rattle.std.specs.Prelude.{◌≡◌, ℕ, Bool, true, false, List, ◌++◌, ◌&&◌, ◌||◌, not, is_some, codes, decimal, Option, Some, None}
 use Rattle.std.specs.Io.KnownBytes.{Appends}
+use Rattle.bac_service.specs.Values.{Request}
 use Rattle.bac_service.specs.Replies.{Reply}
-use Rattle.bac_ends.specs.Meanings as plain
+use Rattle.bac_ends.specs.Meanings.{Ending}
+use Rattle.bac_ends.specs.Meanings.Ending.{Answered, Rejected, Aborted, TimedOut, Expired}
 use Rattle.bac_requester.specs.Faults.{ask_fault_number}
 use Rattle.bac_ticket.specs.Views.{ending_view}
-use Rattle.bac_ticket.specs.declared.ending.Ending.{Ending}
-use Rattle.bac_ticket.specs.declared.ending.Ending.TheVariants as ending
-use Rattle.bac_commands.specs.Facts.{ending_line, refused_line}
 use Rattle.bac_text.specs.Texts.{line_end}
 use Rattle.bac_text.specs.declared.status.Status.{Status}
-use Rattle.bac_run.specs.Asking.{AskingEnds, Question}
 use Rattle.bac_run.specs.Runs.{Timed}
 use Rattle.bac_run.specs.Seen.{Watcher, Watches}
 use Rattle.bac_run.specs.Serving.{Serves}
 use Rattle.bac_run.specs.declared.patience.Patience.{Patience}
 use Rattle.bac_run.specs.declared.question.AskEnd.{AskEnd}
 use Rattle.bac_run.specs.declared.question.AskEnd.TheVariants as end
+use Rattle.bac_commands.specs.Facts.{ending_line, refused_line}
+use Rattle.bac_commands.specs.Others.{names_other}
 use Rattle.bac_commands.specs.Statuses.{ByStatus}
 
 -- ---- serving
@@ -49,48 +49,32 @@ end_line (end.Ended how) = ending_line (ending_view how)
 end_line (end.Refused why) = refused_line (ask_fault_number why)
 end_line end.NoEnding = codes "no ending" ++ line_end
 
-abbrev pub is_answer : Ending → Bool
-is_answer (ending.Answered reply) = true
-is_answer (ending.Rejected reason) = false
-is_answer (ending.Aborted reason) = false
-is_answer ending.TimedOut = false
-is_answer ending.Expired = false
+abbrev pub reply_of_ending : Ending → Option Reply
+reply_of_ending (Answered reply) = Some reply
+reply_of_ending (Rejected reason) = None
+reply_of_ending (Aborted reason) = None
+reply_of_ending TimedOut = None
+reply_of_ending Expired = None
 
--- an Error was answered
-abbrev pub is_error_reply : Reply → Bool
-is_error_reply Reply.Simple = false
-is_error_reply (Reply.Complex complex) = false
-is_error_reply (Reply.Error class code) = true
-is_error_reply (Reply.Reject reason) = false
-
-abbrev pub ends_with_error : plain.Ending → Bool
-ends_with_error (plain.Ending.Answered reply) = is_error_reply reply
-ends_with_error (plain.Ending.Rejected reason) = false
-ends_with_error (plain.Ending.Aborted reason) = false
-ends_with_error plain.Ending.TimedOut = false
-ends_with_error plain.Ending.Expired = false
-
-abbrev pub is_error : AskEnd → Bool
-is_error (end.Ended how) = ends_with_error (ending_view how)
-is_error (end.Refused why) = false
-is_error end.NoEnding = false
+-- the reply that came, if one did
+abbrev pub reply_of : AskEnd → Option Reply
+reply_of (end.Ended how) = reply_of_ending (ending_view how)
+reply_of (end.Refused why) = None
+reply_of end.NoEnding = None
 
 abbrev pub is_answered : AskEnd → Bool
-is_answered (end.Ended how) = is_answer how
-is_answered (end.Refused why) = false
-is_answered end.NoEnding = false
+is_answered end = is_some (reply_of end)
 
--- where the ask is strict, an Error is no success
-abbrev pub is_success : (strict : Bool) → AskEnd → Bool
-is_success strict end = is_answered end && not (strict && is_error end)
+abbrev pub is_error : Reply → Bool
+is_error Reply.Simple = false
+is_error (Reply.Complex complex) = false
+is_error (Reply.Error class code) = true
+is_error (Reply.Reject reason) = false
 
--- a node asked, for at most so many turns with that patience, and how that ended was printed
-pub record AskedText (strict succeeded : Bool) (q : Question) (p : Patience) (before after : Timed) (old new : Option (List ℕ)) : Type 0 where
-  pub end : AskEnd
-  pub ends : AskingEnds q end p 100000 before after
-  pub printed : Appends old new (end_line end)
-  pub is : is_success strict end ≡ succeeded
+-- an ask with that reply succeeded: where it is strict, by no Error and by none that names another property than was asked for
+abbrev pub is_success_by : (strict : Bool) → Request → Option Reply → Bool
+is_success_by strict request None = false
+is_success_by strict request (Some reply) = not (strict && (is_error reply || names_other request reply))
 
-abbrev pub ReportsAsking : Status → (strict : Bool) → Question → Patience → (before after : Timed) → (old new : Option (List ℕ)) → Type 0
-ReportsAsking s strict q p before after old new =
-    ByStatus s (AskedText strict true q p before after old new) (AskedText strict false q p before after old new) ⊥
+abbrev pub is_success : (strict : Bool) → Request → AskEnd → Bool
+is_success strict request end = is_success_by strict request (reply_of end)

@@ -6,6 +6,7 @@ mod answering;
 mod facts;
 mod fresh_node;
 mod online;
+mod others;
 
 pub use answering::{CLIENT, answer_datagram, answer_over};
 pub use facts::{
@@ -13,7 +14,6 @@ pub use facts::{
     print_fault, print_nothing, print_performed, print_refused, print_sent, reply_words,
 };
 pub use online::{
-    TURNS, Trouble, ask, ask_for_octets, ask_in_words, asks_for_file, client_station, clock_fault,
-    ends_with_error, house_station, is_answer, link_fault, pair, read_question, serve,
-    server_station,
+    Manner, Style, TURNS, Trouble, ask, asks_for_file, client_station, clock_fault, house_station,
+    link_fault, pair, read_question, serve, server_station, tell_end,
 };

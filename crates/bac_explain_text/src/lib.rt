@@ -20,3 +20,4 @@ pub use peers::{link_text, peer_text};
 pub use request_words::{request_in_words, service_words};
 pub use seeing::seen_of;
 pub use unread::Unread;
+pub use words::reference_text;

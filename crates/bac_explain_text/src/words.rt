@@ -38,7 +38,7 @@ pub(crate) fn object_text(alloc: Global, object: ObjectIdentifier) -> Result<Str
 }
 
 /// A property of an object, as `analog-input:5 present-value`, or an element of it, as `device:1 object-list[0]`.
-pub(crate) fn reference_text(
+pub fn reference_text(
     alloc: Global,
     reference: PropertyReference,
 ) -> Result<String, AllocError>

@@ -23,6 +23,8 @@ pub(crate) enum Behind {
     Nobody,
     /// Who is asked answers with this datagram.
     Answer(&'static [u8]),
+    /// Who is asked answers each request, by its invoke ID, with this service data of a ComplexACK of ReadProperty.
+    Read(&'static [u8]),
     /// So many requests wait at each link.
     Requests(u8),
     /// These come at each link, one after the other: the last octet of the port of 127.0.0.1 that sent one, and it in hexadecimal.
@@ -69,6 +71,15 @@ fn house_answer(alloc: Global, octets: &[u8]) -> Option<Vec<u8>> {
     answers.first()?.octets().to_vec(alloc).ok()
 }
 
+/// The ComplexACK of ReadProperty with that service data, for the invoke ID of a request.
+fn read_answer(alloc: Global, request: &[u8], data: &[u8]) -> Option<Vec<u8>> {
+    let invoke_id = *request.get(8)?;
+    let len = u8::try_from(data.len()).ok()?.checked_add(9)?;
+    let mut answer = Vec::from_slice(alloc, &[0x81, 0x0A, 0, len, 1, 0, 0x30, invoke_id, 12]).ok()?;
+    answer.extend_from_slice(data).ok()?;
+    Some(answer)
+}
+
 impl BenchLink {
     /// What answers a datagram to that address, if something does.
     fn answer_from(&self, to: [u8; 6], octets: &[u8]) -> Option<Vec<u8>> {
@@ -77,6 +88,7 @@ impl BenchLink {
                 self.alloc, octets,
             ),
             Behind::Answer(answer) => answer.to_vec(self.alloc).ok(),
+            Behind::Read(data) => read_answer(self.alloc, octets, data),
             _ => None,
         }
     }

@@ -14,6 +14,7 @@ mod decoded;
 mod files;
 mod help;
 mod logged;
+mod not_asked;
 mod online;
 mod outputs;
 mod restarts;

@@ -5,8 +5,9 @@ ghost use Rattle.bac_run.specs.Pairs.{paired};
 ghost use Rattle.bac_run.specs.Views.{question_view};
 ghost use Rattle.bac_commands.specs.Pairs.{ReportsPair, TwoTexts, PairText, append_request, read_request};
 
-use super::asking::{is_answered, print_end};
 use super::question::{peer_at, question_for};
+use super::success::is_answered;
+use super::telling::print_end;
 use super::trouble::Trouble;
 use bac_link::{Clock, Link};
 use bac_run::{Question, Station};

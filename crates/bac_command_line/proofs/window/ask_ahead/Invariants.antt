@@ -1,4 +1,4 @@
--- What is told from here on completes what is told of all lines; those that are not told wait or are in flight.
+-- What is told from here on completes what is told of all lines; those that are not yet told wait or have begun.
 use Rattle.std.proofs.Common.{◌≡◌, ℕ, ◌+◌, ◌&&◌, Bool, List, Option, length, map, drop}
 use Rattle.bac_run.specs.Runs.{Timed, timed}
 use Rattle.bac_command_line.specs.AskedLines.{line_view}

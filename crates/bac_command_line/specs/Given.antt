@@ -1,0 +1,57 @@
+-- What the words of `ask` give, as they were read.
+use Rattle.std.specs.Prelude.{◌≡◌, ℕ, ◌<◌, ◌^◌, Bool, true, false, List, codes, decimal, Option, Some, None}
+use Rattle.clap.specs.Words.{found_of, one_text}
+use Rattle.clap.specs.declared.parser.matches.ArgMatches.{ArgMatches}
+use Rattle.bac_commands.specs.declared.online.manner.Manner.{Manner}
+use Rattle.bac_commands.specs.declared.online.manner.Style.{Style}
+use Rattle.bac_commands.specs.declared.online.manner.Style.TheVariants as style
+use Rattle.bac_command_line.specs.declared.asking.Asking.{Asking}
+use Rattle.bac_command_line.specs.declared.asking.Rounds.{Rounds}
+
+-- the text behind a word, where it was given; of a flag `true` or `false`
+abbrev pub text_of : ArgMatches → (name : List ℕ) → Option (List ℕ)
+text_of given name = one_text (found_of given) name
+
+pub record IsFlag (given : ArgMatches) (name : List ℕ) (is : Bool) : Type 0 where
+  pub on : text_of given name ≡ Some (codes "true") → is ≡ true
+  pub off : text_of given name ≡ Some (codes "false") → is ≡ false
+  pub none : text_of given name ≡ None → is ≡ false
+
+pub record IsNumber (given : ArgMatches) (name : List ℕ) (is : Option ℕ) : Type 0 where
+  pub some : (n : ℕ) → n < 2 ^ 64 → text_of given name ≡ Some (decimal n) → is ≡ Some n
+  pub none : text_of given name ≡ None → is ≡ None
+
+-- by octets before words
+abbrev pub style_by : (raw text : Bool) → Style
+style_by true text = style.Octets
+style_by false true = style.Words
+style_by false false = style.Numbers
+
+pub record IsStyle (given : ArgMatches) (s : Style) : Type 0 where
+  pub raw : Bool
+  pub text : Bool
+  pub raw_is : IsFlag given (codes "raw") raw
+  pub text_is : IsFlag given (codes "text") text
+  pub is : s ≡ style_by raw text
+
+pub record IsManner (given : ArgMatches) (m : Manner) : Type 0 where
+  pub style : IsStyle given m.style
+  pub strict : IsFlag given (codes "fail") m.strict
+
+abbrev pub rounds_by : (every times : Option ℕ) → Option Rounds
+rounds_by None times = None
+rounds_by (Some every) times = Some (record { every = every; times = times })
+
+pub record AreRoundsOf (given : ArgMatches) (rounds : Option Rounds) : Type 0 where
+  pub every : Option ℕ
+  pub times : Option ℕ
+  pub every_is : IsNumber given (codes "every") every
+  pub times_is : IsNumber given (codes "times") times
+  pub are : rounds ≡ rounds_by every times
+
+-- how it is told, how long it waits, and how often and how many at once it asks
+pub record IsGiven (given : ArgMatches) (asking : Asking) : Type 0 where
+  pub manner : IsManner given asking.manner
+  pub timeout : IsNumber given (codes "timeout") asking.timeout
+  pub rounds : AreRoundsOf given asking.rounds
+  pub window : IsNumber given (codes "window") asking.window

@@ -1,6 +1,0 @@
-use Rattle.std.proofs.Common.{rules, sym}
-use Rattle.bac_commands.proofs.online.asking.ask_and_print.Goals as goal
-
-pub returns : goal.returns
-returns g c =
-    record { end = c.in_ok-end.end; ends = c.in_ok-end.ensures.ended; printed = search rules; is = sym c.is_success.ensures }

@@ -1,0 +1,48 @@
+-- How the end of an ask is told, by the manner in which that is wanted.
+use Rattle.std.specs.Prelude.{◌≡◌, ℕ, Bool, true, false, List, ◌++◌, Option}
+use Rattle.std.specs.Io.KnownBytes.{Appends}
+use Rattle.bac_service.specs.Values.{Request}
+use Rattle.bac_text.specs.Texts.{line_end}
+use Rattle.bac_text.specs.declared.status.Status.{Status}
+use Rattle.bac_run.specs.Asking.{AskingEnds, Question}
+use Rattle.bac_run.specs.Runs.{Timed}
+use Rattle.bac_run.specs.declared.patience.Patience.{Patience}
+use Rattle.bac_run.specs.declared.question.AskEnd.{AskEnd}
+use Rattle.bac_commands.specs.FileOctets.{AreWritten, octets_of}
+use Rattle.bac_commands.specs.Reports.{end_line, is_success, reply_of}
+use Rattle.bac_commands.specs.Statuses.{ByStatus}
+use Rattle.bac_commands.specs.Words.{AreEndWords}
+use Rattle.bac_commands.specs.declared.online.manner.Manner.{Manner}
+use Rattle.bac_commands.specs.declared.online.manner.Style.{Style}
+use Rattle.bac_commands.specs.declared.online.manner.Style.TheVariants as style
+
+-- by a line of numbers and octets
+pub record TellsNumbers (strict : Bool) (request : Request) (end : AskEnd) (succeeded : Bool) (old new : Option (List ℕ)) : Type 0 where
+  pub printed : Appends old new (end_line end)
+  pub is : is_success strict request end ≡ succeeded
+
+-- by a line of words
+pub record TellsWords (strict : Bool) (request : Request) (end : AskEnd) (succeeded : Bool) (old new : Option (List ℕ)) : Type 0 where
+  pub words : List ℕ
+  pub are : AreEndWords request end words
+  pub printed : Appends old new (words ++ line_end)
+  pub is : is_success strict request end ≡ succeeded
+
+-- or by octets of a file alone; whether the ask succeeded
+abbrev pub TellsAs : Style → (strict : Bool) → Request → AskEnd → (succeeded : Bool) → (old new : Option (List ℕ)) → Type 0
+TellsAs style.Numbers strict request end succeeded old new = TellsNumbers strict request end succeeded old new
+TellsAs style.Words strict request end succeeded old new = TellsWords strict request end succeeded old new
+TellsAs style.Octets strict request end succeeded old new = AreWritten (octets_of (reply_of end)) succeeded old new
+
+abbrev pub TellsEnd : Manner → Request → AskEnd → (succeeded : Bool) → (old new : Option (List ℕ)) → Type 0
+TellsEnd manner request end succeeded old new = TellsAs manner.style manner.strict request end succeeded old new
+
+-- a node asked, for at most so many turns with that patience, and how that ended was told
+pub record Asked (manner : Manner) (succeeded : Bool) (q : Question) (p : Patience) (before after : Timed) (old new : Option (List ℕ)) : Type 0 where
+  pub end : AskEnd
+  pub ends : AskingEnds q end p 100000 before after
+  pub told : TellsEnd manner q.request end succeeded old new
+
+abbrev pub ReportsAsking : Status → Manner → Question → Patience → (before after : Timed) → (old new : Option (List ℕ)) → Type 0
+ReportsAsking s manner q p before after old new =
+    ByStatus s (Asked manner true q p before after old new) (Asked manner false q p before after old new) ⊥
