@@ -4,22 +4,16 @@
 use bac_command_line::{System, run};
 use bac_text::{Status, no_memory};
 use std::io;
-use std::io::BufWriter;
+use std::io::{BufWriter, IsTerminal};
 use std::process::ExitCode;
 
 /// Reads the command line and does what it says. An Err is out of memory, or a word that is no UTF-8.
 fn start(rt: &HostRuntime) -> io::Result<Status> {
     let words: Vec<String> = std::env::args(rt)?.collect(rt.alloc())?;
     let mut out = BufWriter::new(rt.alloc(), rt.stdout())?;
-    let system = System::new(rt);
-    let status = run(
-        rt.alloc(),
-        &words,
-        &system,
-        &system,
-        &mut out,
-        &mut rt.stderr(),
-    );
+    let mut err = rt.stderr();
+    let system = System::new(rt, err.is_terminal());
+    let status = run(rt.alloc(), &words, &system, &system, &mut out, &mut err);
     Ok(status)
 }
 

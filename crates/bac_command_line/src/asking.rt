@@ -50,6 +50,8 @@ pub(crate) struct Asking {
     pub timeout: Option<u64>,
     /// How it is told, and whether that is strict.
     pub manner: Manner,
+    /// Whether its progress is shown on standard error.
+    pub shows_progress: bool,
     /// How often it asks the same; None where it asks once.
     pub rounds: Option<Rounds>,
     /// So many asks of lines at most have begun and are not yet told; None where each is asked once the one before is told.
@@ -144,7 +146,7 @@ fn rounds_of(given: &ArgMatches<'_>) -> Option<Rounds>
 }
 
 /// None where there is no address, or what is given is none.
-pub(crate) fn asking_of(given: &ArgMatches<'_>) -> Option<Asking>
+pub(crate) fn asking_of(given: &ArgMatches<'_>, shows_progress: bool) -> Option<Asking>
     ensures { IfSome result (IsGiven given.now) }
 {
     let link = link_of(given)?;
@@ -154,6 +156,7 @@ pub(crate) fn asking_of(given: &ArgMatches<'_>) -> Option<Asking>
         host: host_towards(link),
         timeout: number_of(given, "timeout"),
         manner: manner_of(given),
+        shows_progress,
         rounds: rounds_of(given),
         window: number_of(given, "window"),
     })

@@ -81,7 +81,7 @@ pub fn run<F: OpenFiles, M: Machine, O: Write, E: Write>(
             return Status::CommandLine;
         }
     };
-    match task_of(&matches) {
+    match task_of(&matches, machine.shows_progress()) {
         Some(task) => perform(alloc, task, files, machine, out, err),
         None => complain(err, fault_of(&matches), Status::CommandLine),
     }

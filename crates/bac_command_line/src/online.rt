@@ -48,6 +48,9 @@ pub trait Machine {
 
     /// The invoke ID at which a new client begins, one that differs from run to run where the machine can tell one; None where its clock can't be read.
     fn first_id(&self) -> Option<u8>;
+
+    /// Whether standard error is a terminal, which shows the progress of an ask.
+    fn shows_progress(&self) -> bool;
 }
 
 /// A node with a store serves.
@@ -138,6 +141,7 @@ pub(crate) fn ask_once<L: Link, C: Clock, O: Write, E: Write>(
         station,
         clock,
         asking.manner,
+        asking.shows_progress,
         question,
         &patience,
         out,

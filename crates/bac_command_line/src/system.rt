@@ -19,12 +19,16 @@ const STANDARD_INPUT: &str = "/dev/stdin";
 #[derive(Drop)]
 pub struct System<'a, R> {
     runtime: &'a R,
+    shows_progress: bool,
 }
 
 impl<'a, R> System<'a, R> {
-    /// The system of a runtime.
-    pub fn new(runtime: &'a R) -> System<'a, R> {
-        System { runtime }
+    /// The system of a runtime, whose standard error shows the progress of asks, where it is a terminal.
+    pub fn new(runtime: &'a R, shows_progress: bool) -> System<'a, R> {
+        System {
+            runtime,
+            shows_progress,
+        }
     }
 }
 
@@ -63,5 +67,9 @@ impl<'a, R: Net + std::time::Clock> Machine for System<'a, R> {
         let now = SystemTime::now(self.runtime).ok()?;
         let passed = now.duration_since(UNIX_EPOCH).ok()?;
         Some(passed.as_micros().to_le_bytes()[0])
+    }
+
+    fn shows_progress(&self) -> bool {
+        self.shows_progress
     }
 }

@@ -92,8 +92,12 @@ fn form_of(given: &ArgMatches<'_>) -> Option<Form> {
     }
 }
 
-/// None where there is no subcommand, or its word is missing; clap refuses such words itself. Also where an address is none of IPv4.
-pub(crate) fn task_of<'m, 'a>(matches: &'m ArgMatches<'a>) -> Option<Task<'m, 'a>> {
+/// None where there is no subcommand, or its word is missing; clap refuses such words itself. Also where an address is none of IPv4. The progress of asks is
+/// shown or not.
+pub(crate) fn task_of<'m, 'a>(
+    matches: &'m ArgMatches<'a>,
+    shows_progress: bool,
+) -> Option<Task<'m, 'a>> {
     match matches.subcommand()? {
         ("answer", given) => {
             let datagram = given.get_str("HEX")?;
@@ -136,7 +140,7 @@ pub(crate) fn task_of<'m, 'a>(matches: &'m ArgMatches<'a>) -> Option<Task<'m, 'a
             Some(Task::Serve { serving, objects })
         }
         ("ask", given) => {
-            let asking = asking_of(given)?;
+            let asking = asking_of(given, shows_progress)?;
             if let Some(path) = given.get_str("lines") {
                 return Some(Task::AskLines { asking, path });
             }

@@ -3,6 +3,7 @@ mod asking;
 mod file_octets;
 mod manner;
 mod pairing;
+mod progress;
 mod question;
 mod serving;
 mod station;

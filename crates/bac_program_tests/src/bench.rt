@@ -215,6 +215,7 @@ pub(crate) struct BenchMachine {
     alloc: Global,
     bench: Bench,
     last_free: Cell<u16>,
+    is_terminal: bool,
 }
 
 impl BenchMachine {
@@ -223,7 +224,15 @@ impl BenchMachine {
             alloc,
             bench,
             last_free: Cell::new(50_000),
+            is_terminal: false,
         }
+    }
+
+    /// The same, with standard error on a terminal.
+    pub(crate) fn on_terminal(alloc: Global, bench: Bench) -> BenchMachine {
+        let mut machine = BenchMachine::new(alloc, bench);
+        machine.is_terminal = true;
+        machine
     }
 
     /// That port, or where it is 0 the next free one.
@@ -278,5 +287,9 @@ impl Machine for BenchMachine {
     fn first_id(&self) -> Option<u8> {
         let clock = self.bench.clock?;
         Some(clock.moment.to_le_bytes()[0])
+    }
+
+    fn shows_progress(&self) -> bool {
+        self.is_terminal
     }
 }

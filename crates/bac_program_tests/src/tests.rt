@@ -17,6 +17,7 @@ mod logged;
 mod not_asked;
 mod online;
 mod outputs;
+mod progress;
 mod restarts;
 mod served_documents;
 mod sockets;

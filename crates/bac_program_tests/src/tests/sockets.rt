@@ -17,7 +17,11 @@ const ROWS: &[(&str, Ending)] = &[
     // an address of another machine
     (
         "serve --port 47899 --at 192.0.2.1",
-        ("", "link fault 192.0.2.1:47899: Cannot assign requested address (os error 99)\n", 3),
+        (
+            "",
+            "link fault 192.0.2.1:47899: Cannot assign requested address (os error 99)\n",
+            3,
+        ),
     ),
     (
         "pair",
@@ -36,7 +40,7 @@ const ROWS: &[(&str, Ending)] = &[
 #[test]
 fn runs_on_this_machine(rt: HostRuntime) -> Result<(), Fail> {
     let _taken = UdpLink::bind(&rt, TAKEN)?;
-    let system = System::new(&rt);
+    let system = System::new(&rt, false);
     for (line, ending) in ROWS {
         let words = words_of(rt.alloc(), line)?;
         holds(
@@ -61,7 +65,7 @@ fn moment_of(err: &[u8]) -> Option<u64> {
 #[test]
 fn serves_from_a_moment(rt: HostRuntime) -> Result<(), Fail> {
     let words = words_of(rt.alloc(), "serve --port 47898 --seconds 1 --restarted")?;
-    let system = System::new(&rt);
+    let system = System::new(&rt, false);
     let mut clock = MonotonicClock::new(&rt)?;
     let printed = run_words(rt.alloc(), &words, &system, &system);
     let took = clock.now();
