@@ -38,10 +38,7 @@ pub(crate) fn object_text(alloc: Global, object: ObjectIdentifier) -> Result<Str
 }
 
 /// A property of an object, as `analog-input:5 present-value`, or an element of it, as `device:1 object-list[0]`.
-pub fn reference_text(
-    alloc: Global,
-    reference: PropertyReference,
-) -> Result<String, AllocError>
+pub fn reference_text(alloc: Global, reference: PropertyReference) -> Result<String, AllocError>
     ensures { IfOk result (λ t. string_bytes t ≡ reference_text (property_reference_view reference)) }
 {
     let object = object_text(alloc, reference.object)?;
