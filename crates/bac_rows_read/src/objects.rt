@@ -2,7 +2,7 @@
 //!
 //! `TYPE:INSTANCE/PART/..` is an object, and a part is `NUMBER=HEX` for a property that can be written, `name=TEXT`, `file=HEX` for a file that can be written,
 //! and `log=HEX` for one that cannot. Without a name it is called bare.
-use crate::words::{number, octets_of};
+use crate::words::{number, octets_of, put};
 use bac_store::{File, Object, Property};
 use bac_value::{ObjectIdentifier, read_data};
 use std::alloc::Global;
@@ -48,7 +48,7 @@ fn put_part(alloc: Global, part: &str, object: &mut Object) -> Option<()> {
         b"name" => object.name = String::from_str(alloc, value).ok()?,
         b"file" => object.file = Some(file(alloc, value, true)?),
         b"log" => object.file = Some(file(alloc, value, false)?),
-        _ => object.properties.push(property(alloc, key, value)?).ok()?,
+        _ => put(&mut object.properties, property(alloc, key, value)?)?,
     }
     Some(())
 }
@@ -66,7 +66,7 @@ fn object_of(alloc: Global, word: &str) -> Option<Object> {
 pub(crate) fn objects_of(alloc: Global, words: &str) -> Option<Vec<Object>> {
     let mut objects = Vec::new(alloc);
     for word in words.split(' ') {
-        objects.push(object_of(alloc, word)?).ok()?;
+        put(&mut objects, object_of(alloc, word)?)?;
     }
     Some(objects)
 }

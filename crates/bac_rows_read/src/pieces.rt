@@ -1,7 +1,15 @@
 //! Octets in pieces.
 ghost use Rattle.std.specs.Prelude.{◌<◌};
 
+use crate::words::put;
 use std::alloc::Global;
+
+fn put_copy(alloc: Global, piece: &[u8], pieces: &mut Vec<Vec<u8>>) -> Option<()> {
+    match piece.to_vec(alloc) {
+        Ok(piece) => put(pieces, piece),
+        Err(_) => None,
+    }
+}
 
 /// The pieces of some octets: each `size` long but the last.
 pub(crate) fn pieces_of(alloc: Global, octets: &[u8], size: usize) -> Option<Vec<Vec<u8>>>
@@ -9,7 +17,7 @@ pub(crate) fn pieces_of(alloc: Global, octets: &[u8], size: usize) -> Option<Vec
 {
     let mut pieces = Vec::new(alloc);
     for piece in octets.chunks(size) {
-        pieces.push(piece.to_vec(alloc).ok()?).ok()?;
+        put_copy(alloc, piece, &mut pieces)?;
     }
     Some(pieces)
 }
@@ -20,8 +28,8 @@ pub(crate) fn between_empty_ones(alloc: Global, octets: &[u8], size: usize) -> O
 {
     let mut pieces = Vec::new(alloc);
     for piece in octets.chunks(size) {
-        pieces.push(Vec::new(alloc)).ok()?;
-        pieces.push(piece.to_vec(alloc).ok()?).ok()?;
+        put(&mut pieces, Vec::new(alloc))?;
+        put_copy(alloc, piece, &mut pieces)?;
     }
     Some(pieces)
 }
@@ -29,7 +37,7 @@ pub(crate) fn between_empty_ones(alloc: Global, octets: &[u8], size: usize) -> O
 /// Octets in two pieces, the first of which has so many.
 pub(crate) fn cut(alloc: Global, octets: &[u8], place: usize) -> Option<Vec<Vec<u8>>> {
     let mut pieces = Vec::new(alloc);
-    pieces.push(octets.get(..place)?.to_vec(alloc).ok()?).ok()?;
-    pieces.push(octets.get(place..)?.to_vec(alloc).ok()?).ok()?;
+    put_copy(alloc, octets.get(..place)?, &mut pieces)?;
+    put_copy(alloc, octets.get(place..)?, &mut pieces)?;
     Some(pieces)
 }

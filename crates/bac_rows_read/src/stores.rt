@@ -4,7 +4,7 @@
 //! with the house, or with the store of a document. `ask CHOICE HEX` performs a request and tells the reply. `change OBJECT PROPERTY HEX` and `fill FILE HEX`
 //! are changes at the node. `find COUNT` looks so many objects up, and `faults` tells all faults of changes.
 use crate::objects::{bare, identifier, objects_of};
-use crate::words::{first, number, octets_of, print_octets, small, spelled};
+use crate::words::{first, number, octets_of, print_octets, put, small, spelled};
 use bac_objects::read_objects;
 use bac_service::{AnyReply, Complex, Reply, read_request, write_reply};
 use bac_store::{Change, ChangeFault, Object, Store, house};
@@ -33,7 +33,7 @@ fn descending(alloc: Global, count: u32) -> Option<Vec<Object>> {
     let mut objects = Vec::new(alloc);
     for place in 0..count {
         let id = ObjectIdentifier::new(0, count.saturating_sub(1).saturating_sub(place))?;
-        objects.push(bare(alloc, id)?).ok()?;
+        put(&mut objects, bare(alloc, id)?)?;
     }
     Some(objects)
 }

@@ -21,6 +21,14 @@ pub(crate) fn small(text: &str) -> Option<u8> {
     text.parse::<u8>().ok()
 }
 
+/// Puts an item behind the others; None where memory is refused.
+pub(crate) fn put<T: Drop>(items: &mut Vec<T>, item: T) -> Option<()> {
+    match items.push(item) {
+        Ok(()) => Some(()),
+        Err(_) => None,
+    }
+}
+
 /// The octets of hexadecimal digits.
 pub(crate) fn octets_of(alloc: Global, digits: &str) -> Option<Vec<u8>> {
     hex::decode(alloc, digits).ok()

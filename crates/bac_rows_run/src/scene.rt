@@ -3,7 +3,7 @@
 //! `node TAKES WINDOW SLOTS SLOTS` is a node: what it takes, as the first two octets of its requests say it, its window, and its slots for asks and for replies.
 //! It has the house store, behind them the words of a request as it is after that. `overtake LIMIT` is the world's, 128 where there is none. `NAME: TEXT` is
 //! a text that lines may name. Behind a line `first` stands what each script begins with.
-use crate::words::{first, number, octets_of, request_of};
+use crate::words::{first, number, octets_of, put, request_of};
 use bac_apdu::{Apdu, Limits, read};
 use bac_node::Config;
 use bac_npdu::LinkAddress;
@@ -70,7 +70,7 @@ pub(crate) fn nodes_of(alloc: Global, scene: &str, from: u8) -> Option<Vec<(Conf
     let mut number = from;
     for line in scene.lines() {
         if let Some(line) = line.strip_prefix("node ") {
-            nodes.push(made_of(alloc, number, line)?).ok()?;
+            put(&mut nodes, made_of(alloc, number, line)?)?;
             number = number.wrapping_add(1);
         }
     }

@@ -13,6 +13,14 @@ pub(crate) fn number(text: &str) -> Option<u64> {
     text.parse::<u64>().ok()
 }
 
+/// Puts an item behind the others; None where memory is refused.
+pub(crate) fn put<T: Drop>(items: &mut Vec<T>, item: T) -> Option<()> {
+    match items.push(item) {
+        Ok(()) => Some(()),
+        Err(_) => None,
+    }
+}
+
 /// The octets of hexadecimal digits.
 pub(crate) fn octets_of(alloc: Global, digits: &str) -> Option<Vec<u8>> {
     match hex::decode(alloc, digits) {

@@ -1,6 +1,9 @@
 //! Worlds that are not made, and runs that stop.
+use super::scene::put;
 use super::*;
 use bac_network::{Event, NewWorldFault, RunFault, World, WorldFault};
+use bac_node::Config;
+use bac_store::Store;
 
 /// The number of the second node's link, its client slots and reply slots, the windows of both nodes, the overtaking limit, and the number of the fault, 0 where
 /// the world is made.
@@ -38,8 +41,8 @@ const LIMITS: &[Made] = &[
     (1, 1, 1, 1, 1, u64::MAX, BAD_BOUND),
 ];
 
-fn made(alloc: Global, row: &Made) -> Option<u8> {
-    let mut nodes = Vec::new(alloc);
+/// What the nodes of a row are made of.
+fn nodes_of(alloc: Global, row: &Made) -> Option<Vec<(Config, Store)>> {
     let one = Member {
         client_slots: 1,
         reply_slots: 1,
@@ -52,9 +55,14 @@ fn made(alloc: Global, row: &Made) -> Option<u8> {
         window: row.4,
         ..LARGE
     };
-    nodes.push(one.made(alloc, 0)?).ok()?;
-    nodes.push(other.made(alloc, row.0)?).ok()?;
-    match World::new(alloc, nodes, row.5) {
+    let mut nodes = Vec::new(alloc);
+    put(&mut nodes, one.made(alloc, 0)?)?;
+    put(&mut nodes, other.made(alloc, row.0)?)?;
+    Some(nodes)
+}
+
+fn made(alloc: Global, row: &Made) -> Option<u8> {
+    match World::new(alloc, nodes_of(alloc, row)?, row.5) {
         Ok(_) => Some(MADE),
         Err(fault) => Some(fault.number()),
     }
@@ -73,24 +81,27 @@ fn made_otherwise(alloc: Global) -> Option<Option<usize>> {
 /// Events of which the third can't happen.
 fn events(alloc: Global) -> Option<Vec<Event>> {
     let mut events = Vec::new(alloc);
-    events.push(Event::Advance { by: 2 }).ok()?;
-    events.push(Event::Tick { node: 2 }).ok()?;
-    events.push(Event::Tick { node: 3 }).ok()?;
-    events.push(Event::Advance { by: 5 }).ok()?;
+    put(&mut events, Event::Advance { by: 2 })?;
+    put(&mut events, Event::Tick { node: 2 })?;
+    put(&mut events, Event::Tick { node: 3 })?;
+    put(&mut events, Event::Advance { by: 5 })?;
     Some(events)
 }
 
 /// A run stops at the first fault and tells its place: what happened before it stands.
-fn stops(alloc: Global) -> Option<bool> {
-    let mut world = LARGE_ONES.world(alloc)?;
-    let events = events(alloc)?;
-    let whole = world.run(events.get(..2).unwrap_or(&[]));
-    let stopped = world.run(&events);
+fn stops_at_the_third(world: &mut World, events: &[Event]) -> Option<bool> {
+    let whole = world.run(events.get(..2)?);
+    let stopped = world.run(events);
     let fault = RunFault {
         place: 2,
         fault: WorldFault::NoSuchNode,
     };
     Some(whole == Ok(()) && stopped == Err(fault) && world.now() == 4)
+}
+
+fn stops(alloc: Global) -> Option<bool> {
+    let events = events(alloc)?;
+    stops_at_the_third(&mut LARGE_ONES.world(alloc)?, &events)
 }
 
 #[test]

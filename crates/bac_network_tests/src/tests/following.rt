@@ -1,4 +1,5 @@
 //! Logs that are followed as they grow, on stores of the test's own.
+use super::scene::put;
 use super::*;
 use bac_comparing::{same_reply, same_request};
 use bac_network::{Fact, World};
@@ -82,11 +83,8 @@ fn performed_at(log: &[Fact], place: usize) -> Option<(&OwnedRequest, &OwnedRepl
 }
 
 fn put_copy(alloc: Global, store: &Store, stores: &mut Vec<Store>) -> Option<()> {
-    let Ok(copy) = store.copy(alloc) else {
-        return None;
-    };
-    match stores.push(copy) {
-        Ok(()) => Some(()),
+    match store.copy(alloc) {
+        Ok(copy) => put(stores, copy),
         Err(_) => None,
     }
 }

@@ -10,6 +10,14 @@ use bac_service::OwnedRequest;
 use bac_store::{Store, house};
 use std::alloc::Global;
 
+/// Puts an item behind the others; None where memory is refused.
+pub(super) fn put<T: Drop>(items: &mut Vec<T>, item: T) -> Option<()> {
+    match items.push(item) {
+        Ok(()) => Some(()),
+        Err(_) => None,
+    }
+}
+
 /// What a node is made of.
 #[derive(Clone, Copy)]
 pub(super) struct Member {
@@ -89,7 +97,7 @@ impl Scene {
     pub(super) fn world(&self, alloc: Global) -> Option<World> {
         let mut nodes = Vec::new(alloc);
         for (number, member) in self.members.iter().enumerate() {
-            nodes.push(member.made(alloc, (number % 256) as u8)?).ok()?;
+            put(&mut nodes, member.made(alloc, (number % 256) as u8)?)?;
         }
         match World::new(alloc, nodes, self.overtake) {
             Ok(world) => Some(world),

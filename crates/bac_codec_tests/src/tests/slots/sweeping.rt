@@ -1,5 +1,5 @@
 //! What a sweep leaves, and how far it looks.
-ghost use Rattle.std.specs.Prelude.{◌≡◌, ◌∷◌, [], ◌||◌, IfSome, IsTrue, nat_le, nat_lt, ℕ};
+ghost use Rattle.std.specs.Prelude.{◌≡◌, ◌∷◌, [], ◌||◌, IfSome, nat_le, nat_lt, ℕ};
 
 use super::counted_key::{CountedKey, counted};
 use super::*;
@@ -32,16 +32,7 @@ fn from(first: u64, looks: &Cell<u64>) -> Outside<'_> {
     }
 }
 
-// Puts three slots that begin at the moments 0 to 2, which are their values, into an empty table.
-fn put_three(table: &mut IndexSlots<u32, u64>) -> bool
-    requires { table.old.0 ≡ [] }
-    ensures { IsTrue result → table.new.0 ≡ record { key = 8; begin = 0; value = 0 } ∷ record { key = 9; begin = 1; value = 1 }
-        ∷ record { key = 7; begin = 2; value = 2 } ∷ [] }
-{
-    table.put(8, 0, 0).is_ok() && table.put(9, 1, 1).is_ok() && table.put(7, 2, 2).is_ok()
-}
-
-// A table of those three.
+// A table of three slots that began at the moments 0 to 2, which are their values.
 fn three(alloc: Global, room: usize) -> Option<IndexSlots<u32, u64>>
     ensures { IfSome result (λ t. t.0 ≡ record { key = 8; begin = 0; value = 0 } ∷ record { key = 9; begin = 1; value = 1 }
         ∷ record { key = 7; begin = 2; value = 2 } ∷ []) }
@@ -49,11 +40,16 @@ fn three(alloc: Global, room: usize) -> Option<IndexSlots<u32, u64>>
     let Ok(mut table) = IndexSlots::<u32, u64>::new(alloc, room) else {
         return None;
     };
-    if put_three(&mut table) {
-        Some(table)
-    } else {
-        None
+    if table.put(8, 0, 0).is_err() {
+        return None;
     }
+    if table.put(9, 1, 1).is_err() {
+        return None;
+    }
+    if table.put(7, 2, 2).is_err() {
+        return None;
+    }
+    Some(table)
 }
 
 // How many values are looked at for whether a slot would be free, and whether one would be.
@@ -190,21 +186,22 @@ fn swept_and_compared(rt: HostRuntime) -> Result<(), Fail> {
 }
 
 // Whether a table that is full with one slot has room once it is swept, up to the moment at which the slot began, and the slot goes.
-fn is_full_until_swept(table: &mut IndexSlots<u32, u64>) -> bool
-    requires { table.old.0 ≡ record { key = 1; begin = 5; value = 10 } ∷ [] }
-{
-    let looks = Cell::new(0);
-    let has_room = has_room_once_swept(table, &from(11, &looks), 5);
-    let has_room_then = has_room_once_swept(table, &from(10, &looks), 5);
-    sweep_oldest(table, &from(10, &looks), 5);
-    !has_room && has_room_then && table.len() == 0
-}
-
 fn is_swept_at_its_begin(alloc: Global) -> bool {
     let Ok(mut table) = IndexSlots::<u32, u64>::new(alloc, 1) else {
         return false;
     };
-    table.put(1, 5, 10).is_ok() && is_full_until_swept(&mut table)
+    if table.put(1, 5, 10).is_err() {
+        return false;
+    }
+    let looks = Cell::new(0);
+    if has_room_once_swept(&table, &from(11, &looks), 5) {
+        return false;
+    }
+    if !has_room_once_swept(&table, &from(10, &looks), 5) {
+        return false;
+    }
+    sweep_oldest(&mut table, &from(10, &looks), 5);
+    table.len() == 0
 }
 
 #[test]
