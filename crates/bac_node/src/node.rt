@@ -9,9 +9,10 @@ ghost use Rattle.bac_store.specs.AtNode.{change_fault, IsFaultOf};
 ghost use Rattle.bac_store.specs.Replies.{reply_to};
 ghost use Rattle.bac_store.specs.ReplyLengths.{DATA_LIMIT, reply_length};
 ghost use Rattle.bac_store.specs.Views.{change_view};
-ghost use Rattle.bac_ends.specs.Ends.{is_slot_held, is_slot_live};
+ghost use Rattle.bac_ends.specs.Ends.{first_after, is_slot_held, is_slot_live};
 ghost use Rattle.bac_ends.specs.Tables.{IsOrderlyClient, IsOrderlyServer};
 ghost use Rattle.bac_ends.specs.Views.{settings_view};
+ghost use Rattle.bac_protocol.specs.declared.times.TheConstants.{KEEP as KEPT_FOR, REST as REST_TIME};
 ghost use Rattle.bac_requester.specs.Short.{AreRepliesShort};
 ghost use Rattle.bac_requester.specs.Views.{finish_view, finishes_of};
 ghost use Rattle.bac_responder.specs.Short.{AreRequestsShort};
@@ -118,6 +119,36 @@ fn with_ended(alloc: Global, room: &mut Vec<Finish>, finish: Option<Finish>) -> 
     ended
 }
 
+/// The client's end and the server's, both empty, which restart at that moment if there is one.
+fn empty_ends(
+    alloc: Global,
+    client_slots: usize,
+    reply_slots: usize,
+    restart: Option<u64>,
+) -> Result<
+    (
+        Requester<IndexSlots<PeerKey, Client>>,
+        Responder<IndexSlots<PeerKey, Entry>>,
+    ),
+    NoMemory,
+>
+    ensures clients { IfOk result (λ ends. ends.0 ≡ record { slots = []; capacity = client_slots; asked = 0; asks_from = first_after REST_TIME restart; first_id = 0 }) }
+    ensures servers { IfOk result (λ ends. ends.1 ≡ record { slots = []; capacity = reply_slots; serves_from = first_after KEPT_FOR restart }) }
+{
+    let clients = Requester::new(alloc, client_slots, restart)?;
+    let servers = Responder::new(alloc, reply_slots, restart)?;
+    Ok((clients, servers))
+}
+
+/// The store that a node has after its restart: another one, if there is one.
+fn put_store(store: &mut Store, other: Option<Store>)
+    ensures { store.new ≡ store_after_restart store.old other }
+{
+    if let Some(other) = other {
+        *store = other;
+    }
+}
+
 impl Node {
     /// A node to which nothing has happened, with that store; its invoke IDs begin at 0.
     ///
@@ -167,8 +198,12 @@ impl Node {
         let Some(settings) = settings_of(&config) else {
             return Err(NewNodeFault::BadWindow);
         };
-        let clients = Requester::new(alloc, config.client_slots, restart)?;
-        let servers = Responder::new(alloc, config.reply_slots, restart)?;
+        let (clients, servers) = empty_ends(
+            alloc,
+            config.client_slots,
+            config.reply_slots,
+            restart,
+        )?;
         Ok(Node {
             alloc,
             link: config.link,
@@ -501,12 +536,11 @@ impl Node {
         ensures went { OnOk result (self.new ≡ restarted now (store_after_restart self.old.store store) self.old) }
         ensures err { OnErr result (self.new ≡ self.old) }
     {
-        let mut clients = Requester::new(self.alloc, self.clients.capacity(), Some(now))?;
+        let client_slots = self.clients.capacity();
+        let reply_slots = self.servers.capacity();
+        let (mut clients, servers) = empty_ends(self.alloc, client_slots, reply_slots, Some(now))?;
         clients.begin_ids_at(self.clients.first_id());
-        let servers = Responder::new(self.alloc, self.servers.capacity(), Some(now))?;
-        if let Some(store) = store {
-            self.store = store;
-        }
+        put_store(&mut self.store, store);
         self.clients = clients;
         self.servers = servers;
         self.latest = now;
