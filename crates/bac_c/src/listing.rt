@@ -107,7 +107,9 @@ impl Device {
         let Some(data) = whole_data(octets) else {
             return Err(Fault::BadObject);
         };
-        let values = data.to_owned(alloc)?;
+        let Ok(values) = data.to_owned(alloc) else {
+            return Err(Fault::NoMemory);
+        };
         let Some(object) = self.listed.pop() else {
             return Err(Fault::BadObject);
         };
@@ -141,7 +143,9 @@ impl Device {
         if self.listed.is_empty() {
             return Err(Fault::BadObject);
         }
-        let octets = copied_octets(alloc, octets)?;
+        let Ok(octets) = copied_octets(alloc, octets) else {
+            return Err(Fault::NoMemory);
+        };
         let Some(mut object) = self.listed.pop() else {
             return Err(Fault::BadObject);
         };

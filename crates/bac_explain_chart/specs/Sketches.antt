@@ -68,8 +68,11 @@ ends_in now s k = ends_of k.form (moment_in now k) (sender_of s) (receiver_of s)
 abbrev pub peers_after : SightingView → Sketch → List PeerView
 peers_after s k = with_columns (sender_of s) (receiver_of s) k.peers
 
+abbrev pub drawn_at : ℕ → Ends → (octets : List ℕ) → Drawn
+drawn_at now c octets = record { moment = now; from = c.from; to = c.to; octets = octets }
+
 abbrev pub drawn_of : ℕ → SightingView → Ends → Drawn
-drawn_of now s c = record { moment = now; from = c.from; to = c.to; octets = s.octets }
+drawn_of now s c = drawn_at now c s.octets
 
 -- an arrow with the number of its frame, and what the APDU is
 abbrev pub arrow_of : (number moment : ℕ) → Ends → (octets : List ℕ) → Arrow

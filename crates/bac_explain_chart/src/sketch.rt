@@ -6,7 +6,7 @@ ghost use Rattle.bac_explain.specs.Sightings.{sighting_view};
 ghost use Rattle.bac_explain_chart.specs.EndViews.{ends_view};
 ghost use Rattle.bac_explain_chart.specs.Copies.{is_again, with_drawn};
 ghost use Rattle.bac_explain_chart.specs.CopyViews.{drawn_view};
-ghost use Rattle.bac_explain_chart.specs.Sketches.{arrow_of, front_text, fresh, is_by_client, moment_in, receiver_of, remark_front, sender_of, sighting_kept, sighting_text, start_of, unread_line, BreaksFile, IsDrawn, IsUnread, SeesFrame};
+ghost use Rattle.bac_explain_chart.specs.Sketches.{arrow_of, drawn_at, front_text, fresh, is_by_client, moment_in, receiver_of, remark_front, row_text, sender_of, sighting_kept, sighting_text, start_of, unread_line, BreaksFile, IsDrawn, IsUnread, SeesFrame};
 ghost use Rattle.bac_explain_chart.specs.SketchViews.{sketch_view};
 ghost use Rattle.bac_npdu.specs.Views.{peer_view};
 
@@ -141,6 +141,39 @@ impl Sketch {
         now.saturating_sub(start)
     }
 
+    /// Keeps a datagram that is drawn: whether the same came before.
+    fn keep(&mut self, now: u64, ends: &Ends, octets: &[u8]) -> Result<bool, AllocError>
+        ensures again { IfOk result (λ b. b ≡ is_again (drawn_at now (ends_view ends.now) octets.now) (sketch_view self.old).drawn) }
+        ensures kept { OnOk result (sketch_view self.new
+            ≡ record (sketch_view self.old) { drawn = with_drawn (drawn_at now (ends_view ends.now) octets.now) (sketch_view self.old).drawn }) }
+    {
+        let datagram = Drawn {
+            moment: now,
+            from: ends.from,
+            to: ends.to,
+            octets: Vec::from_slice(self.alloc, octets)?,
+        };
+        let again = datagram.is_again(&self.drawn);
+        keep(datagram, &mut self.drawn)?;
+        Ok(again)
+    }
+
+    /// The row of a datagram; it tells whether the same came before.
+    fn row(
+        &self,
+        again: bool,
+        moment: u64,
+        ends: &Ends,
+        octets: &[u8],
+    ) -> Result<Vec<u8>, AllocError>
+        ensures { IfOk result (λ t. t.items ≡ row_text self.now.form (length (sketch_view self.now).peers) again moment
+            (arrow_of self.now.frames moment (ends_view ends.now) octets.now)) }
+    {
+        let arrow = arrow_of(self.alloc, self.frames, moment, ends, octets)?;
+        let line = coming_line(self.alloc, again, moment, &arrow)?;
+        line_text(self.alloc, self.form, self.peers.len() as u64, &line)
+    }
+
     /// A datagram of a transaction is drawn.
     fn draw(&mut self, now: u64, sighting: Sighting<'_>) -> Result<Vec<u8>, AllocError>
         ensures text { IfOk result (λ t. t.items ≡ sighting_text now (sighting_view sighting.entry) (sketch_view self.old)) }
@@ -149,17 +182,8 @@ impl Sketch {
         let moment = self.moment(now);
         let (from, to) = peers_of(sighting);
         let ends = enter_ends(self.alloc, self.form, moment, from, to, &mut self.peers)?;
-        let datagram = Drawn {
-            moment: now,
-            from: ends.from,
-            to: ends.to,
-            octets: Vec::from_slice(self.alloc, sighting.octets)?,
-        };
-        let again = datagram.is_again(&self.drawn);
-        keep(datagram, &mut self.drawn)?;
-        let arrow = arrow_of(self.alloc, self.frames, moment, &ends, sighting.octets)?;
-        let line = coming_line(self.alloc, again, moment, &arrow)?;
-        let row = line_text(self.alloc, self.form, self.peers.len() as u64, &line)?;
+        let again = self.keep(now, &ends, sighting.octets)?;
+        let row = self.row(again, moment, &ends, sighting.octets)?;
         let mut text = ends.text;
         text.extend_from_slice(&row)?;
         Ok(text)

@@ -1,12 +1,12 @@
 //! A document as a whole: the store that it means.
-ghost use Rattle.std.specs.Prelude.{◌≡◌, [], map, IfOk};
+ghost use Rattle.std.specs.Prelude.{◌≡◌, ◌+◌, [], length, map, IfOk};
 ghost use Rattle.bac_value.specs.Steps.{ReadsAll};
 ghost use Rattle.bac_store.specs.Views.{object_view};
 ghost use Rattle.toml.specs.View.{array_view, items_view, table_view, view};
 ghost use Rattle.bac_objects.specs.Answers.{ReadsObject};
 ghost use Rattle.bac_objects.specs.Documents.{IsInObject, IsRead, IsReadTable, ReadsDocument};
 ghost use Rattle.bac_objects.specs.Right.{AreFit};
-ghost use Rattle.bac_objects.specs.Objects.{list_in as list_of, objects_in as objects_of, objects_on, with_object as with_object_of};
+ghost use Rattle.bac_objects.specs.Objects.{in_object as in_object_of, list_in as list_of, objects_in as objects_of, objects_on, with_object as with_object_of};
 
 use crate::fault::{DocumentFault, Flaw, ObjectFault, Place};
 use crate::held::{count, member};
@@ -51,6 +51,20 @@ fn in_object(alloc: Global, object: usize, fault: ObjectFault<'_>) -> DocumentFa
     }
 }
 
+/// The objects with the next one of a list, or its fault with its number.
+fn with_next(alloc: Global, done: Vec<Object>, value: &Value) -> Result<Vec<Object>, DocumentFault>
+    requires { AreFit (map object_view done.items) }
+    ensures is { ReadsDocument (λ v. map object_view v.items) result
+        (in_object_of (length (map object_view done.items) + 1) (with_object_of (map object_view done.items) (view value.now))) }
+    ensures fit { IfOk result (λ v. AreFit (map object_view v.items)) }
+{
+    let number = done.len() + 1;
+    match with_object(alloc, done, value) {
+        Ok(objects) => Ok(objects),
+        Err(fault) => Err(in_object(alloc, number, fault)),
+    }
+}
+
 /// All objects of a list.
 fn objects_of_list(alloc: Global, list: &Array) -> Result<Vec<Object>, DocumentFault>
     ensures is { ReadsDocument (λ v. map object_view v.items) result (objects_on [] (array_view list.now)) }
@@ -58,11 +72,7 @@ fn objects_of_list(alloc: Global, list: &Array) -> Result<Vec<Object>, DocumentF
 {
     let mut objects = Vec::new(alloc);
     for value in list {
-        let number = objects.len() + 1;
-        objects = match with_object(alloc, objects, value) {
-            Ok(more) => more,
-            Err(fault) => return Err(in_object(alloc, number, fault)),
-        };
+        objects = with_next(alloc, objects, value)?;
     }
     Ok(objects)
 }

@@ -4,7 +4,7 @@ ghost use Rattle.std.specs.Option.{option_map};
 ghost use Rattle.bac_value.specs.Steps.{ReadsAll};
 ghost use Rattle.toml.specs.Data.{get_member};
 ghost use Rattle.toml.specs.View.{view, table_view};
-ghost use Rattle.bac_objects.specs.Held.{FILE_FORMS as FILE_ROWS, FORMS as ROWS, count as count_of, found_in as found_of, held_by as held_of, held_in, mark_of, plain, the_mark};
+ghost use Rattle.bac_objects.specs.Held.{FILE_FORMS as FILE_ROWS, FORMS as ROWS, alone as alone_of, count as count_of, found_in as found_of, held_by as held_of, held_in, mark_of, or_nothing, plain, the_mark};
 ghost use Rattle.bac_objects.specs.Views.{held_view};
 
 use crate::form::{FILE_FORMS, FORMS, Form};
@@ -56,30 +56,46 @@ fn is_writable(mark: Option<&Value>) -> Result<bool, Problem>
     }
 }
 
+/// What stands under one of some words.
+fn found<'a>(rows: &[(&str, Form)], table: &'a Table) -> Result<(Form, &'a Value), Problem>
+    ensures { ReadsAll (λ f. (f.0, view f.1.now)) result (or_nothing (found_of (plain rows.now) (table_view table.now))) }
+{
+    match found_in(rows, table) {
+        Some(found) => Ok(found),
+        None => Err(Problem {
+            wanted: Wanted::OneValue,
+            given: Given::Nothing,
+        }),
+    }
+}
+
+/// A value where there is no key but its word and the mark.
+fn alone(is_marked: bool, keys: usize, held: Held<'_>) -> Result<Held<'_>, Problem>
+    ensures { ReadsAll held_view result (alone_of is_marked keys (held_view held.entry)) }
+{
+    let its_own = if is_marked { 2 } else { 1 };
+    if keys != its_own {
+        return Err(Problem {
+            wanted: Wanted::OneValue,
+            given: Given::More,
+        });
+    }
+    Ok(held)
+}
+
 #[tactic(auto, unfolding(crate::specs::Held::held_by))]
 fn held_by<'a>(rows: &[(&str, Form)], table: &'a Table) -> Result<Held<'a>, Problem>
     ensures { ReadsAll held_view result (held_of (plain rows.now) (table_view table.now)) }
 {
     let mark = member(table, "writable");
     let writable = is_writable(mark)?;
-    let Some((form, value)) = found_in(rows, table) else {
-        return Err(Problem {
-            wanted: Wanted::OneValue,
-            given: Given::Nothing,
-        });
-    };
-    let keys = if mark.is_some() { 2 } else { 1 };
-    if count(table) != keys {
-        return Err(Problem {
-            wanted: Wanted::OneValue,
-            given: Given::More,
-        });
-    }
-    Ok(Held {
+    let (form, value) = found(rows, table)?;
+    let held = Held {
         form,
         value,
         writable,
-    })
+    };
+    alone(mark.is_some(), count(table), held)
 }
 
 /// The words for values of a property.

@@ -3,4 +3,6 @@ use Rattle.bac_c.proofs.Starts.{house_with}
 use Rattle.bac_c.proofs.device.Device.start_house.Goals as goal
 
 pub returns-clause-started : goal.returns-clause-started
-returns-clause-started c = house_with c.args.settings.now c.in_ok-config.config c.in-Ok.store c.in_ok-node.node c.in_ok-config.ensures.says c.in-Ok.ensures c.in_ok-node.ensures.made
+returns-clause-started c =
+    house_with c.args.settings.now c.in-Some.config c.in-Ok.store c.in-Ok-node.node c.run.new.self.node c.in-Some.ensures.says c.in-Ok.ensures c.in-Ok-node.ensures.made
+    c.run.ensures.node
