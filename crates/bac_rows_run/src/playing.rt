@@ -29,14 +29,19 @@ struct Player<'a, S: Stage> {
 }
 
 impl<'a, S: Stage> Player<'a, S> {
-    /// An event's line, for each of its numbers.
+    /// An event's line, with a number.
+    fn meets_once(&mut self, line: &str, number: u64) -> Option<()> {
+        let line = spelled(self.alloc, self.scene, line, number).ok()?;
+        self.events = self.events.saturating_add(1);
+        self.stage.meets(self.alloc, &line, &mut self.told)
+    }
+
+    /// The same for each of its numbers.
     fn meets(&mut self, line: &'a str) -> Option<()> {
         self.line = line;
         let (numbers, line) = ranged(line).ok()?;
         for place in 0..numbers.count {
-            let line = spelled(self.alloc, self.scene, line, numbers.at(place)).ok()?;
-            self.stage.meets(self.alloc, &line, &mut self.told)?;
-            self.events = self.events.saturating_add(1);
+            self.meets_once(line, numbers.at(place))?;
         }
         if !self.stage.is_sound() {
             self.told.write_all(b"not the same\n").ok()?;

@@ -3,6 +3,7 @@ use crate::printing::spelled;
 use crate::scene::link;
 use bac_commands::{print_ended, print_ending_line};
 use bac_ends::{Datagram, PeerKey};
+use bac_entry::Effect;
 use bac_node::Outcome;
 use bac_responder::Act;
 use bac_service::{AnyRequest, OwnedRequest};
@@ -68,8 +69,13 @@ fn print_request(
 
 /// A request that was performed, and how it is answered.
 fn print_performed(alloc: Global, act: Act, out: &mut Vec<u8>) -> Option<()> {
-    print_request(alloc, &act.key, &act.effect.request, out)?;
-    print_ending_line(alloc, &Ending::Answered(act.effect.reply), out).ok()
+    let Act { key, effect } = act;
+    print_request(alloc, &key, &effect.request, out)?;
+    let Effect {
+        request: _request,
+        reply,
+    } = effect;
+    print_ending_line(alloc, &Ending::Answered(reply), out).ok()
 }
 
 /// What came of a call. What was performed is taken out.

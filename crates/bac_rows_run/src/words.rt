@@ -29,11 +29,19 @@ pub(crate) fn octets_of(alloc: Global, digits: &str) -> Option<Vec<u8>> {
     }
 }
 
-/// The request of some words.
-pub(crate) fn request_of(alloc: Global, text: &str) -> Option<OwnedRequest> {
+fn words_of(alloc: Global, text: &str) -> Option<Vec<&[u8]>> {
     let mut words = Vec::new(alloc);
     for word in text.split(' ') {
-        words.push(word.as_bytes()).ok()?;
+        put(&mut words, word.as_bytes())?;
     }
-    read_request_words(alloc, &words).ok()
+    Some(words)
+}
+
+/// The request of some words.
+pub(crate) fn request_of(alloc: Global, text: &str) -> Option<OwnedRequest> {
+    let words = words_of(alloc, text)?;
+    match read_request_words(alloc, &words) {
+        Ok(request) => Some(request),
+        Err(_) => None,
+    }
 }

@@ -10,7 +10,7 @@ use bac_responder::Responder;
 use bac_service::OwnedRequest;
 use bac_slots::{IndexSlots, Same};
 use bac_store::{Store, house};
-use bac_ticket::{OutgoingRequest, RequestWay, Ticket};
+use bac_ticket::{Begun, OutgoingRequest, RequestWay, Ticket};
 
 /// Takes APDUs of 1,476 octets and any number of segments, and the same of 50.
 const LIMITS: Limits = Limits {
@@ -200,7 +200,12 @@ fn ticket(alloc: Global) -> Option<Ticket> {
     };
     let request = OutgoingRequest::new(7, way, service);
     match Ticket::begin(alloc, &context(1_000), request) {
-        Ok(begun) => Some(begun.ticket),
+        Ok(
+            Begun {
+                ticket,
+                sends: _sends,
+            },
+        ) => Some(ticket),
         Err(_) => None,
     }
 }

@@ -47,14 +47,22 @@ pub(super) fn limits_of(alloc: Global, digits: &str) -> Option<Limits> {
     }
 }
 
+fn words_of(alloc: Global, text: &str) -> Option<Vec<&[u8]>> {
+    let mut words = Vec::new(alloc);
+    for word in text.split(' ') {
+        put(&mut words, word.as_bytes())?;
+    }
+    Some(words)
+}
+
 /// The request of some words.
 pub(super) fn request_of(alloc: Global, text: &str) -> Option<OwnedRequest> {
     let text = plain(alloc, text).ok()?;
-    let mut words = Vec::new(alloc);
-    for word in text.split(' ') {
-        words.push(word.as_bytes()).ok()?;
+    let words = words_of(alloc, &text)?;
+    match read_request_words(alloc, &words) {
+        Ok(request) => Some(request),
+        Err(_) => None,
     }
-    read_request_words(alloc, &words).ok()
 }
 
 /// A store performs the request of some words.
