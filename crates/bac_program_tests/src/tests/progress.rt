@@ -26,10 +26,14 @@ const ROWS: &[(&str, Ending)] = &[
         "ask --port 47808 read 0:5 85",
         ("answered read 444290999A\n", "", 0),
     ),
-    // nobody is there
+    // nobody is there: it is sent again in the second turn, and the third would begin too late
     (
         "ask --port 47809 --timeout 5 read 0:5 85",
-        ("no ending\n", "PROGRESS", 1),
+        (
+            "no ending\n",
+            "\r17 octets sent, 0 received\x1b[K\r\x1b[K",
+            1,
+        ),
     ),
 ];
 
