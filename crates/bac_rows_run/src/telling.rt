@@ -1,6 +1,7 @@
 //! What came of an event at a node: what was dropped, performed and sent, and how tickets ended.
 use crate::printing::spelled;
 use crate::scene::link;
+use crate::turns::print_octets;
 use bac_commands::{print_ended, print_ending_line};
 use bac_ends::{Datagram, PeerKey};
 use bac_entry::Effect;
@@ -24,18 +25,27 @@ pub(crate) fn framed(alloc: Global, apdu: &[u8]) -> Option<Vec<u8>> {
     Some(octets)
 }
 
+/// Whether octets are the plain frame of an APDU.
+fn is_plain(alloc: Global, octets: &[u8]) -> Option<bool> {
+    let frame = framed(alloc, octets.get(6..).unwrap_or(&[]))?;
+    Some(frame.as_slice() == octets)
+}
+
+/// Of a datagram in another frame, or to another link, the link and all octets.
+fn print_other(alloc: Global, datagram: &Datagram, out: &mut Vec<u8>) -> Option<()> {
+    let to = hex::encode_upper(alloc, datagram.to().as_slice()).ok()?;
+    write!(out, "sent {to} ").ok()?;
+    print_octets(alloc, datagram.octets(), out)
+}
+
 /// One that is sent: the last octet of the link's address, and the APDU; or the datagram, where it is not the plain frame.
 fn print_sent(alloc: Global, datagram: &Datagram, out: &mut Vec<u8>) -> Option<()> {
-    let octets = datagram.octets();
-    let apdu = octets.get(6..).unwrap_or(&[]);
-    let peer = datagram.to()[3];
-    if framed(alloc, apdu)?.as_slice() == octets && datagram.to() == link(peer) {
-        let apdu = hex::encode_upper(alloc, apdu).ok()?;
-        return writeln!(out, "sent {peer} {apdu}").ok();
+    let (octets, peer) = (datagram.octets(), datagram.to()[3]);
+    if datagram.to() != link(peer) || !is_plain(alloc, octets)? {
+        return print_other(alloc, datagram, out);
     }
-    let to = hex::encode_upper(alloc, datagram.to().as_slice()).ok()?;
-    let octets = hex::encode_upper(alloc, octets).ok()?;
-    writeln!(out, "sent {to} {octets}").ok()
+    write!(out, "sent {peer} ").ok()?;
+    print_octets(alloc, octets.get(6..).unwrap_or(&[]), out)
 }
 
 pub(crate) fn print_sends(alloc: Global, sends: &[Datagram], out: &mut Vec<u8>) -> Option<()> {

@@ -80,14 +80,6 @@ fn restart_anew(alloc: Global, world: &mut World, words: &str, out: &mut Vec<u8>
     )
 }
 
-/// The octets of words that come to a node from a link.
-fn noise_of(alloc: Global, node: usize, words: &str) -> Option<Event> {
-    let (from, digits) = first(words);
-    let from = link(from.parse::<u8>().ok()?);
-    let octets = octets_of(alloc, digits)?;
-    Some(Event::Noise { node, from, octets })
-}
-
 /// An event happens, of which nothing is told.
 fn steps(world: &mut World, event: &Event) -> Option<()> {
     match world.step(event) {
@@ -107,12 +99,20 @@ fn print_counts(world: &World, out: &mut Vec<u8>) -> Option<()> {
     .ok()
 }
 
-/// Octets come a millisecond later. A node that looks at them knows the moment; nothing else comes of them.
+/// The octets of words come to a node from a link, a millisecond later.
+fn hears(alloc: Global, world: &mut World, node: usize, words: &str) -> Option<()> {
+    let (from, digits) = first(words);
+    let from = link(from.parse::<u8>().ok()?);
+    steps(world, &Event::Advance { by: 1 })?;
+    let octets = octets_of(alloc, digits)?;
+    steps(world, &Event::Noise { node, from, octets })
+}
+
+/// A node that looks at octets knows the moment; nothing else comes of them.
 fn octets_come(alloc: Global, world: &mut World, words: &str, out: &mut Vec<u8>) -> Option<()> {
     let (node, words) = first(words);
     let node = node.parse::<usize>().ok()?;
-    steps(world, &Event::Advance { by: 1 })?;
-    steps(world, &noise_of(alloc, node, words)?)?;
+    hears(alloc, world, node, words)?;
     let is_heard = world.nodes().get(node)?.latest() == world.now();
     write!(out, "heard {is_heard} ").ok()?;
     print_counts(world, out)
