@@ -20,7 +20,6 @@ use Rattle.bac_run.specs.Pairs.{Pair}
 use Rattle.bac_run.specs.Runs.{Timed, timed}
 use Rattle.bac_run.specs.Stations.{Station}
 use Rattle.bac_run.specs.Views.{question_view}
-use Rattle.bac_run.specs.declared.patience.Patience.{Patience}
 use Rattle.bac_run.specs.declared.question.Question as code
 use Rattle.bac_world.specs.Node.{Node}
 use Rattle.bac_commands.specs.FileOctets.{reads_file}

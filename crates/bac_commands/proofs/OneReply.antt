@@ -1,5 +1,5 @@
 -- A request in one APDU gets one reply.
-use Rattle.std.proofs.Common.{◌≡◌, ◌≢◌, ℕ, ◌+◌, ◌-◌, ◌≤◌, Bool, true, if◌then◌else◌, nat_le, List, [], ◌∷◌, length, get_or}
+use Rattle.std.proofs.Common.{◌≡◌, ◌≢◌, ℕ, ◌+◌, ◌-◌, ◌≤◌, true, if◌then◌else◌, nat_le, List, [], ◌∷◌, length, get_or}
 use Rattle.std.proofs.Common.{None, Result, Ok, Err, IfOk, refl, ap, sym, subst, ◌∙◌, arith}
 use Rattle.std.proofs.lemmas.Bool.Decides.{nat_tests}
 use Rattle.bac_apdu.specs.Apdu.{Limits, ConfirmedRequest}
@@ -10,7 +10,7 @@ use Rattle.bac_service.specs.Spellings.{complex_spelling}
 use Rattle.bac_store.specs.House.{house}
 use Rattle.bac_store.specs.Replies.{reply_to}
 use Rattle.bac_protocol.specs.Context.{Settings, Context}
-use Rattle.bac_protocol.specs.Service.{Octets, Outcome, Reply}
+use Rattle.bac_protocol.specs.Service.{Octets, Reply}
 use Rattle.bac_protocol.specs.Service.Reply.{Simple, Complex, Error}
 use Rattle.bac_protocol.specs.Service.Outcome.{Replies}
 use Rattle.bac_protocol.specs.Sizes.{reply_way_in_segments, reply_way_of, reply_way_of_size, transfer_size}

@@ -1,17 +1,12 @@
 -- Which replies are short, and that their APDUs are.
 use Rattle.std.proofs.Common.{◌≡◌, ℕ, ℤ, ◌+◌, ◌<◌, ◌≤◌, Bool, true, false, List, length, None, if◌then◌else◌, nat_lt, refl, inl, inr, arith}
-use Rattle.std.proofs.lemmas.List.{length-append}
 use Rattle.std.proofs.lemmas.Bool.{lt-ltb, le-ltb, cases_lt}
 use Rattle.bac_value.specs.Number.{width_of, half_width_of, distance}
-use Rattle.bac_apdu.specs.Spelling.{apdu_spelling, enumerated_spelling}
 use Rattle.bac_service.specs.Values.{Reference}
-use Rattle.bac_service.specs.Replies.{Reply}
-use Rattle.bac_service.specs.Replies.Reply.{Simple, Complex, Error, Reject}
 use Rattle.bac_service.specs.Values.Complex.{FileRead, StreamWritten, PropertyRead}
 use Rattle.bac_service.specs.Lengths.{member_length, unsigned_length, signed_length, index_length}
 use Rattle.bac_service.specs.Spellings.{complex_spelling}
 use Rattle.bac_service.proofs.LengthLaws.{length_complex}
-use Rattle.bac_commands.specs.ReplyApdus.{reply_apdu, IsShort}
 
 -- a width is one of eight
 steps : (a b c d e f g : Bool)

@@ -1,5 +1,5 @@
 -- Two nodes in one process: what the first of them asks, what is printed, and the status.
-use Rattle.std.specs.Prelude.{◌≡◌, ℕ, negsuc, Bool, true, false, ◌&&◌, List, [], ◌∷◌, ◌++◌, Option, None}
+use Rattle.std.specs.Prelude.{◌≡◌, ℕ, negsuc, Bool, true, false, ◌&&◌, List, [], ◌∷◌, Option, None}
 use Rattle.std.specs.Io.KnownBytes.{Appends}
 use Rattle.bac_service.specs.Values.{Request}
 use Rattle.bac_service.specs.Values.Request.{ReadProperty, WriteFile}

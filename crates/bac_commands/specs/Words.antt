@@ -2,7 +2,7 @@
 use Rattle.std.specs.Prelude.{◌≡◌, ℕ, Bool, true, false, List, ◌++◌, codes, decimal, Option, None}
 use Rattle.bac_explain_text.specs.Words.{reference_text}
 use Rattle.bac_service.specs.Values.{Complex, Reference, Request}
-use Rattle.bac_service.specs.Values.Complex.{FileRead, StreamWritten, RecordsWritten, PropertyRead}
+use Rattle.bac_service.specs.Values.Complex.{PropertyRead}
 use Rattle.bac_service.specs.Replies as plain
 use Rattle.bac_value_text.specs.DataTexts.{IsDataText}
 use Rattle.bac_value_text.specs.Reasons.{abort_text, error_text, reject_text}
