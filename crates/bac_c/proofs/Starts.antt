@@ -1,6 +1,6 @@
 -- How a node is started, from the parts of it.
 use Rattle.std.proofs.Common.{◌≡◌, List, Result, Ok, Err, IfOk, subst, ap, ◌∙◌}
-use Rattle.std.specs.Prelude.{ℕ, Option, Some}
+use Rattle.std.specs.Prelude.{◌↔◌, ℕ, Option, Some}
 use Rattle.bac_store.specs.House.{house}
 use Rattle.bac_store.specs.Made.{IsMadeOf}
 use Rattle.bac_store.specs.Stores.{Object, Store}
@@ -25,3 +25,7 @@ started_with s c restart objects copies n node says same started is =
 pub house_with : (s : Settings) (c : Config) (store : Store) (n : Node) (node : Option Node) → IsConfigOf s c → store ≡ house → n ≡ fresh_node c store → node ≡ Some n
     → IsHouseWith s node
 house_with s c store n node says same fresh is = record { config = c; says = says; fresh = is ∙ ap Some (fresh ∙ ap (fresh_node c) same) }
+
+-- what is exact of the objects is exact of a device that is ready
+pub also : {P Q R : Type 0} → Q → (P ↔ R) → (P ↔ (Q × R))
+also q e = (λ p. (q, e.0 p), λ both. e.1 both.1)
