@@ -107,9 +107,7 @@ impl Device {
         let Some(data) = whole_data(octets) else {
             return Err(Fault::BadObject);
         };
-        let Ok(values) = data.to_owned(alloc) else {
-            return Err(Fault::NoMemory);
-        };
+        let values = data.to_owned(alloc)?;
         let Some(object) = self.listed.pop() else {
             return Err(Fault::BadObject);
         };
@@ -143,9 +141,7 @@ impl Device {
         if self.listed.is_empty() {
             return Err(Fault::BadObject);
         }
-        let Ok(octets) = copied_octets(alloc, octets) else {
-            return Err(Fault::NoMemory);
-        };
+        let octets = copied_octets(alloc, octets)?;
         let Some(mut object) = self.listed.pop() else {
             return Err(Fault::BadObject);
         };

@@ -1,36 +1,39 @@
 //! The settings of a node, as a C program says them.
-ghost use Rattle.std.specs.Prelude.{◌≡◌, ◌↔◌, true, IfSome, IsSome, IsTrue};
+ghost use Rattle.std.specs.Prelude.{◌≡◌, true, IfOk, IsErrOf, IsTrue, OnErr};
 ghost use Rattle.bac_node.specs.Fresh.{has_slots, window_fits};
 ghost use Rattle.bac_c.specs.Starting.{IsConfigOf, is_right};
 
+use crate::fault::Fault;
 use crate::records::Settings;
 use bac_apdu::Limits;
 use bac_node::Config;
 
-/// The configuration of a node; None exactly where a setting is outside its range.
-pub fn config_of(settings: &Settings) -> Option<Config>
-    ensures says { IfSome result (IsConfigOf settings.now) }
-    ensures slots { IfSome result (λ c. has_slots c ≡ true) }
-    ensures window { IfSome result (λ c. window_fits c.window ≡ true) }
-    ensures right { IsSome result ↔ IsTrue (is_right settings.now) }
+/// The configuration of a node; `BadSettings` exactly where one is outside its range.
+pub fn config_of(settings: &Settings) -> Result<Config, Fault>
+    ensures says { IfOk result (IsConfigOf settings.now) }
+    ensures slots { IfOk result (λ c. has_slots c ≡ true) }
+    ensures window { IfOk result (λ c. window_fits c.window ≡ true) }
+    ensures right { IfOk result (λ c. IsTrue (is_right settings.now)) }
+    ensures wrong { OnErr result (IsTrue (is_right settings.now) → ⊥) }
+    ensures bad { OnErr result (IsErrOf result Fault.BadSettings) }
 {
     if settings.window < 1 || settings.window > 64 {
-        return None;
+        return Err(Fault::BadSettings);
     }
     if settings.client_slots < 1 || settings.client_slots > 1_024 {
-        return None;
+        return Err(Fault::BadSettings);
     }
     if settings.reply_slots < 1 || settings.reply_slots > 1_024 {
-        return None;
+        return Err(Fault::BadSettings);
     }
     let Some(limits) = Limits::new(
         settings.max_apdu,
         settings.takes_segments,
         settings.max_segments,
     ) else {
-        return None;
+        return Err(Fault::BadSettings);
     };
-    Some(Config {
+    Ok(Config {
         link: settings.link,
         limits,
         window: settings.window,

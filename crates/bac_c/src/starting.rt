@@ -5,7 +5,7 @@ ghost use Rattle.bac_store.specs.Made.{IsBad, IsMadeOf};
 ghost use Rattle.bac_store.specs.Objects.{AreDistinct};
 ghost use Rattle.bac_store.specs.Views.{object_view};
 ghost use Rattle.bac_c.specs.Devices.{Holds, IsIdle, IsQuiet};
-ghost use Rattle.bac_c.specs.Starting.{HasHouse, HasStarted, IsHouseWith, IsReady, IsStarted, IsStartedWith, is_right, listed_in};
+ghost use Rattle.bac_c.specs.Starting.{HasHouse, HasStarted, IsHouseWith, IsReady, IsStartedWith, is_right, listed_in};
 ghost use Rattle.bac_c.specs.Statuses.{is_one_of, status_of, HOUSE_STARTING, STARTING};
 ghost use Rattle.bac_c.specs.Statuses.{ALREADY_STARTED, BAD_OBJECT, BAD_SETTINGS, DONE, DUPLICATE, NOT_OPEN, NO_MEMORY};
 
@@ -68,41 +68,7 @@ fn node_of(alloc: Global, config: Config, store: Store, restart: Option<u64>) ->
     }
 }
 
-/// A node with the store of equal objects.
-fn node_with(
-    alloc: Global,
-    config: Config,
-    listed: &[Object],
-    restart: Option<u64>,
-) -> Result<Node, Fault>
-    requires slots { has_slots config ≡ true }
-    requires window { window_fits config.window ≡ true }
-    ensures made { IfOk result (IsStarted restart (map object_view listed.now) config) }
-    ensures duplicate { (IsErrOf result Fault.NoMemory → ⊥) → (IsErrOf result Fault.Duplicate ↔ (AreDistinct (map object_view listed.now) → ⊥)) }
-    ensures bad { (IsErrOf result Fault.NoMemory → ⊥) → (IsErrOf result Fault.BadObject ↔ IsBad (map object_view listed.now)) }
-    ensures few { IsTrue (is_one_of STARTING (status_of result)) }
-    ensures started { IsErrOf result Fault.AlreadyStarted → ⊥ }
-    ensures settings { IsErrOf result Fault.BadSettings → ⊥ }
-    ensures open { IsErrOf result Fault.NotOpen → ⊥ }
-{
-    let Ok(objects) = copied_objects(alloc, listed) else {
-        return Err(Fault::NoMemory);
-    };
-    let store = store_of(alloc, objects)?;
-    node_of(alloc, config, store, restart)
-}
-
 impl Device {
-    /// Runs a node, with no objects listed and nothing to be read.
-    fn run(&mut self, alloc: Global, node: Node)
-        ensures node { self.new.node ≡ Some node }
-        ensures quiet { IsQuiet self.new }
-    {
-        self.listed = Vec::new(alloc);
-        self.node = Some(node);
-        self.outcome = no_outcome(alloc);
-    }
-
     /// Starts the node with the objects that are listed; it restarts at a moment if there is one. They stay listed where it is not started.
     pub fn start(
         &mut self,
@@ -124,16 +90,16 @@ impl Device {
         if self.node.is_some() {
             return Err(Fault::AlreadyStarted);
         }
-        let Some(config) = config_of(settings) else {
-            return Err(Fault::BadSettings);
+        let config = config_of(settings)?;
+        let Ok(objects) = copied_objects(alloc, &self.listed) else {
+            return Err(Fault::NoMemory);
         };
-        match node_with(alloc, config, &self.listed, restart) {
-            Ok(node) => {
-                self.run(alloc, node);
-                Ok(())
-            }
-            Err(fault) => Err(fault),
-        }
+        let store = store_of(alloc, objects)?;
+        let node = node_of(alloc, config, store, restart)?;
+        self.listed = Vec::new(alloc);
+        self.node = Some(node);
+        self.outcome = no_outcome(alloc);
+        Ok(())
     }
 
     /// Starts the node with the house's objects, and with none that are listed.
@@ -149,16 +115,14 @@ impl Device {
         if self.node.is_some() {
             return Err(Fault::AlreadyStarted);
         }
-        let Some(config) = config_of(settings) else {
-            return Err(Fault::BadSettings);
-        };
+        let config = config_of(settings)?;
         let Ok(store) = house(alloc) else {
             return Err(Fault::NoMemory);
         };
-        let Ok(node) = node_of(alloc, config, store, None) else {
-            return Err(Fault::NoMemory);
-        };
-        self.run(alloc, node);
+        let node = node_of(alloc, config, store, None)?;
+        self.listed = Vec::new(alloc);
+        self.node = Some(node);
+        self.outcome = no_outcome(alloc);
         Ok(())
     }
 }

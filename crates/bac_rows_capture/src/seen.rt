@@ -12,9 +12,13 @@ pub(crate) struct Seen {
     pub(crate) datagram: Vec<u8>,
 }
 
-/// The address of the host of a number.
-fn host(number: &str) -> Option<[u8; 6]> {
-    Some([10, 0, 0, number.parse::<u8>().ok()?, 0xBA, 0xC0])
+/// The address of the host of a number, at port 47,808, or where a colon stands behind it, the next one.
+fn host(word: &str) -> Option<[u8; 6]> {
+    let (number, port) = match word.strip_suffix(':') {
+        Some(number) => (number, 0xC1),
+        None => (word, 0xC0),
+    };
+    Some([10, 0, 0, number.parse::<u8>().ok()?, 0xBA, port])
 }
 
 /// What a line says.

@@ -1,21 +1,11 @@
--- The node that is started has the store of the objects that are listed.
-use Rattle.std.proofs.Common.{map, ap, rules}
+-- The node that is started has the store of the copies.
+use Rattle.std.proofs.Common.{map, ap, ◌∙◌}
 use Rattle.bac_store.specs.Views.{object_view}
-use Rattle.bac_c.specs.Starting.{IsReady, listed_in}
-use Rattle.bac_c.proofs.Starts.{also, started_with}
+use Rattle.bac_c.specs.Starting.{listed_in}
+use Rattle.bac_c.proofs.Starts.{started_with}
 use Rattle.bac_c.proofs.device.Device.start.Goals as goal
 
-pub returns-in-Ok-clause-started : goal.returns-in-Ok-clause-started
-returns-in-Ok-clause-started c =
-    started_with c.args.settings.now c.in-Some.config c.args.restart (listed_in c.args.self.now) _ c.in-Ok.node c.run.new.self.node
-    c.in-Some.ensures.says (ap (map object_view) c.deref.ensures.value) c.in-Ok.ensures.made c.run.ensures.node
-
-pub returns-in-Err-clause-duplicate : goal.returns-in-Err-clause-duplicate
-returns-in-Err-clause-duplicate c =
-    let ready : IsReady c.args.settings.now c.args.self.now = (search rules, search rules) in
-    λ granted. also ready (rw c.deref.ensures.value at (c.in-Err.ensures.duplicate granted))
-
-pub returns-in-Err-clause-bad : goal.returns-in-Err-clause-bad
-returns-in-Err-clause-bad c =
-    let ready : IsReady c.args.settings.now c.args.self.now = (search rules, search rules) in
-    λ granted. also ready (rw c.deref.ensures.value at (c.in-Err.ensures.bad granted))
+pub returns-clause-started : goal.returns-clause-started
+returns-clause-started c =
+    started_with c.args.settings.now c.in_ok-config.config c.args.restart (listed_in c.args.self.now) (map object_view c.in-Ok.objects.items) c.in_ok-store.store c.in_ok-node.node c.in_ok-config.ensures.says
+    (c.in-Ok.ensures ∙ ap (map object_view) c.deref.ensures.value) c.in_ok-store.ensures.made c.in_ok-node.ensures.made

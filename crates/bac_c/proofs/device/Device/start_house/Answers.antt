@@ -3,6 +3,4 @@ use Rattle.bac_c.proofs.Starts.{house_with}
 use Rattle.bac_c.proofs.device.Device.start_house.Goals as goal
 
 pub returns-clause-started : goal.returns-clause-started
-returns-clause-started c =
-    house_with c.args.settings.now c.in-Some.config c.in-Ok.store c.in-Ok-node_of.node c.run.new.self.node c.in-Some.ensures.says c.in-Ok.ensures c.in-Ok-node_of.ensures.made
-    c.run.ensures.node
+returns-clause-started c = house_with c.args.settings.now c.in_ok-config.config c.in-Ok.store c.in_ok-node.node c.in_ok-config.ensures.says c.in-Ok.ensures c.in_ok-node.ensures.made
