@@ -355,7 +355,7 @@ const ASK: &[Word] = &[
         form: Form::Flag,
         need: Need::Never,
         against: &[],
-        help: "Ends with status 1 also where the answer is an Error",
+        help: "Ends with status 1 also where the answer is an Error, or of another object, property or index",
     },
     Word {
         name: "raw",
