@@ -7,22 +7,22 @@ use Rattle.bac_command_line.proofs.online.pair.Goals as goal
 
 pub returns : goal.returns
 returns g c =
-    let first : IsHouseAt (OnPort g.M.Machine.is_bound g.M.Link.Link.failures g.M.Link.Link.calls) LOCAL_HOST 0 c.in-Ok.station = record {
-      address = c.in-Some.bound.1;
-      node = c.in-Ok.ensures.node;
-      on = record { link = c.in-Some.bound.0; bound = c.in-Some.ensures; failed = c.in-Ok.ensures.failures; made = c.in-Ok.ensures.calls };
-    } in
-    let second : IsHouseAt (OnPort g.M.Machine.is_bound g.M.Link.Link.failures g.M.Link.Link.calls) LOCAL_HOST 0 c.in-Ok-house_station.other = record {
-      address = c.in-Some-bind.other_bound.1;
+    let first : IsHouseAt (OnPort g.M.Machine.is_bound g.M.Link.Link.failures g.M.Link.Link.calls) LOCAL_HOST 0 c.in-Ok-house_station.station = record {
+      address = c.in-Ok.bound.1;
       node = c.in-Ok-house_station.ensures.node;
+      on = record { link = c.in-Ok.bound.0; bound = c.in-Ok.ensures; failed = c.in-Ok-house_station.ensures.failures; made = c.in-Ok-house_station.ensures.calls };
+    } in
+    let second : IsHouseAt (OnPort g.M.Machine.is_bound g.M.Link.Link.failures g.M.Link.Link.calls) LOCAL_HOST 0 c.in-Ok-house_station-2.other = record {
+      address = c.in-Ok-bind.other_bound.1;
+      node = c.in-Ok-house_station-2.ensures.node;
       on = record {
-        link = c.in-Some-bind.other_bound.0;
-        bound = c.in-Some-bind.ensures;
-        failed = c.in-Ok-house_station.ensures.failures;
-        made = c.in-Ok-house_station.ensures.calls;
+        link = c.in-Ok-bind.other_bound.0;
+        bound = c.in-Ok-bind.ensures;
+        failed = c.in-Ok-house_station-2.ensures.failures;
+        made = c.in-Ok-house_station-2.ensures.calls;
       };
     } in
-    let clock : OnClock g.M.Machine.is_made g.M.Timer.Clock.told (g.M.Timer.Clock.told c.in-Some-timer.timer) =
-    record { timer = c.in-Some-timer.timer; made = c.in-Some-timer.ensures; is = refl } in
+    let clock : OnClock g.M.Machine.is_made g.M.Timer.Clock.told (g.M.Timer.Clock.told c.in-Some.timer) =
+    record { timer = c.in-Some.timer; made = c.in-Some.ensures; is = refl } in
     lifted c.pair.result (λ t. record { before = _; after = _; first = first; second = second; clock = clock; texts = t })
     (λ t. record { before = _; after = _; first = first; second = second; clock = clock; texts = t }) (λ n. n) c.pair.ensures

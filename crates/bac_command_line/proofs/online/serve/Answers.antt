@@ -7,11 +7,11 @@ use Rattle.bac_command_line.proofs.online.serve.Goals as goal
 pub returns : goal.returns
 returns g c =
     served_so (OnPort g.M.Machine.is_bound g.M.Link.Link.failures g.M.Link.Link.calls) (OnClock g.M.Machine.is_made g.M.Timer.Clock.told) _ _ c.now-start.result
-    c.restart-restart.result c.in-Some.bound.1 _ _ _ _ _ _ c.serve_from.result c.restart-restart.ensures refl refl c.in-Ok.ensures.node
-    (record { link = c.in-Some.bound.0; bound = c.in-Some.ensures; failed = c.in-Ok.ensures.failures; made = c.in-Ok.ensures.calls })
+    c.restart-restart.result c.in-Ok.bound.1 _ _ _ _ _ _ c.serve_from.result c.restart-restart.ensures refl refl c.in-Ok-server_station.ensures.node
+    (record { link = c.in-Ok.bound.0; bound = c.in-Ok.ensures; failed = c.in-Ok-server_station.ensures.failures; made = c.in-Ok-server_station.ensures.calls })
     (record {
-      before = g.M.Timer.Clock.told c.in-Some-timer.timer;
-      made = record { timer = c.in-Some-timer.timer; made = c.in-Some-timer.ensures; is = refl };
+      before = g.M.Timer.Clock.told c.in-Some.timer;
+      made = record { timer = c.in-Some.timer; made = c.in-Some.ensures; is = refl };
       is = c.now-start.ensures.tells;
     })
     c.serve_from.ensures

@@ -7,13 +7,13 @@ use Rattle.bac_command_line.proofs.rounds.ask_by_client.Goals as goal
 pub returns : goal.returns
 returns g c =
     let client : IsClientAt (OnPort g.M.Machine.is_bound g.M.Link.Link.failures g.M.Link.Link.calls) c.args.asking.now.host c.in-Some-first_id.first_id
-    c.in-Ok.station = record {
-      address = c.in-Some.bound.1;
-      node = c.in-Ok.ensures.node;
-      on = record { link = c.in-Some.bound.0; bound = c.in-Some.ensures; failed = c.in-Ok.ensures.failures; made = c.in-Ok.ensures.calls };
+    c.in-Ok-client_station.station = record {
+      address = c.in-Ok.bound.1;
+      node = c.in-Ok-client_station.ensures.node;
+      on = record { link = c.in-Ok.bound.0; bound = c.in-Ok.ensures; failed = c.in-Ok-client_station.ensures.failures; made = c.in-Ok-client_station.ensures.calls };
     } in
-    let clock : OnClock g.M.Machine.is_made g.M.Timer.Clock.told (g.M.Timer.Clock.told c.in-Some-timer.timer) =
-    record { timer = c.in-Some-timer.timer; made = c.in-Some-timer.ensures; is = refl } in
+    let clock : OnClock g.M.Machine.is_made g.M.Timer.Clock.told (g.M.Timer.Clock.told c.in-Some.timer) =
+    record { timer = c.in-Some.timer; made = c.in-Some.ensures; is = refl } in
     lifted c.ask_and_report.result (λ a. record { before = _; after = _; first_id = c.in-Some-first_id.first_id; client = client; clock = clock; rounds = a })
     (λ a. record { before = _; after = _; first_id = c.in-Some-first_id.first_id; client = client; clock = clock; rounds = a }) (λ n. n)
     c.ask_and_report.ensures
