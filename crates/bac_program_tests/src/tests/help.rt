@@ -88,14 +88,6 @@ const WORDS: &[(&str, &str)] = &[
     ("decode --help", "Example: bac decode 810A000801001013"),
     ("check --help", "Example: bac check capture.txt"),
     ("simulate", "<FILE>"),
-    (
-        "simulate --help",
-        "Runs a script of events in a network of nodes, and prints what comes of each\n\nUsage",
-    ),
-    (
-        "ask --help",
-        "Asks a node, and prints how that ended\n\nUsage",
-    ),
     ("simulate --help", "Usage: bac simulate [OPTIONS] <FILE>"),
     ("simulate --help", "Example: bac simulate script.txt"),
     ("simulate --help", "deliver K"),
@@ -114,6 +106,35 @@ fn tells(alloc: Global, line: &str, text: &str) -> Result<bool, Fail> {
 fn tells_of_words_and_help(rt: HostRuntime) -> Result<(), Fail> {
     for (line, text) in WORDS {
         holds(tells(rt.alloc(), line, text)?, line)?;
+    }
+    Ok(())
+}
+
+/// Words that ask for help, and how it begins: with what the program or the command is.
+const BEGINNINGS: &[(&str, &str)] = &[
+    ("--help", "BACnet confirmed services, proved\n"),
+    (
+        "answer --help",
+        "Prints the datagrams that answer a datagram",
+    ),
+    ("decode --help", "Prints the layers of a datagram"),
+    ("check --help", "Prints the bad frames of a file"),
+    ("explain --help", "Prints the transactions of a file"),
+    ("simulate --help", "Runs a script of events in a network"),
+    ("serve --help", "Serves a house over UDP"),
+    ("ask --help", "Asks a node, and prints how that ended\n"),
+    ("pair --help", "Runs two nodes on free UDP ports"),
+];
+
+fn begins_so(alloc: Global, line: &str, text: &str) -> Result<bool, Fail> {
+    let printed = run_on(alloc, "", NO_LINKS, line)?;
+    Ok(printed.err.starts_with(text.as_bytes()))
+}
+
+#[test]
+fn begins_help_with_what_a_command_is(rt: HostRuntime) -> Result<(), Fail> {
+    for (line, text) in BEGINNINGS {
+        holds(begins_so(rt.alloc(), line, text)?, line)?;
     }
     Ok(())
 }

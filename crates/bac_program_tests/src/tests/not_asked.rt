@@ -62,6 +62,16 @@ const ROWS: &[OtherRow] = &[
         "ask --port 47808 --text --fail read 0:6 85",
         ("answered real 72.3\n", "", 0),
     ),
+    (
+        "",
+        INPUT_6,
+        "ask --port 47808 --text --fail --every 1 --times 2 read 0:5 85",
+        (
+            "answered for analog-input:6 present-value, not asked: real 72.3\nanswered for analog-input:6 present-value, not asked: real 72.3\n",
+            "",
+            1,
+        ),
+    ),
     // another property, or another index
     (
         "",

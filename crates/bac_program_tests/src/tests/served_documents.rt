@@ -23,6 +23,16 @@ const SERVED: &[Row] = &[
     ),
 ];
 
+/// Where the link does not receive, what is told before that.
+const LISTENING: (&str, Ending) = (
+    "serve --port 47808 --objects capture",
+    (
+        "",
+        "listening 127.0.0.1:47808, 1 objects, 1024 slots\nlink fault\n",
+        3,
+    ),
+);
+
 fn ends_so(alloc: Global, (document, line, ending): &Row) -> Result<bool, Fail> {
     Ok(run_on(alloc, document, THREE_REQUESTS, line)?.is(ending))
 }
@@ -32,5 +42,7 @@ fn serves_from_a_document(rt: HostRuntime) -> Result<(), Fail> {
     for row in SERVED {
         holds(ends_so(rt.alloc(), row)?, row.1)?;
     }
-    Ok(())
+    let (line, ending) = &LISTENING;
+    let document = SERVED[1].0;
+    holds(run_on(rt.alloc(), document, DEAF, line)?.is(ending), line)
 }
