@@ -727,15 +727,6 @@ const LINKS: &[BenchRow] = &[
     ),
     (
         DEAF,
-        "serve --port 47808",
-        (
-            "",
-            "listening 127.0.0.1:47808, 5 objects, 1024 slots\nlink fault\n",
-            3,
-        ),
-    ),
-    (
-        DEAF,
         "ask --port 47808 read 0:5 85",
         ("", "link fault\n", 3),
     ),

@@ -23,15 +23,25 @@ const SERVED: &[Row] = &[
     ),
 ];
 
-/// Where the link does not receive, what is told before that.
-const LISTENING: (&str, Ending) = (
-    "serve --port 47808 --objects capture",
+/// Where the link does not receive, what is told before that: of the house, and of a document.
+const LISTENING: &[(&str, Ending)] = &[
     (
-        "",
-        "listening 127.0.0.1:47808, 1 objects, 1024 slots\nlink fault\n",
-        3,
+        "serve --port 47808",
+        (
+            "",
+            "listening 127.0.0.1:47808, 5 objects, 1024 slots\nlink fault\n",
+            3,
+        ),
     ),
-);
+    (
+        "serve --port 47808 --objects capture",
+        (
+            "",
+            "listening 127.0.0.1:47808, 1 objects, 1024 slots\nlink fault\n",
+            3,
+        ),
+    ),
+];
 
 fn ends_so(alloc: Global, (document, line, ending): &Row) -> Result<bool, Fail> {
     Ok(run_on(alloc, document, THREE_REQUESTS, line)?.is(ending))
@@ -42,7 +52,14 @@ fn serves_from_a_document(rt: HostRuntime) -> Result<(), Fail> {
     for row in SERVED {
         holds(ends_so(rt.alloc(), row)?, row.1)?;
     }
-    let (line, ending) = &LISTENING;
+    Ok(())
+}
+
+#[test]
+fn tells_where_it_listens(rt: HostRuntime) -> Result<(), Fail> {
     let document = SERVED[1].0;
-    holds(run_on(rt.alloc(), document, DEAF, line)?.is(ending), line)
+    for (line, ending) in LISTENING {
+        holds(run_on(rt.alloc(), document, DEAF, line)?.is(ending), line)?;
+    }
+    Ok(())
 }
